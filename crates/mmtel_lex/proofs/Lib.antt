@@ -1,0 +1,10 @@
+pub mod Exact
+pub mod IdentityLaws
+pub mod NameAddrLaws
+pub mod ParamLaws
+pub mod ParamsLoop
+pub mod PhoneLaws
+pub mod PrintLaws
+pub mod SipLaws
+pub mod UriContract
+pub mod UriLaws

@@ -1,0 +1,47 @@
+-- Which URIs name one identity: two sip URIs by user and host, two tel URIs by their numbers without visual separators (RFC 3966 §3 and §4), a sip and a tel URI where the sip URI stands for the number (RFC 3261 §19.1.6).
+use Rattle.std.specs.Prelude.{◌≡◌, ℕ, Bool, true, false, not, ◌&&◌, ◌==◌, ◌||◌, List, ◌∷◌, Option, Some, None, codes, filter}
+use Rattle.std.specs.List.{list_any}
+use Rattle.std.specs.Str.{str_to_ascii_lowercase, str_eq_ignore_ascii_case, bytes_eq}
+use Rattle.mmtel_scan.specs.Classes.{IsAll}
+use Rattle.mmtel_scan.specs.declared.classes.Class.TheVariants.{Digit}
+use Rattle.mmtel_lex.specs.declared.values.Param.{Param}
+use Rattle.mmtel_lex.specs.declared.values.Uri.{Uri}
+use Rattle.mmtel_lex.specs.declared.values.Uri.TheVariants.{Sip, Tel}
+
+-- a visual separator: '-', '.', '(' or ')' (RFC 3966 §3)
+abbrev pub is_mark : ℕ → Bool
+is_mark b = b == 45 || b == 46 || b == 40 || b == 41
+
+-- the number without its visual separators
+abbrev pub reduced : List ℕ → List ℕ
+reduced number = filter (λ b. not (is_mark b)) number
+
+-- the value 'phone', byte for byte
+abbrev pub is_phone_value : Option (List ℕ) → Bool
+is_phone_value None = false
+is_phone_value (Some value) = bytes_eq value (codes "phone")
+
+-- the parameter user=phone, its name in any case (RFC 3261 §19.1.1)
+abbrev pub is_user_phone : Param → Bool
+is_user_phone p = is_phone_value p.value && str_eq_ignore_ascii_case p.name (codes "user")
+
+-- one of the parameters is user=phone
+abbrev pub has_user_phone : List Param → Bool
+has_user_phone params = list_any is_user_phone params
+
+-- a sip URI with this user and these parameters stands for the telephone number: its user is '+' and digits, and is the number
+abbrev pub IsPhone : Option (List ℕ) → List Param → List ℕ → Type 0
+IsPhone user params number =
+    (digits : List ℕ) × (user ≡ Some (43 ∷ digits)) × IsAll Digit digits × (has_user_phone params ≡ true) × (number ≡ 43 ∷ digits)
+
+-- the URIs are of one identity
+abbrev pub IsSameIdentity : Uri → Uri → Type 0
+IsSameIdentity (Sip u h p ps hs) (Sip v g q qs gs) = (u ≡ v) × (str_to_ascii_lowercase h ≡ str_to_ascii_lowercase g)
+IsSameIdentity (Sip u h p ps hs) (Tel number qs) = IsPhone u ps (reduced number)
+IsSameIdentity (Tel number qs) (Sip u h p ps hs) = IsPhone u ps (reduced number)
+IsSameIdentity (Tel m ps) (Tel n qs) = reduced m ≡ reduced n
+
+-- the host of a sip URI
+abbrev pub host_of : Uri → Option (List ℕ)
+host_of (Sip user host port params headers) = Some host
+host_of (Tel number params) = None

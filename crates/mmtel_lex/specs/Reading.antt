@@ -1,0 +1,219 @@
+-- What the readers answer on each list of bytes, as total functions: of a whole list (uri_of, name_addr_of, params_of), and of its front with what follows it (token_at, text_at, all_params_at, host_at, port_at).
+-- A layer above cites them where it needs "is readable" as a test that computes. What is read is said by Grammar, and the contracts of the readers of whole lists tie the two.
+use Rattle.std.specs.Prelude.{◌≡◌, ℕ, zero, suc, List, [], ◌∷◌, ◌++◌, codes, is_none, ◌&&◌, ◌+◌, length, take, drop, Option, Some, None, Result, Ok, Err, nat_lt, ◌==◌, Bool, false, if◌then◌else◌}
+use Rattle.mmtel_scan.specs.Chain.{◌>>=◌}
+use Rattle.mmtel_scan.specs.Classes.{in_class}
+use Rattle.mmtel_scan.specs.Numbers.{number_of}
+use Rattle.mmtel_scan.specs.Scanning.{run, after_run, after_byte, closes, parted, trimmed}
+use Rattle.mmtel_scan.specs.declared.classes.Class.TheVariants.{Letter, Digit, Token, Host, User, Phone, SchemeRest, Blank, Display, UriByte, BareByte}
+use Rattle.mmtel_lex.specs.declared.faults.LexFault.{LexFault}
+use Rattle.mmtel_lex.specs.declared.faults.LexFault.TheVariants as lex
+use Rattle.mmtel_lex.specs.declared.faults.UriFault.{UriFault}
+use Rattle.mmtel_lex.specs.declared.faults.UriFault.TheVariants as faults
+use Rattle.mmtel_lex.specs.declared.values.Param.{Param}
+use Rattle.mmtel_lex.specs.declared.values.NameAddr.{NameAddr}
+use Rattle.mmtel_lex.specs.declared.values.Uri.{Uri}
+use Rattle.mmtel_lex.specs.declared.values.Uri.TheVariants.{Sip, Tel}
+use Rattle.std.specs.List.{list_any, list_all}
+use Rattle.std.specs.Str.{str_eq_ignore_ascii_case}
+
+-- What a function returned, seen by view, is what reading gives, unless memory ran out.
+abbrev pub Fails : {Y : Type 0} → LexFault → Option Y → Type 0
+Fails (lex.Malformed at) read = read ≡ None
+Fails lex.NoMemory read = Unit {0}
+
+abbrev pub Gives : {X Y : Type 0} → (X → Y) → Result X LexFault → Option Y → Type 0
+Gives view (Ok x) read = read ≡ Some (view x)
+Gives view (Err e) read = Fails e read
+
+-- the value, where nothing is left
+abbrev pub at_end : {A : Type 0} → A → List ℕ → Option A
+at_end x [] = Some x
+at_end x (b ∷ s) = None
+
+-- a token and what follows it
+unfoldable pub token_at : List ℕ → Option (List ℕ × List ℕ)
+token_at s = if length (run Token s) == 0 then None else Some (run Token s, after_run Token s)
+
+-- a text in quotes or a token, and what follows it
+abbrev pub text_from : Option (List ℕ) → List ℕ → Option (List ℕ × List ℕ)
+text_from None s = token_at s
+text_from (Some t) s = closes false t >>= λ n. Some (34 ∷ (take n t ++ 34 ∷ []), drop (n + 1) t)
+
+unfoldable pub text_at : List ℕ → Option (List ℕ × List ℕ)
+text_at s = text_from (after_byte 34 s) s
+
+-- the value behind a '=', if there is one
+abbrev pub value_from : Option (List ℕ) → List ℕ → Option (Option (List ℕ) × List ℕ)
+value_from None s = Some (None, s)
+value_from (Some t) s = text_at t >>= λ v. Some (Some v.0, v.1)
+
+unfoldable pub value_at : List ℕ → Option (Option (List ℕ) × List ℕ)
+value_at s = value_from (after_byte 61 s) s
+
+-- a parameter, behind its ';'
+unfoldable pub param_at : List ℕ → Option (Param × List ℕ)
+param_at s = do
+  n ← token_at s
+  v ← value_at n.1
+  Some (record { name = n.0; value = v.0 }, v.1)
+
+-- a parameter, where a ';' comes, and more
+abbrev pub next_params : (List ℕ → Option (List Param × List ℕ)) → Option (List ℕ) → List ℕ → Option (List Param × List ℕ)
+next_params more None s = Some ([], s)
+next_params more (Some t) s = do
+  first ← param_at t
+  others ← more first.1
+  Some (first.0 ∷ others.0, others.1)
+
+-- parameters, at most so many
+unfoldable pub params_at : ℕ → List ℕ → Option (List Param × List ℕ)
+params_at zero s = Some ([], s)
+params_at (suc n) s = next_params (λ r. params_at n r) (after_byte 59 s) s
+
+-- parameters, until something else comes
+unfoldable pub all_params_at : List ℕ → Option (List Param × List ℕ)
+all_params_at s = params_at (length s) s
+
+-- all of the bytes, as parameters
+unfoldable pub params_of : List ℕ → Option (List Param)
+params_of s = all_params_at s >>= λ ps. at_end ps.0 ps.1
+
+-- ---- URIs
+
+-- the user before the only '@', where there is one
+abbrev pub user_from : List ℕ → Option (List ℕ × List ℕ) → Option (Option (List ℕ) × List ℕ)
+user_from s None = Some (None, s)
+user_from s (Some p) = if length p.0 == 0 then None else if list_all (in_class User) p.0 && is_none (parted 64 p.1) then Some (Some p.0, p.1) else None
+
+unfoldable pub user_at : List ℕ → Option (Option (List ℕ) × List ℕ)
+user_at s = user_from s (parted 64 s)
+
+unfoldable pub host_at : List ℕ → Option (List ℕ × List ℕ)
+host_at s = if length (run Host s) == 0 then None else if nat_lt 255 (length (run Host s)) then None else Some (run Host s, after_run Host s)
+
+-- a port, which is not 0
+abbrev pub port_of : Option ℕ → Option ℕ
+port_of None = None
+port_of (Some n) = if n == 0 then None else Some n
+
+unfoldable pub port_number : List ℕ → Option ℕ
+port_number digits = port_of (number_of 65535 digits)
+
+abbrev pub port_from : Option (List ℕ) → List ℕ → Option (Option ℕ × List ℕ)
+port_from None s = Some (None, s)
+port_from (Some t) s = port_number (run Digit t) >>= λ n. Some (Some n, after_run Digit t)
+
+unfoldable pub port_at : List ℕ → Option (Option ℕ × List ℕ)
+port_at s = port_from (after_byte 58 s) s
+
+-- one byte or more, and nothing else
+unfoldable pub headers_of : List ℕ → Option (List ℕ)
+headers_of s = if length (run User s) == 0 then None else if length (after_run User s) == 0 then Some (run User s) else None
+
+abbrev pub headers_from : Option (List ℕ) → List ℕ → Option (List ℕ)
+headers_from None s = if length s == 0 then Some [] else None
+headers_from (Some t) s = headers_of t
+
+unfoldable pub headers_at : List ℕ → Option (List ℕ)
+headers_at s = headers_from (after_byte 63 s) s
+
+-- all of the bytes behind 'sip:'
+unfoldable pub sip_of : List ℕ → Option Uri
+sip_of s = do
+  u ← user_at s
+  h ← host_at u.1
+  p ← port_at h.1
+  ps ← all_params_at p.1
+  hs ← headers_at ps.1
+  Some (Sip u.0 h.0 p.0 ps.0 hs)
+
+-- ---- schemes
+
+abbrev pub begins_with_letter : List ℕ → Bool
+begins_with_letter [] = false
+begins_with_letter (b ∷ s) = in_class Letter b
+
+abbrev pub scheme_from : List ℕ → Option (List ℕ) → Option (List ℕ × List ℕ)
+scheme_from name None = None
+scheme_from name (Some rest) = Some (name, rest)
+
+-- a scheme's name, and what follows its ':'
+unfoldable pub scheme_of : List ℕ → Option (List ℕ × List ℕ)
+scheme_of s = if begins_with_letter s then scheme_from (run SchemeRest s) (after_byte 58 (after_run SchemeRest s)) else None
+
+abbrev pub sign_from : Option (List ℕ) → List ℕ → List ℕ × List ℕ
+sign_from None s = ([], s)
+sign_from (Some t) s = (43 ∷ [], t)
+
+abbrev pub sign_of : List ℕ → List ℕ × List ℕ
+sign_of s = sign_from (after_byte 43 s) s
+
+unfoldable pub number_at : List ℕ → Option (List ℕ × List ℕ)
+number_at s = if list_any (in_class Digit) (run Phone (sign_of s).1) then Some ((sign_of s).0 ++ run Phone (sign_of s).1, after_run Phone (sign_of s).1) else None
+
+-- all of the bytes behind 'tel:'
+unfoldable pub tel_of : List ℕ → Option Uri
+tel_of s = do
+  n ← number_at s
+  ps ← all_params_at n.1
+  at_end (Tel n.0 ps.0) ps.1
+
+pub data Refusal : Type 0 where
+  malformed : Refusal
+  foreign : Refusal
+
+abbrev pub or_malformed : Option Uri → Result Uri Refusal
+or_malformed None = Err malformed
+or_malformed (Some u) = Ok u
+
+abbrev pub uri_from : Option (List ℕ × List ℕ) → Result Uri Refusal
+uri_from None = Err malformed
+uri_from (Some x) = if str_eq_ignore_ascii_case x.0 (codes "sip") then or_malformed (sip_of x.1) else if str_eq_ignore_ascii_case x.0 (codes "tel") then or_malformed (tel_of x.1) else Err foreign
+
+unfoldable pub uri_of : List ℕ → Result Uri Refusal
+uri_of s = uri_from (scheme_of s)
+
+-- what read_uri returned is what uri_of gives
+abbrev pub Refuses : UriFault → Result Uri Refusal → Type 0
+Refuses (faults.Malformed at) read = read ≡ Err malformed
+Refuses faults.Scheme read = read ≡ Err foreign
+Refuses faults.NoMemory read = Unit {0}
+
+abbrev pub Answers : Result Uri UriFault → Result Uri Refusal → Type 0
+Answers (Ok u) read = read ≡ Ok u
+Answers (Err e) read = Refuses e read
+
+-- the fault of a URI for that of its parts
+abbrev pub Places : LexFault → Result Uri UriFault → Type 0
+Places (lex.Malformed at) r = (n : ℕ) × (r ≡ Err (faults.Malformed n))
+Places lex.NoMemory r = r ≡ Err faults.NoMemory
+
+-- ---- name-addrs
+
+-- what follows a '<': the URI, a '>' and parameters
+unfoldable pub angle_of : List ℕ → List ℕ → Option NameAddr
+angle_of display s = if length (run UriByte s) == 0 then None else (after_byte 62 (after_run UriByte s) >>= λ r. all_params_at r >>= λ ps. at_end (record { display = display; uri = run UriByte s; params = ps.0 }) ps.1)
+
+-- a URI without brackets, and parameters
+unfoldable pub bare_of : List ℕ → Option NameAddr
+bare_of s = if length (run BareByte s) == 0 then None else (all_params_at (after_run BareByte s) >>= λ ps. at_end (record { display = []; uri = run BareByte s; params = ps.0 }) ps.1)
+
+-- words up to a '<', which no blank begins, or no '<'
+abbrev pub words_from : List ℕ → Option (List ℕ) → Option NameAddr
+words_from s None = bare_of s
+words_from s (Some u) = if length (run Blank s) == 0 then angle_of (trimmed Blank (run Display s)) u else None
+
+unfoldable pub words_of : List ℕ → Option NameAddr
+words_of s = words_from s (after_byte 60 (after_run Display s))
+
+-- a display in quotes, blanks and a '<'
+unfoldable pub quoted_of : List ℕ → Option NameAddr
+quoted_of s = text_at s >>= λ d. after_byte 60 (after_run Blank d.1) >>= λ u. angle_of d.0 u
+
+abbrev pub name_addr_from : List ℕ → Option (List ℕ) → Option NameAddr
+name_addr_from s None = words_of s
+name_addr_from s (Some t) = quoted_of s
+
+unfoldable pub name_addr_of : List ℕ → Option NameAddr
+name_addr_of s = name_addr_from s (after_byte 34 s)

@@ -1,0 +1,48 @@
+//! Why bytes could not be read.
+ghost use Rattle.std.specs.Prelude.{◌≡◌};
+ghost use Rattle.mmtel_lex.specs.declared.faults.LexFault.TheVariants as lex;
+
+use mmtel_scan::NoMemory;
+
+/// What is wrong with the bytes of a name-addr, of parameters or of their parts.
+#[derive(Clone, Copy, Debug, PartialEq, Eq)]
+pub enum LexFault {
+    /// The bytes are not of the grammar.
+    Malformed {
+        /// Of a reader of the whole list the place where reading stopped, at most the number of bytes; of a reader of a front how many bytes it left. Nothing more is promised of it.
+        at: usize,
+    },
+    /// Memory ran out.
+    NoMemory,
+}
+
+impl From<NoMemory> for LexFault {
+    ghost from_gives = { λ _ e. e ≡ lex.NoMemory };
+
+    fn from(_e: NoMemory) -> LexFault {
+        LexFault::NoMemory
+    }
+}
+
+/// What a refused `List::push` hands back is let go, so that `?` works on it.
+impl<T: Drop> From<(T, NoMemory)> for LexFault {
+    ghost from_gives = { λ _ e. e ≡ lex.NoMemory };
+
+    fn from(_e: (T, NoMemory)) -> LexFault {
+        LexFault::NoMemory
+    }
+}
+
+/// What is wrong with the bytes of a URI.
+#[derive(Clone, Copy, Debug, PartialEq, Eq)]
+pub enum UriFault {
+    /// The bytes are not of the grammar.
+    Malformed {
+        /// The place where reading stopped, at most the number of bytes. Nothing more is promised of it.
+        at: usize,
+    },
+    /// The bytes begin with another scheme than `sip` and `tel`.
+    Scheme,
+    /// Memory ran out.
+    NoMemory,
+}

@@ -1,0 +1,155 @@
+//! Which URIs are of one identity.
+ghost use Rattle.std.specs.Prelude.{List, ℕ, ◌≡◌, ◌∷◌, ◌↔◌, IsTrue, MatchOption, IfSome, length, ◌<◌, []};
+ghost use Rattle.std.specs.Option.{option_copied};
+ghost use Rattle.std.specs.Str.{str_to_ascii_lowercase};
+ghost use Rattle.mmtel_scan.specs.Classes.{IsAll};
+ghost use Rattle.mmtel_scan.specs.declared.classes.Class.TheVariants.{Digit};
+ghost use Rattle.mmtel_lex.specs.Identity.{is_mark, reduced, is_user_phone, has_user_phone, IsPhone, IsSameIdentity, host_of};
+
+use crate::values::{Param, Params, Uri};
+use mmtel_scan::{Class, Text, is_all};
+
+/// The host of a sip URI; None exactly for a tel URI. It takes no memory.
+pub fn domain(uri: &Uri) -> Option<&[u8]>
+    ensures { option_copied result ≡ host_of uri.now }
+{
+    match uri {
+        Uri::Sip { host, .. } => Some(host.bytes()),
+        Uri::Tel { .. } => None,
+    }
+}
+
+fn is_mark_byte(b: u8) -> bool
+    ensures { result ≡ is_mark b }
+{
+    b == b'-' || b == b'.' || b == b'(' || b == b')'
+}
+
+/// The first byte that is no mark, and what follows it.
+fn next_kept(bytes: &[u8]) -> Option<(u8, &[u8])>
+    ensures parts { MatchOption result (reduced bytes.now ≡ []) (λ x. reduced bytes.now ≡ x.0 ∷ reduced x.1.now) }
+    ensures shorter { IfSome result (λ x. length x.1.now < length bytes.now) }
+{
+    let mut rest = bytes;
+    'marks: while let [first, tail @ ..] = rest {
+        if !is_mark_byte(*first) {
+            return Some((*first, tail));
+        }
+        rest = tail;
+    }
+    None
+}
+
+/// Whether the numbers are equal without their marks.
+fn same_number(a: &[u8], b: &[u8]) -> bool
+    ensures { IsTrue result ↔ (reduced a.now ≡ reduced b.now) }
+{
+    let mut a = a;
+    let mut b = b;
+    'numbers: loop {
+        match next_kept(a) {
+            None => return next_kept(b).is_none(),
+            Some((x, rest_a)) => match next_kept(b) {
+                None => return false,
+                Some((y, rest_b)) => {
+                    if x != y {
+                        return false;
+                    }
+                    a = rest_a;
+                    b = rest_b;
+                }
+            },
+        }
+    }
+}
+
+fn same_user(a: &Option<Text>, b: &Option<Text>) -> bool
+    ensures { IsTrue result ↔ (a.now ≡ b.now) }
+{
+    match (a, b) {
+        (None, None) => true,
+        (Some(a), Some(b)) => a.bytes() == b.bytes(),
+        _ => false,
+    }
+}
+
+fn same_host(a: &[u8], b: &[u8]) -> bool
+    ensures { IsTrue result ↔ (str_to_ascii_lowercase a.now ≡ str_to_ascii_lowercase b.now) }
+{
+    a.eq_ignore_ascii_case(b)
+}
+
+fn is_user_phone(param: &Param) -> bool
+    ensures { result ≡ is_user_phone param.now }
+{
+    match &param.value {
+        None => false,
+        Some(value) => {
+            value.bytes() == b"phone".as_slice() && param.name.bytes().eq_ignore_ascii_case(b"user")
+        }
+    }
+}
+
+fn has_user_phone(params: &[Param]) -> bool
+    ensures { result ≡ has_user_phone params.now }
+{
+    params.iter().any(|param| is_user_phone(param))
+}
+
+fn is_plus_digits(bytes: &[u8]) -> bool
+    ensures { IsTrue result ↔ ((digits : List ℕ) × (bytes.now ≡ 43 ∷ digits) × IsAll Digit digits) }
+{
+    match bytes {
+        [b'+', digits @ ..] => is_all(Class::Digit, digits),
+        _ => false,
+    }
+}
+
+/// Whether a sip URI with this user and these parameters stands for the number.
+fn is_phone(user: &Option<Text>, params: &Params, number: &[u8]) -> bool
+    ensures { IsTrue result ↔ IsPhone user.now params.now (reduced number.now) }
+{
+    match user {
+        None => false,
+        Some(user) => {
+            let bytes = user.bytes();
+            if !is_plus_digits(bytes) {
+                return false;
+            }
+            if !has_user_phone(params.items()) {
+                return false;
+            }
+            same_number(bytes, number)
+        }
+    }
+}
+
+/// Whether the URIs are of one identity. It takes no memory.
+///
+/// Two sip URIs are where their users are equal byte for byte and their hosts without case. Two tel URIs are where their numbers are equal without visual separators. A sip and a tel URI are where the sip URI's user is `+` and digits, one of its parameters is `user=phone`, and its user is the number without visual separators.
+pub fn same_identity(a: &Uri, b: &Uri) -> bool
+    ensures { IsTrue result ↔ IsSameIdentity a.now b.now }
+{
+    match a {
+        Uri::Sip {
+            user,
+            host,
+            params,
+            ..
+        } => match b {
+            Uri::Sip {
+                user: other_user,
+                host: other_host,
+                ..
+            } => same_user(user, other_user) && same_host(host.bytes(), other_host.bytes()),
+            Uri::Tel { number, .. } => is_phone(user, params, number.bytes()),
+        },
+        Uri::Tel { number, .. } => match b {
+            Uri::Sip { user, params, .. } => is_phone(user, params, number.bytes()),
+            Uri::Tel {
+                number: other_number,
+                ..
+            } => same_number(number.bytes(), other_number.bytes()),
+        },
+    }
+}

@@ -1,0 +1,46 @@
+//! Laws of the definitions that the readers' contracts cite: each is the contract of a function that does nothing.
+ghost use Rattle.std.specs.Prelude.{◌≡◌, ◌↔◌, ℕ, List, Option};
+ghost use Rattle.std.specs.Str.{str_to_ascii_lowercase};
+ghost use Rattle.mmtel_lex.specs.Grammar.{IsParams, IsUri, IsForeign, IsNameAddr};
+ghost use Rattle.mmtel_lex.specs.Identity.{reduced, has_user_phone, IsSameIdentity};
+ghost use Rattle.mmtel_lex.specs.declared.values.NameAddr.{NameAddr};
+ghost use Rattle.mmtel_lex.specs.declared.values.Param.{Param};
+ghost use Rattle.mmtel_lex.specs.declared.values.Uri.{Uri};
+ghost use Rattle.mmtel_lex.specs.declared.values.Uri.TheVariants.{Sip, Tel};
+
+/// One list of bytes spells one list of parameters at most.
+pub fn params_are_unique()
+    ensures one { (s : List ℕ) (ps qs : List Param) → IsParams s ps → IsParams s qs → ps ≡ qs }
+{}
+
+/// One list of bytes spells one URI at most, and none where it begins with another scheme.
+pub fn uris_are_unique()
+    ensures one { (s : List ℕ) (u v : Uri) → IsUri s u → IsUri s v → u ≡ v }
+    ensures not_foreign { (s : List ℕ) (u : Uri) → IsUri s u → IsForeign s → ⊥ }
+{}
+
+/// One list of bytes spells one name-addr at most.
+pub fn name_addrs_are_unique()
+    ensures one { (s : List ℕ) (n m : NameAddr) → IsNameAddr s n → IsNameAddr s m → n ≡ m }
+{}
+
+/// Each URI is of one identity with itself, and which of two comes first does not count.
+pub fn identity_is_mutual()
+    ensures reflexive { (u : Uri) → IsSameIdentity u u }
+    ensures symmetric { (u v : Uri) → IsSameIdentity u v → IsSameIdentity v u }
+{}
+
+/// Between sip URIs identity does not depend on the port, the parameters, the header part and the case of the host.
+pub fn sip_identity_is_user_and_host()
+    ensures same { (user other_user : Option (List ℕ)) (host host2 other_host : List ℕ) (port port2 other_port : Option ℕ) (params params2 other_params : List Param) (headers headers2 other_headers : List ℕ) → str_to_ascii_lowercase host ≡ str_to_ascii_lowercase host2 → IsSameIdentity (Sip user host port params headers) (Sip other_user other_host other_port other_params other_headers) ↔ IsSameIdentity (Sip user host2 port2 params2 headers2) (Sip other_user other_host other_port other_params other_headers) }
+{}
+
+/// Between tel URIs identity does not depend on the parameters and the visual separators.
+pub fn tel_identity_is_number()
+    ensures same { (number number2 other : List ℕ) (params params2 other_params : List Param) → reduced number ≡ reduced number2 → IsSameIdentity (Tel number params) (Tel other other_params) ↔ IsSameIdentity (Tel number2 params2) (Tel other other_params) }
+{}
+
+/// Between a sip and a tel URI only the user of the sip URI counts, whether one of its parameters is `user=phone`, and the digits of the tel URI.
+pub fn phone_identity_is_user_and_number()
+    ensures same { (user : Option (List ℕ)) (host host2 number number2 : List ℕ) (port port2 : Option ℕ) (params params2 tel_params tel_params2 : List Param) (headers headers2 : List ℕ) → has_user_phone params ≡ has_user_phone params2 → reduced number ≡ reduced number2 → IsSameIdentity (Sip user host port params headers) (Tel number tel_params) ↔ IsSameIdentity (Sip user host2 port2 params2 headers2) (Tel number2 tel_params2) }
+{}

@@ -1,0 +1,142 @@
+//! Parameters and their parts (RFC 3261 §25.1).
+ghost use Rattle.std.specs.Prelude.{◌≡◌, ◌≤◌, ◌⊎◌, ℕ, List, length, IfOk, IfErr, Err};
+ghost use Rattle.std.specs.Option.{option_map};
+ghost use Rattle.mmtel_lex.specs.Reading.{Gives, token_at, text_at, value_at, param_at, all_params_at, params_of};
+ghost use Rattle.mmtel_lex.specs.Grammar.{IsParams};
+ghost use Rattle.mmtel_lex.specs.Outcome.{IsReadUnlessMemory, IsMalformed, IsPlaceIn};
+
+use crate::faults::LexFault;
+use crate::values::{Param, Params};
+use mmtel_scan::{Class, List, Text, closing, skip_byte, split_run};
+use std::alloc::Global;
+
+/// A token at the front, and what follows it (RFC 3261 §25.1).
+///
+/// # Errors
+///
+/// `Malformed` exactly where no byte of a token comes first.
+#[tactic(auto, unfolding(crate::specs::Reading::token_at))]
+pub fn token(alloc: Global, bytes: &[u8]) -> Result<(Text, &[u8]), LexFault>
+    ensures exact { Gives (λ x. (x.0, x.1.now)) result (token_at bytes.now) }
+    ensures shorter { IfOk result (λ x. length x.1.now ≤ length bytes.now) }
+{
+    let (front, rest) = split_run(Class::Token, bytes);
+    if front.is_empty() {
+        return Err(LexFault::Malformed { at: bytes.len() });
+    }
+    Ok((Text::of(alloc, front)?, rest))
+}
+
+/// A quoted string, its quotes included, or a token at the front, and what follows it (RFC 3261 §25.1).
+///
+/// # Errors
+///
+/// `Malformed` exactly where neither comes first; a quote that no other closes is no quoted string.
+#[tactic(auto, unfolding(crate::specs::Reading::text_at))]
+pub fn text(alloc: Global, bytes: &[u8]) -> Result<(Text, &[u8]), LexFault>
+    ensures exact { Gives (λ x. (x.0, x.1.now)) result (text_at bytes.now) }
+    ensures shorter { IfOk result (λ x. length x.1.now ≤ length bytes.now) }
+{
+    match skip_byte(b'"', bytes) {
+        None => token(alloc, bytes),
+        Some(tail) => match closing(tail) {
+            None => Err(LexFault::Malformed { at: bytes.len() }),
+            Some(at) => {
+                let mut text = Text::of(alloc, b"\"")?;
+                text.push(alloc, &tail[..at])?;
+                text.push(alloc, b"\"")?;
+                Ok((text, &tail[at + 1..]))
+            }
+        },
+    }
+}
+
+/// The value behind a `=`, where one comes.
+#[tactic(auto, unfolding(crate::specs::Reading::value_at))]
+fn value(alloc: Global, bytes: &[u8]) -> Result<(Option<Text>, &[u8]), LexFault>
+    ensures exact { Gives (λ x. (x.0, x.1.now)) result (value_at bytes.now) }
+    ensures shorter { IfOk result (λ x. length x.1.now ≤ length bytes.now) }
+{
+    match skip_byte(b'=', bytes) {
+        None => Ok((None, bytes)),
+        Some(tail) => {
+            let (value, rest) = text(alloc, tail)?;
+            Ok((Some(value), rest))
+        }
+    }
+}
+
+/// A parameter, whose `;` came before.
+#[tactic(auto, unfolding(crate::specs::Reading::param_at))]
+fn param(alloc: Global, bytes: &[u8]) -> Result<(Param, &[u8]), LexFault>
+    ensures exact { Gives (λ x. (x.0, x.1.now)) result (param_at bytes.now) }
+    ensures shorter { IfOk result (λ x. length x.1.now ≤ length bytes.now) }
+{
+    let (name, rest) = token(alloc, bytes)?;
+    let (value, rest) = value(alloc, rest)?;
+    Ok((Param { name, value }, rest))
+}
+
+/// The parameters at the front, each behind its `;`, and what follows them.
+///
+/// # Errors
+///
+/// `Malformed` exactly where a `;` comes that no parameter follows.
+pub fn params_front(alloc: Global, bytes: &[u8]) -> Result<(Params, &[u8]), LexFault>
+    ensures exact { Gives (λ x. (x.0, x.1.now)) result (all_params_at bytes.now) }
+{
+    let mut params = List::new();
+    let mut rest = bytes;
+    'params: while let Some(tail) = skip_byte(b';', rest) {
+        let (param, after) = param(alloc, tail)?;
+        params.push(alloc, param)?;
+        rest = after;
+    }
+    Ok((params, rest))
+}
+
+/// All of the bytes as parameters.
+#[tactic(auto, unfolding(crate::specs::Reading::params_of))]
+fn all_params(alloc: Global, bytes: &[u8]) -> Result<Params, LexFault>
+    ensures exact { Gives (λ x. x) result (params_of bytes.now) }
+{
+    let (params, rest) = params_front(alloc, bytes)?;
+    if rest.is_empty() {
+        Ok(params)
+    } else {
+        Err(LexFault::Malformed { at: rest.len() })
+    }
+}
+
+/// The fault of a reader of the whole list of bytes, for one of a reader of its front.
+fn whole(alloc: Global, bytes: &[u8]) -> Result<Params, LexFault>
+    ensures exact { Gives (λ x. x) result (params_of bytes.now) }
+    ensures at { IfErr result (λ e. IsPlaceIn (length bytes.now) e) }
+{
+    match all_params(alloc, bytes) {
+        Err(LexFault::Malformed { at }) => Err(LexFault::Malformed {
+            at: bytes.len().saturating_sub(at),
+        }),
+        read => read,
+    }
+}
+
+/// Reads parameters, each behind its `;` (RFC 3261 §25.1: generic-param); all of the bytes are read.
+///
+/// # Errors
+///
+/// `Malformed` exactly where the bytes are not of the grammar; `at` is at most their number, and nothing more is promised of it. `NoMemory` where memory ran out.
+pub fn read_params(alloc: Global, bytes: &[u8]) -> Result<Params, LexFault>
+    // The answer is that of the total reading function.
+    ensures exact { Gives (λ x. x) result (params_of bytes.now) }
+    // What is read is what the bytes spell.
+    ensures found { IfOk result (λ ps. IsParams bytes.now ps) }
+    // What the bytes spell is read.
+    ensures only { (ps : List Param) → IsParams bytes.now ps → IsReadUnlessMemory result ps }
+    // The bytes are malformed exactly where they spell none.
+    ensures malformed { IsMalformed result → (ps : List Param) → IsParams bytes.now ps → ⊥ }
+    ensures refused { ((ps : List Param) → IsParams bytes.now ps → ⊥) → IsMalformed result ⊎ (result ≡ Err LexFault.NoMemory) }
+    ensures at { IfErr result (λ e. IsPlaceIn (length bytes.now) e) }
+{
+    whole(alloc, bytes)
+}

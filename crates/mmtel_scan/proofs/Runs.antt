@@ -1,0 +1,164 @@
+-- The front of a list that is of a class.
+use Rattle.std.proofs.Common.{◌≡◌, ◌==◌, Bool, true, false, not, ◌&&◌, ℕ, suc, ◌+◌, ◌≤◌, ◌<◌, List, [], ◌∷◌, ◌++◌, length, take, drop, Option, Some, None, refl, sym, subst, inl, inr, arith, nat_lt, append_assoc, get_or}
+use Rattle.std.proofs.lemmas.List.{length-append, take-append-drop, take_at, drop_at}
+use Rattle.std.proofs.lemmas.Bool.{cases_Bool, ltb-true, ltb-false}
+use Rattle.std.proofs.lemmas.List.Sums.{split_at_first, passes_at_first}
+use Rattle.std.specs.List.{prefix_len, list_all}
+use Rattle.std.proofs.lemmas.Bool.Decides.{nat_tests}
+use Rattle.mmtel_scan.specs.declared.classes.Class.{Class}
+use Rattle.mmtel_scan.specs.Classes.{in_class}
+use Rattle.mmtel_scan.specs.Scanning.{run, after_run, parted, IsFree}
+use Rattle.mmtel_scan.specs.Classes.{IsAll, Stops}
+
+pub and_true : (a b : Bool) → (a && b) ≡ true → (a ≡ true) × (b ≡ true)
+and_true true true e = (refl, refl)
+and_true true false e = absurd cc
+and_true false b e = absurd cc
+
+len_again : (k : Class) (a x : List ℕ) → IsAll k a → Stops k x → prefix_len (in_class k) (a ++ x) ≡ length a
+len_again k [] [] each stops = refl
+len_again k [] (c ∷ x) each stops = rw stops refl
+len_again k (c ∷ a) x each stops =
+    let both = and_true (in_class k c) (list_all (in_class k) a) each in
+    let more : prefix_len (in_class k) (a ++ x) ≡ length a = len_again k a x both.1 stops in
+    rw (both.0, more) (omega arith)
+
+pub run_again : (k : Class) (a x : List ℕ) → IsAll k a → Stops k x → run k (a ++ x) ≡ a
+unfolding run
+run_again k a x each stops = rw (len_again k a x each stops) (take_at a x (length a) refl)
+
+pub after_run_again : (k : Class) (a x : List ℕ) → IsAll k a → Stops k x → after_run k (a ++ x) ≡ x
+unfolding after_run
+after_run_again k a x each stops = rw (len_again k a x each stops) (drop_at a x (length a) refl)
+
+pub run_whole : (k : Class) (s : List ℕ) → s ≡ run k s ++ after_run k s
+unfolding run after_run
+run_whole k s = sym (take-append-drop (prefix_len (in_class k) s) s)
+
+pub run_each : (k : Class) (s : List ℕ) → IsAll k (run k s)
+unfolding run
+run_each k [] = refl
+run_each k (c ∷ s) =
+    let one : 1 + prefix_len (in_class k) s ≡ suc (prefix_len (in_class k) s) = omega arith in
+    elim (cases_Bool (in_class k c)) [
+      | inl y ↦ rw (y, one, y) (run_each k s)
+      | inr n ↦ rw n refl
+    ]
+
+pub after_run_stops : (k : Class) (s : List ℕ) → Stops k (after_run k s)
+unfolding after_run
+after_run_stops k [] = tt
+after_run_stops k (c ∷ s) =
+    let one : 1 + prefix_len (in_class k) s ≡ suc (prefix_len (in_class k) s) = omega arith in
+    elim (cases_Bool (in_class k c)) [
+      | inl y ↦ rw (y, one) (after_run_stops k s)
+      | inr n ↦ rw n n
+    ]
+
+pub run_cons : (k : Class) (b : ℕ) (s : List ℕ) → in_class k b ≡ true → run k (b ∷ s) ≡ b ∷ run k s
+unfolding run
+run_cons k b s e =
+    let one : 1 + prefix_len (in_class k) s ≡ suc (prefix_len (in_class k) s) = omega arith in
+    rw (e, one) refl
+
+-- ---- parted at the first such byte
+
+StopsBy-free : (b : ℕ) (f r : List ℕ) → IsFree b f → prefix_len (λ x. not (x == b)) (f ++ b ∷ r) ≡ length f
+StopsBy-free b [] r free =
+    let same : (b == b) ≡ true = grind (arith, nat_tests) in
+    rw same refl
+StopsBy-free b (c ∷ f) r free =
+    let both = and_true (not (c == b)) (list_all (λ x. not (x == b)) f) free in
+    let more : prefix_len (λ x. not (x == b)) (f ++ b ∷ r) ≡ length f = StopsBy-free b f r both.1 in
+    rw (both.0, more) (omega arith)
+
+free_len : (b : ℕ) (s : List ℕ) → IsFree b s → prefix_len (λ x. not (x == b)) s ≡ length s
+free_len b [] free = refl
+free_len b (c ∷ s) free =
+    let both = and_true (not (c == b)) (list_all (λ x. not (x == b)) s) free in
+    let more : prefix_len (λ x. not (x == b)) s ≡ length s = free_len b s both.1 in
+    rw (both.0, more) (omega arith)
+
+pub parted_again : (b : ℕ) (f r : List ℕ) → IsFree b f → parted b (f ++ b ∷ r) ≡ Some (f, r)
+unfolding parted
+parted_again b f r free =
+    let at : prefix_len (λ x. not (x == b)) (f ++ b ∷ r) ≡ length f = StopsBy-free b f r free in
+    let within : nat_lt (length f) (length (f ++ b ∷ r)) ≡ true = grind (arith, nat_tests, length-append f (b ∷ r)) in
+    let behind : drop (length f + 1) (f ++ b ∷ r) ≡ r = rw (← append_assoc f (b ∷ []) r) (drop_at (f ++ b ∷ []) r (length f + 1) (omega (arith, length-append f (b ∷ [])))) in
+    rw (at, within, take_at f (b ∷ r) (length f) refl, behind) refl
+
+pub parted_free : (b : ℕ) (s : List ℕ) → IsFree b s → parted b s ≡ None
+unfolding parted
+parted_free b s free =
+    let past : nat_lt (length s) (length s) ≡ false = grind (arith, nat_tests) in
+    rw (free_len b s free, past) refl
+
+all_by_len : (p : ℕ → Bool) (s : List ℕ) → length s ≤ prefix_len p s → list_all p s ≡ true
+all_by_len p [] le = refl
+all_by_len p (c ∷ s) le =
+    elim (cases_Bool (p c)) [
+      | inl y ↦
+          let len : suc (length s) ≤ 1 + prefix_len p s = rw y at le in
+          rw (y, all_by_len p s (omega arith)) refl
+      | inr n ↦
+          let len : suc (length s) ≤ 0 = rw n at le in
+          absurd (omega arith)
+    ]
+
+some_none : {A : Type 0} (x : A) → (Some x ≡ None) → ⊥
+some_none x e = cc
+
+pub parted_none : (b : ℕ) (s : List ℕ) → parted b s ≡ None → IsFree b s
+unfolding parted
+parted_none b s e =
+    elim (cases_Bool (nat_lt (prefix_len (λ x. not (x == b)) s) (length s))) [
+      | inl y ↦ absurd (some_none _ (rw y at e))
+      | inr n ↦ all_by_len (λ x. not (x == b)) s (ltb-false _ _ n)
+    ]
+
+abbrev done : {A : Type 0} → A → Option A
+done x = Some x
+
+done_is : {A : Type 0} (x y : A) → done x ≡ done y → x ≡ y
+done_is x y e = cc
+
+pub parted_takes : (b : ℕ) (s : List ℕ) (x : List ℕ × List ℕ) → parted b s ≡ Some x → s ≡ x.0 ++ b ∷ x.1
+unfolding parted
+parted_takes b s x e =
+    let n : ℕ = prefix_len (λ x. not (x == b)) s in
+    elim (cases_Bool (nat_lt (prefix_len (λ x. not (x == b)) s) (length s))) [
+      | inl y ↦
+          let lt : prefix_len (λ x. not (x == b)) s < length s = ltb-true _ _ y in
+          let test : (get_or s (prefix_len (λ x. not (x == b)) s) 0 == b) ≡ true = passes_at_first (λ x. x == b) s 0 lt in
+          let same : get_or s (prefix_len (λ x. not (x == b)) s) 0 ≡ b = grind (arith, nat_tests) in
+          let whole : s ≡ take (prefix_len (λ x. not (x == b)) s) s ++ (b ∷ drop (prefix_len (λ x. not (x == b)) s + 1) s) = rw same at (split_at_first (λ x. x == b) s 0 lt) in
+          subst (λ (z : List ℕ × List ℕ). s ≡ z.0 ++ b ∷ z.1) (done_is _ x (rw y at e)) whole
+      | inr m ↦ absurd (some_none x (sym (rw m at e)))
+    ]
+
+pub after_run_cons : (k : Class) (b : ℕ) (s : List ℕ) → in_class k b ≡ true → after_run k (b ∷ s) ≡ after_run k s
+unfolding after_run
+after_run_cons k b s e =
+    let one : 1 + prefix_len (in_class k) s ≡ suc (prefix_len (in_class k) s) = omega arith in
+    rw (e, one) refl
+
+pub after_run_here : (k : Class) (b : ℕ) (s : List ℕ) → in_class k b ≡ false → after_run k (b ∷ s) ≡ b ∷ s
+unfolding after_run
+after_run_here k b s e = rw e refl
+
+pub after_run_nil : (k : Class) → after_run k [] ≡ []
+unfolding after_run
+after_run_nil k = refl
+
+-- each byte of one class is of another
+pub wider : (j k : Class) → ((b : ℕ) → in_class j b ≡ true → in_class k b ≡ true) → (s : List ℕ) → IsAll j s → IsAll k s
+wider j k within [] each = refl
+wider j k within (b ∷ s) each =
+    let both = and_true (in_class j b) (list_all (in_class j) s) each in
+    rw (within b both.0, wider j k within s both.1) refl
+
+pub all_front : (k : Class) (a b : List ℕ) → IsAll k (a ++ b) → IsAll k a
+all_front k [] b each = refl
+all_front k (c ∷ a) b each =
+    let both = and_true (in_class k c) (list_all (in_class k) (a ++ b)) each in
+    rw (both.0, all_front k a b both.1) refl

@@ -1,0 +1,7 @@
+-- One reading after another: each may fail, and the next is of what the one before gave.
+use Rattle.std.specs.Prelude.{Option, Some, None}
+
+infixl 10 ◌>>=◌
+abbrev pub ◌>>=◌ : {A B : Type 0} → Option A → (A → Option B) → Option B
+(Some x) >>= f = f x
+None >>= f = None

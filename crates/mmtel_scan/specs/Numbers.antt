@@ -1,0 +1,19 @@
+-- Numbers in decimal digits, which may begin with zeros (RFC 3261 §25.1: 1*DIGIT).
+use Rattle.std.specs.Prelude.{◌≡◌, Option, Some, None, ◌==◌, if◌then◌else◌, ℕ, nat_lt, List, length}
+use Rattle.std.specs.List.{list_all}
+use Rattle.std.specs.Str.Parse.{digits_value}
+use Rattle.mmtel_scan.specs.Classes.{in_class, IsOneOrMore}
+use Rattle.mmtel_scan.specs.declared.classes.Class.TheVariants.{Digit}
+
+-- what the digits write, where it is at most the limit
+unfoldable pub within : ℕ → List ℕ → Option ℕ
+within limit digits = if nat_lt limit (digits_value 10 digits) then None else Some (digits_value 10 digits)
+
+-- the number, where there is one digit or more, digits alone, and they write one of at most the limit
+unfoldable pub number_of : ℕ → List ℕ → Option ℕ
+number_of limit s = if length s == 0 then None else if list_all (in_class Digit) s then within limit s else None
+
+-- one digit or more that write this number
+pub record Writes (s : List ℕ) (n : ℕ) : Type 0 where
+  pub digits : IsOneOrMore Digit s
+  pub worth : digits_value 10 s ≡ n

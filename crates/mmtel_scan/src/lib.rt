@@ -1,0 +1,16 @@
+//! The ground of all crates: want of memory, texts, lists that may hold what must be spent, classes of bytes, and the scanners that every grammar of the server stands on.
+#![tactic(auto)]
+
+mod classes;
+mod lists;
+mod memory;
+mod numbers;
+mod scanning;
+mod texts;
+
+pub use classes::{Class, is_all};
+pub use lists::List;
+pub use memory::NoMemory;
+pub use numbers::number_up_to;
+pub use scanning::{closing, part, skip_byte, skip_text, split_run, trim, trim_end};
+pub use texts::Text;

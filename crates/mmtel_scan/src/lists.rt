@@ -1,0 +1,144 @@
+//! Lists whose items may be values that must be spent.
+ghost use Rattle.std.specs.Prelude.{◌≡◌, List, [], ◌++◌, ◌∷◌, ◌↔◌, IfErr, OnOk, OnErr, IsNone, option_to_list, take, drop, slice_set, slice_get, Some, length, ◌≤◌, ◌<◌, ◌+◌};
+
+use crate::memory::NoMemory;
+use std::alloc::Global;
+use std::marker::Model;
+
+/// A list of items that need not be droppable.
+///
+/// A list of such items is spent by `pop` until it is empty, and then by `destroy_empty`.
+pub struct List<T> {
+    kept: Option<Vec<T>>,
+}
+
+impl<T> Model for List<T> {
+    ghost use Rattle.std.specs.Prelude.{List, []};
+    ghost use Rattle.std.specs.Option.{option_map_or};
+
+    ghost Value = { List T };
+
+    ghost view = { λ t. option_map_or (λ v. v.items) t.kept [] };
+}
+
+impl<T: Drop> Drop for List<T> {
+    fn drop(self) {
+        let List { kept: _ } = self;
+    }
+}
+
+impl<T> List<T> {
+    /// The list of no items. It takes no memory.
+    pub fn new() -> List<T>
+        ensures { result ≡ [] }
+    {
+        List { kept: None }
+    }
+
+    /// Adds an item at the end.
+    ///
+    /// # Errors
+    ///
+    /// Want of memory alone; the item is handed back, and the list is as before.
+    pub fn push(&mut self, alloc: Global, item: T) -> Result<(), (T, NoMemory)>
+        ensures ok { OnOk result (self.new ≡ self.old ++ item ∷ []) }
+        ensures err { OnErr result (self.new ≡ self.old) }
+        ensures handed_back { IfErr result (λ refused. refused.0 ≡ item) }
+    {
+        let mut kept = match self.kept.take() {
+            Some(kept) => kept,
+            None => Vec::new(alloc),
+        };
+        let pushed = match kept.push(item) {
+            Ok(()) => Ok(()),
+            Err(refused) => Err((refused.value, NoMemory)),
+        };
+        match self.kept.replace(kept) {
+            Some(_) => unreachable!(),
+            None => {}
+        }
+        pushed
+    }
+
+    /// The items, in order.
+    pub fn items(&self) -> &[T]
+        ensures { result.now ≡ self.now }
+    {
+        match &self.kept {
+            Some(kept) => kept.as_slice(),
+            None => &[],
+        }
+    }
+
+    /// Puts an item in the place of another, which is handed out.
+    pub fn replace(&mut self, at: usize, item: T) -> T
+        requires { at < length self.old }
+        ensures items { self.new ≡ slice_set self.old at item }
+        ensures handed_out { slice_get self.old at ≡ Some result }
+    {
+        match &mut self.kept {
+            Some(kept) => std::mem::replace(&mut kept[at], item),
+            None => unreachable!(),
+        }
+    }
+
+    /// Adds an item before the one at a place, or at the end.
+    ///
+    /// # Errors
+    ///
+    /// Want of memory alone; the item is handed back, and the list is as before.
+    pub fn insert(&mut self, alloc: Global, at: usize, item: T) -> Result<(), (T, NoMemory)>
+        requires { at ≤ length self.old }
+        ensures ok { OnOk result (self.new ≡ take at self.old ++ item ∷ drop at self.old) }
+        ensures err { OnErr result (self.new ≡ self.old) }
+        ensures handed_back { IfErr result (λ refused. refused.0 ≡ item) }
+    {
+        let mut kept = match self.kept.take() {
+            Some(kept) => kept,
+            None => Vec::new(alloc),
+        };
+        let pushed = match kept.insert(at, item) {
+            Ok(()) => Ok(()),
+            Err(refused) => Err((refused.value, NoMemory)),
+        };
+        match self.kept.replace(kept) {
+            Some(_) => unreachable!(),
+            None => {}
+        }
+        pushed
+    }
+
+    /// Takes the item at a place out.
+    pub fn remove(&mut self, at: usize) -> T
+        requires { at < length self.old }
+        ensures rest { self.new ≡ take at self.old ++ drop (at + 1) self.old }
+        ensures handed_out { slice_get self.old at ≡ Some result }
+    {
+        match &mut self.kept {
+            Some(kept) => kept.remove(at),
+            None => unreachable!(),
+        }
+    }
+
+    /// Takes the last item off; None exactly where there is none.
+    pub fn pop(&mut self) -> Option<T>
+        ensures items { self.old ≡ self.new ++ option_to_list result }
+        ensures empty { IsNone result ↔ (self.old ≡ []) }
+    {
+        match &mut self.kept {
+            Some(kept) => kept.pop(),
+            None => None,
+        }
+    }
+
+    /// Gives up a list that is empty, whatever its items are.
+    pub fn destroy_empty(self)
+        requires { self ≡ [] }
+    {
+        let List { kept } = self;
+        match kept {
+            Some(kept) => kept.destroy_empty(),
+            None => {}
+        }
+    }
+}

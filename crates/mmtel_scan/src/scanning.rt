@@ -1,0 +1,128 @@
+//! Scanners: the front of a list of bytes, and what follows it.
+ghost use Rattle.std.specs.Prelude.{position, ◌==◌, true, false, List, ℕ, ◌++◌, ◌∷◌, IsNone, ◌≡◌, ◌≤◌, ◌<◌, length, IfSome, take, drop};
+ghost use Rattle.std.specs.List.{prefix_len};
+ghost use Rattle.std.specs.Option.{option_copied, option_map};
+ghost use Rattle.mmtel_scan.specs.Classes.{in_class, IsAll};
+ghost use Rattle.mmtel_scan.specs.Scanning.{run, after_run, after_byte, after_text, parted, inside, closes, IsClosedAt, trimmed, trimmed_both};
+
+use crate::classes::Class;
+
+/// How many bytes from the front on are of the class.
+fn run_len(class: Class, bytes: &[u8]) -> usize
+    ensures place { result ≡ prefix_len (in_class class) bytes.now }
+    ensures within { result ≤ length bytes.now }
+{
+    for (i, byte) in bytes.iter().enumerate() {
+        if !class.has(*byte) {
+            return i;
+        }
+    }
+    bytes.len()
+}
+
+/// The longest front of bytes of the class, and what follows it.
+#[tactic(auto, unfolding(crate::specs::Scanning::run, crate::specs::Scanning::after_run))]
+pub fn split_run(class: Class, bytes: &[u8]) -> (&[u8], &[u8])
+    ensures front { result.0.now ≡ run class bytes.now }
+    ensures rest { result.1.now ≡ after_run class bytes.now }
+    ensures shorter { length result.1.now ≤ length bytes.now }
+    ensures each { IsAll class result.0.now }
+{
+    bytes.split_at(run_len(class, bytes))
+}
+
+/// What follows the byte, where it comes first.
+pub fn skip_byte(byte: u8, bytes: &[u8]) -> Option<&[u8]>
+    ensures value { option_copied result ≡ after_byte byte bytes.now }
+    ensures shorter { IfSome result (λ rest. length rest.now < length bytes.now) }
+{
+    match bytes {
+        [first, rest @ ..] if *first == byte => Some(rest),
+        _ => None,
+    }
+}
+
+/// Where the byte comes first.
+fn place(byte: u8, bytes: &[u8]) -> Option<usize>
+    ensures { result ≡ position (λ x. x == byte) bytes.now }
+{
+    bytes.iter().position(|b| *b == byte)
+}
+
+/// What stands before the first such byte, and what stands after it.
+#[tactic(auto, unfolding(crate::specs::Scanning::parted))]
+pub fn part(byte: u8, bytes: &[u8]) -> Option<(&[u8], &[u8])>
+    ensures { option_map (λ x. (x.0.now, x.1.now)) result ≡ parted byte bytes.now }
+{
+    match place(byte, bytes) {
+        None => None,
+        Some(at) => Some((&bytes[..at], &bytes[at + 1..])),
+    }
+}
+
+/// Where the first quote is that no backslash escapes.
+fn quote_place(bytes: &[u8]) -> Option<usize>
+    ensures place { result ≡ closes false bytes.now }
+    ensures within { IfSome result (λ at. at < length bytes.now) }
+{
+    let mut escaped = false;
+    for (i, byte) in bytes.iter().enumerate() {
+        if escaped {
+            escaped = false;
+        } else if *byte == b'"' {
+            return Some(i);
+        } else {
+            escaped = *byte == b'\\';
+        }
+    }
+    None
+}
+
+/// Where the quote is that closes a quoted string, whose opening quote came before (RFC 3261 §25.1).
+pub fn closing(bytes: &[u8]) -> Option<usize>
+    ensures place { result ≡ closes false bytes.now }
+    ensures within { IfSome result (λ at. at < length bytes.now) }
+    // What stands before it is the inside of a quoted string.
+    ensures quoted { IfSome result (λ at. IsClosedAt bytes.now at) }
+    // There is none only where no front of the bytes is such an inside and its quote.
+    ensures unclosed { IsNone result → (inner rest : List ℕ) → bytes.now ≡ inner ++ 34 ∷ rest → inside false inner ≡ true → ⊥ }
+{
+    quote_place(bytes)
+}
+
+/// The bytes without those of the class at the end.
+pub fn trim_end(class: Class, bytes: &[u8]) -> &[u8]
+    ensures { result.now ≡ trimmed class bytes.now }
+{
+    let mut len = bytes.len();
+    'back: while len > 0 {
+        if !class.has(bytes[len - 1]) {
+            break;
+        }
+        len -= 1;
+    }
+    &bytes[..len]
+}
+
+/// The bytes without those of the class at both ends.
+pub fn trim(class: Class, bytes: &[u8]) -> &[u8]
+    ensures { result.now ≡ trimmed_both class bytes.now }
+{
+    let (_, rest) = split_run(class, bytes);
+    trim_end(class, rest)
+}
+
+/// What follows these bytes, where they come first.
+pub fn skip_text<'a>(front: &[u8], bytes: &'a [u8]) -> Option<&'a [u8]>
+    ensures { option_copied result ≡ after_text front.now bytes.now }
+{
+    if bytes.len() < front.len() {
+        return None;
+    }
+    let len = front.len();
+    if &bytes[..len] == front {
+        Some(&bytes[len..])
+    } else {
+        None
+    }
+}

@@ -1,0 +1,8 @@
+-- The two sides of a call through a back-to-back user agent (RFC 3261 §6).
+use Rattle.mmtel_types.specs.declared.sides.Side.{Side}
+use Rattle.mmtel_types.specs.declared.sides.Side.TheVariants.{Caller, Callee}
+
+-- the side across
+abbrev pub other_of : Side → Side
+other_of Caller = Callee
+other_of Callee = Caller

@@ -1,0 +1,15 @@
+//! What all crates share and what takes no memory: numbers of peers, accounts, calls and rooms, the sides of a call, moments, sets of privacy words, the causes of refusals, and the limits of the server.
+#![tactic(auto)]
+
+mod causes;
+pub mod limits;
+mod moments;
+mod numbers;
+mod privacy;
+mod sides;
+
+pub use causes::{Cause, causes_are_told_apart};
+pub use moments::Moment;
+pub use numbers::{Account, CallNo, Failed, Peer, RoomNo};
+pub use privacy::PrivacySet;
+pub use sides::Side;

@@ -1,0 +1,7 @@
+pub mod Answered
+pub mod Decimals
+pub mod Parts
+pub mod Plain
+pub mod Reading
+pub mod Sound
+pub mod Written

@@ -1,0 +1,4 @@
+pub mod Lines
+pub mod Mixing
+pub mod Outcome
+pub mod Sdp

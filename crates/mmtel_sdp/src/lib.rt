@@ -1,0 +1,15 @@
+//! Session descriptions (RFC 4566) as far as calls and rooms look into them, and the offer and the answer of the mixer (RFC 3264).
+#![tactic(auto)]
+
+mod faults;
+mod lines;
+mod looking;
+mod media;
+mod mixing;
+mod values;
+mod writing;
+
+pub use faults::{AnswerFault, SdpFault};
+pub use looking::look;
+pub use mixing::{mixer_answer, mixer_offer};
+pub use values::{Direction, Medium, Mixer, SdpView};

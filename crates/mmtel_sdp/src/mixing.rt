@@ -1,0 +1,103 @@
+//! The offer and the answer of a room's mixer (RFC 3264).
+ghost use Rattle.std.specs.Prelude.{◌≡◌, ◌++◌, ◌↔◌, IfOk, OnOk, OnErr, false, Err, decimal, codes, List, ℕ, Some, ◌∷◌, []};
+ghost use Rattle.mmtel_sdp.specs.Lines.{text_of};
+ghost use Rattle.mmtel_sdp.specs.Sdp.{is_audio, sdp_of};
+ghost use Rattle.mmtel_sdp.specs.Mixing.{offer_text, answered_direction, answered_lines, answer_text, has_audio, answered, offered, ports_of, answered_ports};
+
+use crate::faults::AnswerFault;
+use crate::values::{Direction, Medium, Mixer, SdpView};
+use crate::writing::{add_accepted, add_direction, add_media_line, add_refused, opening};
+use mmtel_scan::{NoMemory, Text};
+use std::alloc::Global;
+
+/// The direction that answers a direction (RFC 3264 §6.1).
+fn answered_direction(direction: Direction) -> Direction
+    ensures { result ≡ answered_direction direction }
+{
+    match direction {
+        Direction::SendRecv => Direction::SendRecv,
+        Direction::SendOnly => Direction::RecvOnly,
+        Direction::RecvOnly => Direction::SendOnly,
+        Direction::Inactive => Direction::Inactive,
+    }
+}
+
+fn is_audio(medium: &Medium) -> bool
+    ensures { result ≡ is_audio medium.now.kind }
+{
+    medium.kind.bytes() == b"audio".as_slice()
+}
+
+fn has_audio(media: &[Medium]) -> bool
+    ensures { result ≡ has_audio media.now }
+{
+    media.iter().any(|medium| is_audio(medium))
+}
+
+/// Adds the lines of the media: the first audio medium is taken, and no other.
+fn add_answered(
+    alloc: Global,
+    out: &mut Text,
+    port: u16,
+    direction: Direction,
+    media: &[Medium],
+) -> Result<(), NoMemory>
+    ensures { OnOk result (out.new ≡ out.old ++ text_of (answered_lines port direction media.now)) }
+{
+    let mut taken = false;
+    for medium in media {
+        if !taken && is_audio(medium) {
+            add_accepted(alloc, out, port, direction, medium)?;
+            taken = true;
+        } else {
+            add_refused(alloc, out, medium)?;
+        }
+    }
+    Ok(())
+}
+
+/// The mixer's answer to an offer: it takes the first audio medium, and answers its direction.
+///
+/// # Errors
+///
+/// `NoAudio` exactly where no medium of the offer is audio. Want of memory.
+#[tactic(auto, unfolding(crate::specs::Mixing::answer_text))]
+pub fn mixer_answer(alloc: Global, view: &SdpView, mixer: Mixer) -> Result<Text, AnswerFault>
+    ensures text { IfOk result (λ text. text ≡ answer_text view.now mixer) }
+    ensures no_audio { (result ≡ Err AnswerFault.NoAudio) ↔ (has_audio view.now.media ≡ false) }
+    // Where a body gave the view, the answer reads as the same media, and as the direction that answers.
+    ensures reads_back { (body : List ℕ) → sdp_of body ≡ Some view.now → IfOk result (λ text. sdp_of text ≡ Some (answered view.now)) }
+    // Its ports are the mixer's at the first audio medium, and 0 at each other.
+    ensures ports { (body : List ℕ) → sdp_of body ≡ Some view.now → IfOk result (λ text. ports_of text ≡ Some (answered_ports mixer.port view.now.media)) }
+{
+    let media = view.media.items();
+    if !has_audio(media) {
+        return Err(AnswerFault::NoAudio);
+    }
+    let mut out = opening(alloc, mixer)?;
+    add_answered(
+        alloc,
+        &mut out,
+        mixer.port,
+        answered_direction(view.direction),
+        media,
+    )?;
+    Ok(out)
+}
+
+/// The mixer's offer: one audio medium, both ways.
+///
+/// # Errors
+///
+/// Want of memory alone.
+#[tactic(auto, unfolding(crate::specs::Mixing::offer_text))]
+pub fn mixer_offer(alloc: Global, mixer: Mixer) -> Result<Text, NoMemory>
+    ensures text { IfOk result (λ text. text ≡ offer_text mixer) }
+    ensures reads_back { IfOk result (λ text. sdp_of text ≡ Some offered) }
+    ensures ports { IfOk result (λ text. ports_of text ≡ Some (decimal mixer.port ∷ [])) }
+{
+    let mut out = opening(alloc, mixer)?;
+    add_media_line(alloc, &mut out, b"audio", mixer.port, b"RTP/AVP", b"0 8")?;
+    add_direction(alloc, &mut out, Direction::SendRecv)?;
+    Ok(out)
+}

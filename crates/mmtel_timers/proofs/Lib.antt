@@ -1,0 +1,6 @@
+mod Choice
+mod Draining
+mod Keys
+mod Next
+mod Removal
+mod Sorting

@@ -1,0 +1,10 @@
+pub mod CauseLaws
+pub mod EntryLaws
+pub mod Finding
+pub mod ListLaws
+pub mod Marks
+pub mod PartLaws
+pub mod Places
+pub mod ReadableLaws
+pub mod UriLaws
+pub mod ValuesLoop

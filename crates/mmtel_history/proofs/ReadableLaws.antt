@@ -1,0 +1,263 @@
+-- Entries that can be written and read again stay so.
+use Rattle.std.proofs.Common.{◌≡◌, ◌==◌, Bool, true, false, ◌||◌, ℕ, zero, suc, ◌+◌, ◌-◌, ◌≤◌, ◌<◌, List, [], ◌∷◌, ◌++◌, length, take, drop, get_or, Option, Some, None, Result, Ok, Err, refl, sym, subst, ◌∙◌, arith, inl, inr, nat_lt}
+use Rattle.std.specs.Option.{option_map_or}
+use Rattle.std.specs.Prelude.{codes, decimal, slice_get, position, option_to_list, IfOk}
+use Rattle.std.specs.List.{list_all, find}
+use Rattle.std.proofs.lemmas.Bool.{cases_Bool}
+use Rattle.std.proofs.lemmas.Bool.Decides.{nat_tests}
+use Rattle.std.proofs.lemmas.List.{length-append, take-append-drop}
+use Rattle.std.proofs.lemmas.List.Folds.{list_all-append}
+use Rattle.std.proofs.lemmas.List.Quantifiers.{position-Some}
+use Rattle.mmtel_scan.specs.Classes.{in_class, IsAll}
+use Rattle.mmtel_scan.specs.Numbers.{number_of}
+use Rattle.mmtel_scan.specs.Scanning.{parted}
+use Rattle.mmtel_scan.specs.declared.classes.Class.TheVariants.{Digit, UriByte, BareByte}
+use Rattle.mmtel_scan.proofs.ChainLaws.{bind_some, some_is, unless_some, where_some}
+use Rattle.mmtel_scan.proofs.NumberLaws.{number_takes}
+use Rattle.mmtel_scan.proofs.Runs.{and_true, wider, parted_takes}
+use Rattle.mmtel_lex.specs.Grammar.{AreParams, IsNameAddr}
+use Rattle.mmtel_lex.specs.Reading.{name_addr_of}
+use Rattle.mmtel_lex.specs.declared.values.Param.{Param}
+use Rattle.mmtel_lex.specs.declared.values.NameAddr.{NameAddr}
+use Rattle.mmtel_lex.proofs.NameAddrLaws.{name_addr_takes}
+use Rattle.mmtel_history.specs.EntryUri.{front_from, user_part, host_part, uri_params, is_cause, cause_in, cause_number, from_hundred, cause_of, has_cause, hides, is_marked, headers_from, with_cause}
+use Rattle.mmtel_history.specs.HistoryInfo.{is_dotted, dotted_in, is_index, value_or_none, index_at, entry_with, entry_at, entry_in, entry_of, entries_of, anonymous, masked_uri, masked_list, hidden_entry, marked_at, hidden_if, started, last_index, target_entry, with_target, appended, IsReadable, AreReadable, IsUriText, IsTarget}
+use Rattle.mmtel_history.specs.declared.entries.Entry.{Entry}
+use Rattle.mmtel_history.proofs.CauseLaws.{cause_law, cause_keeps_mark, decimal_digits}
+use Rattle.mmtel_history.proofs.UriLaws.{whole_uri, parts_more}
+
+-- ---- what was read
+
+bare_uri : (b : ℕ) → in_class BareByte b ≡ true → in_class UriByte b ≡ true
+unfolding in_class
+bare_uri b e = grind (arith, nat_tests)
+
+uri_by : (s : List ℕ) (n : NameAddr) → IsNameAddr s n → IsUriText n.uri
+uri_by s n (inl is) = is.uri_in
+uri_by s n (inr is) = record { filled = is.uri_in.filled; each = wider BareByte UriByte bare_uri n.uri is.uri_in.each }
+
+params_by : (s : List ℕ) (n : NameAddr) → IsNameAddr s n → AreParams n.params
+params_by s n (inl is) = is.params_in
+params_by s n (inr is) = is.params_in
+
+params_append : (ps qs : List Param) → AreParams ps → AreParams qs → AreParams (ps ++ qs)
+params_append [] qs are more = more
+params_append (p ∷ ps) qs are more = (are.0, params_append ps qs are.1 more)
+
+params_split : (ps qs : List Param) → AreParams (ps ++ qs) → AreParams ps × AreParams qs
+params_split [] qs are = (tt, are)
+params_split (p ∷ ps) qs are = let more = params_split ps qs are.1 in ((are.0, more.0), more.1)
+
+params_take : (n : ℕ) (ps : List Param) → AreParams ps → AreParams (take n ps)
+params_take n ps are = (params_split (take n ps) (drop n ps) (subst (λ (l : List Param). AreParams l) (sym (take-append-drop n ps)) are)).0
+
+params_drop : (n : ℕ) (ps : List Param) → AreParams ps → AreParams (drop n ps)
+params_drop n ps are = (params_split (take n ps) (drop n ps) (subst (λ (l : List Param). AreParams l) (sym (take-append-drop n ps)) are)).1
+
+dotted_by : (o : Option (List ℕ)) → dotted_in o ≡ true → is_dotted (value_or_none o) ≡ true
+dotted_by None e = absurd cc
+dotted_by (Some v) e = e
+
+index_dotted : (p : Param) → is_index p ≡ true → is_dotted (value_or_none p.value) ≡ true
+unfolding is_index
+index_dotted p e = dotted_by p.value (and_true _ (dotted_in p.value) e).1
+
+index_found : (ps : List Param) (place : ℕ) (d : Param) → place < length ps → index_at place ps ≡ value_or_none (get_or ps place d).value
+index_found [] place d lt = absurd (omega arith)
+index_found (p ∷ ps) zero d lt = refl
+index_found (p ∷ ps) (suc place) d lt = index_found ps place d (omega arith)
+
+nothing : Param
+nothing = record { name = []; value = None }
+
+entry_readable : (s : List ℕ) (n : NameAddr) (o : Option ℕ) (e : Entry) → IsNameAddr s n → position is_index n.params ≡ o → entry_at n o ≡ Some e → IsReadable e
+entry_readable s n None e is at made = absurd cc
+entry_readable s n (Some place) e is at made =
+    let here = position-Some is_index n.params place nothing at in
+    let dotted : is_dotted (index_at place n.params) ≡ true = rw (index_found n.params place nothing here.0) (index_dotted (get_or n.params place nothing) here.1) in
+    let are : AreParams n.params = params_by s n is in
+    subst (λ (x : Entry). IsReadable x) (some_is _ e made)
+    (record {
+      uri = uri_by s n is;
+      index = dotted;
+      cause = refl;
+      mark = λ m. m;
+      rest = (take place n.params ++ drop (place + 1) n.params, refl, params_append (take place n.params) (drop (place + 1) n.params) (params_take place n.params are) (params_drop (place + 1) n.params are));
+    })
+
+pub read_readable : (s : List ℕ) (e : Entry) → entry_of s ≡ Some e → IsReadable e
+unfolding entry_of
+read_readable s e read =
+    let b = bind_some (name_addr_of s) entry_in e read in
+    entry_readable s b.0 (position is_index b.0.params) e (name_addr_takes s b.0 b.1) refl b.2
+
+pub readable_append : (h g : List Entry) → AreReadable h → AreReadable g → AreReadable (h ++ g)
+readable_append [] g are more = more
+readable_append (e ∷ h) g are more = (are.0, readable_append h g are.1 more)
+
+one_readable : (s : List ℕ) (o : Option Entry) → entry_of s ≡ o → AreReadable (option_to_list o)
+one_readable s None e = tt
+one_readable s (Some x) e = (read_readable s x e, tt)
+
+pub entries_readable : (vs : List (List ℕ)) → AreReadable (entries_of vs)
+entries_readable [] = tt
+entries_readable (v ∷ vs) = readable_append (option_to_list (entry_of v)) (entries_of vs) (one_readable v (entry_of v) refl) (entries_readable vs)
+
+-- ---- marks
+
+hidden_readable : (e : Entry) → IsReadable e → IsReadable (hidden_entry e)
+hidden_readable e is = record { uri = is.uri; index = is.index; cause = is.cause; mark = λ m. refl; rest = is.rest }
+
+pub marked_readable : (h : List Entry) (n : ℕ) → AreReadable h → AreReadable (marked_at n h)
+marked_readable [] n are = tt
+marked_readable (e ∷ h) zero are = (hidden_readable e are.0, are.1)
+marked_readable (e ∷ h) (suc n) are = (are.0, marked_readable h n are.1)
+
+hidden_if_readable : (hide : Bool) (h : List Entry) (n : ℕ) → AreReadable h → AreReadable (hidden_if hide n h)
+hidden_if_readable true h n are = marked_readable h n are
+hidden_if_readable false h n are = are
+
+-- ---- targets
+
+first_readable : (from : List ℕ) → IsUriText from → IsReadable (entry_with from (codes "1") [])
+unfolding is_dotted in_class
+first_readable from is = record { uri = is; index = refl; cause = refl; mark = λ m. m; rest = ([], refl, tt) }
+
+pub started_readable : (h : List Entry) (from : List ℕ) → IsUriText from → AreReadable h → AreReadable (started from h)
+started_readable [] from is are = (first_readable from is, tt)
+started_readable (e ∷ h) from is are = are
+
+digit_uri : (b : ℕ) → in_class Digit b ≡ true → in_class UriByte b ≡ true
+unfolding in_class
+digit_uri b e = grind (arith, nat_tests)
+
+both_all : (s t : List ℕ) → IsAll UriByte s → IsAll UriByte t → IsAll UriByte (s ++ t)
+both_all s t x y = rw (list_all-append, x, y) refl
+
+split_all : (s t : List ℕ) → IsAll UriByte (s ++ t) → IsAll UriByte s × IsAll UriByte t
+split_all s t all = and_true (list_all (in_class UriByte) s) (list_all (in_class UriByte) t) (rw list_all-append at all)
+
+cause_word : IsAll UriByte (codes ";cause=")
+unfolding in_class
+cause_word = refl
+
+put_all : (h : List ℕ) (o : Option (List ℕ × List ℕ)) (d : List ℕ) → parted 63 h ≡ o → IsAll UriByte h → IsAll UriByte d → IsAll UriByte (front_from h o ++ (codes ";cause=" ++ (d ++ headers_from o)))
+put_all h None d e all digits = both_all h (codes ";cause=" ++ (d ++ [])) all (both_all (codes ";cause=") (d ++ []) cause_word (both_all d [] digits refl))
+put_all h (Some x) d e all digits =
+    let both = split_all x.0 (63 ∷ x.1) (rw (parted_takes 63 h x e) at all) in
+    both_all x.0 (codes ";cause=" ++ (d ++ 63 ∷ x.1)) both.0 (both_all (codes ";cause=") (d ++ 63 ∷ x.1) cause_word (both_all d (63 ∷ x.1) digits both.1))
+
+cause_filled : (s t : List ℕ) → 0 < length (s ++ (codes ";cause=" ++ t))
+cause_filled s t = omega (arith, length-append s (codes ";cause=" ++ t), length-append (codes ";cause=") t)
+
+pub cause_text : (n : ℕ) (u : List ℕ) → n < 65536 → IsUriText u → IsUriText (with_cause n u)
+unfolding with_cause
+cause_text n u lt is =
+    let whole : IsAll UriByte (user_part u ++ host_part u) = subst (λ (l : List ℕ). IsAll UriByte l) (whole_uri u) is.each in
+    let both = split_all (user_part u) (host_part u) whole in
+    let digits : IsAll UriByte (decimal n) = wider Digit UriByte digit_uri (decimal n) (decimal_digits n lt) in
+    let new : List ℕ = front_from (host_part u) (parted 63 (host_part u)) ++ (codes ";cause=" ++ (decimal n ++ headers_from (parted 63 (host_part u)))) in
+    let all : IsAll UriByte (front_from (host_part u) (parted 63 (host_part u)) ++ (codes ";cause=" ++ (decimal n ++ headers_from (parted 63 (host_part u))))) = put_all (host_part u) (parted 63 (host_part u)) (decimal n) refl both.1 digits in
+    record {
+      filled = omega (arith, length-append (user_part u) new, cause_filled (front_from (host_part u) (parted 63 (host_part u))) (decimal n ++ headers_from (parted 63 (host_part u))));
+      each = both_all (user_part u) (front_from (host_part u) (parted 63 (host_part u)) ++ (codes ";cause=" ++ (decimal n ++ headers_from (parted 63 (host_part u))))) both.0 all;
+    }
+
+dotted_more : (i : List ℕ) → is_dotted i ≡ true → is_dotted (i ++ codes ".1") ≡ true
+unfolding is_dotted in_class
+dotted_more i e = rw (parts_more 46 i (codes "1"), list_all-append, e) refl
+
+place_dotted : (h : List Entry) (n : ℕ) → n < length h → AreReadable h → is_dotted (option_map_or (λ e. e.index) (slice_get h n) []) ≡ true
+place_dotted [] n lt are = absurd (omega arith)
+place_dotted (e ∷ h) zero lt are = are.0.index
+place_dotted (e ∷ h) (suc n) lt are = place_dotted h n (omega arith) are.1
+
+last_dotted : (h : List Entry) → 0 < length h → AreReadable h → is_dotted (last_index h) ≡ true
+last_dotted h filled are = place_dotted h (length h - 1) (omega arith) are
+
+target_readable : (index target : List ℕ) (cause : ℕ) → is_dotted index ≡ true → IsTarget target cause → IsReadable (target_entry index target cause)
+target_readable index target cause dotted is =
+    let lt : cause < 65536 = omega (arith, is.high) in
+    record {
+      uri = cause_text cause target lt is.uri;
+      index = dotted_more index dotted;
+      cause = sym (cause_law cause target is.alone is.low is.high);
+      mark = λ m. m;
+      rest = ([], refl, tt);
+    }
+
+with_readable : (h : List Entry) (target : List ℕ) (cause : ℕ) (hide : Bool) → 0 < length h → AreReadable h → IsTarget target cause → AreReadable (with_target h target cause hide)
+with_readable h target cause hide filled are is =
+    readable_append (hidden_if hide (length h - 1) h) (target_entry (last_index h) target cause ∷ []) (hidden_if_readable hide h (length h - 1) are) (target_readable (last_index h) target cause (last_dotted h filled are) is, tt)
+
+started_filled : (from : List ℕ) (h : List Entry) → 0 < length (started from h)
+started_filled from [] = omega arith
+started_filled from (e ∷ h) = omega arith
+
+pub appended_readable : (h : List Entry) (from target : List ℕ) (cause : ℕ) (hide : Bool) → AreReadable h → IsUriText from → IsTarget target cause → AreReadable (appended h from target cause hide)
+unfolding appended
+appended_readable h from target cause hide are first is = with_readable (started from h) target cause hide (started_filled from h) (started_readable h from first are) is
+
+-- ---- masks
+
+anonymous_text : IsUriText anonymous
+unfolding in_class
+anonymous_text = record { filled = omega arith; each = refl }
+
+anonymous_cause : cause_of anonymous ≡ None
+unfolding cause_of host_part parted
+anonymous_cause = refl
+
+anonymous_alone : has_cause anonymous ≡ false
+unfolding host_part parted
+anonymous_alone = refl
+
+anonymous_mark : is_marked anonymous ≡ false
+unfolding is_marked host_part parted hides
+anonymous_mark = refl
+
+pub record InRange (n : ℕ) : Type 0 where
+  pub low : 100 ≤ n
+  pub high : n ≤ 699
+
+range_of : (o : Option ℕ) (n : ℕ) → ((m : ℕ) → o ≡ Some m → m ≤ 699) → from_hundred o ≡ Some n → InRange n
+range_of None n le e = absurd cc
+range_of (Some m) n le e =
+    let g = unless_some (nat_lt m 100) (Some m) n e in
+    let same : m ≡ n = some_is m n g.1 in
+    let high : m ≤ 699 = le m refl in
+    record { low = grind (arith, nat_tests, g.0, same); high = omega (arith, same) }
+
+number_range : (d : List ℕ) (n : ℕ) → cause_number d ≡ Some n → InRange n
+unfolding cause_number
+number_range d n e =
+    let g = where_some (length d == 3) (from_hundred (number_of 699 d)) n e in
+    range_of (number_of 699 d) n (λ m h. (number_takes 699 d m h).1) g.1
+
+cause_range : (o : Option (List ℕ)) (n : ℕ) → cause_in o ≡ Some n → InRange n
+cause_range None n e = absurd cc
+cause_range (Some p) n e = number_range _ n e
+
+pub range_by : (u : List ℕ) (n : ℕ) → cause_of u ≡ Some n → InRange n
+unfolding cause_of
+range_by u n e = cause_range (find is_cause (uri_params u)) n e
+
+nobody_readable : (e : Entry) (c : Option ℕ) → e.cause ≡ c → IsReadable e → IsReadable (record { uri = masked_uri c; index = e.index; cause = c; hidden = false; rest = e.rest })
+nobody_readable e None same is = record { uri = anonymous_text; index = is.index; cause = sym anonymous_cause; mark = λ m. absurd (let f = anonymous_mark in cc); rest = is.rest }
+nobody_readable e (Some n) same is =
+    let range = range_by e.uri n (sym is.cause ∙ same) in
+    let lt : n < 65536 = omega (arith, range.high) in
+    let unmarked : is_marked (with_cause n anonymous) ≡ false = cause_keeps_mark n anonymous lt ∙ anonymous_mark in
+    record { uri = cause_text n anonymous lt anonymous_text; index = is.index; cause = sym (cause_law n anonymous anonymous_alone range.low range.high); mark = λ m. absurd (let f = unmarked in cc); rest = is.rest }
+
+pub masked_readable : (all : Bool) (h : List Entry) → AreReadable h → AreReadable (masked_list all h)
+masked_readable all [] are = tt
+masked_readable all (e ∷ h) are =
+    elim (cases_Bool (all || e.hidden)) [
+      | inl y ↦ rw y (nobody_readable e e.cause refl are.0, masked_readable all h are.1)
+      | inr n ↦ rw n (are.0, masked_readable all h are.1)
+    ]
+
+pub if_ok_by : {X E : Type 0} {P Q : X → Type 0} (r : Result X E) → IfOk r P → ((x : X) → P x → Q x) → IfOk r Q
+if_ok_by (Ok x) h f = f x h
+if_ok_by (Err e) h f = tt

@@ -1,0 +1,120 @@
+-- What the URI of a History-Info entry says (RFC 7044 §5 and §10.1, RFC 4458 §2, RFC 3261 §19.1.1): its parameters and its header part are looked for behind its last '@', or in all of it where it has none, whatever its scheme.
+use Rattle.std.specs.Prelude.{ℕ, zero, suc, Bool, true, false, not, ◌&&◌, ◌==◌, ◌-◌, if◌then◌else◌, nat_lt, List, [], ◌∷◌, ◌++◌, length, take, drop, Option, Some, None, is_some, codes, decimal}
+use Rattle.std.specs.List.{list_any, find, slice_split, onto_first, after_last, suffix_len}
+use Rattle.std.specs.Str.{str_eq_ignore_ascii_case}
+use Rattle.mmtel_scan.specs.Numbers.{number_of}
+use Rattle.mmtel_scan.specs.Scanning.{parted}
+
+-- the parts of a text between bytes of one value
+abbrev pub parts : ℕ → List ℕ → List (List ℕ)
+parts b s = slice_split (λ x. x == b) s
+
+-- what stands before the first such byte, or all of the text
+abbrev pub front_from : List ℕ → Option (List ℕ × List ℕ) → List ℕ
+front_from s None = s
+front_from s (Some x) = x.0
+
+-- what stands behind the first such byte, or nothing
+abbrev pub back_from : Option (List ℕ × List ℕ) → List ℕ
+back_from None = []
+back_from (Some x) = x.1
+
+abbrev pub before : ℕ → List ℕ → List ℕ
+before b s = front_from s (parted b s)
+
+abbrev pub behind : ℕ → List ℕ → List ℕ
+behind b s = back_from (parted b s)
+
+-- what stands before a '=' is this name, without case
+abbrev pub is_named : List ℕ → List ℕ → Bool
+is_named name part = str_eq_ignore_ascii_case (before 61 part) name
+
+-- ---- the places of a URI
+
+-- up to the last '@', and with it; nothing where there is none
+unfoldable pub user_part : List ℕ → List ℕ
+user_part uri = take (length uri - suffix_len (λ x. not (x == 64)) uri) uri
+
+-- behind the last '@', or all
+unfoldable pub host_part : List ℕ → List ℕ
+host_part uri = after_last (λ x. x == 64) uri
+
+-- the parameters: each behind a ';', before the '?'
+abbrev pub uri_params : List ℕ → List (List ℕ)
+uri_params uri = drop 1 (parts 59 (before 63 (host_part uri)))
+
+-- the header part: behind the '?', parted at '&'
+abbrev pub header_parts : List ℕ → List (List ℕ)
+header_parts uri = parts 38 (behind 63 (host_part uri))
+
+-- ---- the cause
+
+-- a number of three digits from 100 to 699
+abbrev pub from_hundred : Option ℕ → Option ℕ
+from_hundred None = None
+from_hundred (Some n) = if nat_lt n 100 then None else Some n
+
+unfoldable pub cause_number : List ℕ → Option ℕ
+cause_number digits = if length digits == 3 then from_hundred (number_of 699 digits) else None
+
+abbrev pub cause_in : Option (List ℕ) → Option ℕ
+cause_in None = None
+cause_in (Some param) = cause_number (behind 61 param)
+
+abbrev pub is_cause : List ℕ → Bool
+is_cause param = is_named (codes "cause") param
+
+-- the cause of a diversion that led to the URI: its first parameter of that name
+unfoldable pub cause_of : List ℕ → Option ℕ
+cause_of uri = cause_in (find is_cause (uri_params uri))
+
+-- no parameter of that name
+abbrev pub has_cause : List ℕ → Bool
+has_cause uri = list_any is_cause (uri_params uri)
+
+-- ---- the mark
+
+-- a semicolon escaped, whose letter may be of either case
+abbrev pub begins_escape : List ℕ → Bool
+begins_escape s = str_eq_ignore_ascii_case (take 3 s) (codes "%3B")
+
+-- the parts of a text between escaped semicolons; so many bytes of one are still to be passed
+abbrev pub escaped_from : ℕ → List ℕ → List (List ℕ)
+escaped_from n [] = [] ∷ []
+escaped_from zero (x ∷ s) = if begins_escape (x ∷ s) then [] ∷ escaped_from 2 s else onto_first x (escaped_from zero s)
+escaped_from (suc n) (x ∷ s) = escaped_from n s
+
+abbrev pub escaped_parts : List ℕ → List (List ℕ)
+escaped_parts s = escaped_from 0 s
+
+abbrev pub is_history : List ℕ → Bool
+is_history word = str_eq_ignore_ascii_case word (codes "history")
+
+-- a Privacy part with the word `history`
+unfoldable pub hides : List ℕ → Bool
+hides part = is_named (codes "Privacy") part && list_any is_history (escaped_parts (behind 61 part))
+
+-- the URI's header part asks that the entry be hidden
+unfoldable pub is_marked : List ℕ → Bool
+is_marked uri = list_any hides (header_parts uri)
+
+-- ---- what is added to a URI
+
+abbrev pub has_headers : List ℕ → Bool
+has_headers uri = is_some (parted 63 (host_part uri))
+
+abbrev pub mark_text : Bool → List ℕ
+mark_text true = codes "&Privacy=history"
+mark_text false = codes "?Privacy=history"
+
+-- the URI with its mark, which is put once
+unfoldable pub marked_uri : List ℕ → List ℕ
+marked_uri uri = if is_marked uri then uri else uri ++ mark_text (has_headers uri)
+
+abbrev pub headers_from : Option (List ℕ × List ℕ) → List ℕ
+headers_from None = []
+headers_from (Some x) = 63 ∷ x.1
+
+-- the URI with its cause, behind its other parameters
+unfoldable pub with_cause : ℕ → List ℕ → List ℕ
+with_cause cause uri = user_part uri ++ (before 63 (host_part uri) ++ (codes ";cause=" ++ (decimal cause ++ headers_from (parted 63 (host_part uri)))))

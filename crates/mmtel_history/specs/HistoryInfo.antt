@@ -1,0 +1,196 @@
+-- The list of History-Info entries: how a value is read and written, and what a diversion, a mark and masking do to the list (RFC 7044 §5, §9 and §10.1; RFC 3323 §4.2).
+use Rattle.std.specs.Prelude.{◌≡◌, ◌≤◌, ℕ, zero, suc, Bool, true, false, not, ◌||◌, ◌&&◌, ◌==◌, ◌-◌, ◌+◌, drop, if◌then◌else◌, nat_lt, List, [], ◌∷◌, ◌++◌, length, take, map, position, slice_get, Option, Some, None, is_some, is_none, option_to_list, Result, Ok, Err, codes, count_by}
+use Rattle.std.specs.List.{list_all, flat_map}
+use Rattle.std.specs.Option.{option_map_or}
+use Rattle.std.specs.Str.{str_eq_ignore_ascii_case}
+use Rattle.mmtel_scan.specs.Chain.{◌>>=◌}
+use Rattle.mmtel_scan.specs.Classes.{in_class, IsOneOrMore}
+use Rattle.mmtel_scan.specs.declared.classes.Class.TheVariants.{Digit, UriByte}
+use Rattle.mmtel_lex.specs.Grammar.{params_text, AreParams}
+use Rattle.mmtel_lex.specs.Reading.{name_addr_of}
+use Rattle.mmtel_lex.specs.declared.values.Param.{Param}
+use Rattle.mmtel_lex.specs.declared.values.NameAddr.{NameAddr}
+use Rattle.mmtel_history.specs.EntryUri.{parts, cause_of, has_cause, is_marked, marked_uri, with_cause}
+use Rattle.mmtel_history.specs.declared.entries.Entry.{Entry}
+use Rattle.mmtel_history.specs.declared.faults.HistoryFault.{HistoryFault}
+use Rattle.mmtel_history.specs.declared.faults.HistoryFault.TheVariants as faults
+
+-- ---- a value
+
+-- one digit or more
+abbrev pub is_number : List ℕ → Bool
+is_number s = not (length s == 0) && list_all (in_class Digit) s
+
+-- numbers with dots between them (RFC 7044 §5, index-val)
+unfoldable pub is_dotted : List ℕ → Bool
+is_dotted s = list_all is_number (parts 46 s)
+
+abbrev pub dotted_in : Option (List ℕ) → Bool
+dotted_in None = false
+dotted_in (Some v) = is_dotted v
+
+-- an index: the parameter of that name, with dotted numbers
+unfoldable pub is_index : Param → Bool
+is_index p = str_eq_ignore_ascii_case p.name (codes "index") && dotted_in p.value
+
+abbrev pub value_or_none : Option (List ℕ) → List ℕ
+value_or_none None = []
+value_or_none (Some v) = v
+
+abbrev pub index_at : ℕ → List Param → List ℕ
+index_at place ps = option_map_or (λ p. value_or_none p.value) (slice_get ps place) []
+
+-- the entry of a URI, an index and further parameters
+abbrev pub entry_with : List ℕ → List ℕ → List ℕ → Entry
+entry_with uri index rest = record { uri = uri; index = index; cause = cause_of uri; hidden = is_marked uri; rest = rest }
+
+-- the entry of a name-addr whose first index is at this place
+abbrev pub entry_at : NameAddr → Option ℕ → Option Entry
+entry_at n None = None
+entry_at n (Some place) = Some (entry_with n.uri (index_at place n.params) (params_text (take place n.params ++ drop (place + 1) n.params)))
+
+abbrev pub entry_in : NameAddr → Option Entry
+entry_in n = entry_at n (position is_index n.params)
+
+-- the entry that a value writes: a name-addr with an index
+unfoldable pub entry_of : List ℕ → Option Entry
+entry_of value = name_addr_of value >>= entry_in
+
+-- the URI of an entry as it is written: with its mark where it is hidden
+unfoldable pub shown_uri : Entry → List ℕ
+shown_uri e = if e.hidden then marked_uri e.uri else e.uri
+
+-- the value of an entry
+unfoldable pub entry_text : Entry → List ℕ
+entry_text e = 60 ∷ (shown_uri e ++ (codes ">;index=" ++ (e.index ++ e.rest)))
+
+-- ---- values
+
+abbrev pub is_unreadable : List ℕ → Bool
+is_unreadable value = is_none (entry_of value)
+
+abbrev pub entries_of : List (List ℕ) → List Entry
+entries_of values = flat_map (λ v. option_to_list (entry_of v)) values
+
+abbrev pub reading_from : Option ℕ → List (List ℕ) → Result (List Entry) ℕ
+reading_from (Some place) values = Err place
+reading_from None values = if nat_lt 32 (length values) then Err 32 else Ok (entries_of values)
+
+-- the entries of at most 32 values; or the place of the first unreadable one among the first 32, else 32
+unfoldable pub reading : List (List ℕ) → Result (List Entry) ℕ
+reading values = reading_from (position is_unreadable (take 32 values)) values
+
+abbrev pub IsRefused : HistoryFault → Result (List Entry) ℕ → Type 0
+IsRefused (faults.Malformed at) read = read ≡ Err at
+IsRefused faults.NoMemory read = Unit {0}
+
+-- what was returned is what reading gives, unless memory ran out
+abbrev pub IsReading : Result (List Entry) HistoryFault → Result (List Entry) ℕ → Type 0
+IsReading (Ok entries) read = read ≡ Ok entries
+IsReading (Err e) read = IsRefused e read
+
+-- ---- the list after a mark, after a diversion, and masked
+
+abbrev pub hidden_entry : Entry → Entry
+hidden_entry e = record e { hidden = true }
+
+-- the entry at the place is hidden
+abbrev pub marked_at : ℕ → List Entry → List Entry
+marked_at n [] = []
+marked_at zero (e ∷ es) = hidden_entry e ∷ es
+marked_at (suc n) (e ∷ es) = e ∷ marked_at n es
+
+-- a list that is not empty, or its first entry
+abbrev pub started : List ℕ → List Entry → List Entry
+started from [] = entry_with from (codes "1") [] ∷ []
+started from (e ∷ es) = e ∷ es
+
+abbrev pub last_index : List Entry → List ℕ
+last_index h = option_map_or (λ e. e.index) (slice_get h (length h - 1)) []
+
+abbrev pub hidden_if : Bool → ℕ → List Entry → List Entry
+hidden_if true place h = marked_at place h
+hidden_if false place h = h
+
+-- the entry of a new target, below the entry of this index
+abbrev pub target_entry : List ℕ → List ℕ → ℕ → Entry
+target_entry index target cause =
+    record { uri = with_cause cause target; index = index ++ codes ".1"; cause = Some cause; hidden = is_marked (with_cause cause target); rest = [] }
+
+abbrev pub with_target : List Entry → List ℕ → ℕ → Bool → List Entry
+with_target h target cause hide_last = hidden_if hide_last (length h - 1) h ++ target_entry (last_index h) target cause ∷ []
+
+-- History after one more diversion
+unfoldable pub appended : List Entry → List ℕ → List ℕ → ℕ → Bool → List Entry
+appended h from target cause hide_last = with_target (started from h) target cause hide_last
+
+-- the entries with a cause
+abbrev pub diversions_in : List Entry → ℕ
+diversions_in h = count_by (λ e. is_some e.cause) h
+
+-- nobody's URI
+abbrev pub anonymous : List ℕ
+anonymous = codes "sip:anonymous@anonymous.invalid"
+
+abbrev pub masked_uri : Option ℕ → List ℕ
+masked_uri None = anonymous
+masked_uri (Some cause) = with_cause cause anonymous
+
+abbrev pub masked_entry : Bool → Entry → Entry
+masked_entry all e = if all || e.hidden then record e { uri = masked_uri e.cause; hidden = false } else e
+
+-- each hidden entry, or each, without its URI
+abbrev pub masked_list : Bool → List Entry → List Entry
+masked_list all h = map (masked_entry all) h
+
+-- ---- words of the laws
+
+-- bytes that may stand between the brackets of a name-addr
+abbrev pub IsUriText : List ℕ → Type 0
+IsUriText uri = IsOneOrMore UriByte uri
+
+-- an entry as values write them: each of its parts can be read, and its cause and its mark are those of its URI
+pub record IsReadable (e : Entry) : Type 0 where
+  pub uri : IsUriText e.uri
+  pub index : is_dotted e.index ≡ true
+  pub cause : e.cause ≡ cause_of e.uri
+  pub mark : is_marked e.uri ≡ true → e.hidden ≡ true
+  pub rest : (ps : List Param) × (e.rest ≡ params_text ps) × AreParams ps
+
+abbrev pub AreReadable : List Entry → Type 0
+AreReadable [] = Unit {0}
+AreReadable (e ∷ es) = IsReadable e × AreReadable es
+
+-- a URI to which a call may be diverted by a cause: it can stand in an entry, it has no cause of its own, and the cause has three digits
+pub record IsTarget (target : List ℕ) (cause : ℕ) : Type 0 where
+  pub uri : IsUriText target
+  pub alone : has_cause target ≡ false
+  pub low : 100 ≤ cause
+  pub high : cause ≤ 699
+
+-- the entry with its URI as it is written
+abbrev pub written : Entry → Entry
+written e = record e { uri = shown_uri e }
+
+-- an entry but for its mark
+abbrev pub unmarked : Entry → Entry
+unmarked e = record e { hidden = false }
+
+-- an entry but for its URI and its mark, where it is hidden or all are
+abbrev pub seen_entry : Bool → Entry → Entry
+seen_entry all e = if all || e.hidden then record e { uri = []; hidden = true } else e
+
+abbrev pub is_empty : List Entry → Bool
+is_empty [] = true
+is_empty (e ∷ es) = false
+
+-- a diversion that is made: to this target, by this cause, with the entry before it hidden or not
+pub record Diversion : Type 0 where
+  pub target : List ℕ
+  pub cause : ℕ
+  pub hide_last : Bool
+
+-- History after these diversions, the first one first
+abbrev pub after : List Entry → List ℕ → List Diversion → List Entry
+after h from [] = h
+after h from (d ∷ ds) = after (appended h from d.target d.cause d.hide_last) from ds

@@ -1,0 +1,2 @@
+pub mod EntryUri
+pub mod HistoryInfo

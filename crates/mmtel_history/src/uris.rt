@@ -1,0 +1,190 @@
+//! What an entry's URI says: its cause, and whether it asks to be hidden.
+ghost use Rattle.std.specs.Prelude.{◌≡◌, ◌++◌, ◌≤◌, ◌<◌, length, take, drop, IfOk, IfSome, OnOk, Some, false};
+ghost use Rattle.std.specs.List.{list_any, find};
+ghost use Rattle.std.specs.Option.{option_copied};
+ghost use Rattle.mmtel_history.specs.EntryUri.{parts, before, uri_params, header_parts, user_part, host_part, cause_number, is_cause, cause_of, escaped_parts, is_history, hides, is_marked, has_headers, has_cause, mark_text, marked_uri, with_cause};
+
+use crate::parts::{cut, first_escaped, first_part, is_named};
+use mmtel_scan::{NoMemory, Text, number_up_to, part};
+use std::alloc::Global;
+
+/// The URI cut behind its last `@`, where it has one.
+#[tactic(auto, unfolding(crate::specs::EntryUri::user_part, crate::specs::EntryUri::host_part))]
+fn split_user(uri: &[u8]) -> (&[u8], &[u8])
+    ensures user { result.0.now ≡ user_part uri.now }
+    ensures host { result.1.now ≡ host_part uri.now }
+{
+    let mut at = uri.len();
+    'back: while at > 0 {
+        if uri[at - 1] == b'@' {
+            break;
+        }
+        at -= 1;
+    }
+    uri.split_at(at)
+}
+
+/// The number of three digits from 100 to 699.
+#[tactic(auto, unfolding(crate::specs::EntryUri::cause_number))]
+fn cause_number(digits: &[u8]) -> Option<u16>
+    ensures { result ≡ cause_number digits.now }
+{
+    if digits.len() != 3 {
+        return None;
+    }
+    match number_up_to(699, digits) {
+        None => None,
+        Some(number) => {
+            if number < 100 {
+                None
+            } else {
+                Some(number as u16)
+            }
+        }
+    }
+}
+
+/// The first of the parts that is a cause.
+fn find_cause(bytes: &[u8]) -> Option<&[u8]>
+    ensures { option_copied result ≡ find is_cause (parts 59 bytes.now) }
+{
+    let mut rest = bytes;
+    'parts: while let Some((front, tail)) = first_part(b';', rest) {
+        if is_named(b"cause", front) {
+            return Some(front);
+        }
+        rest = tail;
+    }
+    if is_named(b"cause", rest) {
+        Some(rest)
+    } else {
+        None
+    }
+}
+
+/// The cause of the diversion that led to the URI (RFC 4458 §2).
+#[tactic(auto, unfolding(crate::specs::EntryUri::cause_of))]
+pub fn cause_of(uri: &[u8]) -> Option<u16>
+    ensures { result ≡ cause_of uri.now }
+{
+    let (_, host) = split_user(uri);
+    let (front, _) = cut(b'?', host);
+    match first_part(b';', front) {
+        None => None,
+        Some((_, params)) => match find_cause(params) {
+            None => None,
+            Some(param) => {
+                let (_, digits) = cut(b'=', param);
+                cause_number(digits)
+            }
+        },
+    }
+}
+
+/// Whether the word `history` is one of the parts.
+fn has_history(value: &[u8]) -> bool
+    ensures { result ≡ list_any is_history (escaped_parts value.now) }
+{
+    let mut rest = value;
+    'parts: while let Some((front, tail)) = first_escaped(rest) {
+        if front.eq_ignore_ascii_case(b"history") {
+            return true;
+        }
+        rest = tail;
+    }
+    rest.eq_ignore_ascii_case(b"history")
+}
+
+/// Whether this header is a Privacy with the word `history`.
+#[tactic(auto, unfolding(crate::specs::EntryUri::hides))]
+fn hides(header: &[u8]) -> bool
+    ensures { result ≡ hides header.now }
+{
+    if !is_named(b"Privacy", header) {
+        return false;
+    }
+    let (_, value) = cut(b'=', header);
+    has_history(value)
+}
+
+/// Whether one of the headers hides the entry.
+fn any_hides(headers: &[u8]) -> bool
+    ensures { result ≡ list_any hides (parts 38 headers.now) }
+{
+    let mut rest = headers;
+    'parts: while let Some((front, tail)) = first_part(b'&', rest) {
+        if hides(front) {
+            return true;
+        }
+        rest = tail;
+    }
+    hides(rest)
+}
+
+/// Whether the URI's header part asks that the entry be hidden (RFC 7044 §10.1).
+#[tactic(auto, unfolding(crate::specs::EntryUri::is_marked))]
+pub fn is_marked(uri: &[u8]) -> bool
+    ensures { result ≡ is_marked uri.now }
+{
+    let (_, host) = split_user(uri);
+    let (_, headers) = cut(b'?', host);
+    any_hides(headers)
+}
+
+/// Adds the URI with its mark.
+#[tactic(auto, unfolding(crate::specs::EntryUri::marked_uri))]
+pub fn add_marked(alloc: Global, out: &mut Text, uri: &[u8]) -> Result<(), NoMemory>
+    ensures { OnOk result (out.new ≡ out.old ++ marked_uri uri.now) }
+{
+    out.push(alloc, uri)?;
+    if is_marked(uri) {
+        return Ok(());
+    }
+    let (_, host) = split_user(uri);
+    match part(b'?', host) {
+        None => out.push(alloc, b"?Privacy=history"),
+        Some(_) => out.push(alloc, b"&Privacy=history"),
+    }
+}
+
+/// The text of the URI with the cause.
+#[tactic(auto, unfolding(crate::specs::EntryUri::with_cause))]
+fn caused(alloc: Global, uri: &[u8], cause: u16) -> Result<Text, NoMemory>
+    ensures { IfOk result (λ t. t ≡ with_cause cause uri.now) }
+{
+    let (user, host) = split_user(uri);
+    let digits = cause.to_string(alloc)?;
+    let mut out = Text::of(alloc, user)?;
+    match part(b'?', host) {
+        None => {
+            out.push(alloc, host)?;
+            out.push(alloc, b";cause=")?;
+            out.push(alloc, digits.as_bytes())?;
+        }
+        Some((front, headers)) => {
+            out.push(alloc, front)?;
+            out.push(alloc, b";cause=")?;
+            out.push(alloc, digits.as_bytes())?;
+            out.push(alloc, b"?")?;
+            out.push(alloc, headers)?;
+        }
+    }
+    Ok(out)
+}
+
+/// The URI with `;cause=` and the cause behind its parameters, before its header part (RFC 4458 §2).
+///
+/// A cause that the URI has of its own stays: whoever diverts takes it out first.
+///
+/// # Errors
+///
+/// Want of memory alone.
+pub fn with_cause(alloc: Global, uri: &[u8], cause: u16) -> Result<Text, NoMemory>
+    ensures text { IfOk result (λ t. t ≡ with_cause cause uri.now) }
+    // The cause is read again, where it has three digits and the URI none of its own.
+    ensures cause { has_cause uri.now ≡ false → 100 ≤ cause → cause ≤ 699 → IfOk result (λ t. cause_of t ≡ Some cause) }
+    // The mark is as it was.
+    ensures mark { IfOk result (λ t. is_marked t ≡ is_marked uri.now) }
+{
+    caused(alloc, uri, cause)
+}

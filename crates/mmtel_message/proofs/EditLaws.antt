@@ -1,0 +1,163 @@
+-- Loops over a message's lines, and edits of them.
+use Rattle.std.proofs.Common.{◌≡◌, Bool, true, false, ℕ, zero, suc, ◌+◌, ◌<◌, List, [], ◌∷◌, ◌++◌, length, take, drop, get_or, Option, Some, None, refl, sym, ap, subst, nat_lt, length-take, take-suc, append-nil, slice_set, append_assoc, ◌∙◌, arith, drop-cons, add-one, inl, inr}
+use Rattle.std.proofs.lemmas.Bool.{cases_Bool}
+use Rattle.std.proofs.lemmas.List.{drop_all}
+use Rattle.std.specs.Prelude.{position}
+use Rattle.std.proofs.lemmas.Grind.{take-set_at}
+use Rattle.std.specs.List.{position_or_len}
+use Rattle.std.specs.Option.{option_map}
+use Rattle.std.proofs.lemmas.Bool.Decides.{nat_tests}
+use Rattle.mmtel_message.proofs.LineLaws.{mapped, unmapped, same_some}
+use Rattle.mmtel_message.specs.Message.{is_line, first_value, replaced, dropped}
+use Rattle.mmtel_message.specs.Faults.{line_fault, fault_from, dotted_step, is_dotted}
+use Rattle.mmtel_message.specs.Fields.{param_value}
+use Rattle.mmtel_message.specs.Expansion.{lines_for, expanded_from}
+use Rattle.std.specs.Str.{str_eq_ignore_ascii_case}
+use Rattle.mmtel_lex.specs.declared.values.Param.{Param}
+use Rattle.mmtel_message.specs.declared.fields.Five.{Five}
+use Rattle.mmtel_message.specs.declared.messages.Start.{Start}
+
+abbrev pub Line : Type 0
+Line = List ℕ × List ℕ
+
+pub first_over : (name : List ℕ) (ls : List Line) (i : ℕ) (x : Line) (whole : Option (List ℕ)) → i < length ls → x ≡ get_or ls i x → is_line name x ≡ false → whole ≡ first_value name (drop i ls) → whole ≡ first_value name (drop (i + 1) ls)
+first_over name ls i x whole lt at_i e so_far =
+    let one : drop i ls ≡ x ∷ drop (i + 1) ls = rw (add-one, drop-cons ls i x lt, sym at_i) refl in
+    rw (one, e) at so_far
+
+pub first_here : (name : List ℕ) (ls : List Line) (i : ℕ) (x : Line) (whole : Option (List ℕ)) → i < length ls → x ≡ get_or ls i x → is_line name x ≡ true → whole ≡ first_value name (drop i ls) → whole ≡ Some x.1
+first_here name ls i x whole lt at_i e so_far =
+    let one : drop i ls ≡ x ∷ drop (i + 1) ls = rw (add-one, drop-cons ls i x lt, sym at_i) refl in
+    rw (one, e) at so_far
+
+-- ---- the first parameter of a name
+
+pub param_over : (name : List ℕ) (ps : List Param) (i : ℕ) (x : Param) (whole : Option (List ℕ)) → i < length ps → x ≡ get_or ps i x → str_eq_ignore_ascii_case x.name name ≡ false → whole ≡ param_value name (drop i ps) → whole ≡ param_value name (drop (i + 1) ps)
+param_over name ps i x whole lt at_i e so_far =
+    let one : drop i ps ≡ x ∷ drop (i + 1) ps = rw (add-one, drop-cons ps i x lt, sym at_i) refl in
+    rw (one, e) at so_far
+
+pub param_here : (name : List ℕ) (ps : List Param) (i : ℕ) (x : Param) (whole : Option (List ℕ)) → i < length ps → x ≡ get_or ps i x → str_eq_ignore_ascii_case x.name name ≡ true → whole ≡ param_value name (drop i ps) → whole ≡ x.value
+param_here name ps i x whole lt at_i e so_far =
+    let one : drop i ps ≡ x ∷ drop (i + 1) ps = rw (add-one, drop-cons ps i x lt, sym at_i) refl in
+    rw (one, e) at so_far
+
+-- ---- expanded lines
+
+pub expand_over : (privacy allow : List ℕ) (ls out : List Line) (i : ℕ) (x : Line) (whole : List Line) → i < length ls → x ≡ get_or ls i x → whole ≡ out ++ expanded_from privacy allow (take i ls) (drop i ls) → whole ≡ (out ++ lines_for privacy allow (take i ls) x) ++ expanded_from privacy allow (take (i + 1) ls) (drop (i + 1) ls)
+unfolding expanded_from
+expand_over privacy allow ls out i x whole lt at_i so_far =
+    let one : drop i ls ≡ x ∷ drop (i + 1) ls = rw (add-one, drop-cons ls i x lt, sym at_i) refl in
+    let more : take i ls ++ x ∷ [] ≡ take (i + 1) ls = rw (add-one, take-suc ls i x lt, sym at_i) refl in
+    (rw (one, more) at so_far) ∙ sym (append_assoc out (lines_for privacy allow (take i ls) x) (expanded_from privacy allow (take (i + 1) ls) (drop (i + 1) ls)))
+
+pub expand_all : (privacy allow : List ℕ) (ls out : List Line) (i : ℕ) (whole : List Line) → i ≡ length ls → whole ≡ out ++ expanded_from privacy allow (take i ls) (drop i ls) → whole ≡ out
+unfolding expanded_from
+expand_all privacy allow ls out i whole e so_far = (rw (drop_all i ls (omega arith)) at so_far) ∙ append-nil out
+
+-- ---- the first fault
+
+pub fault_here : (start : Start) (five : Five) (room : ℕ) (ls : List Line) (i : ℕ) (x : Line) (whole : Option ℕ) → i < length ls → x ≡ get_or ls i x → line_fault start five room (take i ls) x ≡ true → whole ≡ fault_from start five room (take i ls) (drop i ls) → whole ≡ Some (i + 1)
+unfolding fault_from
+fault_here start five room ls i x whole lt at_i e so_far =
+    let one : drop i ls ≡ x ∷ drop (i + 1) ls = rw (add-one, drop-cons ls i x lt, sym at_i) refl in
+    let cut : length (take i ls) ≡ i = omega (arith, length-take i ls) in
+    rw (one, e, cut) at so_far
+
+pub fault_over : (start : Start) (five : Five) (room : ℕ) (ls : List Line) (i : ℕ) (x : Line) (whole : Option ℕ) → i < length ls → x ≡ get_or ls i x → line_fault start five room (take i ls) x ≡ false → whole ≡ fault_from start five room (take i ls) (drop i ls) → whole ≡ fault_from start five room (take (i + 1) ls) (drop (i + 1) ls)
+unfolding fault_from
+fault_over start five room ls i x whole lt at_i e so_far =
+    let one : drop i ls ≡ x ∷ drop (i + 1) ls = rw (add-one, drop-cons ls i x lt, sym at_i) refl in
+    let more : take i ls ++ x ∷ [] ≡ take (i + 1) ls = rw (add-one, take-suc ls i x lt, sym at_i) refl in
+    rw (one, e, more) at so_far
+
+pub fault_none : (start : Start) (five : Five) (room : ℕ) (ls : List Line) (i : ℕ) (whole : Option ℕ) → i ≡ length ls → whole ≡ fault_from start five room (take i ls) (drop i ls) → whole ≡ None
+unfolding fault_from
+fault_none start five room ls i whole e so_far = rw (drop_all i ls (omega arith)) at so_far
+
+-- ---- the first line of a name
+
+pub position_yes : {X : Type 0} (p : X → Bool) (x : X) (xs : List X) → p x ≡ true → position p (x ∷ xs) ≡ Some 0
+position_yes p x xs e =
+    let low : nat_lt 0 (suc (length xs)) ≡ true = grind (arith, nat_tests) in
+    rw (e, low) refl
+
+pub position_no : {X : Type 0} (p : X → Bool) (x : X) (xs : List X) → p x ≡ false → position p (x ∷ xs) ≡ option_map (λ n. n + 1) (position p xs)
+position_no p x xs e =
+    let a : ℕ = position_or_len p xs in
+    elim (cases_Bool (nat_lt a (length xs))) [
+      | inl y ↦
+          let low : nat_lt (1 + a) (suc (length xs)) ≡ true = grind (arith, nat_tests, y) in
+          rw (e, low, y) (ap (λ (n : ℕ). Some n) (omega arith))
+      | inr no_such ↦
+          let high : nat_lt (1 + a) (suc (length xs)) ≡ false = grind (arith, nat_tests, no_such) in
+          rw (e, high, no_such) refl
+    ]
+
+pub set_none : (name value : List ℕ) (ls : List Line) → position (λ l. is_line name l) ls ≡ None → replaced name value ls ≡ ls ++ (name, value) ∷ []
+set_none name value [] e = refl
+set_none name value (l ∷ ls) e =
+    elim (cases_Bool (is_line name l)) [
+      | inl y ↦ let f = rw (position_yes (λ m. is_line name m) l ls y) at e in absurd cc
+      | inr other ↦
+          let f = unmapped (position (λ m. is_line name m) ls) (rw (position_no (λ m. is_line name m) l ls other) at e) in
+          rw (other, set_none name value ls f) refl
+    ]
+
+set_later : (name value : List ℕ) (l : Line) (ls : List Line) (m n : ℕ) → is_line name l ≡ false → suc m ≡ n → replaced name value ls ≡ take m ls ++ (name, value) ∷ dropped name (drop (m + 1) ls) → replaced name value (l ∷ ls) ≡ take n (l ∷ ls) ++ (name, value) ∷ dropped name (drop (n + 1) (l ∷ ls))
+set_later name value l ls m n other e more =
+    let one : suc m + 1 ≡ suc (m + 1) = omega arith in
+    subst (λ (k : ℕ). replaced name value (l ∷ ls) ≡ take k (l ∷ ls) ++ (name, value) ∷ dropped name (drop (k + 1) (l ∷ ls))) e (rw (other, more, one) refl)
+
+pub set_some : (name value : List ℕ) (ls : List Line) (n : ℕ) → position (λ l. is_line name l) ls ≡ Some n → replaced name value ls ≡ take n ls ++ (name, value) ∷ dropped name (drop (n + 1) ls)
+set_some name value [] n e = absurd cc
+set_some name value (l ∷ ls) n e =
+    elim (cases_Bool (is_line name l)) [
+      | inl y ↦
+          subst (λ (k : ℕ). replaced name value (l ∷ ls) ≡ take k (l ∷ ls) ++ (name, value) ∷ dropped name (drop (k + 1) (l ∷ ls))) (same_some 0 n (rw (position_yes (λ m. is_line name m) l ls y) at e)) (rw y refl)
+      | inr other ↦
+          let p = mapped (position (λ m. is_line name m) ls) n (rw (position_no (λ m. is_line name m) l ls other) at e) in
+          set_later name value l ls p.0 n other p.2 (set_some name value ls p.0 p.1)
+    ]
+
+set_back : (ls : List Line) (n : ℕ) (y : Line) → drop (n + 1) (slice_set ls n y) ≡ drop (n + 1) ls
+set_back [] n y = refl
+set_back (l ∷ ls) zero y = refl
+set_back (l ∷ ls) (suc n) y =
+    let one : suc n + 1 ≡ suc (n + 1) = omega arith in
+    rw (one, set_back ls n y) refl
+
+pub set_there : (name value : List ℕ) (ls : List Line) (n : ℕ) → n < length ls → position (λ l. is_line name l) ls ≡ Some n → take (n + 1) (slice_set ls n (name, value)) ++ dropped name (drop (n + 1) (slice_set ls n (name, value))) ≡ replaced name value ls
+set_there name value ls n lt e =
+    rw (set_some name value ls n e, set_back ls n (name, value), take-set_at ls n (n + 1) (name, value) refl lt) (append_assoc (take n ls) ((name, value) ∷ []) (dropped name (drop (n + 1) ls)))
+
+pub there : (name : List ℕ) (ls : List Line) (n : ℕ) → position (λ l. is_line name l) ls ≡ Some n → n < length ls
+there name [] n e = absurd cc
+there name (l ∷ ls) n e =
+    elim (cases_Bool (is_line name l)) [
+      | inl y ↦ omega (arith, same_some 0 n (rw (position_yes (λ m. is_line name m) l ls y) at e))
+      | inr other ↦
+          let p = mapped (position (λ m. is_line name m) ls) n (rw (position_no (λ m. is_line name m) l ls other) at e) in
+          omega (arith, there name ls p.0 p.1, p.2)
+    ]
+
+pub three : (o a b x : List Line) → ((o ++ a) ++ b) ++ x ≡ o ++ (a ++ (b ++ x))
+three o a b x = append_assoc (o ++ a) b x ∙ append_assoc o a (b ++ x)
+
+-- ---- numbers with dots
+
+pub dot_over : (total : Bool) (i : ℕ) (s : List ℕ) (d e : Bool) → i < length s → dotted_step d (get_or s i 0) ≡ Some e → total ≡ is_dotted d (drop i s) → total ≡ is_dotted e (drop (i + 1) s)
+unfolding is_dotted
+dot_over total i s d e lt step so_far =
+    let one : drop i s ≡ get_or s i 0 ∷ drop (i + 1) s = rw (add-one, drop-cons s i 0) refl in
+    rw (one, step) at so_far
+
+pub dot_stop : (total : Bool) (i : ℕ) (s : List ℕ) (d : Bool) → i < length s → dotted_step d (get_or s i 0) ≡ None → total ≡ is_dotted d (drop i s) → total ≡ false
+unfolding is_dotted
+dot_stop total i s d lt step so_far =
+    let one : drop i s ≡ get_or s i 0 ∷ drop (i + 1) s = rw (add-one, drop-cons s i 0) refl in
+    rw (one, step) at so_far
+
+pub dot_end : (total : Bool) (i : ℕ) (s : List ℕ) (d : Bool) → i ≡ length s → total ≡ is_dotted d (drop i s) → total ≡ d
+unfolding is_dotted
+dot_end total i s d e so_far = rw (drop_all i s (omega arith)) at so_far

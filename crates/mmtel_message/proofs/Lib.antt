@@ -1,0 +1,13 @@
+mod BodyLaws
+mod CanonicalLaws
+mod CommaLaws
+mod EditLaws
+mod ExpansionLaws
+mod FoldLaws
+mod LineLaws
+mod NameLaws
+mod ReadLaws
+mod RoundTrip
+mod SpellingLaws
+mod StartLaws
+mod ValueLaws

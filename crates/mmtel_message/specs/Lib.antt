@@ -1,0 +1,14 @@
+pub mod Lines
+pub mod Names
+pub mod Headers
+pub mod Values
+pub mod Message
+pub mod Texts
+pub mod Starts
+pub mod Fields
+pub mod Faults
+pub mod Expansion
+pub mod Replies
+pub mod Reads
+pub mod Canonical
+pub mod Datagram

@@ -1,0 +1,77 @@
+-- A message parted into lines.
+use Rattle.std.specs.Prelude.{◌&&◌, ◌+◌, Option, Some, None, ◌==◌, if◌then◌else◌, ℕ, Bool, List, [], ◌∷◌, ◌++◌, false, drop}
+use Rattle.std.specs.Option.{option_map}
+use Rattle.mmtel_scan.specs.Classes.{in_class}
+use Rattle.mmtel_scan.specs.Scanning.{after_run, trimmed}
+use Rattle.mmtel_scan.specs.declared.classes.Class.TheVariants.{Blank}
+use Rattle.mmtel_message.specs.declared.lines.Break.{Break}
+use Rattle.mmtel_message.specs.declared.lines.Break.TheVariants.{Line, Head}
+
+-- the byte comes first
+abbrev pub starts : ℕ → List ℕ → Bool
+starts b [] = false
+starts b (x ∷ s) = x == b
+
+-- CR LF comes first
+abbrev pub crlf : List ℕ → Bool
+crlf [] = false
+crlf (b ∷ s) = b == 13 && starts 10 s
+
+abbrev pub begins : Break → List ℕ → Bool
+begins Line s = crlf s
+begins Head s = crlf s && crlf (drop 2 s)
+
+abbrev pub width : Break → ℕ
+width Line = 2
+width Head = 4
+
+-- the first place where it comes
+unfoldable pub first_break : Break → List ℕ → Option ℕ
+first_break k [] = None
+first_break k (b ∷ s) = if begins k (b ∷ s) then Some 0 else option_map (λ n. n + 1) (first_break k s)
+
+-- a byte before lines
+abbrev pub put : ℕ → List (List ℕ) → List (List ℕ)
+put b [] = (b ∷ []) ∷ []
+put b (l ∷ ls) = if crlf (b ∷ l) then [] ∷ drop 1 l ∷ ls else (b ∷ l) ∷ ls
+
+-- what stands before, between and after the line ends
+unfoldable pub split : List ℕ → List (List ℕ)
+split [] = [] ∷ []
+split (b ∷ s) = put b (split s)
+
+-- the lines of what follows a line end, if there was one
+abbrev pub rest_lines : Option (List ℕ) → List (List ℕ)
+rest_lines None = []
+rest_lines (Some s) = split s
+
+abbrev pub starts_blank : List ℕ → Bool
+starts_blank [] = false
+starts_blank (b ∷ s) = in_class Blank b
+
+-- a line and the one that continues it
+abbrev pub joined : List ℕ → List ℕ → List ℕ
+joined line more = trimmed Blank line ++ (32 ∷ after_run Blank more)
+
+-- the lines, where those so far make this one
+unfoldable pub unfolded_from : List ℕ → List (List ℕ) → List (List ℕ)
+unfolded_from line [] = line ∷ []
+unfolded_from line (l ∷ ls) = if starts_blank l then unfolded_from (joined line l) ls else line ∷ unfolded_from l ls
+
+-- each line with those that continue it
+abbrev pub unfolded : List (List ℕ) → List (List ℕ)
+unfolded [] = []
+unfolded (l ∷ ls) = unfolded_from l ls
+
+abbrev pub or_found : Option ℕ → Option ℕ → Option ℕ
+or_found (Some n) found = Some n
+or_found None found = found
+
+-- the last place where a line ends
+unfoldable pub last_line_end : List ℕ → Option ℕ
+last_line_end [] = None
+last_line_end (b ∷ s) = or_found (option_map (λ n. n + 1) (last_line_end s)) (if crlf (b ∷ s) then Some 0 else None)
+
+-- where the lines end that are whole
+abbrev pub whole_end : List ℕ → Option ℕ
+whole_end s = or_found (first_break Head s) (last_line_end s)

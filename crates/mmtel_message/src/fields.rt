@@ -1,0 +1,250 @@
+//! The five fields that each message has (RFC 3261 §8.1.1).
+ghost use Rattle.std.specs.Prelude.{◌≡◌, count_by};
+ghost use Rattle.std.specs.Option.{option_copied};
+ghost use Rattle.std.specs.Str.{str_eq_ignore_ascii_case};
+ghost use Rattle.mmtel_lex.specs.Reading.{Gives};
+ghost use Rattle.mmtel_message.specs.Message.{is_line};
+ghost use Rattle.mmtel_message.specs.Fields.{param_value, only_value, first_part, via_at, cseq_at, via_in, parties_in, call_in, five_at, after_blanks, before_rest, if_end, filled};
+
+use crate::messages::{first_of, is_line};
+use crate::values::{Mode, next_part};
+use mmtel_lex::params::{params_front, token};
+use mmtel_lex::uris::{host, port};
+use mmtel_lex::{LexFault, NameAddr, Param, Params, Text, read_name_addr};
+use mmtel_scan::{Class, number_up_to, skip_text, split_run, trim};
+use std::alloc::Global;
+
+/// A Via value (RFC 3261 §20.42).
+#[derive(Drop)]
+pub struct Via {
+    /// The transport, as received.
+    pub transport: Text,
+    /// Host and port, as received.
+    pub sent_by: Text,
+    pub host: Text,
+    pub port: Option<u16>,
+    pub params: Params,
+}
+
+/// A CSeq value (RFC 3261 §20.16): a number below 2^31 and a method.
+#[derive(Drop)]
+pub struct CSeq {
+    pub number: u32,
+    pub method: Text,
+}
+
+/// The five fields that each message has (RFC 3261 §8.1.1).
+#[derive(Drop)]
+pub struct Five {
+    /// The first Via value.
+    pub via: Via,
+    pub from: NameAddr,
+    pub to: NameAddr,
+    /// The Call-ID, which is not empty.
+    pub call_id: Text,
+    pub cseq: CSeq,
+}
+
+fn is_param(param: &Param, name: &[u8]) -> bool
+    ensures { result ≡ str_eq_ignore_ascii_case param.now.name name.now }
+{
+    param.name.bytes().eq_ignore_ascii_case(name)
+}
+
+/// The value of the first parameter of the name, which is compared without case (RFC 3261 §7.3.1); None where there is none, or it has no value.
+pub fn param_value<'a>(params: &'a [Param], name: &[u8]) -> Option<&'a [u8]>
+    ensures { option_copied result ≡ param_value name.now params.now }
+{
+    for param in params {
+        if is_param(param, name) {
+            return value_bytes(&param.value);
+        }
+    }
+    None
+}
+
+fn value_bytes(value: &Option<Text>) -> Option<&[u8]>
+    ensures { option_copied result ≡ value.now }
+{
+    match value {
+        Some(value) => Some(value.bytes()),
+        None => None,
+    }
+}
+
+fn count(lines: &[(Text, Text)], name: &[u8]) -> usize
+    ensures { result ≡ count_by (λ l. is_line name.now l) lines.now }
+{
+    lines.iter().filter(|line| is_line(line, name)).count()
+}
+
+/// The value of the only line of the name.
+fn only<'a>(lines: &'a [(Text, Text)], name: &[u8]) -> Result<&'a [u8], LexFault>
+    ensures { Gives (λ x. x.now) result (only_value name.now lines.now) }
+{
+    if count(lines, name) != 1 {
+        return Err(LexFault::Malformed { at: 0 });
+    }
+    match first_of(lines, name) {
+        Some(value) => Ok(value),
+        None => Err(LexFault::Malformed { at: 0 }),
+    }
+}
+
+fn first_value_part(value: &[u8]) -> &[u8]
+    ensures { result.now ≡ first_part value.now }
+{
+    let (part, _) = next_part(Mode::Plain, value);
+    trim(Class::Blank, part)
+}
+
+/// What follows one blank or more.
+fn skip_blanks(bytes: &[u8]) -> Result<&[u8], LexFault>
+    ensures { Gives (λ x. x.now) result (after_blanks bytes.now) }
+{
+    let (blanks, rest) = split_run(Class::Blank, bytes);
+    if blanks.is_empty() {
+        return Err(LexFault::Malformed { at: 0 });
+    }
+    Ok(rest)
+}
+
+/// What stands before this rest.
+fn before_rest<'a>(bytes: &'a [u8], rest: &[u8]) -> &'a [u8]
+    ensures { result.now ≡ before_rest bytes.now rest.now }
+{
+    let len = bytes.len().saturating_sub(rest.len());
+    &bytes[..len]
+}
+
+fn not_empty(alloc: Global, bytes: &[u8]) -> Result<Text, LexFault>
+    ensures { Gives (λ x. x) result (filled bytes.now) }
+{
+    if bytes.is_empty() {
+        return Err(LexFault::Malformed { at: 0 });
+    }
+    let text = Text::of(alloc, bytes)?;
+    Ok(text)
+}
+
+fn ended(via: Via, rest: &[u8]) -> Result<Via, LexFault>
+    ensures { Gives (λ x. x) result (if_end via rest.now) }
+{
+    match rest {
+        [] => Ok(via),
+        _ => Err(LexFault::Malformed { at: 0 }),
+    }
+}
+
+/// Reads a Via value (RFC 3261 §20.42).
+///
+/// # Errors
+///
+/// `Malformed` where the bytes are no such value, and want of memory.
+#[tactic(auto, unfolding(crate::specs::Fields::via_at))]
+pub fn read_via(alloc: Global, bytes: &[u8]) -> Result<Via, LexFault>
+    ensures exact { Gives (λ x. x) result (via_at bytes.now) }
+{
+    match skip_text(b"SIP/2.0/", bytes) {
+        None => Err(LexFault::Malformed { at: 0 }),
+        Some(rest) => {
+            let (transport, rest) = token(alloc, rest)?;
+            let by = skip_blanks(rest)?;
+            let (host, rest) = host(alloc, by)?;
+            let (port, rest) = port(rest)?;
+            let sent_by = Text::of(alloc, before_rest(by, rest))?;
+            let (params, rest) = params_front(alloc, rest)?;
+            ended(
+                Via {
+                    transport,
+                    sent_by,
+                    host,
+                    port,
+                    params,
+                },
+                rest,
+            )
+        }
+    }
+}
+
+/// Reads a CSeq value (RFC 3261 §20.16).
+///
+/// # Errors
+///
+/// `Malformed` where the bytes are no such value, and want of memory.
+#[tactic(auto, unfolding(crate::specs::Fields::cseq_at))]
+pub fn read_cseq(alloc: Global, bytes: &[u8]) -> Result<CSeq, LexFault>
+    ensures exact { Gives (λ x. x) result (cseq_at bytes.now) }
+{
+    let (digits, rest) = split_run(Class::Digit, bytes);
+    match number_up_to(2147483647, digits) {
+        None => Err(LexFault::Malformed { at: 0 }),
+        Some(number) => {
+            let rest = skip_blanks(rest)?;
+            let (method, rest) = token(alloc, rest)?;
+            match rest {
+                [] => Ok(CSeq {
+                    number: number as u32,
+                    method,
+                }),
+                _ => Err(LexFault::Malformed { at: 0 }),
+            }
+        }
+    }
+}
+
+/// Reads the first Via value.
+fn via_in(alloc: Global, lines: &[(Text, Text)]) -> Result<Via, LexFault>
+    ensures { Gives (λ x. x) result (via_in lines.now) }
+{
+    match first_of(lines, b"Via") {
+        Some(value) => read_via(alloc, first_value_part(value)),
+        None => Err(LexFault::Malformed { at: 0 }),
+    }
+}
+
+/// Reads From and To.
+#[tactic(auto, unfolding(crate::specs::Fields::parties_in))]
+fn parties_in(alloc: Global, lines: &[(Text, Text)]) -> Result<(NameAddr, NameAddr), LexFault>
+    ensures { Gives (λ x. x) result (parties_in lines.now) }
+{
+    let value = only(lines, b"From")?;
+    let from = read_name_addr(alloc, value)?;
+    let value = only(lines, b"To")?;
+    let to = read_name_addr(alloc, value)?;
+    Ok((from, to))
+}
+
+/// Reads Call-ID and CSeq.
+#[tactic(auto, unfolding(crate::specs::Fields::call_in))]
+fn call_in(alloc: Global, lines: &[(Text, Text)]) -> Result<(Text, CSeq), LexFault>
+    ensures { Gives (λ x. x) result (call_in lines.now) }
+{
+    let value = only(lines, b"Call-ID")?;
+    let call_id = not_empty(alloc, value)?;
+    let value = only(lines, b"CSeq")?;
+    let cseq = read_cseq(alloc, value)?;
+    Ok((call_id, cseq))
+}
+
+/// Reads the five fields.
+///
+/// # Errors
+///
+/// `Malformed` where one of them cannot be read, or where one but Via is not there exactly once; and want of memory.
+#[tactic(auto, unfolding(crate::specs::Fields::five_at))]
+pub fn read_five(alloc: Global, lines: &[(Text, Text)]) -> Result<Five, LexFault>
+    ensures exact { Gives (λ x. x) result (five_at lines.now) }
+{
+    let via = via_in(alloc, lines)?;
+    let (from, to) = parties_in(alloc, lines)?;
+    let (call_id, cseq) = call_in(alloc, lines)?;
+    Ok(Five {
+        via,
+        from,
+        to,
+        call_id,
+        cseq,
+    })
+}

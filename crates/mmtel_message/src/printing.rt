@@ -1,0 +1,74 @@
+//! The canonical text.
+ghost use Rattle.std.specs.Prelude.{◌≡◌, ◌++◌, OnOk, IfOk, Ok};
+ghost use Rattle.mmtel_message.specs.Canonical.{IsCanonical, IsWithinLimits};
+ghost use Rattle.mmtel_message.specs.Reads.{reads};
+ghost use Rattle.mmtel_message.specs.Texts.{start_text, line_text, lines_text, message_text};
+
+use crate::messages::{Msg, Start};
+use mmtel_lex::{NoMemory, Text};
+use std::alloc::Global;
+
+fn add_start(alloc: Global, out: &mut Text, start: &Start) -> Result<(), NoMemory>
+    ensures { OnOk result (out.new ≡ out.old ++ start_text start.now) }
+{
+    match start {
+        Start::Request { method, uri } => {
+            out.push(alloc, method.bytes())?;
+            out.push(alloc, b" ")?;
+            out.push(alloc, uri.bytes())?;
+            out.push(alloc, b" SIP/2.0")
+        }
+        Start::Status { code, phrase } => {
+            out.push(alloc, b"SIP/2.0 ")?;
+            let digits = code.to_string(alloc)?;
+            out.push(alloc, digits.as_bytes())?;
+            out.push(alloc, b" ")?;
+            out.push(alloc, phrase.bytes())
+        }
+    }
+}
+
+fn add_line(alloc: Global, out: &mut Text, line: &(Text, Text)) -> Result<(), NoMemory>
+    ensures { OnOk result (out.new ≡ out.old ++ line_text line.now) }
+{
+    out.push(alloc, line.0.bytes())?;
+    out.push(alloc, b": ")?;
+    out.push(alloc, line.1.bytes())?;
+    out.push(alloc, b"\r\n")
+}
+
+fn add_lines(alloc: Global, out: &mut Text, lines: &[(Text, Text)]) -> Result<(), NoMemory>
+    ensures { OnOk result (out.new ≡ out.old ++ lines_text lines.now) }
+{
+    for line in lines {
+        add_line(alloc, out, line)?;
+    }
+    Ok(())
+}
+
+fn printed(alloc: Global, m: &Msg) -> Result<Text, NoMemory>
+    ensures { IfOk result (λ t. t ≡ message_text m.now) }
+{
+    let mut out = Text::new();
+    add_start(alloc, &mut out, m.start())?;
+    out.push(alloc, b"\r\n")?;
+    add_lines(alloc, &mut out, m.lines())?;
+    out.push(alloc, b"\r\n")?;
+    out.push(alloc, m.body())?;
+    Ok(out)
+}
+
+impl Msg {
+    /// The canonical text (RFC 3261 §7): the start line, lines `Name: value`, an empty line and the body.
+    ///
+    /// # Errors
+    ///
+    /// Want of memory alone.
+    pub fn text(&self, alloc: Global) -> Result<Text, NoMemory>
+        ensures text { IfOk result (λ t. t ≡ message_text self.now) }
+        // The text of a canonical message that fits into a datagram is read as that message.
+        ensures reads_back { IsCanonical self.now → IsWithinLimits self.now → IfOk result (λ t. reads t ≡ Ok self.now) }
+    {
+        printed(alloc, self)
+    }
+}

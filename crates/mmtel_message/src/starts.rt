@@ -1,0 +1,78 @@
+//! Start lines (RFC 3261 §7.1, §7.2 and §25.1).
+ghost use Rattle.std.specs.Prelude.{◌≡◌};
+ghost use Rattle.mmtel_lex.specs.Reading.{Gives};
+ghost use Rattle.mmtel_message.specs.Starts.{status_at, request_at, start_at};
+
+use crate::headers::is_value;
+use crate::messages::Start;
+use mmtel_lex::params::token;
+use mmtel_lex::{LexFault, Text};
+use mmtel_scan::{number_up_to, part, skip_byte, skip_text};
+use std::alloc::Global;
+
+/// Reads what follows `SIP/2.0 `.
+#[tactic(auto, unfolding(crate::specs::Starts::status_at))]
+fn status(alloc: Global, bytes: &[u8]) -> Result<Start, LexFault>
+    ensures { Gives (λ x. x) result (status_at bytes.now) }
+{
+    match part(b' ', bytes) {
+        None => Err(LexFault::Malformed { at: 0 }),
+        Some((digits, phrase)) => {
+            if digits.len() != 3 {
+                return Err(LexFault::Malformed { at: 0 });
+            }
+            match number_up_to(699, digits) {
+                None => Err(LexFault::Malformed { at: 0 }),
+                Some(code) => {
+                    if code < 100 {
+                        return Err(LexFault::Malformed { at: 0 });
+                    }
+                    if !is_value(phrase) {
+                        return Err(LexFault::Malformed { at: 0 });
+                    }
+                    let phrase = Text::of(alloc, phrase)?;
+                    Ok(Start::Status {
+                        code: code as u16,
+                        phrase,
+                    })
+                }
+            }
+        }
+    }
+}
+
+/// Reads a request's start line.
+#[tactic(auto, unfolding(crate::specs::Starts::request_at))]
+fn request(alloc: Global, bytes: &[u8]) -> Result<Start, LexFault>
+    ensures { Gives (λ x. x) result (request_at bytes.now) }
+{
+    let (method, rest) = token(alloc, bytes)?;
+    match skip_byte(b' ', rest) {
+        None => Err(LexFault::Malformed { at: 0 }),
+        Some(rest) => match part(b' ', rest) {
+            None => Err(LexFault::Malformed { at: 0 }),
+            Some((uri, version)) => {
+                if uri.is_empty() {
+                    return Err(LexFault::Malformed { at: 0 });
+                }
+                if version == b"SIP/2.0".as_slice() {
+                    let uri = Text::of(alloc, uri)?;
+                    Ok(Start::Request { method, uri })
+                } else {
+                    Err(LexFault::Malformed { at: 0 })
+                }
+            }
+        },
+    }
+}
+
+/// Reads a start line.
+#[tactic(auto, unfolding(crate::specs::Starts::start_at))]
+pub fn start(alloc: Global, line: &[u8]) -> Result<Start, LexFault>
+    ensures { Gives (λ x. x) result (start_at line.now) }
+{
+    match skip_text(b"SIP/2.0 ", line) {
+        None => request(alloc, line),
+        Some(rest) => status(alloc, rest),
+    }
+}

@@ -1,0 +1,155 @@
+//! The values of one text: a listed name's, which commas part (RFC 3261 §7.3.1), and Privacy's words, which `;` parts (RFC 3323 §4.2).
+ghost use Rattle.std.specs.Prelude.{◌≡◌, ◌∷◌, ◌++◌, ◌<◌, length, IfOk, IfSome, OnOk};
+ghost use Rattle.std.specs.List.{flat_map};
+ghost use Rattle.std.specs.Option.{option_copied};
+ghost use Rattle.mmtel_message.specs.Values.{mode_after, is_parting, base, parting, parts, rest_parts, values_in, joined_by};
+
+use mmtel_lex::{List, NoMemory, Text};
+use mmtel_scan::{Class, trim};
+use std::alloc::Global;
+
+/// Where a byte of a text with several values stands, which decides whether it parts two of them.
+#[derive(Clone, Copy)]
+pub enum Mode {
+    /// Outside quotes and angle brackets: a comma parts.
+    Plain,
+    /// In quotes.
+    Quoted,
+    /// Behind a backslash in quotes.
+    Escaped,
+    /// In angle brackets, which only `>` ends.
+    Angle,
+    /// Between the words of Privacy: `;` parts, and nothing else counts.
+    Words,
+}
+
+impl Mode {
+    /// Where the next byte stands.
+    fn after(self, byte: u8) -> Mode
+        ensures { result ≡ mode_after self byte }
+    {
+        match self {
+            Mode::Plain => {
+                if byte == b'"' {
+                    Mode::Quoted
+                } else if byte == b'<' {
+                    Mode::Angle
+                } else {
+                    Mode::Plain
+                }
+            }
+            Mode::Quoted => {
+                if byte == b'"' {
+                    Mode::Plain
+                } else if byte == b'\\' {
+                    Mode::Escaped
+                } else {
+                    Mode::Quoted
+                }
+            }
+            Mode::Escaped => Mode::Quoted,
+            Mode::Angle => {
+                if byte == b'>' {
+                    Mode::Plain
+                } else {
+                    Mode::Angle
+                }
+            }
+            Mode::Words => Mode::Words,
+        }
+    }
+}
+
+/// Whether the byte parts two values.
+fn is_parting(mode: Mode, byte: u8) -> bool
+    ensures { result ≡ is_parting mode byte }
+{
+    match mode {
+        Mode::Plain => byte == b',',
+        Mode::Quoted | Mode::Escaped | Mode::Angle => false,
+        Mode::Words => byte == b';',
+    }
+}
+
+/// Where the byte behind one that parts stands.
+fn base(mode: Mode) -> Mode
+    ensures { result ≡ base mode }
+{
+    match mode {
+        Mode::Plain | Mode::Quoted | Mode::Escaped | Mode::Angle => Mode::Plain,
+        Mode::Words => Mode::Words,
+    }
+}
+
+/// The place of the first byte that parts.
+fn parting(mode: Mode, bytes: &[u8]) -> Option<usize>
+    ensures place { result ≡ parting mode bytes.now }
+    ensures within { IfSome result (λ n. n < length bytes.now) }
+{
+    let mut current = mode;
+    for (i, byte) in bytes.iter().enumerate() {
+        if is_parting(current, *byte) {
+            return Some(i);
+        }
+        current = current.after(*byte);
+    }
+    None
+}
+
+/// The first part, and what follows it, where there is more.
+pub fn next_part(mode: Mode, bytes: &[u8]) -> (&[u8], Option<&[u8]>)
+    ensures parts { parts mode bytes.now ≡ result.0.now ∷ rest_parts (base mode) (option_copied result.1) }
+    ensures shorter { IfSome result.1 (λ rest. length rest.now < length bytes.now) }
+{
+    match parting(mode, bytes) {
+        None => (bytes, None),
+        Some(at) => (&bytes[..at], Some(&bytes[at + 1..])),
+    }
+}
+
+/// The values of a text, without the blanks around each.
+pub fn values_in(alloc: Global, mode: Mode, bytes: &[u8]) -> Result<List<Text>, NoMemory>
+    requires { base mode ≡ mode }
+    ensures { IfOk result (λ vs. vs ≡ values_in mode bytes.now) }
+{
+    let mut values = List::new();
+    let mut rest = Some(bytes);
+    'parts: while let Some(more) = rest {
+        let (part, after) = next_part(mode, more);
+        let value = Text::of(alloc, trim(Class::Blank, part))?;
+        values.push(alloc, value)?;
+        rest = after;
+    }
+    Ok(values)
+}
+
+/// Adds a separator and a text.
+fn add_separated(alloc: Global, out: &mut Text, between: &[u8], text: &[u8]) -> Result<(), NoMemory>
+    ensures { OnOk result (out.new ≡ out.old ++ (between.now ++ text.now)) }
+{
+    out.push(alloc, between)?;
+    out.push(alloc, text)
+}
+
+fn add_others(alloc: Global, out: &mut Text, between: &[u8], texts: &[Text]) -> Result<(), NoMemory>
+    ensures { OnOk result (out.new ≡ out.old ++ flat_map (λ w. between.now ++ w) texts.now) }
+{
+    for text in texts {
+        add_separated(alloc, out, between, text.bytes())?;
+    }
+    Ok(())
+}
+
+/// The texts with the separator between them.
+pub fn joined_by(alloc: Global, between: &[u8], texts: &[Text]) -> Result<Text, NoMemory>
+    ensures { IfOk result (λ t. t ≡ joined_by between.now texts.now) }
+{
+    match texts {
+        [] => Ok(Text::new()),
+        [first, others @ ..] => {
+            let mut out = Text::of(alloc, first.bytes())?;
+            add_others(alloc, &mut out, between, others)?;
+            Ok(out)
+        }
+    }
+}

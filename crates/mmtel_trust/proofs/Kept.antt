@@ -1,0 +1,149 @@
+-- What masking leaves alone
+use Rattle.std.proofs.Common.{◌≡◌, ℕ, List, [], ◌∷◌, ◌++◌, refl, sym, ap, ◌∙◌, Bool, true, false, Option, Some, None, codes, not}
+use Rattle.std.specs.Prelude.{filter}
+use Rattle.std.specs.List.{flat_map}
+use Rattle.std.specs.Option.{option_map}
+use Rattle.std.specs.Str.{str_to_ascii_lowercase, str_eq_ignore_ascii_case}
+use Rattle.std.proofs.lemmas.Slice.Eq.{bytes_eq-Decides}
+use Rattle.mmtel_scan.specs.Chain.{◌>>=◌}
+use Rattle.mmtel_lex.specs.Reading.{name_addr_of}
+use Rattle.mmtel_lex.specs.declared.values.NameAddr.{NameAddr}
+use Rattle.mmtel_message.specs.Fields.{param_value}
+use Rattle.mmtel_message.specs.Message.{is_line, first_value, named, line_values, values_named}
+use Rattle.mmtel_message.specs.declared.values.Mode.{Mode}
+use Rattle.mmtel_message.specs.declared.values.Mode.TheVariants.{Words}
+use Rattle.mmtel_trust.specs.Kinds.{kind_of}
+use Rattle.mmtel_trust.specs.Privacy.{Line, words, wants}
+use Rattle.mmtel_trust.specs.Mask.{is_kept, hidden_value, Places, hide_if, serve_if, masked_value, with_name, masked_line, masked_lines}
+use Rattle.mmtel_trust.specs.Digest.{tag_of}
+use Rattle.mmtel_trust.specs.declared.kinds.Kind.{Kind}
+use Rattle.mmtel_trust.specs.declared.kinds.Kind.TheVariants.{From, To, Contact, Asserted, Served, Privacy, History, Options, Passed, Personal, Trusted, Other}
+use Rattle.mmtel_trust.proofs.Absorbed.{filtered}
+use Rattle.mmtel_trust.proofs.Masked.{hidden_params}
+
+-- ---- names that are equal without case are of one kind
+
+pub kind_like : (a b : List ℕ) → str_eq_ignore_ascii_case a b ≡ true → kind_of a ≡ kind_of b
+unfolding kind_of
+kind_like a b e = let same : str_to_ascii_lowercase a ≡ str_to_ascii_lowercase b = (bytes_eq-Decides (str_to_ascii_lowercase a) (str_to_ascii_lowercase b)).0 e in rw same refl
+
+hide_not : (b : Bool) (v : List ℕ) → not b ≡ true → hide_if b v ≡ v
+hide_not true v e = absurd cc
+hide_not false v e = refl
+
+serve_not : (b : Bool) (v : List ℕ) → not b ≡ true → serve_if b v ≡ v
+serve_not true v e = absurd cc
+serve_not false v e = refl
+
+kept_value : (p : Places) (k : Kind) (v : List ℕ) → is_kept p k ≡ true → masked_value p k v ≡ Some v
+kept_value p From v e = ap (λ w. Some w) (hide_not p.from v e)
+kept_value p To v e = ap (λ w. Some w) (hide_not p.to v e)
+kept_value p Contact v e = ap (λ w. Some w) (hide_not p.contact v e)
+kept_value p Asserted v e = absurd cc
+kept_value p Served v e = ap (λ w. Some w) (serve_not p.served v e)
+kept_value p Privacy v e = refl
+kept_value p History v e = refl
+kept_value p Options v e = refl
+kept_value p Passed v e = refl
+kept_value p Personal v e = absurd cc
+kept_value p Trusted v e = refl
+kept_value p Other v e = refl
+
+-- a masked line has its name
+not_named : (name n : List ℕ) (o : Option (List ℕ)) → str_eq_ignore_ascii_case n name ≡ false → filter (λ x. is_line name x) (with_name n o) ≡ []
+not_named name n None e = refl
+not_named name n (Some v) e = rw e refl
+
+kept_if : (b : Bool) (p : Places) (name : List ℕ) (l : Line) → is_kept p (kind_of name) ≡ true → is_line name l ≡ b → filter (λ x. is_line name x) (masked_line p l) ≡ filter (λ x. is_line name x) (l ∷ [])
+unfolding masked_line
+kept_if true p name l k e = ap (λ o. filter (λ x. is_line name x) (with_name l.0 o)) (kept_value p (kind_of l.0) l.1 (ap (is_kept p) (kind_like l.0 name e) ∙ k))
+kept_if false p name l k e = rw e (not_named name l.0 (masked_value p (kind_of l.0) l.1) e)
+
+pub named-masked : (p : Places) (name : List ℕ) (ls : List Line) → is_kept p (kind_of name) ≡ true → named name (masked_lines p ls) ≡ named name ls
+named-masked p name ls k = filtered (masked_line p) (λ x. is_line name x) (λ l. kept_if (is_line name l) p name l k refl) ls
+
+-- ---- a look-up by name looks at the lines of the name alone
+
+abbrev pub head_value : List Line → Option (List ℕ)
+head_value [] = None
+head_value (l ∷ ls) = Some l.1
+
+first_if : (b : Bool) (name : List ℕ) (l : Line) (ls : List Line) → is_line name l ≡ b → first_value name ls ≡ head_value (named name ls) → first_value name (l ∷ ls) ≡ head_value (named name (l ∷ ls))
+first_if true name l ls e ih = rw e refl
+first_if false name l ls e ih = rw e ih
+
+pub first_named : (name : List ℕ) (ls : List Line) → first_value name ls ≡ head_value (named name ls)
+first_named name [] = refl
+first_named name (l ∷ ls) = first_if (is_line name l) name l ls refl (first_named name ls)
+
+pub first-masked : (p : Places) (name : List ℕ) (ls : List Line) → is_kept p (kind_of name) ≡ true → first_value name (masked_lines p ls) ≡ first_value name ls
+first-masked p name ls k = first_named name (masked_lines p ls) ∙ (ap head_value (named-masked p name ls k) ∙ sym (first_named name ls))
+
+only_if : {B : Type 0} (b : Bool) (name : List ℕ) (g : Line → List B) (l : Line) (ls : List Line) → is_line name l ≡ b → (b ≡ false → g l ≡ []) → flat_map g ls ≡ flat_map g (named name ls) → flat_map g (l ∷ ls) ≡ flat_map g (named name (l ∷ ls))
+only_if true name g l ls e none ih = rw e (ap (λ ys. g l ++ ys) ih)
+only_if false name g l ls e none ih = rw (e, none refl) ih
+
+pub only_named : {B : Type 0} (name : List ℕ) (g : Line → List B) → ((l : Line) → is_line name l ≡ false → g l ≡ []) → (ls : List Line) → flat_map g ls ≡ flat_map g (named name ls)
+only_named name g none [] = refl
+only_named name g none (l ∷ ls) = only_if (is_line name l) name g l ls refl (none l) (only_named name g none ls)
+
+pub each-masked : {B : Type 0} (p : Places) (name : List ℕ) (g : Line → List B) → ((l : Line) → is_line name l ≡ false → g l ≡ []) → (ls : List Line) → is_kept p (kind_of name) ≡ true → flat_map g (masked_lines p ls) ≡ flat_map g ls
+each-masked p name g none ls k = only_named name g none (masked_lines p ls) ∙ (ap (λ xs. flat_map g xs) (named-masked p name ls k) ∙ sym (only_named name g none ls))
+
+no_values : (m : Mode) (name : List ℕ) (l : Line) → is_line name l ≡ false → line_values m name l ≡ []
+no_values m name l e = rw e refl
+
+pub values-masked : (p : Places) (m : Mode) (name : List ℕ) (ls : List Line) → is_kept p (kind_of name) ≡ true → values_named m name (masked_lines p ls) ≡ values_named m name ls
+values-masked p m name ls k = each-masked p name (λ l. line_values m name l) (λ l e. no_values m name l e) ls k
+
+privacy_kept : (p : Places) → is_kept p (kind_of (codes "Privacy")) ≡ true
+unfolding kind_of
+privacy_kept p = refl
+
+pub words-masked : (p : Places) (ls : List Line) → words (masked_lines p ls) ≡ words ls
+words-masked p ls = values-masked p Words (codes "Privacy") ls (privacy_kept p)
+
+wants_like : (ms ls : List Line) → words ms ≡ words ls → wants ms ≡ wants ls
+wants_like ms ls e = rw e refl
+
+pub wants-masked : (p : Places) (ls : List Line) → wants (masked_lines p ls) ≡ wants ls
+wants-masked p ls = wants_like (masked_lines p ls) ls (words-masked p ls)
+
+-- ---- lines whose value is changed alone
+
+skipped : (name n : List ℕ) (o : Option (List ℕ)) (more : List Line) → str_eq_ignore_ascii_case n name ≡ false → head_value (named name (with_name n o ++ more)) ≡ first_value name more
+skipped name n None more e = sym (first_named name more)
+skipped name n (Some v) more e = rw e (sym (first_named name more))
+
+-- the first value of a name whose lines stay is changed by masking as a value
+changed_if : (b : Bool) (p : Places) (name : List ℕ) (f : List ℕ → List ℕ) (l : Line) (ls : List Line) → ((v : List ℕ) → masked_value p (kind_of name) v ≡ Some (f v)) → is_line name l ≡ b → first_value name (masked_lines p ls) ≡ option_map f (first_value name ls) → first_value name (masked_lines p (l ∷ ls)) ≡ option_map f (first_value name (l ∷ ls))
+unfolding masked_line
+changed_if true p name f l ls k e ih = rw (kind_like l.0 name e, k l.1, e) refl
+changed_if false p name f l ls k e ih = rw e (first_named name (with_name l.0 (masked_value p (kind_of l.0) l.1) ++ masked_lines p ls) ∙ (skipped name l.0 (masked_value p (kind_of l.0) l.1) (masked_lines p ls) e ∙ ih))
+
+pub changed : (p : Places) (name : List ℕ) (f : List ℕ → List ℕ) (ls : List Line) → ((v : List ℕ) → masked_value p (kind_of name) v ≡ Some (f v)) → first_value name (masked_lines p ls) ≡ option_map f (first_value name ls)
+changed p name f [] k = refl
+changed p name f (l ∷ ls) k = changed_if (is_line name l) p name f l ls k refl (changed p name f ls k)
+
+from_value : (p : Places) (v : List ℕ) → masked_value p (kind_of (codes "From")) v ≡ Some (hide_if p.from v)
+unfolding kind_of
+from_value p v = refl
+
+to_value : (p : Places) (v : List ℕ) → masked_value p (kind_of (codes "To")) v ≡ Some (hide_if p.to v)
+unfolding kind_of
+to_value p v = refl
+
+tag_by : (r : Option NameAddr) → (r >>= λ n. param_value (codes "tag") n.params) ≡ (option_map (λ n. n.params) r >>= λ ps. param_value (codes "tag") ps)
+tag_by None = refl
+tag_by (Some n) = refl
+
+tag_hidden : (b : Bool) (v : Option (List ℕ)) → tag_of (option_map (hide_if b) v) ≡ tag_of v
+tag_hidden b None = refl
+tag_hidden true (Some s) = tag_by (name_addr_of (hidden_value s)) ∙ (ap (λ r. r >>= λ ps. param_value (codes "tag") ps) (hidden_params s) ∙ sym (tag_by (name_addr_of s)))
+tag_hidden false (Some s) = refl
+
+pub from_tag-masked : (p : Places) (ls : List Line) → tag_of (first_value (codes "From") (masked_lines p ls)) ≡ tag_of (first_value (codes "From") ls)
+from_tag-masked p ls = ap tag_of (changed p (codes "From") (hide_if p.from) ls (from_value p)) ∙ tag_hidden p.from (first_value (codes "From") ls)
+
+pub to_tag-masked : (p : Places) (ls : List Line) → tag_of (first_value (codes "To") (masked_lines p ls)) ≡ tag_of (first_value (codes "To") ls)
+to_tag-masked p ls = ap tag_of (changed p (codes "To") (hide_if p.to) ls (to_value p)) ∙ tag_hidden p.to (first_value (codes "To") ls)

@@ -1,0 +1,10 @@
+pub mod AccountLaws
+pub mod IdentityLaws
+pub mod PeerLaws
+pub mod WordLaws
+pub mod Absorbed
+pub mod HeardLaws
+pub mod Kept
+pub mod Masked
+pub mod PrefixLaws
+mod Worked

@@ -1,0 +1,154 @@
+-- What is masked once is masked, and what an untrusted peer is shown of a restricted message is shown of the masked one too.
+use Rattle.std.proofs.Common.{◌≡◌, ℕ, List, [], ◌∷◌, refl, sym, ap, ◌∙◌, Bool, true, false, Option, Some, None, cond, inl, inr, arith, ◌&&◌, ◌||◌, not}
+use Rattle.std.specs.Prelude.{filter}
+use Rattle.std.proofs.lemmas.List.{append-nil}
+use Rattle.std.specs.List.{flat_map}
+use Rattle.std.specs.Option.{option_map}
+use Rattle.mmtel_lex.specs.Grammar.{AreParams, IsNameAddr}
+use Rattle.mmtel_lex.specs.Reading.{name_addr_of}
+use Rattle.mmtel_scan.specs.Classes as Classes
+use Rattle.mmtel_scan.specs.Classes.{in_class, IsOneOrMore}
+use Rattle.mmtel_scan.specs.declared.classes.Class.TheVariants.{UriByte}
+use Rattle.mmtel_lex.specs.declared.values.Param.{Param}
+use Rattle.mmtel_lex.specs.declared.values.NameAddr.{NameAddr}
+use Rattle.mmtel_lex.proofs.NameAddrLaws.{name_addr_again, name_addr_takes}
+use Rattle.mmtel_message.specs.Message.{Message}
+use Rattle.mmtel_message.specs.declared.messages.Start.{Start}
+use Rattle.mmtel_trust.specs.Kinds.{kind_of}
+use Rattle.mmtel_trust.specs.Passed.{Line, is_shown, asserted_lines, passed}
+use Rattle.mmtel_trust.specs.Mask.{nobody, hidden, hidden_value, is_orig, served_value, Places, hide_if, serve_if, masked_value, with_name, masked_line, masked_lines, masked}
+use Rattle.mmtel_trust.specs.declared.showing.Facing.{Facing}
+use Rattle.mmtel_trust.specs.declared.kinds.Kind.{Kind}
+use Rattle.mmtel_trust.specs.declared.kinds.Kind.TheVariants.{From, To, Contact, Asserted, Served, Privacy, History, Options, Passed, Personal, Trusted, Other}
+use Rattle.mmtel_trust.proofs.Absorbed.{absorbed, filtered}
+
+-- ---- values
+
+params_of : (s : List ℕ) (n : NameAddr) → IsNameAddr s n → AreParams n.params
+params_of s n (inl is) = is.params_in
+params_of s n (inr is) = is.params_in
+
+abbrev pub with_params : List Param → NameAddr
+with_params ps = record { display = []; uri = nobody; params = ps }
+
+nobody_in : IsOneOrMore UriByte nobody
+unfolding Classes.in_class
+nobody_in = record { filled = omega arith; each = refl }
+
+pub hidden_reads : (ps : List Param) → AreParams ps → name_addr_of (hidden ps) ≡ Some (with_params ps)
+unfolding hidden Classes.in_class
+hidden_reads ps are = name_addr_again (hidden ps) (with_params ps) (inl (record { gap = []; whole = refl; starts = refl; display_in = inl (record { each = refl; ends = tt }); gap_in = refl; uri_in = nobody_in; params_in = are }))
+
+read_params : (v : List ℕ) (n : NameAddr) → name_addr_of v ≡ Some n → AreParams n.params
+read_params v n e = params_of v n (name_addr_takes v n e)
+
+hidden_by : (v : List ℕ) (o : Option NameAddr) → name_addr_of v ≡ o → hidden_value (hidden_value v) ≡ hidden_value v
+unfolding hidden_value
+hidden_by v None e = rw (e, e) refl
+hidden_by v (Some n) e = rw (e, hidden_reads n.params (read_params v n e)) refl
+
+pub hidden_once : (v : List ℕ) → hidden_value (hidden_value v) ≡ hidden_value v
+hidden_once v = hidden_by v (name_addr_of v) refl
+
+params_by : (v : List ℕ) (o : Option NameAddr) → name_addr_of v ≡ o → option_map (λ n. n.params) (name_addr_of (hidden_value v)) ≡ option_map (λ n. n.params) o
+unfolding hidden_value
+params_by v None e = rw (e, e) refl
+params_by v (Some n) e = rw (e, hidden_reads n.params (read_params v n e)) refl
+
+-- the parameters stay
+pub hidden_params : (v : List ℕ) → option_map (λ n. n.params) (name_addr_of (hidden_value v)) ≡ option_map (λ n. n.params) (name_addr_of v)
+hidden_params v = params_by v (name_addr_of v) refl
+
+served_if : (b : Bool) (v : List ℕ) (n : NameAddr) → name_addr_of v ≡ Some n → is_orig n.params ≡ b → served_value (served_value v) ≡ served_value v
+unfolding served_value
+served_if true v n e o = rw (e, o, hidden_reads n.params (read_params v n e), o) refl
+served_if false v n e o = rw (e, o, e, o) refl
+
+unserved : (v : List ℕ) → name_addr_of v ≡ None → served_value v ≡ v
+unfolding served_value
+unserved v e = rw e refl
+
+served_by : (v : List ℕ) (r : Option NameAddr) → name_addr_of v ≡ r → served_value (served_value v) ≡ served_value v
+served_by v None e = let same : served_value v ≡ v = unserved v e in ap (λ w. served_value w) same
+served_by v (Some n) e = served_if (is_orig n.params) v n e refl
+
+pub served_once : (v : List ℕ) → served_value (served_value v) ≡ served_value v
+served_once v = served_by v (name_addr_of v) refl
+
+-- ---- lines
+
+hide_once : (b : Bool) (v : List ℕ) → hide_if b (hide_if b v) ≡ hide_if b v
+hide_once true v = hidden_once v
+hide_once false v = refl
+
+serve_once : (b : Bool) (v : List ℕ) → serve_if b (serve_if b v) ≡ serve_if b v
+serve_once true v = served_once v
+serve_once false v = refl
+
+abbrev pub again : Places → Kind → Option (List ℕ) → Option (List ℕ)
+again p k None = None
+again p k (Some v) = masked_value p k v
+
+value_once : (p : Places) (k : Kind) (v : List ℕ) → again p k (masked_value p k v) ≡ masked_value p k v
+value_once p From v = ap (λ w. Some w) (hide_once p.from v)
+value_once p To v = ap (λ w. Some w) (hide_once p.to v)
+value_once p Contact v = ap (λ w. Some w) (hide_once p.contact v)
+value_once p Asserted v = refl
+value_once p Served v = ap (λ w. Some w) (serve_once p.served v)
+value_once p Privacy v = refl
+value_once p History v = refl
+value_once p Options v = refl
+value_once p Passed v = refl
+value_once p Personal v = refl
+value_once p Trusted v = refl
+value_once p Other v = refl
+
+name_once : (p : Places) (n : List ℕ) (o : Option (List ℕ)) → flat_map (masked_line p) (with_name n o) ≡ with_name n (again p (kind_of n) o)
+unfolding masked_line
+name_once p n None = refl
+name_once p n (Some v) = append-nil _
+
+line_once : (p : Places) (l : Line) → flat_map (masked_line p) (masked_line p l) ≡ masked_line p l
+unfolding masked_line
+line_once p l = name_once p l.0 (masked_value p (kind_of l.0) l.1) ∙ ap (with_name l.0) (value_once p (kind_of l.0) l.1)
+
+pub masked_again : (p : Places) (m : Message Start) → masked p (masked p m) ≡ masked p m
+masked_again p m = ap (λ ls. record m { lines = ls }) (absorbed (masked_line p) (masked_line p) (line_once p) m.lines)
+
+-- ---- what is shown
+
+shown_as : (p : Places) (f : Facing) → f.restricted ≡ true → (k : Kind) (l : Line) → kind_of l.0 ≡ k → filter (is_shown f false) (with_name l.0 (masked_value p k l.1)) ≡ filter (is_shown f false) (l ∷ [])
+unfolding is_shown
+shown_as p f r From l e = rw e refl
+shown_as p f r To l e = rw e refl
+shown_as p f r Contact l e = rw e refl
+shown_as p f r Asserted l e = rw e refl
+shown_as p f r Served l e = rw e refl
+shown_as p f r Privacy l e = refl
+shown_as p f r History l e = refl
+shown_as p f r Options l e = refl
+shown_as p f r Passed l e = refl
+shown_as p f r Personal l e = rw (e, r) refl
+shown_as p f r Trusted l e = refl
+shown_as p f r Other l e = refl
+
+shown_line : (p : Places) (f : Facing) → f.restricted ≡ true → (l : Line) → filter (is_shown f false) (masked_line p l) ≡ filter (is_shown f false) (l ∷ [])
+unfolding masked_line
+shown_line p f r l = shown_as p f r (kind_of l.0) l refl
+
+none_if : (a b r : Bool) (x : List Line) → r ≡ true → cond ((a && b) && (false || not r)) x [] ≡ []
+none_if true true r x e = rw e refl
+none_if true false r x e = refl
+none_if false b r x e = refl
+
+none_asserted : (f : Facing) (ls : List Line) → f.restricted ≡ true → asserted_lines f false ls ≡ []
+none_asserted f ls r = none_if f.from_trusted f.present f.restricted _ r
+
+pub passed-masked : (p : Places) (f : Facing) (history ls : List Line) → f.restricted ≡ true → passed f false history (masked_lines p ls) ≡ passed f false history ls
+passed-masked p f history ls r = rw (none_asserted f (masked_lines p ls) r, none_asserted f ls r, filtered (masked_line p) (is_shown f false) (shown_line p f r) ls) refl
+
+pub passed_alike : (p : Places) (f : Facing) (history : List Line) (m n : Message Start) → f.restricted ≡ true → masked p m ≡ masked p n → passed f false history m.lines ≡ passed f false history n.lines
+passed_alike p f history m n r e = sym (passed-masked p f history m.lines r) ∙ (ap (λ x. passed f false history x.lines) e ∙ passed-masked p f history n.lines r)
+
+pub lines_again : (p : Places) (ls : List Line) → masked_lines p (masked_lines p ls) ≡ masked_lines p ls
+lines_again p ls = absorbed (masked_line p) (masked_line p) (line_once p) ls

@@ -1,0 +1,5 @@
+use Rattle.mmtel_trust.proofs.Masked.{passed_alike}
+use Rattle.mmtel_trust.proofs.laws.equal_masks_show_alike.Goals as goal
+
+pub returns : goal.returns
+returns c = record { lines = passed_alike }

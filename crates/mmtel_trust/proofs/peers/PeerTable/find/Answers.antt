@@ -1,0 +1,17 @@
+use Rattle.std.proofs.Common.{◌≡◌, Option, Some, None, IfSome, List, refl, sym, ap, subst, ◌∙◌}
+use Rattle.mmtel_types.specs.declared.numbers.Peer.{Peer}
+use Rattle.mmtel_trust.specs.declared.addrs.Addr.{Addr}
+use Rattle.mmtel_trust.specs.declared.parties.KnownPeer.{KnownPeer}
+use Rattle.mmtel_trust.specs.Peers.{peer_at, addr_of}
+use Rattle.mmtel_trust.proofs.PeerLaws.{at_theirs}
+use Rattle.mmtel_trust.proofs.peers.PeerTable.find.Goals as goal
+
+if_found : (o : Option Peer) (a : Addr) (ks : List KnownPeer) → ((p : Peer) → o ≡ Some p → addr_of p ks ≡ Some a) → IfSome o (λ p. addr_of p ks ≡ Some a)
+if_found None a ks each = tt
+if_found (Some p) a ks each = each p refl
+
+pub returns-clause-theirs : goal.returns-clause-theirs
+returns-clause-theirs c =
+    let found : c.peer_at.result ≡ peer_at c.args.a c.self.inside.peers = c.peer_at.ensures ∙ ap (λ ks. peer_at c.args.a ks) c.items.ensures in
+    subst (λ t. IfSome c.peer_at.result (λ p. addr_of p t.known ≡ Some c.args.a)) c.self.view_is
+    (if_found c.peer_at.result c.args.a c.self.inside.peers (λ p e. at_theirs c.args.a p c.self.inside.peers c.self.invariant.apart (sym found ∙ e)))

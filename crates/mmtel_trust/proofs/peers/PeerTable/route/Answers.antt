@@ -1,0 +1,10 @@
+use Rattle.std.proofs.Common.{◌≡◌, true, IfSome, sym, ap, subst, ◌∙◌}
+use Rattle.mmtel_trust.specs.Peers.{has_number, route_of}
+use Rattle.mmtel_trust.proofs.PeerLaws.{route_leads}
+use Rattle.mmtel_trust.proofs.peers.PeerTable.route.Goals as goal
+
+pub returns-clause-known : goal.returns-clause-known
+returns-clause-known c =
+    let found : c.route_of.result ≡ route_of c.args.u.now c.self.inside.routes = c.route_of.ensures ∙ ap (λ rs. route_of c.args.u.now rs) c.items.ensures in
+    subst (λ t. IfSome c.route_of.result (λ p. has_number p t.known ≡ true)) c.self.view_is
+    (subst (λ o. IfSome o (λ p. has_number p c.self.inside.peers ≡ true)) (sym found) (route_leads c.self.inside.peers c.args.u.now c.self.inside.routes c.self.invariant.on))

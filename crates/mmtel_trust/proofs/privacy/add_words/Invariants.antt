@@ -1,0 +1,8 @@
+use Rattle.std.proofs.Common.{◌≡◌, ◌++◌, take}
+use Rattle.std.specs.List.{flat_map}
+use Rattle.mmtel_trust.specs.Privacy.{words}
+use Rattle.mmtel_trust.specs.Written.{kept_word}
+use Rattle.mmtel_trust.proofs.privacy.add_words.Given as goal
+
+abbrev pub invariant-loop-line : goal.invariant-loop-line
+invariant-loop-line l = l.out ≡ l.fn.out ++ flat_map kept_word (words (take l.line-index l.lines))

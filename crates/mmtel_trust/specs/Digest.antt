@@ -1,0 +1,138 @@
+-- What is read of a message that was heard: a field for each part that the rules of a run read, and the lines, which hold all that may be private. A masked digest is a digest too: in it only the lines and the tests differ, so that whatever reads the other fields sees no difference.
+--
+-- What is decided from a private place is asked by one of two words, which look at the tests first: the account of the caller, and whether the caller has an identity.
+use Rattle.std.specs.Prelude.{ℕ, Bool, ◌&&◌, ◌||◌, Option, Some, None, is_some, is_none, List, codes, if◌then◌else◌}
+use Rattle.mmtel_scan.specs.Chain.{◌>>=◌}
+use Rattle.mmtel_scan.specs.Numbers.{number_of}
+use Rattle.mmtel_lex.specs.Reading.{name_addr_of, uri_of}
+use Rattle.mmtel_lex.specs.declared.values.NameAddr.{NameAddr}
+use Rattle.mmtel_message.specs.Faults.{is_method, is_request}
+use Rattle.mmtel_message.specs.Fields.{param_value}
+use Rattle.mmtel_message.specs.Message.{Message, first_value, values_named}
+use Rattle.mmtel_message.specs.declared.messages.Start.{Start}
+use Rattle.mmtel_message.specs.declared.values.Mode.TheVariants.{Plain}
+use Rattle.mmtel_types.specs.declared.numbers.Account.{Account}
+use Rattle.mmtel_types.specs.declared.privacy.PrivacySet.{PrivacySet}
+use Rattle.mmtel_trust.specs.Accounts.{account_of}
+use Rattle.mmtel_trust.specs.Asserted.{asserted, or_no_uri}
+use Rattle.mmtel_trust.specs.Mask.{opening, is_orig, masked_lines}
+use Rattle.mmtel_trust.specs.Privacy.{Line, wants}
+use Rattle.mmtel_trust.specs.declared.accounts.AccountIdentity.{AccountIdentity}
+use Rattle.mmtel_trust.specs.declared.identities.Identities.{Identities}
+
+-- ---- what is asked of the caller
+
+-- either it is to be asked of the lines, or here are the answers
+pub data Tests : Type 0 where
+  Ask : Tests
+  Answers : (account : Option Account) → (somebody : Bool) → Tests
+
+abbrev pub account_told : Option Account → Tests → Option Account
+account_told said Ask = said
+account_told said (Answers account somebody) = account
+
+abbrev pub somebody_told : Bool → Tests → Bool
+somebody_told said Ask = said
+somebody_told said (Answers account somebody) = somebody
+
+-- ---- the digest
+
+pub record Heard : Type 0 where
+  -- from a trusted peer
+  pub trusted : Bool
+  pub start : Start
+  -- the first Via value, and the tags of From and To
+  pub via : Option (List ℕ)
+  pub from_tag : Option (List ℕ)
+  pub to_tag : Option (List ℕ)
+  pub call_id : Option (List ℕ)
+  pub cseq : Option (List ℕ)
+  -- Max-Forwards, where it is a number up to 255
+  pub hops : Option ℕ
+  -- To of a request
+  pub to : Option (List ℕ)
+  pub routes : List (List ℕ)
+  -- the words of Privacy
+  pub wants : PrivacySet
+  pub body : List ℕ
+  pub lines : List Line
+  pub tests : Tests
+
+-- the tag of a From or To value (RFC 3261 §19.3)
+abbrev pub tag_of : Option (List ℕ) → Option (List ℕ)
+tag_of v = v >>= λ s. name_addr_of s >>= λ n. param_value (codes "tag") n.params
+
+abbrev pub if_request : Start → Option (List ℕ) → Option (List ℕ)
+if_request start v = if is_request start then v else None
+
+-- what is heard, where the message comes from a trusted peer or not
+abbrev pub heard : Bool → Message Start → Heard
+heard trusted m = record {
+  trusted = trusted;
+  start = m.start;
+  via = first_value (codes "Via") m.lines;
+  from_tag = tag_of (first_value (codes "From") m.lines);
+  to_tag = tag_of (first_value (codes "To") m.lines);
+  call_id = first_value (codes "Call-ID") m.lines;
+  cseq = first_value (codes "CSeq") m.lines;
+  hops = first_value (codes "Max-Forwards") m.lines >>= number_of 255;
+  to = if_request m.start (first_value (codes "To") m.lines);
+  routes = values_named Plain (codes "Route") m.lines;
+  wants = wants m.lines;
+  body = m.body;
+  lines = m.lines;
+  tests = Ask;
+}
+
+-- ---- the caller
+
+-- a P-Served-User of the originating case: the first one counts (RFC 5502 §4)
+abbrev pub served_origin : List Line → Option NameAddr
+served_origin ls = first_value (codes "P-Served-User") ls >>= λ v. name_addr_of v >>= λ n. if is_orig n.params then Some n else None
+
+abbrev pub or_other : Option Account → Option Account → Option Account
+or_other (Some a) other = Some a
+or_other None other = other
+
+-- the account of the user who is served, or else of the sip identity, or else of the tel identity
+abbrev pub account_from : List AccountIdentity → Identities → Option NameAddr → Option Account
+account_from accounts i None = or_other (i.sip >>= account_of accounts) (i.tel >>= account_of accounts)
+account_from accounts i (Some n) = or_no_uri (uri_of n.uri) >>= account_of accounts
+
+abbrev pub origin_account : List AccountIdentity → Bool → List Line → Option Account
+origin_account accounts trusted ls = account_from accounts (asserted trusted ls) (if trusted then served_origin ls else None)
+
+abbrev pub is_somebody : Identities → Bool
+is_somebody i = is_some i.sip || is_some i.tel
+
+-- the account of the caller
+abbrev pub caller_account : List AccountIdentity → Heard → Option Account
+caller_account accounts d = account_told (origin_account accounts d.trusted d.lines) d.tests
+
+-- the caller has an identity
+abbrev pub is_known : Heard → Bool
+is_known d = somebody_told (is_somebody (asserted d.trusted d.lines)) d.tests
+
+-- ---- masking
+
+-- which callers are restricted: by the words of Privacy and the account (TS 24.607 §4.5.2)
+abbrev pub Restriction : Type 0
+Restriction = PrivacySet → Option Account → Bool
+
+-- an INVITE without To tag from a trusted peer
+abbrev pub is_opening : Heard → Bool
+is_opening d = d.trusted && (is_method (codes "INVITE") d.start && is_none d.to_tag)
+
+-- it opens a call whose caller is restricted
+abbrev pub is_private : Restriction → List AccountIdentity → Heard → Bool
+is_private restricts accounts d = is_opening d && restricts d.wants (caller_account accounts d)
+
+abbrev pub lines_if : Bool → List Line → List Line
+lines_if b ls = if b then masked_lines opening ls else ls
+
+abbrev pub tests_if : Bool → List AccountIdentity → Heard → Tests
+tests_if b accounts d = if b then Answers (caller_account accounts d) (is_known d) else d.tests
+
+-- the digest without what is private of an opening. The condition stands in the two fields, so that each other field is seen through
+abbrev pub hide : Restriction → List AccountIdentity → Heard → Heard
+hide restricts accounts d = record d { lines = lines_if (is_private restricts accounts d) d.lines; tests = tests_if (is_private restricts accounts d) accounts d }

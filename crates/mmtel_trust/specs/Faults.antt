@@ -1,0 +1,14 @@
+-- Answers of tables.
+use Rattle.std.specs.Prelude.{◌≡◌, Result, Ok, Err, Option, Some, None}
+use Rattle.mmtel_trust.specs.declared.faults.TableFault.{TableFault}
+use Rattle.mmtel_trust.specs.declared.faults.TableFault.TheVariants.{Taken, NoPeer, NoMemory}
+
+-- it is refused for the fault, where there is one; else it is taken, or memory ran out
+abbrev pub Refuses : TableFault → Option TableFault → Type 0
+Refuses Taken fault = fault ≡ Some Taken
+Refuses NoPeer fault = fault ≡ Some NoPeer
+Refuses NoMemory fault = fault ≡ None
+
+abbrev pub Meets : {A : Type 0} → Result A TableFault → Option TableFault → Type 0
+Meets (Ok done) fault = fault ≡ None
+Meets (Err e) fault = Refuses e fault

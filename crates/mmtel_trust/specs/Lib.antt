@@ -1,0 +1,14 @@
+pub mod Accounts
+pub mod Addrs
+pub mod Asserted
+pub mod Digest
+pub mod Faults
+pub mod Kinds
+pub mod Mask
+pub mod Members
+pub mod Passed
+pub mod Peers
+pub mod Privacy
+pub mod SameIdentity
+pub mod Shown
+pub mod Written

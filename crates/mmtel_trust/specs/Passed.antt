@@ -1,0 +1,61 @@
+-- The lines of a message that are passed on where it is relayed: the header table of the server (RFC 3325 §5 and §7, RFC 3323 §5.1, RFC 7044 §7), and the From of a message that the server makes of it (RFC 3323 §4.1.1.3).
+use Rattle.std.specs.Prelude.{Option, Some, None, ℕ, Bool, true, false, not, List, [], ◌∷◌, ◌++◌, codes, if◌then◌else◌, ◌||◌, ◌&&◌, filter}
+use Rattle.std.specs.Str.{bytes_eq}
+use Rattle.mmtel_lex.specs.Grammar.{name_addr_text}
+use Rattle.mmtel_lex.specs.Reading.{name_addr_of}
+use Rattle.mmtel_lex.specs.declared.values.NameAddr.{NameAddr}
+use Rattle.mmtel_message.specs.Message.{first_value, named}
+use Rattle.mmtel_trust.specs.Kinds.{kind_of}
+use Rattle.mmtel_trust.specs.Privacy.{restricted_text}
+pub use Rattle.mmtel_trust.specs.Privacy.{Line}
+use Rattle.mmtel_trust.specs.declared.showing.Facing.{Facing}
+use Rattle.mmtel_trust.specs.declared.kinds.Kind.{Kind}
+use Rattle.mmtel_trust.specs.declared.kinds.Kind.TheVariants.{From, To, Contact, Asserted, Served, Privacy, History, Options, Passed, Personal, Trusted, Other}
+
+-- the identities that a trusted peer asserts, to whom they may be shown
+abbrev pub asserted_lines : Facing → Bool → List Line → List Line
+asserted_lines f to_trusted ls = if f.from_trusted && f.present && (to_trusted || not f.restricted) then named (codes "P-Asserted-Identity") ls else []
+
+-- Privacy, for trusted peers
+abbrev pub privacy_lines : Facing → Bool → List Line → List Line
+privacy_lines f to_trusted ls = if not to_trusted then [] else if f.restricted then (codes "Privacy", restricted_text ls) ∷ [] else named (codes "Privacy") ls
+
+-- whether a line of the kind, with this value, is among the other lines that are passed
+abbrev pub passes : Facing → Bool → Kind → List ℕ → Bool
+passes f to_trusted From v = false
+passes f to_trusted To v = false
+passes f to_trusted Contact v = false
+passes f to_trusted Asserted v = false
+passes f to_trusted Served v = false
+passes f to_trusted Privacy v = false
+passes f to_trusted History v = false
+passes f to_trusted Options v = bytes_eq v (codes "histinfo")
+passes f to_trusted Passed v = true
+passes f to_trusted Personal v = not f.restricted
+passes f to_trusted Trusted v = f.from_trusted && to_trusted
+passes f to_trusted Other v = false
+
+unfoldable pub is_shown : Facing → Bool → Line → Bool
+is_shown f to_trusted l = passes f to_trusted (kind_of l.0) l.1
+
+abbrev pub other_lines : Facing → Bool → List Line → List Line
+other_lines f to_trusted ls = filter (is_shown f to_trusted) ls
+
+-- the passed lines, where these are the lines of the call's History-Info: the asserted identities, Privacy, History-Info, and then the others in received order
+abbrev pub passed : Facing → Bool → List Line → List Line → List Line
+passed f to_trusted history ls = asserted_lines f to_trusted ls ++ (privacy_lines f to_trusted ls ++ (history ++ other_lines f to_trusted ls))
+
+-- ---- From
+
+-- the display and the URI of a name-addr, or of nobody
+abbrev pub named_text : Option NameAddr → List ℕ
+named_text None = codes "\"Anonymous\" <sip:anonymous@anonymous.invalid>"
+named_text (Some n) = name_addr_text (record n { params = [] })
+
+abbrev pub read_by : Option (List ℕ) → Option NameAddr
+read_by None = None
+read_by (Some v) = name_addr_of v
+
+-- From of an attempt: of nobody where the call is restricted, else the display and the URI as received; and the tag
+abbrev pub attempt_from : Bool → List ℕ → List Line → List ℕ
+attempt_from restricted tag ls = named_text (if restricted then None else read_by (first_value (codes "From") ls)) ++ (codes ";tag=" ++ tag)

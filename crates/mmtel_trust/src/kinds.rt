@@ -1,0 +1,131 @@
+//! The header table: header names by what becomes of their lines where a message is relayed.
+ghost use Rattle.std.specs.Prelude.{◌≡◌};
+ghost use Rattle.mmtel_trust.specs.Kinds.{group_rows, kind_in, personal_names, trusted_names, content_names, further_names, is_among, kind_of};
+
+use crate::texts::is;
+
+/// What becomes of a line where its message is relayed.
+#[derive(Clone, Copy, Debug, PartialEq, Eq)]
+pub enum Kind {
+    /// From: the server writes its own.
+    From,
+    /// To: the server writes its own.
+    To,
+    /// Contact: the server writes its own.
+    Contact,
+    /// P-Asserted-Identity (RFC 3325): passed where it is believed and may be shown.
+    Asserted,
+    /// P-Served-User (RFC 5502): not passed.
+    Served,
+    /// Privacy (RFC 3323): passed to trusted peers.
+    Privacy,
+    /// History-Info (RFC 7044): the server writes its own.
+    History,
+    /// Supported and Require: the option `histinfo` alone is passed.
+    Options,
+    /// Passed to everybody.
+    Passed,
+    /// Tells who somebody is: passed where that one is not restricted.
+    Personal,
+    /// Of the trust domain: passed from a trusted peer to a trusted peer.
+    Trusted,
+    /// Not passed.
+    Other,
+}
+
+fn is_personal(name: &[u8]) -> bool
+    ensures { result ≡ is_among personal_names name.now }
+{
+    is(name, b"Subject")
+        || is(name, b"Call-Info")
+        || is(name, b"Organization")
+        || is(name, b"User-Agent")
+        || is(name, b"Server")
+        || is(name, b"Reply-To")
+        || is(name, b"In-Reply-To")
+}
+
+fn is_trusted(name: &[u8]) -> bool
+    ensures { result ≡ is_among trusted_names name.now }
+{
+    is(name, b"P-Access-Network-Info")
+        || is(name, b"P-Asserted-Service")
+        || is(name, b"P-Early-Media")
+}
+
+fn is_content(name: &[u8]) -> bool
+    ensures { result ≡ is_among content_names name.now }
+{
+    is(name, b"Accept")
+        || is(name, b"Accept-Contact")
+        || is(name, b"Accept-Encoding")
+        || is(name, b"Accept-Language")
+        || is(name, b"Alert-Info")
+        || is(name, b"Content-Disposition")
+        || is(name, b"Content-Encoding")
+        || is(name, b"Content-Language")
+}
+
+fn is_further(name: &[u8]) -> bool
+    ensures { result ≡ is_among further_names name.now }
+{
+    is(name, b"Content-Type")
+        || is(name, b"MIME-Version")
+        || is(name, b"Priority")
+        || is(name, b"Reason")
+        || is(name, b"Reject-Contact")
+        || is(name, b"Request-Disposition")
+        || is(name, b"Retry-After")
+        || is(name, b"Unsupported")
+}
+
+/// The kind of a name that several names have.
+fn grouped(name: &[u8]) -> Kind
+    ensures { result ≡ kind_in group_rows name.now }
+{
+    if is(name, b"Supported") || is(name, b"Require") {
+        return Kind::Options;
+    }
+    if is_personal(name) {
+        return Kind::Personal;
+    }
+    if is_trusted(name) {
+        return Kind::Trusted;
+    }
+    if is_content(name) {
+        return Kind::Passed;
+    }
+    if is_further(name) {
+        return Kind::Passed;
+    }
+    Kind::Other
+}
+
+/// What becomes of the lines of this name, which is compared without case.
+#[tactic(auto, unfolding(crate::specs::Kinds::kind_of))]
+pub fn kind_of(name: &[u8]) -> Kind
+    ensures table { result ≡ kind_of name.now }
+{
+    if is(name, b"From") {
+        return Kind::From;
+    }
+    if is(name, b"To") {
+        return Kind::To;
+    }
+    if is(name, b"Contact") {
+        return Kind::Contact;
+    }
+    if is(name, b"P-Asserted-Identity") {
+        return Kind::Asserted;
+    }
+    if is(name, b"P-Served-User") {
+        return Kind::Served;
+    }
+    if is(name, b"Privacy") {
+        return Kind::Privacy;
+    }
+    if is(name, b"History-Info") {
+        return Kind::History;
+    }
+    grouped(name)
+}

@@ -1,0 +1,93 @@
+-- What the files gave, stage by stage.
+use Rattle.std.proofs.Common.{◌≡◌, ℕ, List, refl, sym, subst, Option, Some, None, Result, Ok, Err, IfSome}
+use Rattle.mmtel_cli.specs.Directory.{directory_of}
+use Rattle.mmtel_cli.specs.Due.{due_of_script, IsDue}
+use Rattle.mmtel_cli.specs.Gives.{GivesScript, GivesBoth}
+use Rattle.mmtel_cli.specs.Shelf.{Shelf, answer_at, called, ReadsTold}
+use Rattle.mmtel_cli.specs.Words.{Asked}
+use Rattle.mmtel_cli.specs.declared.directories.Directory.{Directory}
+use Rattle.mmtel_cli.specs.declared.due.Due.{Due}
+use Rattle.mmtel_cli.specs.declared.due.Due.TheVariants.{Line, File, Memory}
+use Rattle.mmtel_cli.specs.declared.files.FileFault.TheVariants.{Failed}
+
+-- the told answer, or none where nothing is told
+abbrev pub told_answer : Option Shelf → List ℕ → Option (List ℕ)
+told_answer None name = None
+told_answer (Some shelf) name = answer_at shelf name
+
+pub told_answer-is : (told : Option Shelf) (name : List ℕ) → IfSome told (λ shelf. told_answer told name ≡ answer_at shelf name)
+told_answer-is None name = tt
+told_answer-is (Some shelf) name = refl
+
+-- the same of the call after the next
+abbrev pub told_next : Option Shelf → List ℕ → Option (List ℕ)
+told_next None name = None
+told_next (Some shelf) name = answer_at (called shelf) name
+
+pub told_next-is : (told : Option Shelf) (name : List ℕ) → IfSome told (λ shelf. told_next told name ≡ answer_at (called shelf) name)
+told_next-is None name = tt
+told_next-is (Some shelf) name = refl
+
+-- a read that failed, and one that gave a text, are the told answers
+pub none-is : (told after : Option Shelf) (name : List ℕ) → ReadsTold told after name (Err Failed) → IfSome told (λ shelf. None ≡ answer_at shelf name)
+none-is None after name h = tt
+none-is (Some shelf) after name h = sym (h.1.failed.0 refl)
+
+pub some-is : (told after : Option Shelf) (name text : List ℕ) → ReadsTold told after name (Ok text) → IfSome told (λ shelf. Some text ≡ answer_at shelf name)
+some-is None after name text h = tt
+some-is (Some shelf) after name text h = sym h.1.ok
+
+-- what the files told of the next name they tell of it after a call
+pub next-is : (told after : Option Shelf) (name text : List ℕ) (script : Option (List ℕ)) (other : List ℕ) → ReadsTold told after name (Ok text) → IfSome after (λ shelf. script ≡ answer_at shelf other) → IfSome told (λ shelf. script ≡ answer_at (called shelf) other)
+next-is None after name text script other h k = tt
+next-is (Some shelf) after name text script other h k =
+    let P : Option Shelf → Type 0 = λ a. IfSome a (λ s. script ≡ answer_at s other) in
+    subst P h.0 k
+
+pub gives_script : (told after : Option Shelf) (asked : Asked) (directory : Directory) (script : List ℕ) (found : Due) → ReadsTold told after asked.script (Ok script) → IsDue found (due_of_script directory asked.token (Some script)) → GivesScript told asked (Ok directory) found
+gives_script told after asked directory script found h d = record {
+  script = Some script;
+  told_script = some-is told after asked.script script h;
+  is_due = d;
+}
+
+pub gives_line : (told : Option Shelf) (asked : Asked) (config : List ℕ) (line : ℕ) → directory_of config ≡ Err line → GivesScript told asked (directory_of config) (Line line)
+gives_line told asked config line e = record {
+  script = told_answer told asked.script;
+  told_script = told_answer-is told asked.script;
+  is_due = rw e refl;
+}
+
+pub gives_memory : (told : Option Shelf) (asked : Asked) (directory : Result Directory ℕ) → GivesScript told asked directory Memory
+gives_memory told asked directory = record {
+  script = told_answer told asked.script;
+  told_script = told_answer-is told asked.script;
+  is_due = tt;
+}
+
+pub gives_config : (told after : Option Shelf) (asked : Asked) (config : List ℕ) (found : Due) → ReadsTold told after asked.config (Ok config) → GivesScript after asked (directory_of config) found → GivesBoth told asked found
+gives_config told after asked config found h k = record {
+  config = Some config;
+  script = k.script;
+  told_config = some-is told after asked.config config h;
+  told_script = next-is told after asked.config config k.script asked.script h k.told_script;
+  is_due = k.is_due;
+}
+
+pub gives_no_config : (told after : Option Shelf) (asked : Asked) → ReadsTold told after asked.config (Err Failed) → GivesBoth told asked File
+gives_no_config told after asked h = record {
+  config = None;
+  script = told_next told asked.script;
+  told_config = none-is told after asked.config h;
+  told_script = told_next-is told asked.script;
+  is_due = refl;
+}
+
+pub gives_no_memory : (told : Option Shelf) (asked : Asked) → GivesBoth told asked Memory
+gives_no_memory told asked = record {
+  config = told_answer told asked.config;
+  script = told_next told asked.script;
+  told_config = told_answer-is told asked.config;
+  told_script = told_next-is told asked.script;
+  is_due = tt;
+}

@@ -1,0 +1,98 @@
+-- What a run is due to write, by what the files gave: the configuration comes first, then the script, then the listing of what the definitions of the run give.
+use Rattle.std.specs.Prelude.{◌≡◌, ℕ, ◌⊎◌, List, Some, None, Ok, Err, ⊤}
+use Rattle.std.specs.declared.option.Option.{Option}
+use Rattle.std.specs.declared.result.Result.{Result}
+use Rattle.mmtel_cli.specs.Causes.{Rose}
+use Rattle.mmtel_cli.specs.Directory.{directory_of}
+use Rattle.mmtel_cli.specs.Listing.{listing_of}
+use Rattle.mmtel_cli.specs.Run.{gives}
+use Rattle.mmtel_cli.specs.Script.{events_of}
+use Rattle.mmtel_cli.specs.Shelf.{Shelf, answer_at, called}
+use Rattle.mmtel_cli.specs.Words.{Asked}
+use Rattle.mmtel_cli.specs.declared.directories.Directory.{Directory}
+use Rattle.mmtel_cli.specs.declared.due.Due.{Due}
+use Rattle.mmtel_cli.specs.declared.due.Due.TheVariants.{Usage, Line, File, Memory, Listing}
+use Rattle.mmtel_cli.specs.declared.events.Event.{Event}
+
+-- what is due once the script was read: the listing of what the run of its events gives, or its first bad line
+abbrev pub due_of_events : Directory → List ℕ → Result (List Event) ℕ → Due
+due_of_events directory token (Ok events) = Listing (listing_of (gives directory token events))
+due_of_events directory token (Err line) = Line line
+
+-- what is due once the script was asked for
+abbrev pub due_of_script : Directory → List ℕ → Option (List ℕ) → Due
+due_of_script directory token None = File
+due_of_script directory token (Some script) = due_of_events directory token (events_of directory.peers.known script)
+
+-- what is due once the configuration was read; the last argument is what the files give for the script
+abbrev pub due_of_directory : Result Directory ℕ → List ℕ → Option (List ℕ) → Due
+due_of_directory (Ok directory) token script = due_of_script directory token script
+due_of_directory (Err line) token script = Line line
+
+-- what is due once the configuration was asked for
+abbrev pub due_of_config : Option (List ℕ) → List ℕ → Option (List ℕ) → Due
+due_of_config None token script = File
+due_of_config (Some config) token script = due_of_directory (directory_of config) token script
+
+-- what is due, by what the words ask and what the files give for CONFIG and SCRIPT
+abbrev pub due_of : Option Asked → Option (List ℕ) → Option (List ℕ) → Due
+due_of None config script = Usage
+due_of (Some asked) config script = due_of_config config asked.token script
+
+-- what is due over files that tell: the first call is for CONFIG, and the second for SCRIPT
+abbrev pub due_over : Shelf → Option Asked → Due
+due_over shelf None = Usage
+due_over shelf (Some asked) = due_of_config (answer_at shelf asked.config) asked.token (answer_at (called shelf) asked.script)
+
+-- the files after the calls that are due: none without a command, one where CONFIG is not there or not good, and else two
+abbrev pub shelf_of_directory : Shelf → Result Directory ℕ → Shelf
+shelf_of_directory shelf (Ok directory) = called shelf
+shelf_of_directory shelf (Err line) = shelf
+
+abbrev pub shelf_of_config : Shelf → Option (List ℕ) → Shelf
+shelf_of_config shelf None = shelf
+shelf_of_config shelf (Some config) = shelf_of_directory shelf (directory_of config)
+
+abbrev pub shelf_after : Shelf → Option Asked → Shelf
+shelf_after shelf None = shelf
+shelf_after shelf (Some asked) = shelf_of_config (called shelf) (answer_at shelf asked.config)
+
+-- there is a command
+abbrev pub IsAsked : Due → Type 0
+IsAsked Usage = ⊥
+IsAsked (Line line) = ⊤
+IsAsked File = ⊤
+IsAsked Memory = ⊤
+IsAsked (Listing text) = ⊤
+
+-- what was found due is what is due, unless memory ran out
+abbrev pub IsDue : Due → Due → Type 0
+IsDue Memory due = ⊤
+IsDue Usage due = due ≡ Usage
+IsDue (Line line) due = due ≡ Line line
+IsDue File due = due ≡ File
+IsDue (Listing text) due = due ≡ Listing text
+
+-- the calls that are due were made; or memory ran out, at the first of them or after the last
+abbrev pub HasCalled : Due → Option Shelf → Shelf → Shelf → Type 0
+HasCalled Memory after first last = (after ≡ Some first) ⊎ (after ≡ Some last)
+HasCalled Usage after first last = after ≡ Some last
+HasCalled (Line line) after first last = after ≡ Some last
+HasCalled File after first last = after ≡ Some last
+HasCalled (Listing text) after first last = after ≡ Some last
+
+-- the count of the files' faults rose where a file could not be read, and is as before otherwise
+abbrev pub CountsFiles : Due → ℕ → ℕ → Type 0
+CountsFiles File before now = Rose before now
+CountsFiles Usage before now = now ≡ before
+CountsFiles (Line line) before now = now ≡ before
+CountsFiles Memory before now = now ≡ before
+CountsFiles (Listing text) before now = now ≡ before
+
+-- no file has part in it
+abbrev pub IsRead : Due → Type 0
+IsRead File = ⊥
+IsRead Usage = ⊥
+IsRead (Line line) = ⊤
+IsRead Memory = ⊤
+IsRead (Listing text) = ⊤

@@ -1,0 +1,30 @@
+-- How a run ends: the text that it writes and its status.
+use Rattle.std.specs.Prelude.{◌≡◌, ℕ, ◌⊎◌, List, [], ◌∷◌, ◌++◌, codes, decimal}
+use Rattle.std.specs.Io.KnownBytes.{Appends}
+use Rattle.std.specs.declared.option.Option.{Option}
+use Rattle.mmtel_cli.specs.Causes.{Rose}
+use Rattle.mmtel_cli.specs.Written.{AppendsPart}
+use Rattle.mmtel_cli.specs.declared.due.Due.{Due}
+use Rattle.mmtel_cli.specs.declared.due.Due.TheVariants.{Usage, Line, File, Memory, Listing}
+
+-- `line N`
+abbrev pub line_text : ℕ → List ℕ
+line_text number = codes "line " ++ decimal number ++ 10 ∷ []
+
+-- the whole text was written and no fault counted; or a prefix and not the whole, and the count rose
+abbrev pub Wrote : List ℕ → Option (List ℕ) → Option (List ℕ) → ℕ → ℕ → Type 0
+Wrote text before after faults now =
+    (Appends before after text × (now ≡ faults)) ⊎ (AppendsPart before after text × Rose faults now)
+
+-- a listing: status 0 where the whole was written and no fault counted, and 7 where a prefix was and not the whole, and the count rose
+abbrev pub WroteListing : List ℕ → ℕ → Option (List ℕ) → Option (List ℕ) → ℕ → ℕ → Type 0
+WroteListing text status before after faults now =
+    ((status ≡ 0) × Appends before after text × (now ≡ faults)) ⊎ ((status ≡ 7) × AppendsPart before after text × Rose faults now)
+
+-- each with its status; a status from 1 to 5, or 8, stays where the writing of its text meets a fault
+abbrev pub Ends : Due → ℕ → Option (List ℕ) → Option (List ℕ) → ℕ → ℕ → Type 0
+Ends Usage status before after faults now = (status ≡ 1) × Wrote (codes "usage\n") before after faults now
+Ends (Line number) status before after faults now = (status ≡ 2) × Wrote (line_text number) before after faults now
+Ends File status before after faults now = (status ≡ 5) × Wrote (codes "file\n") before after faults now
+Ends Memory status before after faults now = (status ≡ 8) × Wrote (codes "memory\n") before after faults now
+Ends (Listing text) status before after faults now = WroteListing text status before after faults now

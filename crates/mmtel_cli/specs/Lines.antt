@@ -1,0 +1,41 @@
+-- The lines of a text, and numbers as configurations and scripts write them: formats of this project's own.
+use Rattle.std.specs.Prelude.{ℕ, Bool, true, false, nat_lt, ◌==◌, if◌then◌else◌, List, [], ◌∷◌, ◌++◌, ◌+◌, Option, Some, None, Result, Ok, Err}
+use Rattle.std.specs.List.{onto_first}
+use Rattle.mmtel_scan.specs.Chain.{◌>>=◌}
+use Rattle.mmtel_scan.specs.Numbers.{number_of}
+
+-- the lines: an LF ends each, and the last may lack it
+abbrev pub lines_of : List ℕ → List (List ℕ)
+lines_of [] = []
+lines_of (b ∷ s) = if b == 10 then [] ∷ lines_of s else onto_first b (lines_of s)
+
+-- an empty line, or one that begins with `#`
+abbrev pub is_remark : List ℕ → Bool
+is_remark [] = true
+is_remark (b ∷ s) = b == 35
+
+-- a zero comes first and is not alone
+abbrev pub leads_zero : List ℕ → Bool
+leads_zero [] = false
+leads_zero (b ∷ []) = false
+leads_zero (b ∷ c ∷ s) = b == 48
+
+-- the number, of at most the limit, that these decimal digits without leading zeros write
+abbrev pub plain_number : ℕ → List ℕ → Option ℕ
+plain_number limit s = if leads_zero s then None else number_of limit s
+
+-- the same, and at least the least
+abbrev pub number_from : ℕ → ℕ → List ℕ → Option ℕ
+number_from least limit s = do
+  n ← plain_number limit s
+  if nat_lt n least then None else Some n
+
+-- what is made of something, or else the number of the line that gave nothing
+abbrev pub and_then : {A B : Type 0} → ℕ → Option A → (A → Result B ℕ) → Result B ℕ
+and_then number (Some x) more = more x
+and_then number None more = Err number
+
+-- what lines say, each read behind all that the lines before it say, or the number of the first that may not stand there; the lines begin at this number, behind lines that say so much
+abbrev pub said_by : {L : Type 0} → (List L → List ℕ → Option L) → ℕ → List L → List (List ℕ) → Result (List L) ℕ
+said_by read number said [] = Ok said
+said_by read number said (text ∷ texts) = and_then number (read said text) (λ line. said_by read (number + 1) (said ++ line ∷ []) texts)

@@ -1,0 +1,13 @@
+//! Calls that fail by their numbers.
+ghost use Rattle.std.specs.Prelude.{◌≡◌};
+ghost use Rattle.mmtel_cli.specs.Causes.{fails_by_number};
+
+use mmtel_scan::List;
+
+/// Whether the call after so many fails by its number: calls are numbered from 1.
+pub fn fails_by_number(failing: &List<u64>, calls: u64) -> bool
+    ensures listed { result ≡ fails_by_number failing.now calls }
+{
+    let call = calls.saturating_add(1);
+    failing.items().iter().any(|number| *number == call)
+}

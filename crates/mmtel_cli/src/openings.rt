@@ -1,0 +1,356 @@
+//! What the server builds of an INVITE that opens a call: its 100, and the INVITE of the first attempt.
+ghost use Rattle.std.specs.Prelude.{◌≡◌, ◌+◌, ◌++◌, ◌∷◌, [], ◌^◌, ◌<◌, ◌≤◌, length, decimal, codes, map, Some, IfOk, OnOk, true};
+ghost use Rattle.std.specs.Option.{option_copied};
+ghost use Rattle.mmtel_message.specs.Replies.{reply_with};
+ghost use Rattle.mmtel_trust.specs.Digest.{heard};
+ghost use Rattle.mmtel_trust.specs.Passed.{passed, attempt_from, read_by};
+ghost use Rattle.mmtel_cli.specs.Openings.{ip_text, addr_text, drawn_text, trying, request_uri, hops_left, via_text, contact_text, hops_in, is_hiding, facing, to_text, line, sender_lines, dialog_lines, attempt_lines, pair_of, attempt};
+
+use mmtel_lex::{LexFault, List, NameAddr, print_name_addr, read_name_addr};
+use mmtel_message::{Msg, Start, first_of, reply_with};
+use mmtel_scan::{NoMemory, Text, number_up_to};
+use mmtel_trust::{Addr, Facing, Line, attempt_from, shown, wants};
+use std::alloc::Global;
+
+fn add_number(alloc: Global, out: &mut Text, number: u64) -> Result<(), NoMemory>
+    ensures { OnOk result (out.new ≡ out.old ++ decimal number) }
+{
+    let digits = number.to_string(alloc)?;
+    out.push(alloc, digits.as_bytes())
+}
+
+/// The text of an IPv4 address, `a.b.c.d`.
+pub fn ip_text(alloc: Global, ip: [u8; 4]) -> Result<Text, NoMemory>
+    ensures text { IfOk result (λ t. t ≡ ip_text ip) }
+{
+    let mut out = Text::new();
+    add_number(alloc, &mut out, u64::from(ip[0]))?;
+    out.push(alloc, b".")?;
+    add_number(alloc, &mut out, u64::from(ip[1]))?;
+    out.push(alloc, b".")?;
+    add_number(alloc, &mut out, u64::from(ip[2]))?;
+    out.push(alloc, b".")?;
+    add_number(alloc, &mut out, u64::from(ip[3]))?;
+    Ok(out)
+}
+
+/// The text of an address, `a.b.c.d:port`.
+fn add_addr(alloc: Global, out: &mut Text, addr: Addr) -> Result<(), NoMemory>
+    ensures { OnOk result (out.new ≡ out.old ++ addr_text addr) }
+{
+    let ip = ip_text(alloc, addr.ip)?;
+    out.push(alloc, ip.bytes())?;
+    out.push(alloc, b":")?;
+    add_number(alloc, out, u64::from(addr.port))
+}
+
+/// What a drawn number is written as.
+fn drawn_text(alloc: Global, token: &[u8], number: u64) -> Result<Text, NoMemory>
+    ensures { IfOk result (λ t. t ≡ drawn_text token.now number) }
+{
+    let mut out = Text::of(alloc, token)?;
+    out.push(alloc, b"-")?;
+    add_number(alloc, &mut out, number)?;
+    Ok(out)
+}
+
+/// The server's Via (RFC 3261 §8.1.1.7).
+fn via_text(alloc: Global, sip: Addr, branch: &[u8]) -> Result<Text, NoMemory>
+    ensures { IfOk result (λ t. t ≡ via_text sip branch.now) }
+{
+    let mut out = Text::of(alloc, b"SIP/2.0/UDP ")?;
+    add_addr(alloc, &mut out, sip)?;
+    out.push(alloc, b";branch=z9hG4bK")?;
+    out.push(alloc, branch)?;
+    Ok(out)
+}
+
+/// The server's Contact (RFC 3261 §8.1.1.8).
+fn contact_text(alloc: Global, sip: Addr) -> Result<Text, NoMemory>
+    ensures { IfOk result (λ t. t ≡ contact_text sip) }
+{
+    let mut out = Text::of(alloc, b"<sip:")?;
+    add_addr(alloc, &mut out, sip)?;
+    out.push(alloc, b">")?;
+    Ok(out)
+}
+
+/// The hops that are left, written (RFC 3261 §16.6).
+fn hops_text(alloc: Global, invite: &Msg) -> Result<Text, NoMemory>
+    ensures { IfOk result (λ t. t ≡ decimal (hops_left (heard true invite.now).hops)) }
+{
+    let mut out = Text::new();
+    add_number(
+        alloc,
+        &mut out,
+        hops_left(first_of(invite.lines(), b"Max-Forwards")),
+    )?;
+    Ok(out)
+}
+
+fn hops_left(value: Option<&[u8]>) -> u64
+    ensures { result ≡ hops_left (hops_in (option_copied value.entry)) }
+{
+    match value {
+        None => 69,
+        Some(value) => match number_up_to(255, value) {
+            None => 69,
+            Some(hops) => hops.saturating_sub(1),
+        },
+    }
+}
+
+/// The 100 to an INVITE (RFC 3261 §8.2.6.1): Via, From, To, Call-ID and CSeq as received.
+///
+/// # Errors
+///
+/// Want of memory alone.
+pub fn trying(alloc: Global, invite: &Msg) -> Result<Msg, NoMemory>
+    ensures message { IfOk result (λ m. m ≡ trying (heard true invite.now)) }
+{
+    reply_with(alloc, 100, b"Trying", invite.lines())
+}
+
+/// The Request-URI of a request.
+pub fn request_uri(start: &Start) -> &[u8]
+    ensures uri { result.now ≡ request_uri start.now }
+{
+    match start {
+        Start::Request { method: _, uri } => uri.bytes(),
+        Start::Status { code: _, phrase: _ } => b"",
+    }
+}
+
+/// Whether the sender asks that the identity be hidden (RFC 3323 §4.2, RFC 3325 §9.3).
+fn is_hiding(invite: &Msg) -> bool
+    ensures { result ≡ is_hiding (heard true invite.now).wants }
+{
+    let wants = wants(invite);
+    wants.id || wants.user || wants.header
+}
+
+/// To of a request.
+fn to_value(invite: &Msg) -> Option<&[u8]>
+    ensures { option_copied result ≡ (heard true invite.now).to }
+{
+    match invite.start() {
+        Start::Request { method: _, uri: _ } => first_of(invite.lines(), b"To"),
+        Start::Status { code: _, phrase: _ } => None,
+    }
+}
+
+/// The display and the URI of a name-addr, as they were read.
+fn without_parameters(alloc: Global, name: NameAddr) -> Result<Text, NoMemory>
+    ensures { IfOk result (λ t. t ≡ to_text (Some name)) }
+{
+    let NameAddr {
+        display,
+        uri,
+        params: _,
+    } = name;
+    let alone = NameAddr {
+        display,
+        uri,
+        params: List::new(),
+    };
+    print_name_addr(alloc, &alone)
+}
+
+fn to_text(alloc: Global, value: Option<&[u8]>) -> Result<Text, NoMemory>
+    ensures { IfOk result (λ t. t ≡ to_text (read_by (option_copied value.entry))) }
+{
+    match value {
+        None => Ok(Text::new()),
+        Some(value) => match read_name_addr(alloc, value) {
+            Ok(name) => without_parameters(alloc, name),
+            Err(LexFault::Malformed { at: _ }) => Ok(Text::new()),
+            Err(LexFault::NoMemory) => Err(NoMemory),
+        },
+    }
+}
+
+/// Adds a header line.
+#[tactic(auto, unfolding(crate::specs::Openings::line))]
+fn add_line(
+    alloc: Global,
+    out: &mut List<(Text, Text)>,
+    name: &[u8],
+    value: Text,
+) -> Result<(), NoMemory>
+    ensures { OnOk result (out.new ≡ out.old ++ line name.now value) }
+{
+    let name = Text::of(alloc, name)?;
+    out.push(alloc, (name, value))?;
+    Ok(())
+}
+
+fn add_via(
+    alloc: Global,
+    out: &mut List<(Text, Text)>,
+    sip: Addr,
+    branch: &[u8],
+) -> Result<(), NoMemory>
+    ensures { OnOk result (out.new ≡ out.old ++ line (codes "Via") (via_text sip branch.now)) }
+{
+    let via = via_text(alloc, sip, branch)?;
+    add_line(alloc, out, b"Via", via)
+}
+
+fn add_hops(alloc: Global, out: &mut List<(Text, Text)>, invite: &Msg) -> Result<(), NoMemory>
+    ensures { OnOk result (out.new ≡ out.old ++ line (codes "Max-Forwards") (decimal (hops_left (heard true invite.now).hops))) }
+{
+    let hops = hops_text(alloc, invite)?;
+    add_line(alloc, out, b"Max-Forwards", hops)
+}
+
+fn add_from(
+    alloc: Global,
+    out: &mut List<(Text, Text)>,
+    tag: &[u8],
+    invite: &Msg,
+) -> Result<(), NoMemory>
+    ensures { OnOk result (out.new ≡ out.old ++ line (codes "From") (attempt_from (is_hiding (heard true invite.now).wants) tag.now invite.now.lines)) }
+{
+    let from = attempt_from(alloc, invite, is_hiding(invite), tag)?;
+    add_line(alloc, out, b"From", from)
+}
+
+fn add_to(alloc: Global, out: &mut List<(Text, Text)>, invite: &Msg) -> Result<(), NoMemory>
+    ensures { OnOk result (out.new ≡ out.old ++ line (codes "To") (to_text (read_by (heard true invite.now).to))) }
+{
+    let to = to_text(alloc, to_value(invite))?;
+    add_line(alloc, out, b"To", to)
+}
+
+fn add_contact(alloc: Global, out: &mut List<(Text, Text)>, sip: Addr) -> Result<(), NoMemory>
+    ensures { OnOk result (out.new ≡ out.old ++ line (codes "Contact") (contact_text sip)) }
+{
+    let contact = contact_text(alloc, sip)?;
+    add_line(alloc, out, b"Contact", contact)
+}
+
+/// Adds a line of these bytes.
+fn add_bytes(
+    alloc: Global,
+    out: &mut List<(Text, Text)>,
+    name: &[u8],
+    value: &[u8],
+) -> Result<(), NoMemory>
+    ensures { OnOk result (out.new ≡ out.old ++ line name.now value.now) }
+{
+    let value = Text::of(alloc, value)?;
+    add_line(alloc, out, name, value)
+}
+
+/// Adds Via, Max-Forwards and From.
+fn add_sender(
+    alloc: Global,
+    out: &mut List<(Text, Text)>,
+    sip: Addr,
+    token: &[u8],
+    drawn: u64,
+    invite: &Msg,
+) -> Result<(), NoMemory>
+    requires { drawn + 4 < 2 ^ 64 }
+    ensures { OnOk result (out.new ≡ out.old ++ sender_lines sip token.now drawn (heard true invite.now)) }
+{
+    let branch = drawn_text(alloc, token, drawn + 4)?;
+    let tag = drawn_text(alloc, token, drawn + 3)?;
+    add_via(alloc, out, sip, branch.bytes())?;
+    add_hops(alloc, out, invite)?;
+    add_from(alloc, out, tag.bytes(), invite)?;
+    Ok(())
+}
+
+/// Adds To, Call-ID, CSeq and Contact.
+fn add_dialog(
+    alloc: Global,
+    out: &mut List<(Text, Text)>,
+    sip: Addr,
+    token: &[u8],
+    drawn: u64,
+    invite: &Msg,
+) -> Result<(), NoMemory>
+    requires { drawn + 4 < 2 ^ 64 }
+    ensures { OnOk result (out.new ≡ out.old ++ dialog_lines sip token.now drawn (heard true invite.now)) }
+{
+    let call_id = drawn_text(alloc, token, drawn + 2)?;
+    add_to(alloc, out, invite)?;
+    add_line(alloc, out, b"Call-ID", call_id)?;
+    add_bytes(alloc, out, b"CSeq", b"1 INVITE")?;
+    add_contact(alloc, out, sip)?;
+    Ok(())
+}
+
+/// Adds the lines that are passed on, in their order.
+fn add_passed(alloc: Global, out: &mut List<(Text, Text)>, lines: &[Line]) -> Result<(), NoMemory>
+    ensures { OnOk result (out.new ≡ out.old ++ map pair_of lines.now) }
+{
+    for line in lines {
+        let name = Text::of(alloc, line.name.bytes())?;
+        let value = Text::of(alloc, line.value.bytes())?;
+        out.push(alloc, (name, value))?;
+    }
+    Ok(())
+}
+
+/// Adds the lines that the header table passes on towards a peer of this trust.
+fn add_shown(
+    alloc: Global,
+    out: &mut List<(Text, Text)>,
+    to_trusted: bool,
+    invite: &Msg,
+) -> Result<(), NoMemory>
+    ensures { OnOk result (out.new ≡ out.old ++ passed (facing (heard true invite.now)) to_trusted [] invite.now.lines) }
+{
+    let facing = Facing {
+        from_trusted: true,
+        restricted: is_hiding(invite),
+        present: true,
+    };
+    let lines = shown(alloc, invite, &facing, to_trusted)?;
+    add_passed(alloc, out, lines.items())?;
+    Ok(())
+}
+
+/// All lines of the first attempt's INVITE.
+fn attempt_lines(
+    alloc: Global,
+    sip: Addr,
+    token: &[u8],
+    drawn: u64,
+    to_trusted: bool,
+    invite: &Msg,
+) -> Result<List<(Text, Text)>, NoMemory>
+    requires { drawn + 4 < 2 ^ 64 }
+    ensures { IfOk result (λ ls. ls ≡ attempt_lines sip token.now drawn to_trusted (heard true invite.now)) }
+{
+    let mut out = List::new();
+    add_sender(alloc, &mut out, sip, token, drawn, invite)?;
+    add_dialog(alloc, &mut out, sip, token, drawn, invite)?;
+    add_shown(alloc, &mut out, to_trusted, invite)?;
+    add_bytes(alloc, &mut out, b"Content-Length", b"0")?;
+    Ok(out)
+}
+
+/// The INVITE of the first attempt of a call that a trusted peer opens: the server's own lines, those that it passes on to a peer of this trust, and no body. So many numbers were drawn before.
+///
+/// # Errors
+///
+/// Want of memory alone.
+pub fn attempt(
+    alloc: Global,
+    sip: Addr,
+    token: &[u8],
+    drawn: u64,
+    to_trusted: bool,
+    invite: &Msg,
+) -> Result<Msg, NoMemory>
+    requires { drawn + 4 < 2 ^ 64 }
+    ensures message { IfOk result (λ m. m ≡ attempt sip token.now drawn to_trusted (heard true invite.now)) }
+{
+    let method = Text::of(alloc, b"INVITE")?;
+    let uri = Text::of(alloc, request_uri(invite.start()))?;
+    let lines = attempt_lines(alloc, sip, token, drawn, to_trusted, invite)?;
+    Ok(Msg::of(Start::Request { method, uri }, lines, Text::new()))
+}

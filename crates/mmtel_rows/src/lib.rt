@@ -1,0 +1,15 @@
+//! Worked rows over the top call: words, files and a sink in memory, with the status and the text that come of them.
+//!
+//! What the contracts say needs no test. Here stand whole runs whose texts come from the standards and from the rules of the formats, and runs over files and sinks that fail, with memory enough, since a body that always answers want of memory meets its contract too.
+#![tactic(auto)]
+
+#[cfg(test)]
+mod devices;
+#[cfg(test)]
+mod formats;
+#[cfg(test)]
+mod openings;
+#[cfg(test)]
+mod runs;
+#[cfg(test)]
+mod words;

@@ -1,0 +1,234 @@
+//! Openings: the INVITE of a caller who asks for privacy, from a trusted peer to one that is not.
+
+use crate::runs::{check, sound};
+use std::test::Fail;
+
+/// A server with a trusted peer and one that is not.
+pub const CONFIG: &str = "sip 127.0.0.1:5060
+web 127.0.0.1:8080
+home home.example
+peer 1 127.0.0.1:5071 trusted
+peer 2 127.0.0.1:5072 untrusted
+route home.example 1
+route far.example 2
+account 1 sip:alice@home.example tel:+4930111
+account 2 sip:bob@home.example
+account 3 sip:carol@home.example
+operator sip:op@home.example
+mixer 127.0.0.1 40000
+factory sip:conf@home.example
+";
+
+/// Erin calls bob, and asks that her identity be kept private.
+pub const RESTRICTED: &str = "at 0 peer 1
+|INVITE sip:bob@far.example SIP/2.0
+|Via: SIP/2.0/UDP 127.0.0.1:5071;branch=z9hG4bKa1
+|Max-Forwards: 68
+|From: \"Erin\" <sip:erin@other.example>;tag=a
+|To: <sip:bob@far.example>
+|Call-ID: c1
+|CSeq: 7 INVITE
+|Contact: <sip:erin@127.0.0.1:5071>
+|P-Asserted-Identity: <sip:erin@other.example>
+|Privacy: id
+|Content-Length: 0
+|
+";
+
+/// The 100 to her peer, and the INVITE to his.
+pub const RESTRICTED_OFFERS: &str = "at 0 to 1
+|SIP/2.0 100 Trying
+|Via: SIP/2.0/UDP 127.0.0.1:5071;branch=z9hG4bKa1
+|From: \"Erin\" <sip:erin@other.example>;tag=a
+|To: <sip:bob@far.example>
+|Call-ID: c1
+|CSeq: 7 INVITE
+|Content-Length: 0
+|
+at 0 to 2
+|INVITE sip:bob@far.example SIP/2.0
+|Via: SIP/2.0/UDP 127.0.0.1:5060;branch=z9hG4bK0123456789abcdef-4
+|Max-Forwards: 67
+|From: \"Anonymous\" <sip:anonymous@anonymous.invalid>;tag=0123456789abcdef-3
+|To: <sip:bob@far.example>
+|Call-ID: 0123456789abcdef-2
+|CSeq: 1 INVITE
+|Contact: <sip:127.0.0.1:5060>
+|Content-Length: 0
+|
+";
+
+/// Frank calls bob, in place of Erin.
+const OTHER_CALLER: &str = "at 0 peer 1
+|INVITE sip:bob@far.example SIP/2.0
+|Via: SIP/2.0/UDP 127.0.0.1:5071;branch=z9hG4bKa1
+|Max-Forwards: 68
+|From: \"Frank\" <sip:frank@other.example>;tag=a
+|To: <sip:bob@far.example>
+|Call-ID: c1
+|CSeq: 7 INVITE
+|Contact: <sip:frank@127.0.0.1:5071>
+|P-Asserted-Identity: <sip:frank@other.example>
+|Privacy: id
+|Content-Length: 0
+|
+";
+
+/// The 100 names him, and the INVITE to the peer that is not trusted is as Erin's, byte for byte.
+const OTHER_OFFERS: &str = "at 0 to 1
+|SIP/2.0 100 Trying
+|Via: SIP/2.0/UDP 127.0.0.1:5071;branch=z9hG4bKa1
+|From: \"Frank\" <sip:frank@other.example>;tag=a
+|To: <sip:bob@far.example>
+|Call-ID: c1
+|CSeq: 7 INVITE
+|Content-Length: 0
+|
+at 0 to 2
+|INVITE sip:bob@far.example SIP/2.0
+|Via: SIP/2.0/UDP 127.0.0.1:5060;branch=z9hG4bK0123456789abcdef-4
+|Max-Forwards: 67
+|From: \"Anonymous\" <sip:anonymous@anonymous.invalid>;tag=0123456789abcdef-3
+|To: <sip:bob@far.example>
+|Call-ID: 0123456789abcdef-2
+|CSeq: 1 INVITE
+|Contact: <sip:127.0.0.1:5060>
+|Content-Length: 0
+|
+";
+
+/// An opening at 500, and then events whose forms are not built yet, one of them with a lower moment than the one before it.
+const SEVERAL: &str = "at 500 peer 1
+|INVITE sip:bob@far.example SIP/2.0
+|Via: SIP/2.0/UDP 127.0.0.1:5071;branch=z9hG4bKa1
+|Max-Forwards: 68
+|From: \"Erin\" <sip:erin@other.example>;tag=a
+|To: <sip:bob@far.example>
+|Call-ID: c1
+|CSeq: 7 INVITE
+|Contact: <sip:erin@127.0.0.1:5071>
+|P-Asserted-Identity: <sip:erin@other.example>
+|Privacy: id
+|Content-Length: 0
+|
+at 900 peer 2
+|SIP/2.0 180 Ringing
+|
+at 700 peer 1
+at 1000 peer 2
+";
+
+const SEVERAL_OFFERS: &str = "at 500 to 1
+|SIP/2.0 100 Trying
+|Via: SIP/2.0/UDP 127.0.0.1:5071;branch=z9hG4bKa1
+|From: \"Erin\" <sip:erin@other.example>;tag=a
+|To: <sip:bob@far.example>
+|Call-ID: c1
+|CSeq: 7 INVITE
+|Content-Length: 0
+|
+at 500 to 2
+|INVITE sip:bob@far.example SIP/2.0
+|Via: SIP/2.0/UDP 127.0.0.1:5060;branch=z9hG4bK0123456789abcdef-4
+|Max-Forwards: 67
+|From: \"Anonymous\" <sip:anonymous@anonymous.invalid>;tag=0123456789abcdef-3
+|To: <sip:bob@far.example>
+|Call-ID: 0123456789abcdef-2
+|CSeq: 1 INVITE
+|Contact: <sip:127.0.0.1:5060>
+|Content-Length: 0
+|
+at 900 unbuilt
+at 900 unbuilt
+at 1000 unbuilt
+";
+
+/// The same INVITE from the peer that is not trusted is of no form that is built yet.
+const UNTRUSTED: &str = "at 0 peer 2
+|INVITE sip:bob@far.example SIP/2.0
+|Via: SIP/2.0/UDP 127.0.0.1:5072;branch=z9hG4bKa1
+|Max-Forwards: 68
+|From: \"Erin\" <sip:erin@other.example>;tag=a
+|To: <sip:bob@far.example>
+|Call-ID: c1
+|CSeq: 7 INVITE
+|Contact: <sip:erin@127.0.0.1:5072>
+|P-Asserted-Identity: <sip:erin@other.example>
+|Privacy: id
+|Content-Length: 0
+|
+";
+
+/// Erin asks for no privacy: a form that is not built yet.
+const UNRESTRICTED: &str = "at 0 peer 1
+|INVITE sip:bob@far.example SIP/2.0
+|Via: SIP/2.0/UDP 127.0.0.1:5071;branch=z9hG4bKa1
+|Max-Forwards: 68
+|From: \"Erin\" <sip:erin@other.example>;tag=a
+|To: <sip:bob@far.example>
+|Call-ID: c1
+|CSeq: 7 INVITE
+|Contact: <sip:erin@127.0.0.1:5071>
+|P-Asserted-Identity: <sip:erin@other.example>
+|Content-Length: 0
+|
+";
+
+/// Erin's INVITE with fewer hops left, which are no private place: a run of another mask.
+const FEWER_HOPS: &str = "at 0 peer 1
+|INVITE sip:bob@far.example SIP/2.0
+|Via: SIP/2.0/UDP 127.0.0.1:5071;branch=z9hG4bKa1
+|Max-Forwards: 10
+|From: \"Erin\" <sip:erin@other.example>;tag=a
+|To: <sip:bob@far.example>
+|Call-ID: c1
+|CSeq: 7 INVITE
+|Contact: <sip:erin@127.0.0.1:5071>
+|P-Asserted-Identity: <sip:erin@other.example>
+|Privacy: id
+|Content-Length: 0
+|
+";
+
+/// So what the peer that is not trusted is offered differs.
+const FEWER_HOPS_OFFERS: &str = "at 0 to 1
+|SIP/2.0 100 Trying
+|Via: SIP/2.0/UDP 127.0.0.1:5071;branch=z9hG4bKa1
+|From: \"Erin\" <sip:erin@other.example>;tag=a
+|To: <sip:bob@far.example>
+|Call-ID: c1
+|CSeq: 7 INVITE
+|Content-Length: 0
+|
+at 0 to 2
+|INVITE sip:bob@far.example SIP/2.0
+|Via: SIP/2.0/UDP 127.0.0.1:5060;branch=z9hG4bK0123456789abcdef-4
+|Max-Forwards: 9
+|From: \"Anonymous\" <sip:anonymous@anonymous.invalid>;tag=0123456789abcdef-3
+|To: <sip:bob@far.example>
+|Call-ID: 0123456789abcdef-2
+|CSeq: 1 INVITE
+|Contact: <sip:127.0.0.1:5060>
+|Content-Length: 0
+|
+";
+
+/// RFC 3323 §4.1 and RFC 3325 §9.3: who asks for privacy is anonymous towards a network that is not trusted.
+#[test]
+fn restricted_openings(rt: HostRuntime) -> Result<(), Fail> {
+    let rows: &[(&str, &str)] = &[
+        (RESTRICTED, RESTRICTED_OFFERS),
+        (OTHER_CALLER, OTHER_OFFERS),
+        (SEVERAL, SEVERAL_OFFERS),
+        (UNTRUSTED, "at 0 unbuilt\n"),
+        (UNRESTRICTED, "at 0 unbuilt\n"),
+        (FEWER_HOPS, FEWER_HOPS_OFFERS),
+        ("", ""),
+    ];
+    for (script, offers) in rows {
+        let files = [("server.cfg", CONFIG), ("run.script", *script)];
+        let words = "replay|server.cfg|run.script|--token|0123456789abcdef";
+        check(&rt, rt.alloc(), words, sound(&files), 0, offers)?;
+    }
+    Ok(())
+}

@@ -3,6 +3,7 @@ pub mod Causes
 pub mod CommandLine
 pub mod Configuration
 pub mod Directory
+pub mod Disk
 pub mod Drafts
 pub mod Due
 pub mod Ends

@@ -1,5 +1,6 @@
 //! The files of the system and the standard output: the edge, of which no clause says what it holds.
-ghost use Rattle.std.specs.Prelude.{None};
+ghost use Rattle.std.specs.Prelude.{◌≡◌, None};
+ghost use Rattle.mmtel_cli.specs.Disk.{file_faults, sink_faults};
 
 use crate::files::{FileFault, Files};
 use crate::sinks::Sink;
@@ -21,8 +22,10 @@ pub struct DiskFiles<'a> {
 }
 
 impl<'a> DiskFiles<'a> {
-    /// The files of this system.
-    pub fn new(rt: &'a HostRuntime) -> DiskFiles<'a> {
+    /// The files of this system, of which none failed so far.
+    pub fn new(rt: &'a HostRuntime) -> DiskFiles<'a>
+        ensures fresh { file_faults result ≡ 0 }
+    {
         DiskFiles { rt, faults: 0 }
     }
 
@@ -53,7 +56,7 @@ impl<'a> DiskFiles<'a> {
 impl Files for DiskFiles<'_> {
     ghost told = { λ _. None };
 
-    ghost faults = { λ d. d.faults };
+    ghost faults = { file_faults };
 
     fn read(&mut self, alloc: Global, name: &[u8]) -> Result<Text, FileFault> {
         match self.read_text(alloc, name) {
@@ -77,8 +80,10 @@ pub struct OutSink<'a> {
 }
 
 impl<'a> OutSink<'a> {
-    /// The standard output of this program.
-    pub fn new(rt: &'a HostRuntime) -> OutSink<'a> {
+    /// The standard output of this program, of which no write failed so far.
+    pub fn new(rt: &'a HostRuntime) -> OutSink<'a>
+        ensures fresh { sink_faults result ≡ 0 }
+    {
         OutSink { rt, faults: 0 }
     }
 }
@@ -86,7 +91,7 @@ impl<'a> OutSink<'a> {
 impl Sink for OutSink<'_> {
     ghost written = { λ _. None };
 
-    ghost faults = { λ s. s.faults };
+    ghost faults = { sink_faults };
 
     fn write(&mut self, bytes: &[u8]) -> Result<usize, Failed> {
         if bytes.is_empty() {

@@ -5,6 +5,7 @@ pub mod ParamLaws
 pub mod ParamsLoop
 pub mod PhoneLaws
 pub mod PrintLaws
+pub mod SameIdentityLaws
 pub mod SipLaws
 pub mod UriContract
 pub mod UriLaws

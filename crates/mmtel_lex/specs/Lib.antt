@@ -2,3 +2,4 @@ pub mod Grammar
 pub mod Identity
 pub mod Outcome
 pub mod Reading
+pub mod SameIdentity

@@ -32,3 +32,8 @@ IsUriPlaceIn len NoMemory = Unit {0}
 abbrev pub IsPlaceIn : ℕ → LexFault → Type 0
 IsPlaceIn len (lex.Malformed at) = at ≤ len
 IsPlaceIn len lex.NoMemory = Unit {0}
+
+-- the bytes are at fault, and not memory
+abbrev pub IsOfBytes : LexFault → Type 0
+IsOfBytes (lex.Malformed at) = Unit {0}
+IsOfBytes lex.NoMemory = ⊥

@@ -5,6 +5,7 @@ ghost use Rattle.std.specs.Str.{str_to_ascii_lowercase};
 ghost use Rattle.mmtel_scan.specs.Classes.{IsAll};
 ghost use Rattle.mmtel_scan.specs.declared.classes.Class.TheVariants.{Digit};
 ghost use Rattle.mmtel_lex.specs.Identity.{is_mark, reduced, is_user_phone, has_user_phone, IsPhone, IsSameIdentity, host_of};
+ghost use Rattle.mmtel_lex.specs.SameIdentity.{is_same_identity};
 
 use crate::values::{Param, Params, Uri};
 use mmtel_scan::{Class, Text, is_all};
@@ -124,10 +125,7 @@ fn is_phone(user: &Option<Text>, params: &Params, number: &[u8]) -> bool
     }
 }
 
-/// Whether the URIs are of one identity. It takes no memory.
-///
-/// Two sip URIs are where their users are equal byte for byte and their hosts without case. Two tel URIs are where their numbers are equal without visual separators. A sip and a tel URI are where the sip URI's user is `+` and digits, one of its parameters is `user=phone`, and its user is the number without visual separators.
-pub fn same_identity(a: &Uri, b: &Uri) -> bool
+fn are_same(a: &Uri, b: &Uri) -> bool
     ensures { IsTrue result ↔ IsSameIdentity a.now b.now }
 {
     match a {
@@ -152,4 +150,14 @@ pub fn same_identity(a: &Uri, b: &Uri) -> bool
             } => same_number(number.bytes(), other_number.bytes()),
         },
     }
+}
+
+/// Whether the URIs are of one identity. It takes no memory.
+///
+/// Two sip URIs are where their users are equal byte for byte and their hosts without case. Two tel URIs are where their numbers are equal without visual separators. A sip and a tel URI are where the sip URI's user is `+` and digits, one of its parameters is `user=phone`, and its user is the number without visual separators.
+pub fn same_identity(a: &Uri, b: &Uri) -> bool
+    ensures relation { IsTrue result ↔ IsSameIdentity a.now b.now }
+    ensures tested { result ≡ is_same_identity a.now b.now }
+{
+    are_same(a, b)
 }

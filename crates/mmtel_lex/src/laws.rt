@@ -1,8 +1,9 @@
 //! Laws of the definitions that the readers' contracts cite: each is the contract of a function that does nothing.
-ghost use Rattle.std.specs.Prelude.{◌≡◌, ◌↔◌, ℕ, List, Option};
+ghost use Rattle.std.specs.Prelude.{◌≡◌, ◌↔◌, ℕ, List, Option, true};
 ghost use Rattle.std.specs.Str.{str_to_ascii_lowercase};
 ghost use Rattle.mmtel_lex.specs.Grammar.{IsParams, IsUri, IsForeign, IsNameAddr};
 ghost use Rattle.mmtel_lex.specs.Identity.{reduced, has_user_phone, IsSameIdentity};
+ghost use Rattle.mmtel_lex.specs.SameIdentity.{is_same_identity};
 ghost use Rattle.mmtel_lex.specs.declared.values.NameAddr.{NameAddr};
 ghost use Rattle.mmtel_lex.specs.declared.values.Param.{Param};
 ghost use Rattle.mmtel_lex.specs.declared.values.Uri.{Uri};
@@ -28,6 +29,11 @@ pub fn name_addrs_are_unique()
 pub fn identity_is_mutual()
     ensures reflexive { (u : Uri) → IsSameIdentity u u }
     ensures symmetric { (u v : Uri) → IsSameIdentity u v → IsSameIdentity v u }
+{}
+
+/// The test of identity is true exactly of the URIs that are of one identity.
+pub fn identity_is_tested()
+    ensures exact { (u v : Uri) → is_same_identity u v ≡ true ↔ IsSameIdentity u v }
 {}
 
 /// Between sip URIs identity does not depend on the port, the parameters, the header part and the case of the host.

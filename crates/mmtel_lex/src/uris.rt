@@ -6,7 +6,7 @@ ghost use Rattle.mmtel_scan.specs.Classes.{in_class};
 ghost use Rattle.std.specs.Str.Parse.{digits_value};
 ghost use Rattle.mmtel_scan.specs.Classes.{IsAll};
 ghost use Rattle.mmtel_lex.specs.Grammar.{IsUri, IsForeign, IsNoUri};
-ghost use Rattle.mmtel_lex.specs.Outcome.{IsUnlessMemory, IsMalformedUri, IsUriPlaceIn};
+ghost use Rattle.mmtel_lex.specs.Outcome.{IsUnlessMemory, IsMalformedUri, IsOfBytes, IsUriPlaceIn};
 ghost use Rattle.mmtel_lex.specs.Reading.{Gives, user_at, host_at, port_number, port_at, headers_at, headers_of, sip_of, scheme_of, sign_of, number_at, tel_of, uri_of, Answers, Places};
 ghost use Rattle.std.specs.Str.{str_eq_ignore_ascii_case};
 ghost use Rattle.std.specs.Option.{option_map};
@@ -73,6 +73,8 @@ fn port_number(digits: &[u8]) -> Option<u16>
 #[tactic(auto, unfolding(crate::specs::Reading::port_at))]
 pub fn port(bytes: &[u8]) -> Result<(Option<u16>, &[u8]), LexFault>
     ensures exact { Gives (λ x. (x.0, x.1.now)) result (port_at bytes.now) }
+    // Memory is never the fault.
+    ensures of_bytes { IfErr result (λ e. IsOfBytes e) }
 {
     match skip_byte(b':', bytes) {
         None => Ok((None, bytes)),

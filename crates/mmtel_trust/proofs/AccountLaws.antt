@@ -5,7 +5,7 @@ use Rattle.mmtel_types.specs.declared.numbers.Account.{Account}
 use Rattle.mmtel_lex.specs.declared.values.Uri.{Uri}
 use Rattle.mmtel_trust.specs.declared.accounts.AccountIdentity.{AccountIdentity}
 use Rattle.mmtel_trust.specs.Accounts.{is_of, has_identity, account_of, with_identity}
-use Rattle.mmtel_trust.proofs.IdentityLaws.{identity_self}
+use Rattle.mmtel_lex.proofs.SameIdentityLaws.{identity_self}
 
 or_false : (a b : Bool) → (a || b) ≡ false → (a ≡ false) × (b ≡ false)
 or_false true b e = absurd cc

@@ -1,5 +1,4 @@
 pub mod AccountLaws
-pub mod IdentityLaws
 pub mod PeerLaws
 pub mod WordLaws
 pub mod Absorbed

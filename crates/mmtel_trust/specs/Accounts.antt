@@ -4,7 +4,7 @@ use Rattle.std.specs.Option.{option_map}
 use Rattle.std.specs.List.{list_any}
 use Rattle.mmtel_types.specs.declared.numbers.Account.{Account}
 use Rattle.mmtel_lex.specs.declared.values.Uri.{Uri}
-use Rattle.mmtel_trust.specs.SameIdentity.{is_same_identity}
+use Rattle.mmtel_lex.specs.SameIdentity.{is_same_identity}
 use Rattle.mmtel_trust.specs.declared.accounts.AccountIdentity.{AccountIdentity}
 use Rattle.mmtel_trust.specs.declared.faults.TableFault.{TableFault}
 use Rattle.mmtel_trust.specs.declared.faults.TableFault.TheVariants.{Taken}

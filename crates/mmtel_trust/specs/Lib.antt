@@ -9,6 +9,5 @@ pub mod Members
 pub mod Passed
 pub mod Peers
 pub mod Privacy
-pub mod SameIdentity
 pub mod Shown
 pub mod Written

@@ -3,7 +3,6 @@ ghost use Rattle.std.specs.Prelude.{◌≡◌, List, [], Some, OnOk, OnErr, IfSo
 ghost use Rattle.mmtel_lex.specs.declared.values.Uri.{Uri};
 ghost use Rattle.mmtel_trust.specs.Accounts.{has_identity, account_of, with_identity, identity_fault};
 ghost use Rattle.mmtel_trust.specs.Faults.{Meets};
-ghost use Rattle.mmtel_trust.specs.SameIdentity.{is_same_identity};
 
 use crate::faults::TableFault;
 use mmtel_lex::{List, Uri, same_identity};
@@ -35,24 +34,19 @@ impl Model for Accounts {
     ghost view = { λ accounts. accounts.identities };
 }
 
-/// Whether the URIs are of one identity.
-fn is_same(a: &Uri, b: &Uri) -> bool
-    ensures { result ≡ is_same_identity a.now b.now }
-{
-    same_identity(a, b)
-}
-
 fn has_identity(identities: &[AccountIdentity], u: &Uri) -> bool
     ensures { result ≡ has_identity u.now identities.now }
 {
-    identities.iter().any(|identity| is_same(&identity.uri, u))
+    identities
+        .iter()
+        .any(|identity| same_identity(&identity.uri, u))
 }
 
 fn account_of(identities: &[AccountIdentity], u: &Uri) -> Option<Account>
     ensures { result ≡ account_of identities.now u.now }
 {
     for identity in identities {
-        if is_same(&identity.uri, u) {
+        if same_identity(&identity.uri, u) {
             return Some(identity.account);
         }
     }

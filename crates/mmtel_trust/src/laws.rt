@@ -1,7 +1,5 @@
 //! Laws of the definitions that contracts cite: each is the contract of a function that does nothing.
 ghost use Rattle.std.specs.Prelude.{◌≡◌, ◌++◌, ◌↔◌, ◌≤◌, ◌⊎◌, true, false, List, ℕ, Bool, Some, None, length, filter, codes};
-ghost use Rattle.mmtel_lex.specs.Identity.{IsSameIdentity};
-ghost use Rattle.mmtel_lex.specs.declared.values.Uri.{Uri};
 ghost use Rattle.mmtel_message.specs.Faults.{is_request};
 ghost use Rattle.mmtel_message.specs.Message.{Message, first_value, named, values_named};
 ghost use Rattle.mmtel_message.specs.declared.messages.Start.{Start};
@@ -13,15 +11,9 @@ ghost use Rattle.mmtel_trust.specs.Members.{IsIn};
 ghost use Rattle.mmtel_trust.specs.Passed.{passed, attempt_from};
 ghost use Rattle.mmtel_trust.specs.Peers.{begins_with, leads, longest};
 ghost use Rattle.mmtel_trust.specs.Privacy.{Line, wants};
-ghost use Rattle.mmtel_trust.specs.SameIdentity.{is_same_identity};
 ghost use Rattle.mmtel_trust.specs.declared.accounts.AccountIdentity.{AccountIdentity};
 ghost use Rattle.mmtel_trust.specs.declared.parties.Route.{Route};
 ghost use Rattle.mmtel_trust.specs.declared.showing.Facing.{Facing};
-
-/// The test of identity is true exactly of the URIs that are of one identity.
-pub fn identity_is_tested()
-    ensures exact { (u v : Uri) → is_same_identity u v ≡ true ↔ IsSameIdentity u v }
-{}
 
 /// A text begins with its fronts and with nothing else.
 pub fn prefix_is_a_front()

@@ -19,8 +19,8 @@ pub use faults::TableFault;
 pub use identities::{Identities, Scheme, asserted};
 pub use kinds::{Kind, kind_of};
 pub use laws::{
-    equal_masks_show_alike, hiding_decides_nothing, identity_is_tested, longest_prefix_leads,
-    masked_shows_the_same, masking_is_heard_in_the_lines, masking_is_once, masking_keeps_the_rest,
+    equal_masks_show_alike, hiding_decides_nothing, longest_prefix_leads, masked_shows_the_same,
+    masking_is_heard_in_the_lines, masking_is_once, masking_keeps_the_rest,
 };
 pub use parties::{KnownPeer, Route};
 pub use peers::PeerTable;

@@ -1,15 +1,14 @@
 //! SIP messages: what comes of the standards' examples, of damaged messages and at the limits, and the edits.
 
+use crate::tables::next_line;
 use mmtel_lex::{NoMemory, Text};
-use mmtel_message::{Msg, ReadFault, Start, read};
+use mmtel_message::{
+    Mode, Msg, ReadFault, Start, is_readable, joined_by, line_texts, param_value, read, read_cseq,
+    read_five, read_via, reply_with, values_in, values_named,
+};
 use mmtel_scan::part;
 use std::alloc::Global;
 use std::test::Fail;
-
-/// The first line of a table, and what follows it.
-fn next_line(table: &[u8]) -> (&[u8], &[u8]) {
-    part(b'\n', table).unwrap_or((table, b""))
-}
 
 /// A number in digits.
 fn add_number(alloc: Global, out: &mut Text, number: usize) -> Result<(), NoMemory> {
@@ -619,64 +618,211 @@ fn head(alloc: Global) -> Result<Text, NoMemory> {
     Ok(text)
 }
 
-/// A datagram of 16,384 bytes is read, and one of 128 header lines.
-#[test]
-fn reads_up_to_the_limits(rt: HostRuntime) -> Result<(), Fail> {
-    let mut text = head(rt.alloc())?;
-    text.push(rt.alloc(), b"\r\n")?;
-    for _ in text.bytes().len()..16384 {
-        text.push(rt.alloc(), b"x")?;
+/// Adds this many copies of a piece.
+fn add_many(alloc: Global, text: &mut Text, piece: &[u8], number: usize) -> Result<(), NoMemory> {
+    for _ in 0..number {
+        text.push(alloc, piece)?;
     }
+    Ok(())
+}
+
+/// A datagram of 16,384 bytes is read, and one of a byte more is too large.
+#[test]
+fn reads_up_to_the_limit_of_bytes(rt: HostRuntime) -> Result<(), Fail> {
+    let alloc = rt.alloc();
+    let mut text = head(alloc)?;
+    text.push(alloc, b"\r\n")?;
+    let room = 16384_usize.saturating_sub(text.bytes().len());
+    add_many(alloc, &mut text, b"x", room)?;
+    assert_eq!(rt; outcome(alloc, text.bytes())?.bytes(), b"read".as_slice());
+    text.push(alloc, b"x")?;
     assert_eq!(rt;
-        outcome(rt.alloc(), text.bytes())?.bytes(),
-        b"read".as_slice()
-    );
-    text.push(rt.alloc(), b"x")?;
-    assert_eq!(rt;
-        outcome(rt.alloc(), text.bytes())?.bytes(),
+        outcome(alloc, text.bytes())?.bytes(),
         b"too large, 513".as_slice()
     );
-    let mut text = head(rt.alloc())?;
-    for _ in 5..128 {
-        text.push(rt.alloc(), b"X: y\r\n")?;
-    }
-    let mut more = Text::of(rt.alloc(), text.bytes())?;
-    text.push(rt.alloc(), b"\r\n")?;
+    Ok(())
+}
+
+/// A datagram of 128 header lines is read, and one of a line more has too many, whatever that line is.
+#[test]
+fn reads_up_to_the_limit_of_lines(rt: HostRuntime) -> Result<(), Fail> {
+    let alloc = rt.alloc();
+    let mut text = head(alloc)?;
+    add_many(alloc, &mut text, b"X: y\r\n", 123)?;
+    let mut more = Text::of(alloc, text.bytes())?;
+    text.push(alloc, b"\r\n")?;
+    assert_eq!(rt; outcome(alloc, text.bytes())?.bytes(), b"read".as_slice());
+    more.push(alloc, b"No colon\r\n\r\n")?;
     assert_eq!(rt;
-        outcome(rt.alloc(), text.bytes())?.bytes(),
-        b"read".as_slice()
-    );
-    more.push(rt.alloc(), b"No colon\r\n\r\n")?;
-    assert_eq!(rt;
-        outcome(rt.alloc(), more.bytes())?.bytes(),
+        outcome(alloc, more.bytes())?.bytes(),
         b"too many, 513".as_slice()
     );
     Ok(())
 }
 
-/// A message that is made and edited, and its text.
+/// The value of RFC 3261 §20.42 with a branch.
 #[test]
-fn edits_messages(rt: HostRuntime) -> Result<(), Fail> {
-    let alloc = rt.alloc();
-    let method = Text::of(alloc, b"REFER")?;
-    let uri = Text::of(alloc, b"sip:b@h")?;
-    let mut message = Msg::new(Start::Request { method, uri }, Text::of(alloc, b"body")?);
-    message.add(alloc, b"Route", Text::of(alloc, b"<sip:r@h>, <sip:s@h>")?)?;
-    message.add(alloc, b"Subject", Text::of(alloc, b"one")?)?;
-    message.add(alloc, b"route", Text::of(alloc, b"<sip:t@h>")?)?;
-    message.add(alloc, b"subject", Text::of(alloc, b"two")?)?;
-    let routes = message.values(alloc, b"ROUTE")?;
-    assert_eq!(rt; routes.items().len(), 3);
+fn reads_a_via(rt: HostRuntime) -> Result<(), Fail> {
+    let via = read_via(
+        rt.alloc(),
+        b"SIP/2.0/UDP erlang.bell-telephone.com:5060;branch=z9hG4bK87asdks7",
+    )?;
     assert_eq!(rt;
-        message.first(b"Route").unwrap_or(b""),
-        b"<sip:r@h>, <sip:s@h>".as_slice()
+        via.sent_by.bytes(),
+        b"erlang.bell-telephone.com:5060".as_slice()
     );
+    assert_eq!(rt; via.port, Some(5060));
+    let branch = param_value(via.params.items(), b"Branch");
+    assert_eq!(rt; branch.unwrap_or(b""), b"z9hG4bK87asdks7".as_slice());
+    Ok(())
+}
+
+/// The value of RFC 3261 §20.16.
+#[test]
+fn reads_a_cseq(rt: HostRuntime) -> Result<(), Fail> {
+    let cseq = read_cseq(rt.alloc(), b"4711 INVITE")?;
+    assert_eq!(rt; cseq.number, 4711);
+    assert_eq!(rt; cseq.method.bytes(), b"INVITE".as_slice());
+    Ok(())
+}
+
+/// A name-addr after RFC 3261 §20.10, and one whose quotes are not closed.
+#[test]
+fn tells_name_addrs(rt: HostRuntime) -> Result<(), Fail> {
+    let readable = is_readable(
+        rt.alloc(),
+        b"\"Mr. Watson\" <sip:watson@bell-telephone.com>",
+    )?;
+    assert!(rt; readable);
+    let readable = is_readable(rt.alloc(), b"\"Mr. Watson <sip:watson@bell-telephone.com>")?;
+    assert!(rt; !readable);
+    Ok(())
+}
+
+/// The lines that each request has.
+const FIVE: &[u8] = b"Via: SIP/2.0/UDP a.example;branch=z9hG4bKa1
+From: <sip:a@h>;tag=a
+To: <sip:b@h>
+Call-ID: c1
+CSeq: 1 OPTIONS
+";
+
+/// A request of so many lines of a table.
+fn of_lines(alloc: Global, table: &[u8], number: usize) -> Result<Msg, NoMemory> {
+    let method = Text::of(alloc, b"OPTIONS")?;
+    let uri = Text::of(alloc, b"sip:b@h")?;
+    let mut message = Msg::new(Start::Request { method, uri }, Text::new());
+    let mut rows = table;
+    for _ in 0..number {
+        let (row, rest) = next_line(rows);
+        rows = rest;
+        let (name, value) = part(b':', row).unwrap_or((row, b""));
+        let value = value.strip_prefix(b" ").unwrap_or(value);
+        message.add(alloc, name, Text::of(alloc, value)?)?;
+    }
+    Ok(message)
+}
+
+#[test]
+fn reads_the_five_fields(rt: HostRuntime) -> Result<(), Fail> {
+    let message = of_lines(rt.alloc(), FIVE, 5)?;
+    let five = read_five(rt.alloc(), message.lines())?;
+    assert_eq!(rt; five.call_id.bytes(), b"c1".as_slice());
+    assert_eq!(rt; five.to.uri.bytes(), b"sip:b@h".as_slice());
+    Ok(())
+}
+
+/// The text of the response to the request.
+fn busy_text(alloc: Global) -> Result<Text, NoMemory> {
+    let message = of_lines(alloc, FIVE, 5)?;
+    let reply = reply_with(alloc, 486, b"Busy Here", message.lines())?;
+    reply.text(alloc)
+}
+
+/// A response repeats the lines of the request.
+#[test]
+fn answers_requests(rt: HostRuntime) -> Result<(), Fail> {
+    let wanted =
+        b"SIP/2.0 486 Busy Here\r\nVia: SIP/2.0/UDP a.example;branch=z9hG4bKa1\r\nFrom: <sip:a@h>;tag=a\r\nTo: <sip:b@h>\r\nCall-ID: c1\r\nCSeq: 1 OPTIONS\r\nContent-Length: 0\r\n\r\n";
+    assert_eq!(rt; busy_text(rt.alloc())?.bytes(), wanted.as_slice());
+    Ok(())
+}
+
+/// The values of a text, joined.
+fn joined_values(alloc: Global, bytes: &[u8]) -> Result<Text, NoMemory> {
+    let values = values_in(alloc, Mode::Plain, bytes)?;
+    joined_by(alloc, b"|", values.items())
+}
+
+/// Two Route lines with three values, and two Subject lines.
+const ROUTED: &[u8] = b"Route: <sip:r@h>, <sip:s@h>
+Subject: one
+route: <sip:t@h>
+subject: two
+";
+
+/// The values of its lines, joined.
+fn joined_routes(alloc: Global) -> Result<Text, NoMemory> {
+    let message = of_lines(alloc, ROUTED, 4)?;
+    let values = values_named(alloc, Mode::Plain, message.lines(), b"ROUTE")?;
+    joined_by(alloc, b"|", values.items())
+}
+
+/// The texts of its lines, joined.
+fn joined_texts(alloc: Global) -> Result<Text, NoMemory> {
+    let message = of_lines(alloc, ROUTED, 4)?;
+    let texts = line_texts(alloc, message.lines(), b"ROUTE")?;
+    joined_by(alloc, b"|", texts.items())
+}
+
+/// The values of a text and of lines, parted and joined.
+#[test]
+fn parts_values(rt: HostRuntime) -> Result<(), Fail> {
+    assert_eq!(rt;
+        joined_values(rt.alloc(), b"<sip:a@h,x> , \"b,c\" <sip:d@h>")?.bytes(),
+        b"<sip:a@h,x>|\"b,c\" <sip:d@h>".as_slice()
+    );
+    assert_eq!(rt;
+        joined_routes(rt.alloc())?.bytes(),
+        b"<sip:r@h>|<sip:s@h>|<sip:t@h>".as_slice()
+    );
+    assert_eq!(rt;
+        joined_texts(rt.alloc())?.bytes(),
+        b"<sip:r@h>, <sip:s@h>|<sip:t@h>".as_slice()
+    );
+    Ok(())
+}
+
+/// The message that is edited.
+fn edited(alloc: Global) -> Result<Msg, NoMemory> {
+    let mut message = of_lines(alloc, ROUTED, 4)?;
     message.set(alloc, b"Subject", Text::of(alloc, b"three")?)?;
     message.set(alloc, b"Event", Text::of(alloc, b"refer")?)?;
     message.drop_all(b"Route");
     message.push_front(alloc, b"Via", Text::of(alloc, b"SIP/2.0/UDP a")?)?;
+    Ok(message)
+}
+
+/// Its text.
+fn edited_text(alloc: Global) -> Result<Text, NoMemory> {
+    edited(alloc)?.text(alloc)
+}
+
+/// A message that is made and edited, and its text.
+#[test]
+fn edits_messages(rt: HostRuntime) -> Result<(), Fail> {
     let wanted =
-        b"REFER sip:b@h SIP/2.0\r\nVia: SIP/2.0/UDP a\r\nSubject: three\r\nEvent: refer\r\n\r\nbody";
-    assert_eq!(rt; message.text(alloc)?.bytes(), wanted.as_slice());
+        b"OPTIONS sip:b@h SIP/2.0\r\nVia: SIP/2.0/UDP a\r\nSubject: three\r\nEvent: refer\r\n\r\n";
+    assert_eq!(rt; edited_text(rt.alloc())?.bytes(), wanted.as_slice());
+    Ok(())
+}
+
+#[test]
+fn finds_values(rt: HostRuntime) -> Result<(), Fail> {
+    let message = of_lines(rt.alloc(), ROUTED, 4)?;
+    let routes = message.values(rt.alloc(), b"ROUTE")?;
+    assert_eq!(rt; routes.items().len(), 3);
+    let first = message.first(b"ROUTE").unwrap_or(b"");
+    assert_eq!(rt; first, b"<sip:r@h>, <sip:s@h>".as_slice());
     Ok(())
 }

@@ -1,11 +1,13 @@
 //! Peers and routes, accounts, the words of Privacy, asserted identities and the header table.
 
+use crate::tables::{next_line, numbered};
 use mmtel_lex::{NoMemory, Text, Uri, print_uri, read_uri};
 use mmtel_message::{Msg, Start};
+use mmtel_scan::part;
 use mmtel_trust::{
     Accounts, Addr, Facing, PeerTable, TableFault, asserted, attempt_from, shown, wants,
 };
-use mmtel_types::{Account, Peer};
+use mmtel_types::{Account, Peer, PrivacySet};
 use std::alloc::Global;
 use std::test::Fail;
 
@@ -16,46 +18,70 @@ fn addr(last: u8) -> Addr {
     }
 }
 
+/// The names of routes, each behind the number of its peer.
+const TABLE: &[u8] = b"1 home.example
+2 +4930
+1 +49
+3 *
+";
+
 fn table(alloc: Global) -> Result<PeerTable, TableFault> {
     let mut table = PeerTable::new();
     table.add_peer(alloc, Peer(1), addr(1), true)?;
     table.add_peer(alloc, Peer(2), addr(2), false)?;
     table.add_peer(alloc, Peer(3), addr(3), false)?;
-    let routes: [(&[u8], u16); 4] = [(b"home.example", 1), (b"+4930", 2), (b"+49", 1), (b"*", 3)];
-    for (name, peer) in routes {
+    let mut rows = TABLE;
+    for _ in 0..4 {
+        let (row, rest) = next_line(rows);
+        rows = rest;
+        let (peer, name) = numbered(row);
         let name = Text::of(alloc, name)?;
         table.add_route(alloc, name, Peer(peer))?;
     }
     Ok(table)
 }
 
-/// Hosts without case, the longest prefix of a number, and all the rest.
+/// URIs, each behind the number of the peer that it leads to: hosts without case, the longest prefix of a number, and all the rest.
+const ROUTES: &[u8] = b"1 sip:bob@home.example
+1 sip:bob@HOME.example:5070;transport=udp
+3 sip:bob@www.home.example
+1 tel:+49-89-1234
+2 tel:+49(30)1234
+3 tel:+1-201-555-0123
+3 tel:7042;phone-context=home.example
+";
+
 #[test]
 fn routes(rt: HostRuntime) -> Result<(), Fail> {
     let table = table(rt.alloc())?;
-    let rows: [(&[u8], u16); 7] = [
-        (b"sip:bob@home.example", 1),
-        (b"sip:bob@HOME.example:5070;transport=udp", 1),
-        (b"sip:bob@www.home.example", 3),
-        (b"tel:+49-89-1234", 1),
-        (b"tel:+49(30)1234", 2),
-        (b"tel:+1-201-555-0123", 3),
-        (b"tel:7042;phone-context=home.example", 3),
-    ];
-    for (text, peer) in rows {
+    let mut rows = ROUTES;
+    for _ in 0..7 {
+        let (row, rest) = next_line(rows);
+        rows = rest;
+        let (peer, text) = numbered(row);
         let uri = read_uri(rt.alloc(), text)?;
         assert_eq!(rt; table.route(&uri), Some(Peer(peer)));
     }
+    assert!(rt; rows.is_empty());
     Ok(())
 }
 
 #[test]
 fn finds_peers(rt: HostRuntime) -> Result<(), Fail> {
-    let mut table = table(rt.alloc())?;
+    let table = table(rt.alloc())?;
     assert_eq!(rt; table.find(addr(2)), Some(Peer(2)));
     assert_eq!(rt; table.find(addr(4)), None);
-    assert!(rt; table.trusted(Peer(1)) && !table.trusted(Peer(2)) && !table.trusted(Peer(4)));
-    assert!(rt; table.addr(Peer(3)).is_some() && table.addr(Peer(4)).is_none());
+    assert!(rt; table.trusted(Peer(1)));
+    assert!(rt; !table.trusted(Peer(2)));
+    assert!(rt; !table.trusted(Peer(4)));
+    assert!(rt; table.addr(Peer(3)).is_some());
+    assert!(rt; table.addr(Peer(4)).is_none());
+    Ok(())
+}
+
+#[test]
+fn refuses_peers_and_routes(rt: HostRuntime) -> Result<(), Fail> {
+    let mut table = table(rt.alloc())?;
     assert_eq!(rt;
         table.add_peer(rt.alloc(), Peer(4), addr(1), true),
         Err(TableFault::Taken)
@@ -109,50 +135,51 @@ fn finds_accounts(rt: HostRuntime) -> Result<(), Fail> {
     Ok(())
 }
 
-/// The INVITE of RFC 3325 §10.2 between the proxies, which trust one another, with some more lines.
+/// Lines of the INVITE of RFC 3325 §10.2 between the proxies, which trust one another, and some more.
+const LINES: &[u8] = br#"From: "Cullen Jennings" <sip:fluffy@cisco.com>;tag=9802748
+P-Asserted-Identity: "Cullen Jennings" <sip:fluffy@cisco.com>
+P-Asserted-Identity: tel:+14085264000
+Privacy: Header; none
+Subject: lunch
+Require: histinfo
+Require: 100rel
+P-Early-Media: supported
+Reason: SIP;cause=200
+"#;
+
+/// The message of these lines.
 fn message(alloc: Global) -> Result<Msg, NoMemory> {
-    let lines: [(&[u8], &[u8]); 9] = [
-        (
-            b"From",
-            b"\"Cullen Jennings\" <sip:fluffy@cisco.com>;tag=9802748",
-        ),
-        (
-            b"P-Asserted-Identity",
-            b"\"Cullen Jennings\" <sip:fluffy@cisco.com>",
-        ),
-        (b"P-Asserted-Identity", b"tel:+14085264000"),
-        (b"Privacy", b"Header; none"),
-        (b"Subject", b"lunch"),
-        (b"Require", b"histinfo"),
-        (b"Require", b"100rel"),
-        (b"P-Early-Media", b"supported"),
-        (b"Reason", b"SIP;cause=200"),
-    ];
     let start = Start::Request {
         method: Text::of(alloc, b"INVITE")?,
         uri: Text::of(alloc, b"sip:+14085551212@cisco.com")?,
     };
     let mut m = Msg::new(start, Text::new());
-    for (name, value) in lines {
-        let value = Text::of(alloc, value)?;
-        m.add(alloc, name, value)?;
+    let mut rows = LINES;
+    for _ in 0..9 {
+        let (row, rest) = next_line(rows);
+        rows = rest;
+        let (name, value) = part(b':', row).unwrap_or((row, b""));
+        let value = value.strip_prefix(b" ").unwrap_or(value);
+        m.add(alloc, name, Text::of(alloc, value)?)?;
     }
     Ok(m)
 }
 
 #[test]
-fn tells_words_and_identities(rt: HostRuntime) -> Result<(), Fail> {
+fn tells_words(rt: HostRuntime) -> Result<(), Fail> {
     let m = message(rt.alloc())?;
-    let words = wants(&m);
-    assert!(rt;
-        words.header
-            && words.none
-            && !words.id
-            && !words.user
-            && !words.critical
-            && !words.session
-            && !words.history
-    );
+    let wanted = PrivacySet {
+        header: true,
+        none: true,
+        ..PrivacySet::default()
+    };
+    assert_eq!(rt; wants(&m), wanted);
+    Ok(())
+}
+
+#[test]
+fn tells_identities(rt: HostRuntime) -> Result<(), Fail> {
+    let m = message(rt.alloc())?;
     let believed = asserted(rt.alloc(), &m, true)?;
     assert_eq!(rt;
         text_of(rt.alloc(), &believed.sip)?.bytes(),
@@ -162,8 +189,15 @@ fn tells_words_and_identities(rt: HostRuntime) -> Result<(), Fail> {
         text_of(rt.alloc(), &believed.tel)?.bytes(),
         b"tel:+14085264000".as_slice()
     );
-    let other = asserted(rt.alloc(), &m, false)?;
-    assert!(rt; other.sip.is_none() && other.tel.is_none());
+    Ok(())
+}
+
+#[test]
+fn believes_none_that_is_not_trusted(rt: HostRuntime) -> Result<(), Fail> {
+    let m = message(rt.alloc())?;
+    let identities = asserted(rt.alloc(), &m, false)?;
+    assert!(rt; identities.sip.is_none());
+    assert!(rt; identities.tel.is_none());
     Ok(())
 }
 
@@ -197,33 +231,46 @@ fn shown_text(
     Ok(out)
 }
 
+/// What is passed on of these lines: to an untrusted peer, where the sender is restricted and where not, and then to a trusted one. A line `#` ends each.
+const SHOWN: &[u8] = br#"Require: histinfo
+Reason: SIP;cause=200
+#
+P-Asserted-Identity: "Cullen Jennings" <sip:fluffy@cisco.com>
+P-Asserted-Identity: tel:+14085264000
+Subject: lunch
+Require: histinfo
+Reason: SIP;cause=200
+#
+P-Asserted-Identity: "Cullen Jennings" <sip:fluffy@cisco.com>
+P-Asserted-Identity: tel:+14085264000
+Privacy: Header;id
+Require: histinfo
+P-Early-Media: supported
+Reason: SIP;cause=200
+#
+P-Asserted-Identity: "Cullen Jennings" <sip:fluffy@cisco.com>
+P-Asserted-Identity: tel:+14085264000
+Privacy: Header; none
+Subject: lunch
+Require: histinfo
+P-Early-Media: supported
+Reason: SIP;cause=200
+#
+"#;
+
 #[test]
 fn shows_lines(rt: HostRuntime) -> Result<(), Fail> {
     let m = message(rt.alloc())?;
-    let rows: [(bool, bool, &[u8]); 4] = [
-        (true, false, b"Require: histinfo\nReason: SIP;cause=200\n"),
-        (
-            false,
-            false,
-            b"P-Asserted-Identity: \"Cullen Jennings\" <sip:fluffy@cisco.com>\nP-Asserted-Identity: tel:+14085264000\nSubject: lunch\nRequire: histinfo\nReason: SIP;cause=200\n",
-        ),
-        (
-            true,
-            true,
-            b"P-Asserted-Identity: \"Cullen Jennings\" <sip:fluffy@cisco.com>\nP-Asserted-Identity: tel:+14085264000\nPrivacy: Header;id\nRequire: histinfo\nP-Early-Media: supported\nReason: SIP;cause=200\n",
-        ),
-        (
-            false,
-            true,
-            b"P-Asserted-Identity: \"Cullen Jennings\" <sip:fluffy@cisco.com>\nP-Asserted-Identity: tel:+14085264000\nPrivacy: Header; none\nSubject: lunch\nRequire: histinfo\nP-Early-Media: supported\nReason: SIP;cause=200\n",
-        ),
-    ];
-    for (restricted, to_trusted, text) in rows {
+    let mut rows = SHOWN;
+    for (restricted, to_trusted) in [(true, false), (false, false), (true, true), (false, true)] {
+        let (wanted, rest) = part(b'#', rows).unwrap_or((rows, b""));
+        rows = rest.strip_prefix(b"\n").unwrap_or(rest);
         assert_eq!(rt;
             shown_text(rt.alloc(), &m, restricted, to_trusted)?.bytes(),
-            text
+            wanted
         );
     }
+    assert!(rt; rows.is_empty());
     Ok(())
 }
 

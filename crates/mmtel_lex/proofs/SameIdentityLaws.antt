@@ -11,7 +11,7 @@ use Rattle.mmtel_lex.specs.Identity.{reduced, has_user_phone, IsPhone, IsSameIde
 use Rattle.mmtel_lex.specs.declared.values.Param.{Param}
 use Rattle.mmtel_lex.specs.declared.values.Uri.{Uri}
 use Rattle.mmtel_lex.specs.declared.values.Uri.TheVariants.{Sip, Tel}
-use Rattle.mmtel_trust.specs.SameIdentity.{is_same_user, is_plus_digits, is_phone, is_same_identity}
+use Rattle.mmtel_lex.specs.SameIdentity.{is_same_user, is_plus_digits, is_phone, is_same_identity}
 
 both : (a b : Bool) → a ≡ true → b ≡ true → (a && b) ≡ true
 both a b e f = rw (e, f) refl

@@ -1,5 +1,6 @@
 //! History-Info: reading, diversions, marks and masks.
 
+use crate::tables::next_line;
 use mmtel_history::{Entry, History, HistoryFault, read_values, with_cause, write_entry};
 use mmtel_lex::{List, NoMemory, Text};
 use std::alloc::Global;
@@ -44,64 +45,58 @@ fn lines(alloc: Global, history: &History) -> Result<Text, NoMemory> {
     Ok(out)
 }
 
-/// Values after RFC 7044 §5 and §10.1 and RFC 4458 §2 to §3, and what they say.
+/// Entries: a row is a value of History-Info, and what it says.
+///
+/// The first five values are those of RFC 7044 §5 and §5.1, the next two have the URIs of RFC 4458 §2 and §6.3 with an index; the others are this table's own.
+const ENTRIES: &[u8] = br#"<sip:UserA@ims.example.com>;index=1;foo=bar
+sip:UserA@ims.example.com|1||shown|;foo=bar
+<sip:UserA@ims.example.com?Reason=SIP%3Bcause%3D302>;index=1.1
+sip:UserA@ims.example.com?Reason=SIP%3Bcause%3D302|1.1||shown|
+<sip:UserB@example.com?Privacy=history&Reason=SIP%3Bcause%3D486>;index=1.2;mp=1.1
+sip:UserB@example.com?Privacy=history&Reason=SIP%3Bcause%3D486|1.2||hidden|;mp=1.1
+<sip:45432@192.168.0.3>;index=1.3;rc=1.2
+sip:45432@192.168.0.3|1.3||shown|;rc=1.2
+<sip:bob@biloxi.example.com;p=x>;np=1;index=1.1
+sip:bob@biloxi.example.com;p=x|1.1||shown|;np=1
+<sip:voicemail@example.com;target=bob%40example.com;cause=486>;index=1
+sip:voicemail@example.com;target=bob%40example.com;cause=486|1|486|shown|
+<sip:+15555552000@example.com;user=phone;target=tel:+15555551002;cause=486>;index=1
+sip:+15555552000@example.com;user=phone;target=tel:+15555551002;cause=486|1|486|shown|
+<sip:bob@biloxi.example.com?Privacy=history>;index=1.1
+sip:bob@biloxi.example.com?Privacy=history|1.1||hidden|
+<sip:bob@example.com;cause=302?Reason=SIP%3bcause%3D302&PRIVACY=id%3bHistory>;rc=1;Index=1.10.2;x
+sip:bob@example.com;cause=302?Reason=SIP%3bcause%3D302&PRIVACY=id%3bHistory|1.10.2|302|hidden|;rc=1;x
+"Bob" <sip:voicemail@example.com;cause=486>;index=1
+sip:voicemail@example.com;cause=486|1|486|shown|
+<tel:+1-201-555-0123;cause=408>;index=1
+tel:+1-201-555-0123;cause=408|1|408|shown|
+sip:a@b;index=1
+sip:a@b|1||shown|
+<sip:a;cause=302@b>;index=1
+sip:a;cause=302@b|1||shown|
+<sip:a@b;cause=99;cause=302>;index=1
+sip:a@b;cause=99;cause=302|1||shown|
+<sip:a@b;CAUSE=0302>;index=1
+sip:a@b;CAUSE=0302|1||shown|
+<sip:a@b;cause=700?Privacy=historyx>;index=1
+sip:a@b;cause=700?Privacy=historyx|1||shown|
+"#;
+
 #[test]
 fn reads_entries(rt: HostRuntime) -> Result<(), Fail> {
-    let rows: [(&[u8], &[u8]); 12] = [
-        (
-            b"<sip:UserA@ims.example.com>;index=1;foo=bar",
-            b"sip:UserA@ims.example.com|1||shown|;foo=bar",
-        ),
-        (
-            b"<sip:UserA@ims.example.com?Reason=SIP%3Bcause%3D302>;index=1.1",
-            b"sip:UserA@ims.example.com?Reason=SIP%3Bcause%3D302|1.1||shown|",
-        ),
-        (
-            b"<sip:UserB@example.com>;index=1.2;mp=1.1",
-            b"sip:UserB@example.com|1.2||shown|;mp=1.1",
-        ),
-        (
-            b"<sip:bob@biloxi.example.com?Privacy=history>;index=1.1",
-            b"sip:bob@biloxi.example.com?Privacy=history|1.1||hidden|",
-        ),
-        (
-            b"<sip:bob@example.com;cause=302?Reason=SIP%3bcause%3D302&PRIVACY=id%3bHistory>;rc=1;Index=1.10.2;x",
-            b"sip:bob@example.com;cause=302?Reason=SIP%3bcause%3D302&PRIVACY=id%3bHistory|1.10.2|302|hidden|;rc=1;x",
-        ),
-        (
-            b"\"Bob\" <sip:voicemail@example.com;target=bob%40example.com;cause=486>;index=1",
-            b"sip:voicemail@example.com;target=bob%40example.com;cause=486|1|486|shown|",
-        ),
-        (
-            b"<tel:+1-201-555-0123;cause=408>;index=1",
-            b"tel:+1-201-555-0123;cause=408|1|408|shown|",
-        ),
-        (b"sip:a@b;index=1", b"sip:a@b|1||shown|"),
-        (
-            b"<sip:a;cause=302@b>;index=1",
-            b"sip:a;cause=302@b|1||shown|",
-        ),
-        (
-            b"<sip:a@b;cause=99;cause=302>;index=1",
-            b"sip:a@b;cause=99;cause=302|1||shown|",
-        ),
-        (
-            b"<sip:a@b;CAUSE=0302>;index=1",
-            b"sip:a@b;CAUSE=0302|1||shown|",
-        ),
-        (
-            b"<sip:a@b;cause=700?Privacy=historyx>;index=1",
-            b"sip:a@b;cause=700?Privacy=historyx|1||shown|",
-        ),
-    ];
     let alloc = rt.alloc();
-    for (value, parts) in rows {
+    let mut rows = ENTRIES;
+    for _ in 0..16 {
+        let (value, rest) = next_line(rows);
+        let (parts, rest) = next_line(rest);
+        rows = rest;
         let history = read_values(alloc, &list_of(alloc, &[value])?)?;
+        assert_eq!(rt; history.entries().len(), 1);
         for entry in history.entries() {
             assert_eq!(rt; told(alloc, entry)?.bytes(), parts);
         }
-        assert_eq!(rt; history.entries().len(), 1);
     }
+    assert!(rt; rows.is_empty());
     Ok(())
 }
 
@@ -123,27 +118,32 @@ fn reads_causes(rt: HostRuntime) -> Result<(), Fail> {
     Ok(())
 }
 
-/// Values that are no entry of this profile: each is refused at its place, behind one that is read.
+/// Values that are no entry of this profile, the first of no bytes.
+const UNREADABLE: &[u8] = br#"
+<sip:a@b>
+<sip:a@b>;index
+<sip:a@b>;index=
+<sip:a@b>;index=1.
+<sip:a@b>;index=1..1
+<sip:a@b>;index="1"
+<sip:a@b>;index=a
+<sip:a@b;index=1>
+"#;
+
+/// Each is refused at its place, behind one that is read.
 #[test]
 fn refuses_values(rt: HostRuntime) -> Result<(), Fail> {
-    let rows: [&[u8]; 9] = [
-        b"",
-        b"<sip:a@b>",
-        b"<sip:a@b>;index",
-        b"<sip:a@b>;index=",
-        b"<sip:a@b>;index=1.",
-        b"<sip:a@b>;index=1..1",
-        b"<sip:a@b>;index=\"1\"",
-        b"<sip:a@b>;index=a",
-        b"<sip:a@b;index=1>",
-    ];
     let alloc = rt.alloc();
-    for value in rows {
+    let mut rows = UNREADABLE;
+    for _ in 0..9 {
+        let (value, rest) = next_line(rows);
+        rows = rest;
         match read_values(alloc, &list_of(alloc, &[b"<sip:a@b>;index=1", value])?) {
             Ok(_) => assert!(rt; false),
             Err(fault) => assert_eq!(rt; fault, HistoryFault::Malformed { at: 1 }),
         }
     }
+    assert!(rt; rows.is_empty());
     Ok(())
 }
 
@@ -233,10 +233,8 @@ fn tells_a_loop(rt: HostRuntime) -> Result<(), Fail> {
     Ok(())
 }
 
-/// A hidden entry is written with `Privacy=history` in its header part, and masked it has nobody's URI and its cause.
-#[test]
-fn marks_and_masks(rt: HostRuntime) -> Result<(), Fail> {
-    let alloc = rt.alloc();
+/// Bob's diversion, hidden by nobody, and al's entry, which asks to be hidden; then a diversion to a voice mail that hides the last entry.
+fn hidden_and_shown(alloc: Global) -> Result<History, HistoryFault> {
     let received: [&[u8]; 2] = [
         b"<sip:bob@home.example;cause=302>;index=1;rc=0",
         b"<sip:al@home.example?Privacy=history>;index=1.1",
@@ -250,6 +248,14 @@ fn marks_and_masks(rt: HostRuntime) -> Result<(), Fail> {
         486,
         true,
     )?;
+    Ok(history)
+}
+
+/// A hidden entry is written with `Privacy=history` in its header part, once.
+#[test]
+fn marks(rt: HostRuntime) -> Result<(), Fail> {
+    let alloc = rt.alloc();
+    let mut history = hidden_and_shown(alloc)?;
     assert_eq!(rt;
         lines(alloc, &history)?.bytes(),
         b"<sip:bob@home.example;cause=302>;index=1;rc=0\n<sip:al@home.example?Privacy=history>;index=1.1\n<sip:vm@far.example;cause=486?Subject=x>;index=1.1.1\n".as_slice()
@@ -260,21 +266,21 @@ fn marks_and_masks(rt: HostRuntime) -> Result<(), Fail> {
         lines(alloc, &history)?.bytes(),
         b"<sip:bob@home.example;cause=302?Privacy=history>;index=1;rc=0\n<sip:al@home.example?Privacy=history>;index=1.1\n<sip:vm@far.example;cause=486?Subject=x&Privacy=history>;index=1.1.1\n".as_slice()
     );
+    Ok(())
+}
+
+/// A hidden entry that is masked has nobody's URI and its cause; where all are masked, so has each.
+#[test]
+fn masks(rt: HostRuntime) -> Result<(), Fail> {
+    let alloc = rt.alloc();
+    let history = hidden_and_shown(alloc)?;
     assert_eq!(rt;
         lines(alloc, &history.masked(alloc, false)?)?.bytes(),
+        b"<sip:bob@home.example;cause=302>;index=1;rc=0\n<sip:anonymous@anonymous.invalid>;index=1.1\n<sip:vm@far.example;cause=486?Subject=x>;index=1.1.1\n".as_slice()
+    );
+    assert_eq!(rt;
+        lines(alloc, &history.masked(alloc, true)?)?.bytes(),
         b"<sip:anonymous@anonymous.invalid;cause=302>;index=1;rc=0\n<sip:anonymous@anonymous.invalid>;index=1.1\n<sip:anonymous@anonymous.invalid;cause=486>;index=1.1.1\n".as_slice()
-    );
-    let shown = read_values(
-        alloc,
-        &list_of(alloc, &[b"<sip:bob@home.example;cause=302>;index=1"])?,
-    )?;
-    assert_eq!(rt;
-        lines(alloc, &shown.masked(alloc, false)?)?.bytes(),
-        b"<sip:bob@home.example;cause=302>;index=1\n".as_slice()
-    );
-    assert_eq!(rt;
-        lines(alloc, &shown.masked(alloc, true)?)?.bytes(),
-        b"<sip:anonymous@anonymous.invalid;cause=302>;index=1\n".as_slice()
     );
     Ok(())
 }

@@ -1,0 +1,12 @@
+mod Lists
+mod Places
+mod Written
+mod Standing
+mod Having
+mod Distinct
+mod Order
+mod Repeats
+mod Acks
+mod Silence
+mod Ends
+mod Rows

@@ -1,0 +1,267 @@
+-- The live transactions after one more call are those before it, changed.
+use Rattle.std.proofs.Common.{◌≡◌, ℕ, suc, ◌+◌, ◌≤◌, ◌<◌, List, [], ◌∷◌, ◌++◌, length, refl, true, false, Bool, not, ◌&&◌, ◌||◌, sym, ap, ◌∙◌, arith, map, cond, length-append, subst}
+use Rattle.std.specs.Prelude.{nat_lt, ◌==◌, filter}
+use Rattle.std.proofs.lemmas.List.{map-append}
+use Rattle.std.proofs.lemmas.Bool.Decides.{nat_tests}
+use Rattle.mmtel_types.specs.declared.numbers.Peer.{Peer}
+use Rattle.mmtel_message.specs.Message.{Message}
+use Rattle.mmtel_message.specs.Texts.{message_text}
+use Rattle.mmtel_message.specs.declared.messages.Start.{Start}
+use Rattle.mmtel_transaction.specs.Heads.{head_of, is_invite, is_provisional}
+use Rattle.mmtel_transaction.specs.declared.heads.Head.{Head}
+use Rattle.mmtel_transaction.specs.declared.entries.Entry.{Entry}
+use Rattle.mmtel_transaction.specs.declared.parts.Part.{Part}
+use Rattle.mmtel_transaction.specs.declared.parts.Part.TheVariants as part
+use Rattle.mmtel_transaction.specs.Table.{settle}
+use Rattle.mmtel_transaction.specs.Deadlines.{is_there, resend_at}
+use Rattle.mmtel_transaction.specs.Changes.{fired, replied, rang, finished, answered, acked, acked_2xx, kept, hit}
+use Rattle.mmtel_transaction.specs.Calls.{Done, DidBegin, DidHear, DidAsk, DidReply, DidAck, DidFire, step_of, opens, heard_opens, opened, entry_of, live, is_live, change, heard_change}
+
+abbrev pub AllOpened : ℕ → List Entry → Type 0
+AllOpened k [] = Unit {0}
+AllOpened k (e ∷ es) = (e.opened_in < k) × AllOpened k es
+
+opened_more : (k j : ℕ) (es : List Entry) → k ≤ j → AllOpened k es → AllOpened j es
+opened_more k j [] l a = tt
+opened_more k j (e ∷ es) l a = (omega arith, opened_more k j es l a.1)
+
+opened_append : (k : ℕ) (es fs : List Entry) → AllOpened k es → AllOpened k fs → AllOpened k (es ++ fs)
+opened_append k [] fs a b = b
+opened_append k (e ∷ es) fs a b = (a.0, opened_append k es fs a.1 b)
+
+heard_one : (s i k : ℕ) (p : Peer) (now : ℕ) (m : Message Start) (t : Part) → AllOpened (suc i) (heard_opens s i k p m now t)
+heard_one s i k p now m part.Fresh = (omega arith, tt)
+heard_one s i k p now m part.Full = tt
+heard_one s i k p now m (part.Repeat j) = tt
+heard_one s i k p now m (part.Same j) = tt
+heard_one s i k p now m (part.Answer j) = tt
+heard_one s i k p now m (part.Acked j) = tt
+heard_one s i k p now m part.AckOf2xx = tt
+heard_one s i k p now m part.Stray = tt
+
+opens_one : (s i k : ℕ) (c : Done) → AllOpened (suc i) (opens s i k c)
+opens_one s i k (DidBegin n) = tt
+opens_one s i k (DidHear p m now t) = heard_one s i k p now m t
+opens_one s i k (DidAsk p m now) = (omega arith, tt)
+opens_one s i k (DidReply j m now) = tt
+opens_one s i k (DidAck j m) = tt
+opens_one s i k (DidFire j) = tt
+
+pub opened_below : (h : List Done) → AllOpened (length h) (opened h)
+opened_below [] = tt
+opened_below (c ∷ h) = opened_append (suc (length h)) (opened h) (opens (step_of h) (length h) (length (opened h)) c) (opened_more (length h) (suc (length h)) (opened h) (omega arith) (opened_below h)) (opens_one (step_of h) (length h) (length (opened h)) c)
+
+later : (h : List Done) (e : Entry) → e.opened_in < length h → nat_lt e.opened_in (length h) ≡ true
+later h e l = grind (arith, nat_tests)
+
+changed : (c : Done) (h : List Done) (es : List Entry) → AllOpened (length h) es → map (entry_of (c ∷ h)) es ≡ map (change (step_of h) (length h) c) (map (entry_of h) es)
+changed c h [] a = refl
+changed c h (e ∷ es) a = rw (later h e a.0, changed c h es a.1) refl
+
+-- a change keeps the key, the request, from or to whom it went, and the ending
+pub record Keeps (e x : Entry) : Type 0 where
+  pub key : x.key ≡ e.key
+  pub server : x.is_server ≡ e.is_server
+  pub asked : x.asked ≡ e.asked
+  pub peer : x.peer ≡ e.peer
+  pub over : e.is_over ≡ true → x.is_over ≡ true
+
+keeps_if : (b : Bool) (e x y : Entry) → Keeps e x → Keeps e y → Keeps e (cond b x y)
+keeps_if true e x y a b = a
+keeps_if false e x y a b = b
+
+same : {A : Type 0} (x : A) → x ≡ x
+same x = refl
+
+pub keeps_fired : (s : ℕ) (e : Entry) → Keeps e (fired s e)
+keeps_fired s e = keeps_if (is_there (resend_at e)) e (record e { shots = e.shots + 1; step = s }) (record e { is_over = true }) (record { key = refl; server = refl; asked = refl; peer = refl; over = λ o. o }) (record { key = refl; server = refl; asked = refl; peer = refl; over = λ o. refl })
+
+pub keeps_replied : (s i st : ℕ) (t g : List ℕ) (now : ℕ) (e : Entry) → Keeps e (replied s i st t g now e)
+keeps_replied s i st t g now e = keeps_if (not e.is_server || not (e.done == 0)) e e _ (record { key = refl; server = refl; asked = refl; peer = refl; over = λ o. o })
+    (keeps_if (is_provisional st) e _ _ (record { key = refl; server = refl; asked = refl; peer = refl; over = λ o. o }) (record { key = refl; server = refl; asked = refl; peer = refl; over = λ o. o }))
+
+keeps_rang : (s now : ℕ) (e : Entry) → Keeps e (rang s now e)
+keeps_rang s now e = keeps_if (e.is_early || not (e.done == 0)) e _ _ (record { key = refl; server = refl; asked = refl; peer = refl; over = λ o. o }) (record { key = refl; server = refl; asked = refl; peer = refl; over = λ o. o })
+
+keeps_finished : (s st now : ℕ) (e : Entry) → Keeps e (finished s st now e)
+keeps_finished s st now e = keeps_if (not (is_invite e.asked)) e (record e { is_over = true }) _ (record { key = refl; server = refl; asked = refl; peer = refl; over = λ o. refl })
+    (keeps_if (not (e.done == 0)) e _ _ (record { key = refl; server = refl; asked = refl; peer = refl; over = λ o. o }) (record { key = refl; server = refl; asked = refl; peer = refl; over = λ o. o }))
+
+pub keeps_answered : (s st now : ℕ) (e : Entry) → Keeps e (answered s st now e)
+keeps_answered s st now e = keeps_if (is_provisional st) e (rang s now e) (finished s st now e) (keeps_rang s now e) (keeps_finished s st now e)
+
+pub keeps_acked : (s now : ℕ) (e : Entry) → Keeps e (acked s now e)
+keeps_acked s now e = keeps_if _ e _ _ (record { key = refl; server = refl; asked = refl; peer = refl; over = λ o. o }) (record { key = refl; server = refl; asked = refl; peer = refl; over = λ o. o })
+
+pub keeps_acked_2xx : (s : ℕ) (m : Head) (e : Entry) → Keeps e (acked_2xx s m e)
+keeps_acked_2xx s m e = keeps_if _ e _ _ (record { key = refl; server = refl; asked = refl; peer = refl; over = λ o. o }) (record { key = refl; server = refl; asked = refl; peer = refl; over = λ o. o })
+
+keeps_kept : (t : List ℕ) (e : Entry) → Keeps e (kept t e)
+keeps_kept t e = keeps_if (not e.is_server && e.is_refused) e _ _ (record { key = refl; server = refl; asked = refl; peer = refl; over = λ o. o }) (record { key = refl; server = refl; asked = refl; peer = refl; over = λ o. o })
+
+keeps_hit : (k : ℕ) (f : Entry → Entry) (e : Entry) → Keeps e (f e) → Keeps e (hit k f e)
+keeps_hit k f e a = keeps_if (e.key == k) e _ _ a (record { key = refl; server = refl; asked = refl; peer = refl; over = λ o. o })
+
+keeps_heard : (s now : ℕ) (m : Message Start) (t : Part) (e : Entry) → Keeps e (heard_change s m now t e)
+keeps_heard s now m part.Fresh e = record { key = refl; server = refl; asked = refl; peer = refl; over = λ o. o }
+keeps_heard s now m part.Full e = record { key = refl; server = refl; asked = refl; peer = refl; over = λ o. o }
+keeps_heard s now m (part.Repeat j) e = record { key = refl; server = refl; asked = refl; peer = refl; over = λ o. o }
+keeps_heard s now m (part.Same j) e = record { key = refl; server = refl; asked = refl; peer = refl; over = λ o. o }
+keeps_heard s now m (part.Answer j) e = keeps_hit j (answered s (head_of m).status now) e (keeps_answered s (head_of m).status now e)
+keeps_heard s now m (part.Acked j) e = keeps_hit j (acked s now) e (keeps_acked s now e)
+keeps_heard s now m part.AckOf2xx e = keeps_acked_2xx s (head_of m) e
+keeps_heard s now m part.Stray e = record { key = refl; server = refl; asked = refl; peer = refl; over = λ o. o }
+
+pub keeps_change : (s i : ℕ) (c : Done) (e : Entry) → Keeps e (change s i c e)
+keeps_change s i (DidBegin n) e = record { key = refl; server = refl; asked = refl; peer = refl; over = λ o. o }
+keeps_change s i (DidHear p m now t) e = keeps_heard s now m t e
+keeps_change s i (DidAsk p m now) e = record { key = refl; server = refl; asked = refl; peer = refl; over = λ o. o }
+keeps_change s i (DidReply j m now) e = keeps_hit j (replied s i (head_of m).status (message_text m) (head_of m).to_tag now) e (keeps_replied s i (head_of m).status (message_text m) (head_of m).to_tag now e)
+keeps_change s i (DidAck j m) e = keeps_hit j (kept (message_text m)) e (keeps_kept (message_text m) e)
+keeps_change s i (DidFire j) e = keeps_hit j (fired s) e (keeps_fired s e)
+
+-- what ended may be left out before a change
+not_live : (e x : Entry) → Keeps e x → is_live e ≡ false → is_live x ≡ false
+not_live e x k n = rw (k.over (over_is e.is_over n)) refl
+  where
+    over_is : (b : Bool) → not b ≡ false → b ≡ true
+    over_is true q = refl
+    over_is false q = sym q
+
+drop_if : (b : Bool) (f : Entry → Entry) (e : Entry) (xs ys : List Entry) → is_live e ≡ b → Keeps e (f e) → filter is_live (map f xs) ≡ ys → filter is_live (map f (cond b (e ∷ xs) xs)) ≡ cond (is_live (f e)) (f e ∷ ys) ys
+drop_if true f e xs ys q k p = rw p refl
+drop_if false f e xs ys q k p = rw (not_live e (f e) k q) p
+
+pub filter_changed : (f : Entry → Entry) (es : List Entry) → ((e : Entry) → Keeps e (f e)) → filter is_live (map f (filter is_live es)) ≡ filter is_live (map f es)
+filter_changed f [] k = refl
+filter_changed f (e ∷ es) k = drop_if (is_live e) f e (filter is_live es) (filter is_live (map f es)) refl (k e) (filter_changed f es k)
+
+filter_both : (xs ys : List Entry) → filter is_live (xs ++ ys) ≡ filter is_live xs ++ filter is_live ys
+filter_both [] ys = refl
+filter_both (x ∷ xs) ys = rw (filter_both xs ys) (push (is_live x) x (filter is_live xs) (filter is_live ys))
+  where
+    push : (b : Bool) (x : Entry) (xs ys : List Entry) → cond b (x ∷ (xs ++ ys)) (xs ++ ys) ≡ cond b (x ∷ xs) xs ++ ys
+    push true x xs ys = refl
+    push false x xs ys = refl
+
+not_later : (i : ℕ) → nat_lt i i ≡ false
+not_later i = grind (arith, nat_tests)
+
+-- what is opened is live, and as it was opened
+news_heard : (h : List Done) (c : Done) (s k : ℕ) (p : Peer) (now : ℕ) (m : Message Start) (t : Part) → filter is_live (map (entry_of (c ∷ h)) (heard_opens s (length h) k p m now t)) ≡ heard_opens s (length h) k p m now t
+news_heard h c s k p now m part.Fresh = rw (not_later (length h)) refl
+news_heard h c s k p now m part.Full = refl
+news_heard h c s k p now m (part.Repeat j) = refl
+news_heard h c s k p now m (part.Same j) = refl
+news_heard h c s k p now m (part.Answer j) = refl
+news_heard h c s k p now m (part.Acked j) = refl
+news_heard h c s k p now m part.AckOf2xx = refl
+news_heard h c s k p now m part.Stray = refl
+
+news : (h : List Done) (d : Done) (s k : ℕ) (c : Done) → filter is_live (map (entry_of (d ∷ h)) (opens s (length h) k c)) ≡ opens s (length h) k c
+news h d s k (DidBegin n) = refl
+news h d s k (DidHear p m now t) = news_heard h d s k p now m t
+news h d s k (DidAsk p m now) = rw (not_later (length h)) refl
+news h d s k (DidReply j m now) = refl
+news h d s k (DidAck j m) = refl
+news h d s k (DidFire j) = refl
+
+-- the live transactions after one more call
+pub live_more : (c : Done) (h : List Done) → live (c ∷ h) ≡ filter is_live (map (change (step_of h) (length h) c) (live h)) ++ opens (step_of h) (length h) (length (opened h)) c
+live_more c h =
+    let f = change (step_of h) (length h) c in
+    let new = opens (step_of h) (length h) (length (opened h)) c in
+    ap (filter is_live) (map-append (entry_of (c ∷ h)) (opened h) new)
+    ∙ (filter_both (map (entry_of (c ∷ h)) (opened h)) (map (entry_of (c ∷ h)) new)
+    ∙ (ap (λ xs. filter is_live (map (entry_of (c ∷ h)) (opened h)) ++ xs) (news h c (step_of h) (length (opened h)) c)
+    ∙ ap (λ xs. xs ++ new) (ap (filter is_live) (changed c h (opened h) (opened_below h)) ∙ sym (filter_changed f (map (entry_of h) (opened h)) (λ e. keeps_change (step_of h) (length h) c e)))))
+
+-- keys rise
+abbrev pub Rising : ℕ → List Entry → ℕ → Type 0
+Rising lo [] hi = lo ≤ hi
+Rising lo (e ∷ es) hi = (lo ≤ e.key) × Rising (suc e.key) es hi
+
+rising_lower : (lo lower : ℕ) (es : List Entry) (hi : ℕ) → lower ≤ lo → Rising lo es hi → Rising lower es hi
+rising_lower lo lower [] hi l r = omega (arith, r)
+rising_lower lo lower (e ∷ es) hi l r = (omega (arith, r.0), r.1)
+
+rising_append : (lo mid hi : ℕ) (es fs : List Entry) → Rising lo es mid → Rising mid fs hi → Rising lo (es ++ fs) hi
+rising_append lo mid hi [] fs r q = rising_lower mid lo fs hi r q
+rising_append lo mid hi (e ∷ es) fs r q = (r.0, rising_append (suc e.key) mid hi es fs r.1 q)
+
+rising_heard : (s i k : ℕ) (p : Peer) (now : ℕ) (m : Message Start) (t : Part) → Rising k (heard_opens s i k p m now t) (k + length (heard_opens s i k p m now t))
+rising_heard s i k p now m part.Fresh = (omega arith, omega arith)
+rising_heard s i k p now m part.Full = omega arith
+rising_heard s i k p now m (part.Repeat j) = omega arith
+rising_heard s i k p now m (part.Same j) = omega arith
+rising_heard s i k p now m (part.Answer j) = omega arith
+rising_heard s i k p now m (part.Acked j) = omega arith
+rising_heard s i k p now m part.AckOf2xx = omega arith
+rising_heard s i k p now m part.Stray = omega arith
+
+rising_opens : (s i k : ℕ) (c : Done) → Rising k (opens s i k c) (k + length (opens s i k c))
+rising_opens s i k (DidBegin n) = omega arith
+rising_opens s i k (DidHear p m now t) = rising_heard s i k p now m t
+rising_opens s i k (DidAsk p m now) = (omega arith, omega arith)
+rising_opens s i k (DidReply j m now) = omega arith
+rising_opens s i k (DidAck j m) = omega arith
+rising_opens s i k (DidFire j) = omega arith
+
+pub rising_opened : (h : List Done) → Rising 0 (opened h) (length (opened h))
+rising_opened [] = omega arith
+rising_opened (c ∷ h) = subst (Rising 0 (opened (c ∷ h))) (sym (length-append (opened h) (opens (step_of h) (length h) (length (opened h)) c))) (rising_append 0 (length (opened h)) _ (opened h) (opens (step_of h) (length h) (length (opened h)) c) (rising_opened h) (rising_opens (step_of h) (length h) (length (opened h)) c))
+
+rising_map : (f : Entry → Entry) (lo hi : ℕ) (es : List Entry) → ((e : Entry) → (f e).key ≡ e.key) → Rising lo es hi → Rising lo (map f es) hi
+rising_map f lo hi [] k r = r
+rising_map f lo hi (e ∷ es) k r = rw (k e) (r.0, rising_map f (suc e.key) hi es k r.1)
+
+keeps_key : (h : List Done) (e : Entry) → (entry_of h e).key ≡ e.key
+keeps_key [] e = refl
+keeps_key (c ∷ h) e = either (nat_lt e.opened_in (length h)) ((keeps_change (step_of h) (length h) c (entry_of h e)).key ∙ keeps_key h e)
+  where
+    either : (b : Bool) → (change (step_of h) (length h) c (entry_of h e)).key ≡ e.key → (cond b (change (step_of h) (length h) c (entry_of h e)) e).key ≡ e.key
+    either true q = q
+    either false q = refl
+
+rising_live : (lo hi : ℕ) (es : List Entry) → Rising lo es hi → Rising lo (filter is_live es) hi
+rising_live lo hi [] r = r
+rising_live lo hi (e ∷ es) r = either (is_live e) (rising_live (suc e.key) hi es r.1)
+  where
+    either : (b : Bool) → Rising (suc e.key) (filter is_live es) hi → Rising lo (cond b (e ∷ filter is_live es) (filter is_live es)) hi
+    either true q = (r.0, q)
+    either false q = rising_lower (suc e.key) lo (filter is_live es) hi (omega (arith, r.0)) q
+
+pub rising : (h : List Done) → Rising 0 (live h) (length (opened h))
+rising h = rising_live 0 (length (opened h)) (map (entry_of h) (opened h)) (rising_map (entry_of h) 0 (length (opened h)) (opened h) (keeps_key h) (rising_opened h))
+
+abbrev pub AllLive : List Entry → Type 0
+AllLive [] = Unit {0}
+AllLive (e ∷ es) = (is_live e ≡ true) × AllLive es
+
+all_live_if : (b : Bool) (e : Entry) (es : List Entry) → is_live e ≡ b → AllLive es → AllLive (cond b (e ∷ es) es)
+all_live_if true e es q a = (q, a)
+all_live_if false e es q a = a
+
+pub all_live : (es : List Entry) → AllLive (filter is_live es)
+all_live [] = tt
+all_live (e ∷ es) = all_live_if (is_live e) e (filter is_live es) refl (all_live es)
+
+-- one transaction is hit
+no_hit : (k lo : ℕ) (f : Entry → Entry) (es : List Entry) (hi : ℕ) → k < lo → Rising lo es hi → AllLive es → filter is_live (map (hit k f) es) ≡ es
+no_hit k lo f [] hi l r a = refl
+no_hit k lo f (e ∷ es) hi l r a =
+    let n : (e.key == k) ≡ false = grind (arith, nat_tests, r.0) in
+    rw (n, a.0, no_hit k (suc e.key) f es hi (omega (arith, r.0)) r.1 a.1) refl
+
+settled_if : (k : ℕ) (f : Entry → Entry) (e : Entry) (es fs gs : List Entry) (b : Bool) → is_live e ≡ true → (b ≡ true → fs ≡ es) → (b ≡ false → fs ≡ gs) → cond (is_live (cond b (f e) e)) (cond b (f e) e ∷ fs) fs ≡ cond b (cond (is_live (f e)) (f e ∷ es) es) (e ∷ gs)
+settled_if k f e es fs gs true l p q = rw (p refl) refl
+settled_if k f e es fs gs false l p q = rw (l, q refl) refl
+
+same_key : (e : Entry) (k : ℕ) → (e.key == k) ≡ true → e.key ≡ k
+same_key e k q = grind (arith, nat_tests)
+
+pub settled : (k lo : ℕ) (f : Entry → Entry) (es : List Entry) (hi : ℕ) → Rising lo es hi → AllLive es → filter is_live (map (hit k f) es) ≡ settle k f es
+settled k lo f [] hi r a = refl
+settled k lo f (e ∷ es) hi r a = settled_if k f e es (filter is_live (map (hit k f) es)) (settle k f es) (e.key == k) a.0
+    (λ q. let w : e.key ≡ k = same_key e k q in no_hit k (suc e.key) f es hi (omega (arith, w)) r.1 a.1)
+    (λ q. settled k (suc e.key) f es hi r.1 a.1)

@@ -1,0 +1,119 @@
+-- A request that nobody answers: for each peer, message and moment.
+use Rattle.std.proofs.Common.{◌≡◌, ℕ, suc, ◌+◌, ◌≤◌, List, [], ◌∷◌, ◌++◌, length, map, refl, true, false, arith, Bool, ap, ◌∙◌, cond}
+use Rattle.std.specs.Prelude.{nat_le, Option, Some, None, option_map, slice_get}
+use Rattle.std.proofs.lemmas.Bool.Decides.{nat_tests}
+use Rattle.std.proofs.lemmas.Bool.{eq-eqb}
+use Rattle.mmtel_types.specs.declared.numbers.Peer.{Peer}
+use Rattle.mmtel_message.specs.Message.{Message}
+use Rattle.mmtel_message.specs.Texts.{message_text}
+use Rattle.mmtel_message.specs.declared.messages.Start.{Start}
+use Rattle.mmtel_timers.specs.Schedules.{moments_of}
+use Rattle.mmtel_timers.specs.declared.schedules.Schedule.TheVariants as schedule
+use Rattle.mmtel_transaction.specs.Heads.{head_of, is_invite}
+use Rattle.mmtel_transaction.specs.Deadlines.{counted, resend_by, last_by, resend_at, deadline, or_else, ends}
+use Rattle.mmtel_transaction.specs.Changes.{fired, asked_first}
+use Rattle.mmtel_transaction.specs.Calls.{Done, DidAsk, DidFire, is_live, live, opened, step_of}
+use Rattle.mmtel_transaction.specs.Answers.{Next, next_due, due_one, sooner, says_due, fires, text_again, tkey}
+use Rattle.mmtel_transaction.specs.Table.{settle}
+use Rattle.mmtel_transaction.specs.Laws.{IsGivenUpAfter, again, dues}
+use Rattle.mmtel_transaction.specs.declared.entries.Plan.{Plan}
+use Rattle.mmtel_transaction.specs.declared.entries.Plan.TheVariants.{Invite, Other}
+use Rattle.mmtel_transaction.specs.declared.entries.Entry.{Entry}
+use Rattle.mmtel_transaction.specs.declared.words.Due.TheVariants as due
+use Rattle.mmtel_transaction.proofs.Standing.{live_hit, live_new}
+
+only : (now at : ℕ) (e : Entry) → deadline e ≡ Some at → nat_le at now ≡ true → next_due now (e ∷ []) ≡ Some (record { at = at; entry = e })
+only now at e d l = ap (λ o. sooner o None) (ap (due_one now e) d ∙ ap (λ b. cond b (Some (let r : Next = record { at = at; entry = e } in r)) None) l)
+
+settle_one : (e x : Entry) (f : Entry → Entry) → f e ≡ x → is_live x ≡ true → settle e.key f (e ∷ []) ≡ x ∷ []
+settle_one e x f q l = rw (eq-eqb e.key e.key refl, q, l) refl
+
+settle_gone : (e x : Entry) (f : Entry → Entry) → f e ≡ x → is_live x ≡ false → settle e.key f (e ∷ []) ≡ []
+settle_gone e x f q l = rw (eq-eqb e.key e.key refl, q, l) refl
+
+-- one transaction alone, whose deadline is due
+pub dues_one : (n now at : ℕ) (h : List Done) (e : Entry) → live h ≡ e ∷ [] → deadline e ≡ Some at → nat_le at now ≡ true → dues (suc n) now h ≡ says_due (Some (record { at = at; entry = e })) ∷ dues n now (DidFire e.key ∷ h)
+unfolding dues
+dues_one n now at h e l d p = ap (λ o. says_due o ∷ dues n now (fires h o)) (ap (next_due now) l ∙ only now at e d p)
+
+-- nothing is left
+dues_last : (now : ℕ) (h : List Done) → live h ≡ [] → dues 1 now h ≡ due.Nothing ∷ []
+unfolding dues
+dues_last now h l = ap (λ es. says_due (next_due now es) ∷ []) l
+
+fired_live : (h : List Done) (e : Entry) → live h ≡ e ∷ [] → live (DidFire e.key ∷ h) ≡ settle e.key (fired (step_of h)) (e ∷ [])
+fired_live h e l = live_hit (DidFire e.key) h e.key (fired (step_of h)) (λ y. refl) refl ∙ ap (settle e.key (fired (step_of h))) l
+
+pub live_one : (h : List Done) (e x : Entry) → live h ≡ e ∷ [] → fired (step_of h) e ≡ x → is_live x ≡ true → live (DidFire e.key ∷ h) ≡ x ∷ []
+live_one h e x l q v = fired_live h e l ∙ settle_one e x (fired (step_of h)) q v
+
+pub live_none : (h : List Done) (e x : Entry) → live h ≡ e ∷ [] → fired (step_of h) e ≡ x → is_live x ≡ false → live (DidFire e.key ∷ h) ≡ []
+live_none h e x l q v = fired_live h e l ∙ settle_gone e x (fired (step_of h)) q v
+
+-- what is said of a deadline, by whether the message is sent again
+says_again : (n : Next) (x : ℕ) → resend_at n.entry ≡ Some x → says_due (Some n) ≡ due.Again n.entry.peer n.at (text_again n.entry)
+says_again n x q = rw q refl
+
+says_silent : (n : Next) → resend_at n.entry ≡ None → ends n.entry.plan ≡ false → says_due (Some n) ≡ due.Silent (tkey n.entry.key) n.entry.asked.branch n.entry.asked.method n.at
+says_silent n q e = rw (q, e) refl
+
+fired_again : (s x : ℕ) (e : Entry) → resend_at e ≡ Some x → fired s e ≡ record e { shots = e.shots + 1; step = s }
+fired_again s x e q = rw q refl
+
+fired_over : (s : ℕ) (e : Entry) → resend_at e ≡ None → fired s e ≡ record e { is_over = true }
+fired_over s e q = rw q refl
+
+abbrev AreWithin : List ℕ → Type 0
+AreWithin [] = Unit {0}
+AreWithin (d ∷ ds) = (d ≤ 32000) × AreWithin ds
+
+past : (a b c : ℕ) → a + 32000 ≤ c → b ≤ 32000 → nat_le (a + b) c ≡ true
+past a b c l m = grind (arith, nat_tests)
+
+-- a request that was asked, of this plan, after so many times
+abbrev waiting : ℕ → ℕ → ℕ → Peer → Message Start → ℕ → Plan → ℕ → Entry
+waiting s i key p m t plan k = record (asked_first s i key p (head_of m) (message_text m) t) { plan = plan; shots = k }
+
+module _ (step i key : ℕ) (p : Peer) (m : Message Start) (t now : ℕ) (plan : Plan) (moments : List ℕ) (l : t + 32000 ≤ now) (r : (k : ℕ) → resend_by plan t t k ≡ counted t moments k) (z : last_by plan t t ≡ Some (t + 32000)) (g : ends plan ≡ false) where
+  resend : (k : ℕ) (o : Option ℕ) → slice_get moments k ≡ o → resend_at (waiting step i key p m t plan k) ≡ option_map (λ d. t + d) o
+  resend k o q = r k ∙ ap (option_map (λ d. t + d)) q
+
+  due_then : (k : ℕ) (o : Option ℕ) → slice_get moments k ≡ o → deadline (waiting step i key p m t plan k) ≡ or_else (option_map (λ d. t + d) o) (Some (t + 32000))
+  due_then k o q = ap (λ x. or_else x (last_by plan t t)) (resend k o q) ∙ ap (or_else (option_map (λ d. t + d) o)) z
+
+  first_of : (k : ℕ) (ds : List ℕ) → ((j : ℕ) → slice_get moments (k + j) ≡ slice_get ds j) → slice_get moments k ≡ slice_get ds 0
+  first_of k ds q = ap (slice_get moments) (let a : k ≡ k + 0 = omega arith in a) ∙ q 0
+
+  pub rest : (k : ℕ) (ds : List ℕ) (h : List Done) → step_of h ≡ step → live h ≡ waiting step i key p m t plan k ∷ [] → ((j : ℕ) → slice_get moments (k + j) ≡ slice_get ds j) → AreWithin ds → dues (length ds + 2) now h ≡ map (again p m t) ds ++ due.Silent (tkey key) (head_of m).branch (head_of m).method (t + 32000) ∷ due.Nothing ∷ []
+  rest k [] h s e q w =
+      dues_one 1 now (t + 32000) h (waiting step i key p m t plan k) e (due_then k None (first_of k [] q)) (past t 32000 now l (omega arith))
+      ∙ (ap (λ x. x ∷ dues 1 now (DidFire key ∷ h)) (says_silent (record { at = t + 32000; entry = waiting step i key p m t plan k }) (resend k None (first_of k [] q)) g)
+      ∙ ap (λ xs. due.Silent (tkey key) (head_of m).branch (head_of m).method (t + 32000) ∷ xs) (dues_last now (DidFire key ∷ h) (live_none h (waiting step i key p m t plan k) (record (waiting step i key p m t plan k) { is_over = true }) e (fired_over (step_of h) (waiting step i key p m t plan k) (resend k None (first_of k [] q))) refl)))
+  rest k (d ∷ ds) h s e q w =
+      ap (λ n. dues n now h) (let a : length (d ∷ ds) + 2 ≡ suc (length ds + 2) = omega arith in a)
+      ∙ (dues_one (length ds + 2) now (t + d) h (waiting step i key p m t plan k) e (due_then k (Some d) (first_of k (d ∷ ds) q)) (past t d now l w.0)
+      ∙ (ap (λ x. x ∷ dues (length ds + 2) now (DidFire key ∷ h)) (says_again (record { at = t + d; entry = waiting step i key p m t plan k }) (t + d) (resend k (Some d) (first_of k (d ∷ ds) q)))
+      ∙ ap (λ xs. again p m t d ∷ xs) (rest (k + 1) ds (DidFire key ∷ h) s
+      (live_one h (waiting step i key p m t plan k) (waiting step i key p m t plan (k + 1)) e (fired_again (step_of h) (t + d) (waiting step i key p m t plan k) (resend k (Some d) (first_of k (d ∷ ds) q)) ∙ ap (λ x. let e : Entry = record (waiting step i key p m t plan (k + 1)) { step = x } in e) s) refl)
+      (λ j. ap (slice_get moments) (let a : (k + 1) + j ≡ k + suc j = omega arith in a) ∙ q (suc j))
+      w.1)))
+
+-- it is asked where no transaction is live
+asked_alone : (h : List Done) (p : Peer) (m : Message Start) (t : ℕ) (b : Bool) → live h ≡ [] → is_invite (head_of m) ≡ b → live (DidAsk p m t ∷ h) ≡ waiting (step_of h) (length h) (length (opened h)) p m t (cond b Invite Other) 0 ∷ []
+asked_alone h p m t b l q =
+    let e : Entry = asked_first (step_of h) (length h) (length (opened h)) p (head_of m) (message_text m) t in
+    live_new (DidAsk p m t) h (λ x. refl) ∙ (ap (λ xs. xs ++ e ∷ []) l ∙ ap (λ b. (let x : Entry = record e { plan = cond b Invite Other } in x) ∷ []) q)
+
+pub invite_given_up : (p : Peer) (m : Message Start) (t : ℕ) → is_invite (head_of m) ≡ true → IsGivenUpAfter (moments_of schedule.Invite) p m t
+invite_given_up p m t i h now l le =
+    rest (step_of h) (length h) (length (opened h)) p m t now Invite (moments_of schedule.Invite) le (λ k. refl) refl refl 0 (moments_of schedule.Invite) (DidAsk p m t ∷ h) refl
+    (asked_alone h p m t true l i)
+    (λ j. ap (slice_get (moments_of schedule.Invite)) (let a : 0 + j ≡ j = omega arith in a))
+    (omega arith, (omega arith, (omega arith, (omega arith, (omega arith, (omega arith, tt))))))
+
+pub other_given_up : (p : Peer) (m : Message Start) (t : ℕ) → is_invite (head_of m) ≡ false → IsGivenUpAfter (moments_of schedule.Other) p m t
+other_given_up p m t i h now l le =
+    rest (step_of h) (length h) (length (opened h)) p m t now Other (moments_of schedule.Other) le (λ k. refl) refl refl 0 (moments_of schedule.Other) (DidAsk p m t ∷ h) refl
+    (asked_alone h p m t false l i)
+    (λ j. ap (slice_get (moments_of schedule.Other)) (let a : 0 + j ≡ j = omega arith in a))
+    (omega arith, (omega arith, (omega arith, (omega arith, (omega arith, (omega arith, (omega arith, (omega arith, (omega arith, (omega arith, tt))))))))))

@@ -1,0 +1,8 @@
+use Rattle.std.proofs.Common.{refl}
+use Rattle.mmtel_transaction.specs.declared.parts.Part.TheVariants.{Stray}
+use Rattle.mmtel_transaction.specs.Calls.{DidHear}
+use Rattle.mmtel_transaction.proofs.Standing.{stands_same}
+use Rattle.mmtel_transaction.proofs.transactions.Transactions.hear_stray.Goals as goal
+
+pub returns : goal.returns
+returns c h st short taken = (stands_same (DidHear c.args.p c.args.m c.args.now Stray) h c.args.self.now _ st short (taken, st.run) refl st.step refl refl refl (λ e. refl), refl)

@@ -1,0 +1,68 @@
+-- What the transactions read of a message: what names its transaction (RFC 3261 §17.1.3, §17.2.3), its dialogue's names and number (§12, §13.2.2.4), and its status (§21).
+use Rattle.std.specs.Prelude.{ℕ, Bool, true, false, ◌&&◌, ◌==◌, nat_lt, nat_le, List, [], codes, Option, Some, None}
+use Rattle.std.specs.Str.{bytes_eq}
+use Rattle.mmtel_message.specs.Message.{Message}
+use Rattle.mmtel_message.specs.Fields.{five_at, param_value}
+use Rattle.mmtel_message.specs.declared.messages.Start.{Start}
+use Rattle.mmtel_message.specs.declared.messages.Start.TheVariants.{Request, Status}
+use Rattle.mmtel_message.specs.declared.fields.Five.{Five}
+use Rattle.mmtel_lex.specs.declared.values.Param.{Param}
+use Rattle.mmtel_transaction.specs.declared.heads.Head.{Head}
+
+-- a text, or none at all where there is none
+abbrev pub or_empty : Option (List ℕ) → List ℕ
+or_empty None = []
+or_empty (Some text) = text
+
+-- the value of a parameter; an absent tag or branch is empty (§12.1.1)
+abbrev pub param_text : List ℕ → List Param → List ℕ
+param_text name params = or_empty (param_value name params)
+
+abbrev pub is_request : Start → Bool
+is_request (Request method uri) = true
+is_request (Status code phrase) = false
+
+-- the status; 0 of a request
+abbrev pub code_of : Start → ℕ
+code_of (Request method uri) = 0
+code_of (Status code phrase) = code
+
+-- the method of a request, or of the request that a response answers, which is that of its CSeq
+abbrev pub method_of : Start → List ℕ → List ℕ
+method_of (Request method uri) answered = method
+method_of (Status code phrase) answered = answered
+
+-- a message whose five fields cannot be read has empty ones; `read` gives none
+abbrev pub head_with : Start → Option Five → Head
+head_with start None = record { is_request = is_request start; status = code_of start; method = method_of start []; branch = []; sent_by = []; from_tag = []; to_tag = []; call_id = []; number = 0 }
+head_with start (Some five) = record { is_request = is_request start; status = code_of start; method = method_of start five.cseq.method; branch = param_text (codes "branch") five.via.params; sent_by = five.via.sent_by; from_tag = param_text (codes "tag") five.from.params; to_tag = param_text (codes "tag") five.to.params; call_id = five.call_id; number = five.cseq.number }
+
+-- what is read of a message
+unfoldable pub head_of : Message Start → Head
+head_of m = head_with m.start (five_at m.lines)
+
+abbrev pub invite : List ℕ
+invite = codes "INVITE"
+
+abbrev pub is_invite : Head → Bool
+is_invite m = bytes_eq m.method invite
+
+abbrev pub is_ack : Head → Bool
+is_ack m = bytes_eq m.method (codes "ACK")
+
+abbrev pub is_cancel : Head → Bool
+is_cancel m = bytes_eq m.method (codes "CANCEL")
+
+-- the classes of statuses (§7.2)
+abbrev pub is_provisional : ℕ → Bool
+is_provisional status = nat_lt status 200
+
+abbrev pub is_2xx : ℕ → Bool
+is_2xx status = nat_le 200 status && nat_lt status 300
+
+abbrev pub is_refusal : ℕ → Bool
+is_refusal status = nat_le 300 status
+
+-- one Call-ID, one From tag and one number of CSeq
+abbrev pub is_same_call : Head → Head → Bool
+is_same_call m n = bytes_eq m.call_id n.call_id && bytes_eq m.from_tag n.from_tag && (m.number == n.number)

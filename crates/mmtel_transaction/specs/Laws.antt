@@ -1,0 +1,149 @@
+-- Laws over whole lists of calls.
+use Rattle.std.specs.Prelude.{◌≡◌, ℕ, zero, suc, ◌+◌, ◌^◌, ◌<◌, ◌≤◌, ◌⊎◌, true, false, List, [], ◌∷◌, ◌++◌, length, map, Option, Some, None, option_map}
+use Rattle.std.specs.List.{AllByRecursion}
+use Rattle.mmtel_types.specs.declared.numbers.Peer.{Peer}
+use Rattle.mmtel_message.specs.Message.{Message}
+use Rattle.mmtel_message.specs.Texts.{message_text}
+use Rattle.mmtel_message.specs.declared.messages.Start.{Start}
+use Rattle.mmtel_timers.specs.Schedules.{moments_of}
+use Rattle.mmtel_timers.specs.declared.schedules.Schedule.TheVariants as schedule
+use Rattle.mmtel_transaction.specs.Heads.{head_of, is_ack, is_invite}
+use Rattle.mmtel_transaction.specs.Deadlines.{deadline, resend_at}
+use Rattle.mmtel_transaction.specs.Calls.{Done, DidAsk, DidHear, live, opened}
+use Rattle.mmtel_transaction.specs.Answers.{Next, by_key, fires, hear_says, hears, is_before, next_due, part_of, says_due, tkey}
+use Rattle.mmtel_transaction.specs.Runs.{IsRun}
+use Rattle.mmtel_transaction.specs.Tokens.{token_text}
+use Rattle.mmtel_transaction.specs.declared.entries.Entry.{Entry}
+use Rattle.mmtel_transaction.specs.declared.heads.Head.{Head}
+use Rattle.mmtel_transaction.specs.declared.parts.Part.TheVariants as part
+use Rattle.mmtel_transaction.specs.declared.words.Due.{Due}
+use Rattle.mmtel_transaction.specs.declared.words.Due.TheVariants as due
+use Rattle.mmtel_transaction.specs.declared.words.Heard.TheVariants as heard
+
+-- what so many calls of `due` say in turn, where nothing else is called between them
+unfoldable pub dues : ℕ → ℕ → List Done → List Due
+dues zero now h = []
+dues (suc n) now h = says_due (next_due now (live h)) ∷ dues n now (fires h (next_due now (live h)))
+
+-- what is said of a request that was asked at t, sent again so long after
+abbrev pub again : Peer → Message Start → ℕ → ℕ → Due
+again p m t d = due.Again p (t + d) (message_text m)
+
+-- a request that is asked at t where no transaction is live, and that nobody answers, is sent again at these moments after t, then given up, and then nothing is due
+abbrev pub IsGivenUpAfter : List ℕ → Peer → Message Start → ℕ → Type 0
+IsGivenUpAfter moments p m t = (h : List Done) (now : ℕ) → live h ≡ [] → t + 32000 ≤ now → dues (length moments + 2) now (DidAsk p m t ∷ h) ≡ map (again p m t) moments ++ due.Silent (tkey (length (opened h))) (head_of m).branch (head_of m).method (t + 32000) ∷ due.Nothing ∷ []
+
+-- so it is with every INVITE (Timers A and B), and with every other request (Timers E and F)
+abbrev pub InvitesAreGivenUp : Type 0
+InvitesAreGivenUp = (p : Peer) (m : Message Start) (t : ℕ) → is_invite (head_of m) ≡ true → IsGivenUpAfter (moments_of schedule.Invite) p m t
+
+abbrev pub OthersAreGivenUp : Type 0
+OthersAreGivenUp = (p : Peer) (m : Message Start) (t : ℕ) → is_invite (head_of m) ≡ false → IsGivenUpAfter (moments_of schedule.Other) p m t
+
+-- two server transactions of one branch, sent-by and method (RFC 3261 §17.2.3)
+pub record HaveOneKey (e x : Entry) : Type 0 where
+  pub first : e.is_server ≡ true
+  pub second : x.is_server ≡ true
+  pub branch : e.asked.branch ≡ x.asked.branch
+  pub sent_by : e.asked.sent_by ≡ x.asked.sent_by
+  pub method : e.asked.method ≡ x.asked.method
+
+-- of the live transactions of a run no two server transactions have one key
+abbrev pub KeysAreTheirOwn : Type 0
+KeysAreTheirOwn = (h : List Done) → IsRun h → (j k : ℕ) (e x : Entry) → by_key j (live h) ≡ Some e → by_key k (live h) ≡ Some x → HaveOneKey e x → j ≡ k
+
+-- a request other than ACK that has the key of another
+pub record IsRepeatOf (m n : Head) : Type 0 where
+  pub request : n.is_request ≡ true
+  pub other : is_ack n ≡ false
+  pub branch : m.branch ≡ n.branch
+  pub sent_by : m.sent_by ≡ n.sent_by
+  pub method : m.method ≡ n.method
+
+-- the call was one of `due`, which said that this transaction ends
+pub record GivesEnd (key : ℕ) (c : Done) (h : List Done) : Type 0 where
+  pub now : ℕ
+  pub at : ℕ
+  pub says : says_due (next_due now (live h)) ≡ due.Over (tkey key) at
+  pub call : fires h (next_due now (live h)) ≡ c ∷ h
+
+-- among the calls that came after others, the newest first, one gave the end of this transaction
+abbrev pub EndWasGiven : ℕ → List Done → List Done → Type 0
+EndWasGiven key [] h = ⊥
+EndWasGiven key (c ∷ g) h = GivesEnd key c (g ++ h) ⊎ EndWasGiven key g h
+
+-- a message is taken for a repeat of the request of this transaction, and opens nothing
+pub record OpensNothing (key : ℕ) (h : List Done) (p : Peer) (m : Message Start) : Type 0 where
+  pub taken : part_of (head_of m) (live h) ≡ part.Repeat key
+  pub nothing : (now : ℕ) → opened (hears h p m now) ≡ opened h
+
+-- a request that opened a server transaction opens nothing when it is heard again, from whichever peer, until the end of that transaction was given
+abbrev pub RepeatsOpenNothing : Type 0
+RepeatsOpenNothing = (h g : List Done) (p q : Peer) (m n : Message Start) (t : ℕ) → IsRun (g ++ DidHear p m t part.Fresh ∷ h) → IsRepeatOf (head_of m) (head_of n) → EndWasGiven (length (opened h)) g (DidHear p m t part.Fresh ∷ h) ⊎ OpensNothing (length (opened h)) (g ++ DidHear p m t part.Fresh ∷ h) q n
+
+-- and from another peer than the one that opened it, it gets nothing
+abbrev pub StrangersGetNothing : Type 0
+StrangersGetNothing = (h g : List Done) (p q : Peer) (m n : Message Start) (t : ℕ) → IsRun (g ++ DidHear p m t part.Fresh ∷ h) → IsRepeatOf (head_of m) (head_of n) → (q.0 ≡ p.0 → ⊥) → EndWasGiven (length (opened h)) g (DidHear p m t part.Fresh ∷ h) ⊎ (hear_says (g ++ DidHear p m t part.Fresh ∷ h) q n ≡ Some (heard.Repeat None))
+
+-- what an ACK of the non-2xx final of this transaction leaves
+pub record EndsResends (key now : ℕ) (before after : List Entry) : Type 0 where
+  -- it is still live, and nothing of it is sent again
+  pub ended : option_map resend_at (by_key key after) ≡ Some None
+  -- after the first ACK it ends 5,000 ms later (Timer I)
+  pub end : (e : Entry) → by_key key before ≡ Some e → e.is_acked ≡ false → option_map deadline (by_key key after) ≡ Some (Some (now + 5000))
+  -- every other transaction is as before
+  pub others : (j : ℕ) → (j ≡ key → ⊥) → by_key j after ≡ by_key j before
+
+abbrev pub AcksEndResends : Type 0
+AcksEndResends = (h : List Done) (p : Peer) (m : Message Start) (now key : ℕ) → IsRun h → part_of (head_of m) (live h) ≡ part.Acked key → EndsResends key now (live h) (live (hears h p m now))
+
+abbrev pub fired_then : Option Next → List Next → List Next
+fired_then None ns = []
+fired_then (Some n) ns = n ∷ ns
+
+-- the deadlines that so many calls of `due` fire in turn, where nothing else is called between them
+unfoldable pub firings : ℕ → ℕ → List Done → List Next
+firings zero now h = []
+firings (suc n) now h = fired_then (next_due now (live h)) (firings n now (fires h (next_due now (live h))))
+
+-- a deadline that fires after another does not come before it, by its moment, the step that armed it and the offer of its message; and of one transaction it is of a later moment
+pub record FiresAfter (x y : Next) : Type 0 where
+  pub order : is_before y.at y.entry x.at x.entry ≡ false
+  pub once : y.entry.key ≡ x.entry.key → x.at < y.at
+
+abbrev pub AreInOrder : List Next → Type 0
+AreInOrder [] = Unit {0}
+AreInOrder (x ∷ xs) = AllByRecursion (FiresAfter x) xs × AreInOrder xs
+
+-- whatever was called before, deadlines fire in order, and each once
+abbrev pub FiresInOrder : Type 0
+FiresInOrder = (h : List Done) (n now : ℕ) → AreInOrder (firings n now h)
+
+-- the deadline that fires is due, and no deadline of a live transaction comes before it
+pub record IsFirstDue (now : ℕ) (es : List Entry) (n : Next) : Type 0 where
+  pub stands : by_key n.entry.key es ≡ Some n.entry
+  pub moment : deadline n.entry ≡ Some n.at
+  pub not_past : n.at ≤ now
+  pub first : (key at : ℕ) (e : Entry) → by_key key es ≡ Some e → deadline e ≡ Some at → is_before at e n.at n.entry ≡ false
+
+abbrev pub TheFirstFires : Type 0
+TheFirstFires = (h : List Done) (now : ℕ) (n : Next) → next_due now (live h) ≡ Some n → IsFirstDue now (live h) n
+
+-- this is what `due` says last of a transaction: that it is given up, or that it ends
+abbrev pub IsLast : ℕ → Due → Type 0
+IsLast key (due.Again peer at text) = ⊥
+IsLast key (due.Silent k branch method at) = k.0 ≡ key
+IsLast key (due.Over k at) = k.0 ≡ key
+IsLast key due.Nothing = ⊥
+
+-- a transaction of which that was said is no longer live
+abbrev pub LastOnesEnd : Type 0
+LastOnesEnd = (h : List Done) (now key : ℕ) → IsLast key (says_due (next_due now (live h))) → by_key key (live (fires h (next_due now (live h)))) ≡ None
+
+-- and what is no longer live is never live again, whatever is called
+abbrev pub WhatEndedStays : Type 0
+WhatEndedStays = (h g : List Done) (key : ℕ) → key < length (opened h) → by_key key (live h) ≡ None → by_key key (live (g ++ h)) ≡ None
+
+-- tokens of two numbers differ
+abbrev pub TokensDiffer : Type 0
+TokensDiffer = (token : List ℕ) (m n : ℕ) → m < 2 ^ 64 → n < 2 ^ 64 → token_text token m ≡ token_text token n → m ≡ n

@@ -1,0 +1,10 @@
+pub mod Heads
+pub mod Deadlines
+pub mod Changes
+pub mod Calls
+pub mod Answers
+pub mod Runs
+pub mod Table
+pub mod Tokens
+pub mod Laws
+pub mod Rows

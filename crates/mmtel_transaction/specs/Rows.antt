@@ -1,0 +1,77 @@
+-- Worked sequences of calls: a repeated INVITE and its final, and silence.
+use Rattle.std.specs.Prelude.{◌≡◌, ℕ, ◌++◌, List, [], ◌∷◌, codes, Option, Some, None}
+use Rattle.mmtel_types.specs.declared.numbers.Peer.{Peer}
+use Rattle.mmtel_message.specs.Message.{Message}
+use Rattle.mmtel_message.specs.Texts.{message_text}
+use Rattle.mmtel_message.specs.declared.messages.Start.{Start}
+use Rattle.mmtel_message.specs.declared.messages.Start.TheVariants.{Request, Status}
+use Rattle.mmtel_transaction.specs.Calls.{Done, DidAck, DidAsk, DidFire, DidHear, DidReply, live}
+use Rattle.mmtel_transaction.specs.Answers.{hear_says, next_due, says_due, tkey}
+use Rattle.mmtel_transaction.specs.Laws.{again, dues}
+use Rattle.mmtel_transaction.specs.declared.parts.Part.TheVariants as part
+use Rattle.mmtel_transaction.specs.declared.words.Due.TheVariants as due
+use Rattle.mmtel_transaction.specs.declared.words.Heard.{Heard}
+use Rattle.mmtel_transaction.specs.declared.words.Heard.TheVariants as heard
+
+-- a message of this start line, branch and CSeq method
+abbrev pub worded : Start → List ℕ → List ℕ → Message Start
+worded start branch method = record { start = start; lines = (codes "Via", codes "SIP/2.0/UDP a;branch=" ++ branch) ∷ (codes "From", codes "<sip:a@h>;tag=a") ∷ (codes "To", codes "<sip:b@h>;tag=b") ∷ (codes "Call-ID", codes "c") ∷ (codes "CSeq", codes "1 " ++ method) ∷ []; body = [] }
+
+abbrev pub request : List ℕ → List ℕ → Message Start
+request method branch = worded (Request method (codes "sip:b@h")) branch method
+
+abbrev pub response : ℕ → List ℕ → Message Start
+response status branch = worded (Status status (codes "X")) branch (codes "INVITE")
+
+abbrev pub peer : ℕ → Peer
+peer n = record { 0 = n }
+
+-- silence: an INVITE to peer 1 that nobody answers, up to 40,000 ms; it is given up at 32,000
+abbrev pub first_invite : Message Start
+first_invite = request (codes "INVITE") (codes "a")
+
+abbrev pub second_invite : Message Start
+second_invite = request (codes "INVITE") (codes "b")
+
+abbrev pub Silence : Type 0
+Silence = dues 8 40000 (DidAsk (peer 1) first_invite 0 ∷ []) ≡ again (peer 1) first_invite 0 500 ∷ again (peer 1) first_invite 0 1500 ∷ again (peer 1) first_invite 0 3500 ∷ again (peer 1) first_invite 0 7500 ∷ again (peer 1) first_invite 0 15500 ∷ again (peer 1) first_invite 0 31500 ∷ due.Silent (tkey 0) (codes "a") (codes "INVITE") 32000 ∷ due.Nothing ∷ []
+
+-- and another one that is sent to peer 2 then
+abbrev pub SecondSilence : Type 0
+SecondSilence = dues 5 40000 (DidAsk (peer 2) second_invite 32000 ∷ []) ≡ again (peer 2) second_invite 32000 500 ∷ again (peer 2) second_invite 32000 1500 ∷ again (peer 2) second_invite 32000 3500 ∷ again (peer 2) second_invite 32000 7500 ∷ due.Nothing ∷ []
+
+-- a repeated INVITE and its final: the INVITE of peer 1, which is passed on to peer 2
+abbrev pub invite_heard : List Done
+invite_heard = DidAsk (peer 2) second_invite 0 ∷ DidReply 0 (response 100 (codes "a")) 0 ∷ DidHear (peer 1) first_invite 0 part.Fresh ∷ []
+
+-- peer 2 rings at 100
+abbrev pub ringing : List Done
+ringing = DidReply 0 (response 180 (codes "a")) 100 ∷ DidHear (peer 2) (response 180 (codes "b")) 100 (part.Answer 1) ∷ invite_heard
+
+-- the INVITE is heard again at 200, peer 2 refuses at 300
+abbrev pub refused : List Done
+refused = DidReply 0 (response 486 (codes "a")) 300 ∷ DidAck 1 (request (codes "ACK") (codes "b")) ∷ DidHear (peer 2) (response 486 (codes "b")) 300 (part.Answer 1) ∷ DidHear (peer 1) first_invite 200 (part.Repeat 0) ∷ ringing
+
+-- the INVITE is heard again at 350, its ACK at 400
+abbrev pub acknowledged : List Done
+acknowledged = DidHear (peer 1) (request (codes "ACK") (codes "a")) 400 (part.Acked 0) ∷ DidHear (peer 1) first_invite 350 (part.Repeat 0) ∷ refused
+
+abbrev pub repeat_of : ℕ → Option Heard
+repeat_of status = Some (heard.Repeat (Some (peer 1, message_text (response status (codes "a")))))
+
+-- the INVITE opens a transaction; heard again, it gives the 180, then the 486, and nothing after the ACK
+pub record RepeatedInvite : Type 0 where
+  pub opens : hear_says [] (peer 1) first_invite ≡ Some (heard.Fresh (tkey 0) first_invite)
+  pub ringing_again : hear_says ringing (peer 1) first_invite ≡ repeat_of 180
+  pub refused_again : hear_says refused (peer 1) first_invite ≡ repeat_of 486
+  pub nothing_again : hear_says acknowledged (peer 1) first_invite ≡ Some (heard.Repeat None)
+
+-- the calls on the caller's side alone, up to the ACK
+abbrev pub callers_side : List Done
+callers_side = DidHear (peer 1) (request (codes "ACK") (codes "a")) 400 (part.Acked 0) ∷ DidReply 0 (response 486 (codes "a")) 300 ∷ DidHear (peer 1) first_invite 0 part.Fresh ∷ []
+
+-- after the ACK the transaction ends at 5,400, and not before
+pub record EndsAfterTheAck : Type 0 where
+  pub waits : says_due (next_due 5399 (live callers_side)) ≡ due.Nothing
+  pub ends : says_due (next_due 5400 (live callers_side)) ≡ due.Over (tkey 0) 5400
+  pub opens : hear_says (DidFire 0 ∷ callers_side) (peer 1) first_invite ≡ Some (heard.Fresh (tkey 1) first_invite)

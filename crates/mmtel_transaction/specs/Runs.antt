@@ -1,0 +1,22 @@
+-- The lists of calls that can come about.
+use Rattle.std.specs.Prelude.{◌≡◌, ℕ, List, [], ◌∷◌, Some}
+use Rattle.mmtel_transaction.specs.Heads.{head_of}
+use Rattle.mmtel_transaction.specs.Calls.{Done, DidBegin, DidHear, DidAsk, DidReply, DidAck, DidFire, live}
+use Rattle.mmtel_transaction.specs.Answers.{Next, next_due, part_of}
+
+-- of all deadlines one of this transaction came next, at some moment
+pub record IsNextOf (key : ℕ) (h : List Done) : Type 0 where
+  pub now : ℕ
+  pub next : Next
+  pub first : next_due now (live h) ≡ Some next
+  pub same : next.entry.key ≡ key
+
+-- each message was taken for what the calls before make of it, and each deadline that fired was then the next one
+abbrev pub IsRun : List Done → Type 0
+IsRun [] = Unit {0}
+IsRun (DidBegin n ∷ h) = IsRun h
+IsRun (DidHear p m now taken ∷ h) = (taken ≡ part_of (head_of m) (live h)) × IsRun h
+IsRun (DidAsk p m now ∷ h) = IsRun h
+IsRun (DidReply key m now ∷ h) = IsRun h
+IsRun (DidAck key m ∷ h) = IsRun h
+IsRun (DidFire key ∷ h) = IsNextOf key h × IsRun h

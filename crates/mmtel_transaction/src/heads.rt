@@ -1,0 +1,224 @@
+//! What the transactions read of a message.
+ghost use Rattle.std.specs.Prelude.{◌≡◌, IfOk, None, Some};
+ghost use Rattle.std.specs.Str.{bytes_eq};
+ghost use Rattle.mmtel_transaction.specs.Heads.{code_of, head_of, head_with, is_ack, is_cancel, is_invite, is_request, is_same_call, method_of, param_text};
+
+use mmtel_lex::{LexFault, Param};
+use mmtel_message::{Five, Msg, Start, param_value, read_five};
+use mmtel_scan::{NoMemory, Text};
+use std::alloc::Global;
+
+/// What the transactions read of a message.
+pub struct Head {
+    pub is_request: bool,
+    /// The status; 0 of a request.
+    pub status: u16,
+    /// That of the request which is made or answered.
+    pub method: Text,
+    /// The branch of the first Via.
+    pub branch: Text,
+    /// Host and port of the first Via, as received.
+    pub sent_by: Text,
+    pub from_tag: Text,
+    pub to_tag: Text,
+    pub call_id: Text,
+    /// The number of CSeq.
+    pub number: u32,
+}
+
+impl Drop for Head {
+    fn drop(self) {
+        let Head {
+            is_request: _,
+            status: _,
+            method: _,
+            branch: _,
+            sent_by: _,
+            from_tag: _,
+            to_tag: _,
+            call_id: _,
+            number: _,
+        } = self;
+    }
+}
+
+/// The value of a parameter, no bytes where there is none.
+fn param_text(alloc: Global, params: &[Param], name: &[u8]) -> Result<Text, NoMemory>
+    ensures { IfOk result (λ text. text ≡ param_text name.now params.now) }
+{
+    match param_value(params, name) {
+        Some(value) => Text::of(alloc, value),
+        None => Ok(Text::new()),
+    }
+}
+
+/// Whether a start line is that of a request.
+fn is_request(start: &Start) -> bool
+    ensures { result ≡ is_request start.now }
+{
+    match start {
+        Start::Request { .. } => true,
+        Start::Status { .. } => false,
+    }
+}
+
+/// The status of a start line; 0 of a request.
+fn code_of(start: &Start) -> u16
+    ensures { result ≡ code_of start.now }
+{
+    match start {
+        Start::Request { .. } => 0,
+        Start::Status { code, .. } => *code,
+    }
+}
+
+/// The method of a request, or the one that a response answers.
+fn method_of(alloc: Global, start: &Start, answered: &[u8]) -> Result<Text, NoMemory>
+    ensures { IfOk result (λ text. text ≡ method_of start.now answered.now) }
+{
+    match start {
+        Start::Request { method, .. } => Text::of(alloc, method.bytes()),
+        Start::Status { .. } => Text::of(alloc, answered),
+    }
+}
+
+/// What is read of a message without its five fields.
+fn head_without(alloc: Global, start: &Start) -> Result<Head, NoMemory>
+    ensures { IfOk result (λ head. head ≡ head_with start.now None) }
+{
+    Ok(Head {
+        is_request: is_request(start),
+        status: code_of(start),
+        method: method_of(alloc, start, b"")?,
+        branch: Text::new(),
+        sent_by: Text::new(),
+        from_tag: Text::new(),
+        to_tag: Text::new(),
+        call_id: Text::new(),
+        number: 0,
+    })
+}
+
+/// What is read of a message with these five fields.
+fn head_with(alloc: Global, start: &Start, five: &Five) -> Result<Head, NoMemory>
+    ensures { IfOk result (λ head. head ≡ head_with start.now (Some five.now)) }
+{
+    Ok(Head {
+        is_request: is_request(start),
+        status: code_of(start),
+        method: method_of(alloc, start, five.cseq.method.bytes())?,
+        branch: param_text(alloc, five.via.params.items(), b"branch")?,
+        sent_by: Text::of(alloc, five.via.sent_by.bytes())?,
+        from_tag: param_text(alloc, five.from.params.items(), b"tag")?,
+        to_tag: param_text(alloc, five.to.params.items(), b"tag")?,
+        call_id: Text::of(alloc, five.call_id.bytes())?,
+        number: five.cseq.number,
+    })
+}
+
+/// Lets the five fields go: one call, in place of one for each field at each exit.
+fn let_go(five: Five) {
+    let Five {
+        via: _,
+        from: _,
+        to: _,
+        call_id: _,
+        cseq: _,
+    } = five;
+}
+
+/// What is read of a message with these five fields, which are let go.
+fn head_from(alloc: Global, start: &Start, five: Five) -> Result<Head, NoMemory>
+    ensures { IfOk result (λ head. head ≡ head_with start.now (Some five)) }
+{
+    let head = head_with(alloc, start, &five);
+    let_go(five);
+    head
+}
+
+impl Head {
+    /// What is read of a message.
+    ///
+    /// # Errors
+    ///
+    /// Want of memory alone.
+    #[tactic(auto, unfolding(crate::specs::Heads::head_of))]
+    pub fn of(alloc: Global, m: &Msg) -> Result<Head, NoMemory>
+        ensures { IfOk result (λ head. head ≡ head_of m.now) }
+    {
+        match read_five(alloc, m.lines()) {
+            Ok(five) => head_from(alloc, m.start(), five),
+            Err(LexFault::Malformed { .. }) => head_without(alloc, m.start()),
+            Err(LexFault::NoMemory) => Err(NoMemory),
+        }
+    }
+
+    /// The status and the To tag of an answer.
+    pub fn status_and_tag(self) -> (u16, Text)
+        ensures { result ≡ (self.status, self.to_tag) }
+    {
+        let Head {
+            is_request: _,
+            status,
+            method: _,
+            branch: _,
+            sent_by: _,
+            from_tag: _,
+            to_tag,
+            call_id: _,
+            number: _,
+        } = self;
+        (status, to_tag)
+    }
+
+    /// Whether the method is INVITE.
+    pub fn is_invite(&self) -> bool
+        ensures { result ≡ is_invite self.now }
+    {
+        self.method.bytes() == b"INVITE".as_slice()
+    }
+
+    /// Whether the method is ACK.
+    pub fn is_ack(&self) -> bool
+        ensures { result ≡ is_ack self.now }
+    {
+        self.method.bytes() == b"ACK".as_slice()
+    }
+
+    /// Whether the method is CANCEL.
+    pub fn is_cancel(&self) -> bool
+        ensures { result ≡ is_cancel self.now }
+    {
+        self.method.bytes() == b"CANCEL".as_slice()
+    }
+
+    /// Whether the branches are one.
+    pub fn is_branch(&self, other: &Head) -> bool
+        ensures { result ≡ bytes_eq self.now.branch other.now.branch }
+    {
+        self.branch.bytes() == other.branch.bytes()
+    }
+
+    /// Whether the sent-bys are one.
+    pub fn is_sent_by(&self, other: &Head) -> bool
+        ensures { result ≡ bytes_eq self.now.sent_by other.now.sent_by }
+    {
+        self.sent_by.bytes() == other.sent_by.bytes()
+    }
+
+    /// Whether the methods are one.
+    pub fn is_method(&self, other: &Head) -> bool
+        ensures { result ≡ bytes_eq self.now.method other.now.method }
+    {
+        self.method.bytes() == other.method.bytes()
+    }
+
+    /// Whether Call-ID, From tag and number of CSeq are one.
+    pub fn is_same_call(&self, other: &Head) -> bool
+        ensures { result ≡ is_same_call self.now other.now }
+    {
+        self.call_id.bytes() == other.call_id.bytes()
+            && self.from_tag.bytes() == other.from_tag.bytes()
+            && self.number == other.number
+    }
+}

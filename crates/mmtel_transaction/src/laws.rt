@@ -1,0 +1,54 @@
+//! Laws over whole lists of calls: each is the contract of a function that does nothing.
+ghost use Rattle.mmtel_transaction.specs.Laws.{AcksEndResends, FiresInOrder, InvitesAreGivenUp, KeysAreTheirOwn, LastOnesEnd, OthersAreGivenUp, RepeatsOpenNothing, StrangersGetNothing, TheFirstFires, TokensDiffer, WhatEndedStays};
+ghost use Rattle.mmtel_transaction.specs.Rows.{EndsAfterTheAck, RepeatedInvite, SecondSilence, Silence};
+
+/// An INVITE that nobody answers is sent again at the moments of its closed list, then it is given up, and then nothing is due (RFC 3261 §17.1.1.2).
+pub fn invites_are_given_up()
+    ensures given_up { InvitesAreGivenUp }
+{}
+
+/// So is any other request, by its own list (RFC 3261 §17.1.2.2).
+pub fn others_are_given_up()
+    ensures given_up { OthersAreGivenUp }
+{}
+
+/// No two live server transactions have one branch, sent-by and method (RFC 3261 §17.2.3).
+pub fn keys_are_their_own()
+    ensures distinct { KeysAreTheirOwn }
+{}
+
+/// A request that opened a server transaction opens nothing when it is heard again, until `due` gave the end of that transaction; and from another peer than the one that opened it, it gets nothing.
+pub fn repeats_open_nothing()
+    ensures nothing { RepeatsOpenNothing }
+    ensures strangers { StrangersGetNothing }
+{}
+
+/// The ACK of a non-2xx final ends its sending again, and only its own (RFC 3261 §17.2.1).
+pub fn acks_end_resends()
+    ensures ended { AcksEndResends }
+{}
+
+/// What `due` gives comes in the order of moments, then of the steps that armed it, then of the offers; it is the first that is due; and while nothing else is called no deadline is given twice.
+pub fn deadlines_fire_in_order()
+    ensures order { FiresInOrder }
+    ensures first { TheFirstFires }
+{}
+
+/// A transaction that was given up, or whose end was given, is no longer live, and whatever is called it never is again: so its end is given at most once.
+pub fn ends_are_given_once()
+    ensures ended { LastOnesEnd }
+    ensures stays { WhatEndedStays }
+{}
+
+/// Each token is drawn once: those of two numbers differ.
+pub fn tokens_differ()
+    ensures differ { TokensDiffer }
+{}
+
+/// Two worked sequences of calls compute from the definitions: a repeated INVITE and its final, and an INVITE that nobody answers with the one that is sent after it.
+pub fn rows_compute()
+    ensures repeated { RepeatedInvite }
+    ensures silence { Silence }
+    ensures second { SecondSilence }
+    ensures ended { EndsAfterTheAck }
+{}

@@ -1,0 +1,305 @@
+//! The transactions.
+ghost use Rattle.std.specs.Prelude.{◌≡◌, [], ◌∷◌, ◌<◌, ◌^◌, IfErr, IfOk, List, length, OnErr, OnOk, Some};
+ghost use Rattle.mmtel_transaction.specs.Heads.{head_of};
+ghost use Rattle.mmtel_transaction.specs.Calls.{DidAck, DidAsk, DidBegin, DidReply, Done, live, opened};
+ghost use Rattle.mmtel_transaction.specs.Answers.{fires, hear_says, hears, is_merged, next_due, part_of, peer_of, says_due, says_opened, tkey, upcoming_of};
+ghost use Rattle.mmtel_transaction.specs.Table.{Does, HearsAs, IsRefusal, Stands, Stays};
+ghost use Rattle.mmtel_transaction.specs.declared.parts.Part.TheVariants.{Acked, AckOf2xx, Answer, Fresh, Repeat, Same, Stray};
+
+use crate::entries::{Change, asked_entry, heard_entry, reply_change};
+use crate::heads::Head;
+use crate::parts::Part;
+use crate::table::{
+    Entries, give_key, invite_key, next_at, next_of, peer_at, same_key, say_due, take_part, twin_of,
+};
+use crate::words::{Due, HearFault, Heard, TKey};
+use mmtel_message::Msg;
+use mmtel_scan::NoMemory;
+use mmtel_types::{Moment, Peer};
+use std::alloc::Global;
+
+/// The transactions of a server, which stand for the calls that were made of them.
+#[derive(Drop)]
+pub struct Transactions {
+    /// The number that deadlines carry which are armed from here on.
+    step: u64,
+    /// How many calls were made.
+    calls: u64,
+    /// How many transactions were opened.
+    next: u64,
+    /// The live transactions, the oldest first.
+    entries: Entries,
+}
+
+impl Transactions {
+    /// No transactions. It takes no memory.
+    pub fn new() -> Transactions
+        ensures stands { Stands result [] }
+    {
+        Transactions {
+            step: 0,
+            calls: 0,
+            next: 0,
+            entries: Entries::new(),
+        }
+    }
+
+    /// Deadlines that are armed from here on carry this number, which is at least that of the `begin` before.
+    pub fn begin(&mut self, step: u64)
+        ensures done { (h : List Done) → Stands self.old h → length h < 2 ^ 62 → Stands self.new (DidBegin step ∷ h) }
+    {
+        self.step = step;
+        self.calls = self.calls.wrapping_add(1);
+    }
+
+    /// A request is sent in a client transaction of its own, whose key is given.
+    ///
+    /// # Errors
+    ///
+    /// Want of memory alone; the transactions are then as before.
+    pub fn ask(&mut self, alloc: Global, p: Peer, m: &Msg, now: Moment) -> Result<TKey, NoMemory>
+        ensures done { IfOk result (λ key. Does self.old self.new (λ h. DidAsk p m.now now ∷ h) (λ h. key ≡ tkey (length (opened h)))) }
+        ensures err { OnErr result ((h : List Done) → Stands self.old h → Stands self.new h) }
+    {
+        let asked = Head::of(alloc, m)?;
+        let text = m.text(alloc)?;
+        let key = self.next;
+        self.entries.push(
+            alloc,
+            asked_entry(self.step, self.calls, key, p, asked, text, now.ms()),
+        )?;
+        self.calls = self.calls.wrapping_add(1);
+        self.next = self.next.wrapping_add(1);
+        Ok(TKey(key))
+    }
+
+    /// An answer is offered in a live server transaction without a final answer; in any other nothing changes.
+    ///
+    /// # Errors
+    ///
+    /// Want of memory alone; the transactions are then as before.
+    pub fn reply(&mut self, alloc: Global, key: TKey, m: &Msg, now: Moment) -> Result<(), NoMemory>
+        ensures done { OnOk result ((h : List Done) → Stands self.old h → length h < 2 ^ 62 → Stands self.new (DidReply key.0 m.now now ∷ h)) }
+        ensures err { OnErr result ((h : List Done) → Stands self.old h → Stands self.new h) }
+    {
+        let head = Head::of(alloc, m)?;
+        let text = m.text(alloc)?;
+        let change = reply_change(self.step, self.calls, head, text, now.ms());
+        self.entries.settle(key.0, change);
+        self.calls = self.calls.wrapping_add(1);
+        Ok(())
+    }
+
+    /// The ACK of the non-2xx final that this live client INVITE transaction heard is kept, to be sent again when that final is heard again; in any other nothing changes.
+    ///
+    /// # Errors
+    ///
+    /// Want of memory alone; the transactions are then as before.
+    pub fn ack(&mut self, alloc: Global, key: TKey, m: &Msg) -> Result<(), NoMemory>
+        ensures done { OnOk result ((h : List Done) → Stands self.old h → length h < 2 ^ 62 → Stands self.new (DidAck key.0 m.now ∷ h)) }
+        ensures err { OnErr result ((h : List Done) → Stands self.old h → Stands self.new h) }
+    {
+        let text = m.text(alloc)?;
+        self.entries.settle(key.0, Change::Keep(text));
+        self.calls = self.calls.wrapping_add(1);
+        Ok(())
+    }
+
+    /// Hears a message: says which transaction it opens or belongs to, and what is sent again because of it.
+    ///
+    /// # Errors
+    ///
+    /// `Full`, which hands the message back, exactly where it would open a server transaction and 16,384 are live; and want of memory. The transactions are then as before.
+    pub fn hear(&mut self, alloc: Global, p: Peer, m: Msg, now: Moment) -> Result<Heard, HearFault>
+        ensures done { IfOk result (λ said. Does self.old self.new (λ h. hears h p m now) (λ h. Some said ≡ hear_says h p m)) }
+        ensures refused { IfErr result (λ fault. Stays self.old self.new (λ h. IsRefusal (part_of (head_of m) (live h)) m fault)) }
+    {
+        let head = Head::of(alloc, &m)?;
+        let taken = take_part(self.entries.items(), &head);
+        self.hear_as(alloc, p, m, head, now.ms(), taken)
+    }
+
+    /// The first deadline that is not past now fires: by its moment, then the step that armed it, then the offer of its message.
+    ///
+    /// # Errors
+    ///
+    /// Want of memory alone; the transactions are then as before.
+    pub fn due(&mut self, alloc: Global, now: Moment) -> Result<Due, NoMemory>
+        ensures done { IfOk result (λ said. Does self.old self.new (λ h. fires h (next_due now (live h))) (λ h. said ≡ says_due (next_due now (live h)))) }
+        ensures err { OnErr result ((h : List Done) → Stands self.old h → Stands self.new h) }
+    {
+        match next_of(self.entries.items(), now.ms()) {
+            None => Ok(Due::Nothing),
+            Some(found) => {
+                let said = say_due(alloc, found)?;
+                let key = found.of.key;
+                self.entries.settle(key, Change::Fire(self.step));
+                self.calls = self.calls.wrapping_add(1);
+                Ok(said)
+            }
+        }
+    }
+
+    /// The moment and the step of the deadline that `due` would take; None exactly where there is none.
+    pub fn upcoming(&self, now: Moment) -> Option<(u64, u64)>
+        ensures next { (h : List Done) → Stands self.now h → result ≡ upcoming_of (next_due now (live h)) }
+    {
+        next_at(self.entries.items(), now.ms())
+    }
+
+    /// The peer from which a live server transaction was opened, or to which a live client transaction was asked; None exactly where the key's is not live.
+    pub fn peer(&self, key: TKey) -> Option<Peer>
+        ensures live { (h : List Done) → Stands self.now h → result ≡ peer_of key.0 (live h) }
+    {
+        peer_at(self.entries.items(), key.0)
+    }
+
+    /// Whether another live server transaction has the From tag, Call-ID and CSeq of this one (RFC 3261 §8.2.2.2).
+    pub fn merged(&self, key: TKey) -> bool
+        ensures live { (h : List Done) → Stands self.now h → result ≡ is_merged key.0 (live h) }
+    {
+        twin_of(self.entries.items(), key.0)
+    }
+}
+
+/// What is said of a request that opens a server transaction.
+fn say_fresh(key: u64, invite: Option<TKey>, is_cancel: bool, m: Msg) -> Heard
+    ensures { result ≡ says_opened is_cancel key invite m }
+{
+    if is_cancel {
+        Heard::Cancel(TKey(key), invite, m)
+    } else {
+        Heard::Fresh(TKey(key), m)
+    }
+}
+
+/// One method for each thing that a message may be taken for. What was read of the message is its second part.
+impl Transactions {
+    /// A request is heard that opens a server transaction.
+    fn hear_fresh(
+        &mut self,
+        alloc: Global,
+        p: Peer,
+        m: Msg,
+        head: Head,
+        now: u64,
+    ) -> Result<Heard, NoMemory>
+        ensures done { head ≡ head_of m → IfOk result (λ said. HearsAs self.old self.new p m now Fresh said) }
+        ensures err { OnErr result ((h : List Done) → Stands self.old h → Stands self.new h) }
+    {
+        let key = self.next;
+        let invite = invite_key(self.entries.items(), &head);
+        let is_cancel = head.is_cancel();
+        self.entries.push(alloc, heard_entry(self.step, self.calls, key, p, head, now))?;
+        self.calls = self.calls.wrapping_add(1);
+        self.next = self.next.wrapping_add(1);
+        Ok(say_fresh(key, invite, is_cancel, m))
+    }
+
+    /// A request is heard again.
+    fn hear_repeat(
+        &mut self,
+        alloc: Global,
+        p: Peer,
+        m: Msg,
+        now: u64,
+        key: u64,
+    ) -> Result<Heard, NoMemory>
+        ensures done { IfOk result (λ said. HearsAs self.old self.new p m now (Repeat key) said) }
+        ensures err { OnErr result ((h : List Done) → Stands self.old h → Stands self.new h) }
+    {
+        let given = give_key(alloc, self.entries.items(), key, p)?;
+        self.calls = self.calls.wrapping_add(1);
+        Ok(Heard::Repeat(given))
+    }
+
+    /// A non-2xx final is heard again.
+    fn hear_same(
+        &mut self,
+        alloc: Global,
+        p: Peer,
+        m: Msg,
+        now: u64,
+        key: u64,
+    ) -> Result<Heard, NoMemory>
+        ensures done { IfOk result (λ said. HearsAs self.old self.new p m now (Same key) said) }
+        ensures err { OnErr result ((h : List Done) → Stands self.old h → Stands self.new h) }
+    {
+        let given = same_key(alloc, self.entries.items(), key)?;
+        self.calls = self.calls.wrapping_add(1);
+        Ok(Heard::Repeat(given))
+    }
+
+    /// A response is heard that answers a client transaction.
+    fn hear_answer(&mut self, p: Peer, m: Msg, status: u16, now: u64, key: u64) -> Heard
+        ensures { status ≡ (head_of m).status → HearsAs self.old self.new p m now (Answer key) result }
+    {
+        self.entries.settle(
+            key,
+            Change::Answer {
+                step: self.step,
+                status,
+                now,
+            },
+        );
+        self.calls = self.calls.wrapping_add(1);
+        Heard::Answer(TKey(key), m)
+    }
+
+    /// The ACK of a non-2xx final is heard.
+    fn hear_acked(&mut self, p: Peer, m: Msg, now: u64, key: u64) -> Heard
+        ensures { HearsAs self.old self.new p m now (Acked key) result }
+    {
+        self.entries.settle(
+            key,
+            Change::Ack {
+                step: self.step,
+                now,
+            },
+        );
+        self.calls = self.calls.wrapping_add(1);
+        Heard::Acked(TKey(key))
+    }
+
+    /// Any other ACK is heard.
+    fn hear_ack(&mut self, p: Peer, m: Msg, head: &Head, now: u64) -> Heard
+        ensures { head.now ≡ head_of m → HearsAs self.old self.new p m now AckOf2xx result }
+    {
+        self.entries.ack_2xx(self.step, head);
+        self.calls = self.calls.wrapping_add(1);
+        Heard::AckOf2xx(m)
+    }
+
+    /// A response is heard that answers nothing.
+    fn hear_stray(&mut self, p: Peer, m: Msg, now: u64) -> Heard
+        ensures { HearsAs self.old self.new p m now Stray result }
+    {
+        self.calls = self.calls.wrapping_add(1);
+        Heard::Stray
+    }
+
+    /// A message is heard that is taken for this.
+    fn hear_as(
+        &mut self,
+        alloc: Global,
+        p: Peer,
+        m: Msg,
+        head: Head,
+        now: u64,
+        taken: Part,
+    ) -> Result<Heard, HearFault>
+        ensures done { head ≡ head_of m → IfOk result (λ said. HearsAs self.old self.new p m now taken said) }
+        ensures refused { IfErr result (λ fault. Stays self.old self.new (λ h. IsRefusal taken m fault)) }
+    {
+        match taken {
+            Part::Fresh => Ok(self.hear_fresh(alloc, p, m, head, now)?),
+            Part::Full => Err(HearFault::Full(m)),
+            Part::Repeat(key) => Ok(self.hear_repeat(alloc, p, m, now, key)?),
+            Part::Same(key) => Ok(self.hear_same(alloc, p, m, now, key)?),
+            Part::Answer(key) => Ok(self.hear_answer(p, m, head.status, now, key)),
+            Part::Acked(key) => Ok(self.hear_acked(p, m, now, key)),
+            Part::AckOf2xx => Ok(self.hear_ack(p, m, &head, now)),
+            Part::Stray => Ok(self.hear_stray(p, m, now)),
+        }
+    }
+}

@@ -1,0 +1,130 @@
+//! What the layers above hear of transactions, and what they hand down.
+ghost use Rattle.std.specs.Prelude.{◌≡◌};
+ghost use Rattle.mmtel_transaction.specs.declared.words.HearFault.TheVariants as fault;
+
+use mmtel_message::Msg;
+use mmtel_scan::{List, NoMemory, Text};
+use mmtel_types::{CallNo, Peer, RoomNo};
+
+/// The number of a transaction: how many were opened before it, servers and clients together.
+#[derive(Clone, Copy, Debug, PartialEq, Eq, PartialOrd, Ord)]
+pub struct TKey(pub u64);
+
+/// What is due of a call, with the number of the attempt or 2xx, counted within the call, for which it was armed.
+///
+/// A deadline whose attempt or 2xx no longer waits for it emits nothing.
+#[derive(Clone, Copy, Debug, PartialEq, Eq)]
+pub enum DueWord {
+    /// The target did not answer in time.
+    NoReply(u64),
+    /// The longest time for which a call may ring is over.
+    Cap(u64),
+    /// No ACK of a 2xx came.
+    NoAck(u64),
+}
+
+/// What is due of a room, with the number of the invitation or 2xx, counted within the room, for which it was armed.
+///
+/// A deadline whose invitation or 2xx no longer waits for it emits nothing.
+#[derive(Clone, Copy, Debug, PartialEq, Eq)]
+pub enum RoomWord {
+    /// The longest time for which an invitation may ring is over.
+    Cap(u64),
+    /// No ACK of a 2xx came.
+    NoAck(u64),
+}
+
+/// What a call or a room wants done.
+#[derive(Drop)]
+pub enum Emit {
+    /// A request is sent in a client transaction of its own.
+    Ask {
+        peer: Peer,
+        msg: Msg,
+    },
+    /// A server transaction is answered.
+    Reply {
+        key: TKey,
+        msg: Msg,
+    },
+    /// An ACK is sent that is not of a non-2xx final.
+    Plain {
+        peer: Peer,
+        text: Text,
+    },
+    /// The ACK of the non-2xx final that the client transaction heard is sent.
+    Ack {
+        key: TKey,
+        msg: Msg,
+    },
+    /// A deadline of a call is armed, for a moment in milliseconds since 1970-01-01T00:00:00Z.
+    Arm {
+        call: CallNo,
+        what: DueWord,
+        at: u64,
+    },
+    /// A deadline of a seat of a room is armed, for a moment in milliseconds since 1970-01-01T00:00:00Z.
+    ArmSeat {
+        room: RoomNo,
+        seat: u64,
+        what: RoomWord,
+        at: u64,
+    },
+}
+
+/// What a call or a room wants done, in order.
+pub type Emits = List<Emit>;
+
+/// What a message that was heard is.
+#[derive(Drop)]
+pub enum Heard {
+    /// A request that opened this server transaction.
+    Fresh(TKey, Msg),
+    /// A response to the request of this client transaction.
+    Answer(TKey, Msg),
+    /// A request, or a non-2xx final of an INVITE, that is heard again; what is to be sent again, and to whom, None where nothing is.
+    Repeat(Option<(Peer, Text)>),
+    /// The ACK of the non-2xx final of this server transaction.
+    Acked(TKey),
+    /// A CANCEL that opened this server transaction, and the live INVITE transaction that it is of, if there is one.
+    Cancel(TKey, Option<TKey>, Msg),
+    /// Any other ACK.
+    AckOf2xx(Msg),
+    /// A response to no live client transaction.
+    Stray,
+}
+
+/// Why a message was not heard.
+#[derive(Drop)]
+pub enum HearFault {
+    /// It would open a server transaction, and as many are live as may be; the message is handed back.
+    Full(Msg),
+    /// Memory ran out.
+    NoMemory,
+}
+
+impl From<NoMemory> for HearFault {
+    ghost from_gives = { λ _ e. e ≡ fault.NoMemory };
+
+    fn from(_error: NoMemory) -> HearFault {
+        HearFault::NoMemory
+    }
+}
+
+/// What a deadline brings. Moments are in milliseconds since 1970-01-01T00:00:00Z.
+#[derive(Drop)]
+pub enum Due {
+    /// This text is sent to the peer again: the deadline's moment is the second part.
+    Again(Peer, u64, Text),
+    /// The request of this client transaction is given up, which ends it.
+    Silent {
+        key: TKey,
+        branch: Text,
+        method: Text,
+        at: u64,
+    },
+    /// The transaction ends.
+    Over(TKey, u64),
+    /// No deadline is due.
+    Nothing,
+}

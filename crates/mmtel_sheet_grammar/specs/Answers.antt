@@ -1,0 +1,31 @@
+-- What a reader of a part of a record answers: the value of the definition, or its fault, unless memory ran out.
+use Rattle.std.specs.Prelude.{◌≡◌, ℕ, List, Result, Ok, Err, Option, Some, None}
+use Rattle.mmtel_sheet_grammar.specs.declared.faults.SheetFault.{SheetFault}
+use Rattle.mmtel_sheet_grammar.specs.declared.faults.SheetFault.TheVariants.{NotToml, Unknown, Wrong, Many, NoMemory}
+
+-- what is read, or the first fault
+abbrev pub Read : Type 0 → Type 0
+Read A = Result A SheetFault
+
+module _ {A B : Type 0} where
+  -- the first, and then the second of what the first gave
+  abbrev pub then_do : Read A → (A → Read B) → Read B
+  then_do (Ok a) next = next a
+  then_do (Err e) next = Err e
+
+module _ {A : Type 0} where
+  -- the value at this key is of the wrong kind where there is none
+  abbrev pub or_wrong : List ℕ → Option A → Read A
+  or_wrong at None = Err (Wrong at)
+  or_wrong at (Some a) = Ok a
+
+  abbrev pub Refuses : Read A → SheetFault → Type 0
+  Refuses wanted (NotToml at) = ⊥
+  Refuses wanted (Unknown key) = wanted ≡ Err (Unknown key)
+  Refuses wanted (Wrong key) = wanted ≡ Err (Wrong key)
+  Refuses wanted (Many key limit) = wanted ≡ Err (Many key limit)
+  Refuses wanted NoMemory = Unit {0}
+
+  abbrev pub Answers : Read A → Read A → Type 0
+  Answers wanted (Ok a) = wanted ≡ Ok a
+  Answers wanted (Err e) = Refuses wanted e

@@ -1,0 +1,92 @@
+-- The values at the keys of a record: what is read of a TOML value, or that it is wrong at its key.
+use Rattle.std.specs.Prelude.{◌≡◌, ℕ, ℤ, pos, negsuc, List, [], ◌∷◌, ◌++◌, Bool, true, false, ◌&&◌, ◌||◌, not, nat_le, nat_lt, Option, Some, None, Result, Ok, Err, if◌then◌else◌, codes, length}
+use Rattle.std.specs.List.{list_all}
+use Rattle.std.specs.Str.{bytes_eq}
+use Rattle.toml.specs.Data.{Data, Items, no_items, item, Members, as_str, as_bool, as_integer, as_array, as_table}
+use Rattle.mmtel_scan.specs.Classes.{in_class}
+use Rattle.mmtel_scan.specs.declared.classes.Class.TheVariants.{Digit, Token, Host}
+use Rattle.mmtel_lex.specs.Reading.{uri_of, Refusal}
+use Rattle.mmtel_lex.specs.declared.values.Uri.{Uri}
+use Rattle.mmtel_lex.specs.declared.values.Uri.TheVariants.{Sip, Tel}
+use Rattle.mmtel_sheet_grammar.specs.Answers.{Read, then_do, or_wrong}
+use Rattle.mmtel_sheet_grammar.specs.Moments.{moment_of_text}
+use Rattle.mmtel_sheet_grammar.specs.declared.faults.SheetFault.TheVariants.{Wrong}
+
+-- a truth value
+abbrev pub truth_at : List ℕ → Data → Read Bool
+truth_at at d = or_wrong at (as_bool d)
+
+-- the whole number, where it is of the range
+abbrev pub in_range : ℕ → ℕ → ℤ → Option ℕ
+in_range least most (pos n) = if nat_le least n && nat_le n most then Some n else None
+in_range least most (negsuc n) = None
+
+-- a whole number of a range
+abbrev pub number_at : ℕ → ℕ → List ℕ → Data → Read ℕ
+number_at least most at d = then_do (or_wrong at (as_integer d)) (λ z. or_wrong at (in_range least most z))
+
+-- any text
+abbrev pub text_at : List ℕ → Data → Read (List ℕ)
+text_at at d = or_wrong at (as_str d)
+
+-- the URI, where the bytes are one
+abbrev pub uri_read : Result Uri Refusal → Option Uri
+uri_read (Ok u) = Some u
+uri_read (Err e) = None
+
+-- a sip or tel URI
+abbrev pub uri_at : List ℕ → Data → Read Uri
+uri_at at d = then_do (text_at at d) (λ s. or_wrong at (uri_read (uri_of s)))
+
+-- one byte or more of digits
+abbrev pub is_digits : List ℕ → Bool
+is_digits s = nat_le 1 (length s) && list_all (in_class Digit) s
+
+-- a '+' and digits
+abbrev pub is_international : List ℕ → Bool
+is_international [] = false
+is_international (b ∷ s) = bytes_eq (b ∷ []) (codes "+") && is_digits s
+
+-- a URI that calls may be diverted to: a sip URI, or tel:+ and digits
+abbrev pub is_target : Uri → Bool
+is_target (Sip user host port params headers) = true
+is_target (Tel number params) = is_international number && nat_le (length params) 0
+
+-- such a URI of at most 256 bytes
+abbrev pub target_or_wrong : List ℕ → List ℕ → Uri → Read Uri
+target_or_wrong at s u = if is_target u && nat_le (length s) 256 then Ok u else Err (Wrong at)
+
+abbrev pub target_at : List ℕ → Data → Read Uri
+target_at at d = then_do (text_at at d) (λ s. then_do (or_wrong at (uri_read (uri_of s))) (λ u. target_or_wrong at s u))
+
+-- a host, or '*'
+abbrev pub is_domain : List ℕ → Bool
+is_domain s = bytes_eq s (codes "*") || (nat_le 1 (length s) && (nat_le (length s) 255 && list_all (in_class Host) s))
+
+abbrev pub domain_at : List ℕ → Data → Read (List ℕ)
+domain_at at d = then_do (text_at at d) (λ s. if is_domain s then Ok s else Err (Wrong at))
+
+-- a token
+abbrev pub is_token_text : List ℕ → Bool
+is_token_text s = nat_le 1 (length s) && list_all (in_class Token) s
+
+abbrev pub token_at : List ℕ → Data → Read (List ℕ)
+token_at at d = then_do (text_at at d) (λ s. if is_token_text s then Ok s else Err (Wrong at))
+
+-- a time
+abbrev pub time_at : List ℕ → Data → Read ℤ
+time_at at d = then_do (text_at at d) (λ s. or_wrong at (moment_of_text s))
+
+module _ {A : Type 0} where
+  -- items, each read, behind those that were read before
+  abbrev pub items_from : (Data → Read A) → List A → Items → Read (List A)
+  items_from read done no_items = Ok done
+  items_from read done (item d ds) = then_do (read d) (λ a. items_from read (done ++ a ∷ []) ds)
+
+-- an array of URIs
+abbrev pub uris_at : List ℕ → Data → Read (List Uri)
+uris_at at d = then_do (or_wrong at (as_array d)) (λ ds. items_from (uri_at at) [] ds)
+
+-- an array of tokens
+abbrev pub tokens_at : List ℕ → Data → Read (List (List ℕ))
+tokens_at at d = then_do (or_wrong at (as_array d)) (λ ds. items_from (token_at at) [] ds)

@@ -1,0 +1,106 @@
+-- The keys of a record's rules, which service lists them, and how faults name them.
+use Rattle.std.specs.Prelude.{ℕ, List, ◌++◌, ◌∷◌, Bool, true, false, Option, Some, None, if◌then◌else◌, codes, decimal}
+use Rattle.std.specs.Str.{bytes_eq}
+use Rattle.mmtel_sheet_values.specs.declared.values.EventWord.{EventWord}
+use Rattle.mmtel_sheet_values.specs.declared.values.EventWord.TheVariants as event
+use Rattle.mmtel_sheet_grammar.specs.declared.keys.Service.{Service}
+use Rattle.mmtel_sheet_grammar.specs.declared.keys.Service.TheVariants.{Diversion, Incoming, Outgoing}
+use Rattle.mmtel_sheet_grammar.specs.declared.keys.Notice.{Notice}
+use Rattle.mmtel_sheet_grammar.specs.declared.keys.Notice.TheVariants as notice
+use Rattle.mmtel_sheet_grammar.specs.declared.keys.RuleKey.{RuleKey}
+use Rattle.mmtel_sheet_grammar.specs.declared.keys.RuleKey.TheVariants as key
+
+-- the events of a diversion
+unfoldable pub event_of : List ℕ → Option EventWord
+event_of k =
+    if bytes_eq k (codes "busy") then Some event.Busy
+    else if bytes_eq k (codes "no-answer") then Some event.NoAnswer
+    else if bytes_eq k (codes "not-reachable") then Some event.NotReachable
+    else if bytes_eq k (codes "not-registered") then Some event.NotRegistered
+    else None
+
+-- what a diversion tells, and to whom
+unfoldable pub notice_of : List ℕ → Option Notice
+notice_of k =
+    if bytes_eq k (codes "notify-caller") then Some notice.NotifyCaller
+    else if bytes_eq k (codes "reveal-identity-to-caller") then Some notice.RevealToCaller
+    else if bytes_eq k (codes "reveal-served-user-identity-to-caller") then Some notice.RevealServedToCaller
+    else if bytes_eq k (codes "reveal-identity-to-target") then Some notice.RevealToTarget
+    else None
+
+-- the keys that say whom a rule is about
+unfoldable pub identity_key_of : List ℕ → Option RuleKey
+identity_key_of k =
+    if bytes_eq k (codes "anonymous") then Some key.Anonymous
+    else if bytes_eq k (codes "except") then Some key.Except
+    else if bytes_eq k (codes "many") then Some key.Many
+    else if bytes_eq k (codes "one") then Some key.One
+    else None
+
+-- the other keys of a rule
+unfoldable pub other_key_of : List ℕ → Option RuleKey
+other_key_of k =
+    if bytes_eq k (codes "allow") then Some key.Allow
+    else if bytes_eq k (codes "from") then Some key.From
+    else if bytes_eq k (codes "id") then Some key.Id
+    else if bytes_eq k (codes "media") then Some key.Media
+    else if bytes_eq k (codes "target") then Some key.Target
+    else if bytes_eq k (codes "until") then Some key.Until
+    else None
+
+abbrev pub identity_or : Option RuleKey → Option RuleKey → Option RuleKey
+identity_or None other = other
+identity_or (Some k) other = Some k
+
+abbrev pub notice_or : Option Notice → Option RuleKey → Option RuleKey
+notice_or None other = other
+notice_or (Some n) other = Some (key.Notice n)
+
+abbrev pub event_or : Option EventWord → Option RuleKey → Option RuleKey
+event_or None other = other
+event_or (Some e) other = Some (key.Event e)
+
+-- the key of a name: no name is of two
+abbrev pub rule_key_of : List ℕ → Option RuleKey
+rule_key_of k = event_or (event_of k) (notice_or (notice_of k) (identity_or (identity_key_of k) (other_key_of k)))
+
+-- only diversion has it
+abbrev pub is_diversion : Service → Bool
+is_diversion Diversion = true
+is_diversion Incoming = false
+is_diversion Outgoing = false
+
+-- only barring has it
+abbrev pub is_barring : Service → Bool
+is_barring Diversion = false
+is_barring Incoming = true
+is_barring Outgoing = true
+
+-- all but outgoing barring have it: who calls is known there
+abbrev pub meets_callers : Service → Bool
+meets_callers Diversion = true
+meets_callers Incoming = true
+meets_callers Outgoing = false
+
+-- whether the rules of the service have the key
+abbrev pub is_listed : Service → RuleKey → Bool
+is_listed s key.Allow = is_barring s
+is_listed s key.Anonymous = meets_callers s
+is_listed s (key.Event e) = is_diversion s
+is_listed s key.Except = true
+is_listed s key.From = true
+is_listed s key.Id = true
+is_listed s key.Many = true
+is_listed s key.Media = true
+is_listed s (key.Notice n) = is_diversion s
+is_listed s key.One = true
+is_listed s key.Target = is_diversion s
+is_listed s key.Until = true
+
+-- a key below another: path.key
+abbrev pub dotted : List ℕ → List ℕ → List ℕ
+dotted path k = (path ++ codes ".") ++ k
+
+-- the path of a rule: path.N, in decimal digits
+abbrev pub rule_path : List ℕ → ℕ → List ℕ
+rule_path path n = dotted path (decimal n)

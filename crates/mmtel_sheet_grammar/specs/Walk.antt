@@ -1,0 +1,166 @@
+-- A service record as a sheet (3GPP TS 24.623; TS 24.604, 24.607, 24.608, 24.611, 24.615): what is read of the tables of a TOML document, in byte order of their names, and which fault is the first.
+use Rattle.std.specs.Prelude.{◌≡◌, ◌≤◌, ℕ, List, [], Bool, true, false, ◌&&◌, Option, Some, None, Result, Ok, Err, if◌then◌else◌, codes, length, IsUtf8}
+use Rattle.std.specs.Str.{bytes_eq}
+use Rattle.toml.specs.Parse.{parse_document}
+use Rattle.toml.specs.Data.{Data, Members, no_members, member, as_table}
+use Rattle.mmtel_sheet_grammar.specs.Answers.{Read, then_do, or_wrong}
+use Rattle.mmtel_sheet_grammar.specs.Elements.{truth_at, number_at, text_at}
+use Rattle.mmtel_sheet_grammar.specs.Rules.{members_from, rules_at}
+use Rattle.mmtel_sheet_grammar.specs.declared.faults.SheetFault.{SheetFault}
+use Rattle.mmtel_sheet_grammar.specs.declared.faults.SheetFault.TheVariants.{NotToml, Unknown, Wrong, Many, NoMemory}
+use Rattle.mmtel_sheet_grammar.specs.declared.keys.Service.{Service}
+use Rattle.mmtel_sheet_grammar.specs.declared.keys.Service.TheVariants as service
+use Rattle.mmtel_sheet_grammar.specs.declared.keys.TableKey.{TableKey}
+use Rattle.mmtel_sheet_grammar.specs.declared.keys.TableKey.TheVariants as key
+use Rattle.mmtel_sheet_grammar.specs.declared.drafts.DiversionDraft.{DiversionDraft}
+use Rattle.mmtel_sheet_grammar.specs.declared.drafts.BarDraft.{BarDraft}
+use Rattle.mmtel_sheet_grammar.specs.declared.drafts.WaitingDraft.{WaitingDraft}
+use Rattle.mmtel_sheet_values.specs.declared.values.BarPart.{BarPart}
+use Rattle.mmtel_sheet_values.specs.declared.values.DiversionPart.{DiversionPart}
+use Rattle.mmtel_sheet_values.specs.declared.values.Restriction.{Restriction}
+use Rattle.mmtel_sheet_values.specs.declared.values.Sheet.{Sheet}
+use Rattle.mmtel_sheet_values.specs.Sheets.{empty_sheet}
+
+-- ---- communication diversion
+
+-- a table that is there is active where it does not say otherwise
+abbrev pub no_diversion_keys : DiversionDraft
+no_diversion_keys = record { active = true; deflection = false; no_reply = 20; rules = [] }
+
+abbrev pub diversion_key : List ℕ → DiversionDraft → List ℕ → Data → Read DiversionDraft
+diversion_key at r k d =
+    if bytes_eq k (codes "active") then then_do (truth_at at d) (λ b. Ok (record r { active = b }))
+    else if bytes_eq k (codes "deflection") then then_do (truth_at at d) (λ b. Ok (record r { deflection = b }))
+    else if bytes_eq k (codes "no-reply-time") then then_do (number_at 5 180 at d) (λ n. Ok (record r { no_reply = n }))
+    else if bytes_eq k (codes "rule") then then_do (rules_at service.Diversion at d) (λ rs. Ok (record r { rules = rs }))
+    else Err (Unknown at)
+
+-- a table that is not active leaves nothing
+abbrev pub diversion_part : DiversionDraft → Option DiversionPart
+diversion_part r = if r.active then Some (record { rules = r.rules; no_reply = r.no_reply; deflection = r.deflection }) else None
+
+abbrev pub diversion_of : List ℕ → Members → Read (Option DiversionPart)
+diversion_of path ms = then_do (members_from path diversion_key no_diversion_keys ms) (λ r. Ok (diversion_part r))
+
+-- ---- barring
+
+abbrev pub no_bar_keys : BarDraft
+no_bar_keys = record { active = true; reject_anonymous = false; rules = [] }
+
+-- only incoming barring rejects anonymous callers
+abbrev pub is_rejection : Service → List ℕ → Bool
+is_rejection service.Diversion k = false
+is_rejection service.Incoming k = bytes_eq k (codes "reject-anonymous")
+is_rejection service.Outgoing k = false
+
+abbrev pub bar_key : Service → List ℕ → BarDraft → List ℕ → Data → Read BarDraft
+bar_key s at r k d =
+    if bytes_eq k (codes "active") then then_do (truth_at at d) (λ b. Ok (record r { active = b }))
+    else if is_rejection s k then then_do (truth_at at d) (λ b. Ok (record r { reject_anonymous = b }))
+    else if bytes_eq k (codes "rule") then then_do (rules_at s at d) (λ rs. Ok (record r { rules = rs }))
+    else Err (Unknown at)
+
+abbrev pub bar_part : BarDraft → Option BarPart
+bar_part r = if r.active then Some (record { rules = r.rules; reject_anonymous = r.reject_anonymous }) else None
+
+abbrev pub bar_of : Service → List ℕ → Members → Read (Option BarPart)
+bar_of s path ms = then_do (members_from path (λ at r k d. bar_key s at r k d) no_bar_keys ms) (λ r. Ok (bar_part r))
+
+-- ---- presentation and restriction of identities
+
+abbrev pub presentation_key : List ℕ → Bool → List ℕ → Data → Read Bool
+presentation_key at active k d = if bytes_eq k (codes "active") then truth_at at d else Err (Unknown at)
+
+abbrev pub presentation_of : List ℕ → Members → Read Bool
+presentation_of path ms = members_from path presentation_key true ms
+
+-- one of two words: true for the first
+abbrev pub choice : List ℕ → List ℕ → List ℕ → Option Bool
+choice first second s = if bytes_eq s first then Some true else if bytes_eq s second then Some false else None
+
+abbrev pub choice_at : List ℕ → List ℕ → List ℕ → Data → Read Bool
+choice_at first second at d = then_do (text_at at d) (λ s. or_wrong at (choice first second s))
+
+abbrev pub no_restriction_keys : Restriction
+no_restriction_keys = record { active = true; permanent = false; by_default = false }
+
+abbrev pub restriction_key : List ℕ → Restriction → List ℕ → Data → Read Restriction
+restriction_key at r k d =
+    if bytes_eq k (codes "active") then then_do (truth_at at d) (λ b. Ok (record r { active = b }))
+    else if bytes_eq k (codes "default-behaviour") then then_do (choice_at (codes "presentation-restricted") (codes "presentation-not-restricted") at d) (λ b. Ok (record r { by_default = b }))
+    else if bytes_eq k (codes "mode") then then_do (choice_at (codes "permanent") (codes "temporary") at d) (λ b. Ok (record r { permanent = b }))
+    else Err (Unknown at)
+
+abbrev pub restriction_of : List ℕ → Members → Read Restriction
+restriction_of path ms = members_from path restriction_key no_restriction_keys ms
+
+-- ---- communication waiting
+
+abbrev pub no_waiting_keys : WaitingDraft
+no_waiting_keys = record { active = true; calls = 2 }
+
+abbrev pub waiting_key : List ℕ → WaitingDraft → List ℕ → Data → Read WaitingDraft
+waiting_key at r k d =
+    if bytes_eq k (codes "active") then then_do (truth_at at d) (λ b. Ok (record r { active = b }))
+    else if bytes_eq k (codes "calls") then then_do (number_at 2 8 at d) (λ n. Ok (record r { calls = n }))
+    else Err (Unknown at)
+
+abbrev pub waiting_part : WaitingDraft → Option ℕ
+waiting_part r = if r.active then Some r.calls else None
+
+abbrev pub waiting_of : List ℕ → Members → Read (Option ℕ)
+waiting_of path ms = then_do (members_from path waiting_key no_waiting_keys ms) (λ r. Ok (waiting_part r))
+
+-- ---- the record
+
+-- the table of a name
+unfoldable pub table_key_of : List ℕ → Option TableKey
+table_key_of k =
+    if bytes_eq k (codes "communication-diversion") then Some key.Diversion
+    else if bytes_eq k (codes "communication-waiting") then Some key.Waiting
+    else if bytes_eq k (codes "incoming-communication-barring") then Some key.Incoming
+    else if bytes_eq k (codes "originating-identity-presentation") then Some key.Oip
+    else if bytes_eq k (codes "originating-identity-presentation-restriction") then Some key.Oir
+    else if bytes_eq k (codes "outgoing-communication-barring") then Some key.Outgoing
+    else if bytes_eq k (codes "terminating-identity-presentation") then Some key.Tip
+    else if bytes_eq k (codes "terminating-identity-presentation-restriction") then Some key.Tir
+    else None
+
+abbrev pub table_read : List ℕ → Sheet → TableKey → Members → Read Sheet
+table_read at s key.Diversion ms = then_do (diversion_of at ms) (λ p. Ok (record s { diversion = p }))
+table_read at s key.Incoming ms = then_do (bar_of service.Incoming at ms) (λ p. Ok (record s { incoming = p }))
+table_read at s key.Outgoing ms = then_do (bar_of service.Outgoing at ms) (λ p. Ok (record s { outgoing = p }))
+table_read at s key.Oip ms = then_do (presentation_of at ms) (λ b. Ok (record s { oip = b }))
+table_read at s key.Oir ms = then_do (restriction_of at ms) (λ r. Ok (record s { oir = r }))
+table_read at s key.Tip ms = then_do (presentation_of at ms) (λ b. Ok (record s { tip = b }))
+table_read at s key.Tir ms = then_do (restriction_of at ms) (λ r. Ok (record s { tir = r }))
+table_read at s key.Waiting ms = then_do (waiting_of at ms) (λ n. Ok (record s { waiting = n }))
+
+abbrev pub named_read : List ℕ → Sheet → Option TableKey → Data → Read Sheet
+named_read at s None d = Err (Unknown at)
+named_read at s (Some t) d = then_do (or_wrong at (as_table d)) (λ ms. table_read at s t ms)
+
+-- the tables, one after another
+abbrev pub sheet_from : Sheet → Members → Read Sheet
+sheet_from s no_members = Ok s
+sheet_from s (member k d ms) = then_do (named_read k s (table_key_of k) d) (λ t. sheet_from t ms)
+
+-- the sheet of a document, or its first fault
+abbrev pub sheet_of : Members → Read Sheet
+sheet_of ms = sheet_from empty_sheet ms
+
+-- the bytes are a document that reads so
+abbrev pub Documents : List ℕ → Read Sheet → Type 0
+Documents bytes read = (IsUtf8 bytes) × (ms : Members) × (parse_document bytes ≡ Some ms) × (sheet_of ms ≡ read)
+
+abbrev pub IsRefused : List ℕ → SheetFault → Type 0
+IsRefused bytes (NotToml at) = (at ≤ length bytes) × (IsUtf8 bytes → parse_document bytes ≡ None)
+IsRefused bytes (Unknown k) = Documents bytes (Err (Unknown k))
+IsRefused bytes (Wrong k) = Documents bytes (Err (Wrong k))
+IsRefused bytes (Many k limit) = Documents bytes (Err (Many k limit))
+IsRefused bytes NoMemory = Unit {0}
+
+-- what reading the bytes answers: the sheet or the first fault of the document that they are, or that they are none
+abbrev pub IsRead : List ℕ → Read Sheet → Type 0
+IsRead bytes (Ok s) = Documents bytes (Ok s)
+IsRead bytes (Err e) = IsRefused bytes e

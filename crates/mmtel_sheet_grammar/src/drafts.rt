@@ -1,0 +1,77 @@
+//! What the keys of a table said so far, while it is read.
+
+use mmtel_lex::{List, Text, Uri};
+use mmtel_sheet_values::{EventWord, Rule, Window};
+
+/// Who is told what of a diversion.
+#[derive(Clone, Copy, Debug, PartialEq, Eq)]
+pub struct Notices {
+    /// The caller is told that the call is diverted.
+    pub notify_caller: bool,
+    /// The caller is told where it goes.
+    pub reveal_to_caller: bool,
+    /// The caller is told who diverted it.
+    pub reveal_served_to_caller: bool,
+    /// The target is told who diverted the call.
+    pub reveal_to_target: bool,
+}
+
+/// What the keys of a rule said so far.
+#[derive(Drop)]
+pub struct RuleDraft {
+    /// `allow`
+    pub allow: Option<bool>,
+    /// `anonymous`
+    pub anonymous: bool,
+    /// The event key that is true.
+    pub event: Option<EventWord>,
+    /// `except`
+    pub except: List<Uri>,
+    /// `from`
+    pub from: Option<i128>,
+    /// `many`
+    pub many: Option<Text>,
+    /// `media`
+    pub media: Option<List<Text>>,
+    /// The keys that say who is told what.
+    pub notices: Notices,
+    /// `one`
+    pub one: Option<List<Uri>>,
+    /// `target`
+    pub target: Option<Uri>,
+    /// `from` and `until`
+    pub window: Option<Window>,
+}
+
+/// What the keys of the diversion table said so far.
+#[derive(Drop)]
+pub struct DiversionDraft {
+    /// `active`
+    pub active: bool,
+    /// `deflection`
+    pub deflection: bool,
+    /// `no-reply-time`, in seconds
+    pub no_reply: u16,
+    /// `rule`
+    pub rules: List<Rule>,
+}
+
+/// What the keys of a barring table said so far.
+#[derive(Drop)]
+pub struct BarDraft {
+    /// `active`
+    pub active: bool,
+    /// `reject-anonymous`
+    pub reject_anonymous: bool,
+    /// `rule`
+    pub rules: List<Rule>,
+}
+
+/// What the keys of the waiting table said so far.
+#[derive(Clone, Copy, Debug, PartialEq, Eq)]
+pub struct WaitingDraft {
+    /// `active`
+    pub active: bool,
+    /// `calls`
+    pub calls: u8,
+}

@@ -1,0 +1,3 @@
+pub mod ActionLaws
+pub mod Documents
+pub mod Members

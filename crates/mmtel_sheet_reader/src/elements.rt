@@ -1,0 +1,199 @@
+//! The values at the keys of records.
+ghost use Rattle.std.specs.Prelude.{◌≡◌, ◌≤◌, [], Ok, IfOk};
+ghost use Rattle.toml.specs.View.{view, array_view};
+ghost use Rattle.mmtel_sheet_grammar.specs.Answers.{Answers, then_do};
+ghost use Rattle.mmtel_sheet_grammar.specs.Elements.{truth_at, number_at, text_at, uri_at, is_international, is_target, target_at, is_domain, domain_at, is_token_text, token_at, time_at, items_from, uris_at, tokens_at};
+
+use crate::faults::wrong;
+use crate::moments::read_time;
+use mmtel_lex::{List, Text, Uri, UriFault, read_uri};
+use mmtel_scan::{Class, is_all};
+use mmtel_sheet_grammar::SheetFault;
+use std::alloc::Global;
+use toml::Value;
+use toml::value::Array;
+
+/// A truth value.
+pub fn truth(alloc: Global, at: &[u8], value: &Value) -> Result<bool, SheetFault>
+    ensures { Answers (truth_at at.now (view value.now)) result }
+{
+    match value {
+        Value::Boolean(truth) => Ok(*truth),
+        _ => wrong(alloc, at),
+    }
+}
+
+/// A whole number of the range.
+pub fn number(
+    alloc: Global,
+    at: &[u8],
+    value: &Value,
+    least: u16,
+    most: u16,
+) -> Result<u16, SheetFault>
+    ensures exact { Answers (number_at least most at.now (view value.now)) result }
+    ensures within { IfOk result (λ n. n ≤ most) }
+{
+    let Value::Integer(number) = value else {
+        return wrong(alloc, at);
+    };
+    let number = *number;
+    if i64::from(least) <= number && number <= i64::from(most) {
+        Ok(number as u16)
+    } else {
+        wrong(alloc, at)
+    }
+}
+
+/// Any text.
+pub fn text(alloc: Global, at: &[u8], value: &Value) -> Result<(), SheetFault>
+    ensures { Answers (then_do (text_at at.now (view value.now)) (λ s. Ok tt)) result }
+{
+    match value {
+        Value::String(_) => Ok(()),
+        _ => wrong(alloc, at),
+    }
+}
+
+/// A sip or tel URI.
+pub fn uri(alloc: Global, at: &[u8], value: &Value) -> Result<Uri, SheetFault>
+    ensures { Answers (uri_at at.now (view value.now)) result }
+{
+    let Value::String(text) = value else {
+        return wrong(alloc, at);
+    };
+    match read_uri(alloc, text.as_bytes()) {
+        Ok(uri) => Ok(uri),
+        Err(UriFault::NoMemory) => Err(SheetFault::NoMemory),
+        Err(UriFault::Malformed { .. }) => wrong(alloc, at),
+        Err(UriFault::Scheme) => wrong(alloc, at),
+    }
+}
+
+fn is_international(number: &[u8]) -> bool
+    ensures { result ≡ is_international number.now }
+{
+    match number {
+        [b'+', digits @ ..] => !digits.is_empty() && is_all(Class::Digit, digits),
+        _ => false,
+    }
+}
+
+fn is_target(uri: &Uri) -> bool
+    ensures { result ≡ is_target uri.now }
+{
+    match uri {
+        Uri::Sip { .. } => true,
+        Uri::Tel { number, params } => {
+            is_international(number.bytes()) && params.items().is_empty()
+        }
+    }
+}
+
+/// A URI that calls may be diverted to, of at most 256 bytes.
+pub fn target(alloc: Global, at: &[u8], value: &Value) -> Result<Uri, SheetFault>
+    ensures { Answers (target_at at.now (view value.now)) result }
+{
+    let Value::String(text) = value else {
+        return wrong(alloc, at);
+    };
+    let uri = uri(alloc, at, value)?;
+    if is_target(&uri) && text.len() <= 256 {
+        Ok(uri)
+    } else {
+        wrong(alloc, at)
+    }
+}
+
+fn is_domain(bytes: &[u8]) -> bool
+    ensures { result ≡ is_domain bytes.now }
+{
+    if bytes == b"*".as_slice() {
+        return true;
+    }
+    !bytes.is_empty() && bytes.len() <= 255 && is_all(Class::Host, bytes)
+}
+
+/// A host, or `*`.
+pub fn domain(alloc: Global, at: &[u8], value: &Value) -> Result<Text, SheetFault>
+    ensures { Answers (domain_at at.now (view value.now)) result }
+{
+    let Value::String(text) = value else {
+        return wrong(alloc, at);
+    };
+    if !is_domain(text.as_bytes()) {
+        return wrong(alloc, at);
+    }
+    Ok(Text::of(alloc, text.as_bytes())?)
+}
+
+fn is_token_text(bytes: &[u8]) -> bool
+    ensures { result ≡ is_token_text bytes.now }
+{
+    !bytes.is_empty() && is_all(Class::Token, bytes)
+}
+
+fn token(alloc: Global, at: &[u8], value: &Value) -> Result<Text, SheetFault>
+    ensures { Answers (token_at at.now (view value.now)) result }
+{
+    let Value::String(text) = value else {
+        return wrong(alloc, at);
+    };
+    if !is_token_text(text.as_bytes()) {
+        return wrong(alloc, at);
+    }
+    Ok(Text::of(alloc, text.as_bytes())?)
+}
+
+/// A time, in milliseconds since 1970-01-01T00:00:00Z.
+pub fn time(alloc: Global, at: &[u8], value: &Value) -> Result<i128, SheetFault>
+    ensures { Answers (time_at at.now (view value.now)) result }
+{
+    let Value::String(text) = value else {
+        return wrong(alloc, at);
+    };
+    match read_time(text.as_str()) {
+        Some(moment) => Ok(moment),
+        None => wrong(alloc, at),
+    }
+}
+
+fn each_uri(alloc: Global, at: &[u8], items: &Array) -> Result<List<Uri>, SheetFault>
+    ensures { Answers (items_from (uri_at at.now) [] (array_view items.now)) result }
+{
+    let mut uris = List::new();
+    'items: for item in items {
+        uris.push(alloc, uri(alloc, at, item)?)?;
+    }
+    Ok(uris)
+}
+
+/// An array of URIs.
+pub fn uris(alloc: Global, at: &[u8], value: &Value) -> Result<List<Uri>, SheetFault>
+    ensures { Answers (uris_at at.now (view value.now)) result }
+{
+    match value {
+        Value::Array(items) => each_uri(alloc, at, items),
+        _ => wrong(alloc, at),
+    }
+}
+
+fn each_token(alloc: Global, at: &[u8], items: &Array) -> Result<List<Text>, SheetFault>
+    ensures { Answers (items_from (token_at at.now) [] (array_view items.now)) result }
+{
+    let mut tokens = List::new();
+    'items: for item in items {
+        tokens.push(alloc, token(alloc, at, item)?)?;
+    }
+    Ok(tokens)
+}
+
+/// An array of tokens.
+pub fn tokens(alloc: Global, at: &[u8], value: &Value) -> Result<List<Text>, SheetFault>
+    ensures { Answers (tokens_at at.now (view value.now)) result }
+{
+    match value {
+        Value::Array(items) => each_token(alloc, at, items),
+        _ => wrong(alloc, at),
+    }
+}

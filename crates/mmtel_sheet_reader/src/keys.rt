@@ -1,0 +1,135 @@
+//! The keys of records, by their names.
+ghost use Rattle.std.specs.Prelude.{◌≡◌, IfOk, ◌++◌, codes, decimal};
+ghost use Rattle.mmtel_sheet_grammar.specs.Keys.{event_of, notice_of, identity_key_of, other_key_of, identity_or, notice_or, rule_key_of, is_listed, dotted, rule_path};
+
+use mmtel_lex::{NoMemory, Text};
+use mmtel_sheet_grammar::keys::{Notice, RuleKey, Service};
+use mmtel_sheet_values::EventWord;
+use std::alloc::Global;
+
+#[tactic(auto, unfolding(mmtel_sheet_grammar::specs::Keys::event_of))]
+fn event(name: &str) -> Option<EventWord>
+    ensures { result ≡ event_of name.now }
+{
+    match name {
+        "busy" => Some(EventWord::Busy),
+        "no-answer" => Some(EventWord::NoAnswer),
+        "not-reachable" => Some(EventWord::NotReachable),
+        "not-registered" => Some(EventWord::NotRegistered),
+        _ => None,
+    }
+}
+
+#[tactic(auto, unfolding(mmtel_sheet_grammar::specs::Keys::notice_of))]
+fn notice_key(name: &str) -> Option<Notice>
+    ensures { result ≡ notice_of name.now }
+{
+    match name {
+        "notify-caller" => Some(Notice::NotifyCaller),
+        "reveal-identity-to-caller" => Some(Notice::RevealToCaller),
+        "reveal-served-user-identity-to-caller" => Some(Notice::RevealServedToCaller),
+        "reveal-identity-to-target" => Some(Notice::RevealToTarget),
+        _ => None,
+    }
+}
+
+#[tactic(auto, unfolding(mmtel_sheet_grammar::specs::Keys::identity_key_of))]
+fn identity_key(name: &str) -> Option<RuleKey>
+    ensures { result ≡ identity_key_of name.now }
+{
+    match name {
+        "anonymous" => Some(RuleKey::Anonymous),
+        "except" => Some(RuleKey::Except),
+        "many" => Some(RuleKey::Many),
+        "one" => Some(RuleKey::One),
+        _ => None,
+    }
+}
+
+#[tactic(auto, unfolding(mmtel_sheet_grammar::specs::Keys::other_key_of))]
+fn other_key(name: &str) -> Option<RuleKey>
+    ensures { result ≡ other_key_of name.now }
+{
+    match name {
+        "allow" => Some(RuleKey::Allow),
+        "from" => Some(RuleKey::From),
+        "id" => Some(RuleKey::Id),
+        "media" => Some(RuleKey::Media),
+        "target" => Some(RuleKey::Target),
+        "until" => Some(RuleKey::Until),
+        _ => None,
+    }
+}
+
+fn identity_or_other(name: &str) -> Option<RuleKey>
+    ensures { result ≡ identity_or (identity_key_of name.now) (other_key_of name.now) }
+{
+    match identity_key(name) {
+        Some(key) => Some(key),
+        None => other_key(name),
+    }
+}
+
+fn notice_or_other(name: &str) -> Option<RuleKey>
+    ensures { result ≡ notice_or (notice_of name.now) (identity_or (identity_key_of name.now) (other_key_of name.now)) }
+{
+    match notice_key(name) {
+        Some(notice) => Some(RuleKey::Notice(notice)),
+        None => identity_or_other(name),
+    }
+}
+
+/// The key of this name, if a rule has one.
+pub fn rule_key(name: &str) -> Option<RuleKey>
+    ensures { result ≡ rule_key_of name.now }
+{
+    match event(name) {
+        Some(event) => Some(RuleKey::Event(event)),
+        None => notice_or_other(name),
+    }
+}
+
+/// Whether the rules of the service have the key.
+pub fn is_listed(service: Service, key: RuleKey) -> bool
+    ensures { result ≡ is_listed service key }
+{
+    match key {
+        RuleKey::Allow => match service {
+            Service::Diversion => false,
+            Service::Incoming | Service::Outgoing => true,
+        },
+        RuleKey::Anonymous => match service {
+            Service::Diversion | Service::Incoming => true,
+            Service::Outgoing => false,
+        },
+        RuleKey::Event(_) | RuleKey::Notice(_) | RuleKey::Target => match service {
+            Service::Diversion => true,
+            Service::Incoming | Service::Outgoing => false,
+        },
+        RuleKey::Except
+        | RuleKey::From
+        | RuleKey::Id
+        | RuleKey::Many
+        | RuleKey::Media
+        | RuleKey::One
+        | RuleKey::Until => true,
+    }
+}
+
+/// A key below another: `path.key`.
+pub fn below(alloc: Global, path: &[u8], key: &[u8]) -> Result<Text, NoMemory>
+    ensures { IfOk result (λ t. t ≡ dotted path.now key.now) }
+{
+    let mut out = Text::of(alloc, path)?;
+    out.push(alloc, b".")?;
+    out.push(alloc, key)?;
+    Ok(out)
+}
+
+/// The path of a rule: `path.N`.
+pub fn rule_path(alloc: Global, path: &[u8], number: usize) -> Result<Text, NoMemory>
+    ensures { IfOk result (λ t. t ≡ rule_path path.now number) }
+{
+    let digits = number.to_string(alloc)?;
+    below(alloc, path, digits.as_bytes())
+}

@@ -1,0 +1,401 @@
+//! The tables of a record.
+ghost use Rattle.std.specs.Prelude.{◌≡◌, codes};
+ghost use Rattle.toml.specs.View.{view, table_view};
+ghost use Rattle.mmtel_sheet_grammar.specs.Answers.{Answers};
+ghost use Rattle.mmtel_sheet_grammar.specs.Walk.{diversion_key, diversion_part, diversion_of, is_rejection, bar_key, bar_part, bar_of, presentation_key, presentation_of, choice, choice_at, restriction_key, restriction_of, waiting_key, waiting_part, waiting_of, table_key_of, table_read, named_read, sheet_of};
+
+use crate::elements::{number, truth};
+use crate::faults::{unknown, wrong};
+use crate::keys::below;
+use crate::rules::rules;
+use mmtel_lex::List;
+use mmtel_sheet_grammar::SheetFault;
+use mmtel_sheet_grammar::drafts::{BarDraft, DiversionDraft, WaitingDraft};
+use mmtel_sheet_grammar::keys::{Service, TableKey};
+use mmtel_sheet_values::{BarPart, DiversionPart, Restriction, Sheet};
+use std::alloc::Global;
+use toml::{Table, Value};
+
+/// The table of this name, if a record has one.
+#[tactic(auto, unfolding(mmtel_sheet_grammar::specs::Walk::table_key_of))]
+fn table_key(name: &str) -> Option<TableKey>
+    ensures { result ≡ table_key_of name.now }
+{
+    match name {
+        "communication-diversion" => Some(TableKey::Diversion),
+        "communication-waiting" => Some(TableKey::Waiting),
+        "incoming-communication-barring" => Some(TableKey::Incoming),
+        "originating-identity-presentation" => Some(TableKey::Oip),
+        "originating-identity-presentation-restriction" => Some(TableKey::Oir),
+        "outgoing-communication-barring" => Some(TableKey::Outgoing),
+        "terminating-identity-presentation" => Some(TableKey::Tip),
+        "terminating-identity-presentation-restriction" => Some(TableKey::Tir),
+        _ => None,
+    }
+}
+
+fn with_diversion_key(
+    alloc: Global,
+    at: &[u8],
+    draft: DiversionDraft,
+    name: &str,
+    value: &Value,
+) -> Result<DiversionDraft, SheetFault>
+    ensures { Answers (diversion_key at.now draft name.now (view value.now)) result }
+{
+    match name {
+        "active" => Ok(DiversionDraft {
+            active: truth(alloc, at, value)?,
+            ..draft
+        }),
+        "deflection" => Ok(DiversionDraft {
+            deflection: truth(alloc, at, value)?,
+            ..draft
+        }),
+        "no-reply-time" => Ok(DiversionDraft {
+            no_reply: number(alloc, at, value, 5, 180)?,
+            ..draft
+        }),
+        "rule" => Ok(DiversionDraft {
+            rules: rules(alloc, Service::Diversion, at, value)?,
+            ..draft
+        }),
+        _ => unknown(alloc, at),
+    }
+}
+
+fn diversion_part(draft: DiversionDraft) -> Option<DiversionPart>
+    ensures { result ≡ diversion_part draft }
+{
+    if draft.active {
+        Some(DiversionPart {
+            rules: draft.rules,
+            no_reply: draft.no_reply,
+            deflection: draft.deflection,
+        })
+    } else {
+        None
+    }
+}
+
+fn diversion(alloc: Global, path: &[u8], table: &Table) -> Result<Option<DiversionPart>, SheetFault>
+    ensures { Answers (diversion_of path.now (table_view table.now)) result }
+{
+    let mut draft = DiversionDraft {
+        active: true,
+        deflection: false,
+        no_reply: 20,
+        rules: List::new(),
+    };
+    'members: for (key, value) in table.iter() {
+        let at = below(alloc, path, key.as_bytes())?;
+        draft = with_diversion_key(alloc, at.bytes(), draft, key.as_str(), value)?;
+    }
+    Ok(diversion_part(draft))
+}
+
+fn is_rejection(service: Service, name: &str) -> bool
+    ensures { result ≡ is_rejection service name.now }
+{
+    match service {
+        Service::Incoming => name == "reject-anonymous",
+        Service::Diversion | Service::Outgoing => false,
+    }
+}
+
+fn with_bar_key(
+    alloc: Global,
+    service: Service,
+    at: &[u8],
+    draft: BarDraft,
+    name: &str,
+    value: &Value,
+) -> Result<BarDraft, SheetFault>
+    ensures { Answers (bar_key service at.now draft name.now (view value.now)) result }
+{
+    if name == "active" {
+        Ok(BarDraft {
+            active: truth(alloc, at, value)?,
+            ..draft
+        })
+    } else if is_rejection(service, name) {
+        Ok(BarDraft {
+            reject_anonymous: truth(alloc, at, value)?,
+            ..draft
+        })
+    } else if name == "rule" {
+        Ok(BarDraft {
+            rules: rules(alloc, service, at, value)?,
+            ..draft
+        })
+    } else {
+        unknown(alloc, at)
+    }
+}
+
+fn bar_part(draft: BarDraft) -> Option<BarPart>
+    ensures { result ≡ bar_part draft }
+{
+    if draft.active {
+        Some(BarPart {
+            rules: draft.rules,
+            reject_anonymous: draft.reject_anonymous,
+        })
+    } else {
+        None
+    }
+}
+
+fn bar(
+    alloc: Global,
+    service: Service,
+    path: &[u8],
+    table: &Table,
+) -> Result<Option<BarPart>, SheetFault>
+    ensures { Answers (bar_of service path.now (table_view table.now)) result }
+{
+    let mut draft = BarDraft {
+        active: true,
+        reject_anonymous: false,
+        rules: List::new(),
+    };
+    'members: for (key, value) in table.iter() {
+        let at = below(alloc, path, key.as_bytes())?;
+        draft = with_bar_key(alloc, service, at.bytes(), draft, key.as_str(), value)?;
+    }
+    Ok(bar_part(draft))
+}
+
+fn with_presentation_key(
+    alloc: Global,
+    at: &[u8],
+    active: bool,
+    name: &str,
+    value: &Value,
+) -> Result<bool, SheetFault>
+    ensures { Answers (presentation_key at.now active name.now (view value.now)) result }
+{
+    if name == "active" {
+        truth(alloc, at, value)
+    } else {
+        unknown(alloc, at)
+    }
+}
+
+fn presentation(alloc: Global, path: &[u8], table: &Table) -> Result<bool, SheetFault>
+    ensures { Answers (presentation_of path.now (table_view table.now)) result }
+{
+    let mut active = true;
+    'members: for (key, value) in table.iter() {
+        let at = below(alloc, path, key.as_bytes())?;
+        active = with_presentation_key(alloc, at.bytes(), active, key.as_str(), value)?;
+    }
+    Ok(active)
+}
+
+fn choice(first: &str, second: &str, text: &str) -> Option<bool>
+    ensures { result ≡ choice first.now second.now text.now }
+{
+    if text == first {
+        Some(true)
+    } else if text == second {
+        Some(false)
+    } else {
+        None
+    }
+}
+
+/// One of two words: true for the first.
+fn chosen(
+    alloc: Global,
+    at: &[u8],
+    value: &Value,
+    first: &str,
+    second: &str,
+) -> Result<bool, SheetFault>
+    ensures { Answers (choice_at first.now second.now at.now (view value.now)) result }
+{
+    let Value::String(text) = value else {
+        return wrong(alloc, at);
+    };
+    match choice(first, second, text.as_str()) {
+        Some(is_first) => Ok(is_first),
+        None => wrong(alloc, at),
+    }
+}
+
+fn with_restriction_key(
+    alloc: Global,
+    at: &[u8],
+    draft: Restriction,
+    name: &str,
+    value: &Value,
+) -> Result<Restriction, SheetFault>
+    ensures { Answers (restriction_key at.now draft name.now (view value.now)) result }
+{
+    match name {
+        "active" => Ok(Restriction {
+            active: truth(alloc, at, value)?,
+            ..draft
+        }),
+        "default-behaviour" => {
+            let restricted = "presentation-restricted";
+            let shown = "presentation-not-restricted";
+            let by_default = chosen(alloc, at, value, restricted, shown)?;
+            Ok(Restriction {
+                by_default,
+                ..draft
+            })
+        }
+        "mode" => {
+            let permanent = chosen(alloc, at, value, "permanent", "temporary")?;
+            Ok(Restriction { permanent, ..draft })
+        }
+        _ => unknown(alloc, at),
+    }
+}
+
+fn restriction(alloc: Global, path: &[u8], table: &Table) -> Result<Restriction, SheetFault>
+    ensures { Answers (restriction_of path.now (table_view table.now)) result }
+{
+    let mut draft = Restriction {
+        active: true,
+        permanent: false,
+        by_default: false,
+    };
+    'members: for (key, value) in table.iter() {
+        let at = below(alloc, path, key.as_bytes())?;
+        draft = with_restriction_key(alloc, at.bytes(), draft, key.as_str(), value)?;
+    }
+    Ok(draft)
+}
+
+fn with_waiting_key(
+    alloc: Global,
+    at: &[u8],
+    draft: WaitingDraft,
+    name: &str,
+    value: &Value,
+) -> Result<WaitingDraft, SheetFault>
+    ensures { Answers (waiting_key at.now draft name.now (view value.now)) result }
+{
+    match name {
+        "active" => Ok(WaitingDraft {
+            active: truth(alloc, at, value)?,
+            ..draft
+        }),
+        "calls" => {
+            let calls = number(alloc, at, value, 2, 8)? as u8;
+            Ok(WaitingDraft { calls, ..draft })
+        }
+        _ => unknown(alloc, at),
+    }
+}
+
+fn waiting_part(draft: WaitingDraft) -> Option<u8>
+    ensures { result ≡ waiting_part draft }
+{
+    if draft.active {
+        Some(draft.calls)
+    } else {
+        None
+    }
+}
+
+fn waiting(alloc: Global, path: &[u8], table: &Table) -> Result<Option<u8>, SheetFault>
+    ensures { Answers (waiting_of path.now (table_view table.now)) result }
+{
+    let mut draft = WaitingDraft {
+        active: true,
+        calls: 2,
+    };
+    'members: for (key, value) in table.iter() {
+        let at = below(alloc, path, key.as_bytes())?;
+        draft = with_waiting_key(alloc, at.bytes(), draft, key.as_str(), value)?;
+    }
+    Ok(waiting_part(draft))
+}
+
+/// The sheet so far with one more table.
+fn with_table(
+    alloc: Global,
+    at: &[u8],
+    sheet: Sheet,
+    key: TableKey,
+    table: &Table,
+) -> Result<Sheet, SheetFault>
+    ensures { Answers (table_read at.now sheet key (table_view table.now)) result }
+{
+    match key {
+        TableKey::Diversion => Ok(Sheet {
+            diversion: diversion(alloc, at, table)?,
+            ..sheet
+        }),
+        TableKey::Incoming => Ok(Sheet {
+            incoming: bar(alloc, Service::Incoming, at, table)?,
+            ..sheet
+        }),
+        TableKey::Outgoing => Ok(Sheet {
+            outgoing: bar(alloc, Service::Outgoing, at, table)?,
+            ..sheet
+        }),
+        TableKey::Oip => Ok(Sheet {
+            oip: presentation(alloc, at, table)?,
+            ..sheet
+        }),
+        TableKey::Oir => Ok(Sheet {
+            oir: restriction(alloc, at, table)?,
+            ..sheet
+        }),
+        TableKey::Tip => Ok(Sheet {
+            tip: presentation(alloc, at, table)?,
+            ..sheet
+        }),
+        TableKey::Tir => Ok(Sheet {
+            tir: restriction(alloc, at, table)?,
+            ..sheet
+        }),
+        TableKey::Waiting => Ok(Sheet {
+            waiting: waiting(alloc, at, table)?,
+            ..sheet
+        }),
+    }
+}
+
+/// The sheet so far with one more name of the document.
+fn with_name(alloc: Global, sheet: Sheet, name: &str, value: &Value) -> Result<Sheet, SheetFault>
+    ensures { Answers (named_read name.now sheet (table_key_of name.now) (view value.now)) result }
+{
+    match table_key(name) {
+        Some(key) => match value {
+            Value::Table(table) => with_table(alloc, name.as_bytes(), sheet, key, table),
+            _ => wrong(alloc, name.as_bytes()),
+        },
+        None => unknown(alloc, name.as_bytes()),
+    }
+}
+
+/// The sheet of a document.
+pub fn sheet(alloc: Global, table: &Table) -> Result<Sheet, SheetFault>
+    ensures { Answers (sheet_of (table_view table.now)) result }
+{
+    let off = Restriction {
+        active: false,
+        permanent: false,
+        by_default: false,
+    };
+    let mut sheet = Sheet {
+        diversion: None,
+        incoming: None,
+        outgoing: None,
+        oip: true,
+        oir: off,
+        tip: true,
+        tir: off,
+        waiting: None,
+    };
+    'members: for (key, value) in table.iter() {
+        sheet = with_name(alloc, sheet, key.as_str(), value)?;
+    }
+    Ok(sheet)
+}

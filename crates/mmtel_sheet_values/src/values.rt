@@ -1,0 +1,136 @@
+//! What a service record says.
+
+use mmtel_lex::{List, Text, Uri};
+
+/// The service records' events of a call on its way to its target (TS 24.604 §4.9.1).
+#[derive(Clone, Copy, Debug, PartialEq, Eq)]
+pub enum EventWord {
+    /// The user is busy.
+    Busy,
+    /// The user does not answer in time.
+    NoAnswer,
+    /// The user cannot be reached.
+    NotReachable,
+    /// The user is not registered.
+    NotRegistered,
+}
+
+/// Whom a rule is about (RFC 4745 §7.1).
+#[derive(Drop)]
+pub struct Who {
+    /// Each of these identities.
+    pub one: List<Uri>,
+    /// Each identity of this domain, or each identity where it is `*`.
+    pub many: Option<Text>,
+    /// The identities of `many` that are not meant.
+    pub except: List<Uri>,
+}
+
+/// The time in which a rule holds (RFC 4745 §7.3), in milliseconds since 1970-01-01T00:00:00Z.
+#[derive(Clone, Copy, Debug, PartialEq, Eq)]
+pub struct Window {
+    /// The first millisecond of it.
+    pub from: i128,
+    /// The first millisecond after it.
+    pub until: i128,
+}
+
+/// When a rule holds: where each part that is there does.
+#[derive(Drop)]
+pub struct Condition {
+    /// The other party is one of these.
+    pub identity: Option<Who>,
+    /// The caller hides who it is.
+    pub anonymous: bool,
+    /// It is this time.
+    pub window: Option<Window>,
+    /// One of these kinds of media is offered.
+    pub media: Option<List<Text>>,
+    /// This happened to the call.
+    pub event: Option<EventWord>,
+}
+
+/// Where a call is diverted to, and who is told what of it (TS 24.604 §4.9.1.4).
+#[derive(Drop)]
+pub struct Forward {
+    /// Where the call goes.
+    pub target: Uri,
+    /// The caller is told that the call is diverted.
+    pub notify_caller: bool,
+    /// The caller is told where it goes.
+    pub reveal_to_caller: bool,
+    /// The caller is told who diverted it.
+    pub reveal_served_to_caller: bool,
+    /// The target is told who diverted the call.
+    pub reveal_to_target: bool,
+}
+
+/// What a rule does.
+#[derive(Drop)]
+pub enum Action {
+    /// The call is diverted.
+    Forward(Forward),
+    /// The call is let through, or barred.
+    Allow(bool),
+}
+
+/// A rule of a service (RFC 4745 §6).
+#[derive(Drop)]
+pub struct Rule {
+    /// When it holds.
+    pub condition: Condition,
+    /// What it then does.
+    pub action: Action,
+}
+
+/// Communication diversion (TS 24.604).
+#[derive(Drop)]
+pub struct DiversionPart {
+    /// The rules; the first that holds counts.
+    pub rules: List<Rule>,
+    /// The seconds after which a call that rings counts as not answered, 5 to 180.
+    pub no_reply: u16,
+    /// The user's own device may divert the call.
+    pub deflection: bool,
+}
+
+/// Communication barring in one direction (TS 24.611).
+#[derive(Drop)]
+pub struct BarPart {
+    /// The rules; a call is barred where one holds and none that holds allows.
+    pub rules: List<Rule>,
+    /// Callers that hide who they are are refused.
+    pub reject_anonymous: bool,
+}
+
+/// Whether an identity is restricted (TS 24.607, TS 24.608).
+#[derive(Clone, Copy, Debug, PartialEq, Eq)]
+pub struct Restriction {
+    /// The service is there.
+    pub active: bool,
+    /// It restricts each call, whatever the user asks.
+    pub permanent: bool,
+    /// Where it is not permanent: it restricts where the user asks nothing.
+    pub by_default: bool,
+}
+
+/// What one account wants of the services.
+#[derive(Drop)]
+pub struct Sheet {
+    /// Communication diversion; None where it is absent or not active.
+    pub diversion: Option<DiversionPart>,
+    /// Barring of incoming calls; None where it is absent or not active.
+    pub incoming: Option<BarPart>,
+    /// Barring of outgoing calls; None where it is absent or not active.
+    pub outgoing: Option<BarPart>,
+    /// The user is shown who calls (originating identity presentation).
+    pub oip: bool,
+    /// The user's identity as a caller is restricted.
+    pub oir: Restriction,
+    /// The user is shown who answers (terminating identity presentation).
+    pub tip: bool,
+    /// The user's identity as a called party is restricted.
+    pub tir: Restriction,
+    /// Communication waiting (TS 24.615): the calls that the user may have at once, 2 to 8; None where it is absent or not active.
+    pub waiting: Option<u8>,
+}

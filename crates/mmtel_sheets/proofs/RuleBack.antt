@@ -1,0 +1,300 @@
+-- The table of a printed rule reads back as the rule.
+use Rattle.std.proofs.Common.{◌≡◌, ℕ, Bool, false, List, Option, Some, None, Ok, Ordering, Less, Equal, Greater, nat_cmp, is_eq, refl, ◌∙◌, codes}
+use Rattle.std.proofs.lemmas.Cmp.{nat_list_cmp_total}
+use Rattle.std.specs.Cmp.{tied_itself}
+use Rattle.std.specs.Cmp.Lexicographic.{slice_cmp}
+use Rattle.std.specs.Option.{is_some}
+use Rattle.std.specs.Ordering.{match_ordering}
+use Rattle.std.specs.Prelude.{IfSome}
+use Rattle.toml.specs.Data.{Data, Members, no_members, same_key}
+use Rattle.mmtel_sheet_grammar.specs.Keys.{rule_key_of, event_of, notice_of, identity_key_of, other_key_of, dotted}
+use Rattle.mmtel_sheet_grammar.specs.Rules.{has_key, no_keys, all_told, who_of, action_of, rule_of}
+use Rattle.mmtel_sheet_grammar.specs.declared.keys.Service.{Service}
+use Rattle.mmtel_sheet_grammar.specs.declared.keys.Service.TheVariants as service
+use Rattle.mmtel_sheet_grammar.specs.declared.keys.Notice.TheVariants as notice
+use Rattle.mmtel_sheet_grammar.specs.declared.keys.RuleKey.TheVariants as key
+use Rattle.mmtel_sheet_grammar.specs.declared.drafts.RuleDraft.{RuleDraft}
+use Rattle.mmtel_sheet_values.specs.declared.values.Action.{Action}
+use Rattle.mmtel_sheet_values.specs.declared.values.Action.TheVariants.{Forward, Allow}
+use Rattle.mmtel_sheet_values.specs.declared.values.EventWord.TheVariants as event
+use Rattle.mmtel_sheet_values.specs.declared.values.Rule.{Rule}
+use Rattle.mmtel_sheet_values.specs.declared.values.Who.{Who}
+use Rattle.mmtel_sheets.specs.Printable.{IsWho, IsAction, IsRule}
+use Rattle.mmtel_sheets.specs.Printing.{with_key, allow_data, anonymous_data, event_data, except_data, from_data, media_data, notice_data, target_data, many_data, one_data, until_data, rule_data}
+use Rattle.mmtel_sheets.proofs.KeySteps.{read_keys, walk, allowed, aimed, told, except_of, many_of, one_of, start_of, at_busy, at_no_answer, at_not_reachable, allow_step, anonymous_step, busy_step, except_step, from_step, many_step, media_step, no_answer_step, not_reachable_step, not_registered_step, notice_step, one_step, target_step, until_step}
+
+passes : (o : Ordering) (x : Option Data) (d : Data) (b : Bool) → is_eq o ≡ false → is_some x ≡ b → is_some (match_ordering o x (Some d) x) ≡ b
+passes Less x d b apart e = e
+passes Equal x d b apart e = absurd cc
+passes Greater x d b apart e = e
+
+-- another key
+skip_to : (k l : List ℕ) (o : Option Data) (ms : Members) (b : Bool) → same_key k l ≡ false → has_key k ms ≡ b → has_key k (with_key l o ms) ≡ b
+skip_to k l None ms b apart e = e
+skip_to k l (Some d) ms b apart e = passes (slice_cmp nat_cmp k l) _ d b apart e
+
+-- the key itself
+found_here : (k : List ℕ) (o : Option Data) (ms : Members) → has_key k ms ≡ false → has_key k (with_key k o ms) ≡ is_some o
+found_here k None ms e = e
+found_here k (Some d) ms e = rw (tied_itself nat_list_cmp_total k)
+
+-- the keys of a printed rule behind each of its keys
+abbrev from-until : Service → Rule → Members
+from-until s r = with_key (codes "until") (until_data r.condition.window) no_members
+
+abbrev from-target : Service → Rule → Members
+from-target s r = with_key (codes "target") (target_data r.action) (from-until s r)
+
+abbrev from-served : Service → Rule → Members
+from-served s r = with_key (codes "reveal-served-user-identity-to-caller") (notice_data notice.RevealServedToCaller r.action) (from-target s r)
+
+abbrev from-to_target : Service → Rule → Members
+from-to_target s r = with_key (codes "reveal-identity-to-target") (notice_data notice.RevealToTarget r.action) (from-served s r)
+
+abbrev from-to_caller : Service → Rule → Members
+from-to_caller s r = with_key (codes "reveal-identity-to-caller") (notice_data notice.RevealToCaller r.action) (from-to_target s r)
+
+abbrev from-one : Service → Rule → Members
+from-one s r = with_key (codes "one") (one_data r.condition.identity) (from-to_caller s r)
+
+abbrev from-notify_caller : Service → Rule → Members
+from-notify_caller s r = with_key (codes "notify-caller") (notice_data notice.NotifyCaller r.action) (from-one s r)
+
+abbrev from-not_registered : Service → Rule → Members
+from-not_registered s r = with_key (codes "not-registered") (event_data s event.NotRegistered r.condition.event) (from-notify_caller s r)
+
+abbrev from-not_reachable : Service → Rule → Members
+from-not_reachable s r = with_key (codes "not-reachable") (event_data s event.NotReachable r.condition.event) (from-not_registered s r)
+
+abbrev from-no_answer : Service → Rule → Members
+from-no_answer s r = with_key (codes "no-answer") (event_data s event.NoAnswer r.condition.event) (from-not_reachable s r)
+
+abbrev from-media : Service → Rule → Members
+from-media s r = with_key (codes "media") (media_data r.condition.media) (from-no_answer s r)
+
+abbrev from-many : Service → Rule → Members
+from-many s r = with_key (codes "many") (many_data r.condition.identity) (from-media s r)
+
+abbrev from-from : Service → Rule → Members
+from-from s r = with_key (codes "from") (from_data r.condition.window) (from-many s r)
+
+abbrev from-except : Service → Rule → Members
+from-except s r = with_key (codes "except") (except_data r.condition.identity) (from-from s r)
+
+abbrev from-busy : Service → Rule → Members
+from-busy s r = with_key (codes "busy") (event_data s event.Busy r.condition.event) (from-except s r)
+
+abbrev from-anonymous : Service → Rule → Members
+from-anonymous s r = with_key (codes "anonymous") (anonymous_data s r.condition.anonymous) (from-busy s r)
+
+abbrev from-allow : Service → Rule → Members
+from-allow s r = with_key (codes "allow") (allow_data r.action) (from-anonymous s r)
+
+has_many : (s : Service) (r : Rule) → has_key (codes "many") (rule_data s r) ≡ is_some (many_data r.condition.identity)
+has_many s r = skip_to (codes "many") (codes "allow") (allow_data r.action) (from-anonymous s r) (is_some (many_data r.condition.identity)) refl (skip_to (codes "many") (codes "anonymous") (anonymous_data s r.condition.anonymous) (from-busy s r) (is_some (many_data r.condition.identity)) refl (skip_to (codes "many") (codes "busy") (event_data s event.Busy r.condition.event) (from-except s r) (is_some (many_data r.condition.identity)) refl (skip_to (codes "many") (codes "except") (except_data r.condition.identity) (from-from s r) (is_some (many_data r.condition.identity)) refl (skip_to (codes "many") (codes "from") (from_data r.condition.window) (from-many s r) (is_some (many_data r.condition.identity)) refl (found_here (codes "many") (many_data r.condition.identity) (from-media s r) (skip_to (codes "many") (codes "media") (media_data r.condition.media) (from-no_answer s r) false refl (skip_to (codes "many") (codes "no-answer") (event_data s event.NoAnswer r.condition.event) (from-not_reachable s r) false refl (skip_to (codes "many") (codes "not-reachable") (event_data s event.NotReachable r.condition.event) (from-not_registered s r) false refl (skip_to (codes "many") (codes "not-registered") (event_data s event.NotRegistered r.condition.event) (from-notify_caller s r) false refl (skip_to (codes "many") (codes "notify-caller") (notice_data notice.NotifyCaller r.action) (from-one s r) false refl (skip_to (codes "many") (codes "one") (one_data r.condition.identity) (from-to_caller s r) false refl (skip_to (codes "many") (codes "reveal-identity-to-caller") (notice_data notice.RevealToCaller r.action) (from-to_target s r) false refl (skip_to (codes "many") (codes "reveal-identity-to-target") (notice_data notice.RevealToTarget r.action) (from-served s r) false refl (skip_to (codes "many") (codes "reveal-served-user-identity-to-caller") (notice_data notice.RevealServedToCaller r.action) (from-target s r) false refl (skip_to (codes "many") (codes "target") (target_data r.action) (from-until s r) false refl (skip_to (codes "many") (codes "until") (until_data r.condition.window) no_members false refl (refl)))))))))))))))))
+
+has_one : (s : Service) (r : Rule) → has_key (codes "one") (rule_data s r) ≡ is_some (one_data r.condition.identity)
+has_one s r = skip_to (codes "one") (codes "allow") (allow_data r.action) (from-anonymous s r) (is_some (one_data r.condition.identity)) refl (skip_to (codes "one") (codes "anonymous") (anonymous_data s r.condition.anonymous) (from-busy s r) (is_some (one_data r.condition.identity)) refl (skip_to (codes "one") (codes "busy") (event_data s event.Busy r.condition.event) (from-except s r) (is_some (one_data r.condition.identity)) refl (skip_to (codes "one") (codes "except") (except_data r.condition.identity) (from-from s r) (is_some (one_data r.condition.identity)) refl (skip_to (codes "one") (codes "from") (from_data r.condition.window) (from-many s r) (is_some (one_data r.condition.identity)) refl (skip_to (codes "one") (codes "many") (many_data r.condition.identity) (from-media s r) (is_some (one_data r.condition.identity)) refl (skip_to (codes "one") (codes "media") (media_data r.condition.media) (from-no_answer s r) (is_some (one_data r.condition.identity)) refl (skip_to (codes "one") (codes "no-answer") (event_data s event.NoAnswer r.condition.event) (from-not_reachable s r) (is_some (one_data r.condition.identity)) refl (skip_to (codes "one") (codes "not-reachable") (event_data s event.NotReachable r.condition.event) (from-not_registered s r) (is_some (one_data r.condition.identity)) refl (skip_to (codes "one") (codes "not-registered") (event_data s event.NotRegistered r.condition.event) (from-notify_caller s r) (is_some (one_data r.condition.identity)) refl (skip_to (codes "one") (codes "notify-caller") (notice_data notice.NotifyCaller r.action) (from-one s r) (is_some (one_data r.condition.identity)) refl (found_here (codes "one") (one_data r.condition.identity) (from-to_caller s r) (skip_to (codes "one") (codes "reveal-identity-to-caller") (notice_data notice.RevealToCaller r.action) (from-to_target s r) false refl (skip_to (codes "one") (codes "reveal-identity-to-target") (notice_data notice.RevealToTarget r.action) (from-served s r) false refl (skip_to (codes "one") (codes "reveal-served-user-identity-to-caller") (notice_data notice.RevealServedToCaller r.action) (from-target s r) false refl (skip_to (codes "one") (codes "target") (target_data r.action) (from-until s r) false refl (skip_to (codes "one") (codes "until") (until_data r.condition.window) no_members false refl (refl)))))))))))))))))
+
+has_until : (s : Service) (r : Rule) → has_key (codes "until") (rule_data s r) ≡ is_some (until_data r.condition.window)
+has_until s r = skip_to (codes "until") (codes "allow") (allow_data r.action) (from-anonymous s r) (is_some (until_data r.condition.window)) refl (skip_to (codes "until") (codes "anonymous") (anonymous_data s r.condition.anonymous) (from-busy s r) (is_some (until_data r.condition.window)) refl (skip_to (codes "until") (codes "busy") (event_data s event.Busy r.condition.event) (from-except s r) (is_some (until_data r.condition.window)) refl (skip_to (codes "until") (codes "except") (except_data r.condition.identity) (from-from s r) (is_some (until_data r.condition.window)) refl (skip_to (codes "until") (codes "from") (from_data r.condition.window) (from-many s r) (is_some (until_data r.condition.window)) refl (skip_to (codes "until") (codes "many") (many_data r.condition.identity) (from-media s r) (is_some (until_data r.condition.window)) refl (skip_to (codes "until") (codes "media") (media_data r.condition.media) (from-no_answer s r) (is_some (until_data r.condition.window)) refl (skip_to (codes "until") (codes "no-answer") (event_data s event.NoAnswer r.condition.event) (from-not_reachable s r) (is_some (until_data r.condition.window)) refl (skip_to (codes "until") (codes "not-reachable") (event_data s event.NotReachable r.condition.event) (from-not_registered s r) (is_some (until_data r.condition.window)) refl (skip_to (codes "until") (codes "not-registered") (event_data s event.NotRegistered r.condition.event) (from-notify_caller s r) (is_some (until_data r.condition.window)) refl (skip_to (codes "until") (codes "notify-caller") (notice_data notice.NotifyCaller r.action) (from-one s r) (is_some (until_data r.condition.window)) refl (skip_to (codes "until") (codes "one") (one_data r.condition.identity) (from-to_caller s r) (is_some (until_data r.condition.window)) refl (skip_to (codes "until") (codes "reveal-identity-to-caller") (notice_data notice.RevealToCaller r.action) (from-to_target s r) (is_some (until_data r.condition.window)) refl (skip_to (codes "until") (codes "reveal-identity-to-target") (notice_data notice.RevealToTarget r.action) (from-served s r) (is_some (until_data r.condition.window)) refl (skip_to (codes "until") (codes "reveal-served-user-identity-to-caller") (notice_data notice.RevealServedToCaller r.action) (from-target s r) (is_some (until_data r.condition.window)) refl (skip_to (codes "until") (codes "target") (target_data r.action) (from-until s r) (is_some (until_data r.condition.window)) refl (found_here (codes "until") (until_data r.condition.window) no_members (refl)))))))))))))))))
+
+named-allow : rule_key_of (codes "allow") ≡ Some (key.Allow)
+unfolding event_of notice_of identity_key_of other_key_of
+named-allow = refl
+
+named-anonymous : rule_key_of (codes "anonymous") ≡ Some (key.Anonymous)
+unfolding event_of notice_of identity_key_of other_key_of
+named-anonymous = refl
+
+named-busy : rule_key_of (codes "busy") ≡ Some (key.Event event.Busy)
+unfolding event_of notice_of identity_key_of other_key_of
+named-busy = refl
+
+named-except : rule_key_of (codes "except") ≡ Some (key.Except)
+unfolding event_of notice_of identity_key_of other_key_of
+named-except = refl
+
+named-from : rule_key_of (codes "from") ≡ Some (key.From)
+unfolding event_of notice_of identity_key_of other_key_of
+named-from = refl
+
+named-many : rule_key_of (codes "many") ≡ Some (key.Many)
+unfolding event_of notice_of identity_key_of other_key_of
+named-many = refl
+
+named-media : rule_key_of (codes "media") ≡ Some (key.Media)
+unfolding event_of notice_of identity_key_of other_key_of
+named-media = refl
+
+named-no_answer : rule_key_of (codes "no-answer") ≡ Some (key.Event event.NoAnswer)
+unfolding event_of notice_of identity_key_of other_key_of
+named-no_answer = refl
+
+named-not_reachable : rule_key_of (codes "not-reachable") ≡ Some (key.Event event.NotReachable)
+unfolding event_of notice_of identity_key_of other_key_of
+named-not_reachable = refl
+
+named-not_registered : rule_key_of (codes "not-registered") ≡ Some (key.Event event.NotRegistered)
+unfolding event_of notice_of identity_key_of other_key_of
+named-not_registered = refl
+
+named-notify_caller : rule_key_of (codes "notify-caller") ≡ Some (key.Notice notice.NotifyCaller)
+unfolding event_of notice_of identity_key_of other_key_of
+named-notify_caller = refl
+
+named-one : rule_key_of (codes "one") ≡ Some (key.One)
+unfolding event_of notice_of identity_key_of other_key_of
+named-one = refl
+
+named-to_caller : rule_key_of (codes "reveal-identity-to-caller") ≡ Some (key.Notice notice.RevealToCaller)
+unfolding event_of notice_of identity_key_of other_key_of
+named-to_caller = refl
+
+named-to_target : rule_key_of (codes "reveal-identity-to-target") ≡ Some (key.Notice notice.RevealToTarget)
+unfolding event_of notice_of identity_key_of other_key_of
+named-to_target = refl
+
+named-served : rule_key_of (codes "reveal-served-user-identity-to-caller") ≡ Some (key.Notice notice.RevealServedToCaller)
+unfolding event_of notice_of identity_key_of other_key_of
+named-served = refl
+
+named-target : rule_key_of (codes "target") ≡ Some (key.Target)
+unfolding event_of notice_of identity_key_of other_key_of
+named-target = refl
+
+named-until : rule_key_of (codes "until") ≡ Some (key.Until)
+unfolding event_of notice_of identity_key_of other_key_of
+named-until = refl
+
+-- what was read after each key
+abbrev after-allow : Rule → RuleDraft
+after-allow r = record no_keys { allow = allowed r.action }
+
+abbrev after-anonymous : Rule → RuleDraft
+after-anonymous r = record (after-allow r) { anonymous = r.condition.anonymous }
+
+abbrev after-busy : Rule → RuleDraft
+after-busy r = record (after-anonymous r) { event = at_busy r.condition.event }
+
+abbrev after-except : Rule → RuleDraft
+after-except r = record (after-busy r) { except = except_of r.condition.identity }
+
+abbrev after-from : Rule → RuleDraft
+after-from r = record (after-except r) { from = start_of r.condition.window }
+
+abbrev after-many : Rule → RuleDraft
+after-many r = record (after-from r) { many = many_of r.condition.identity }
+
+abbrev after-media : Rule → RuleDraft
+after-media r = record (after-many r) { media = r.condition.media }
+
+abbrev after-no_answer : Rule → RuleDraft
+after-no_answer r = record (after-media r) { event = at_no_answer r.condition.event }
+
+abbrev after-not_reachable : Rule → RuleDraft
+after-not_reachable r = record (after-no_answer r) { event = at_not_reachable r.condition.event }
+
+abbrev after-not_registered : Rule → RuleDraft
+after-not_registered r = record (after-not_reachable r) { event = r.condition.event }
+
+abbrev after-notify_caller : Rule → RuleDraft
+after-notify_caller r = record (after-not_registered r) { notices = told notice.NotifyCaller r.action (after-not_registered r).notices }
+
+abbrev after-one : Rule → RuleDraft
+after-one r = record (after-notify_caller r) { one = one_of r.condition.identity }
+
+abbrev after-to_caller : Rule → RuleDraft
+after-to_caller r = record (after-one r) { notices = told notice.RevealToCaller r.action (after-one r).notices }
+
+abbrev after-to_target : Rule → RuleDraft
+after-to_target r = record (after-to_caller r) { notices = told notice.RevealToTarget r.action (after-to_caller r).notices }
+
+abbrev after-served : Rule → RuleDraft
+after-served r = record (after-to_target r) { notices = told notice.RevealServedToCaller r.action (after-to_target r).notices }
+
+abbrev after-target : Rule → RuleDraft
+after-target r = record (after-served r) { target = aimed r.action }
+
+abbrev after-until : Rule → RuleDraft
+after-until r = record (after-target r) { window = r.condition.window }
+
+module _ (s : Service) (r : Rule) (is : IsRule s r) (ms : Members) (path : List ℕ)
+    (many_there : has_key (codes "many") ms ≡ is_some (many_data r.condition.identity))
+    (one_there : has_key (codes "one") ms ≡ is_some (one_data r.condition.identity))
+    (until_there : has_key (codes "until") ms ≡ is_some (until_data r.condition.window)) where
+  at-allow : (rest : Members) → read_keys s ms path no_keys (with_key (codes "allow") (allow_data r.action) rest) ≡ read_keys s ms path (after-allow r) rest
+  at-allow rest = walk s ms path no_keys (codes "allow") (key.Allow) (allow_data r.action) rest (after-allow r) named-allow (allow_step s ms (dotted path (codes "allow")) no_keys r.action is.action refl)
+
+  at-anonymous : (rest : Members) → read_keys s ms path (after-allow r) (with_key (codes "anonymous") (anonymous_data s r.condition.anonymous) rest) ≡ read_keys s ms path (after-anonymous r) rest
+  at-anonymous rest = walk s ms path (after-allow r) (codes "anonymous") (key.Anonymous) (anonymous_data s r.condition.anonymous) rest (after-anonymous r) named-anonymous (anonymous_step s ms (dotted path (codes "anonymous")) (after-allow r) r.condition.anonymous is.condition.anonymous refl)
+
+  at-busy : (rest : Members) → read_keys s ms path (after-anonymous r) (with_key (codes "busy") (event_data s event.Busy r.condition.event) rest) ≡ read_keys s ms path (after-busy r) rest
+  at-busy rest = walk s ms path (after-anonymous r) (codes "busy") (key.Event event.Busy) (event_data s event.Busy r.condition.event) rest (after-busy r) named-busy (busy_step s ms (dotted path (codes "busy")) (after-anonymous r) r.condition.event is.condition.event)
+
+  at-except : (rest : Members) → read_keys s ms path (after-busy r) (with_key (codes "except") (except_data r.condition.identity) rest) ≡ read_keys s ms path (after-except r) rest
+  at-except rest = walk s ms path (after-busy r) (codes "except") (key.Except) (except_data r.condition.identity) rest (after-except r) named-except (except_step s ms (dotted path (codes "except")) (after-busy r) r.condition.identity is.condition.identity refl many_there one_there)
+
+  at-from : (rest : Members) → read_keys s ms path (after-except r) (with_key (codes "from") (from_data r.condition.window) rest) ≡ read_keys s ms path (after-from r) rest
+  at-from rest = walk s ms path (after-except r) (codes "from") (key.From) (from_data r.condition.window) rest (after-from r) named-from (from_step s ms (dotted path (codes "from")) (after-except r) r.condition.window is.condition.window until_there refl)
+
+  at-many : (rest : Members) → read_keys s ms path (after-from r) (with_key (codes "many") (many_data r.condition.identity) rest) ≡ read_keys s ms path (after-many r) rest
+  at-many rest = walk s ms path (after-from r) (codes "many") (key.Many) (many_data r.condition.identity) rest (after-many r) named-many (many_step s ms (dotted path (codes "many")) (after-from r) r.condition.identity is.condition.identity refl)
+
+  at-media : (rest : Members) → read_keys s ms path (after-many r) (with_key (codes "media") (media_data r.condition.media) rest) ≡ read_keys s ms path (after-media r) rest
+  at-media rest = walk s ms path (after-many r) (codes "media") (key.Media) (media_data r.condition.media) rest (after-media r) named-media (media_step s ms (dotted path (codes "media")) (after-many r) r.condition.media is.condition.media refl)
+
+  at-no_answer : (rest : Members) → read_keys s ms path (after-media r) (with_key (codes "no-answer") (event_data s event.NoAnswer r.condition.event) rest) ≡ read_keys s ms path (after-no_answer r) rest
+  at-no_answer rest = walk s ms path (after-media r) (codes "no-answer") (key.Event event.NoAnswer) (event_data s event.NoAnswer r.condition.event) rest (after-no_answer r) named-no_answer (no_answer_step s ms (dotted path (codes "no-answer")) (after-media r) r.condition.event is.condition.event)
+
+  at-not_reachable : (rest : Members) → read_keys s ms path (after-no_answer r) (with_key (codes "not-reachable") (event_data s event.NotReachable r.condition.event) rest) ≡ read_keys s ms path (after-not_reachable r) rest
+  at-not_reachable rest = walk s ms path (after-no_answer r) (codes "not-reachable") (key.Event event.NotReachable) (event_data s event.NotReachable r.condition.event) rest (after-not_reachable r) named-not_reachable (not_reachable_step s ms (dotted path (codes "not-reachable")) (after-no_answer r) r.condition.event is.condition.event)
+
+  at-not_registered : (rest : Members) → read_keys s ms path (after-not_reachable r) (with_key (codes "not-registered") (event_data s event.NotRegistered r.condition.event) rest) ≡ read_keys s ms path (after-not_registered r) rest
+  at-not_registered rest = walk s ms path (after-not_reachable r) (codes "not-registered") (key.Event event.NotRegistered) (event_data s event.NotRegistered r.condition.event) rest (after-not_registered r) named-not_registered (not_registered_step s ms (dotted path (codes "not-registered")) (after-not_reachable r) r.condition.event is.condition.event)
+
+  at-notify_caller : (rest : Members) → read_keys s ms path (after-not_registered r) (with_key (codes "notify-caller") (notice_data notice.NotifyCaller r.action) rest) ≡ read_keys s ms path (after-notify_caller r) rest
+  at-notify_caller rest = walk s ms path (after-not_registered r) (codes "notify-caller") (key.Notice notice.NotifyCaller) (notice_data notice.NotifyCaller r.action) rest (after-notify_caller r) named-notify_caller (notice_step s ms (dotted path (codes "notify-caller")) (after-not_registered r) notice.NotifyCaller r.action is.action)
+
+  at-one : (rest : Members) → read_keys s ms path (after-notify_caller r) (with_key (codes "one") (one_data r.condition.identity) rest) ≡ read_keys s ms path (after-one r) rest
+  at-one rest = walk s ms path (after-notify_caller r) (codes "one") (key.One) (one_data r.condition.identity) rest (after-one r) named-one (one_step s ms (dotted path (codes "one")) (after-notify_caller r) r.condition.identity is.condition.identity refl refl)
+
+  at-to_caller : (rest : Members) → read_keys s ms path (after-one r) (with_key (codes "reveal-identity-to-caller") (notice_data notice.RevealToCaller r.action) rest) ≡ read_keys s ms path (after-to_caller r) rest
+  at-to_caller rest = walk s ms path (after-one r) (codes "reveal-identity-to-caller") (key.Notice notice.RevealToCaller) (notice_data notice.RevealToCaller r.action) rest (after-to_caller r) named-to_caller (notice_step s ms (dotted path (codes "reveal-identity-to-caller")) (after-one r) notice.RevealToCaller r.action is.action)
+
+  at-to_target : (rest : Members) → read_keys s ms path (after-to_caller r) (with_key (codes "reveal-identity-to-target") (notice_data notice.RevealToTarget r.action) rest) ≡ read_keys s ms path (after-to_target r) rest
+  at-to_target rest = walk s ms path (after-to_caller r) (codes "reveal-identity-to-target") (key.Notice notice.RevealToTarget) (notice_data notice.RevealToTarget r.action) rest (after-to_target r) named-to_target (notice_step s ms (dotted path (codes "reveal-identity-to-target")) (after-to_caller r) notice.RevealToTarget r.action is.action)
+
+  at-served : (rest : Members) → read_keys s ms path (after-to_target r) (with_key (codes "reveal-served-user-identity-to-caller") (notice_data notice.RevealServedToCaller r.action) rest) ≡ read_keys s ms path (after-served r) rest
+  at-served rest = walk s ms path (after-to_target r) (codes "reveal-served-user-identity-to-caller") (key.Notice notice.RevealServedToCaller) (notice_data notice.RevealServedToCaller r.action) rest (after-served r) named-served (notice_step s ms (dotted path (codes "reveal-served-user-identity-to-caller")) (after-to_target r) notice.RevealServedToCaller r.action is.action)
+
+  at-target : (rest : Members) → read_keys s ms path (after-served r) (with_key (codes "target") (target_data r.action) rest) ≡ read_keys s ms path (after-target r) rest
+  at-target rest = walk s ms path (after-served r) (codes "target") (key.Target) (target_data r.action) rest (after-target r) named-target (target_step s ms (dotted path (codes "target")) (after-served r) r.action is.action refl)
+
+  at-until : (rest : Members) → read_keys s ms path (after-target r) (with_key (codes "until") (until_data r.condition.window) rest) ≡ read_keys s ms path (after-until r) rest
+  at-until rest = walk s ms path (after-target r) (codes "until") (key.Until) (until_data r.condition.window) rest (after-until r) named-until (until_step s ms (dotted path (codes "until")) (after-target r) r.condition.window is.condition.window refl refl)
+
+  keys_read : read_keys s ms path no_keys (rule_data s r) ≡ Ok (after-until r)
+  keys_read = at-allow _ ∙ at-anonymous _ ∙ at-busy _ ∙ at-except _ ∙ at-from _ ∙ at-many _ ∙ at-media _ ∙ at-no_answer _ ∙ at-not_reachable _ ∙ at-not_registered _ ∙ at-notify_caller _ ∙ at-one _ ∙ at-to_caller _ ∙ at-to_target _ ∙ at-served _ ∙ at-target _ ∙ at-until _
+
+-- whom the rule is about, of its keys
+who_back : (who : Option Who) → IfSome who IsWho → who_of (one_of who) (many_of who) (except_of who) ≡ who
+who_back None is = refl
+who_back (Some w) is = refl
+
+-- what the rule does, of its keys
+action_back : (s : Service) (path : List ℕ) (a : Action) → IsAction s a
+    → action_of s path (aimed a) (told notice.RevealServedToCaller a (told notice.RevealToTarget a (told notice.RevealToCaller a (told notice.NotifyCaller a all_told)))) (allowed a) ≡ Ok a
+action_back service.Diversion path (Forward f) is = refl
+action_back service.Incoming path (Forward f) is = absurd (let bad = is.0 in cc)
+action_back service.Outgoing path (Forward f) is = absurd (let bad = is.0 in cc)
+action_back service.Diversion path (Allow b) is = absurd cc
+action_back service.Incoming path (Allow b) is = refl
+action_back service.Outgoing path (Allow b) is = refl
+
+pub rule_back : (s : Service) (path : List ℕ) (r : Rule) → IsRule s r → rule_of s path (rule_data s r) ≡ Ok r
+rule_back s path r is =
+    let keys = keys_read s r is (rule_data s r) path (has_many s r) (has_one s r) (has_until s r) in
+    let who = who_back r.condition.identity is.condition.identity in
+    let act = action_back s path r.action is.action in
+    rw (keys, act, who)

@@ -1,0 +1,4 @@
+pub mod Printable
+pub mod Printing
+pub mod Texts
+pub mod Times

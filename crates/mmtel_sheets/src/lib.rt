@@ -1,0 +1,18 @@
+//! Service records: what a record says, as a sheet; reading one from TOML; printing a sheet as the TOML document that reads back to it. The public names of all of it are here.
+#![tactic(auto)]
+
+pub mod laws;
+mod members;
+mod moments;
+mod printing;
+mod rules;
+mod tables;
+mod values;
+
+pub use mmtel_sheet_grammar::SheetFault;
+pub use mmtel_sheet_reader::read_sheet;
+pub use mmtel_sheet_values::{
+    Action, BarPart, Condition, DiversionPart, EventWord, Forward, Restriction, Rule, Sheet,
+    SheetView, Who, Window,
+};
+pub use printing::print_sheet;

@@ -1,0 +1,36 @@
+//! The text of a sheet.
+ghost use Rattle.std.specs.Prelude.{◌≡◌, IfOk, IsUtf8, false};
+ghost use Rattle.toml.specs.Parse.{parse_document};
+ghost use Rattle.toml.specs.Text.{IsDocumentText};
+ghost use Rattle.mmtel_sheet_grammar.specs.Walk.{Documents};
+ghost use Rattle.mmtel_sheets.specs.Printable.{IsPrintable};
+ghost use Rattle.mmtel_sheets.specs.Printing.{document_of};
+
+use crate::tables::sheet_table;
+use mmtel_lex::{NoMemory, Text};
+use mmtel_sheet_values::Sheet;
+use std::alloc::Global;
+use toml::ser::Error;
+use toml::table_to_string;
+
+/// The record of a sheet: a TOML document in which each default is written out, a part that is not there has no table, and times are written as `YYYY-MM-DDTHH:MM:SS.mmmZ`.
+///
+/// # Errors
+///
+/// Want of memory alone.
+pub fn print_sheet(alloc: Global, s: &Sheet) -> Result<Text, NoMemory>
+    requires { IsPrintable s.now }
+    // The text writes the sheet's document, a key a line.
+    ensures text { IfOk result (λ t. IsDocumentText false (document_of s.now) t) }
+    // It is read as the sheet's document.
+    ensures document { IfOk result (λ t. IsUtf8 t × (parse_document t ≡ Some (document_of s.now))) }
+    // It reads back to the sheet.
+    ensures reads_back { IfOk result (λ t. Documents t (Ok s.now)) }
+{
+    let table = sheet_table(alloc, s)?;
+    match table_to_string(alloc, &table) {
+        Ok(text) => Ok(Text::of(alloc, text.as_bytes())?),
+        Err(Error::OutOfMemory) => Err(NoMemory),
+        Err(Error::DateInvalid) => unreachable!(),
+    }
+}

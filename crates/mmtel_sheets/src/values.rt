@@ -1,0 +1,246 @@
+//! The values at the keys of a record.
+ghost use Rattle.std.specs.Prelude.{◌≡◌, IfOk, IfSome, IsUtf8, option_map, true};
+ghost use Rattle.std.specs.List.{AllByRecursion};
+ghost use Rattle.toml.specs.Data.{string, array};
+ghost use Rattle.toml.specs.View.{view};
+ghost use Rattle.mmtel_sheet_grammar.specs.Elements.{is_token_text, is_domain};
+ghost use Rattle.mmtel_sheets.specs.Printable.{IsUriOfText, IsTarget, IsMoment, IsWho, IsWindow, IsAction};
+ghost use Rattle.mmtel_sheets.specs.Printing.{uri_data, uris_data, each_item, except_data, many_data, one_data, from_data, until_data, media_data, is_event, event_data, anonymous_data, allow_data, target_data, notice_data, rejection_data};
+ghost use Rattle.mmtel_sheets.specs.Times.{moment_text};
+
+use crate::members::string_of;
+use crate::moments::print_moment;
+use mmtel_lex::{List, NoMemory, Text, Uri, print_uri};
+use mmtel_sheet_grammar::keys::{Notice, Service};
+use mmtel_sheet_values::{Action, EventWord, Who, Window};
+use std::alloc::Global;
+use toml::Value;
+
+/// A text.
+pub fn text_value(alloc: Global, bytes: &[u8]) -> Result<Value, NoMemory>
+    requires { IsUtf8 bytes.now }
+    ensures { IfOk result (λ v. view v ≡ string bytes.now) }
+{
+    Ok(Value::String(string_of(alloc, bytes)?))
+}
+
+/// A URI.
+fn uri_value(alloc: Global, uri: &Uri) -> Result<Value, NoMemory>
+    requires { IsUriOfText uri.now }
+    ensures { IfOk result (λ v. view v ≡ uri_data uri.now) }
+{
+    let text = print_uri(alloc, uri)?;
+    text_value(alloc, text.bytes())
+}
+
+/// An array of URIs.
+fn uris_value(alloc: Global, uris: &[Uri]) -> Result<Value, NoMemory>
+    requires { AllByRecursion IsUriOfText uris.now }
+    ensures { IfOk result (λ v. view v ≡ uris_data uris.now) }
+{
+    let mut array = Vec::new(alloc);
+    'uris: for uri in uris {
+        array.push(uri_value(alloc, uri)?)?;
+    }
+    Ok(Value::Array(array))
+}
+
+/// A token, a host or `*`.
+fn token_value(alloc: Global, token: &Text) -> Result<Value, NoMemory>
+    requires { is_token_text token.now ≡ true }
+    ensures { IfOk result (λ v. view v ≡ string token.now) }
+{
+    text_value(alloc, token.bytes())
+}
+
+/// An array of tokens.
+fn tokens_value(alloc: Global, tokens: &[Text]) -> Result<Value, NoMemory>
+    requires { AllByRecursion (λ t. is_token_text t ≡ true) tokens.now }
+    ensures { IfOk result (λ v. view v ≡ array (each_item string tokens.now)) }
+{
+    let mut array = Vec::new(alloc);
+    'tokens: for token in tokens {
+        array.push(token_value(alloc, token)?)?;
+    }
+    Ok(Value::Array(array))
+}
+
+/// The identities of a domain that are not meant, where there is a domain.
+pub fn except_value(alloc: Global, who: &Option<Who>) -> Result<Option<Value>, NoMemory>
+    requires { IfSome who.now IsWho }
+    ensures { IfOk result (λ o. option_map view o ≡ except_data who.now) }
+{
+    match who {
+        None => Ok(None),
+        Some(who) => match &who.many {
+            None => Ok(None),
+            Some(_) => Ok(Some(uris_value(alloc, who.except.items())?)),
+        },
+    }
+}
+
+fn domain_value(alloc: Global, domain: &Text) -> Result<Value, NoMemory>
+    requires { is_domain domain.now ≡ true }
+    ensures { IfOk result (λ v. view v ≡ string domain.now) }
+{
+    text_value(alloc, domain.bytes())
+}
+
+/// The domain whose identities are meant.
+pub fn many_value(alloc: Global, who: &Option<Who>) -> Result<Option<Value>, NoMemory>
+    requires { IfSome who.now IsWho }
+    ensures { IfOk result (λ o. option_map view o ≡ many_data who.now) }
+{
+    match who {
+        None => Ok(None),
+        Some(who) => match &who.many {
+            None => Ok(None),
+            Some(domain) => Ok(Some(domain_value(alloc, domain)?)),
+        },
+    }
+}
+
+/// The identities that are meant.
+pub fn one_value(alloc: Global, who: &Option<Who>) -> Result<Option<Value>, NoMemory>
+    requires { IfSome who.now IsWho }
+    ensures { IfOk result (λ o. option_map view o ≡ one_data who.now) }
+{
+    match who {
+        None => Ok(None),
+        Some(who) => Ok(Some(uris_value(alloc, who.one.items())?)),
+    }
+}
+
+fn moment_value(alloc: Global, moment: i128) -> Result<Value, NoMemory>
+    requires { IsMoment moment }
+    ensures { IfOk result (λ v. view v ≡ string (moment_text moment)) }
+{
+    let text = print_moment(moment);
+    Ok(Value::String(String::from_str(alloc, text.as_str())?))
+}
+
+/// The start of a window.
+pub fn from_value(alloc: Global, window: Option<Window>) -> Result<Option<Value>, NoMemory>
+    requires { IfSome window IsWindow }
+    ensures { IfOk result (λ o. option_map view o ≡ from_data window) }
+{
+    match window {
+        None => Ok(None),
+        Some(window) => Ok(Some(moment_value(alloc, window.from)?)),
+    }
+}
+
+/// The end of a window.
+pub fn until_value(alloc: Global, window: Option<Window>) -> Result<Option<Value>, NoMemory>
+    requires { IfSome window IsWindow }
+    ensures { IfOk result (λ o. option_map view o ≡ until_data window) }
+{
+    match window {
+        None => Ok(None),
+        Some(window) => Ok(Some(moment_value(alloc, window.until)?)),
+    }
+}
+
+/// The kinds of media.
+pub fn media_value(alloc: Global, media: &Option<List<Text>>) -> Result<Option<Value>, NoMemory>
+    requires { IfSome media.now (λ tokens. AllByRecursion (λ t. is_token_text t ≡ true) tokens) }
+    ensures { IfOk result (λ o. option_map view o ≡ media_data media.now) }
+{
+    match media {
+        None => Ok(None),
+        Some(tokens) => Ok(Some(tokens_value(alloc, tokens.items())?)),
+    }
+}
+
+/// This is the event of the rule.
+fn is_event(wanted: EventWord, happened: Option<EventWord>) -> bool
+    ensures { result ≡ is_event wanted happened }
+{
+    match happened {
+        None => false,
+        Some(event) => match (wanted, event) {
+            (EventWord::Busy, EventWord::Busy) => true,
+            (EventWord::NoAnswer, EventWord::NoAnswer) => true,
+            (EventWord::NotReachable, EventWord::NotReachable) => true,
+            (EventWord::NotRegistered, EventWord::NotRegistered) => true,
+            _ => false,
+        },
+    }
+}
+
+/// Whether the event is the rule's, where the service has events.
+pub fn event_value(
+    service: Service,
+    wanted: EventWord,
+    happened: Option<EventWord>,
+) -> Option<Value>
+    ensures { option_map view result ≡ event_data service wanted happened }
+{
+    match service {
+        Service::Diversion => Some(Value::Boolean(is_event(wanted, happened))),
+        Service::Incoming => None,
+        Service::Outgoing => None,
+    }
+}
+
+/// Whether the caller hides who it is, where the service knows who calls.
+pub fn anonymous_value(service: Service, anonymous: bool) -> Option<Value>
+    ensures { option_map view result ≡ anonymous_data service anonymous }
+{
+    match service {
+        Service::Diversion => Some(Value::Boolean(anonymous)),
+        Service::Incoming => Some(Value::Boolean(anonymous)),
+        Service::Outgoing => None,
+    }
+}
+
+/// Whether the call is let through.
+pub fn allow_value(action: &Action) -> Option<Value>
+    ensures { option_map view result ≡ allow_data action.now }
+{
+    match action {
+        Action::Forward(_) => None,
+        Action::Allow(allow) => Some(Value::Boolean(*allow)),
+    }
+}
+
+/// Where the call goes.
+pub fn target_value(
+    alloc: Global,
+    service: Service,
+    action: &Action,
+) -> Result<Option<Value>, NoMemory>
+    requires { IsAction service action.now }
+    ensures { IfOk result (λ o. option_map view o ≡ target_data action.now) }
+{
+    match action {
+        Action::Forward(forward) => Ok(Some(uri_value(alloc, &forward.target)?)),
+        Action::Allow(_) => Ok(None),
+    }
+}
+
+/// Whether somebody is told of the diversion.
+pub fn notice_value(notice: Notice, action: &Action) -> Option<Value>
+    ensures { option_map view result ≡ notice_data notice action.now }
+{
+    match action {
+        Action::Forward(forward) => Some(Value::Boolean(match notice {
+            Notice::NotifyCaller => forward.notify_caller,
+            Notice::RevealToCaller => forward.reveal_to_caller,
+            Notice::RevealServedToCaller => forward.reveal_served_to_caller,
+            Notice::RevealToTarget => forward.reveal_to_target,
+        })),
+        Action::Allow(_) => None,
+    }
+}
+
+/// Whether callers that hide who they are are refused, where the service can refuse them.
+pub fn rejection_value(service: Service, reject_anonymous: bool) -> Option<Value>
+    ensures { option_map view result ≡ rejection_data service reject_anonymous }
+{
+    match service {
+        Service::Diversion => None,
+        Service::Incoming => Some(Value::Boolean(reject_anonymous)),
+        Service::Outgoing => None,
+    }
+}

@@ -1,0 +1,2 @@
+pub mod BarringLaws
+mod Worked

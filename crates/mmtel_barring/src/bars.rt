@@ -1,0 +1,71 @@
+//! The two directions.
+ghost use Rattle.std.specs.Prelude.{◌≡◌};
+ghost use Rattle.mmtel_rules.specs.Identities.{has_identity, identity_holds};
+ghost use Rattle.mmtel_barring.specs.Barring.{incoming_refusal, is_anonymous_refused, outgoing_bar};
+
+use mmtel_rules::{Facts, Identities2, all_bar};
+use mmtel_sheet_values::{BarPart, Sheet};
+
+/// A call that is barred on its way out.
+#[derive(Clone, Copy, Debug, PartialEq, Eq)]
+pub struct Barred {
+    /// The least index of a rule that bars it.
+    pub rule: usize,
+}
+
+/// Why a call is refused on its way in.
+#[derive(Clone, Copy, Debug, PartialEq, Eq)]
+pub enum Refusal {
+    /// Its caller hides who it is (TS 24.611, anonymous communication rejection).
+    Anonymous,
+    /// It is barred.
+    Barred {
+        /// The least index of a rule that bars it.
+        rule: usize,
+    },
+}
+
+/// Whether the party has an identity.
+fn has_identity(identities: &Identities2) -> bool
+    ensures { result ≡ has_identity identities.now }
+{
+    identities.sip.is_some() || identities.tel.is_some()
+}
+
+/// Whether the caller is refused since it hides who it is.
+fn is_anonymous_refused(part: &BarPart, f: &Facts) -> bool
+    ensures { let facts = f.entry.now in result ≡ is_anonymous_refused (has_identity facts.caller.now) facts.restricted part.now }
+{
+    part.reject_anonymous && f.restricted && has_identity(f.caller)
+}
+
+/// The rule of the user's barring of outgoing calls that bars this one; None where the user has none, or none bars it. The facts name the target as the identity. It takes no memory.
+pub fn outgoing(s: &Sheet, f: &Facts) -> Option<Barred>
+    ensures exact { let facts = f.entry.now in result ≡ outgoing_bar (identity_holds facts.caller.now) facts.restricted facts.media.now facts.now s.now.outgoing }
+{
+    match &s.outgoing {
+        None => None,
+        Some(part) => match all_bar(part.rules.items(), f) {
+            None => None,
+            Some(rule) => Some(Barred { rule }),
+        },
+    }
+}
+
+/// Why the user's barring of incoming calls refuses this one; None where the user has none, or it does not. That the caller hides who it is comes before the rules; a caller that has no identity hides none. It takes no memory.
+pub fn incoming(s: &Sheet, f: &Facts) -> Option<Refusal>
+    ensures exact { let facts = f.entry.now in result ≡ incoming_refusal (identity_holds facts.caller.now) (has_identity facts.caller.now) facts.restricted facts.media.now facts.now s.now.incoming }
+{
+    match &s.incoming {
+        None => None,
+        Some(part) => {
+            if is_anonymous_refused(part, f) {
+                return Some(Refusal::Anonymous);
+            }
+            match all_bar(part.rules.items(), f) {
+                None => None,
+                Some(rule) => Some(Refusal::Barred { rule }),
+            }
+        }
+    }
+}

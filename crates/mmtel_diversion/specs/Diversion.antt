@@ -1,0 +1,61 @@
+-- The diversion that a record asks for at a moment of a call: that of the first rule that holds (TS 24.604 §4.5.2.6 and §4.9.1), with its cause (RFC 4458 §2). And deflection, the diversion by the user's own device (TS 24.604 §4.5.2.6).
+use Rattle.std.specs.Prelude.{ℕ, Bool, false, if◌then◌else◌, List, Option, Some, None, option_and_then, slice_get}
+use Rattle.std.specs.Option.{option_map}
+use Rattle.mmtel_sheet_values.specs.declared.values.Action.{Action}
+use Rattle.mmtel_sheet_values.specs.declared.values.Action.TheVariants as Act
+use Rattle.mmtel_sheet_values.specs.declared.values.DiversionPart.{DiversionPart}
+use Rattle.mmtel_sheet_values.specs.declared.values.EventWord.{EventWord}
+use Rattle.mmtel_sheet_values.specs.declared.values.EventWord.TheVariants.{Busy, NoAnswer, NotReachable, NotRegistered}
+use Rattle.mmtel_sheet_values.specs.declared.values.Forward.{Forward}
+use Rattle.mmtel_sheet_values.specs.declared.values.Rule.{Rule}
+use Rattle.mmtel_sheet_values.specs.declared.values.Sheet.{Sheet}
+use Rattle.mmtel_sheet_values.specs.declared.values.Who.{Who}
+use Rattle.mmtel_rules.specs.Rules.{first_that_holds}
+use Rattle.mmtel_rules.specs.declared.values.When.{When}
+use Rattle.mmtel_diversion.specs.declared.choosing.Diversion.{Diversion}
+
+-- a diversion: the place of the rule that asks for it, where the call goes, and why
+pub record Chosen : Type 0 where
+  pub rule : ℕ
+  pub forward : Forward
+  pub cause : ℕ
+
+-- what a diversion of the program says
+abbrev pub shown : Diversion → Chosen
+shown d = record { rule = d.rule; forward = d.forward.now; cause = d.cause }
+
+-- the cause by the event of the rule; unconditional without one (RFC 4458 §2)
+abbrev pub cause_of : Option EventWord → ℕ
+cause_of None = 302
+cause_of (Some Busy) = 486
+cause_of (Some NoAnswer) = 408
+cause_of (Some NotReachable) = 503
+cause_of (Some NotRegistered) = 404
+
+-- where the rule forwards to; a rule that only lets through or bars, which stands in no diversion part that was read, forwards nowhere
+abbrev pub forward_of : Action → Option Forward
+forward_of (Act.Forward forward) = Some forward
+forward_of (Act.Allow allowed) = None
+
+-- what the rule at this place asks for
+abbrev pub diversion_by : ℕ → Rule → Option Chosen
+diversion_by place rule = option_map (λ forward. record { rule = place; forward = forward; cause = cause_of rule.condition.event }) (forward_of rule.action)
+
+-- what the first rule that holds asks for
+abbrev pub diversion_among : (asks : Who → Bool) → (restricted : Bool) → (media : List (List ℕ)) → (now : ℕ) → When → List Rule → Option Chosen
+diversion_among asks restricted media now when rules =
+    option_and_then (λ place. option_and_then (diversion_by place) (slice_get rules place)) (first_that_holds asks restricted media now when rules)
+
+-- the diversion of the moment; none where diversion is not active
+abbrev pub diversion_of : (asks : Who → Bool) → (restricted : Bool) → (media : List (List ℕ)) → (now : ℕ) → When → Sheet → Option Chosen
+diversion_of asks restricted media now when sheet =
+    option_and_then (λ part. diversion_among asks restricted media now when part.rules) sheet.diversion
+
+-- the record allows the user's device to divert a call
+abbrev pub allows_deflection : Option DiversionPart → Bool
+allows_deflection None = false
+allows_deflection (Some part) = part.deflection
+
+-- the cause of a deflection, which is another one once the device was alerted; none where the record does not allow it
+abbrev pub deflection_of : Sheet → (alerted : Bool) → Option ℕ
+deflection_of sheet alerted = if allows_deflection sheet.diversion then Some (if alerted then 487 else 480) else None

@@ -1,0 +1,67 @@
+//! The diversion that a record asks for.
+ghost use Rattle.std.specs.Prelude.{◌≡◌};
+ghost use Rattle.std.specs.Option.{option_map};
+ghost use Rattle.mmtel_rules.specs.Identities.{identity_holds};
+ghost use Rattle.mmtel_diversion.specs.Diversion.{cause_of, deflection_of, diversion_by, diversion_of, shown};
+
+use mmtel_rules::{Facts, When, first};
+use mmtel_sheet_values::{Action, EventWord, Forward, Rule, Sheet};
+
+/// A diversion that a rule asks for.
+#[derive(Clone, Copy)]
+pub struct Diversion<'a> {
+    /// The place of the rule among those of the record, counted from 0.
+    pub rule: usize,
+    /// Where the call goes, and who is told what of it.
+    pub forward: &'a Forward,
+    /// Why, as the `cause` parameter of the new target says (RFC 4458 §2).
+    pub cause: u16,
+}
+
+/// The cause of a diversion by a rule for this event, or for none (RFC 4458 §2).
+fn cause_of(event: Option<EventWord>) -> u16
+    ensures { result ≡ cause_of event }
+{
+    match event {
+        None => 302,
+        Some(EventWord::Busy) => 486,
+        Some(EventWord::NoAnswer) => 408,
+        Some(EventWord::NotReachable) => 503,
+        Some(EventWord::NotRegistered) => 404,
+    }
+}
+
+/// The diversion that the rule at this place asks for; None where it forwards nowhere.
+fn diversion_by(place: usize, rule: &Rule) -> Option<Diversion<'_>>
+    ensures { option_map shown result ≡ diversion_by place rule.now }
+{
+    match &rule.action {
+        Action::Forward(forward) => Some(Diversion {
+            rule: place,
+            forward,
+            cause: cause_of(rule.condition.event),
+        }),
+        Action::Allow(_) => None,
+    }
+}
+
+/// The diversion that the record asks for at this moment: that of the first of its rules that holds (TS 24.604 §4.5.2.6 and §4.9.1). None where diversion is not active or no rule holds, and where the first that holds forwards nowhere, which no rule of a record that was read does. It takes no memory.
+pub fn choose<'a>(s: &'a Sheet, f: &Facts, when: When) -> Option<Diversion<'a>>
+    ensures exact { let facts = f.entry.now in option_map shown result ≡ diversion_of (identity_holds facts.caller.now) facts.restricted facts.media.now facts.now when s.now }
+{
+    let part = s.diversion.as_ref()?;
+    let rules = part.rules.items();
+    let place = first(rules, f, when)?;
+    let rule = rules.get(place)?;
+    diversion_by(place, rule)
+}
+
+/// The cause of a diversion by the user's own device (communication deflection, TS 24.604 §4.5.2.6): 487 once the device was alerted, else 480 (RFC 4458 §2). None where the record does not allow it. It takes no memory.
+pub fn deflect(s: &Sheet, alerted: bool) -> Option<u16>
+    ensures exact { result ≡ deflection_of s.now alerted }
+{
+    match &s.diversion {
+        Some(part) if part.deflection => Some(if alerted { 487 } else { 480 }),
+        _ => None,
+    }
+}

@@ -1,0 +1,60 @@
+//! Whether an identity is restricted, and whether it is presented.
+ghost use Rattle.std.specs.Prelude.{◌≡◌};
+ghost use Rattle.std.specs.Option.{option_copied};
+ghost use Rattle.mmtel_identity.specs.Restriction.{hides_itself, is_restricted, is_caller_restricted, is_callee_restricted, is_presented};
+
+use mmtel_sheet_values::{Restriction, Sheet};
+use mmtel_types::{PrivacySet, Side};
+
+/// Whether the words of Privacy ask that the identity is kept from whoever is not trusted.
+fn hides_itself(p: &PrivacySet) -> bool
+    ensures { result ≡ hides_itself p.now }
+{
+    p.id || p.user || p.header
+}
+
+/// Whether the words of Privacy, or else the restriction service, restrict the identity.
+fn is_restricted(p: &PrivacySet, service: &Restriction) -> bool
+    ensures { result ≡ is_restricted p.now service.now }
+{
+    if hides_itself(p) {
+        return true;
+    }
+    if !service.active {
+        return false;
+    }
+    service.permanent || (service.by_default && !p.none)
+}
+
+/// Whether the identity of the caller is restricted in its call (TS 24.607 §4.5.2): by the words of its Privacy header field, or by the restriction service of the account that calls; None where no account of this server is served as the caller.
+pub fn caller_restricted(p: &PrivacySet, s: Option<&Sheet>) -> bool
+    ensures exact { result ≡ is_caller_restricted p.now (option_copied s.entry) }
+{
+    match s {
+        None => hides_itself(p),
+        Some(sheet) => is_restricted(p, &sheet.oir),
+    }
+}
+
+/// Whether the identity of the called party is restricted in a message of its own (TS 24.608 §4.5.2): by the words of that message's Privacy header field, or by the restriction service of the account that is called; None where no account of this server is served as the called party.
+pub fn callee_restricted(p: &PrivacySet, s: Option<&Sheet>) -> bool
+    ensures exact { result ≡ is_callee_restricted p.now (option_copied s.entry) }
+{
+    match s {
+        None => hides_itself(p),
+        Some(sheet) => is_restricted(p, &sheet.tir),
+    }
+}
+
+/// Whether the party on this side, whose sheet it is, is shown the identity of the other side: the called party by the presentation of the originating identity (TS 24.607 §4.5.2), the caller by that of the terminating identity (TS 24.608 §4.5.2). It is where there is no sheet.
+pub fn present_to(s: Option<&Sheet>, side: Side) -> bool
+    ensures exact { result ≡ is_presented (option_copied s.entry) side }
+{
+    let Some(sheet) = s else {
+        return true;
+    };
+    match side {
+        Side::Callee => sheet.oip,
+        Side::Caller => sheet.tip,
+    }
+}

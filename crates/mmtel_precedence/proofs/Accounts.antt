@@ -1,0 +1,46 @@
+-- A target without a served account is as one of an account with an empty record, registered and in no call.
+use Rattle.std.proofs.Common.{◌≡◌, ℕ, Bool, true, List, [], ◌∷◌, ◌++◌, refl}
+use Rattle.std.specs.Prelude.{Option, Some, None, unwrap_or, nat_lt}
+use Rattle.std.specs.Option.{option_map}
+use Rattle.mmtel_lex.specs.declared.values.Uri.{Uri}
+use Rattle.mmtel_sheet_values.specs.Sheets.{empty_sheet}
+use Rattle.mmtel_rules.specs.declared.values.When.{When}
+use Rattle.mmtel_diversion.specs.Diversion.{deflection_of}
+use Rattle.mmtel_precedence.specs.Services.{Circumstances, Account, Due, Says, Nothing, Refuses, Diverts, first_said, due_on, bars_outgoing, services_on_arrival}
+use Rattle.mmtel_precedence.specs.Outcome.{Call, account_says, is_waiting, due_at, deflected_to, deflection_at, is_refused, of_target, new_target}
+
+-- the account with an empty record
+abbrev pub nobody : Account
+nobody = record { sheet = empty_sheet; registered = true; live = 0 }
+
+-- what was said first, then what is said later
+abbrev pub then_said : Says → Says → Says
+then_said Nothing later = later
+then_said (Refuses cause) later = Refuses cause
+then_said (Diverts due) later = Diverts due
+
+pub first_said-append : (says later : List Says) → first_said (says ++ later) ≡ then_said (first_said says) (first_said later)
+first_said-append [] later = refl
+first_said-append (Nothing ∷ says) later = first_said-append says later
+first_said-append (Refuses cause ∷ says) later = refl
+first_said-append (Diverts due ∷ says) later = refl
+
+pub first_said-account : (c : Circumstances) (served : Option Account) (later : List Says) → first_said (account_says c served ++ later) ≡ then_said (first_said (services_on_arrival c (unwrap_or served nobody))) (first_said later)
+first_said-account c None later = refl
+first_said-account c (Some account) later = first_said-append (services_on_arrival c account) later
+
+pub is_waiting-account : (served : Option Account) → is_waiting served ≡ nat_lt 0 (unwrap_or served nobody).live
+is_waiting-account None = refl
+is_waiting-account (Some account) = refl
+
+pub due_at-account : (c : Circumstances) (when : When) (served : Option Account) → due_at c when served ≡ due_on c when (unwrap_or served nobody).sheet
+due_at-account c when None = refl
+due_at-account c when (Some account) = refl
+
+pub deflection_at-account : (served : Option Account) (target : Uri) (rang : Bool) → deflection_at served target rang ≡ option_map (deflected_to target) (deflection_of (unwrap_or served nobody).sheet rang)
+deflection_at-account None target rang = refl
+deflection_at-account (Some account) target rang = refl
+
+pub is_refused-account : (call : Call) (served : Option Account) (now : ℕ) (due : Due) → is_refused call served now due ≡ bars_outgoing (of_target call now (new_target call.home due.forward.target)) (unwrap_or served nobody).sheet
+is_refused-account call None now due = refl
+is_refused-account call (Some account) now due = refl

@@ -1,0 +1,152 @@
+-- Callers that answer alike: the outcome sees the answers alone.
+use Rattle.std.proofs.Common.{◌≡◌, ℕ, zero, suc, ◌+◌, ◌-◌, ◌==◌, Bool, List, [], ◌∷◌, ◌++◌, refl, ap, ◌∙◌}
+use Rattle.std.specs.Prelude.{Option, Some, None, not, option_and_then, slice_get, if◌then◌else◌}
+use Rattle.std.specs.Option.{option_map}
+use Rattle.mmtel_types.specs.declared.causes.Cause.{Cause}
+use Rattle.mmtel_types.specs.declared.causes.Cause.TheVariants as causes
+use Rattle.mmtel_lex.specs.declared.values.Uri.{Uri}
+use Rattle.mmtel_sheet_values.specs.declared.values.DiversionPart.{DiversionPart}
+use Rattle.mmtel_sheet_values.specs.declared.values.Rule.{Rule}
+use Rattle.mmtel_sheet_values.specs.declared.values.Sheet.{Sheet}
+use Rattle.mmtel_sheet_values.specs.declared.values.Who.{Who}
+use Rattle.mmtel_rules.specs.Alike.{AnswerAlike, identity_parts}
+use Rattle.mmtel_rules.specs.Identities.{identity_holds, has_identity}
+use Rattle.mmtel_rules.specs.Rules.{first_that_holds, is_barred}
+use Rattle.mmtel_rules.specs.declared.values.When.{When}
+use Rattle.mmtel_rules.specs.declared.values.When.TheVariants as event
+use Rattle.mmtel_diversion.specs.Diversion.{diversion_among, diversion_by}
+use Rattle.mmtel_waiting.specs.Waiting.{is_busy}
+use Rattle.mmtel_barring.specs.Barring.{rules_of}
+use Rattle.mmtel_precedence.specs.Services.{Circumstances, Account, Due, Says, Nothing, Refuses, Diverts, refuses_if, diverts_by, first_said, due_of, due_on, rejects_anonymous, bars_incoming, services_on_arrival}
+use Rattle.mmtel_precedence.specs.Outcome.{End, Answer, Cancel, UserBusy, NotReachable, NoReply, Deflection, Other, Ended, Reach, Call, Target, Final, Outcome, Next, Rests, IsDue, of_caller, account_says, said_on_arrival, due_at, is_refused, diverted_or, next_on, next_after_offer, next_at, next_after, last_reached, then_reached, from_target, target_at, new_target, offer_by, refusal_at_opening, outcome_after, outcome_from, outcome}
+use Rattle.mmtel_precedence.specs.Laws.{diversion_rules, AnswerAlikeTo, AlikeCallersFareAlike}
+
+-- what the crates below say of callers that answer alike
+abbrev pub FirstIsSame : Type 0
+FirstIsSame = (asks asks2 : Who → Bool) (restricted : Bool) (media : List (List ℕ)) (now : ℕ) (when : When) (rules : List Rule) → AnswerAlike asks asks2 (identity_parts rules) → first_that_holds asks restricted media now when rules ≡ first_that_holds asks2 restricted media now when rules
+
+abbrev pub BarsSame : Type 0
+BarsSame = (asks asks2 : Who → Bool) (restricted : Bool) (media : List (List ℕ)) (now : ℕ) (rules : List Rule) → AnswerAlike asks asks2 (identity_parts rules) → is_barred asks restricted media now rules ≡ is_barred asks2 restricted media now rules
+
+-- the circumstances, with these answers
+abbrev asked : Circumstances → (Who → Bool) → Circumstances
+asked c asks = record c { asks = asks }
+
+-- the call, with these answers
+abbrev asking : Call → (Who → Bool) → Call
+asking call asks = record call { asks = asks }
+
+diversion-alike : FirstIsSame → (asks asks2 : Who → Bool) (c : Circumstances) (when : When) (part : Option DiversionPart) → AnswerAlike asks asks2 (identity_parts (diversion_rules part)) →
+    option_and_then (λ (p : DiversionPart). diversion_among asks c.restricted c.media c.now when p.rules) part ≡ option_and_then (λ (p : DiversionPart). diversion_among asks2 c.restricted c.media c.now when p.rules) part
+diversion-alike first asks asks2 c when None h = refl
+diversion-alike first asks asks2 c when (Some part) h =
+    ap (λ (found : Option ℕ). option_and_then (λ place. option_and_then (diversion_by place) (slice_get part.rules place)) found) (first asks asks2 c.restricted c.media c.now when part.rules h)
+
+due_on-alike : FirstIsSame → (asks asks2 : Who → Bool) (c : Circumstances) (when : When) (sheet : Sheet) → AnswerAlikeTo sheet asks asks2 → due_on (asked c asks) when sheet ≡ due_on (asked c asks2) when sheet
+due_on-alike first asks asks2 c when sheet h = ap (option_map due_of) (diversion-alike first asks asks2 c when sheet.diversion h.diversion)
+
+-- the services, by what depends on the answers
+services_by : Circumstances → Account → Bool → Option Due → Option Due → List Says
+services_by c account barred on_arrival when_busy =
+    refuses_if (rejects_anonymous c account.sheet) causes.AnonymousRejected
+    ∷ refuses_if barred causes.IncomingBarred
+    ∷ diverts_by on_arrival
+    ∷ refuses_if (not account.registered) causes.NotRegistered
+    ∷ diverts_by (if is_busy account.live account.sheet then when_busy else None)
+    ∷ refuses_if (is_busy account.live account.sheet) causes.NetworkBusy
+    ∷ []
+
+services-alike : FirstIsSame → BarsSame → (asks asks2 : Who → Bool) (c : Circumstances) (account : Account) → AnswerAlikeTo account.sheet asks asks2 → services_on_arrival (asked c asks) account ≡ services_on_arrival (asked c asks2) account
+unfolding services_by
+services-alike first bars asks asks2 c account h =
+    ap (λ barred. services_by c account barred (due_on (asked c asks) (event.Arrival account.registered) account.sheet) (due_on (asked c asks) event.Busy account.sheet)) (bars asks asks2 c.restricted c.media c.now (rules_of account.sheet.incoming) h.incoming)
+    ∙ ap (λ due. services_by c account (bars_incoming (asked c asks2) account.sheet) due (due_on (asked c asks) event.Busy account.sheet)) (due_on-alike first asks asks2 c (event.Arrival account.registered) account.sheet h)
+    ∙ ap (λ due. services_by c account (bars_incoming (asked c asks2) account.sheet) (due_on (asked c asks2) (event.Arrival account.registered) account.sheet) due) (due_on-alike first asks asks2 c event.Busy account.sheet h)
+
+-- the answers are alike for the account that is served, if one is
+abbrev AlikeAt : (asks asks2 : Who → Bool) → Option Account → Type 0
+AlikeAt asks asks2 None = Unit {0}
+AlikeAt asks asks2 (Some account) = AnswerAlikeTo account.sheet asks asks2
+
+alike-at : (asks asks2 : Who → Bool) (served : Option Account) → ((account : Account) → served ≡ Some account → AnswerAlikeTo account.sheet asks asks2) → AlikeAt asks asks2 served
+alike-at asks asks2 None h = tt
+alike-at asks asks2 (Some account) h = h account refl
+
+account_says-alike : FirstIsSame → BarsSame → (asks asks2 : Who → Bool) (c : Circumstances) (served : Option Account) → AlikeAt asks asks2 served → account_says (asked c asks) served ≡ account_says (asked c asks2) served
+account_says-alike first bars asks asks2 c None h = refl
+account_says-alike first bars asks asks2 c (Some account) h = services-alike first bars asks asks2 c account h
+
+said-alike : FirstIsSame → BarsSame → (asks asks2 : Who → Bool) (call : Call) (reach : Reach) → AlikeAt asks asks2 reach.served → said_on_arrival (asking call asks) reach ≡ said_on_arrival (asking call asks2) reach
+said-alike first bars asks asks2 call reach h =
+    ap (λ says. first_said (says ++ refuses_if reach.is_unknown causes.NoAccount ∷ refuses_if reach.has_no_peer causes.NoRoute ∷ [])) (account_says-alike first bars asks asks2 (of_caller call reach.at) reach.served h)
+
+due_at-alike : FirstIsSame → (asks asks2 : Who → Bool) (c : Circumstances) (when : When) (served : Option Account) → AlikeAt asks asks2 served → due_at (asked c asks) when served ≡ due_at (asked c asks2) when served
+due_at-alike first asks asks2 c when None h = refl
+due_at-alike first asks asks2 c when (Some account) h = due_on-alike first asks asks2 c when account.sheet h
+
+next_on-alike : FirstIsSame → (asks asks2 : Who → Bool) (c : Circumstances) (served : Option Account) (how : End) (later : List Ended) → AlikeAt asks asks2 served → next_on (asked c asks) served how later ≡ next_on (asked c asks2) served how later
+next_on-alike first asks asks2 c served Answer later h = refl
+next_on-alike first asks asks2 c served Cancel later h = refl
+next_on-alike first asks asks2 c served (UserBusy code) later h = ap (λ due. diverted_or due (causes.Relayed code) c.now later) (due_at-alike first asks asks2 c event.Busy served h)
+next_on-alike first asks asks2 c served (NotReachable code) later h = ap (λ due. diverted_or due (causes.Unreachable code) c.now later) (due_at-alike first asks asks2 c event.NotReachable served h)
+next_on-alike first asks asks2 c served NoReply later h = ap (λ due. diverted_or due causes.NoReply c.now later) (due_at-alike first asks asks2 c event.NoAnswer served h)
+next_on-alike first asks asks2 c served (Deflection target rang) later h = refl
+next_on-alike first asks asks2 c served (Other code) later h = refl
+
+after_offer-alike : FirstIsSame → (asks asks2 : Who → Bool) (call : Call) (reach : Reach) (endings : List Ended) → AlikeAt asks asks2 reach.served → next_after_offer (asking call asks) reach endings ≡ next_after_offer (asking call asks2) reach endings
+after_offer-alike first asks asks2 call reach [] h = refl
+after_offer-alike first asks asks2 call reach (ended ∷ later) h = next_on-alike first asks asks2 (of_caller call ended.at) reach.served ended.how later h
+
+-- what is next, by what was said
+next_at-alike : FirstIsSame → (asks asks2 : Who → Bool) (says : Says) (call : Call) (reach : Reach) (endings : List Ended) → AlikeAt asks asks2 reach.served → next_at says (asking call asks) reach endings ≡ next_at says (asking call asks2) reach endings
+next_at-alike first asks asks2 Nothing call reach endings h = after_offer-alike first asks asks2 call reach endings h
+next_at-alike first asks asks2 (Refuses cause) call reach endings h = refl
+next_at-alike first asks asks2 (Diverts due) call reach endings h = refl
+
+next-alike : FirstIsSame → BarsSame → (asks asks2 : Who → Bool) (call : Call) (k : ℕ) (endings : List Ended) → AlikeAt asks asks2 (call.reach k).served → next_after (asking call asks) k endings ≡ next_after (asking call asks2) k endings
+next-alike first bars asks asks2 call k endings h =
+    ap (λ says. next_at says (asking call asks) (call.reach k) endings) (said-alike first bars asks asks2 call (call.reach k) h)
+    ∙ next_at-alike first asks asks2 (said_on_arrival (asking call asks2) (call.reach k)) call (call.reach k) endings h
+
+target-alike : FirstIsSame → BarsSame → (asks asks2 : Who → Bool) (call : Call) (k : ℕ) (uri : Uri) (cause : Option ℕ) → AlikeAt asks asks2 (call.reach k).served → target_at (asking call asks) k uri cause ≡ target_at (asking call asks2) k uri cause
+target-alike first bars asks asks2 call k uri cause h =
+    ap (λ said. record { uri = uri; cause = cause; offer = offer_by said (call.reach k).served }) (said-alike first bars asks asks2 call (call.reach k) h)
+
+-- at a target, where what comes of each diversion is the same
+if-same : (b : Bool) (outcome onward onward2 : Outcome) → onward ≡ onward2 → (if b then outcome else onward) ≡ (if b then outcome else onward2)
+if-same b outcome onward onward2 e = ap (λ o. if b then outcome else o) e
+
+from_target-same : (call : Call) (served : Option Account) (target : Target) (onward onward2 : Due → List Ended → Outcome) → ((due : Due) (later : List Ended) → onward due later ≡ onward2 due later) → (next : Next) → from_target call served target onward next ≡ from_target call served target onward2 next
+from_target-same call served target onward onward2 same (Rests result) = refl
+from_target-same call served target onward onward2 same (IsDue now due later) = if-same (is_refused call served now due) (last_reached target (Final causes.OutgoingBarred)) (onward due later) (onward2 due later) (same due later)
+
+-- who is refused as a target does not depend on the caller
+from_target-caller : (asks asks2 : Who → Bool) (call : Call) (served : Option Account) (target : Target) (onward : Due → List Ended → Outcome) (next : Next) → from_target (asking call asks) served target onward next ≡ from_target (asking call asks2) served target onward next
+from_target-caller asks asks2 call served target onward (Rests result) = refl
+from_target-caller asks asks2 call None target onward (IsDue now due later) = refl
+from_target-caller asks asks2 call (Some account) target onward (IsDue now due later) = refl
+
+outcome_from-alike : FirstIsSame → BarsSame → (asks asks2 : Who → Bool) (call : Call) → ((k : ℕ) → AlikeAt asks asks2 (call.reach k).served) →
+    (left k : ℕ) (uri : Uri) (cause : Option ℕ) (endings : List Ended) → outcome_from (asking call asks) left k uri cause endings ≡ outcome_from (asking call asks2) left k uri cause endings
+unfolding outcome_from
+outcome_from-alike first bars asks asks2 call h zero k uri cause endings =
+    ap (λ target. from_target (asking call asks) (call.reach k).served target (λ due later. last_reached target (Final (causes.TooManyDiversions (due.cause == 486)))) (next_after (asking call asks) k endings)) (target-alike first bars asks asks2 call k uri cause (h k))
+    ∙ ap (λ next. from_target (asking call asks) (call.reach k).served (target_at (asking call asks2) k uri cause) (λ due later. last_reached (target_at (asking call asks2) k uri cause) (Final (causes.TooManyDiversions (due.cause == 486)))) next) (next-alike first bars asks asks2 call k endings (h k))
+    ∙ from_target-caller asks asks2 call (call.reach k).served (target_at (asking call asks2) k uri cause) _ (next_after (asking call asks2) k endings)
+outcome_from-alike first bars asks asks2 call h (suc left) k uri cause endings =
+    ap (λ target. from_target (asking call asks) (call.reach k).served target (λ due later. then_reached target (outcome_from (asking call asks) left (k + 1) (new_target call.home due.forward.target) (Some due.cause) later)) (next_after (asking call asks) k endings)) (target-alike first bars asks asks2 call k uri cause (h k))
+    ∙ ap (λ next. from_target (asking call asks) (call.reach k).served (target_at (asking call asks2) k uri cause) (λ due later. then_reached (target_at (asking call asks2) k uri cause) (outcome_from (asking call asks) left (k + 1) (new_target call.home due.forward.target) (Some due.cause) later)) next) (next-alike first bars asks asks2 call k endings (h k))
+    ∙ from_target-caller asks asks2 call (call.reach k).served (target_at (asking call asks2) k uri cause) _ (next_after (asking call asks2) k endings)
+    ∙ from_target-same (asking call asks2) (call.reach k).served (target_at (asking call asks2) k uri cause) _ _
+    (λ due later. ap (then_reached (target_at (asking call asks2) k uri cause)) (outcome_from-alike first bars asks asks2 call h left (k + 1) (new_target call.home due.forward.target) (Some due.cause) later)) (next_after (asking call asks2) k endings)
+
+outcome_after-alike : FirstIsSame → BarsSame → (asks asks2 : Who → Bool) (call : Call) → ((k : ℕ) → AlikeAt asks asks2 (call.reach k).served) →
+    (refusal : Option Cause) (endings : List Ended) → outcome_after refusal (asking call asks) endings ≡ outcome_after refusal (asking call asks2) endings
+outcome_after-alike first bars asks asks2 call h None endings = outcome_from-alike first bars asks asks2 call h (call.bound - call.received) 0 call.first None endings
+outcome_after-alike first bars asks asks2 call h (Some cause) endings = refl
+
+pub alike_callers : FirstIsSame → BarsSame → AlikeCallersFareAlike
+alike_callers first bars one other call endings known h =
+    ap (λ (b : Bool). outcome (record call { asks = identity_holds one; has_identity = b }) endings) known
+    ∙ outcome_after-alike first bars (identity_holds one) (identity_holds other) (record call { has_identity = has_identity other })
+    (λ k. alike-at (identity_holds one) (identity_holds other) (call.reach k).served (h k)) (refusal_at_opening call) endings

@@ -1,0 +1,262 @@
+-- The bound on the diversions of a call.
+use Rattle.std.proofs.Common.{◌≡◌, ◌↔◌, ℕ, zero, suc, ◌+◌, ◌-◌, ◌≤◌, ◌<◌, ◌==◌, Bool, true, false, List, [], ◌∷◌, ◌++◌, refl, ap, sym, ◌∙◌, arith}
+use Rattle.std.specs.Prelude.{Option, Some, None, max, IsSome, is_some, option_and_then, if◌then◌else◌, cond}
+use Rattle.std.specs.List.{AllByRecursion, count_by}
+use Rattle.std.specs.Option.{option_map_or}
+use Rattle.std.proofs.lemmas.List.Sums.{sum_by-cons}
+use Rattle.mmtel_types.specs.declared.causes.Cause.{Cause}
+use Rattle.mmtel_types.specs.declared.causes.Cause.TheVariants as causes
+use Rattle.mmtel_lex.specs.declared.values.Uri.{Uri}
+use Rattle.mmtel_precedence.specs.Services.{Circumstances, Account, Due, Says, Nothing, Refuses, Diverts, refuses_if, diverts_by, first_said, services_on_arrival}
+use Rattle.mmtel_precedence.specs.Outcome.{End, Answer, Cancel, UserBusy, NotReachable, NoReply, Deflection, Other, Ended, Reach, Call, Target, Result, Final, Outcome, Next, Rests, IsDue, of_caller, account_says, said_on_arrival, is_refused, diverted_or, next_on, next_after_offer, next_at, next_after, last_reached, then_reached, from_target, target_at, new_target, refusal_at_opening, outcome_after, outcome_from, outcome}
+use Rattle.mmtel_precedence.specs.Laws.{is_diverted_to, diversions_made, StaysWithinBound, Passed, passed_by, passed_from, IsOpened, IsBoundExact}
+
+-- one where a diversion led to the target
+abbrev by_cause : Option ℕ → ℕ
+by_cause None = 0
+by_cause (Some cause) = 1
+
+by_cause-is : (cause : Option ℕ) → cond (is_some cause) 1 0 ≡ by_cause cause
+by_cause-is None = refl
+by_cause-is (Some cause) = refl
+
+made-target : (target : Target) (more : List Target) → count_by is_diverted_to (target ∷ more) ≡ by_cause target.cause + count_by is_diverted_to more
+made-target target more = sum_by-cons (λ (t : Target). cond (is_diverted_to t) 1 0) target more ∙ ap (λ n. n + count_by is_diverted_to more) (by_cause-is target.cause)
+
+made-last : (target : Target) (result : Result) → diversions_made (last_reached target result) ≡ by_cause target.cause
+made-last target result = let e : count_by is_diverted_to (target ∷ []) ≡ by_cause target.cause + 0 = made-target target [] in e ∙ omega arith
+
+-- ---- what comes of a diversion that is due, by whether outgoing barring lets it pass
+
+-- the diversions made, at a target and after it
+made-due : (call : Call) (k : ℕ) (target : Target) (onward : Due → List Ended → Outcome) (barred : Bool) (due : Due) (later : List Ended) →
+    diversions_made (if barred then last_reached target (Final causes.OutgoingBarred) else onward due later)
+    ≡ option_map_or (λ (passed : Passed). diversions_made (onward passed.due passed.later)) (if barred then None else Some (record { due = due; later = later })) (by_cause target.cause)
+made-due call k target onward true due later = made-last target (Final causes.OutgoingBarred)
+made-due call k target onward false due later = refl
+
+made-from_target : (call : Call) (k : ℕ) (target : Target) (onward : Due → List Ended → Outcome) (next : Next) →
+    diversions_made (from_target call (call.reach k).served target onward next)
+    ≡ option_map_or (λ (passed : Passed). diversions_made (onward passed.due passed.later)) (passed_by call k next) (by_cause target.cause)
+made-from_target call k target onward (Rests result) = made-last target result
+made-from_target call k target onward (IsDue now due later) = made-due call k target onward (is_refused call (call.reach k).served now due) due later
+
+-- ---- no more diversions than are left
+
+most-passed : (cause : Option ℕ) (passed : Option Passed) (made : Passed → ℕ) (most : ℕ) → ((p : Passed) → made p ≤ most) → by_cause cause ≤ most → option_map_or made passed (by_cause cause) ≤ most
+most-passed cause None made most each least = least
+most-passed cause (Some passed) made most each least = each passed
+
+made-from : (call : Call) (left k : ℕ) (uri : Uri) (cause : Option ℕ) (endings : List Ended) → diversions_made (outcome_from call left k uri cause endings) ≤ left + by_cause cause
+unfolding outcome_from
+made-from call zero k uri cause endings =
+    let onward : Due → List Ended → Outcome = λ due later. last_reached (target_at call k uri cause) (Final (causes.TooManyDiversions (due.cause == 486))) in
+    let e = made-from_target call k (target_at call k uri cause) onward (next_after call k endings) in
+    let h : (p : Passed) → diversions_made (onward p.due p.later) ≤ by_cause cause = λ p. (let f = made-last (target_at call k uri cause) (Final (causes.TooManyDiversions (p.due.cause == 486))) in omega arith) in
+    let g : option_map_or (λ (p : Passed). diversions_made (onward p.due p.later)) (passed_by call k (next_after call k endings)) (by_cause cause) ≤ by_cause cause = most-passed cause (passed_by call k (next_after call k endings)) (λ p. diversions_made (onward p.due p.later)) (by_cause cause) h (omega arith) in
+    omega arith
+made-from call (suc left) k uri cause endings =
+    let onward : Due → List Ended → Outcome = λ due later. then_reached (target_at call k uri cause) (outcome_from call left (k + 1) (new_target call.home due.forward.target) (Some due.cause) later) in
+    let e = made-from_target call k (target_at call k uri cause) onward (next_after call k endings) in
+    let h : (p : Passed) → diversions_made (onward p.due p.later) ≤ suc left + by_cause cause = λ p.
+    (let f = made-target (target_at call k uri cause) (outcome_from call left (k + 1) (new_target call.home p.due.forward.target) (Some p.due.cause) p.later).targets in
+    let i = made-from call left (k + 1) (new_target call.home p.due.forward.target) (Some p.due.cause) p.later in
+    omega arith) in
+    let g : option_map_or (λ (p : Passed). diversions_made (onward p.due p.later)) (passed_by call k (next_after call k endings)) (by_cause cause) ≤ suc left + by_cause cause = most-passed cause (passed_by call k (next_after call k endings)) (λ p. diversions_made (onward p.due p.later)) (suc left + by_cause cause) h (omega arith) in
+    omega arith
+
+least-passed : (cause : Option ℕ) (passed : Option Passed) (made : Passed → ℕ) → ((p : Passed) → by_cause cause ≤ made p) → by_cause cause ≤ option_map_or made passed (by_cause cause)
+least-passed cause None made each = omega arith
+least-passed cause (Some passed) made each = each passed
+
+within-opened : (refusal : Option Cause) (call : Call) (endings : List Ended) → call.received + diversions_made (outcome_after refusal call endings) ≤ max call.bound call.received
+within-opened None call endings = let h = made-from call (call.bound - call.received) 0 call.first None endings in omega arith
+within-opened (Some cause) call endings = omega arith
+
+pub stays_within_bound : StaysWithinBound
+stays_within_bound call endings = within-opened (refusal_at_opening call) call endings
+
+-- ---- the diversions that are made are those that are due below the bound
+
+made-least : (call : Call) (left k : ℕ) (uri : Uri) (cause : Option ℕ) (endings : List Ended) → by_cause cause ≤ diversions_made (outcome_from call left k uri cause endings)
+unfolding outcome_from
+made-least call zero k uri cause endings = rw (made-from_target call k (target_at call k uri cause) (λ due later. last_reached (target_at call k uri cause) (Final (causes.TooManyDiversions (due.cause == 486)))) (next_after call k endings))
+    (least-passed cause (passed_by call k (next_after call k endings)) _ (λ p. let f = made-last (target_at call k uri cause) (Final (causes.TooManyDiversions (p.due.cause == 486))) in omega arith))
+made-least call (suc left) k uri cause endings = rw (made-from_target call k (target_at call k uri cause) (λ due later. then_reached (target_at call k uri cause) (outcome_from call left (k + 1) (new_target call.home due.forward.target) (Some due.cause) later)) (next_after call k endings))
+    (least-passed cause (passed_by call k (next_after call k endings)) _ (λ p. let f = made-target (target_at call k uri cause) (outcome_from call left (k + 1) (new_target call.home p.due.forward.target) (Some p.due.cause) p.later).targets in omega arith))
+
+-- after this target: it is made exactly where it is due below the bound
+abbrev IsMadeExactly : Call → ℕ → Type 0
+IsMadeExactly call left =
+    (k : ℕ) (uri : Uri) (cause : Option ℕ) (endings : List Ended) (j : ℕ) → left ≡ call.bound - (call.received + k) →
+    (j + by_cause cause < diversions_made (outcome_from call left k uri cause endings)) ↔ (IsSome (passed_from call j k endings) × (call.received + (k + j) < call.bound))
+
+made-by : (call : Call) (left : ℕ) → IsMadeExactly call left →
+    (k : ℕ) (uri : Uri) (cause : Option ℕ) (endings : List Ended) (j : ℕ) → suc left ≡ call.bound - (call.received + k) →
+    (passed : Option Passed) → passed_by call k (next_after call k endings) ≡ passed →
+    (j + by_cause cause < option_map_or (λ (p : Passed). diversions_made (then_reached (target_at call k uri cause) (outcome_from call left (k + 1) (new_target call.home p.due.forward.target) (Some p.due.cause) p.later))) passed (by_cause cause))
+    ↔ (IsSome (passed_from call j k endings) × (call.received + (k + j) < call.bound))
+unfolding passed_from
+made-by call left exactly k uri cause endings zero e None f = (λ h. absurd (omega arith), λ h. absurd (let g : is_some (passed_by call k (next_after call k endings)) ≡ true = h.0 in let i = ap is_some f in cc))
+made-by call left exactly k uri cause endings (suc j) e None f =
+    (λ h. absurd (omega arith), λ h. absurd (let g = ap (λ (o : Option Passed). is_some (option_and_then (λ passed. passed_from call j (k + 1) passed.later) o)) f in let i : is_some (option_and_then (λ passed. passed_from call j (k + 1) passed.later) (passed_by call k (next_after call k endings))) ≡ true = h.0 in cc))
+made-by call left exactly k uri cause endings zero e (Some p) f = (
+  λ h. (ap is_some f, omega arith),
+  λ h. let m = made-target (target_at call k uri cause) (outcome_from call left (k + 1) (new_target call.home p.due.forward.target) (Some p.due.cause) p.later).targets in
+      let least = made-least call left (k + 1) (new_target call.home p.due.forward.target) (Some p.due.cause) p.later in omega arith,
+)
+made-by call left exactly k uri cause endings (suc j) e (Some p) f =
+    let m = made-target (target_at call k uri cause) (outcome_from call left (k + 1) (new_target call.home p.due.forward.target) (Some p.due.cause) p.later).targets in
+    let later = exactly (k + 1) (new_target call.home p.due.forward.target) (Some p.due.cause) p.later j (omega arith) in
+    let same : is_some (option_and_then (λ (passed : Passed). passed_from call j (k + 1) passed.later) (passed_by call k (next_after call k endings))) ≡ is_some (passed_from call j (k + 1) p.later) = ap (λ (o : Option Passed). is_some (option_and_then (λ (passed : Passed). passed_from call j (k + 1) passed.later) o)) f in (
+      λ h. (let r = later.0 (omega arith) in (same ∙ r.0, (let s = r.1 in omega arith))),
+      λ h. let r = later.1 (sym same ∙ h.0, (let s = h.1 in omega arith)) in omega arith,
+    )
+
+made-above : (call : Call) (left k : ℕ) (uri : Uri) (cause : Option ℕ) (endings : List Ended) →
+    diversions_made (outcome_from call (suc left) k uri cause endings)
+    ≡ option_map_or (λ (p : Passed). diversions_made (then_reached (target_at call k uri cause) (outcome_from call left (k + 1) (new_target call.home p.due.forward.target) (Some p.due.cause) p.later))) (passed_by call k (next_after call k endings)) (by_cause cause)
+unfolding outcome_from
+made-above call left k uri cause endings = made-from_target call k (target_at call k uri cause) (λ due later. then_reached (target_at call k uri cause) (outcome_from call left (k + 1) (new_target call.home due.forward.target) (Some due.cause) later)) (next_after call k endings)
+
+made-exactly : (call : Call) (left : ℕ) → IsMadeExactly call left
+made-exactly call zero k uri cause endings j e = (λ h. absurd (let m = made-from call zero k uri cause endings in omega arith), λ h. absurd (let s = h.1 in omega arith))
+made-exactly call (suc left) k uri cause endings j e = rw (made-above call left k uri cause endings) (made-by call left (made-exactly call left) k uri cause endings j e (passed_by call k (next_after call k endings)) refl)
+
+-- ---- no service refuses a call for too many diversions
+
+abbrev IsPlain : Says → Type 0
+IsPlain Nothing = Unit {0}
+IsPlain (Refuses cause) = (busy : Bool) → cause ≡ causes.TooManyDiversions busy → ⊥
+IsPlain (Diverts due) = Unit {0}
+
+plain-refuses_if : (b : Bool) (cause : Cause) → ((busy : Bool) → cause ≡ causes.TooManyDiversions busy → ⊥) → IsPlain (refuses_if b cause)
+plain-refuses_if true cause h = h
+plain-refuses_if false cause h = tt
+
+plain-diverts_by : (due : Option Due) → IsPlain (diverts_by due)
+plain-diverts_by None = tt
+plain-diverts_by (Some due) = tt
+
+plain-first_said : (says : List Says) → AllByRecursion IsPlain says → IsPlain (first_said says)
+plain-first_said [] h = tt
+plain-first_said (Nothing ∷ says) h = plain-first_said says h.1
+plain-first_said (Refuses cause ∷ says) h = h.0
+plain-first_said (Diverts due ∷ says) h = tt
+
+plain-services : (c : Circumstances) (account : Account) (later : List Says) → AllByRecursion IsPlain later → AllByRecursion IsPlain (services_on_arrival c account ++ later)
+plain-services c account later h = (
+  plain-refuses_if _ causes.AnonymousRejected (λ busy e. cc),
+  (
+    plain-refuses_if _ causes.IncomingBarred (λ busy e. cc),
+    (
+      plain-diverts_by _,
+      (
+        plain-refuses_if _ causes.NotRegistered (λ busy e. cc),
+        (
+          plain-diverts_by _,
+          (plain-refuses_if _ causes.NetworkBusy (λ busy e. cc), h),
+        ),
+      ),
+    ),
+  ),
+)
+
+plain-account : (c : Circumstances) (served : Option Account) (later : List Says) → AllByRecursion IsPlain later → AllByRecursion IsPlain (account_says c served ++ later)
+plain-account c None later h = h
+plain-account c (Some account) later h = plain-services c account later h
+
+plain-arrival : (call : Call) (reach : Reach) → IsPlain (said_on_arrival call reach)
+plain-arrival call reach = plain-first_said _ (plain-account (of_caller call reach.at) reach.served _ (plain-refuses_if reach.is_unknown causes.NoAccount (λ busy e. cc), (plain-refuses_if reach.has_no_peer causes.NoRoute (λ busy e. cc), tt)))
+
+abbrev IsPlainNext : Next → Type 0
+IsPlainNext (Rests result) = (busy : Bool) → result ≡ Final (causes.TooManyDiversions busy) → ⊥
+IsPlainNext (IsDue now due later) = Unit {0}
+
+plain-diverted_or : (due : Option Due) (cause : Cause) (now : ℕ) (later : List Ended) → ((busy : Bool) → cause ≡ causes.TooManyDiversions busy → ⊥) → IsPlainNext (diverted_or due cause now later)
+plain-diverted_or None cause now later h = λ busy e. h busy (cc)
+plain-diverted_or (Some due) cause now later h = tt
+
+plain-on : (c : Circumstances) (served : Option Account) (how : End) (later : List Ended) → IsPlainNext (next_on c served how later)
+plain-on c served Answer later = λ busy e. cc
+plain-on c served Cancel later = λ busy e. cc
+plain-on c served (UserBusy code) later = plain-diverted_or _ (causes.Relayed code) c.now later (λ busy e. cc)
+plain-on c served (NotReachable code) later = plain-diverted_or _ (causes.Unreachable code) c.now later (λ busy e. cc)
+plain-on c served NoReply later = plain-diverted_or _ causes.NoReply c.now later (λ busy e. cc)
+plain-on c served (Deflection target rang) later = plain-diverted_or _ (causes.Relayed 480) c.now later (λ busy e. cc)
+plain-on c served (Other code) later = λ busy e. cc
+
+plain-after_offer : (call : Call) (reach : Reach) (endings : List Ended) → IsPlainNext (next_after_offer call reach endings)
+plain-after_offer call reach [] = λ busy e. cc
+plain-after_offer call reach (ended ∷ later) = plain-on (of_caller call ended.at) reach.served ended.how later
+
+plain-at : (says : Says) (call : Call) (reach : Reach) (endings : List Ended) → IsPlain says → IsPlainNext (next_at says call reach endings)
+plain-at Nothing call reach endings h = plain-after_offer call reach endings
+plain-at (Refuses cause) call reach endings h = λ busy e. h busy (cc)
+plain-at (Diverts due) call reach endings h = tt
+
+-- ---- the result at a target and after it
+
+abbrev IsResult : (onward : Due → List Ended → Outcome) → Option Passed → Result → Type 0
+IsResult onward None result = (busy : Bool) → result ≡ Final (causes.TooManyDiversions busy) → ⊥
+IsResult onward (Some passed) result = result ≡ (onward passed.due passed.later).result
+
+result-due : (target : Target) (onward : Due → List Ended → Outcome) (barred : Bool) (due : Due) (later : List Ended) →
+    IsResult onward (if barred then None else Some (record { due = due; later = later })) (if barred then last_reached target (Final causes.OutgoingBarred) else onward due later).result
+result-due target onward true due later = λ busy e. cc
+result-due target onward false due later = refl
+
+result-from_target : (call : Call) (k : ℕ) (target : Target) (onward : Due → List Ended → Outcome) (next : Next) → IsPlainNext next →
+    IsResult onward (passed_by call k next) (from_target call (call.reach k).served target onward next).result
+result-from_target call k target onward (Rests result) h = h
+result-from_target call k target onward (IsDue now due later) h = result-due target onward (is_refused call (call.reach k).served now due) due later
+
+-- ---- too many exactly where one is due at the bound
+
+abbrev IsRefusedFor : Call → ℕ → ℕ → List Ended → Bool → Type 0
+IsRefusedFor call left k endings busy = (passed : Passed) × (passed_from call left k endings ≡ Some passed) × (busy ≡ (passed.due.cause == 486))
+
+-- at the bound
+refused-at : (call : Call) (k : ℕ) (target : Target) (endings : List Ended) (busy : Bool) (result : Result) (passed : Option Passed) →
+    passed_by call k (next_after call k endings) ≡ passed → IsResult (λ due later. last_reached target (Final (causes.TooManyDiversions (due.cause == 486)))) passed result →
+    (result ≡ Final (causes.TooManyDiversions busy)) ↔ IsRefusedFor call zero k endings busy
+unfolding passed_from
+refused-at call k target endings busy result None f h = (λ e. absurd (h busy e), λ (p, g, i). absurd (let none = sym f ∙ g in cc))
+refused-at call k target endings busy result (Some passed) f h = (λ e. (passed, f, (cc)), λ (p, g, i). (let same : Some passed ≡ Some p = sym f ∙ g in let q : passed ≡ p = cc in h ∙ ap (λ (b : Bool). Final (causes.TooManyDiversions b)) (ap (λ (x : Passed). x.due.cause == 486) q ∙ sym i)))
+
+-- below it
+refused-below : (call : Call) (left k : ℕ) (onward : Due → List Ended → Outcome) (endings : List Ended) (busy : Bool) (result : Result) (passed : Option Passed) →
+    passed_by call k (next_after call k endings) ≡ passed → IsResult onward passed result →
+    ((due : Due) (later : List Ended) → ((onward due later).result ≡ Final (causes.TooManyDiversions busy)) ↔ IsRefusedFor call left (k + 1) later busy) →
+    (result ≡ Final (causes.TooManyDiversions busy)) ↔ IsRefusedFor call (suc left) k endings busy
+unfolding passed_from
+refused-below call left k onward endings busy result None f h next =
+    (λ e. absurd (h busy e), λ (p, g, i). absurd (let none = sym (ap (λ (o : Option Passed). option_and_then (λ (passed : Passed). passed_from call left (k + 1) passed.later) o) f) ∙ g in cc))
+refused-below call left k onward endings busy result (Some passed) f h next =
+    let step = ap (λ (o : Option Passed). option_and_then (λ (passed : Passed). passed_from call left (k + 1) passed.later) o) f in (
+      λ e. (let r = (next passed.due passed.later).0 (sym h ∙ e) in (r.0, step ∙ r.1, r.2)),
+      λ (p, g, i). h ∙ (next passed.due passed.later).1 (p, sym step ∙ g, i),
+    )
+
+refused-exactly : (call : Call) (left k : ℕ) (uri : Uri) (cause : Option ℕ) (endings : List Ended) (busy : Bool) →
+    ((outcome_from call left k uri cause endings).result ≡ Final (causes.TooManyDiversions busy)) ↔ IsRefusedFor call left k endings busy
+unfolding outcome_from
+refused-exactly call zero k uri cause endings busy =
+    refused-at call k (target_at call k uri cause) endings busy _ (passed_by call k (next_after call k endings)) refl
+    (result-from_target call k (target_at call k uri cause) _ (next_after call k endings) (plain-at (said_on_arrival call (call.reach k)) call (call.reach k) endings (plain-arrival call (call.reach k))))
+refused-exactly call (suc left) k uri cause endings busy =
+    refused-below call left k (λ due later. then_reached (target_at call k uri cause) (outcome_from call left (k + 1) (new_target call.home due.forward.target) (Some due.cause) later)) endings busy _ (passed_by call k (next_after call k endings)) refl
+    (result-from_target call k (target_at call k uri cause) _ (next_after call k endings) (plain-at (said_on_arrival call (call.reach k)) call (call.reach k) endings (plain-arrival call (call.reach k))))
+    (λ due later. refused-exactly call left (k + 1) (new_target call.home due.forward.target) (Some due.cause) later busy)
+
+-- ---- of the whole call
+
+outcome-opened : (call : Call) (endings : List Ended) → IsOpened call → outcome call endings ≡ outcome_from call (call.bound - call.received) 0 call.first None endings
+outcome-opened call endings opened = ap (λ refusal. outcome_after refusal call endings) opened
+
+pub is_bound_exact : IsBoundExact
+is_bound_exact = record {
+  made = λ call endings k opened. rw (outcome-opened call endings opened) (let exactly = made-exactly call (call.bound - call.received) 0 call.first None endings k (omega arith) in
+      (λ h. (let r = exactly.0 (omega arith) in (r.0, (let s = r.1 in omega arith))), λ h. (let r = exactly.1 (h.0, (let s = h.1 in omega arith)) in omega arith)));
+  refused = λ call endings busy opened. rw (outcome-opened call endings opened) (refused-exactly call (call.bound - call.received) 0 call.first None endings busy);
+}

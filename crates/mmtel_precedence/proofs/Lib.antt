@@ -1,0 +1,7 @@
+mod Accounts
+mod AlikeCallers
+mod Barrings
+mod Bounded
+mod FirstServices
+mod Moving
+mod Settling

@@ -1,0 +1,96 @@
+-- What the definitions of precedence come to, in the subject's words.
+use Rattle.std.specs.Prelude.{◌≡◌, ◌↔◌, ◌≤◌, ◌<◌, ℕ, zero, suc, ◌+◌, ◌-◌, ◌==◌, max, Bool, true, false, if◌then◌else◌, List, [], Option, Some, None, is_some, IsSome, count_by, option_and_then}
+use Rattle.mmtel_types.specs.declared.causes.Cause.TheVariants as causes
+use Rattle.mmtel_lex.specs.declared.values.Uri.{Uri}
+use Rattle.mmtel_sheet_values.specs.declared.values.DiversionPart.{DiversionPart}
+use Rattle.mmtel_sheet_values.specs.declared.values.Rule.{Rule}
+use Rattle.mmtel_sheet_values.specs.declared.values.Sheet.{Sheet}
+use Rattle.mmtel_sheet_values.specs.declared.values.Who.{Who}
+use Rattle.mmtel_rules.specs.Alike.{AnswerAlike, identity_parts}
+use Rattle.mmtel_rules.specs.Identities.{identity_holds, has_identity}
+use Rattle.mmtel_rules.specs.declared.values.Identities2.{Identities2}
+use Rattle.mmtel_barring.specs.Barring.{rules_of}
+use Rattle.mmtel_precedence.specs.declared.endings.Ending.TheVariants as ending
+use Rattle.mmtel_precedence.specs.Services.{Circumstances, Account, Due, rejects_anonymous, bars_incoming}
+use Rattle.mmtel_precedence.specs.Verdicts.{Ends, verdict_of}
+use Rattle.mmtel_precedence.specs.Outcome.{Call, Ended, Target, NotOffered, Final, Outcome, Next, Rests, IsDue, next_after, is_refused, last_reached, of_caller, refusal_at_opening, outcome_from, outcome}
+
+-- ---- barring comes before diversion, and anonymous communication rejection before both: whatever the other rules of the account, its registration and its live calls are
+
+pub record BarringComesFirst : Type 0 where
+  -- of the decision
+  pub anonymous : (c : Circumstances) (account : Account) → rejects_anonymous c account.sheet ≡ true → verdict_of c account ending.Arrived ≡ Ends causes.AnonymousRejected
+  pub barred : (c : Circumstances) (account : Account) → rejects_anonymous c account.sheet ≡ false → bars_incoming c account.sheet ≡ true → verdict_of c account ending.Arrived ≡ Ends causes.IncomingBarred
+  -- and of the outcome at each target: it is the last one, and the call is not offered to it
+  pub anonymous_at : (call : Call) (left k : ℕ) (uri : Uri) (cause : Option ℕ) (endings : List Ended) (account : Account) →
+      (call.reach k).served ≡ Some account → rejects_anonymous (of_caller call (call.reach k).at) account.sheet ≡ true →
+      outcome_from call left k uri cause endings ≡ last_reached (record { uri = uri; cause = cause; offer = NotOffered }) (Final causes.AnonymousRejected)
+  pub barred_at : (call : Call) (left k : ℕ) (uri : Uri) (cause : Option ℕ) (endings : List Ended) (account : Account) →
+      (call.reach k).served ≡ Some account → rejects_anonymous (of_caller call (call.reach k).at) account.sheet ≡ false → bars_incoming (of_caller call (call.reach k).at) account.sheet ≡ true →
+      outcome_from call left k uri cause endings ≡ last_reached (record { uri = uri; cause = cause; offer = NotOffered }) (Final causes.IncomingBarred)
+
+-- ---- the bound
+
+-- a diversion led to the target
+abbrev pub is_diverted_to : Target → Bool
+is_diverted_to target = is_some target.cause
+
+-- the diversions that were made
+abbrev pub diversions_made : Outcome → ℕ
+diversions_made o = count_by is_diverted_to o.targets
+
+-- the diversions that the call came with and those that were made are together at most the bound, or what the call came with where that was more
+abbrev pub StaysWithinBound : Type 0
+StaysWithinBound = (call : Call) (endings : List Ended) → call.received + diversions_made (outcome call endings) ≤ max call.bound call.received
+
+-- a diversion that is due and that outgoing barring lets pass, and the endings that come after it
+pub record Passed : Type 0 where
+  pub due : Due
+  pub later : List Ended
+
+abbrev pub passed_by : Call → ℕ → Next → Option Passed
+passed_by call k (Rests result) = None
+passed_by call k (IsDue now due later) = if is_refused call (call.reach k).served now due then None else Some (record { due = due; later = later })
+
+-- what is due after j more diversions, beginning where k were made, if there were no bound
+unfoldable pub passed_from : Call → (j : ℕ) → (k : ℕ) → List Ended → Option Passed
+passed_from call zero k endings = passed_by call k (next_after call k endings)
+passed_from call (suc j) k endings = option_and_then (λ passed. passed_from call j (k + 1) passed.later) (passed_by call k (next_after call k endings))
+
+-- what is due after so many diversions
+abbrev pub passed_after : Call → ℕ → List Ended → Option Passed
+passed_after call j endings = passed_from call j 0 endings
+
+-- a call that its opening does not refuse
+abbrev pub IsOpened : Call → Type 0
+IsOpened call = refusal_at_opening call ≡ None
+
+-- a diversion that is due, and that outgoing barring lets pass, is made exactly below the bound; at the bound, and nowhere else, the call is refused for too many, as busy exactly where that diversion is for a busy user
+pub record IsBoundExact : Type 0 where
+  pub made : (call : Call) (endings : List Ended) (k : ℕ) → IsOpened call →
+      (k < diversions_made (outcome call endings)) ↔ (IsSome (passed_after call k endings) × (call.received + k < call.bound))
+  pub refused : (call : Call) (endings : List Ended) (busy : Bool) → IsOpened call →
+      ((outcome call endings).result ≡ Final (causes.TooManyDiversions busy)) ↔ ((passed : Passed) × (passed_after call (call.bound - call.received) endings ≡ Some passed) × (busy ≡ (passed.due.cause == 486)))
+
+-- ---- callers that answer alike
+
+-- the rules of a diversion part; none where diversion is not active
+abbrev pub diversion_rules : Option DiversionPart → List Rule
+diversion_rules None = []
+diversion_rules (Some part) = part.rules
+
+-- two callers answer alike to each identity part of the rules that the account asks of its callers
+pub record AnswerAlikeTo (sheet : Sheet) (asks asks2 : Who → Bool) : Type 0 where
+  pub diversion : AnswerAlike asks asks2 (identity_parts (diversion_rules sheet.diversion))
+  pub incoming : AnswerAlike asks asks2 (identity_parts (rules_of sheet.incoming))
+
+-- the same call, from this caller
+abbrev pub called_by : Identities2 → Call → Call
+called_by caller call = record call { asks = identity_holds caller; has_identity = has_identity caller }
+
+-- the outcome is the same for two callers that answer alike to the rules of each account that is served, and of whom both or neither have an identity
+abbrev pub AlikeCallersFareAlike : Type 0
+AlikeCallersFareAlike = (one other : Identities2) (call : Call) (endings : List Ended) →
+    has_identity one ≡ has_identity other →
+    ((k : ℕ) (account : Account) → (call.reach k).served ≡ Some account → AnswerAlikeTo account.sheet (identity_holds one) (identity_holds other)) →
+    outcome (called_by one call) endings ≡ outcome (called_by other call) endings

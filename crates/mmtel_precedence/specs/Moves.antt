@@ -1,0 +1,134 @@
+-- A call as the server decides it, one move at a time, from what it keeps: never from the list of endings that were and will be.
+use Rattle.std.specs.Prelude.{◌≡◌, ℕ, zero, suc, ◌+◌, ◌*◌, ◌-◌, ◌≤◌, Bool, true, if◌then◌else◌, List, [], ◌∷◌, ◌++◌, Option, Some, None, unwrap_or}
+use Rattle.mmtel_types.specs.declared.causes.Cause.{Cause}
+use Rattle.mmtel_types.specs.declared.causes.Cause.TheVariants as causes
+use Rattle.mmtel_lex.specs.declared.values.Uri.{Uri}
+use Rattle.mmtel_sheet_values.specs.declared.values.Forward.{Forward}
+use Rattle.mmtel_sheet_values.specs.Sheets.{empty_sheet}
+use Rattle.mmtel_precedence.specs.declared.endings.Ending.TheVariants as ending
+use Rattle.mmtel_precedence.specs.Services.{Account}
+use Rattle.mmtel_precedence.specs.Verdicts.{Decision, Offers, Forwards, Ends, verdict_of, go_on_of}
+use Rattle.mmtel_precedence.specs.Outcome.{End, Answer, Cancel, UserBusy, NotReachable, NoReply, Deflection, Other, Ended, Reach, Call, Offer, NotOffered, Offered, Target, Result, Pending, Answered, Final, Outcome, of_caller, of_target, new_target, refusal_at_opening, outcome}
+
+-- where the call stands
+pub data Phase : Type 0 where
+  -- at a target, to which it is not offered yet
+  Reaching : (uri : Uri) → (cause : Option ℕ) → Phase
+  -- offered to its target, under the account that was read then
+  Ringing : (account : Account) → Phase
+  Over : (result : Result) → Phase
+
+-- what is kept of the call, and the endings that are still to come
+pub record Kept : Type 0 where
+  pub done : ℕ
+  pub targets : List Target
+  pub phase : Phase
+  pub endings : List Ended
+
+-- the account to which the services are asked: without one, that of an empty record, registered and in no call
+abbrev pub account_at : Reach → Account
+account_at reach = unwrap_or reach.served (record { sheet = empty_sheet; registered = true; live = 0 })
+
+-- a target is noted
+abbrev pub with_target : Kept → Uri → Option ℕ → Offer → Kept
+with_target kept uri cause offer = record kept { targets = kept.targets ++ record { uri = uri; cause = cause; offer = offer } ∷ [] }
+
+abbrev pub at_phase : Kept → Phase → Kept
+at_phase kept phase = record kept { phase = phase }
+
+-- one more diversion was made
+abbrev pub diverted : Kept → Uri → ℕ → Kept
+diverted kept target cause = record kept { done = kept.done + 1; phase = Reaching target (Some cause) }
+
+abbrev pub gone_on : Option Cause → Kept → Uri → ℕ → Kept
+gone_on None kept target cause = diverted kept target cause
+gone_on (Some refusal) kept target cause = at_phase kept (Over (Final refusal))
+
+-- a diversion that is due, by this account, at this moment
+abbrev pub divert : Call → Kept → Account → (now : ℕ) → Uri → (cause : ℕ) → Kept
+divert call kept account now target cause =
+    gone_on (go_on_of (of_target call now (new_target call.home target)) account.sheet call.received kept.done call.bound cause) kept (new_target call.home target) cause
+
+-- where a diversion goes: where the rule forwards to, or else where the device deflects to
+abbrev pub target_by : Option Forward → Option Uri → Option Uri
+target_by None deflected = deflected
+target_by (Some forward) deflected = Some forward.target
+
+abbrev pub divert_to : Call → Kept → Account → (now : ℕ) → Option Uri → (cause : ℕ) → Kept
+divert_to call kept account now None cause = kept
+divert_to call kept account now (Some target) cause = divert call kept account now target cause
+
+-- a target that no service refused: it may still be nobody's, or out of reach
+abbrev pub offer_unless : (unknown no_peer : Bool) → Account → (waiting : Bool) → Kept → Uri → Option ℕ → Kept
+offer_unless unknown no_peer account waiting kept uri cause =
+    if unknown then at_phase (with_target kept uri cause NotOffered) (Over (Final causes.NoAccount))
+    else if no_peer then at_phase (with_target kept uri cause NotOffered) (Over (Final causes.NoRoute))
+    else at_phase (with_target kept uri cause (Offered waiting)) (Ringing account)
+
+-- the verdict at a target that the call reached
+abbrev pub reached : Call → Reach → Account → Decision → Kept → Uri → Option ℕ → Kept
+reached call reach account (Offers waiting) kept uri cause = offer_unless reach.is_unknown reach.has_no_peer account waiting kept uri cause
+reached call reach account (Forwards forward why) kept uri cause = divert_to call (with_target kept uri cause NotOffered) account reach.at (target_by forward None) why
+reached call reach account (Ends why) kept uri cause = at_phase (with_target kept uri cause NotOffered) (Over (Final why))
+
+-- the verdict on an attempt that ended
+abbrev pub ended_by : Call → Account → (now : ℕ) → Option Uri → Decision → Kept → Kept
+ended_by call account now deflected (Offers waiting) kept = kept
+ended_by call account now deflected (Forwards forward why) kept = divert_to call kept account now (target_by forward deflected) why
+ended_by call account now deflected (Ends why) kept = at_phase kept (Over (Final why))
+
+-- an attempt ended: an answer and a caller that gives up end the call, and of all else a verdict is asked
+abbrev pub on_end : Call → Account → (now : ℕ) → End → Kept → Kept
+on_end call account now Answer kept = at_phase kept (Over Answered)
+on_end call account now Cancel kept = at_phase kept (Over (Final causes.Cancelled))
+on_end call account now (UserBusy code) kept = ended_by call account now None (verdict_of (of_caller call now) account (ending.UserBusy code)) kept
+on_end call account now (NotReachable code) kept = ended_by call account now None (verdict_of (of_caller call now) account (ending.NotReachable code)) kept
+on_end call account now NoReply kept = ended_by call account now None (verdict_of (of_caller call now) account ending.NoReply) kept
+on_end call account now (Deflection target rang) kept = ended_by call account now (Some target) (verdict_of (of_caller call now) account (ending.Deflected rang)) kept
+on_end call account now (Other code) kept = ended_by call account now None (verdict_of (of_caller call now) account (ending.Other code)) kept
+
+-- while it rings the call waits for the next ending
+abbrev pub on_endings : Call → Account → List Ended → Kept → Kept
+on_endings call account [] kept = kept
+on_endings call account (ended ∷ later) kept = on_end call account ended.at ended.how (record kept { endings = later })
+
+-- a target is reached: a verdict is asked
+abbrev pub on_reaching : Call → Reach → Uri → Option ℕ → Kept → Kept
+on_reaching call reach uri cause kept =
+    reached call reach (account_at reach) (verdict_of (of_caller call reach.at) (account_at reach) ending.Arrived) kept uri cause
+
+-- one move: by what is kept
+abbrev pub move_in : Phase → Call → Kept → Kept
+move_in (Reaching uri cause) call kept = on_reaching call (call.reach kept.done) uri cause kept
+move_in (Ringing account) call kept = on_endings call account kept.endings kept
+move_in (Over result) call kept = kept
+
+-- that many moves
+unfoldable pub moves : ℕ → Call → Kept → Kept
+moves zero call kept = kept
+moves (suc n) call kept = moves n call (move_in kept.phase call kept)
+
+-- at first the call comes to its first target, unless it is refused at its opening
+abbrev pub first_phase : Option Cause → Call → Phase
+first_phase None call = Reaching call.first None
+first_phase (Some cause) call = Over (Final cause)
+
+abbrev pub at_first : Call → List Ended → Kept
+at_first call endings = record { done = 0; targets = []; phase = first_phase (refusal_at_opening call) call; endings = endings }
+
+-- how far the call came
+abbrev pub result_in : Phase → Result
+result_in (Reaching uri cause) = Pending
+result_in (Ringing account) = Pending
+result_in (Over result) = result
+
+abbrev pub outcome_so_far : Kept → Outcome
+outcome_so_far kept = record { targets = kept.targets; result = result_in kept.phase }
+
+-- two moves for each target that can be reached: it is reached, and its attempt ends
+abbrev pub moves_enough : Call → ℕ
+moves_enough call = 2 * (call.bound - call.received + 1)
+
+-- the moves come to the outcome, and to nothing else after it
+abbrev pub MovesGiveTheOutcome : Type 0
+MovesGiveTheOutcome = (call : Call) (endings : List Ended) (n : ℕ) → moves_enough call ≤ n → outcome_so_far (moves n call (at_first call endings)) ≡ outcome call endings

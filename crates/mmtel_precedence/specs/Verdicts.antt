@@ -1,0 +1,61 @@
+-- One decision: what the services of an account say of a call that reaches it, or of an attempt that ended (TS 24.604 §4.5.2.6, TS 24.611 §4.5.2, TS 24.615 §4.5.5); and what stands before each diversion.
+use Rattle.std.specs.Prelude.{ℕ, ◌==◌, Bool, nat_lt, if◌then◌else◌, Option, Some, None}
+use Rattle.mmtel_types.specs.declared.causes.Cause.{Cause}
+use Rattle.mmtel_types.specs.declared.causes.Cause.TheVariants as causes
+use Rattle.mmtel_sheet_values.specs.declared.values.Forward.{Forward}
+use Rattle.mmtel_sheet_values.specs.declared.values.Sheet.{Sheet}
+use Rattle.mmtel_rules.specs.declared.values.When.TheVariants as event
+use Rattle.mmtel_diversion.specs.Bound.{is_within}
+use Rattle.mmtel_diversion.specs.Diversion.{deflection_of}
+use Rattle.mmtel_precedence.specs.declared.endings.Ending.{Ending}
+use Rattle.mmtel_precedence.specs.declared.endings.Ending.TheVariants.{Arrived, UserBusy, NotReachable, NoReply, Deflected, Other}
+use Rattle.mmtel_precedence.specs.declared.verdicts.Verdict.{Verdict}
+use Rattle.mmtel_precedence.specs.declared.verdicts.Verdict.TheVariants as verdicts
+use Rattle.mmtel_precedence.specs.Services.{Circumstances, Account, Due, Says, Nothing, Refuses, Diverts, first_said, due_on, bars_outgoing, services_on_arrival}
+
+-- what is done with the call
+pub data Decision : Type 0 where
+  -- it is offered to the target
+  Offers : (waiting : Bool) → Decision
+  -- it is diverted; without a forward to where the user's device deflects it
+  Forwards : (forward : Option Forward) → (cause : ℕ) → Decision
+  -- it is refused
+  Ends : (cause : Cause) → Decision
+
+-- what a verdict of the program says
+abbrev pub shown : Verdict → Decision
+shown (verdicts.Offer waiting) = Offers waiting
+shown (verdicts.Divert None cause) = Forwards None cause
+shown (verdicts.Divert (Some forward) cause) = Forwards (Some forward.now) cause
+shown (verdicts.Refuse cause) = Ends cause
+
+-- by what the services say; a call waits where the user has another one
+abbrev pub decision_by : Says → (live : ℕ) → Decision
+decision_by Nothing live = Offers (nat_lt 0 live)
+decision_by (Refuses cause) live = Ends cause
+decision_by (Diverts due) live = Forwards (Some due.forward) due.cause
+
+-- the diversion that the rules ask for, else the cause
+abbrev pub forwards_or : Option Due → Cause → Decision
+forwards_or None cause = Ends cause
+forwards_or (Some due) cause = Forwards (Some due.forward) due.cause
+
+-- the deflection where it is allowed, else a 480
+abbrev pub deflects_or : Option ℕ → Decision
+deflects_or None = Ends (causes.Relayed 480)
+deflects_or (Some cause) = Forwards None cause
+
+-- the decision
+abbrev pub verdict_of : Circumstances → Account → Ending → Decision
+verdict_of c account Arrived = decision_by (first_said (services_on_arrival c account)) account.live
+verdict_of c account (UserBusy code) = forwards_or (due_on c event.Busy account.sheet) (causes.Relayed code)
+verdict_of c account (NotReachable code) = forwards_or (due_on c event.NotReachable account.sheet) (causes.Unreachable code)
+verdict_of c account NoReply = forwards_or (due_on c event.NoAnswer account.sheet) causes.NoReply
+verdict_of c account (Deflected alerted) = deflects_or (deflection_of account.sheet alerted)
+verdict_of c account (Other code) = Ends (causes.Relayed code)
+
+-- what refuses a diversion, if anything does: first the outgoing barring of the account that diverts, where the new target is the other party; then the bound, as busy where the diversion is for a busy user (RFC 4458 §2)
+abbrev pub go_on_of : Circumstances → Sheet → (received done bound cause : ℕ) → Option Cause
+go_on_of c sheet received done bound cause =
+    if bars_outgoing c sheet then Some causes.OutgoingBarred
+    else if is_within received done bound then None else Some (causes.TooManyDiversions (cause == 486))

@@ -1,0 +1,36 @@
+//! What the decisions come to. These are laws, and no code.
+ghost use Rattle.mmtel_precedence.specs.Laws.{AlikeCallersFareAlike, BarringComesFirst, IsBoundExact, StaysWithinBound};
+ghost use Rattle.mmtel_precedence.specs.Moves.{MovesGiveTheOutcome};
+
+use mmtel_rules::laws::{
+    barred_where_no_rule_allows, barring_sees_answers_alone, first_sees_answers_alone,
+};
+
+/// However the attempts of a call end, and whatever records, registrations and live calls it finds at the targets that it reaches: deciding it move by move, by `verdict` and `go_on` over what is kept of it, gives exactly its Outcome.
+pub fn moves_give_the_outcome()
+    ensures law { MovesGiveTheOutcome }
+{}
+
+/// Barring comes before diversion, and anonymous communication rejection before both, whatever the diversion rules, the registration and the live calls of the account.
+pub fn barring_comes_first()
+    ensures law { BarringComesFirst }
+{}
+
+/// The diversions that a call came with and those that are made are together at most the bound, or what the call came with where that is more.
+pub fn diversions_stay_within_the_bound()
+    ensures law { StaysWithinBound }
+{}
+
+/// A diversion that is due, and that outgoing barring lets pass, is made exactly below the bound. A call is refused for too many diversions exactly where such a one is due at the bound, as busy exactly where its cause is 486.
+pub fn bound_is_exact()
+    ensures law { IsBoundExact }
+{}
+
+/// Two callers fare alike, and nothing that a call does tells them apart, where they answer alike to each identity part of the rules that the accounts which it reaches ask of their callers, and both or neither have an identity.
+pub fn alike_callers_fare_alike()
+    ensures law { AlikeCallersFareAlike }
+{
+    first_sees_answers_alone();
+    barring_sees_answers_alone();
+    barred_where_no_rule_allows();
+}

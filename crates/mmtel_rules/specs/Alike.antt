@@ -1,0 +1,13 @@
+-- Callers that answer alike: whoever two callers are, a decision cannot tell them apart where they answer alike to each identity part that it asks, and both or neither have an identity.
+use Rattle.std.specs.Prelude.{◌≡◌, Bool, List}
+use Rattle.std.specs.List.{AllByRecursion, filter_map}
+use Rattle.mmtel_sheet_values.specs.declared.values.Rule.{Rule}
+use Rattle.mmtel_sheet_values.specs.declared.values.Who.{Who}
+
+-- the identity parts of the rules that have one
+abbrev pub identity_parts : List Rule → List Who
+identity_parts rules = filter_map (λ (r : Rule). r.condition.identity) rules
+
+-- the answers to each of these parts are the same
+abbrev pub AnswerAlike : (asks asks2 : Who → Bool) → List Who → Type 0
+AnswerAlike asks asks2 parts = AllByRecursion (λ who. asks who ≡ asks2 who) parts

@@ -1,0 +1,74 @@
+-- When a condition holds: each part of it that is there does (RFC 4745 §6, TS 24.604 §4.9.1).
+--
+-- Of the identities of the other party only the answers count, `asks`, one for each identity part of a condition. The other facts are whether the caller is restricted, the kinds of media that are offered, and the moment.
+use Rattle.std.specs.Prelude.{ℕ, pos, int_lt, int_le, Bool, true, false, not, ◌&&◌, ◌||◌, List, Option, Some, None}
+use Rattle.std.specs.List.{list_any}
+use Rattle.std.specs.Option.{option_map_or}
+use Rattle.std.specs.Str.{bytes_eq}
+use Rattle.mmtel_sheet_values.specs.declared.values.Condition.{Condition}
+use Rattle.mmtel_sheet_values.specs.declared.values.EventWord.{EventWord}
+use Rattle.mmtel_sheet_values.specs.declared.values.EventWord.TheVariants as Event
+use Rattle.mmtel_sheet_values.specs.declared.values.Who.{Who}
+use Rattle.mmtel_sheet_values.specs.declared.values.Window.{Window}
+use Rattle.mmtel_rules.specs.declared.values.When.{When}
+use Rattle.mmtel_rules.specs.declared.values.When.TheVariants.{Arrival, Busy, NoAnswer, NotReachable}
+
+-- the other party is one of those that are meant
+abbrev pub who_holds : (Who → Bool) → Option Who → Bool
+who_holds asks who = option_map_or asks who true
+
+-- the caller hides who it is, where that is asked
+abbrev pub anonymous_holds : Bool → Bool → Bool
+anonymous_holds restricted asked = not asked || restricted
+
+-- it is that time, the end of which is past it (RFC 4745 §7.3)
+abbrev pub window_holds : ℕ → Option Window → Bool
+window_holds now None = true
+window_holds now (Some w) = int_le w.from (pos now) && int_lt (pos now) w.until
+
+-- the kind of media is offered, byte for byte
+abbrev pub is_offered : List (List ℕ) → List ℕ → Bool
+is_offered offered word = list_any (λ kind. bytes_eq kind word) offered
+
+-- one of the kinds is offered
+abbrev pub is_one_offered : List (List ℕ) → List (List ℕ) → Bool
+is_one_offered offered words = list_any (is_offered offered) words
+
+abbrev pub media_holds : List (List ℕ) → Option (List (List ℕ)) → Bool
+media_holds offered None = true
+media_holds offered (Some words) = is_one_offered offered words
+
+-- the event happened
+abbrev pub is_event : EventWord → When → Bool
+is_event Event.NotRegistered (Arrival registered) = not registered
+is_event Event.NotRegistered Busy = false
+is_event Event.NotRegistered NoAnswer = false
+is_event Event.NotRegistered NotReachable = false
+is_event Event.Busy (Arrival registered) = false
+is_event Event.Busy Busy = true
+is_event Event.Busy NoAnswer = false
+is_event Event.Busy NotReachable = false
+is_event Event.NoAnswer (Arrival registered) = false
+is_event Event.NoAnswer Busy = false
+is_event Event.NoAnswer NoAnswer = true
+is_event Event.NoAnswer NotReachable = false
+is_event Event.NotReachable (Arrival registered) = false
+is_event Event.NotReachable Busy = false
+is_event Event.NotReachable NoAnswer = false
+is_event Event.NotReachable NotReachable = true
+
+abbrev pub is_arrival : When → Bool
+is_arrival (Arrival registered) = true
+is_arrival Busy = false
+is_arrival NoAnswer = false
+is_arrival NotReachable = false
+
+-- the event of the condition happened; one that names none is asked where the call arrives
+abbrev pub event_holds : When → Option EventWord → Bool
+event_holds when None = is_arrival when
+event_holds when (Some event) = is_event event when
+
+-- each part that is there holds
+unfoldable pub condition_holds : (asks : Who → Bool) → (restricted : Bool) → (media : List (List ℕ)) → (now : ℕ) → When → Condition → Bool
+condition_holds asks restricted media now when c =
+    who_holds asks c.identity && (anonymous_holds restricted c.anonymous && (window_holds now c.window && (media_holds media c.media && event_holds when c.event)))

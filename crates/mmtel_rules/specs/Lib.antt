@@ -1,0 +1,4 @@
+pub mod Alike
+pub mod Conditions
+pub mod Identities
+pub mod Rules

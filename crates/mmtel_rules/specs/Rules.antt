@@ -1,0 +1,54 @@
+-- Which rule of a list decides: the least that holds (TS 24.604 §4.9.1), or, where calls are barred, none that holds may allow the call (TS 24.611 §4.9.1 and RFC 4745 §10).
+use Rattle.std.specs.Prelude.{◌≡◌, ℕ, Bool, true, false, not, ◌&&◌, List, ◌∷◌, ◌++◌, length, Option, None, position, if◌then◌else◌}
+use Rattle.std.specs.List.{list_any}
+use Rattle.mmtel_sheet_values.specs.declared.values.Action.{Action}
+use Rattle.mmtel_sheet_values.specs.declared.values.Action.TheVariants.{Forward, Allow}
+use Rattle.mmtel_sheet_values.specs.declared.values.Rule.{Rule}
+use Rattle.mmtel_sheet_values.specs.declared.values.Who.{Who}
+use Rattle.mmtel_rules.specs.Conditions.{condition_holds}
+use Rattle.mmtel_rules.specs.declared.values.When.{When}
+use Rattle.mmtel_rules.specs.declared.values.When.TheVariants.{Arrival}
+
+abbrev pub rule_holds : (asks : Who → Bool) → (restricted : Bool) → (media : List (List ℕ)) → (now : ℕ) → When → Rule → Bool
+rule_holds asks restricted media now when r = condition_holds asks restricted media now when r.condition
+
+-- the least place whose rule holds
+abbrev pub first_that_holds : (asks : Who → Bool) → (restricted : Bool) → (media : List (List ℕ)) → (now : ℕ) → When → List Rule → Option ℕ
+first_that_holds asks restricted media now when rules = position (rule_holds asks restricted media now when) rules
+
+-- the rule lets calls through; one that diverts them does not
+abbrev pub allows : Action → Bool
+allows (Allow allowed) = allowed
+allows (Forward forward) = false
+
+-- the moment that barring is asked of: the call arrives, and the user counts as registered
+abbrev pub arrival : When
+arrival = Arrival true
+
+-- the rule holds on arrival and lets the call through
+abbrev pub lets_through : (asks : Who → Bool) → (restricted : Bool) → (media : List (List ℕ)) → (now : ℕ) → Rule → Bool
+lets_through asks restricted media now r = allows r.action && rule_holds asks restricted media now arrival r
+
+-- one of the rules does
+abbrev pub is_let_through : (asks : Who → Bool) → (restricted : Bool) → (media : List (List ℕ)) → (now : ℕ) → List Rule → Bool
+is_let_through asks restricted media now rules = list_any (lets_through asks restricted media now) rules
+
+-- the least place whose rule holds on arrival, where no rule that holds there lets the call through
+abbrev pub barred_by : (asks : Who → Bool) → (restricted : Bool) → (media : List (List ℕ)) → (now : ℕ) → List Rule → Option ℕ
+barred_by asks restricted media now rules =
+    if is_let_through asks restricted media now rules then None else first_that_holds asks restricted media now arrival rules
+
+-- the call is barred: some rule holds on arrival, and none that holds there lets it through
+abbrev pub is_barred : (asks : Who → Bool) → (restricted : Bool) → (media : List (List ℕ)) → (now : ℕ) → List Rule → Bool
+is_barred asks restricted media now rules =
+    list_any (rule_holds asks restricted media now arrival) rules && not (is_let_through asks restricted media now rules)
+
+-- the place is the least whose rule passes the test
+pub record IsLeast (test : Rule → Bool) (rules : List Rule) (place : ℕ) : Type 0 where
+  pub before : List Rule
+  pub rule : Rule
+  pub after : List Rule
+  pub stands : rules ≡ before ++ rule ∷ after
+  pub counted : place ≡ length before
+  pub passes : test rule ≡ true
+  pub first : list_any test before ≡ false

@@ -1,0 +1,22 @@
+//! How many calls a user may have at once.
+ghost use Rattle.std.specs.Prelude.{◌≡◌};
+ghost use Rattle.mmtel_waiting.specs.Waiting.{capacity_of, is_busy};
+
+use mmtel_sheet_values::Sheet;
+
+/// The calls that the user may have at once: one, or with communication waiting the number of the record (TS 24.615 §4.5.5).
+pub fn capacity(s: &Sheet) -> u8
+    ensures exact { result ≡ capacity_of s.now }
+{
+    match s.waiting {
+        None => 1,
+        Some(calls) => calls,
+    }
+}
+
+/// Whether a user that has this many live calls is busy as the network sees it: it has as many as it may have, or more (network determined user busy, TS 24.615 §4.5.5).
+pub fn is_busy(live: u32, s: &Sheet) -> bool
+    ensures exact { result ≡ is_busy live s.now }
+{
+    live >= u32::from(capacity(s))
+}

@@ -1,0 +1,3 @@
+pub mod Meters
+pub mod Rows
+pub mod Writing

@@ -1,0 +1,136 @@
+-- What a leg knows of its dialog (RFC 3261 §12): its names, the way to the other side, and its numbers; how it begins (§12.1), what it takes of the other side, and which requests it hears (§12.2.2, §14.2).
+use Rattle.std.specs.Prelude.{ℕ, ◌+◌, ◌-◌, ◌^◌, min, nat_lt, Bool, if◌then◌else◌, List, [], ◌∷◌, ◌++◌, Option, Some, None, Result, Ok, Err, codes}
+use Rattle.std.specs.Option.{option_map}
+use Rattle.std.specs.Str.{bytes_eq}
+use Rattle.mmtel_scan.specs.Chain.{◌>>=◌}
+use Rattle.mmtel_message.specs.Faults.{is_method}
+use Rattle.mmtel_message.specs.Fields.{cseq_at}
+use Rattle.mmtel_message.specs.Message.{Message, first_value}
+use Rattle.mmtel_message.specs.declared.fields.CSeq.{CSeq}
+use Rattle.mmtel_message.specs.declared.messages.Start.{Start}
+use Rattle.mmtel_message.specs.declared.messages.Start.TheVariants.{Request, Status}
+use Rattle.mmtel_trust.specs.Privacy.{Line}
+use Rattle.mmtel_types.specs.declared.numbers.Peer.{Peer}
+use Rattle.mmtel_types.specs.declared.sides.Side.TheVariants.{Caller, Callee}
+use Rattle.mmtel_leg.specs.Remotes.{field, tag_in}
+use Rattle.mmtel_leg.specs.declared.dialogues.Dialogue.{Dialogue}
+use Rattle.mmtel_leg.specs.declared.dialogues.DialogueFault.{DialogueFault}
+use Rattle.mmtel_leg.specs.declared.dialogues.DialogueFault.TheVariants.{OldCSeq, Pending, Unfinished}
+use Rattle.mmtel_leg.specs.declared.dialogues.InFlight.{InFlight}
+use Rattle.mmtel_leg.specs.declared.dialogues.InFlight.TheVariants as in_flight
+use Rattle.mmtel_leg.specs.declared.remotes.Remote.{Remote}
+
+-- ---- numbers (RFC 3261 §12.2.1.1)
+
+-- the number of a CSeq value
+unfoldable pub number_at : List ℕ → Option ℕ
+number_at s = option_map (λ (c : CSeq). c.number) (cseq_at s)
+
+-- the number in CSeq, where that can be read
+unfoldable pub number_in : List Line → Option ℕ
+number_in ls = first_value (codes "CSeq") ls >>= number_at
+
+abbrev pub or_zero : Option ℕ → ℕ
+or_zero None = 0
+or_zero (Some n) = n
+
+-- the number of the next request, which stays at the greatest
+abbrev pub next_number : ℕ → ℕ
+next_number n = min (n + 1) (2 ^ 64 - 1)
+
+-- ---- how a dialog begins
+
+-- a From or To value with a tag behind it
+abbrev pub tagged : List ℕ → List ℕ → List ℕ
+tagged value tag = value ++ (codes ";tag=" ++ tag)
+
+-- the Request-URI
+abbrev pub request_uri : Start → List ℕ
+request_uri (Request method uri) = uri
+request_uri (Status code phrase) = []
+
+-- the dialog of an INVITE that was received, where the server answers with this tag: the parties change places (§12.1.1)
+abbrev pub taken : Peer → List Line → List ℕ → Dialogue
+taken peer ls tag = record {
+  side = Caller;
+  peer = peer;
+  call_id = field (codes "Call-ID") ls;
+  local = tagged (field (codes "To") ls) tag;
+  remote = field (codes "From") ls;
+  local_tag = tag;
+  remote_tag = [];
+  target = [];
+  routes = [];
+  own = 0;
+  last = number_in ls;
+  invited = None;
+}
+
+-- the dialog of an INVITE that the server sends (§12.1.2); until it is answered the target is the Request-URI
+abbrev pub started : Peer → Message Start → Dialogue
+started peer m = record {
+  side = Callee;
+  peer = peer;
+  call_id = field (codes "Call-ID") m.lines;
+  local = field (codes "From") m.lines;
+  remote = field (codes "To") m.lines;
+  local_tag = tag_in (codes "From") m.lines;
+  remote_tag = [];
+  target = request_uri m.start;
+  routes = [];
+  own = or_zero (number_in m.lines);
+  last = None;
+  invited = number_in m.lines;
+}
+
+-- ---- what is taken of the other side
+
+-- what was said, or what stands where nothing was
+abbrev pub said_or : List ℕ → List ℕ → List ℕ
+said_or [] before = before
+said_or (x ∷ xs) before = x ∷ xs
+
+-- the routes that were said, where the other side said who it is by a tag
+abbrev pub routes_or : List ℕ → List (List ℕ) → List (List ℕ) → List (List ℕ)
+routes_or [] routes before = before
+routes_or (x ∷ xs) routes before = routes
+
+-- the dialog with what the other side said of itself: without a tag its tag and routes stay, and without a target its target
+abbrev pub met : Dialogue → Remote → Dialogue
+met d r = record d { remote_tag = said_or r.tag d.remote_tag; target = said_or r.target d.target; routes = routes_or r.tag r.routes d.routes }
+
+-- ---- what is heard in a dialog
+
+-- an INVITE while one of either side has no answer (§14.2); another request is heard at any time
+abbrev pub unless_busy : Bool → InFlight → Result (Unit {0}) DialogueFault
+unless_busy invite in_flight.None = Ok tt
+unless_busy invite in_flight.Own = if invite then Err Pending else Ok tt
+unless_busy invite in_flight.Theirs = if invite then Err Unfinished else Ok tt
+
+-- a number lower than the last is out of order (§12.2.2), whatever else is to be said
+abbrev pub unless_old : Option ℕ → Option ℕ → Result (Unit {0}) DialogueFault → Result (Unit {0}) DialogueFault
+unless_old None last otherwise = otherwise
+unless_old (Some n) None otherwise = otherwise
+unless_old (Some n) (Some last) otherwise = if nat_lt n last then Err (OldCSeq last) else otherwise
+
+-- what a dialog answers to a request
+abbrev pub hears : Dialogue → Message Start → InFlight → Result (Unit {0}) DialogueFault
+hears d m busy = unless_old (number_in m.lines) d.last (unless_busy (is_method (codes "INVITE") m.start) busy)
+
+-- the last number, once a request with this one was let through
+abbrev pub last_after : Option ℕ → Option ℕ → Option ℕ
+last_after None last = last
+last_after (Some n) last = Some n
+
+-- the dialog once a request was let through: its last number and nothing else
+abbrev pub after_hearing : Dialogue → Message Start → Dialogue
+after_hearing d m = record d { last = last_after (number_in m.lines) d.last }
+
+-- ---- what is asked in a dialog
+
+abbrev pub invited_by : List ℕ → ℕ → Option ℕ → Option ℕ
+invited_by method number before = if bytes_eq method (codes "INVITE") then Some number else before
+
+-- the dialog once a request of the method was made: its own number, which is that of the last INVITE too where it is one
+abbrev pub after_request : Dialogue → List ℕ → Dialogue
+after_request d method = record d { own = next_number d.own; invited = invited_by method (next_number d.own) d.invited }

@@ -1,0 +1,11 @@
+-- What contracts see of a leg, of either side and in any state: its dialog, and its meter where it has one.
+use Rattle.std.specs.Prelude.{Option}
+use Rattle.mmtel_charging.specs.Meters.{Noted}
+use Rattle.mmtel_leg.specs.declared.dialogues.Dialogue.{Dialogue}
+
+pub record Leg : Type 0 where
+  pub dialogue : Dialogue
+  pub meter : Option Noted
+
+abbrev pub with_dialogue : Leg → Dialogue → Leg
+with_dialogue leg d = record leg { dialogue = d }

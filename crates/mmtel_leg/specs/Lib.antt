@@ -1,0 +1,5 @@
+pub mod Remotes
+pub mod Dialogues
+pub mod Requests
+pub mod Legs
+pub mod Deeds

@@ -1,0 +1,120 @@
+-- The requests of a dialog (RFC 3261 §12.2.1.1 and §8.1.1): each line, in its order.
+use Rattle.std.specs.Prelude.{ℕ, Bool, not, ◌&&◌, ◌||◌, if◌then◌else◌, List, [], ◌∷◌, ◌++◌, codes, decimal, get_or, length, map}
+use Rattle.std.specs.List.{list_any}
+use Rattle.std.specs.Str.{bytes_eq, str_eq_ignore_ascii_case}
+use Rattle.mmtel_message.specs.Message.{Message}
+use Rattle.mmtel_message.specs.declared.messages.Start.{Start}
+use Rattle.mmtel_message.specs.declared.messages.Start.TheVariants.{Request}
+use Rattle.mmtel_trust.specs.Privacy.{Line}
+use Rattle.mmtel_trust.specs.declared.addrs.Addr.{Addr}
+use Rattle.mmtel_trust.specs.declared.showing.Line as showing
+use Rattle.mmtel_types.specs.declared.sides.Side.{Side}
+use Rattle.mmtel_types.specs.declared.sides.Side.TheVariants.{Caller, Callee}
+use Rattle.mmtel_leg.specs.Dialogues.{tagged, next_number, or_zero}
+use Rattle.mmtel_leg.specs.declared.dialogues.Dialogue.{Dialogue}
+
+-- what a request has that its dialog does not know: the server's address, the hops that are left, the branch behind its cookie, the lines that are passed on, and the body
+pub record Given : Type 0 where
+  pub sip : Addr
+  pub hops : ℕ
+  pub branch : List ℕ
+  pub shown : List showing.Line
+  pub body : List ℕ
+
+-- ---- how the server names itself
+
+-- `a.b.c.d`
+abbrev pub ip_text : List ℕ → List ℕ
+ip_text ip = decimal (get_or ip 0 0) ++ (46 ∷ (decimal (get_or ip 1 0) ++ (46 ∷ (decimal (get_or ip 2 0) ++ (46 ∷ decimal (get_or ip 3 0))))))
+
+-- `a.b.c.d:port`
+abbrev pub addr_text : Addr → List ℕ
+addr_text addr = ip_text addr.ip ++ 58 ∷ decimal addr.port
+
+-- Via, its branch with the cookie before it (§8.1.1.7)
+abbrev pub via_text : Addr → List ℕ → List ℕ
+via_text sip branch = codes "SIP/2.0/UDP " ++ (addr_text sip ++ (codes ";branch=z9hG4bK" ++ branch))
+
+-- Contact (§8.1.1.8)
+abbrev pub contact_text : Addr → List ℕ
+contact_text sip = codes "<sip:" ++ (addr_text sip ++ codes ">")
+
+-- ---- the lines
+
+-- a header line
+unfoldable pub line : List ℕ → List ℕ → List Line
+line name value = (name, value) ∷ []
+
+abbrev pub route_line : List ℕ → Line
+route_line value = (codes "Route", value)
+
+-- a line with named parts, as name and value
+abbrev pub pair_of : showing.Line → Line
+pair_of l = (l.name, l.value)
+
+-- To: a caller's From as it was received, its tag within; or a callee's To, with the tag that the callee gave
+abbrev pub to_text : Side → List ℕ → List ℕ → List ℕ
+to_text Caller value tag = value
+to_text Callee value [] = value
+to_text Callee value (b ∷ tag) = tagged value (b ∷ tag)
+
+-- CSeq (§8.1.1.5)
+abbrev pub cseq_text : ℕ → List ℕ → List ℕ
+cseq_text number method = decimal number ++ 32 ∷ method
+
+-- INVITE makes a dialog, and NOTIFY stands in one that a subscription made: each says where the server is reached (§12.1.1, RFC 6665 §4.2.2)
+abbrev pub is_contacting : List ℕ → Bool
+is_contacting method = bytes_eq method (codes "INVITE") || bytes_eq method (codes "NOTIFY")
+
+abbrev pub is_contact : showing.Line → Bool
+is_contact l = str_eq_ignore_ascii_case l.name (codes "Contact")
+
+-- Contact of such a request, unless the lines that are shown bring one of their own, as those of a conference room do
+abbrev pub contact_lines : List ℕ → Addr → List showing.Line → List Line
+contact_lines method sip shown = if is_contacting method && not (list_any is_contact shown) then line (codes "Contact") (contact_text sip) else []
+
+-- where the request goes: Via, the route set, and the hops that are left
+abbrev pub routing_lines : List (List ℕ) → Addr → ℕ → List ℕ → List Line
+routing_lines routes sip hops branch =
+    line (codes "Via") (via_text sip branch) ++
+    (map route_line routes ++
+    line (codes "Max-Forwards") (decimal hops))
+
+-- whose request it is, and which
+abbrev pub dialog_lines : Dialogue → ℕ → List ℕ → List Line
+dialog_lines d number method =
+    line (codes "From") d.local ++
+    (line (codes "To") (to_text d.side d.remote d.remote_tag) ++
+    (line (codes "Call-ID") d.call_id ++
+    line (codes "CSeq") (cseq_text number method)))
+
+-- what it brings
+abbrev pub content_lines : List ℕ → Addr → List showing.Line → List ℕ → List Line
+content_lines method sip shown body =
+    contact_lines method sip shown ++
+    (map pair_of shown ++
+    line (codes "Content-Length") (decimal (length body)))
+
+abbrev pub request_lines : Dialogue → ℕ → List ℕ → Given → List Line
+request_lines d number method given =
+    routing_lines d.routes given.sip given.hops given.branch ++
+    (dialog_lines d number method ++
+    content_lines method given.sip given.shown given.body)
+
+-- ---- the requests
+
+-- a request of the method, with this number, to the target
+abbrev pub numbered : Dialogue → ℕ → List ℕ → Given → Message Start
+numbered d number method given = record {
+  start = Request method d.target;
+  lines = request_lines d number method given;
+  body = given.body;
+}
+
+-- the next request
+abbrev pub request_of : Dialogue → List ℕ → Given → Message Start
+request_of d method given = numbered d (next_number d.own) method given
+
+-- the ACK of the last INVITE, which has its number (§13.2.2.4)
+abbrev pub ack_of : Dialogue → Given → Message Start
+ack_of d given = numbered d (or_zero d.invited) (codes "ACK") given

@@ -1,0 +1,269 @@
+//! What a leg of either side knows of its dialog (RFC 3261 §12).
+ghost use Rattle.std.specs.Prelude.{◌≡◌, ◌++◌, IfOk, OnErr, OnOk, codes};
+ghost use Rattle.mmtel_leg.specs.Dialogues.{after_hearing, hears, last_after, met, or_zero, routes_or, said_or, started, tagged, taken, unless_busy, unless_old};
+
+use crate::fields::{field, number_in, request_uri, tag_in};
+use crate::remotes::Remote;
+use mmtel_message::{Msg, is_method};
+use mmtel_scan::{List, NoMemory, Text};
+use mmtel_types::{Peer, Side};
+use std::alloc::Global;
+
+/// What a leg knows of its dialog: its names, the way to the other side, and its numbers.
+#[derive(Drop)]
+pub struct Dialogue {
+    /// Whose side of the call it is.
+    pub side: Side,
+    /// The peer that every message of the leg goes to.
+    pub peer: Peer,
+    pub call_id: Text,
+    /// From of the server's requests.
+    pub local: Text,
+    /// The other side, as the INVITE named it: a caller's From with its tag, or a callee's To.
+    pub remote: Text,
+    /// The server's tag.
+    pub local_tag: Text,
+    /// The other side's tag; no bytes before it is known.
+    pub remote_tag: Text,
+    /// The Request-URI of the server's requests; no bytes before it is known.
+    pub target: Text,
+    /// The Route values of the server's requests, in order.
+    pub routes: List<Text>,
+    /// The number of the server's last request, 0 before the first.
+    pub own: u64,
+    /// The number of the last request that was heard.
+    pub last: Option<u32>,
+    /// The number of the server's last INVITE.
+    pub invited: Option<u64>,
+}
+
+/// Which INVITE stands in the way of another one in a dialog (RFC 3261 §14.2).
+#[derive(Clone, Copy, Debug, PartialEq, Eq)]
+pub enum InFlight {
+    /// None.
+    None,
+    /// The server's INVITE to the leg, or an ACK is due in the call, or of the seat in a conference room.
+    Own,
+    /// The leg's INVITE to the server, which has no final answer.
+    Theirs,
+}
+
+/// Why a request is not heard in a dialog.
+#[derive(Clone, Copy, Debug, PartialEq, Eq)]
+pub enum DialogueFault {
+    /// Its number is lower than that of the last one (RFC 3261 §12.2.2).
+    OldCSeq {
+        /// The number of the last one.
+        last: u32,
+    },
+    /// It is an INVITE, and the server's own is in flight (RFC 3261 §14.2, answered 491).
+    Pending,
+    /// It is an INVITE, and the one before has no final answer yet (RFC 3261 §14.2, answered 500).
+    Unfinished,
+}
+
+fn unless_busy(invite: bool, busy: InFlight) -> Result<(), DialogueFault>
+    ensures { result ≡ unless_busy invite busy }
+{
+    match busy {
+        InFlight::None => Ok(()),
+        InFlight::Own => {
+            if invite {
+                Err(DialogueFault::Pending)
+            } else {
+                Ok(())
+            }
+        }
+        InFlight::Theirs => {
+            if invite {
+                Err(DialogueFault::Unfinished)
+            } else {
+                Ok(())
+            }
+        }
+    }
+}
+
+fn answer(
+    number: Option<u32>,
+    last: Option<u32>,
+    invite: bool,
+    busy: InFlight,
+) -> Result<(), DialogueFault>
+    ensures { result ≡ unless_old number last (unless_busy invite busy) }
+{
+    match number {
+        None => unless_busy(invite, busy),
+        Some(number) => match last {
+            None => unless_busy(invite, busy),
+            Some(last) => {
+                if number < last {
+                    Err(DialogueFault::OldCSeq { last })
+                } else {
+                    unless_busy(invite, busy)
+                }
+            }
+        },
+    }
+}
+
+/// The number of the last request that was let through, where this one was.
+fn last_after(number: Option<u32>, last: Option<u32>) -> Option<u32>
+    ensures { result ≡ last_after number last }
+{
+    match number {
+        None => last,
+        Some(number) => Some(number),
+    }
+}
+
+/// A number of the other side, among the server's own.
+fn widened(number: Option<u32>) -> Option<u64>
+    ensures { result ≡ number }
+{
+    match number {
+        None => None,
+        Some(number) => Some(u64::from(number)),
+    }
+}
+
+fn or_zero(number: Option<u32>) -> u64
+    ensures { result ≡ or_zero number }
+{
+    match number {
+        None => 0,
+        Some(number) => u64::from(number),
+    }
+}
+
+/// A From or To value with a tag behind it.
+fn tagged(alloc: Global, value: Text, tag: &[u8]) -> Result<Text, NoMemory>
+    ensures { IfOk result (λ t. t ≡ tagged value tag.now) }
+{
+    let mut out = value;
+    out.push(alloc, b";tag=")?;
+    out.push(alloc, tag)?;
+    Ok(out)
+}
+
+impl Dialogue {
+    /// The dialog of an INVITE that came from the peer, where the server answers with this tag (RFC 3261 §12.1.1).
+    ///
+    /// # Errors
+    ///
+    /// Want of memory alone.
+    pub fn of_caller(
+        alloc: Global,
+        peer: Peer,
+        invite: &Msg,
+        tag: Text,
+    ) -> Result<Dialogue, NoMemory>
+        ensures taken { IfOk result (λ d. d ≡ taken peer invite.now.lines tag) }
+    {
+        let lines = invite.lines();
+        let call_id = field(alloc, b"Call-ID", lines)?;
+        let to = field(alloc, b"To", lines)?;
+        let local = tagged(alloc, to, tag.bytes())?;
+        let remote = field(alloc, b"From", lines)?;
+        Ok(Dialogue {
+            side: Side::Caller,
+            peer,
+            call_id,
+            local,
+            remote,
+            local_tag: tag,
+            remote_tag: Text::new(),
+            target: Text::new(),
+            routes: List::new(),
+            own: 0,
+            last: number_in(lines),
+            invited: None,
+        })
+    }
+
+    /// The dialog of an INVITE that the server sends to the peer (RFC 3261 §12.1.2).
+    ///
+    /// # Errors
+    ///
+    /// Want of memory alone.
+    pub fn of_callee(alloc: Global, peer: Peer, invite: &Msg) -> Result<Dialogue, NoMemory>
+        ensures started { IfOk result (λ d. d ≡ started peer invite.now) }
+    {
+        let lines = invite.lines();
+        let call_id = field(alloc, b"Call-ID", lines)?;
+        let local = field(alloc, b"From", lines)?;
+        let remote = field(alloc, b"To", lines)?;
+        let local_tag = tag_in(alloc, b"From", lines)?;
+        let target = Text::of(alloc, request_uri(invite.start()))?;
+        let number = number_in(lines);
+        Ok(Dialogue {
+            side: Side::Callee,
+            peer,
+            call_id,
+            local,
+            remote,
+            local_tag,
+            remote_tag: Text::new(),
+            target,
+            routes: List::new(),
+            own: or_zero(number),
+            last: None,
+            invited: widened(number),
+        })
+    }
+
+    /// With the target that was said, where one was.
+    fn aimed_at(self, target: Text) -> Dialogue
+        ensures { result ≡ record self { target = said_or target self.target } }
+    {
+        if target.bytes().is_empty() {
+            self
+        } else {
+            Dialogue { target, ..self }
+        }
+    }
+
+    /// With the tag and the routes that were said, where a tag was.
+    fn answered_by(self, tag: Text, routes: List<Text>) -> Dialogue
+        ensures { result ≡ record self { remote_tag = said_or tag self.remote_tag; routes = routes_or tag routes self.routes } }
+    {
+        if tag.bytes().is_empty() {
+            self
+        } else {
+            Dialogue {
+                remote_tag: tag,
+                routes,
+                ..self
+            }
+        }
+    }
+
+    /// The dialog once the other side has said who it is and where it is reached. Without a tag its tag and its routes stay as they are, and without a target its target.
+    pub fn meet(self, remote: Remote) -> Dialogue
+        ensures met { result ≡ met self remote }
+    {
+        let Remote {
+            tag,
+            target,
+            routes,
+        } = remote;
+        self.aimed_at(target).answered_by(tag, routes)
+    }
+
+    /// Takes note of a request that was heard, or refuses it.
+    ///
+    /// # Errors
+    ///
+    /// The first that applies of `OldCSeq`, `Pending` and `Unfinished`; the dialog is then as before.
+    pub fn hear(&mut self, request: &Msg, busy: InFlight) -> Result<(), DialogueFault>
+        ensures answer { result ≡ hears self.old request.now busy }
+        ensures heard { OnOk result (self.new ≡ after_hearing self.old request.now) }
+        ensures refused { OnErr result (self.new ≡ self.old) }
+    {
+        let number = number_in(request.lines());
+        let invite = is_method(b"INVITE", request.start());
+        answer(number, self.last, invite, busy)?;
+        self.last = last_after(number, self.last);
+        Ok(())
+    }
+}

@@ -1,0 +1,288 @@
+//! Legs: one side of a call, which must be spent.
+ghost use Rattle.std.specs.Prelude.{◌≡◌, IfErr, IfOk, IsSome, OnErr, OnOk};
+ghost use Rattle.mmtel_leg.specs.Dialogues.{after_hearing, after_request, hears, met, started, taken};
+ghost use Rattle.mmtel_leg.specs.Legs.{with_dialogue};
+ghost use Rattle.mmtel_leg.specs.Requests.{ack_of, request_of};
+
+use crate::dialogues::{Dialogue, DialogueFault, InFlight};
+use crate::remotes::Remote;
+use crate::requests::Parts;
+use mmtel_charging::Meter;
+use mmtel_message::Msg;
+use mmtel_scan::{List, NoMemory, Text};
+use mmtel_trust::{Addr, Line};
+use mmtel_types::Peer;
+use std::alloc::Global;
+use std::marker::{Model, PhantomData};
+use std::mem;
+
+/// The state of a leg whose INVITE has no answer with a dialog.
+pub struct Asked;
+
+/// The state of a leg with an early dialog (RFC 3261 §12).
+pub struct Early;
+
+/// The state of a leg whose dialog is confirmed (RFC 3261 §12).
+pub struct Standing;
+
+/// The side that asked for the call.
+pub struct OfCaller;
+
+/// A side that the call is offered to.
+pub struct OfCallee;
+
+/// One side of a call, in one of the states `Asked`, `Early` and `Standing`.
+///
+/// A leg must be spent: it is not `Drop`, so a program that loses one does not compile, and `leave` gives what it had to account for. Contracts see what it knows of its dialog, and its meter.
+pub struct LegOf<P, S> {
+    dialogue: Dialogue,
+    meter: Option<Meter>,
+    party: PhantomData<P>,
+    state: PhantomData<S>,
+}
+
+/// The leg of a caller: the server answers its INVITE (RFC 3261 §12.1.1).
+pub type CallerLeg<S> = LegOf<OfCaller, S>;
+
+/// The leg of a callee: the server sends it an INVITE (RFC 3261 §12.1.2).
+pub type CalleeLeg<S> = LegOf<OfCallee, S>;
+
+impl<P, S> Model for LegOf<P, S> {
+    ghost use Rattle.mmtel_leg.specs.Legs.{Leg};
+
+    ghost Value = { Leg };
+
+    ghost view = { λ leg. record { dialogue = leg.dialogue; meter = leg.meter } };
+}
+
+/// What is left of a leg that has left its call. It must be spent.
+pub struct Ended {
+    /// The meter that ran for it, if one did.
+    pub meter: Option<Meter>,
+}
+
+/// A leg that was taken out of its call. It must be spent.
+pub enum Released {
+    /// The caller's.
+    Caller(CallerLeg<Standing>),
+    /// A callee's.
+    Callee(CalleeLeg<Standing>),
+}
+
+impl<P, S> LegOf<P, S> {
+    /// Ends the leg.
+    pub fn leave(self) -> Ended
+        ensures ended { result ≡ record { meter = self.meter } }
+    {
+        let LegOf {
+            dialogue: _,
+            meter,
+            party: _,
+            state: _,
+        } = self;
+        Ended { meter }
+    }
+
+    /// Keeps this meter in the leg, and gives the one that was there.
+    pub fn swap_meter(&mut self, meter: Option<Meter>) -> Option<Meter>
+        ensures before { result ≡ self.old.meter }
+        ensures after { self.new ≡ record self.old { meter = meter } }
+    {
+        mem::replace(&mut self.meter, meter)
+    }
+
+    /// The peer with which the leg was made.
+    pub fn peer(&self) -> Peer
+        ensures peer { result ≡ self.now.dialogue.peer }
+    {
+        self.dialogue.peer
+    }
+
+    /// The Call-ID of its dialog.
+    pub fn call_id(&self) -> &[u8]
+        ensures call_id { result.now ≡ self.now.dialogue.call_id }
+    {
+        self.dialogue.call_id.bytes()
+    }
+
+    /// The server's tag in its dialog.
+    pub fn local(&self) -> &[u8]
+        ensures tag { result.now ≡ self.now.dialogue.local_tag }
+    {
+        self.dialogue.local_tag.bytes()
+    }
+
+    /// Takes note of a request that was heard from this side, or refuses it.
+    ///
+    /// # Errors
+    ///
+    /// The first that applies; the leg is then as before. `OldCSeq` where its number is lower than that of the last request that was let through; for an INVITE, `Pending` where the server's own is in flight and `Unfinished` where the one before has no final answer (RFC 3261 §12.2.2, §14.2).
+    pub fn heard(&mut self, request: &Msg, busy: InFlight) -> Result<(), DialogueFault>
+        ensures answer { result ≡ hears self.old.dialogue request.now busy }
+        ensures heard { OnOk result (self.new ≡ with_dialogue self.old (after_hearing self.old.dialogue request.now)) }
+        ensures refused { OnErr result (self.new ≡ self.old) }
+    {
+        self.dialogue.hear(request, busy)
+    }
+
+    /// The leg in another state, once the other side has said who it is.
+    fn met<T>(self, remote: Remote) -> LegOf<P, T>
+        ensures { result ≡ with_dialogue self (met self.dialogue remote) }
+    {
+        let LegOf {
+            dialogue,
+            meter,
+            party,
+            state: _,
+        } = self;
+        let dialogue = dialogue.meet(remote);
+        LegOf {
+            dialogue,
+            meter,
+            party,
+            state: PhantomData,
+        }
+    }
+}
+
+impl LegOf<OfCaller, Asked> {
+    /// The leg of a caller whose INVITE came from the peer, where the server answers with this tag.
+    ///
+    /// # Errors
+    ///
+    /// Want of memory alone; the meter is handed back.
+    pub fn take(
+        alloc: Global,
+        peer: Peer,
+        invite: &Msg,
+        local: Text,
+        meter: Option<Meter>,
+    ) -> Result<CallerLeg<Asked>, (Option<Meter>, NoMemory)>
+        ensures leg { IfOk result (λ leg. leg ≡ record { dialogue = taken peer invite.now.lines local; meter = meter }) }
+        ensures handed_back { IfErr result (λ refused. refused.0 ≡ meter) }
+    {
+        match Dialogue::of_caller(alloc, peer, invite, local) {
+            Ok(dialogue) => Ok(LegOf {
+                dialogue,
+                meter,
+                party: PhantomData,
+                state: PhantomData,
+            }),
+            Err(error) => Err((meter, error)),
+        }
+    }
+}
+
+impl LegOf<OfCallee, Asked> {
+    /// The leg of a callee to whom the server sends this INVITE by the peer.
+    ///
+    /// # Errors
+    ///
+    /// Want of memory alone; the meter is handed back.
+    pub fn start(
+        alloc: Global,
+        peer: Peer,
+        invite: &Msg,
+        meter: Option<Meter>,
+    ) -> Result<CalleeLeg<Asked>, (Option<Meter>, NoMemory)>
+        ensures leg { IfOk result (λ leg. leg ≡ record { dialogue = started peer invite.now; meter = meter }) }
+        ensures handed_back { IfErr result (λ refused. refused.0 ≡ meter) }
+    {
+        match Dialogue::of_callee(alloc, peer, invite) {
+            Ok(dialogue) => Ok(LegOf {
+                dialogue,
+                meter,
+                party: PhantomData,
+                state: PhantomData,
+            }),
+            Err(error) => Err((meter, error)),
+        }
+    }
+}
+
+impl<P> LegOf<P, Asked> {
+    /// The leg with an early dialog (RFC 3261 §12.1).
+    pub fn early(self, remote: Remote) -> LegOf<P, Early>
+        ensures leg { result ≡ with_dialogue self (met self.dialogue remote) }
+    {
+        self.met(remote)
+    }
+
+    /// The leg with a confirmed dialog (RFC 3261 §12.1).
+    pub fn stand(self, remote: Remote) -> LegOf<P, Standing>
+        ensures leg { result ≡ with_dialogue self (met self.dialogue remote) }
+    {
+        self.met(remote)
+    }
+}
+
+impl<P> LegOf<P, Early> {
+    /// The leg whose early dialog is confirmed (RFC 3261 §13.2.2.4).
+    pub fn stand(self, remote: Remote) -> LegOf<P, Standing>
+        ensures leg { result ≡ with_dialogue self (met self.dialogue remote) }
+    {
+        self.met(remote)
+    }
+
+    /// The other side's tag; no bytes where it gave none.
+    pub fn remote(&self) -> &[u8]
+        ensures tag { result.now ≡ self.now.dialogue.remote_tag }
+    {
+        self.dialogue.remote_tag.bytes()
+    }
+}
+
+impl<P> LegOf<P, Standing> {
+    /// The other side's tag; no bytes where it gave none.
+    pub fn remote(&self) -> &[u8]
+        ensures tag { result.now ≡ self.now.dialogue.remote_tag }
+    {
+        self.dialogue.remote_tag.bytes()
+    }
+
+    /// The next request in the dialog (RFC 3261 §12.2.1.1): to its target, by its route set, with the number after that of the last one.
+    ///
+    /// `sip` is the server's address, `hops` what Max-Forwards says, and `branch` what stands behind the cookie of the branch. The shown lines stand between CSeq and Content-Length. An INVITE and a NOTIFY have the server's Contact before them, unless they bring one.
+    ///
+    /// # Errors
+    ///
+    /// Want of memory alone; the leg is then as before.
+    pub fn request(
+        &mut self,
+        alloc: Global,
+        method: &[u8],
+        sip: Addr,
+        hops: u8,
+        branch: &Text,
+        shown: &List<Line>,
+        body: &[u8],
+    ) -> Result<Msg, NoMemory>
+        ensures message { IfOk result (λ m. m ≡ request_of self.old.dialogue method.now (record { sip = sip; hops = hops; branch = branch.now; shown = shown.now; body = body.now })) }
+        ensures counted { OnOk result (self.new ≡ with_dialogue self.old (after_request self.old.dialogue method.now)) }
+        ensures refused { OnErr result (self.new ≡ self.old) }
+    {
+        let parts = Parts::of(sip, hops, branch, shown, body);
+        self.dialogue.request(alloc, method, &parts)
+    }
+
+    /// The ACK of the last INVITE that the server made in the dialog, or, of a callee, with which it began: with that INVITE's number (RFC 3261 §13.2.2.4). The other words are as of `request`.
+    ///
+    /// # Errors
+    ///
+    /// Want of memory alone.
+    pub fn ack(
+        &self,
+        alloc: Global,
+        sip: Addr,
+        hops: u8,
+        branch: &Text,
+        shown: &List<Line>,
+        body: &[u8],
+    ) -> Result<Msg, NoMemory>
+        requires { IsSome self.now.dialogue.invited }
+        ensures message { IfOk result (λ m. m ≡ ack_of self.now.dialogue (record { sip = sip; hops = hops; branch = branch.now; shown = shown.now; body = body.now })) }
+    {
+        let parts = Parts::of(sip, hops, branch, shown, body);
+        self.dialogue.ack(alloc, &parts)
+    }
+}

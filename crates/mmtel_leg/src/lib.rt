@@ -1,0 +1,21 @@
+//! Typed legs: one side of a call as a value that must be spent, with what it knows of its dialog (RFC 3261 §12), the requests that the server makes in it, and the meter that runs for it.
+#![tactic(auto)]
+
+mod addresses;
+mod dialogues;
+mod fields;
+mod laws;
+mod legs;
+mod remotes;
+mod requests;
+
+pub use addresses::{addr_text, contact_text, via_text};
+pub use dialogues::{DialogueFault, InFlight};
+pub use laws::{
+    meters_come_back, numbers_rise_by_one, refusals_change_nothing, requests_name_their_dialog,
+    the_way_stays,
+};
+pub use legs::{
+    Asked, CalleeLeg, CallerLeg, Early, Ended, LegOf, OfCallee, OfCaller, Released, Standing,
+};
+pub use remotes::Remote;

@@ -1,0 +1,118 @@
+//! What the other side of a dialog says of itself where the dialog begins (RFC 3261 §12.1.1, §12.1.2).
+ghost use Rattle.std.specs.Prelude.{◌≡◌, IfOk, reverse};
+ghost use Rattle.mmtel_leg.specs.Remotes.{contact_uri, field_of, first_uri, in_order, remote_of, route_set, uri_named};
+ghost use Rattle.mmtel_lex.specs.Reading.{name_addr_of};
+
+use crate::fields::tag_in;
+use mmtel_lex::{LexFault, NameAddr, read_name_addr};
+use mmtel_message::Msg;
+use mmtel_scan::{List, NoMemory, Text};
+use mmtel_types::Side;
+use std::alloc::Global;
+
+/// What the other side of a dialog says of itself.
+#[derive(Drop)]
+pub struct Remote {
+    /// Its tag; no bytes where it gave none.
+    pub tag: Text,
+    /// The URI of its first Contact value; no bytes where none can be read.
+    pub target: Text,
+    /// The route set: the Route values of a request to it, in order.
+    pub routes: List<Text>,
+}
+
+/// The name of the line that names a side.
+fn field_of(side: Side) -> &'static [u8]
+    ensures { result.now ≡ field_of side }
+{
+    match side {
+        Side::Caller => b"From",
+        Side::Callee => b"To",
+    }
+}
+
+/// The URI of a name-addr, or no bytes where the value is none.
+fn uri_named(alloc: Global, value: &[u8]) -> Result<Text, NoMemory>
+    ensures { IfOk result (λ t. t ≡ uri_named (name_addr_of value.now)) }
+{
+    match read_name_addr(alloc, value) {
+        Ok(name) => {
+            let NameAddr {
+                display: _,
+                uri,
+                params: _,
+            } = name;
+            Ok(uri)
+        }
+        Err(LexFault::Malformed { at: _ }) => Ok(Text::new()),
+        Err(LexFault::NoMemory) => Err(NoMemory),
+    }
+}
+
+fn first_uri(alloc: Global, values: &[Text]) -> Result<Text, NoMemory>
+    ensures { IfOk result (λ t. t ≡ first_uri values.now) }
+{
+    match values {
+        [] => Ok(Text::new()),
+        [value, ..] => uri_named(alloc, value.bytes()),
+    }
+}
+
+/// The URI of the first Contact value.
+#[tactic(auto, unfolding(crate::specs::Remotes::contact_uri))]
+fn contact_uri(alloc: Global, message: &Msg) -> Result<Text, NoMemory>
+    ensures { IfOk result (λ t. t ≡ contact_uri message.now.lines) }
+{
+    let values = message.values(alloc, b"Contact")?;
+    first_uri(alloc, values.items())
+}
+
+/// The values from the last to the first.
+fn reversed(alloc: Global, values: List<Text>) -> Result<List<Text>, NoMemory>
+    ensures { IfOk result (λ back. back ≡ reverse values) }
+{
+    let mut values = values;
+    let mut back = List::new();
+    'values: while let Some(value) = values.pop() {
+        back.push(alloc, value)?;
+    }
+    Ok(back)
+}
+
+fn in_order(alloc: Global, side: Side, values: List<Text>) -> Result<List<Text>, NoMemory>
+    ensures { IfOk result (λ routes. routes ≡ in_order side values) }
+{
+    match side {
+        Side::Caller => Ok(values),
+        Side::Callee => reversed(alloc, values),
+    }
+}
+
+/// The route set.
+#[tactic(auto, unfolding(crate::specs::Remotes::route_set))]
+fn route_set(alloc: Global, side: Side, message: &Msg) -> Result<List<Text>, NoMemory>
+    ensures { IfOk result (λ routes. routes ≡ route_set side message.now.lines) }
+{
+    let values = message.values(alloc, b"Record-Route")?;
+    in_order(alloc, side, values)
+}
+
+impl Remote {
+    /// Reads what a side says of itself in a message that it sent: the caller in its INVITE, whose Record-Route values are the route set in order (RFC 3261 §12.1.1), or the callee in its answer, whose are the route set from the last to the first (§12.1.2).
+    ///
+    /// # Errors
+    ///
+    /// Want of memory alone.
+    pub fn read(alloc: Global, message: &Msg, side: Side) -> Result<Remote, NoMemory>
+        ensures remote { IfOk result (λ remote. remote ≡ remote_of side message.now.lines) }
+    {
+        let tag = tag_in(alloc, field_of(side), message.lines())?;
+        let target = contact_uri(alloc, message)?;
+        let routes = route_set(alloc, side, message)?;
+        Ok(Remote {
+            tag,
+            target,
+            routes,
+        })
+    }
+}

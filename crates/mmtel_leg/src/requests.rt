@@ -1,0 +1,347 @@
+//! The requests that the server makes in a dialog (RFC 3261 §12.2.1.1).
+ghost use Rattle.std.specs.Prelude.{◌≡◌, ◌++◌, IfOk, IsSome, OnErr, OnOk, codes, decimal, map};
+ghost use Rattle.std.specs.List.{list_any};
+ghost use Rattle.mmtel_leg.specs.Dialogues.{after_request};
+ghost use Rattle.mmtel_leg.specs.Requests.{ack_of, contact_lines, content_lines, cseq_text, dialog_lines, is_contact, is_contacting, line, numbered, pair_of, request_of, route_line, routing_lines, to_text, via_text};
+
+use crate::addresses::{add_number, contact_text, via_text};
+use crate::dialogues::Dialogue;
+use mmtel_message::{Msg, Start};
+use mmtel_scan::{List, NoMemory, Text};
+use mmtel_trust::{Addr, Line};
+use mmtel_types::Side;
+use std::alloc::Global;
+use std::marker::Model;
+
+/// What a request has that its dialog does not know.
+#[derive(Drop)]
+pub struct Parts<'a> {
+    /// The server's address.
+    pub sip: Addr,
+    /// What Max-Forwards says.
+    pub hops: u8,
+    /// What stands behind the cookie of the branch.
+    pub branch: &'a [u8],
+    /// The lines that are passed on, in order.
+    pub shown: &'a [Line],
+    /// The body.
+    pub body: &'a [u8],
+}
+
+impl<'a> Model for Parts<'a> {
+    ghost use Rattle.mmtel_leg.specs.Requests.{Given};
+
+    ghost Value = { Given };
+
+    ghost view = { λ parts. record { sip = parts.sip; hops = parts.hops; branch = parts.branch.now; shown = parts.shown.now; body = parts.body.now } };
+}
+
+impl<'a> Parts<'a> {
+    /// These parts.
+    pub fn of(
+        sip: Addr,
+        hops: u8,
+        branch: &'a Text,
+        shown: &'a List<Line>,
+        body: &'a [u8],
+    ) -> Parts<'a>
+        ensures parts { result ≡ record { sip = sip; hops = hops; branch = branch.now; shown = shown.now; body = body.now } }
+    {
+        Parts {
+            sip,
+            hops,
+            branch: branch.bytes(),
+            shown: shown.items(),
+            body,
+        }
+    }
+}
+
+/// Adds a header line.
+#[tactic(auto, unfolding(crate::specs::Requests::line))]
+fn add_line(
+    alloc: Global,
+    out: &mut List<(Text, Text)>,
+    name: &[u8],
+    value: Text,
+) -> Result<(), NoMemory>
+    ensures { OnOk result (out.new ≡ out.old ++ line name.now value) }
+{
+    let name = Text::of(alloc, name)?;
+    out.push(alloc, (name, value))?;
+    Ok(())
+}
+
+/// Adds a header line of these bytes.
+fn add_bytes(
+    alloc: Global,
+    out: &mut List<(Text, Text)>,
+    name: &[u8],
+    value: &[u8],
+) -> Result<(), NoMemory>
+    ensures { OnOk result (out.new ≡ out.old ++ line name.now value.now) }
+{
+    let value = Text::of(alloc, value)?;
+    add_line(alloc, out, name, value)
+}
+
+/// Adds a header line of a number.
+fn add_decimal(
+    alloc: Global,
+    out: &mut List<(Text, Text)>,
+    name: &[u8],
+    number: u64,
+) -> Result<(), NoMemory>
+    ensures { OnOk result (out.new ≡ out.old ++ line name.now (decimal number)) }
+{
+    let mut value = Text::new();
+    add_number(alloc, &mut value, number)?;
+    add_line(alloc, out, name, value)
+}
+
+/// Adds Route, one value a line.
+fn add_routes(alloc: Global, out: &mut List<(Text, Text)>, routes: &[Text]) -> Result<(), NoMemory>
+    ensures { OnOk result (out.new ≡ out.old ++ map route_line routes.now) }
+{
+    for route in routes {
+        let name = Text::of(alloc, b"Route")?;
+        let value = Text::of(alloc, route.bytes())?;
+        out.push(alloc, (name, value))?;
+    }
+    Ok(())
+}
+
+fn add_via(
+    alloc: Global,
+    out: &mut List<(Text, Text)>,
+    sip: Addr,
+    branch: &[u8],
+) -> Result<(), NoMemory>
+    ensures { OnOk result (out.new ≡ out.old ++ line (codes "Via") (via_text sip branch.now)) }
+{
+    let via = via_text(alloc, sip, branch)?;
+    add_line(alloc, out, b"Via", via)
+}
+
+fn add_hops(alloc: Global, out: &mut List<(Text, Text)>, hops: u8) -> Result<(), NoMemory>
+    ensures { OnOk result (out.new ≡ out.old ++ line (codes "Max-Forwards") (decimal hops)) }
+{
+    add_decimal(alloc, out, b"Max-Forwards", u64::from(hops))
+}
+
+/// Adds where the request goes.
+fn add_routing(
+    alloc: Global,
+    out: &mut List<(Text, Text)>,
+    routes: &[Text],
+    sip: Addr,
+    hops: u8,
+    branch: &[u8],
+) -> Result<(), NoMemory>
+    ensures { OnOk result (out.new ≡ out.old ++ routing_lines routes.now sip hops branch.now) }
+{
+    add_via(alloc, out, sip, branch)?;
+    add_routes(alloc, out, routes)?;
+    add_hops(alloc, out, hops)?;
+    Ok(())
+}
+
+/// To of a request.
+fn to_text(alloc: Global, side: Side, value: &[u8], tag: &[u8]) -> Result<Text, NoMemory>
+    ensures { IfOk result (λ t. t ≡ to_text side value.now tag.now) }
+{
+    let mut out = Text::of(alloc, value)?;
+    match side {
+        Side::Caller => Ok(out),
+        Side::Callee => match tag {
+            [] => Ok(out),
+            _ => {
+                out.push(alloc, b";tag=")?;
+                out.push(alloc, tag)?;
+                Ok(out)
+            }
+        },
+    }
+}
+
+/// CSeq of a request.
+fn cseq_text(alloc: Global, number: u64, method: &[u8]) -> Result<Text, NoMemory>
+    ensures { IfOk result (λ t. t ≡ cseq_text number method.now) }
+{
+    let mut out = Text::new();
+    add_number(alloc, &mut out, number)?;
+    out.push(alloc, b" ")?;
+    out.push(alloc, method)?;
+    Ok(out)
+}
+
+/// Adds whose request it is, and which.
+fn add_dialog(
+    alloc: Global,
+    out: &mut List<(Text, Text)>,
+    dialogue: &Dialogue,
+    number: u64,
+    method: &[u8],
+) -> Result<(), NoMemory>
+    ensures { OnOk result (out.new ≡ out.old ++ dialog_lines dialogue.now number method.now) }
+{
+    let to = to_text(
+        alloc,
+        dialogue.side,
+        dialogue.remote.bytes(),
+        dialogue.remote_tag.bytes(),
+    )?;
+    let cseq = cseq_text(alloc, number, method)?;
+    add_bytes(alloc, out, b"From", dialogue.local.bytes())?;
+    add_line(alloc, out, b"To", to)?;
+    add_bytes(alloc, out, b"Call-ID", dialogue.call_id.bytes())?;
+    add_line(alloc, out, b"CSeq", cseq)
+}
+
+fn is_contacting(method: &[u8]) -> bool
+    ensures { result ≡ is_contacting method.now }
+{
+    method == b"INVITE".as_slice() || method == b"NOTIFY".as_slice()
+}
+
+fn is_contact(line: &Line) -> bool
+    ensures { result ≡ is_contact line.now }
+{
+    line.name.bytes().eq_ignore_ascii_case(b"Contact")
+}
+
+fn has_contact(shown: &[Line]) -> bool
+    ensures { result ≡ list_any is_contact shown.now }
+{
+    shown.iter().any(|line| is_contact(line))
+}
+
+/// Adds Contact, where the server writes it.
+fn add_contact(
+    alloc: Global,
+    out: &mut List<(Text, Text)>,
+    method: &[u8],
+    sip: Addr,
+    shown: &[Line],
+) -> Result<(), NoMemory>
+    ensures { OnOk result (out.new ≡ out.old ++ contact_lines method.now sip shown.now) }
+{
+    if is_contacting(method) && !has_contact(shown) {
+        let contact = contact_text(alloc, sip)?;
+        return add_line(alloc, out, b"Contact", contact);
+    }
+    Ok(())
+}
+
+/// Adds the lines that are passed on.
+fn add_shown(alloc: Global, out: &mut List<(Text, Text)>, shown: &[Line]) -> Result<(), NoMemory>
+    ensures { OnOk result (out.new ≡ out.old ++ map pair_of shown.now) }
+{
+    for line in shown {
+        let name = Text::of(alloc, line.name.bytes())?;
+        let value = Text::of(alloc, line.value.bytes())?;
+        out.push(alloc, (name, value))?;
+    }
+    Ok(())
+}
+
+/// Adds what the request brings.
+fn add_content(
+    alloc: Global,
+    out: &mut List<(Text, Text)>,
+    method: &[u8],
+    sip: Addr,
+    shown: &[Line],
+    body: &[u8],
+) -> Result<(), NoMemory>
+    ensures { OnOk result (out.new ≡ out.old ++ content_lines method.now sip shown.now body.now) }
+{
+    add_contact(alloc, out, method, sip, shown)?;
+    add_shown(alloc, out, shown)?;
+    add_decimal(alloc, out, b"Content-Length", body.len() as u64)?;
+    Ok(())
+}
+
+/// The request of the method with this number, to the target of the dialog.
+fn numbered(
+    alloc: Global,
+    dialogue: &Dialogue,
+    number: u64,
+    method: &[u8],
+    parts: &Parts<'_>,
+) -> Result<Msg, NoMemory>
+    ensures { IfOk result (λ m. m ≡ numbered dialogue.now number method.now parts.now) }
+{
+    let routes = dialogue.routes.items();
+    let mut lines = List::new();
+    add_routing(
+        alloc,
+        &mut lines,
+        routes,
+        parts.sip,
+        parts.hops,
+        parts.branch,
+    )?;
+    add_dialog(alloc, &mut lines, dialogue, number, method)?;
+    add_content(
+        alloc,
+        &mut lines,
+        method,
+        parts.sip,
+        parts.shown,
+        parts.body,
+    )?;
+    let method = Text::of(alloc, method)?;
+    let uri = Text::of(alloc, dialogue.target.bytes())?;
+    let body = Text::of(alloc, parts.body)?;
+    Ok(Msg::of(Start::Request { method, uri }, lines, body))
+}
+
+impl Dialogue {
+    /// Counts a request of the method.
+    fn count(&mut self, method: &[u8])
+        ensures { self.new ≡ after_request self.old method.now }
+    {
+        let number = self.own.saturating_add(1);
+        self.own = number;
+        if method == b"INVITE".as_slice() {
+            self.invited = Some(number);
+        }
+    }
+
+    /// The next request of the dialog.
+    ///
+    /// # Errors
+    ///
+    /// Want of memory alone; the dialog is then as before.
+    pub fn request(
+        &mut self,
+        alloc: Global,
+        method: &[u8],
+        parts: &Parts<'_>,
+    ) -> Result<Msg, NoMemory>
+        ensures message { IfOk result (λ m. m ≡ request_of self.old method.now parts.now) }
+        ensures counted { OnOk result (self.new ≡ after_request self.old method.now) }
+        ensures refused { OnErr result (self.new ≡ self.old) }
+    {
+        let number = self.own.saturating_add(1);
+        let message = numbered(alloc, self, number, method, parts)?;
+        self.count(method);
+        Ok(message)
+    }
+
+    /// The ACK of the server's last INVITE (RFC 3261 §13.2.2.4).
+    ///
+    /// # Errors
+    ///
+    /// Want of memory alone.
+    pub fn ack(&self, alloc: Global, parts: &Parts<'_>) -> Result<Msg, NoMemory>
+        requires { IsSome self.now.invited }
+        ensures message { IfOk result (λ m. m ≡ ack_of self.now parts.now) }
+    {
+        match self.invited {
+            None => unreachable!(),
+            Some(invited) => numbered(alloc, self, invited, b"ACK", parts),
+        }
+    }
+}

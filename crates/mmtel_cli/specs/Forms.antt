@@ -17,7 +17,8 @@ use Rattle.mmtel_message.specs.declared.messages.Start.{Start}
 use Rattle.mmtel_scan.specs.Numbers.{number_of}
 use Rattle.mmtel_trust.specs.Digest.{tag_of}
 use Rattle.mmtel_trust.specs.Privacy.{Line}
-use Rattle.mmtel_cli.specs.Openings.{ip_text, request_uri}
+use Rattle.mmtel_leg.specs.Addresses.{ip_text}
+use Rattle.mmtel_leg.specs.Dialogues.{request_uri}
 
 -- what follows a line of this name, where that comes first
 abbrev pub after_name : List ℕ → List Line → Option (List Line)

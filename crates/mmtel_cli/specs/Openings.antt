@@ -1,7 +1,10 @@
 -- What the server builds of an INVITE that opens a call: the 100 to its sender (RFC 3261 §8.2.6), and the INVITE of the first attempt, which it makes as a user agent of its own (RFC 3261 §6, §8.1.1).
-use Rattle.std.specs.Prelude.{ℕ, ◌+◌, ◌-◌, Bool, true, ◌||◌, Option, Some, None, List, [], ◌∷◌, ◌++◌, codes, decimal, get_or}
+use Rattle.std.specs.Prelude.{ℕ, ◌+◌, ◌-◌, Bool, true, ◌||◌, Option, Some, None, List, [], ◌∷◌, ◌++◌, codes, decimal}
 use Rattle.mmtel_scan.specs.Chain.{◌>>=◌}
 use Rattle.mmtel_scan.specs.Numbers.{number_of}
+use Rattle.mmtel_leg.specs.Addresses.{contact_text, via_text}
+use Rattle.mmtel_leg.specs.Dialogues.{request_uri}
+use Rattle.mmtel_leg.specs.Lines.{line}
 use Rattle.mmtel_message.specs.Message.{Message}
 use Rattle.mmtel_message.specs.Replies.{reply_with}
 use Rattle.mmtel_message.specs.declared.messages.Start.{Start}
@@ -13,16 +16,7 @@ use Rattle.mmtel_trust.specs.Passed.{passed, attempt_from, read_by}
 use Rattle.mmtel_trust.specs.Privacy.{Line}
 use Rattle.mmtel_trust.specs.declared.addrs.Addr.{Addr}
 use Rattle.mmtel_trust.specs.declared.showing.Facing.{Facing}
-use Rattle.mmtel_trust.specs.declared.showing.Line as showing
 use Rattle.mmtel_types.specs.declared.privacy.PrivacySet.{PrivacySet}
-
--- `a.b.c.d`
-abbrev pub ip_text : List ℕ → List ℕ
-ip_text ip = decimal (get_or ip 0 0) ++ (46 ∷ (decimal (get_or ip 1 0) ++ (46 ∷ (decimal (get_or ip 2 0) ++ (46 ∷ decimal (get_or ip 3 0))))))
-
--- `a.b.c.d:port`, as the server names itself in Via and Contact
-abbrev pub addr_text : Addr → List ℕ
-addr_text a = ip_text a.ip ++ 58 ∷ decimal a.port
 
 -- what a drawn number is written as: the run's token, `-` and the number
 abbrev pub drawn_text : List ℕ → ℕ → List ℕ
@@ -32,11 +26,6 @@ drawn_text token n = token ++ 45 ∷ decimal n
 abbrev pub trying : Heard → Message Start
 trying m = reply_with 100 (codes "Trying") m.lines
 
--- the Request-URI
-abbrev pub request_uri : Start → List ℕ
-request_uri (Request method uri) = uri
-request_uri (Status code phrase) = []
-
 -- the number in a Max-Forwards value
 abbrev pub hops_in : Option (List ℕ) → Option ℕ
 hops_in v = v >>= number_of 255
@@ -45,13 +34,6 @@ hops_in v = v >>= number_of 255
 abbrev pub hops_left : Option ℕ → ℕ
 hops_left None = 69
 hops_left (Some n) = n - 1
-
--- the server's Via and Contact (RFC 3261 §8.1.1.7, §8.1.1.8)
-abbrev pub via_text : Addr → List ℕ → List ℕ
-via_text sip branch = codes "SIP/2.0/UDP " ++ (addr_text sip ++ (codes ";branch=z9hG4bK" ++ branch))
-
-abbrev pub contact_text : Addr → List ℕ
-contact_text sip = codes "<sip:" ++ (addr_text sip ++ codes ">")
 
 -- the sender asks that the identity be hidden (RFC 3323 §4.2, RFC 3325 §9.3)
 abbrev pub is_hiding : PrivacySet → Bool
@@ -65,10 +47,6 @@ facing m = record { from_trusted = m.trusted; restricted = is_hiding m.wants; pr
 abbrev pub to_text : Option NameAddr → List ℕ
 to_text None = []
 to_text (Some n) = name_addr_text (record n { params = [] })
-
--- a header line
-unfoldable pub line : List ℕ → List ℕ → List Line
-line name value = (name, value) ∷ []
 
 -- the lines that the server writes of its own, before those that it passes on. So many numbers were drawn before: the next is the tag of the caller's side, then come those of Call-ID, From tag and branch
 abbrev pub sender_lines : Addr → List ℕ → ℕ → Heard → List Line
@@ -96,7 +74,3 @@ attempt sip token drawn to_trusted m = record {
   lines = attempt_lines sip token drawn to_trusted m;
   body = [];
 }
-
--- a line with named parts, as name and value
-abbrev pub pair_of : showing.Line → Line
-pair_of l = (l.name, l.value)

@@ -10,7 +10,8 @@ use Rattle.mmtel_trust.specs.Peers.{Peers, peer_at, is_trusted, route_of}
 use Rattle.mmtel_trust.specs.declared.addrs.Addr.{Addr}
 use Rattle.mmtel_cli.specs.Forms.{is_first_form}
 use Rattle.mmtel_trust.specs.Digest.{Heard, heard}
-use Rattle.mmtel_cli.specs.Openings.{trying, attempt, request_uri}
+use Rattle.mmtel_leg.specs.Dialogues.{request_uri}
+use Rattle.mmtel_cli.specs.Openings.{trying, attempt}
 use Rattle.mmtel_cli.specs.declared.directories.Directory.{Directory}
 use Rattle.mmtel_cli.specs.declared.events.Event.{Event}
 use Rattle.mmtel_cli.specs.declared.events.Event.TheVariants as event

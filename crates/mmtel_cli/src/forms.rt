@@ -8,10 +8,11 @@ ghost use Rattle.mmtel_message.specs.Message.{first_value};
 ghost use Rattle.mmtel_message.specs.Texts.{message_text};
 ghost use Rattle.mmtel_cli.specs.Forms.{after_name, after_form, holds, is_value, is_shaped, is_rport, is_from, is_via_from, is_sip_uri, is_sip_name, is_untagged, is_first_form};
 ghost use Rattle.mmtel_scan.specs.Numbers.{number_of};
-ghost use Rattle.mmtel_cli.specs.Openings.{ip_text, request_uri};
+ghost use Rattle.mmtel_leg.specs.Addresses.{ip_text};
+ghost use Rattle.mmtel_leg.specs.Dialogues.{request_uri};
 ghost use Rattle.mmtel_trust.specs.Privacy.{Line};
 
-use crate::openings::{ip_text, request_uri};
+use mmtel_leg::{ip_text, request_uri};
 use mmtel_lex::{LexFault, Param, Uri, UriFault, read_name_addr, read_uri};
 use mmtel_message::{Msg, Start, Via, first_of, is_method, param_value, read_via};
 use mmtel_scan::{NoMemory, Text, number_up_to};

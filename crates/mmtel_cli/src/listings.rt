@@ -7,6 +7,7 @@ ghost use Rattle.mmtel_cli.specs.ReadBack.{AreBytes, ReadsBack};
 ghost use Rattle.mmtel_trust.specs.declared.parties.KnownPeer.{KnownPeer};
 
 use crate::events::Offer;
+use mmtel_leg::add_number;
 use mmtel_scan::{List, NoMemory, Text};
 use mmtel_types::Peer;
 use std::alloc::Global;
@@ -106,13 +107,6 @@ fn add_data(alloc: Global, out: &mut Text, bytes: &[u8]) -> Result<(), NoMemory>
         rest = more;
     }
     Ok(())
-}
-
-fn add_number(alloc: Global, out: &mut Text, number: u64) -> Result<(), NoMemory>
-    ensures { OnOk result (out.new ≡ out.old ++ decimal number) }
-{
-    let digits = number.to_string(alloc)?;
-    out.push(alloc, digits.as_bytes())
 }
 
 fn add_moment(alloc: Global, out: &mut Text, at: u64) -> Result<(), NoMemory>

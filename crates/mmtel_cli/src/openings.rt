@@ -4,45 +4,18 @@ ghost use Rattle.std.specs.Option.{option_copied};
 ghost use Rattle.mmtel_message.specs.Replies.{reply_with};
 ghost use Rattle.mmtel_trust.specs.Digest.{heard};
 ghost use Rattle.mmtel_trust.specs.Passed.{passed, attempt_from, read_by};
-ghost use Rattle.mmtel_cli.specs.Openings.{ip_text, addr_text, drawn_text, trying, request_uri, hops_left, via_text, contact_text, hops_in, is_hiding, facing, to_text, line, sender_lines, dialog_lines, attempt_lines, pair_of, attempt};
+ghost use Rattle.mmtel_leg.specs.Addresses.{contact_text, via_text};
+ghost use Rattle.mmtel_leg.specs.Lines.{line, pair_of};
+ghost use Rattle.mmtel_cli.specs.Openings.{drawn_text, trying, hops_left, hops_in, is_hiding, facing, to_text, sender_lines, dialog_lines, attempt_lines, attempt};
 
+use mmtel_leg::{
+    add_bytes, add_decimal, add_line, add_number, contact_text, request_uri, via_text,
+};
 use mmtel_lex::{LexFault, List, NameAddr, print_name_addr, read_name_addr};
 use mmtel_message::{Msg, Start, first_of, reply_with};
 use mmtel_scan::{NoMemory, Text, number_up_to};
 use mmtel_trust::{Addr, Facing, Line, attempt_from, shown, wants};
 use std::alloc::Global;
-
-fn add_number(alloc: Global, out: &mut Text, number: u64) -> Result<(), NoMemory>
-    ensures { OnOk result (out.new ≡ out.old ++ decimal number) }
-{
-    let digits = number.to_string(alloc)?;
-    out.push(alloc, digits.as_bytes())
-}
-
-/// The text of an IPv4 address, `a.b.c.d`.
-pub fn ip_text(alloc: Global, ip: [u8; 4]) -> Result<Text, NoMemory>
-    ensures text { IfOk result (λ t. t ≡ ip_text ip) }
-{
-    let mut out = Text::new();
-    add_number(alloc, &mut out, u64::from(ip[0]))?;
-    out.push(alloc, b".")?;
-    add_number(alloc, &mut out, u64::from(ip[1]))?;
-    out.push(alloc, b".")?;
-    add_number(alloc, &mut out, u64::from(ip[2]))?;
-    out.push(alloc, b".")?;
-    add_number(alloc, &mut out, u64::from(ip[3]))?;
-    Ok(out)
-}
-
-/// The text of an address, `a.b.c.d:port`.
-fn add_addr(alloc: Global, out: &mut Text, addr: Addr) -> Result<(), NoMemory>
-    ensures { OnOk result (out.new ≡ out.old ++ addr_text addr) }
-{
-    let ip = ip_text(alloc, addr.ip)?;
-    out.push(alloc, ip.bytes())?;
-    out.push(alloc, b":")?;
-    add_number(alloc, out, u64::from(addr.port))
-}
 
 /// What a drawn number is written as.
 fn drawn_text(alloc: Global, token: &[u8], number: u64) -> Result<Text, NoMemory>
@@ -54,40 +27,7 @@ fn drawn_text(alloc: Global, token: &[u8], number: u64) -> Result<Text, NoMemory
     Ok(out)
 }
 
-/// The server's Via (RFC 3261 §8.1.1.7).
-fn via_text(alloc: Global, sip: Addr, branch: &[u8]) -> Result<Text, NoMemory>
-    ensures { IfOk result (λ t. t ≡ via_text sip branch.now) }
-{
-    let mut out = Text::of(alloc, b"SIP/2.0/UDP ")?;
-    add_addr(alloc, &mut out, sip)?;
-    out.push(alloc, b";branch=z9hG4bK")?;
-    out.push(alloc, branch)?;
-    Ok(out)
-}
-
-/// The server's Contact (RFC 3261 §8.1.1.8).
-fn contact_text(alloc: Global, sip: Addr) -> Result<Text, NoMemory>
-    ensures { IfOk result (λ t. t ≡ contact_text sip) }
-{
-    let mut out = Text::of(alloc, b"<sip:")?;
-    add_addr(alloc, &mut out, sip)?;
-    out.push(alloc, b">")?;
-    Ok(out)
-}
-
-/// The hops that are left, written (RFC 3261 §16.6).
-fn hops_text(alloc: Global, invite: &Msg) -> Result<Text, NoMemory>
-    ensures { IfOk result (λ t. t ≡ decimal (hops_left (heard true invite.now).hops)) }
-{
-    let mut out = Text::new();
-    add_number(
-        alloc,
-        &mut out,
-        hops_left(first_of(invite.lines(), b"Max-Forwards")),
-    )?;
-    Ok(out)
-}
-
+/// The hops that are left (RFC 3261 §16.6).
 fn hops_left(value: Option<&[u8]>) -> u64
     ensures { result ≡ hops_left (hops_in (option_copied value.entry)) }
 {
@@ -109,16 +49,6 @@ pub fn trying(alloc: Global, invite: &Msg) -> Result<Msg, NoMemory>
     ensures message { IfOk result (λ m. m ≡ trying (heard true invite.now)) }
 {
     reply_with(alloc, 100, b"Trying", invite.lines())
-}
-
-/// The Request-URI of a request.
-pub fn request_uri(start: &Start) -> &[u8]
-    ensures uri { result.now ≡ request_uri start.now }
-{
-    match start {
-        Start::Request { method: _, uri } => uri.bytes(),
-        Start::Status { code: _, phrase: _ } => b"",
-    }
 }
 
 /// Whether the sender asks that the identity be hidden (RFC 3323 §4.2, RFC 3325 §9.3).
@@ -169,21 +99,6 @@ fn to_text(alloc: Global, value: Option<&[u8]>) -> Result<Text, NoMemory>
     }
 }
 
-/// Adds a header line.
-#[tactic(auto, unfolding(crate::specs::Openings::line))]
-fn add_line(
-    alloc: Global,
-    out: &mut List<(Text, Text)>,
-    name: &[u8],
-    value: Text,
-) -> Result<(), NoMemory>
-    ensures { OnOk result (out.new ≡ out.old ++ line name.now value) }
-{
-    let name = Text::of(alloc, name)?;
-    out.push(alloc, (name, value))?;
-    Ok(())
-}
-
 fn add_via(
     alloc: Global,
     out: &mut List<(Text, Text)>,
@@ -199,8 +114,12 @@ fn add_via(
 fn add_hops(alloc: Global, out: &mut List<(Text, Text)>, invite: &Msg) -> Result<(), NoMemory>
     ensures { OnOk result (out.new ≡ out.old ++ line (codes "Max-Forwards") (decimal (hops_left (heard true invite.now).hops))) }
 {
-    let hops = hops_text(alloc, invite)?;
-    add_line(alloc, out, b"Max-Forwards", hops)
+    add_decimal(
+        alloc,
+        out,
+        b"Max-Forwards",
+        hops_left(first_of(invite.lines(), b"Max-Forwards")),
+    )
 }
 
 fn add_from(
@@ -227,19 +146,6 @@ fn add_contact(alloc: Global, out: &mut List<(Text, Text)>, sip: Addr) -> Result
 {
     let contact = contact_text(alloc, sip)?;
     add_line(alloc, out, b"Contact", contact)
-}
-
-/// Adds a line of these bytes.
-fn add_bytes(
-    alloc: Global,
-    out: &mut List<(Text, Text)>,
-    name: &[u8],
-    value: &[u8],
-) -> Result<(), NoMemory>
-    ensures { OnOk result (out.new ≡ out.old ++ line name.now value.now) }
-{
-    let value = Text::of(alloc, value)?;
-    add_line(alloc, out, name, value)
 }
 
 /// Adds Via, Max-Forwards and From.

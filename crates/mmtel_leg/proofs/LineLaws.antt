@@ -4,7 +4,8 @@ use Rattle.std.specs.Str.{str_eq_ignore_ascii_case}
 use Rattle.mmtel_message.specs.Message.{first_value}
 use Rattle.mmtel_trust.specs.Privacy.{Line}
 use Rattle.mmtel_trust.specs.declared.addrs.Addr.{Addr}
-use Rattle.mmtel_leg.specs.Requests.{Given, content_lines, cseq_text, dialog_lines, line, numbered, route_line, routing_lines, to_text}
+use Rattle.mmtel_leg.specs.Requests.{Given, content_lines, cseq_text, dialog_lines, numbered, route_line, routing_lines, to_text}
+use Rattle.mmtel_leg.specs.Lines.{line}
 use Rattle.mmtel_leg.specs.declared.dialogues.Dialogue.{Dialogue}
 
 behind_routes : (name : List ℕ) (routes : List (List ℕ)) (ls : List Line) → str_eq_ignore_ascii_case (codes "Route") name ≡ false → first_value name (map route_line routes ++ ls) ≡ first_value name ls

@@ -1,3 +1,5 @@
+pub mod Addresses
+pub mod Lines
 pub mod Remotes
 pub mod Dialogues
 pub mod Requests

@@ -1,5 +1,5 @@
 -- The requests of a dialog (RFC 3261 §12.2.1.1 and §8.1.1): each line, in its order.
-use Rattle.std.specs.Prelude.{ℕ, Bool, not, ◌&&◌, ◌||◌, if◌then◌else◌, List, [], ◌∷◌, ◌++◌, codes, decimal, get_or, length, map}
+use Rattle.std.specs.Prelude.{ℕ, Bool, not, ◌&&◌, ◌||◌, if◌then◌else◌, List, [], ◌∷◌, ◌++◌, codes, decimal, length, map}
 use Rattle.std.specs.List.{list_any}
 use Rattle.std.specs.Str.{bytes_eq, str_eq_ignore_ascii_case}
 use Rattle.mmtel_message.specs.Message.{Message}
@@ -10,7 +10,9 @@ use Rattle.mmtel_trust.specs.declared.addrs.Addr.{Addr}
 use Rattle.mmtel_trust.specs.declared.showing.Line as showing
 use Rattle.mmtel_types.specs.declared.sides.Side.{Side}
 use Rattle.mmtel_types.specs.declared.sides.Side.TheVariants.{Caller, Callee}
+use Rattle.mmtel_leg.specs.Addresses.{contact_text, via_text}
 use Rattle.mmtel_leg.specs.Dialogues.{tagged, next_number, or_zero}
+use Rattle.mmtel_leg.specs.Lines.{line, pair_of}
 use Rattle.mmtel_leg.specs.declared.dialogues.Dialogue.{Dialogue}
 
 -- what a request has that its dialog does not know: the server's address, the hops that are left, the branch behind its cookie, the lines that are passed on, and the body
@@ -21,36 +23,10 @@ pub record Given : Type 0 where
   pub shown : List showing.Line
   pub body : List ℕ
 
--- ---- how the server names itself
-
--- `a.b.c.d`
-abbrev pub ip_text : List ℕ → List ℕ
-ip_text ip = decimal (get_or ip 0 0) ++ (46 ∷ (decimal (get_or ip 1 0) ++ (46 ∷ (decimal (get_or ip 2 0) ++ (46 ∷ decimal (get_or ip 3 0))))))
-
--- `a.b.c.d:port`
-abbrev pub addr_text : Addr → List ℕ
-addr_text addr = ip_text addr.ip ++ 58 ∷ decimal addr.port
-
--- Via, its branch with the cookie before it (§8.1.1.7)
-abbrev pub via_text : Addr → List ℕ → List ℕ
-via_text sip branch = codes "SIP/2.0/UDP " ++ (addr_text sip ++ (codes ";branch=z9hG4bK" ++ branch))
-
--- Contact (§8.1.1.8)
-abbrev pub contact_text : Addr → List ℕ
-contact_text sip = codes "<sip:" ++ (addr_text sip ++ codes ">")
-
 -- ---- the lines
-
--- a header line
-unfoldable pub line : List ℕ → List ℕ → List Line
-line name value = (name, value) ∷ []
 
 abbrev pub route_line : List ℕ → Line
 route_line value = (codes "Route", value)
-
--- a line with named parts, as name and value
-abbrev pub pair_of : showing.Line → Line
-pair_of l = (l.name, l.value)
 
 -- To: a caller's From as it was received, its tag within; or a callee's To, with the tag that the callee gave
 abbrev pub to_text : Side → List ℕ → List ℕ → List ℕ

@@ -1,22 +1,19 @@
 //! How the server names itself in what it sends (RFC 3261 §8.1.1.7, §8.1.1.8).
-ghost use Rattle.std.specs.Prelude.{◌≡◌, ◌++◌, IfOk, OnOk, decimal};
-ghost use Rattle.mmtel_leg.specs.Requests.{addr_text, contact_text, ip_text, via_text};
+ghost use Rattle.std.specs.Prelude.{◌≡◌, IfOk};
+ghost use Rattle.mmtel_leg.specs.Addresses.{addr_text, contact_text, ip_text, via_text};
 
+use crate::lines::add_number;
 use mmtel_scan::{NoMemory, Text};
 use mmtel_trust::Addr;
 use std::alloc::Global;
 
-/// Adds the decimal digits of a number.
-pub fn add_number(alloc: Global, out: &mut Text, number: u64) -> Result<(), NoMemory>
-    ensures { OnOk result (out.new ≡ out.old ++ decimal number) }
-{
-    let digits = number.to_string(alloc)?;
-    out.push(alloc, digits.as_bytes())
-}
-
 /// The text of an IPv4 address, `a.b.c.d`.
-fn ip_text(alloc: Global, ip: [u8; 4]) -> Result<Text, NoMemory>
-    ensures { IfOk result (λ t. t ≡ ip_text ip) }
+///
+/// # Errors
+///
+/// Want of memory alone.
+pub fn ip_text(alloc: Global, ip: [u8; 4]) -> Result<Text, NoMemory>
+    ensures text { IfOk result (λ t. t ≡ ip_text ip) }
 {
     let mut out = Text::new();
     add_number(alloc, &mut out, u64::from(ip[0]))?;

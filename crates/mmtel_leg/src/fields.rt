@@ -86,9 +86,9 @@ pub fn number_in(lines: &[(Text, Text)]) -> Option<u32>
     }
 }
 
-/// The Request-URI of a request.
+/// The Request-URI of a request; no bytes of a response.
 pub fn request_uri(start: &Start) -> &[u8]
-    ensures { result.now ≡ request_uri start.now }
+    ensures uri { result.now ≡ request_uri start.now }
 {
     match start {
         Start::Request { method: _, uri } => uri.bytes(),

@@ -6,11 +6,13 @@ mod dialogues;
 mod fields;
 mod laws;
 mod legs;
+mod lines;
 mod remotes;
 mod requests;
 
-pub use addresses::{addr_text, contact_text, via_text};
+pub use addresses::{addr_text, contact_text, ip_text, via_text};
 pub use dialogues::{DialogueFault, InFlight};
+pub use fields::request_uri;
 pub use laws::{
     meters_come_back, numbers_rise_by_one, refusals_change_nothing, requests_name_their_dialog,
     the_way_stays,
@@ -18,4 +20,5 @@ pub use laws::{
 pub use legs::{
     Asked, CalleeLeg, CallerLeg, Early, Ended, LegOf, OfCallee, OfCaller, Released, Standing,
 };
+pub use lines::{add_bytes, add_decimal, add_line, add_number};
 pub use remotes::Remote;

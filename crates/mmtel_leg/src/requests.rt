@@ -1,11 +1,14 @@
 //! The requests that the server makes in a dialog (RFC 3261 §12.2.1.1).
 ghost use Rattle.std.specs.Prelude.{◌≡◌, ◌++◌, IfOk, IsSome, OnErr, OnOk, codes, decimal, map};
 ghost use Rattle.std.specs.List.{list_any};
+ghost use Rattle.mmtel_leg.specs.Addresses.{contact_text, via_text};
 ghost use Rattle.mmtel_leg.specs.Dialogues.{after_request};
-ghost use Rattle.mmtel_leg.specs.Requests.{ack_of, contact_lines, content_lines, cseq_text, dialog_lines, is_contact, is_contacting, line, numbered, pair_of, request_of, route_line, routing_lines, to_text, via_text};
+ghost use Rattle.mmtel_leg.specs.Lines.{line, pair_of};
+ghost use Rattle.mmtel_leg.specs.Requests.{ack_of, contact_lines, content_lines, cseq_text, dialog_lines, is_contact, is_contacting, numbered, request_of, route_line, routing_lines, to_text};
 
-use crate::addresses::{add_number, contact_text, via_text};
+use crate::addresses::{contact_text, via_text};
 use crate::dialogues::Dialogue;
+use crate::lines::{add_bytes, add_decimal, add_line, add_number};
 use mmtel_message::{Msg, Start};
 use mmtel_scan::{List, NoMemory, Text};
 use mmtel_trust::{Addr, Line};
@@ -55,48 +58,6 @@ impl<'a> Parts<'a> {
             body,
         }
     }
-}
-
-/// Adds a header line.
-#[tactic(auto, unfolding(crate::specs::Requests::line))]
-fn add_line(
-    alloc: Global,
-    out: &mut List<(Text, Text)>,
-    name: &[u8],
-    value: Text,
-) -> Result<(), NoMemory>
-    ensures { OnOk result (out.new ≡ out.old ++ line name.now value) }
-{
-    let name = Text::of(alloc, name)?;
-    out.push(alloc, (name, value))?;
-    Ok(())
-}
-
-/// Adds a header line of these bytes.
-fn add_bytes(
-    alloc: Global,
-    out: &mut List<(Text, Text)>,
-    name: &[u8],
-    value: &[u8],
-) -> Result<(), NoMemory>
-    ensures { OnOk result (out.new ≡ out.old ++ line name.now value.now) }
-{
-    let value = Text::of(alloc, value)?;
-    add_line(alloc, out, name, value)
-}
-
-/// Adds a header line of a number.
-fn add_decimal(
-    alloc: Global,
-    out: &mut List<(Text, Text)>,
-    name: &[u8],
-    number: u64,
-) -> Result<(), NoMemory>
-    ensures { OnOk result (out.new ≡ out.old ++ line name.now (decimal number)) }
-{
-    let mut value = Text::new();
-    add_number(alloc, &mut value, number)?;
-    add_line(alloc, out, name, value)
 }
 
 /// Adds Route, one value a line.

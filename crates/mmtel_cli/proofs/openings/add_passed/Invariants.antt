@@ -1,5 +1,5 @@
 use Rattle.std.proofs.Common.{◌≡◌, ◌++◌, map, take}
-use Rattle.mmtel_cli.specs.Openings.{pair_of}
+use Rattle.mmtel_leg.specs.Lines.{pair_of}
 use Rattle.mmtel_cli.proofs.openings.add_passed.Given as goal
 
 abbrev pub invariant-loop-line : goal.invariant-loop-line

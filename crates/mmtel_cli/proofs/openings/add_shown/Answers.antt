@@ -1,7 +1,7 @@
 use Rattle.std.proofs.Common.{◌≡◌, ◌++◌, ◌∙◌, Bool, true, List, [], ap, map}
 use Rattle.mmtel_trust.specs.Passed.{passed}
 use Rattle.mmtel_trust.specs.Privacy.{Line}
-use Rattle.mmtel_cli.specs.Openings.{pair_of}
+use Rattle.mmtel_leg.specs.Lines.{pair_of}
 use Rattle.mmtel_cli.proofs.Pairs.{pairs}
 use Rattle.mmtel_cli.proofs.openings.add_shown.Goals as goal
 

@@ -1,5 +1,5 @@
 use Rattle.std.proofs.Common.{◌≡◌, ◌++◌, map, take}
-use Rattle.mmtel_leg.specs.Requests.{pair_of}
+use Rattle.mmtel_leg.specs.Lines.{pair_of}
 use Rattle.mmtel_leg.proofs.requests.add_shown.Given as goal
 
 abbrev pub invariant-loop-line : goal.invariant-loop-line

@@ -14,7 +14,7 @@ use Rattle.mmtel_leg.proofs.LineLaws.{cseq}
 use Rattle.mmtel_charging.specs.Meters.{Noted}
 
 -- what is heard leaves these alone, whatever the answer
-own_stays : (answer : Result (Unit {0}) DialogueFault) (d : Dialogue) (request : Message Start) → (after_answer answer d request).own ≡ d.own
+pub own_stays : (answer : Result (Unit {0}) DialogueFault) (d : Dialogue) (request : Message Start) → (after_answer answer d request).own ≡ d.own
 own_stays (Ok done) d request = refl
 own_stays (Err fault) d request = refl
 

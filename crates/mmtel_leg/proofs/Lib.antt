@@ -1,3 +1,6 @@
 pub mod DeedLaws
 pub mod LineLaws
 pub mod HeardLaws
+pub mod ReadLaws
+pub mod OrderLaws
+pub mod TagLaws

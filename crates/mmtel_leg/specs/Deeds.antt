@@ -1,6 +1,9 @@
 -- What is done with a leg from its making on, one deed after another, and what comes of it: the laws of a dialog's numbers (RFC 3261 §12.2.1.1), of its target and routes, and of the meters that a leg was given.
-use Rattle.std.specs.Prelude.{ℕ, ◌+◌, ◌≤◌, None, ◌≡◌, Bool, true, false, List, [], ◌∷◌, ◌++◌, Option, Some, Result, Ok, Err, codes}
+use Rattle.std.specs.Prelude.{ℕ, ◌+◌, ◌≤◌, None, ◌≡◌, Bool, true, false, not, List, [], ◌∷◌, ◌++◌, Option, Some, Result, Ok, Err, codes}
+use Rattle.std.specs.Str.{bytes_eq}
+use Rattle.mmtel_scan.specs.Chain.{◌>>=◌}
 use Rattle.mmtel_charging.specs.Meters.{Noted}
+use Rattle.mmtel_message.specs.Fields.{cseq_at}
 use Rattle.mmtel_message.specs.Message.{Message, first_value}
 use Rattle.mmtel_message.specs.declared.messages.Start.{Start}
 use Rattle.mmtel_leg.specs.Dialogues.{after_hearing, after_request, hears, met}
@@ -9,6 +12,7 @@ use Rattle.mmtel_leg.specs.Requests.{Given, cseq_text, request_of}
 use Rattle.mmtel_leg.specs.declared.dialogues.Dialogue.{Dialogue}
 use Rattle.mmtel_leg.specs.declared.dialogues.DialogueFault.{DialogueFault}
 use Rattle.mmtel_leg.specs.declared.dialogues.InFlight.{InFlight}
+use Rattle.mmtel_leg.specs.declared.dialogues.InFlight.TheVariants as in_flight
 use Rattle.mmtel_leg.specs.declared.remotes.Remote.{Remote}
 
 -- the other side says who it is (`early`, `stand`); the server makes a request (`request`); a request comes (`heard`); a meter is put in the place of another (`swap_meter`)
@@ -56,6 +60,21 @@ abbrev pub IsCountedFrom : ℕ → List (Message Start) → Type 0
 IsCountedFrom n [] = Unit {0}
 IsCountedFrom n (m ∷ ms) = HasNumber (n + 1) m × IsCountedFrom (n + 1) ms
 
+-- the two have one number
+abbrev pub HaveOneNumber : Message Start → Message Start → Type 0
+HaveOneNumber one other = (n : ℕ) × (HasNumber n one × HasNumber n other)
+
+-- no INVITE is made
+abbrev pub is_not_invite : Deed → Bool
+is_not_invite (Meets remote) = true
+is_not_invite (Asks method given) = not (bytes_eq method (codes "INVITE"))
+is_not_invite (Hears request busy) = true
+is_not_invite (Swaps meter) = true
+
+-- CSeq of the message is read as this number and method (§20.16)
+abbrev pub ReadsAs : ℕ → List ℕ → Message Start → Type 0
+ReadsAs n method m = (first_value (codes "CSeq") m.lines >>= cseq_at) ≡ Some (record { number = n; method = method })
+
 -- ---- numbers that were heard
 
 -- where a number was heard, one that is not lower was heard later
@@ -63,6 +82,11 @@ abbrev pub IsNotBelow : Option ℕ → Option ℕ → Type 0
 IsNotBelow None later = Unit {0}
 IsNotBelow (Some n) None = ⊥
 IsNotBelow (Some n) (Some m) = n ≤ m
+
+-- the dialog hears each request, one after another, where no INVITE of either side has no answer (§12.2.2)
+abbrev pub HearsEach : Dialogue → List (Message Start) → Type 0
+HearsEach d [] = Unit {0}
+HearsEach d (m ∷ ms) = (hears d m in_flight.None ≡ Ok tt) × HearsEach (after_hearing d m) ms
 
 -- ---- the way to the other side
 

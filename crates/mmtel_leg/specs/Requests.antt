@@ -91,6 +91,6 @@ numbered d number method given = record {
 abbrev pub request_of : Dialogue → List ℕ → Given → Message Start
 request_of d method given = numbered d (next_number d.own) method given
 
--- the ACK of the last INVITE, which has its number (§13.2.2.4)
+-- the ACK of the server's last INVITE, which has its number (§13.2.2.4); with number 0 where there was none
 abbrev pub ack_of : Dialogue → Given → Message Start
 ack_of d given = numbered d (or_zero d.invited) (codes "ACK") given

@@ -1,5 +1,5 @@
 //! Legs: one side of a call, which must be spent.
-ghost use Rattle.std.specs.Prelude.{◌≡◌, IfErr, IfOk, IsSome, OnErr, OnOk};
+ghost use Rattle.std.specs.Prelude.{◌≡◌, IfErr, IfOk, OnErr, OnOk};
 ghost use Rattle.mmtel_leg.specs.Dialogues.{after_hearing, after_request, hears, met, started, taken};
 ghost use Rattle.mmtel_leg.specs.Legs.{with_dialogue};
 ghost use Rattle.mmtel_leg.specs.Requests.{ack_of, request_of};
@@ -265,7 +265,7 @@ impl<P> LegOf<P, Standing> {
         self.dialogue.request(alloc, method, &parts)
     }
 
-    /// The ACK of the last INVITE that the server made in the dialog, or, of a callee, with which it began: with that INVITE's number (RFC 3261 §13.2.2.4). The other words are as of `request`.
+    /// The ACK of the last INVITE that the server sent in the dialog, a callee's first one among them: with that INVITE's number (RFC 3261 §13.2.2.4). Where it sent none, as to a caller who was asked nothing, there is nothing to acknowledge, and the number is 0. The other words are as of `request`.
     ///
     /// # Errors
     ///
@@ -279,7 +279,6 @@ impl<P> LegOf<P, Standing> {
         shown: &List<Line>,
         body: &[u8],
     ) -> Result<Msg, NoMemory>
-        requires { IsSome self.now.dialogue.invited }
         ensures message { IfOk result (λ m. m ≡ ack_of self.now.dialogue (record { sip = sip; hops = hops; branch = branch.now; shown = shown.now; body = body.now })) }
     {
         let parts = Parts::of(sip, hops, branch, shown, body);

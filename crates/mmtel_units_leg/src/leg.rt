@@ -377,21 +377,20 @@ fn add_request<P>(
     add_message(alloc, out, &request)
 }
 
-/// Adds the ACK of an INVITE that was made last, whose number it has, behind that INVITE.
-fn add_invite_and_ack(
+/// Adds the ACK of the last INVITE that the server sent.
+fn add_ack<P>(
     alloc: Global,
     out: &mut Text,
-    leg: &mut CalleeLeg<Standing>,
-    lines: &List<Line>,
-    branch: &Text,
+    leg: &LegOf<P, Standing>,
+    hops: u8,
+    number: &[u8],
 ) -> Result<(), NoMemory> {
-    let invite = leg.request(alloc, b"INVITE", SIP, 70, branch, lines, b"v=0\n")?;
-    let ack = leg.ack(alloc, SIP, 0, branch, &List::new(), b"")?;
-    add_message(alloc, out, &invite)?;
+    let branch = branch(alloc, number)?;
+    let ack = leg.ack(alloc, SIP, hops, &branch, &List::new(), b"")?;
     add_message(alloc, out, &ack)
 }
 
-/// Adds an INVITE with a body and lines shown for it, and its ACK.
+/// Adds an INVITE with a body and lines shown for it.
 fn add_invite(
     alloc: Global,
     out: &mut Text,
@@ -399,7 +398,8 @@ fn add_invite(
 ) -> Result<(), NoMemory> {
     let branch = branch(alloc, b"6")?;
     let lines = shown_with_type(alloc)?;
-    add_invite_and_ack(alloc, out, leg, &lines, &branch)
+    let invite = leg.request(alloc, b"INVITE", SIP, 70, &branch, &lines, b"v=0\n")?;
+    add_message(alloc, out, &invite)
 }
 
 /// A Privacy line and a Content-Type line.
@@ -419,15 +419,18 @@ fn add_notify(
     add_request(alloc, out, leg, b"NOTIFY", b"8", &room)
 }
 
-/// What the server says to a callee: an INVITE and its ACK, a NOTIFY of a conference room, and BYE.
+/// What the server says to a callee: the ACK of the INVITE that was offered, another INVITE and its ACK, a NOTIFY of a conference room, BYE, and the ACK once more.
 fn say_to_callee(
     alloc: Global,
     out: &mut Text,
     leg: &mut CalleeLeg<Standing>,
 ) -> Result<(), NoMemory> {
+    add_ack(alloc, out, leg, 69, b"5")?;
     add_invite(alloc, out, leg)?;
+    add_ack(alloc, out, leg, 0, b"7")?;
     add_notify(alloc, out, leg)?;
-    add_request(alloc, out, leg, b"BYE", b"9", &List::new())
+    add_request(alloc, out, leg, b"BYE", b"9", &List::new())?;
+    add_ack(alloc, out, leg, 255, b"10")
 }
 
 fn said_to_callee(alloc: Global, leg: &mut CalleeLeg<Standing>) -> Result<Text, NoMemory> {
@@ -436,7 +439,19 @@ fn said_to_callee(alloc: Global, leg: &mut CalleeLeg<Standing>) -> Result<Text, 
     Ok(out)
 }
 
-const SAID_TO_CALLEE: &[u8] = br##"INVITE sip:bob@127.0.0.1:5072 SIP/2.0
+const SAID_TO_CALLEE: &[u8] = br##"ACK sip:bob@127.0.0.1:5072 SIP/2.0
+Via: SIP/2.0/UDP 127.0.0.1:5060;branch=z9hG4bK0123456789abcdef-5
+Route: <sip:p1.far.example;lr>
+Route: <sip:p2.far.example;lr>
+Max-Forwards: 69
+From: "Anonymous" <sip:anonymous@anonymous.invalid>;tag=0123456789abcdef-3
+To: <sip:bob@far.example>;tag=b
+Call-ID: 0123456789abcdef-2
+CSeq: 1 ACK
+Content-Length: 0
+
+#
+INVITE sip:bob@127.0.0.1:5072 SIP/2.0
 Via: SIP/2.0/UDP 127.0.0.1:5060;branch=z9hG4bK0123456789abcdef-6
 Route: <sip:p1.far.example;lr>
 Route: <sip:p2.far.example;lr>
@@ -453,7 +468,7 @@ Content-Length: 4
 v=0
 #
 ACK sip:bob@127.0.0.1:5072 SIP/2.0
-Via: SIP/2.0/UDP 127.0.0.1:5060;branch=z9hG4bK0123456789abcdef-6
+Via: SIP/2.0/UDP 127.0.0.1:5060;branch=z9hG4bK0123456789abcdef-7
 Route: <sip:p1.far.example;lr>
 Route: <sip:p2.far.example;lr>
 Max-Forwards: 0
@@ -486,6 +501,18 @@ From: "Anonymous" <sip:anonymous@anonymous.invalid>;tag=0123456789abcdef-3
 To: <sip:bob@far.example>;tag=b
 Call-ID: 0123456789abcdef-2
 CSeq: 4 BYE
+Content-Length: 0
+
+#
+ACK sip:bob@127.0.0.1:5072 SIP/2.0
+Via: SIP/2.0/UDP 127.0.0.1:5060;branch=z9hG4bK0123456789abcdef-10
+Route: <sip:p1.far.example;lr>
+Route: <sip:p2.far.example;lr>
+Max-Forwards: 255
+From: "Anonymous" <sip:anonymous@anonymous.invalid>;tag=0123456789abcdef-3
+To: <sip:bob@far.example>;tag=b
+Call-ID: 0123456789abcdef-2
+CSeq: 2 ACK
 Content-Length: 0
 
 #
@@ -624,6 +651,54 @@ fn requests_to_caller(rt: HostRuntime) -> Result<(), Fail> {
     let Ended { meter } = leg.leave();
     let_go(meter, now);
     assert_eq!(rt; said?.bytes(), SAID_TO_CALLER);
+    Ok(())
+}
+
+/// Adds CSeq of an ACK, and a `|`.
+fn add_number_of_ack<P>(
+    alloc: Global,
+    out: &mut Text,
+    leg: &LegOf<P, Standing>,
+) -> Result<(), NoMemory> {
+    let ack = leg.ack(alloc, SIP, 70, &Text::new(), &List::new(), b"")?;
+    out.push(alloc, ack.first(b"CSeq").unwrap_or(b""))?;
+    out.push(alloc, b"|")
+}
+
+/// CSeq of an ACK before anything was asked, behind a BYE, and behind an INVITE.
+fn numbers_of_acks<P>(alloc: Global, leg: &mut LegOf<P, Standing>) -> Result<Text, NoMemory> {
+    let branch = Text::new();
+    let none = List::new();
+    let mut out = Text::new();
+    add_number_of_ack(alloc, &mut out, leg)?;
+    leg.request(alloc, b"BYE", SIP, 70, &branch, &none, b"")?;
+    add_number_of_ack(alloc, &mut out, leg)?;
+    leg.request(alloc, b"INVITE", SIP, 70, &branch, &none, b"")?;
+    add_number_of_ack(alloc, &mut out, leg)?;
+    Ok(out)
+}
+
+/// RFC 3261 §13.2.2.4: the number of an ACK is that of the server's INVITE. To a caller who was sent none, it is 0.
+#[test]
+fn acks_to_caller(rt: HostRuntime) -> Result<(), Fail> {
+    let now = moment(0)?;
+    let mut leg = caller_of_came(rt.alloc(), now)?;
+    let numbers = numbers_of_acks(rt.alloc(), &mut leg);
+    let Ended { meter } = leg.leave();
+    let_go(meter, now);
+    assert_eq!(rt; numbers?.bytes(), b"0 ACK|0 ACK|2 ACK|".as_slice());
+    Ok(())
+}
+
+/// The same of a callee, who was sent an INVITE with number 1.
+#[test]
+fn acks_to_callee(rt: HostRuntime) -> Result<(), Fail> {
+    let now = moment(0)?;
+    let mut leg = callee(rt.alloc(), now)?;
+    let numbers = numbers_of_acks(rt.alloc(), &mut leg);
+    let Ended { meter } = leg.leave();
+    let_go(meter, now);
+    assert_eq!(rt; numbers?.bytes(), b"1 ACK|1 ACK|3 ACK|".as_slice());
     Ok(())
 }
 

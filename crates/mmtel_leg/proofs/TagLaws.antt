@@ -1,0 +1,223 @@
+-- A tag that is put behind a From or To value is the one that is read of it (RFC 3261 §19.3), and the names of a dialog stay.
+use Rattle.std.proofs.Common.{◌∙◌, ◌≡◌, ◌⊎◌, inl, inr, ◌||◌, Bool, true, false, not, ℕ, List, [], ◌∷◌, ◌++◌, Option, Some, None, Result, Ok, Err, IfSome, ◌<◌, append-nil, append_assoc, ap, arith, codes, cond, length, refl, sym, subst}
+use Rattle.std.proofs.lemmas.List.{length-append}
+use Rattle.std.specs.List.{list_any}
+use Rattle.std.specs.Str.{str_eq_ignore_ascii_case}
+use Rattle.mmtel_scan.specs.Chain.{◌>>=◌}
+use Rattle.mmtel_scan.specs.Classes.{Stops, in_class}
+use Rattle.mmtel_scan.specs.declared.classes.Class.TheVariants.{Blank}
+use Rattle.mmtel_lex.specs.Grammar.{AreParams, IsAngled, IsBare, IsNameAddr, IsToken, IsValue, param_text, params_text}
+use Rattle.mmtel_lex.specs.Reading.{name_addr_of}
+use Rattle.mmtel_lex.specs.declared.values.NameAddr.{NameAddr}
+use Rattle.mmtel_lex.specs.declared.values.Param.{Param}
+use Rattle.mmtel_lex.proofs.NameAddrLaws.{name_addr_again, name_addr_takes}
+use Rattle.mmtel_charging.specs.Meters.{Noted}
+use Rattle.mmtel_types.specs.declared.numbers.Peer.{Peer}
+use Rattle.mmtel_types.specs.declared.sides.Side.{Side}
+use Rattle.mmtel_types.specs.declared.sides.Side.TheVariants.{Callee}
+use Rattle.mmtel_message.specs.Fields.{param_value}
+use Rattle.mmtel_message.specs.Message.{Message, first_value}
+use Rattle.mmtel_message.specs.declared.messages.Start.{Start}
+use Rattle.mmtel_trust.specs.Digest.{tag_of}
+use Rattle.mmtel_trust.specs.Privacy.{Line}
+use Rattle.mmtel_leg.specs.Deeds.{Deed, after, after_answer, after_deed}
+use Rattle.mmtel_leg.specs.Deeds.Deed.{Meets, Asks, Hears, Swaps}
+use Rattle.mmtel_leg.specs.Dialogues.{after_hearing, after_request, hears, met, started, tagged, taken}
+use Rattle.mmtel_leg.specs.Legs.{Leg}
+use Rattle.mmtel_leg.specs.Remotes.{field, is_tag, is_untagged, or_nothing, tag_in}
+use Rattle.mmtel_leg.specs.Requests.{Given, numbered, to_text}
+use Rattle.mmtel_leg.specs.declared.dialogues.Dialogue.{Dialogue}
+use Rattle.mmtel_leg.specs.declared.dialogues.DialogueFault.{DialogueFault}
+use Rattle.mmtel_leg.specs.declared.remotes.Remote.{Remote}
+use Rattle.mmtel_leg.proofs.LineLaws as lines
+
+-- ---- a value with one more parameter
+
+abbrev tag_param : List ℕ → Param
+tag_param tag = record { name = codes "tag"; value = Some tag }
+
+abbrev more : NameAddr → List ℕ → NameAddr
+more n tag = record n { params = n.params ++ tag_param tag ∷ [] }
+
+tag_token : IsToken (codes "tag")
+unfolding in_class
+tag_token = record { filled = omega arith; each = refl }
+
+are_more : (ps : List Param) (tag : List ℕ) → AreParams ps → IsValue tag → AreParams (ps ++ tag_param tag ∷ [])
+are_more [] tag are is = (record { name = tag_token; value = is }, tt)
+are_more (p ∷ ps) tag are is = (are.0, are_more ps tag are.1 is)
+
+more_text : (ps : List Param) (tag : List ℕ) → params_text (ps ++ tag_param tag ∷ []) ≡ params_text ps ++ (codes ";tag=" ++ tag)
+more_text [] tag = append-nil (codes ";tag=" ++ tag)
+more_text (p ∷ ps) tag = ap (λ (l : List ℕ). param_text p ++ l) (more_text ps tag) ∙ sym (append_assoc (param_text p) (params_text ps) (codes ";tag=" ++ tag))
+
+stops_more : (s tag : List ℕ) → Stops Blank s → Stops Blank (tagged s tag)
+unfolding in_class
+stops_more [] tag stops = refl
+stops_more (b ∷ s) tag stops = stops
+
+bare_more : (uri : List ℕ) (ps : List Param) (tag : List ℕ) → tagged (uri ++ params_text ps) tag ≡ uri ++ params_text (ps ++ tag_param tag ∷ [])
+bare_more uri ps tag = append_assoc uri (params_text ps) (codes ";tag=" ++ tag) ∙ ap (λ (l : List ℕ). uri ++ l) (sym (more_text ps tag))
+
+angled_more : (display gap uri : List ℕ) (ps : List Param) (tag : List ℕ) → tagged (display ++ (gap ++ (60 ∷ (uri ++ 62 ∷ params_text ps)))) tag ≡ display ++ (gap ++ (60 ∷ (uri ++ 62 ∷ params_text (ps ++ tag_param tag ∷ []))))
+angled_more display gap uri ps tag =
+    let new : List ℕ = codes ";tag=" ++ tag in
+    let inner : (uri ++ 62 ∷ params_text ps) ++ new ≡ uri ++ 62 ∷ params_text (ps ++ tag_param tag ∷ []) = append_assoc uri (62 ∷ params_text ps) new ∙ ap (λ (l : List ℕ). uri ++ 62 ∷ l) (sym (more_text ps tag)) in
+    append_assoc display (gap ++ (60 ∷ (uri ++ 62 ∷ params_text ps))) new
+    ∙ ap (λ (l : List ℕ). display ++ l) (append_assoc gap (60 ∷ (uri ++ 62 ∷ params_text ps)) new ∙ ap (λ (l : List ℕ). gap ++ 60 ∷ l) inner)
+
+name_more : (s : List ℕ) (n : NameAddr) (tag : List ℕ) → IsNameAddr s n → IsValue tag → IsNameAddr (tagged s tag) (more n tag)
+name_more s n tag (inl is) value = inl (record {
+  gap = is.gap;
+  whole = ap (λ (l : List ℕ). tagged l tag) is.whole ∙ angled_more n.display is.gap n.uri n.params tag;
+  starts = stops_more s tag is.starts;
+  display_in = is.display_in;
+  gap_in = is.gap_in;
+  uri_in = is.uri_in;
+  params_in = are_more n.params tag is.params_in value;
+})
+name_more s n tag (inr is) value = inr (record {
+  whole = ap (λ (l : List ℕ). tagged l tag) is.whole ∙ bare_more n.uri n.params tag;
+  no_display = is.no_display;
+  uri_in = is.uri_in;
+  params_in = are_more n.params tag is.params_in value;
+})
+
+neither : (a b : Bool) → not (a || b) ≡ true → (a ≡ false) × (not b ≡ true)
+neither true b e = absurd cc
+neither false b e = (refl, e)
+
+found_behind : (ps : List Param) (tag : List ℕ) → not (list_any is_tag ps) ≡ true → param_value (codes "tag") (ps ++ tag_param tag ∷ []) ≡ Some tag
+found_behind [] tag none = refl
+found_behind (p ∷ ps) tag none =
+    let both = neither (is_tag p) (list_any is_tag ps) none in
+    rw (both.0, found_behind ps tag both.1) refl
+
+tag_by : (s : List ℕ) (o : Option NameAddr) (tag : List ℕ) → name_addr_of s ≡ o → is_untagged o ≡ true → IsValue tag → tag_of (Some (tagged s tag)) ≡ Some tag
+tag_by s None tag e untagged value = absurd cc
+tag_by s (Some n) tag e untagged value =
+    let is : IsNameAddr (tagged s tag) (more n tag) = name_more s n tag (name_addr_takes s n e) value in
+    ap (λ (o : Option NameAddr). o >>= λ m. param_value (codes "tag") m.params) (name_addr_again (tagged s tag) (more n tag) is) ∙ found_behind n.params tag untagged
+
+tag_again : (s tag : List ℕ) → is_untagged (name_addr_of s) ≡ true → IsValue tag → tag_of (Some (tagged s tag)) ≡ Some tag
+tag_again s tag untagged value = tag_by s (name_addr_of s) tag refl untagged value
+
+-- ---- tags that are read
+
+value_step : (b : Bool) (value rest o : Option (List ℕ)) → IfSome value IsValue → IfSome rest IsValue → cond b value rest ≡ o → IfSome o IsValue
+value_step true value rest o here behind e = subst (λ (x : Option (List ℕ)). IfSome x IsValue) e here
+value_step false value rest o here behind e = subst (λ (x : Option (List ℕ)). IfSome x IsValue) e behind
+
+value_in : (ps : List Param) → AreParams ps → IfSome (param_value (codes "tag") ps) IsValue
+value_in [] are = tt
+value_in (p ∷ ps) are = value_step (is_tag p) p.value (param_value (codes "tag") ps) (param_value (codes "tag") (p ∷ ps)) are.0.value (value_in ps are.1) refl
+
+params_in : (s : List ℕ) (n : NameAddr) → IsNameAddr s n → AreParams n.params
+params_in s n (inl is) = is.params_in
+params_in s n (inr is) = is.params_in
+
+value_of : (o : Option (List ℕ)) → IfSome o IsValue → (or_nothing o ≡ []) ⊎ IsValue (or_nothing o)
+value_of None is = inl refl
+value_of (Some tag) is = inr is
+
+named_by : (s : List ℕ) (o : Option NameAddr) → name_addr_of s ≡ o → IfSome (o >>= λ n. param_value (codes "tag") n.params) IsValue
+named_by s None e = tt
+named_by s (Some n) e = value_in n.params (params_in s n (name_addr_takes s n e))
+
+tag_is : (o : Option (List ℕ)) → IfSome (tag_of o) IsValue
+tag_is None = tt
+tag_is (Some s) = named_by s (name_addr_of s) refl
+
+pub values : (name : List ℕ) (m : Message Start) → (tag_in name m.lines ≡ []) ⊎ IsValue (tag_in name m.lines)
+unfolding tag_in
+values name m = value_of (tag_of (first_value name m.lines)) (tag_is (first_value name m.lines))
+
+-- ---- what stays of a dialog
+
+heard_keeps : {A : Type 0} (f : Dialogue → A) → ((d : Dialogue) (m : Message Start) → f (after_hearing d m) ≡ f d) → (answer : Result (Unit {0}) DialogueFault) (d : Dialogue) (m : Message Start) → f (after_answer answer d m) ≡ f d
+heard_keeps f hearing (Ok done) d m = hearing d m
+heard_keeps f hearing (Err fault) d m = refl
+
+stays : {A : Type 0} (f : Dialogue → A) → ((d : Dialogue) (r : Remote) → f (met d r) ≡ f d) → ((d : Dialogue) (method : List ℕ) → f (after_request d method) ≡ f d) → ((d : Dialogue) (m : Message Start) → f (after_hearing d m) ≡ f d) → (leg : Leg) (deeds : List Deed) → f (after leg deeds).dialogue ≡ f leg.dialogue
+stays f meets asks hearing leg [] = refl
+stays f meets asks hearing leg (Meets remote ∷ deeds) = stays f meets asks hearing (after_deed leg (Meets remote)) deeds ∙ meets leg.dialogue remote
+stays f meets asks hearing leg (Asks method given ∷ deeds) = stays f meets asks hearing (after_deed leg (Asks method given)) deeds ∙ asks leg.dialogue method
+stays f meets asks hearing leg (Hears request busy ∷ deeds) =
+    stays f meets asks hearing (after_deed leg (Hears request busy)) deeds ∙ heard_keeps f hearing (hears leg.dialogue request busy) leg.dialogue request
+stays f meets asks hearing leg (Swaps meter ∷ deeds) = stays f meets asks hearing (after_deed leg (Swaps meter)) deeds
+
+local_stays : (leg : Leg) (deeds : List Deed) → (after leg deeds).dialogue.local ≡ leg.dialogue.local
+local_stays leg deeds = stays (λ (d : Dialogue). d.local) (λ d r. refl) (λ d method. refl) (λ d m. refl) leg deeds
+
+remote_stays : (leg : Leg) (deeds : List Deed) → (after leg deeds).dialogue.remote ≡ leg.dialogue.remote
+remote_stays leg deeds = stays (λ (d : Dialogue). d.remote) (λ d r. refl) (λ d method. refl) (λ d m. refl) leg deeds
+
+side_stays : (leg : Leg) (deeds : List Deed) → (after leg deeds).dialogue.side ≡ leg.dialogue.side
+side_stays leg deeds = stays (λ (d : Dialogue). d.side) (λ d r. refl) (λ d method. refl) (λ d m. refl) leg deeds
+
+-- ---- the tags in what is built
+
+-- nothing is no name-addr, so a field that is absent has no tag
+no_name : (n : NameAddr) → IsNameAddr [] n → ⊥
+no_name n (inl is) = absurd (omega (arith, ap (λ (l : List ℕ). length l) is.whole, length-append n.display (is.gap ++ (60 ∷ (n.uri ++ 62 ∷ params_text n.params))), length-append is.gap (60 ∷ (n.uri ++ 62 ∷ params_text n.params))))
+no_name n (inr is) = absurd (omega (arith, is.uri_in.filled, ap (λ (l : List ℕ). length l) is.whole, length-append n.uri (params_text n.params)))
+
+unnamed : (o : Option NameAddr) → name_addr_of [] ≡ o → or_nothing (o >>= λ n. param_value (codes "tag") n.params) ≡ []
+unnamed None e = refl
+unnamed (Some n) e = absurd (no_name n (name_addr_takes [] n e))
+
+kept_tag : (o : Option (List ℕ)) → or_nothing (tag_of (Some (or_nothing o))) ≡ or_nothing (tag_of o)
+kept_tag (Some value) = refl
+kept_tag None = unnamed (name_addr_of []) refl
+
+-- what is read of the line of this name, where that is known
+reads : (name : List ℕ) (ls : List Line) (value : List ℕ) → first_value name ls ≡ Some value → tag_in name ls ≡ or_nothing (tag_of (Some value))
+unfolding tag_in
+reads name ls value e = ap (λ (o : Option (List ℕ)). or_nothing (tag_of o)) e
+
+kept_field : (name : List ℕ) (ls : List Line) → or_nothing (tag_of (Some (field name ls))) ≡ tag_in name ls
+unfolding tag_in field
+kept_field name ls = kept_tag (first_value name ls)
+
+from_reads : (d : Dialogue) (number : ℕ) (method : List ℕ) (given : Given) (value : List ℕ) → d.local ≡ value → tag_in (codes "From") (numbered d number method given).lines ≡ or_nothing (tag_of (Some value))
+from_reads d number method given value e = reads (codes "From") (numbered d number method given).lines value (lines.from d number method given ∙ ap (λ (l : List ℕ). Some l) e)
+
+to_reads : (d : Dialogue) (number : ℕ) (method : List ℕ) (given : Given) (value : List ℕ) → to_text d.side d.remote d.remote_tag ≡ value → tag_in (codes "To") (numbered d number method given).lines ≡ or_nothing (tag_of (Some value))
+to_reads d number method given value e = reads (codes "To") (numbered d number method given).lines value (lines.to d number method given ∙ ap (λ (l : List ℕ). Some l) e)
+
+pub caller_from : (peer : Peer) (invite : Message Start) (tag : List ℕ) (meter : Option Noted) (deeds : List Deed) (number : ℕ) (method : List ℕ) (given : Given) → is_untagged (name_addr_of (field (codes "To") invite.lines)) ≡ true → IsValue tag → tag_in (codes "From") (numbered (after (record { dialogue = taken peer invite.lines tag; meter = meter }) deeds).dialogue number method given).lines ≡ tag
+caller_from peer invite tag meter deeds number method given untagged value =
+    let leg : Leg = record { dialogue = taken peer invite.lines tag; meter = meter } in
+    from_reads (after leg deeds).dialogue number method given (tagged (field (codes "To") invite.lines) tag) (local_stays leg deeds)
+    ∙ ap (λ (o : Option (List ℕ)). or_nothing o) (tag_again (field (codes "To") invite.lines) tag untagged value)
+
+pub caller_to : (peer : Peer) (invite : Message Start) (tag : List ℕ) (meter : Option Noted) (deeds : List Deed) (number : ℕ) (method : List ℕ) (given : Given) → tag_in (codes "To") (numbered (after (record { dialogue = taken peer invite.lines tag; meter = meter }) deeds).dialogue number method given).lines ≡ tag_in (codes "From") invite.lines
+caller_to peer invite tag meter deeds number method given =
+    let leg : Leg = record { dialogue = taken peer invite.lines tag; meter = meter } in
+    let d : Dialogue = (after leg deeds).dialogue in
+    let to : to_text d.side d.remote d.remote_tag ≡ field (codes "From") invite.lines = ap (λ (side : Side). to_text side d.remote d.remote_tag) (side_stays leg deeds) ∙ remote_stays leg deeds in
+    to_reads d number method given (field (codes "From") invite.lines) to ∙ kept_field (codes "From") invite.lines
+
+pub callee_from : (peer : Peer) (invite : Message Start) (meter : Option Noted) (deeds : List Deed) (number : ℕ) (method : List ℕ) (given : Given) → tag_in (codes "From") (numbered (after (record { dialogue = started peer invite; meter = meter }) deeds).dialogue number method given).lines ≡ tag_in (codes "From") invite.lines
+callee_from peer invite meter deeds number method given =
+    let leg : Leg = record { dialogue = started peer invite; meter = meter } in
+    from_reads (after leg deeds).dialogue number method given (field (codes "From") invite.lines) (local_stays leg deeds) ∙ kept_field (codes "From") invite.lines
+
+-- behind a callee's To comes its tag, which is not empty
+filled_value : (tag : List ℕ) → IsValue tag → 0 < length tag
+filled_value tag (inl is) = is.filled
+filled_value tag (inr is) = omega (arith, ap (λ (l : List ℕ). length l) is.whole)
+
+callee_text : (value tag : List ℕ) → 0 < length tag → to_text Callee value tag ≡ tagged value tag
+callee_text value [] filled = absurd (omega arith)
+callee_text value (b ∷ tag) filled = refl
+
+pub callee_to : (peer : Peer) (invite : Message Start) (meter : Option Noted) (deeds : List Deed) (number : ℕ) (method : List ℕ) (given : Given) → is_untagged (name_addr_of (field (codes "To") invite.lines)) ≡ true → IsValue (after (record { dialogue = started peer invite; meter = meter }) deeds).dialogue.remote_tag → tag_in (codes "To") (numbered (after (record { dialogue = started peer invite; meter = meter }) deeds).dialogue number method given).lines ≡ (after (record { dialogue = started peer invite; meter = meter }) deeds).dialogue.remote_tag
+callee_to peer invite meter deeds number method given untagged value =
+    let leg : Leg = record { dialogue = started peer invite; meter = meter } in
+    let d : Dialogue = (after leg deeds).dialogue in
+    let to : to_text d.side d.remote d.remote_tag ≡ tagged (field (codes "To") invite.lines) d.remote_tag =
+    ap (λ (side : Side). to_text side d.remote d.remote_tag) (side_stays leg deeds)
+    ∙ (ap (λ (l : List ℕ). to_text Callee l d.remote_tag) (remote_stays leg deeds) ∙ callee_text (field (codes "To") invite.lines) d.remote_tag (filled_value d.remote_tag value)) in
+    to_reads d number method given (tagged (field (codes "To") invite.lines) d.remote_tag) to
+    ∙ ap (λ (o : Option (List ℕ)). or_nothing o) (tag_again (field (codes "To") invite.lines) d.remote_tag untagged value)

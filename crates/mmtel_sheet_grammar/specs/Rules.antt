@@ -134,8 +134,12 @@ action_of service.Outgoing path target notices allow = allow_read path allow
 abbrev pub rule_from : RuleDraft → Action → Rule
 rule_from r a = record { condition = condition_of r; action = a }
 
+-- keys of the table of these members, one after another, behind those that were read before
+abbrev pub keys_from : Service → Members → List ℕ → RuleDraft → Members → Read RuleDraft
+keys_from s ms path r rest = members_from path (λ at d k v. rule_key_read s ms at d k v) r rest
+
 abbrev pub keys_of_rule : Service → List ℕ → Members → Read RuleDraft
-keys_of_rule s path ms = members_from path (λ at r k d. rule_key_read s ms at r k d) no_keys ms
+keys_of_rule s path ms = keys_from s ms path no_keys ms
 
 -- the rule of a table: the faults of its keys, then a required key that is absent
 abbrev pub rule_of : Service → List ℕ → Members → Read Rule

@@ -1,3 +1,14 @@
 pub mod ActionLaws
+pub mod Ascii
 pub mod Documents
+pub mod Granted
+pub mod KeyNames
 pub mod Members
+pub mod Order
+pub mod ReadElements
+pub mod ReadKeys
+pub mod ReadMoments
+pub mod ReadRules
+pub mod ReadTables
+pub mod Sounds
+pub mod UriTexts

@@ -3,6 +3,7 @@ ghost use Rattle.std.specs.Prelude.{◌≡◌, ◌≤◌, [], Ok, IfOk};
 ghost use Rattle.toml.specs.View.{view, array_view};
 ghost use Rattle.mmtel_sheet_grammar.specs.Answers.{Answers, then_do};
 ghost use Rattle.mmtel_sheet_grammar.specs.Elements.{truth_at, number_at, text_at, uri_at, is_international, is_target, target_at, is_domain, domain_at, is_token_text, token_at, time_at, items_from, uris_at, tokens_at};
+ghost use Rattle.mmtel_sheet_grammar.specs.Sound.{IsSound, IsSoundArray};
 
 use crate::faults::wrong;
 use crate::moments::read_time;
@@ -15,7 +16,8 @@ use toml::value::Array;
 
 /// A truth value.
 pub fn truth(alloc: Global, at: &[u8], value: &Value) -> Result<bool, SheetFault>
-    ensures { Answers (truth_at at.now (view value.now)) result }
+    ensures exact { Answers (truth_at at.now (view value.now)) result }
+    ensures sound { IfOk result (λ _. IsSound (view value.now)) }
 {
     match value {
         Value::Boolean(truth) => Ok(*truth),
@@ -32,6 +34,7 @@ pub fn number(
     most: u16,
 ) -> Result<u16, SheetFault>
     ensures exact { Answers (number_at least most at.now (view value.now)) result }
+    ensures sound { IfOk result (λ _. IsSound (view value.now)) }
     ensures within { IfOk result (λ n. n ≤ most) }
 {
     let Value::Integer(number) = value else {
@@ -47,7 +50,8 @@ pub fn number(
 
 /// Any text.
 pub fn text(alloc: Global, at: &[u8], value: &Value) -> Result<(), SheetFault>
-    ensures { Answers (then_do (text_at at.now (view value.now)) (λ s. Ok tt)) result }
+    ensures exact { Answers (then_do (text_at at.now (view value.now)) (λ s. Ok tt)) result }
+    ensures sound { IfOk result (λ _. IsSound (view value.now)) }
 {
     match value {
         Value::String(_) => Ok(()),
@@ -57,7 +61,8 @@ pub fn text(alloc: Global, at: &[u8], value: &Value) -> Result<(), SheetFault>
 
 /// A sip or tel URI.
 pub fn uri(alloc: Global, at: &[u8], value: &Value) -> Result<Uri, SheetFault>
-    ensures { Answers (uri_at at.now (view value.now)) result }
+    ensures exact { Answers (uri_at at.now (view value.now)) result }
+    ensures sound { IfOk result (λ _. IsSound (view value.now)) }
 {
     let Value::String(text) = value else {
         return wrong(alloc, at);
@@ -92,7 +97,8 @@ fn is_target(uri: &Uri) -> bool
 
 /// A URI that calls may be diverted to, of at most 256 bytes.
 pub fn target(alloc: Global, at: &[u8], value: &Value) -> Result<Uri, SheetFault>
-    ensures { Answers (target_at at.now (view value.now)) result }
+    ensures exact { Answers (target_at at.now (view value.now)) result }
+    ensures sound { IfOk result (λ _. IsSound (view value.now)) }
 {
     let Value::String(text) = value else {
         return wrong(alloc, at);
@@ -116,7 +122,8 @@ fn is_domain(bytes: &[u8]) -> bool
 
 /// A host, or `*`.
 pub fn domain(alloc: Global, at: &[u8], value: &Value) -> Result<Text, SheetFault>
-    ensures { Answers (domain_at at.now (view value.now)) result }
+    ensures exact { Answers (domain_at at.now (view value.now)) result }
+    ensures sound { IfOk result (λ _. IsSound (view value.now)) }
 {
     let Value::String(text) = value else {
         return wrong(alloc, at);
@@ -134,7 +141,8 @@ fn is_token_text(bytes: &[u8]) -> bool
 }
 
 fn token(alloc: Global, at: &[u8], value: &Value) -> Result<Text, SheetFault>
-    ensures { Answers (token_at at.now (view value.now)) result }
+    ensures exact { Answers (token_at at.now (view value.now)) result }
+    ensures sound { IfOk result (λ _. IsSound (view value.now)) }
 {
     let Value::String(text) = value else {
         return wrong(alloc, at);
@@ -147,7 +155,8 @@ fn token(alloc: Global, at: &[u8], value: &Value) -> Result<Text, SheetFault>
 
 /// A time, in milliseconds since 1970-01-01T00:00:00Z.
 pub fn time(alloc: Global, at: &[u8], value: &Value) -> Result<i128, SheetFault>
-    ensures { Answers (time_at at.now (view value.now)) result }
+    ensures exact { Answers (time_at at.now (view value.now)) result }
+    ensures sound { IfOk result (λ _. IsSound (view value.now)) }
 {
     let Value::String(text) = value else {
         return wrong(alloc, at);
@@ -158,8 +167,10 @@ pub fn time(alloc: Global, at: &[u8], value: &Value) -> Result<i128, SheetFault>
     }
 }
 
+#[tactic(auto, using(crate::proofs::Sounds::item_step, crate::proofs::Sounds::items_end))]
 fn each_uri(alloc: Global, at: &[u8], items: &Array) -> Result<List<Uri>, SheetFault>
-    ensures { Answers (items_from (uri_at at.now) [] (array_view items.now)) result }
+    ensures exact { Answers (items_from (uri_at at.now) [] (array_view items.now)) result }
+    ensures sound { IfOk result (λ _. IsSoundArray (array_view items.now)) }
 {
     let mut uris = List::new();
     'items: for item in items {
@@ -170,7 +181,8 @@ fn each_uri(alloc: Global, at: &[u8], items: &Array) -> Result<List<Uri>, SheetF
 
 /// An array of URIs.
 pub fn uris(alloc: Global, at: &[u8], value: &Value) -> Result<List<Uri>, SheetFault>
-    ensures { Answers (uris_at at.now (view value.now)) result }
+    ensures exact { Answers (uris_at at.now (view value.now)) result }
+    ensures sound { IfOk result (λ _. IsSound (view value.now)) }
 {
     match value {
         Value::Array(items) => each_uri(alloc, at, items),
@@ -178,8 +190,10 @@ pub fn uris(alloc: Global, at: &[u8], value: &Value) -> Result<List<Uri>, SheetF
     }
 }
 
+#[tactic(auto, using(crate::proofs::Sounds::item_step, crate::proofs::Sounds::items_end))]
 fn each_token(alloc: Global, at: &[u8], items: &Array) -> Result<List<Text>, SheetFault>
-    ensures { Answers (items_from (token_at at.now) [] (array_view items.now)) result }
+    ensures exact { Answers (items_from (token_at at.now) [] (array_view items.now)) result }
+    ensures sound { IfOk result (λ _. IsSoundArray (array_view items.now)) }
 {
     let mut tokens = List::new();
     'items: for item in items {
@@ -190,7 +204,8 @@ fn each_token(alloc: Global, at: &[u8], items: &Array) -> Result<List<Text>, She
 
 /// An array of tokens.
 pub fn tokens(alloc: Global, at: &[u8], value: &Value) -> Result<List<Text>, SheetFault>
-    ensures { Answers (tokens_at at.now (view value.now)) result }
+    ensures exact { Answers (tokens_at at.now (view value.now)) result }
+    ensures sound { IfOk result (λ _. IsSound (view value.now)) }
 {
     match value {
         Value::Array(items) => each_token(alloc, at, items),

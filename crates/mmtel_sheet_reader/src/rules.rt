@@ -1,9 +1,10 @@
 //! The rules of a service.
-ghost use Rattle.std.specs.Prelude.{◌≡◌, [], codes, nat_lt, ◌&&◌, not};
+ghost use Rattle.std.specs.Prelude.{◌≡◌, [], codes, nat_lt, ◌&&◌, not, Ok, IfOk};
 ghost use Rattle.toml.specs.View.{view, table_view, array_view};
-ghost use Rattle.mmtel_sheet_grammar.specs.Answers.{Answers};
+ghost use Rattle.mmtel_sheet_grammar.specs.Answers.{Answers, then_do};
 ghost use Rattle.mmtel_sheet_grammar.specs.Keys.{rule_key_of};
 ghost use Rattle.mmtel_sheet_grammar.specs.Rules.{has_key, no_keys, with_notice, event_read, except_read, one_read, from_read, until_read, key_read, listed, rule_key_read, who_of, condition_of, forward_read, allow_read, action_of, keys_of_rule, rule_of, are_tables, items_count, rules_from, rules_of, rules_at};
+ghost use Rattle.mmtel_sheet_grammar.specs.Sound.{IsSound, IsSoundArray, IsSoundTable};
 
 use crate::elements::{domain, target, text, time, tokens, truth, uris};
 use crate::faults::{many, unknown, wrong};
@@ -63,24 +64,25 @@ fn with_notice(notice: Notice, told: bool, notices: Notices) -> Notices
     }
 }
 
-fn with_event(
+/// An event key: one alone may be true.
+fn read_event(
     alloc: Global,
     at: &[u8],
+    draft: &mut RuleDraft,
     event: EventWord,
-    draft: RuleDraft,
     happened: bool,
-) -> Result<RuleDraft, SheetFault>
-    ensures { Answers (event_read at.now event draft happened) result }
+) -> Result<(), SheetFault>
+    ensures { Answers (event_read at.now event draft.old happened) (then_do result (λ _. Ok draft.new)) }
 {
     if !happened {
-        return Ok(draft);
+        return Ok(());
     }
     match draft.event {
         Some(_) => wrong(alloc, at),
-        None => Ok(RuleDraft {
-            event: Some(event),
-            ..draft
-        }),
+        None => {
+            draft.event = Some(event);
+            Ok(())
+        }
     }
 }
 
@@ -107,14 +109,15 @@ fn is_last_and_long(count: usize, table: &Table) -> bool
     !has_key(table, "one")
 }
 
-fn with_except(
+/// The identities that are not meant.
+fn read_except(
     alloc: Global,
     at: &[u8],
-    draft: RuleDraft,
+    draft: &mut RuleDraft,
     table: &Table,
     except: List<Uri>,
-) -> Result<RuleDraft, SheetFault>
-    ensures { Answers (except_read at.now draft (table_view table.now) except) result }
+) -> Result<(), SheetFault>
+    ensures { Answers (except_read at.now draft.old (table_view table.now) except) (then_do result (λ _. Ok draft.new)) }
 {
     if !has_key(table, "many") {
         return wrong(alloc, at);
@@ -122,107 +125,104 @@ fn with_except(
     if is_last_and_long(except.items().len(), table) {
         return many(alloc, at);
     }
-    Ok(RuleDraft { except, ..draft })
+    draft.except = except;
+    Ok(())
 }
 
-fn with_one(
+/// The identities that are meant.
+fn read_one(
     alloc: Global,
     at: &[u8],
-    draft: RuleDraft,
+    draft: &mut RuleDraft,
     one: List<Uri>,
-) -> Result<RuleDraft, SheetFault>
-    ensures { Answers (one_read at.now draft one) result }
+) -> Result<(), SheetFault>
+    ensures { Answers (one_read at.now draft.old one) (then_do result (λ _. Ok draft.new)) }
 {
     if is_over(one.items().len() + draft.except.items().len()) {
         return many(alloc, at);
     }
-    Ok(RuleDraft {
-        one: Some(one),
-        ..draft
-    })
+    draft.one = Some(one);
+    Ok(())
 }
 
-fn with_from(
+/// The start of the window.
+fn read_from(
     alloc: Global,
     at: &[u8],
-    draft: RuleDraft,
+    draft: &mut RuleDraft,
     table: &Table,
     from: i128,
-) -> Result<RuleDraft, SheetFault>
-    ensures { Answers (from_read at.now draft (table_view table.now) from) result }
+) -> Result<(), SheetFault>
+    ensures { Answers (from_read at.now draft.old (table_view table.now) from) (then_do result (λ _. Ok draft.new)) }
 {
     if !has_key(table, "until") {
         return wrong(alloc, at);
     }
-    Ok(RuleDraft {
-        from: Some(from),
-        ..draft
-    })
+    draft.from = Some(from);
+    Ok(())
 }
 
-fn with_until(
+/// The end of the window.
+fn read_until(
     alloc: Global,
     at: &[u8],
-    draft: RuleDraft,
+    draft: &mut RuleDraft,
     until: i128,
-) -> Result<RuleDraft, SheetFault>
-    ensures { Answers (until_read at.now draft until draft.from) result }
+) -> Result<(), SheetFault>
+    ensures { Answers (until_read at.now draft.old until draft.old.from) (then_do result (λ _. Ok draft.new)) }
 {
     match draft.from {
-        Some(from) if from < until => Ok(RuleDraft {
-            window: Some(Window { from, until }),
-            ..draft
-        }),
+        Some(from) if from < until => {
+            draft.window = Some(Window { from, until });
+            Ok(())
+        }
         _ => wrong(alloc, at),
     }
 }
 
-/// The rule so far with the value at one more key.
-fn with_key(
+/// The value at a key.
+fn read_key(
     alloc: Global,
     table: &Table,
     at: &[u8],
-    draft: RuleDraft,
+    draft: &mut RuleDraft,
     key: RuleKey,
     value: &Value,
-) -> Result<RuleDraft, SheetFault>
-    ensures { Answers (key_read (table_view table.now) at.now draft key (view value.now)) result }
+) -> Result<(), SheetFault>
+    ensures exact { Answers (key_read (table_view table.now) at.now draft.old key (view value.now)) (then_do result (λ _. Ok draft.new)) }
+    ensures sound { IfOk result (λ _. IsSound (view value.now)) }
 {
     match key {
-        RuleKey::Allow => Ok(RuleDraft {
-            allow: Some(truth(alloc, at, value)?),
-            ..draft
-        }),
-        RuleKey::Anonymous => Ok(RuleDraft {
-            anonymous: truth(alloc, at, value)?,
-            ..draft
-        }),
-        RuleKey::Event(event) => with_event(alloc, at, event, draft, truth(alloc, at, value)?),
-        RuleKey::Except => with_except(alloc, at, draft, table, uris(alloc, at, value)?),
-        RuleKey::From => with_from(alloc, at, draft, table, time(alloc, at, value)?),
-        RuleKey::Id => {
-            text(alloc, at, value)?;
-            Ok(draft)
+        RuleKey::Allow => {
+            draft.allow = Some(truth(alloc, at, value)?);
+            Ok(())
         }
-        RuleKey::Many => Ok(RuleDraft {
-            many: Some(domain(alloc, at, value)?),
-            ..draft
-        }),
-        RuleKey::Media => Ok(RuleDraft {
-            media: Some(tokens(alloc, at, value)?),
-            ..draft
-        }),
+        RuleKey::Anonymous => {
+            draft.anonymous = truth(alloc, at, value)?;
+            Ok(())
+        }
+        RuleKey::Event(event) => read_event(alloc, at, draft, event, truth(alloc, at, value)?),
+        RuleKey::Except => read_except(alloc, at, draft, table, uris(alloc, at, value)?),
+        RuleKey::From => read_from(alloc, at, draft, table, time(alloc, at, value)?),
+        RuleKey::Id => text(alloc, at, value),
+        RuleKey::Many => {
+            draft.many = Some(domain(alloc, at, value)?);
+            Ok(())
+        }
+        RuleKey::Media => {
+            draft.media = Some(tokens(alloc, at, value)?);
+            Ok(())
+        }
         RuleKey::Notice(notice) => {
-            let told = truth(alloc, at, value)?;
-            let notices = with_notice(notice, told, draft.notices);
-            Ok(RuleDraft { notices, ..draft })
+            draft.notices = with_notice(notice, truth(alloc, at, value)?, draft.notices);
+            Ok(())
         }
-        RuleKey::One => with_one(alloc, at, draft, uris(alloc, at, value)?),
-        RuleKey::Target => Ok(RuleDraft {
-            target: Some(target(alloc, at, value)?),
-            ..draft
-        }),
-        RuleKey::Until => with_until(alloc, at, draft, time(alloc, at, value)?),
+        RuleKey::One => read_one(alloc, at, draft, uris(alloc, at, value)?),
+        RuleKey::Target => {
+            draft.target = Some(target(alloc, at, value)?);
+            Ok(())
+        }
+        RuleKey::Until => read_until(alloc, at, draft, time(alloc, at, value)?),
     }
 }
 
@@ -235,41 +235,44 @@ fn listed_key(service: Service, name: &str) -> Option<RuleKey>
     }
 }
 
-/// The rule so far with one more key of the table.
-fn with_name(
+/// One more key of the table.
+fn read_name(
     alloc: Global,
     service: Service,
     table: &Table,
     at: &[u8],
-    draft: RuleDraft,
+    draft: &mut RuleDraft,
     name: &str,
     value: &Value,
-) -> Result<RuleDraft, SheetFault>
-    ensures { Answers (rule_key_read service (table_view table.now) at.now draft name.now (view value.now)) result }
+) -> Result<(), SheetFault>
+    ensures exact { Answers (rule_key_read service (table_view table.now) at.now draft.old name.now (view value.now)) (then_do result (λ _. Ok draft.new)) }
+    ensures sound { IfOk result (λ _. IsSound (view value.now)) }
 {
     match listed_key(service, name) {
-        Some(key) => with_key(alloc, table, at, draft, key, value),
+        Some(key) => read_key(alloc, table, at, draft, key, value),
         None => unknown(alloc, at),
     }
 }
 
+#[tactic(auto, using(crate::proofs::Sounds::members_begin, crate::proofs::Sounds::members_step, crate::proofs::Sounds::members_end))]
 fn keys_of_rule(
     alloc: Global,
     service: Service,
     path: &[u8],
     table: &Table,
 ) -> Result<RuleDraft, SheetFault>
-    ensures { Answers (keys_of_rule service path.now (table_view table.now)) result }
+    ensures exact { Answers (keys_of_rule service path.now (table_view table.now)) result }
+    ensures sound { IfOk result (λ _. IsSoundTable (table_view table.now)) }
 {
     let mut draft = no_keys();
     'members: for (key, value) in table.iter() {
         let at = below(alloc, path, key.as_bytes())?;
-        draft = with_name(
+        read_name(
             alloc,
             service,
             table,
             at.bytes(),
-            draft,
+            &mut draft,
             key.as_str(),
             value,
         )?;
@@ -347,7 +350,8 @@ fn action(
 }
 
 fn rule(alloc: Global, service: Service, path: &[u8], table: &Table) -> Result<Rule, SheetFault>
-    ensures { Answers (rule_of service path.now (table_view table.now)) result }
+    ensures exact { Answers (rule_of service path.now (table_view table.now)) result }
+    ensures sound { IfOk result (λ _. IsSoundTable (table_view table.now)) }
 {
     let draft = keys_of_rule(alloc, service, path, table)?;
     let action = action(
@@ -379,13 +383,15 @@ fn are_tables(items: &Array) -> bool
     true
 }
 
+#[tactic(auto, using(crate::proofs::Sounds::item_step, crate::proofs::Sounds::items_end))]
 fn each_rule(
     alloc: Global,
     service: Service,
     path: &[u8],
     items: &Array,
 ) -> Result<List<Rule>, SheetFault>
-    ensures { Answers (rules_from service path.now [] (array_view items.now)) result }
+    ensures exact { Answers (rules_from service path.now [] (array_view items.now)) result }
+    ensures sound { IfOk result (λ _. IsSoundArray (array_view items.now)) }
 {
     let mut rules = List::new();
     'items: for item in items {
@@ -411,7 +417,8 @@ fn rules_of(
     path: &[u8],
     items: &Array,
 ) -> Result<List<Rule>, SheetFault>
-    ensures { Answers (rules_of service path.now (array_view items.now)) result }
+    ensures exact { Answers (rules_of service path.now (array_view items.now)) result }
+    ensures sound { IfOk result (λ _. IsSoundArray (array_view items.now)) }
 {
     if !are_tables(items) {
         return wrong(alloc, path);
@@ -429,7 +436,8 @@ pub fn rules(
     at: &[u8],
     value: &Value,
 ) -> Result<List<Rule>, SheetFault>
-    ensures { Answers (rules_at service at.now (view value.now)) result }
+    ensures exact { Answers (rules_at service at.now (view value.now)) result }
+    ensures sound { IfOk result (λ _. IsSound (view value.now)) }
 {
     match value {
         Value::Array(items) => rules_of(alloc, service, at, items),

@@ -1,7 +1,8 @@
 //! The tables of a record.
-ghost use Rattle.std.specs.Prelude.{◌≡◌, codes};
+ghost use Rattle.std.specs.Prelude.{◌≡◌, codes, Ok, IfOk};
 ghost use Rattle.toml.specs.View.{view, table_view};
-ghost use Rattle.mmtel_sheet_grammar.specs.Answers.{Answers};
+ghost use Rattle.mmtel_sheet_grammar.specs.Answers.{Answers, then_do};
+ghost use Rattle.mmtel_sheet_grammar.specs.Sound.{IsSound, IsSoundTable};
 ghost use Rattle.mmtel_sheet_grammar.specs.Walk.{diversion_key, diversion_part, diversion_of, is_rejection, bar_key, bar_part, bar_of, presentation_key, presentation_of, choice, choice_at, restriction_key, restriction_of, waiting_key, waiting_part, waiting_of, table_key_of, table_read, named_read, sheet_of};
 
 use crate::elements::{number, truth};
@@ -34,32 +35,33 @@ fn table_key(name: &str) -> Option<TableKey>
     }
 }
 
-fn with_diversion_key(
+fn read_diversion_key(
     alloc: Global,
     at: &[u8],
-    draft: DiversionDraft,
+    draft: &mut DiversionDraft,
     name: &str,
     value: &Value,
-) -> Result<DiversionDraft, SheetFault>
-    ensures { Answers (diversion_key at.now draft name.now (view value.now)) result }
+) -> Result<(), SheetFault>
+    ensures exact { Answers (diversion_key at.now draft.old name.now (view value.now)) (then_do result (λ _. Ok draft.new)) }
+    ensures sound { IfOk result (λ _. IsSound (view value.now)) }
 {
     match name {
-        "active" => Ok(DiversionDraft {
-            active: truth(alloc, at, value)?,
-            ..draft
-        }),
-        "deflection" => Ok(DiversionDraft {
-            deflection: truth(alloc, at, value)?,
-            ..draft
-        }),
-        "no-reply-time" => Ok(DiversionDraft {
-            no_reply: number(alloc, at, value, 5, 180)?,
-            ..draft
-        }),
-        "rule" => Ok(DiversionDraft {
-            rules: rules(alloc, Service::Diversion, at, value)?,
-            ..draft
-        }),
+        "active" => {
+            draft.active = truth(alloc, at, value)?;
+            Ok(())
+        }
+        "deflection" => {
+            draft.deflection = truth(alloc, at, value)?;
+            Ok(())
+        }
+        "no-reply-time" => {
+            draft.no_reply = number(alloc, at, value, 5, 180)?;
+            Ok(())
+        }
+        "rule" => {
+            draft.rules = rules(alloc, Service::Diversion, at, value)?;
+            Ok(())
+        }
         _ => unknown(alloc, at),
     }
 }
@@ -78,8 +80,10 @@ fn diversion_part(draft: DiversionDraft) -> Option<DiversionPart>
     }
 }
 
+#[tactic(auto, using(crate::proofs::Sounds::members_begin, crate::proofs::Sounds::members_step, crate::proofs::Sounds::members_end))]
 fn diversion(alloc: Global, path: &[u8], table: &Table) -> Result<Option<DiversionPart>, SheetFault>
-    ensures { Answers (diversion_of path.now (table_view table.now)) result }
+    ensures exact { Answers (diversion_of path.now (table_view table.now)) result }
+    ensures sound { IfOk result (λ _. IsSoundTable (table_view table.now)) }
 {
     let mut draft = DiversionDraft {
         active: true,
@@ -89,7 +93,7 @@ fn diversion(alloc: Global, path: &[u8], table: &Table) -> Result<Option<Diversi
     };
     'members: for (key, value) in table.iter() {
         let at = below(alloc, path, key.as_bytes())?;
-        draft = with_diversion_key(alloc, at.bytes(), draft, key.as_str(), value)?;
+        read_diversion_key(alloc, at.bytes(), &mut draft, key.as_str(), value)?;
     }
     Ok(diversion_part(draft))
 }
@@ -103,31 +107,26 @@ fn is_rejection(service: Service, name: &str) -> bool
     }
 }
 
-fn with_bar_key(
+fn read_bar_key(
     alloc: Global,
     service: Service,
     at: &[u8],
-    draft: BarDraft,
+    draft: &mut BarDraft,
     name: &str,
     value: &Value,
-) -> Result<BarDraft, SheetFault>
-    ensures { Answers (bar_key service at.now draft name.now (view value.now)) result }
+) -> Result<(), SheetFault>
+    ensures exact { Answers (bar_key service at.now draft.old name.now (view value.now)) (then_do result (λ _. Ok draft.new)) }
+    ensures sound { IfOk result (λ _. IsSound (view value.now)) }
 {
     if name == "active" {
-        Ok(BarDraft {
-            active: truth(alloc, at, value)?,
-            ..draft
-        })
+        draft.active = truth(alloc, at, value)?;
+        Ok(())
     } else if is_rejection(service, name) {
-        Ok(BarDraft {
-            reject_anonymous: truth(alloc, at, value)?,
-            ..draft
-        })
+        draft.reject_anonymous = truth(alloc, at, value)?;
+        Ok(())
     } else if name == "rule" {
-        Ok(BarDraft {
-            rules: rules(alloc, service, at, value)?,
-            ..draft
-        })
+        draft.rules = rules(alloc, service, at, value)?;
+        Ok(())
     } else {
         unknown(alloc, at)
     }
@@ -146,13 +145,15 @@ fn bar_part(draft: BarDraft) -> Option<BarPart>
     }
 }
 
+#[tactic(auto, using(crate::proofs::Sounds::members_begin, crate::proofs::Sounds::members_step, crate::proofs::Sounds::members_end))]
 fn bar(
     alloc: Global,
     service: Service,
     path: &[u8],
     table: &Table,
 ) -> Result<Option<BarPart>, SheetFault>
-    ensures { Answers (bar_of service path.now (table_view table.now)) result }
+    ensures exact { Answers (bar_of service path.now (table_view table.now)) result }
+    ensures sound { IfOk result (λ _. IsSoundTable (table_view table.now)) }
 {
     let mut draft = BarDraft {
         active: true,
@@ -161,7 +162,7 @@ fn bar(
     };
     'members: for (key, value) in table.iter() {
         let at = below(alloc, path, key.as_bytes())?;
-        draft = with_bar_key(alloc, service, at.bytes(), draft, key.as_str(), value)?;
+        read_bar_key(alloc, service, at.bytes(), &mut draft, key.as_str(), value)?;
     }
     Ok(bar_part(draft))
 }
@@ -173,7 +174,8 @@ fn with_presentation_key(
     name: &str,
     value: &Value,
 ) -> Result<bool, SheetFault>
-    ensures { Answers (presentation_key at.now active name.now (view value.now)) result }
+    ensures exact { Answers (presentation_key at.now active name.now (view value.now)) result }
+    ensures sound { IfOk result (λ _. IsSound (view value.now)) }
 {
     if name == "active" {
         truth(alloc, at, value)
@@ -182,8 +184,10 @@ fn with_presentation_key(
     }
 }
 
+#[tactic(auto, using(crate::proofs::Sounds::members_begin, crate::proofs::Sounds::members_step, crate::proofs::Sounds::members_end))]
 fn presentation(alloc: Global, path: &[u8], table: &Table) -> Result<bool, SheetFault>
-    ensures { Answers (presentation_of path.now (table_view table.now)) result }
+    ensures exact { Answers (presentation_of path.now (table_view table.now)) result }
+    ensures sound { IfOk result (λ _. IsSoundTable (table_view table.now)) }
 {
     let mut active = true;
     'members: for (key, value) in table.iter() {
@@ -213,7 +217,8 @@ fn chosen(
     first: &str,
     second: &str,
 ) -> Result<bool, SheetFault>
-    ensures { Answers (choice_at first.now second.now at.now (view value.now)) result }
+    ensures exact { Answers (choice_at first.now second.now at.now (view value.now)) result }
+    ensures sound { IfOk result (λ _. IsSound (view value.now)) }
 {
     let Value::String(text) = value else {
         return wrong(alloc, at);
@@ -231,7 +236,8 @@ fn with_restriction_key(
     name: &str,
     value: &Value,
 ) -> Result<Restriction, SheetFault>
-    ensures { Answers (restriction_key at.now draft name.now (view value.now)) result }
+    ensures exact { Answers (restriction_key at.now draft name.now (view value.now)) result }
+    ensures sound { IfOk result (λ _. IsSound (view value.now)) }
 {
     match name {
         "active" => Ok(Restriction {
@@ -255,8 +261,10 @@ fn with_restriction_key(
     }
 }
 
+#[tactic(auto, using(crate::proofs::Sounds::members_begin, crate::proofs::Sounds::members_step, crate::proofs::Sounds::members_end))]
 fn restriction(alloc: Global, path: &[u8], table: &Table) -> Result<Restriction, SheetFault>
-    ensures { Answers (restriction_of path.now (table_view table.now)) result }
+    ensures exact { Answers (restriction_of path.now (table_view table.now)) result }
+    ensures sound { IfOk result (λ _. IsSoundTable (table_view table.now)) }
 {
     let mut draft = Restriction {
         active: true,
@@ -277,7 +285,8 @@ fn with_waiting_key(
     name: &str,
     value: &Value,
 ) -> Result<WaitingDraft, SheetFault>
-    ensures { Answers (waiting_key at.now draft name.now (view value.now)) result }
+    ensures exact { Answers (waiting_key at.now draft name.now (view value.now)) result }
+    ensures sound { IfOk result (λ _. IsSound (view value.now)) }
 {
     match name {
         "active" => Ok(WaitingDraft {
@@ -302,8 +311,10 @@ fn waiting_part(draft: WaitingDraft) -> Option<u8>
     }
 }
 
+#[tactic(auto, using(crate::proofs::Sounds::members_begin, crate::proofs::Sounds::members_step, crate::proofs::Sounds::members_end))]
 fn waiting(alloc: Global, path: &[u8], table: &Table) -> Result<Option<u8>, SheetFault>
-    ensures { Answers (waiting_of path.now (table_view table.now)) result }
+    ensures exact { Answers (waiting_of path.now (table_view table.now)) result }
+    ensures sound { IfOk result (λ _. IsSoundTable (table_view table.now)) }
 {
     let mut draft = WaitingDraft {
         active: true,
@@ -316,59 +327,61 @@ fn waiting(alloc: Global, path: &[u8], table: &Table) -> Result<Option<u8>, Shee
     Ok(waiting_part(draft))
 }
 
-/// The sheet so far with one more table.
-fn with_table(
+/// The table of a key.
+fn read_table(
     alloc: Global,
     at: &[u8],
-    sheet: Sheet,
+    sheet: &mut Sheet,
     key: TableKey,
     table: &Table,
-) -> Result<Sheet, SheetFault>
-    ensures { Answers (table_read at.now sheet key (table_view table.now)) result }
+) -> Result<(), SheetFault>
+    ensures exact { Answers (table_read at.now sheet.old key (table_view table.now)) (then_do result (λ _. Ok sheet.new)) }
+    ensures sound { IfOk result (λ _. IsSoundTable (table_view table.now)) }
 {
     match key {
-        TableKey::Diversion => Ok(Sheet {
-            diversion: diversion(alloc, at, table)?,
-            ..sheet
-        }),
-        TableKey::Incoming => Ok(Sheet {
-            incoming: bar(alloc, Service::Incoming, at, table)?,
-            ..sheet
-        }),
-        TableKey::Outgoing => Ok(Sheet {
-            outgoing: bar(alloc, Service::Outgoing, at, table)?,
-            ..sheet
-        }),
-        TableKey::Oip => Ok(Sheet {
-            oip: presentation(alloc, at, table)?,
-            ..sheet
-        }),
-        TableKey::Oir => Ok(Sheet {
-            oir: restriction(alloc, at, table)?,
-            ..sheet
-        }),
-        TableKey::Tip => Ok(Sheet {
-            tip: presentation(alloc, at, table)?,
-            ..sheet
-        }),
-        TableKey::Tir => Ok(Sheet {
-            tir: restriction(alloc, at, table)?,
-            ..sheet
-        }),
-        TableKey::Waiting => Ok(Sheet {
-            waiting: waiting(alloc, at, table)?,
-            ..sheet
-        }),
+        TableKey::Diversion => {
+            sheet.diversion = diversion(alloc, at, table)?;
+            Ok(())
+        }
+        TableKey::Incoming => {
+            sheet.incoming = bar(alloc, Service::Incoming, at, table)?;
+            Ok(())
+        }
+        TableKey::Outgoing => {
+            sheet.outgoing = bar(alloc, Service::Outgoing, at, table)?;
+            Ok(())
+        }
+        TableKey::Oip => {
+            sheet.oip = presentation(alloc, at, table)?;
+            Ok(())
+        }
+        TableKey::Oir => {
+            sheet.oir = restriction(alloc, at, table)?;
+            Ok(())
+        }
+        TableKey::Tip => {
+            sheet.tip = presentation(alloc, at, table)?;
+            Ok(())
+        }
+        TableKey::Tir => {
+            sheet.tir = restriction(alloc, at, table)?;
+            Ok(())
+        }
+        TableKey::Waiting => {
+            sheet.waiting = waiting(alloc, at, table)?;
+            Ok(())
+        }
     }
 }
 
-/// The sheet so far with one more name of the document.
-fn with_name(alloc: Global, sheet: Sheet, name: &str, value: &Value) -> Result<Sheet, SheetFault>
-    ensures { Answers (named_read name.now sheet (table_key_of name.now) (view value.now)) result }
+/// One more name of the document.
+fn read_name(alloc: Global, sheet: &mut Sheet, name: &str, value: &Value) -> Result<(), SheetFault>
+    ensures exact { Answers (named_read name.now sheet.old (table_key_of name.now) (view value.now)) (then_do result (λ _. Ok sheet.new)) }
+    ensures sound { IfOk result (λ _. IsSound (view value.now)) }
 {
     match table_key(name) {
         Some(key) => match value {
-            Value::Table(table) => with_table(alloc, name.as_bytes(), sheet, key, table),
+            Value::Table(table) => read_table(alloc, name.as_bytes(), sheet, key, table),
             _ => wrong(alloc, name.as_bytes()),
         },
         None => unknown(alloc, name.as_bytes()),
@@ -376,8 +389,10 @@ fn with_name(alloc: Global, sheet: Sheet, name: &str, value: &Value) -> Result<S
 }
 
 /// The sheet of a document.
+#[tactic(auto, using(crate::proofs::Sounds::members_begin, crate::proofs::Sounds::members_step, crate::proofs::Sounds::members_end))]
 pub fn sheet(alloc: Global, table: &Table) -> Result<Sheet, SheetFault>
-    ensures { Answers (sheet_of (table_view table.now)) result }
+    ensures exact { Answers (sheet_of (table_view table.now)) result }
+    ensures sound { IfOk result (λ _. IsSoundTable (table_view table.now)) }
 {
     let off = Restriction {
         active: false,
@@ -395,7 +410,7 @@ pub fn sheet(alloc: Global, table: &Table) -> Result<Sheet, SheetFault>
         waiting: None,
     };
     'members: for (key, value) in table.iter() {
-        sheet = with_name(alloc, sheet, key.as_str(), value)?;
+        read_name(alloc, &mut sheet, key.as_str(), value)?;
     }
     Ok(sheet)
 }

@@ -7,7 +7,7 @@ use Rattle.mmtel_lex.specs.Grammar.{uri_text}
 use Rattle.mmtel_lex.specs.declared.values.Uri.{Uri}
 use Rattle.mmtel_sheet_grammar.specs.Answers.{Read}
 use Rattle.mmtel_sheet_grammar.specs.Elements.{number_at, uri_at, target_at, is_domain, domain_at, is_token_text, token_at, time_at, items_from, uris_at, tokens_at}
-use Rattle.mmtel_sheets.specs.Printable.{IsUriOfText, IsTarget, IsMoment}
+use Rattle.mmtel_sheet_grammar.specs.Printable.{IsUriOfText, IsTarget, IsMoment}
 use Rattle.mmtel_sheets.specs.Printing.{each_item, uri_data, uris_data}
 use Rattle.mmtel_sheets.specs.Times.{moment_text}
 use Rattle.mmtel_sheets.proofs.ReadTimes.{moment_back}

@@ -1,14 +1,12 @@
 -- A key that comes before all others is put first.
 use Rattle.std.proofs.Common.{◌≡◌, ℕ, true, List, [], ◌∷◌, Option, Some, None, String, Global, Ordering, Less, Equal, Greater, string_bytes, nat_cmp, refl, ap}
-use Rattle.std.proofs.lemmas.Cmp.{nat_list_cmp_total}
 use Rattle.std.specs.BTreeMap.{insert_entry}
-use Rattle.std.specs.BTreeMap.Comparable.{le_lt_trans}
-use Rattle.std.specs.Cmp.Lexicographic.{slice_cmp}
-use Rattle.std.specs.Ordering.{is_lt, is_le, match_ordering}
+use Rattle.std.specs.Ordering.{is_lt, match_ordering}
 use Rattle.std.specs.String.{string_cmp}
 use Rattle.toml.specs.declared.value.Value.{Value}
 use Rattle.toml.specs.Data.{Data, Members, no_members, member, is_before}
 use Rattle.toml.specs.View.{view, members_view}
+use Rattle.mmtel_sheet_reader.proofs.Order.{before_members}
 use Rattle.mmtel_sheets.specs.Printing.{comes_before, with_key}
 
 first_of_order : (o : Ordering) (k : String Global) (v : Value) (e : String Global × Value) (es more : List (String Global × Value)) → is_lt o ≡ true
@@ -21,23 +19,6 @@ pub put_first : (k : String Global) (v : Value) (es : List (String Global × Val
     → members_view (insert_entry string_cmp es k v) ≡ member (string_bytes k) (view v) (members_view es)
 put_first k v [] h = refl
 put_first k v (e ∷ es) h = ap members_view (first_of_order (string_cmp k e.0) k v e es (e ∷ insert_entry string_cmp es k v) h)
-
-less_of : (o : Ordering) → is_lt o ≡ true → o ≡ Less
-less_of Less h = refl
-less_of Equal h = absurd cc
-less_of Greater h = absurd cc
-
-le_of : (o : Ordering) → is_lt o ≡ true → is_le o ≡ true
-le_of Less h = refl
-le_of Equal h = absurd cc
-le_of Greater h = absurd cc
-
-pub before_through : (k l m : List ℕ) → comes_before k l ≡ true → comes_before l m ≡ true → comes_before k m ≡ true
-before_through k l m a b = rw (le_lt_trans nat_list_cmp_total k l m (le_of (slice_cmp nat_cmp k l) a) (less_of (slice_cmp nat_cmp l m) b))
-
-pub before_members : (k l : List ℕ) (ms : Members) → comes_before k l ≡ true → is_before l ms ≡ true → is_before k ms ≡ true
-before_members k l no_members a b = refl
-before_members k l (member m d ms) a b = before_through k l m a b
 
 pub before_key : (k l : List ℕ) (o : Option Data) (ms : Members) → comes_before k l ≡ true → is_before l ms ≡ true → is_before k (with_key l o ms) ≡ true
 before_key k l None ms a b = before_members k l ms a b

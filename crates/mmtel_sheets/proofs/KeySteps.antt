@@ -9,7 +9,7 @@ use Rattle.mmtel_lex.specs.declared.values.Uri.{Uri}
 use Rattle.mmtel_sheet_grammar.specs.Answers.{Read}
 use Rattle.mmtel_sheet_grammar.specs.Elements.{is_token_text, is_domain}
 use Rattle.mmtel_sheet_grammar.specs.Keys.{rule_key_of, is_listed, is_diversion, meets_callers, dotted}
-use Rattle.mmtel_sheet_grammar.specs.Rules.{members_from, has_key, event_read, key_read, rule_key_read}
+use Rattle.mmtel_sheet_grammar.specs.Rules.{keys_from, has_key, event_read, key_read, rule_key_read}
 use Rattle.mmtel_sheet_grammar.specs.declared.keys.Service.{Service}
 use Rattle.mmtel_sheet_grammar.specs.declared.keys.Service.TheVariants as service
 use Rattle.mmtel_sheet_grammar.specs.declared.keys.Notice.{Notice}
@@ -24,13 +24,9 @@ use Rattle.mmtel_sheet_values.specs.declared.values.EventWord.{EventWord}
 use Rattle.mmtel_sheet_values.specs.declared.values.EventWord.TheVariants as event
 use Rattle.mmtel_sheet_values.specs.declared.values.Who.{Who}
 use Rattle.mmtel_sheet_values.specs.declared.values.Window.{Window}
-use Rattle.mmtel_sheets.specs.Printable.{IsUriOfText, IsWho, IsWindow, IsAction}
+use Rattle.mmtel_sheet_grammar.specs.Printable.{IsUriOfText, IsWho, IsWindow, IsAction}
 use Rattle.mmtel_sheets.specs.Printing.{with_key, where_true, except_beside, except_data, text_data, many_data, one_data, from_data, until_data, media_data, event_data, anonymous_data, allow_data, target_data, notice_data}
 use Rattle.mmtel_sheets.proofs.ElementsBack.{target_back, domain_back, time_back, uris_back, tokens_back}
-
--- the keys of a rule, read one after another
-abbrev pub read_keys : Service → Members → List ℕ → RuleDraft → Members → Read RuleDraft
-read_keys s ms path r rest = members_from path (λ at d k v. rule_key_read s ms at d k v) r rest
 
 -- a key changes what was read so far to this
 abbrev pub StepsTo : Service → Members → List ℕ → RuleDraft → RuleKey → Option Data → RuleDraft → Type 0
@@ -38,8 +34,8 @@ StepsTo s ms at r k None after = r ≡ after
 StepsTo s ms at r k (Some d) after = (is_listed s k ≡ true) × (key_read ms at r k d ≡ Ok after)
 
 pub walk : (s : Service) (ms : Members) (path : List ℕ) (r : RuleDraft) (name : List ℕ) (k : RuleKey) (o : Option Data) (rest : Members) (after : RuleDraft)
-    → rule_key_of name ≡ Some k → StepsTo s ms (dotted path name) r k o after → read_keys s ms path r (with_key name o rest) ≡ read_keys s ms path after rest
-walk s ms path r name k None rest after named step = ap (λ (x : RuleDraft). read_keys s ms path x rest) step
+    → rule_key_of name ≡ Some k → StepsTo s ms (dotted path name) r k o after → keys_from s ms path r (with_key name o rest) ≡ keys_from s ms path after rest
+walk s ms path r name k None rest after named step = ap (λ (x : RuleDraft). keys_from s ms path x rest) step
 walk s ms path r name k (Some d) rest after named step = rw (named, step.0, step.1)
 
 -- ---- what is read of each part

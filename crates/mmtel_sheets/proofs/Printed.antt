@@ -5,7 +5,7 @@ use Rattle.toml.specs.Data.{Members, members_depth, members_have_valid_dates}
 use Rattle.toml.specs.Parse.{parse_document}
 use Rattle.mmtel_sheet_grammar.specs.Walk.{Documents}
 use Rattle.mmtel_sheet_values.specs.declared.values.Sheet.{Sheet}
-use Rattle.mmtel_sheets.specs.Printable.{IsPrintable}
+use Rattle.mmtel_sheet_grammar.specs.Printable.{IsPrintable}
 use Rattle.mmtel_sheets.specs.Printing.{document_of}
 use Rattle.mmtel_sheets.proofs.Plain.{document_plain}
 use Rattle.mmtel_sheets.proofs.TablesBack.{sheet_back}

@@ -20,7 +20,7 @@ use Rattle.jiff_fmt.proofs.RoundTrip.{Stops, field-pad2, date_spec-text, offset-
 use Rattle.jiff_fmt.proofs.TemporalLemmas.{instant-ok}
 use Rattle.jiff_fmt.proofs.TextLemmas.{places-read}
 use Rattle.mmtel_sheet_grammar.specs.Moments.{moment_of_text, first_moment, whole_milliseconds}
-use Rattle.mmtel_sheets.specs.Printable.{IsMoment}
+use Rattle.mmtel_sheet_grammar.specs.Printable.{IsMoment}
 use Rattle.mmtel_sheets.specs.Times.{moment_text}
 use Rattle.mmtel_sheets.proofs.Shown.{shown}
 

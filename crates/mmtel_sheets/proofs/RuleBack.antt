@@ -8,7 +8,7 @@ use Rattle.std.specs.Ordering.{match_ordering}
 use Rattle.std.specs.Prelude.{IfSome}
 use Rattle.toml.specs.Data.{Data, Members, no_members, same_key}
 use Rattle.mmtel_sheet_grammar.specs.Keys.{rule_key_of, event_of, notice_of, identity_key_of, other_key_of, dotted}
-use Rattle.mmtel_sheet_grammar.specs.Rules.{has_key, no_keys, all_told, who_of, action_of, rule_of}
+use Rattle.mmtel_sheet_grammar.specs.Rules.{has_key, no_keys, all_told, who_of, action_of, rule_of, keys_from}
 use Rattle.mmtel_sheet_grammar.specs.declared.keys.Service.{Service}
 use Rattle.mmtel_sheet_grammar.specs.declared.keys.Service.TheVariants as service
 use Rattle.mmtel_sheet_grammar.specs.declared.keys.Notice.TheVariants as notice
@@ -19,9 +19,9 @@ use Rattle.mmtel_sheet_values.specs.declared.values.Action.TheVariants.{Forward,
 use Rattle.mmtel_sheet_values.specs.declared.values.EventWord.TheVariants as event
 use Rattle.mmtel_sheet_values.specs.declared.values.Rule.{Rule}
 use Rattle.mmtel_sheet_values.specs.declared.values.Who.{Who}
-use Rattle.mmtel_sheets.specs.Printable.{IsWho, IsAction, IsRule}
+use Rattle.mmtel_sheet_grammar.specs.Printable.{IsWho, IsAction, IsRule}
 use Rattle.mmtel_sheets.specs.Printing.{with_key, allow_data, anonymous_data, event_data, except_data, from_data, media_data, notice_data, target_data, many_data, one_data, until_data, rule_data}
-use Rattle.mmtel_sheets.proofs.KeySteps.{read_keys, walk, allowed, aimed, told, except_of, many_of, one_of, start_of, at_busy, at_no_answer, at_not_reachable, allow_step, anonymous_step, busy_step, except_step, from_step, many_step, media_step, no_answer_step, not_reachable_step, not_registered_step, notice_step, one_step, target_step, until_step}
+use Rattle.mmtel_sheets.proofs.KeySteps.{walk, allowed, aimed, told, except_of, many_of, one_of, start_of, at_busy, at_no_answer, at_not_reachable, allow_step, anonymous_step, busy_step, except_step, from_step, many_step, media_step, no_answer_step, not_reachable_step, not_registered_step, notice_step, one_step, target_step, until_step}
 
 passes : (o : Ordering) (x : Option Data) (d : Data) (b : Bool) → is_eq o ≡ false → is_some x ≡ b → is_some (match_ordering o x (Some d) x) ≡ b
 passes Less x d b apart e = e
@@ -223,58 +223,58 @@ module _ (s : Service) (r : Rule) (is : IsRule s r) (ms : Members) (path : List 
     (many_there : has_key (codes "many") ms ≡ is_some (many_data r.condition.identity))
     (one_there : has_key (codes "one") ms ≡ is_some (one_data r.condition.identity))
     (until_there : has_key (codes "until") ms ≡ is_some (until_data r.condition.window)) where
-  at-allow : (rest : Members) → read_keys s ms path no_keys (with_key (codes "allow") (allow_data r.action) rest) ≡ read_keys s ms path (after-allow r) rest
+  at-allow : (rest : Members) → keys_from s ms path no_keys (with_key (codes "allow") (allow_data r.action) rest) ≡ keys_from s ms path (after-allow r) rest
   at-allow rest = walk s ms path no_keys (codes "allow") (key.Allow) (allow_data r.action) rest (after-allow r) named-allow (allow_step s ms (dotted path (codes "allow")) no_keys r.action is.action refl)
 
-  at-anonymous : (rest : Members) → read_keys s ms path (after-allow r) (with_key (codes "anonymous") (anonymous_data s r.condition.anonymous) rest) ≡ read_keys s ms path (after-anonymous r) rest
+  at-anonymous : (rest : Members) → keys_from s ms path (after-allow r) (with_key (codes "anonymous") (anonymous_data s r.condition.anonymous) rest) ≡ keys_from s ms path (after-anonymous r) rest
   at-anonymous rest = walk s ms path (after-allow r) (codes "anonymous") (key.Anonymous) (anonymous_data s r.condition.anonymous) rest (after-anonymous r) named-anonymous (anonymous_step s ms (dotted path (codes "anonymous")) (after-allow r) r.condition.anonymous is.condition.anonymous refl)
 
-  at-busy : (rest : Members) → read_keys s ms path (after-anonymous r) (with_key (codes "busy") (event_data s event.Busy r.condition.event) rest) ≡ read_keys s ms path (after-busy r) rest
+  at-busy : (rest : Members) → keys_from s ms path (after-anonymous r) (with_key (codes "busy") (event_data s event.Busy r.condition.event) rest) ≡ keys_from s ms path (after-busy r) rest
   at-busy rest = walk s ms path (after-anonymous r) (codes "busy") (key.Event event.Busy) (event_data s event.Busy r.condition.event) rest (after-busy r) named-busy (busy_step s ms (dotted path (codes "busy")) (after-anonymous r) r.condition.event is.condition.event)
 
-  at-except : (rest : Members) → read_keys s ms path (after-busy r) (with_key (codes "except") (except_data r.condition.identity) rest) ≡ read_keys s ms path (after-except r) rest
+  at-except : (rest : Members) → keys_from s ms path (after-busy r) (with_key (codes "except") (except_data r.condition.identity) rest) ≡ keys_from s ms path (after-except r) rest
   at-except rest = walk s ms path (after-busy r) (codes "except") (key.Except) (except_data r.condition.identity) rest (after-except r) named-except (except_step s ms (dotted path (codes "except")) (after-busy r) r.condition.identity is.condition.identity refl many_there one_there)
 
-  at-from : (rest : Members) → read_keys s ms path (after-except r) (with_key (codes "from") (from_data r.condition.window) rest) ≡ read_keys s ms path (after-from r) rest
+  at-from : (rest : Members) → keys_from s ms path (after-except r) (with_key (codes "from") (from_data r.condition.window) rest) ≡ keys_from s ms path (after-from r) rest
   at-from rest = walk s ms path (after-except r) (codes "from") (key.From) (from_data r.condition.window) rest (after-from r) named-from (from_step s ms (dotted path (codes "from")) (after-except r) r.condition.window is.condition.window until_there refl)
 
-  at-many : (rest : Members) → read_keys s ms path (after-from r) (with_key (codes "many") (many_data r.condition.identity) rest) ≡ read_keys s ms path (after-many r) rest
+  at-many : (rest : Members) → keys_from s ms path (after-from r) (with_key (codes "many") (many_data r.condition.identity) rest) ≡ keys_from s ms path (after-many r) rest
   at-many rest = walk s ms path (after-from r) (codes "many") (key.Many) (many_data r.condition.identity) rest (after-many r) named-many (many_step s ms (dotted path (codes "many")) (after-from r) r.condition.identity is.condition.identity refl)
 
-  at-media : (rest : Members) → read_keys s ms path (after-many r) (with_key (codes "media") (media_data r.condition.media) rest) ≡ read_keys s ms path (after-media r) rest
+  at-media : (rest : Members) → keys_from s ms path (after-many r) (with_key (codes "media") (media_data r.condition.media) rest) ≡ keys_from s ms path (after-media r) rest
   at-media rest = walk s ms path (after-many r) (codes "media") (key.Media) (media_data r.condition.media) rest (after-media r) named-media (media_step s ms (dotted path (codes "media")) (after-many r) r.condition.media is.condition.media refl)
 
-  at-no_answer : (rest : Members) → read_keys s ms path (after-media r) (with_key (codes "no-answer") (event_data s event.NoAnswer r.condition.event) rest) ≡ read_keys s ms path (after-no_answer r) rest
+  at-no_answer : (rest : Members) → keys_from s ms path (after-media r) (with_key (codes "no-answer") (event_data s event.NoAnswer r.condition.event) rest) ≡ keys_from s ms path (after-no_answer r) rest
   at-no_answer rest = walk s ms path (after-media r) (codes "no-answer") (key.Event event.NoAnswer) (event_data s event.NoAnswer r.condition.event) rest (after-no_answer r) named-no_answer (no_answer_step s ms (dotted path (codes "no-answer")) (after-media r) r.condition.event is.condition.event)
 
-  at-not_reachable : (rest : Members) → read_keys s ms path (after-no_answer r) (with_key (codes "not-reachable") (event_data s event.NotReachable r.condition.event) rest) ≡ read_keys s ms path (after-not_reachable r) rest
+  at-not_reachable : (rest : Members) → keys_from s ms path (after-no_answer r) (with_key (codes "not-reachable") (event_data s event.NotReachable r.condition.event) rest) ≡ keys_from s ms path (after-not_reachable r) rest
   at-not_reachable rest = walk s ms path (after-no_answer r) (codes "not-reachable") (key.Event event.NotReachable) (event_data s event.NotReachable r.condition.event) rest (after-not_reachable r) named-not_reachable (not_reachable_step s ms (dotted path (codes "not-reachable")) (after-no_answer r) r.condition.event is.condition.event)
 
-  at-not_registered : (rest : Members) → read_keys s ms path (after-not_reachable r) (with_key (codes "not-registered") (event_data s event.NotRegistered r.condition.event) rest) ≡ read_keys s ms path (after-not_registered r) rest
+  at-not_registered : (rest : Members) → keys_from s ms path (after-not_reachable r) (with_key (codes "not-registered") (event_data s event.NotRegistered r.condition.event) rest) ≡ keys_from s ms path (after-not_registered r) rest
   at-not_registered rest = walk s ms path (after-not_reachable r) (codes "not-registered") (key.Event event.NotRegistered) (event_data s event.NotRegistered r.condition.event) rest (after-not_registered r) named-not_registered (not_registered_step s ms (dotted path (codes "not-registered")) (after-not_reachable r) r.condition.event is.condition.event)
 
-  at-notify_caller : (rest : Members) → read_keys s ms path (after-not_registered r) (with_key (codes "notify-caller") (notice_data notice.NotifyCaller r.action) rest) ≡ read_keys s ms path (after-notify_caller r) rest
+  at-notify_caller : (rest : Members) → keys_from s ms path (after-not_registered r) (with_key (codes "notify-caller") (notice_data notice.NotifyCaller r.action) rest) ≡ keys_from s ms path (after-notify_caller r) rest
   at-notify_caller rest = walk s ms path (after-not_registered r) (codes "notify-caller") (key.Notice notice.NotifyCaller) (notice_data notice.NotifyCaller r.action) rest (after-notify_caller r) named-notify_caller (notice_step s ms (dotted path (codes "notify-caller")) (after-not_registered r) notice.NotifyCaller r.action is.action)
 
-  at-one : (rest : Members) → read_keys s ms path (after-notify_caller r) (with_key (codes "one") (one_data r.condition.identity) rest) ≡ read_keys s ms path (after-one r) rest
+  at-one : (rest : Members) → keys_from s ms path (after-notify_caller r) (with_key (codes "one") (one_data r.condition.identity) rest) ≡ keys_from s ms path (after-one r) rest
   at-one rest = walk s ms path (after-notify_caller r) (codes "one") (key.One) (one_data r.condition.identity) rest (after-one r) named-one (one_step s ms (dotted path (codes "one")) (after-notify_caller r) r.condition.identity is.condition.identity refl refl)
 
-  at-to_caller : (rest : Members) → read_keys s ms path (after-one r) (with_key (codes "reveal-identity-to-caller") (notice_data notice.RevealToCaller r.action) rest) ≡ read_keys s ms path (after-to_caller r) rest
+  at-to_caller : (rest : Members) → keys_from s ms path (after-one r) (with_key (codes "reveal-identity-to-caller") (notice_data notice.RevealToCaller r.action) rest) ≡ keys_from s ms path (after-to_caller r) rest
   at-to_caller rest = walk s ms path (after-one r) (codes "reveal-identity-to-caller") (key.Notice notice.RevealToCaller) (notice_data notice.RevealToCaller r.action) rest (after-to_caller r) named-to_caller (notice_step s ms (dotted path (codes "reveal-identity-to-caller")) (after-one r) notice.RevealToCaller r.action is.action)
 
-  at-to_target : (rest : Members) → read_keys s ms path (after-to_caller r) (with_key (codes "reveal-identity-to-target") (notice_data notice.RevealToTarget r.action) rest) ≡ read_keys s ms path (after-to_target r) rest
+  at-to_target : (rest : Members) → keys_from s ms path (after-to_caller r) (with_key (codes "reveal-identity-to-target") (notice_data notice.RevealToTarget r.action) rest) ≡ keys_from s ms path (after-to_target r) rest
   at-to_target rest = walk s ms path (after-to_caller r) (codes "reveal-identity-to-target") (key.Notice notice.RevealToTarget) (notice_data notice.RevealToTarget r.action) rest (after-to_target r) named-to_target (notice_step s ms (dotted path (codes "reveal-identity-to-target")) (after-to_caller r) notice.RevealToTarget r.action is.action)
 
-  at-served : (rest : Members) → read_keys s ms path (after-to_target r) (with_key (codes "reveal-served-user-identity-to-caller") (notice_data notice.RevealServedToCaller r.action) rest) ≡ read_keys s ms path (after-served r) rest
+  at-served : (rest : Members) → keys_from s ms path (after-to_target r) (with_key (codes "reveal-served-user-identity-to-caller") (notice_data notice.RevealServedToCaller r.action) rest) ≡ keys_from s ms path (after-served r) rest
   at-served rest = walk s ms path (after-to_target r) (codes "reveal-served-user-identity-to-caller") (key.Notice notice.RevealServedToCaller) (notice_data notice.RevealServedToCaller r.action) rest (after-served r) named-served (notice_step s ms (dotted path (codes "reveal-served-user-identity-to-caller")) (after-to_target r) notice.RevealServedToCaller r.action is.action)
 
-  at-target : (rest : Members) → read_keys s ms path (after-served r) (with_key (codes "target") (target_data r.action) rest) ≡ read_keys s ms path (after-target r) rest
+  at-target : (rest : Members) → keys_from s ms path (after-served r) (with_key (codes "target") (target_data r.action) rest) ≡ keys_from s ms path (after-target r) rest
   at-target rest = walk s ms path (after-served r) (codes "target") (key.Target) (target_data r.action) rest (after-target r) named-target (target_step s ms (dotted path (codes "target")) (after-served r) r.action is.action refl)
 
-  at-until : (rest : Members) → read_keys s ms path (after-target r) (with_key (codes "until") (until_data r.condition.window) rest) ≡ read_keys s ms path (after-until r) rest
+  at-until : (rest : Members) → keys_from s ms path (after-target r) (with_key (codes "until") (until_data r.condition.window) rest) ≡ keys_from s ms path (after-until r) rest
   at-until rest = walk s ms path (after-target r) (codes "until") (key.Until) (until_data r.condition.window) rest (after-until r) named-until (until_step s ms (dotted path (codes "until")) (after-target r) r.condition.window is.condition.window refl refl)
 
-  keys_read : read_keys s ms path no_keys (rule_data s r) ≡ Ok (after-until r)
+  keys_read : keys_from s ms path no_keys (rule_data s r) ≡ Ok (after-until r)
   keys_read = at-allow _ ∙ at-anonymous _ ∙ at-busy _ ∙ at-except _ ∙ at-from _ ∙ at-many _ ∙ at-media _ ∙ at-no_answer _ ∙ at-not_reachable _ ∙ at-not_registered _ ∙ at-notify_caller _ ∙ at-one _ ∙ at-to_caller _ ∙ at-to_target _ ∙ at-served _ ∙ at-target _ ∙ at-until _
 
 -- whom the rule is about, of its keys

@@ -10,7 +10,7 @@ use Rattle.jiff_fmt.specs.Text.{places, time_text, datetime_text, zulu_text}
 use Rattle.jiff_fmt.specs.Printer.{options, datetime_text as printer_text}
 use Rattle.jiff_fmt.specs.declared.temporal.printer.DateTimePrinter.{DateTimePrinter}
 use Rattle.jiff_zoned.proofs.SameLemmas.{same_datetime}
-use Rattle.mmtel_sheets.specs.Printable.{IsMoment}
+use Rattle.mmtel_sheet_grammar.specs.Printable.{IsMoment}
 use Rattle.mmtel_sheets.specs.Times.{day_of, clock_of, pad3, clock_text, moment_text}
 use Rattle.mmtel_sheets.proofs.Calendar.{dated}
 

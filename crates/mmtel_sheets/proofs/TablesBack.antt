@@ -19,7 +19,7 @@ use Rattle.mmtel_sheet_values.specs.declared.values.DiversionPart.{DiversionPart
 use Rattle.mmtel_sheet_values.specs.declared.values.Restriction.{Restriction}
 use Rattle.mmtel_sheet_values.specs.declared.values.Rule.{Rule}
 use Rattle.mmtel_sheet_values.specs.declared.values.Sheet.{Sheet}
-use Rattle.mmtel_sheets.specs.Printable.{IsRule, AreRules, IsDiversion, IsBar, IsWaiting, IsPrintable}
+use Rattle.mmtel_sheet_grammar.specs.Printable.{IsRule, AreRules, IsDiversion, IsBar, IsWaiting, IsPrintable}
 use Rattle.mmtel_sheets.specs.Printing.{with_key, each_item, rule_data, rules_data, diversion_data, bar_data, presentation_data, word_of, restriction_data, waiting_data, part_data, document_of}
 use Rattle.mmtel_sheets.proofs.ElementsBack.{number_back}
 use Rattle.mmtel_sheets.proofs.RuleBack.{rule_back}

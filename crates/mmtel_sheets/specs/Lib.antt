@@ -1,4 +1,2 @@
-pub mod Printable
 pub mod Printing
-pub mod Texts
 pub mod Times

@@ -30,7 +30,7 @@ fn put_first(alloc: Global, key: &str, value: Value, mut rest: Table) -> Result<
 }
 
 /// The table with one more key, where there is a value for it; the key comes before all others.
-#[tactic(auto, using(crate::proofs::Inserting::before_first, crate::proofs::Inserting::before_members))]
+#[tactic(auto, using(crate::proofs::Inserting::before_first, mmtel_sheet_reader::proofs::Order::before_members))]
 pub fn with_key(
     alloc: Global,
     key: &str,

@@ -1,6 +1,6 @@
 //! Moments as records write them.
 ghost use Rattle.std.specs.Prelude.{◌≡◌};
-ghost use Rattle.mmtel_sheets.specs.Printable.{IsMoment};
+ghost use Rattle.mmtel_sheet_grammar.specs.Printable.{IsMoment};
 ghost use Rattle.mmtel_sheets.specs.Times.{moment_text};
 
 use arrayvec::ArrayString;

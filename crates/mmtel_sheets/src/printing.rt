@@ -3,7 +3,7 @@ ghost use Rattle.std.specs.Prelude.{◌≡◌, IfOk, IsUtf8, false};
 ghost use Rattle.toml.specs.Parse.{parse_document};
 ghost use Rattle.toml.specs.Text.{IsDocumentText};
 ghost use Rattle.mmtel_sheet_grammar.specs.Walk.{Documents};
-ghost use Rattle.mmtel_sheets.specs.Printable.{IsPrintable};
+ghost use Rattle.mmtel_sheet_grammar.specs.Printable.{IsPrintable};
 ghost use Rattle.mmtel_sheets.specs.Printing.{document_of};
 
 use crate::tables::sheet_table;

@@ -2,7 +2,7 @@
 ghost use Rattle.std.specs.Prelude.{◌≡◌, IfOk, List, ℕ, codes, true};
 ghost use Rattle.toml.specs.Data.{is_before};
 ghost use Rattle.toml.specs.View.{view, table_view};
-ghost use Rattle.mmtel_sheets.specs.Printable.{IsRule, AreRules};
+ghost use Rattle.mmtel_sheet_grammar.specs.Printable.{IsRule, AreRules};
 ghost use Rattle.mmtel_sheets.specs.Printing.{comes_before, late_keys, middle_keys, rule_data, rules_data};
 
 use crate::members::{no_keys, with_key};

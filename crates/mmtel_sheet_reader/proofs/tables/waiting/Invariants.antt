@@ -2,10 +2,12 @@ use Rattle.std.proofs.Common.{◌≡◌}
 use Rattle.toml.specs.View.{members_view}
 use Rattle.mmtel_sheet_grammar.specs.Rules.{members_from}
 use Rattle.mmtel_sheet_grammar.specs.Walk.{waiting_key, no_waiting_keys}
+use Rattle.mmtel_sheet_reader.proofs.Sounds.{IsLeft}
 use Rattle.mmtel_sheet_reader.proofs.tables.waiting.Given as goal
 
 abbrev pub invariant-members : goal.invariant-members
 invariant-members l =
     (goal.iterator-members).can_next l.key-iterator ×
     (goal.iterator-members).is_finite l.key-iterator ×
-    (members_from l.path waiting_key l.draft (members_view l.key-iterator) ≡ members_from l.path waiting_key no_waiting_keys (members_view l.table.entries))
+    (members_from l.path waiting_key l.draft (members_view l.key-iterator) ≡ members_from l.path waiting_key no_waiting_keys (members_view l.table.entries)) ×
+    IsLeft l.table.entries l.key-iterator

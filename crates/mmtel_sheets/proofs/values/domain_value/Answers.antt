@@ -1,4 +1,4 @@
-use Rattle.mmtel_sheets.proofs.Ascii.{domain_text}
+use Rattle.mmtel_sheet_reader.proofs.Ascii.{domain_text}
 use Rattle.mmtel_sheets.proofs.values.domain_value.Goals as goal
 
 pub text_value-requires : goal.text_value-requires

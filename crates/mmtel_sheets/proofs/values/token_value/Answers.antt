@@ -1,4 +1,4 @@
-use Rattle.mmtel_sheets.proofs.Ascii.{token_text}
+use Rattle.mmtel_sheet_reader.proofs.Ascii.{token_text}
 use Rattle.mmtel_sheets.proofs.values.token_value.Goals as goal
 
 pub text_value-requires : goal.text_value-requires

@@ -1,13 +1,11 @@
 -- What is read of the keys of a rule can be printed, each by itself.
-use Rattle.std.proofs.Common.{◌≡◌, ℕ, ℤ, ◌+◌, cond, Bool, true, false, ◌&&◌, not, nat_lt, int_lt, List, [], ◌∷◌, length, Option, Some, None, Ok, Err, refl, codes}
+use Rattle.std.proofs.Common.{◌≡◌, ℕ, ℤ, ◌+◌, cond, Bool, true, false, ◌&&◌, not, nat_lt, int_lt, List, length, Option, Some, None, Ok, refl, codes}
 use Rattle.std.specs.Prelude.{IfOk, IfSome}
 use Rattle.std.specs.List.{AllByRecursion}
 use Rattle.toml.specs.Data.{Data, Members, no_members, member}
-use Rattle.mmtel_lex.specs.declared.values.Uri.{Uri}
-use Rattle.mmtel_sheet_grammar.specs.Answers.{Read, then_do}
 use Rattle.mmtel_sheet_grammar.specs.Elements.{truth_at, text_at, target_at, is_domain, domain_at, is_token_text, time_at, uris_at, tokens_at}
 use Rattle.mmtel_sheet_grammar.specs.Keys.{rule_key_of, is_listed, is_diversion, meets_callers, dotted}
-use Rattle.mmtel_sheet_grammar.specs.Rules.{has_key, no_keys, with_notice, with_event, event_read, except_read, one_read, from_read, until_read, key_read, listed, listed_read, rule_key_read}
+use Rattle.mmtel_sheet_grammar.specs.Rules.{has_key, no_keys, with_event, event_read, until_read, key_read, listed, listed_read, rule_key_read, keys_from}
 use Rattle.mmtel_sheet_grammar.specs.declared.faults.SheetFault.TheVariants.{Wrong, Many}
 use Rattle.mmtel_sheet_grammar.specs.declared.keys.Service.{Service}
 use Rattle.mmtel_sheet_grammar.specs.declared.keys.RuleKey.{RuleKey}
@@ -15,11 +13,10 @@ use Rattle.mmtel_sheet_grammar.specs.declared.keys.RuleKey.TheVariants as key
 use Rattle.mmtel_sheet_grammar.specs.declared.keys.Notice.{Notice}
 use Rattle.mmtel_sheet_grammar.specs.declared.drafts.RuleDraft.{RuleDraft}
 use Rattle.mmtel_sheet_values.specs.declared.values.EventWord.{EventWord}
-use Rattle.mmtel_sheets.specs.Printable.{IsUriOfText, IsTarget, IsMoment, IsWindow}
-use Rattle.mmtel_sheets.specs.Texts.{IsOfTexts, HaveTexts}
-use Rattle.mmtel_sheets.proofs.Granted.{then_all, then_any, where_ok, unless_err}
-use Rattle.mmtel_sheets.proofs.KeySteps.{read_keys}
-use Rattle.mmtel_sheets.proofs.ReadElements.{target_ok, domain_ok, time_ok, uris_ok, tokens_ok}
+use Rattle.mmtel_sheet_grammar.specs.Printable.{IsUriOfText, IsTarget, IsMoment, IsWindow}
+use Rattle.mmtel_sheet_grammar.specs.Sound.{IsSound, IsSoundTable}
+use Rattle.mmtel_sheet_reader.proofs.Granted.{then_all, then_any, where_ok, unless_err}
+use Rattle.mmtel_sheet_reader.proofs.ReadElements.{target_ok, domain_ok, time_ok, uris_ok, tokens_ok}
 
 -- what the keys of a rule said so far can be printed
 pub record IsKept (s : Service) (d : RuleDraft) : Type 0 where
@@ -54,8 +51,8 @@ module _ (s : Service) (ms : Members) (at : List ℕ) (d : RuleDraft) (k : IsKep
   event_kept : (e : EventWord) (v : Data) → is_diversion s ≡ true → IfOk (key_read ms at d (key.Event e) v) (IsKept s)
   event_kept e v listed = then_any (truth_at at v) _ (IsKept s) (λ b. event_told e b listed)
 
-  except_kept : (v : Data) → IsOfTexts v → IfOk (key_read ms at d key.Except v) (IsKept s)
-  except_kept v text = then_all (uris_at at v) _ (λ us. AllByRecursion IsUriOfText us) (IsKept s) (uris_ok at v text) (λ us all.
+  except_kept : (v : Data) → IsSound v → IfOk (key_read ms at d key.Except v) (IsKept s)
+  except_kept v sound = then_all (uris_at at v) _ (λ us. AllByRecursion IsUriOfText us) (IsKept s) (uris_ok at v sound) (λ us all.
       where_ok (has_key (codes "many") ms) _ (Wrong at) (IsKept s) (λ many.
       unless_err (nat_lt 64 (length us) && not (has_key (codes "one") ms)) (Ok (record d { except = us })) (Many at 64) (IsKept s) (λ few. record { anonymous = k.anonymous; event = k.event; except = all; from = k.from; many = k.many; media = k.media; one = k.one; target = k.target; window = k.window })))
 
@@ -69,18 +66,18 @@ module _ (s : Service) (ms : Members) (at : List ℕ) (d : RuleDraft) (k : IsKep
   many_kept : (v : Data) → IfOk (key_read ms at d key.Many v) (IsKept s)
   many_kept v = then_all (domain_at at v) _ (λ x. is_domain x ≡ true) (IsKept s) (domain_ok at v) (λ x is. record { anonymous = k.anonymous; event = k.event; except = k.except; from = k.from; many = is; media = k.media; one = k.one; target = k.target; window = k.window })
 
-  media_kept : (v : Data) → IsOfTexts v → IfOk (key_read ms at d key.Media v) (IsKept s)
-  media_kept v text = then_all (tokens_at at v) _ (AllByRecursion (λ t. is_token_text t ≡ true)) (IsKept s) (tokens_ok at v text) (λ ts all. record { anonymous = k.anonymous; event = k.event; except = k.except; from = k.from; many = k.many; media = all; one = k.one; target = k.target; window = k.window })
+  media_kept : (v : Data) → IsSound v → IfOk (key_read ms at d key.Media v) (IsKept s)
+  media_kept v sound = then_all (tokens_at at v) _ (AllByRecursion (λ t. is_token_text t ≡ true)) (IsKept s) (tokens_ok at v sound) (λ ts all. record { anonymous = k.anonymous; event = k.event; except = k.except; from = k.from; many = k.many; media = all; one = k.one; target = k.target; window = k.window })
 
   notice_kept : (n : Notice) (v : Data) → IfOk (key_read ms at d (key.Notice n) v) (IsKept s)
   notice_kept n v = then_any (truth_at at v) _ (IsKept s) (λ b. record { anonymous = k.anonymous; event = k.event; except = k.except; from = k.from; many = k.many; media = k.media; one = k.one; target = k.target; window = k.window })
 
-  one_kept : (v : Data) → IsOfTexts v → IfOk (key_read ms at d key.One v) (IsKept s)
-  one_kept v text = then_all (uris_at at v) _ (λ us. AllByRecursion IsUriOfText us) (IsKept s) (uris_ok at v text) (λ us all.
+  one_kept : (v : Data) → IsSound v → IfOk (key_read ms at d key.One v) (IsKept s)
+  one_kept v sound = then_all (uris_at at v) _ (λ us. AllByRecursion IsUriOfText us) (IsKept s) (uris_ok at v sound) (λ us all.
       unless_err (nat_lt 64 (length us + length d.except)) (Ok (record d { one = Some us })) (Many at 64) (IsKept s) (λ few. record { anonymous = k.anonymous; event = k.event; except = k.except; from = k.from; many = k.many; media = k.media; one = all; target = k.target; window = k.window }))
 
-  target_kept : (v : Data) → IsOfTexts v → IfOk (key_read ms at d key.Target v) (IsKept s)
-  target_kept v text = then_all (target_at at v) _ IsTarget (IsKept s) (target_ok at v text) (λ u is. record { anonymous = k.anonymous; event = k.event; except = k.except; from = k.from; many = k.many; media = k.media; one = k.one; target = is; window = k.window })
+  target_kept : (v : Data) → IsSound v → IfOk (key_read ms at d key.Target v) (IsKept s)
+  target_kept v sound = then_all (target_at at v) _ IsTarget (IsKept s) (target_ok at v sound) (λ u is. record { anonymous = k.anonymous; event = k.event; except = k.except; from = k.from; many = k.many; media = k.media; one = k.one; target = is; window = k.window })
 
   window_kept : (t : ℤ) (o : Option ℤ) → IsMoment t → IfSome o IsMoment → IfOk (until_read at d t o) (IsKept s)
   window_kept t None until from = tt
@@ -89,23 +86,23 @@ module _ (s : Service) (ms : Members) (at : List ℕ) (d : RuleDraft) (k : IsKep
   until_kept : (v : Data) → IfOk (key_read ms at d key.Until v) (IsKept s)
   until_kept v = then_all (time_at at v) _ IsMoment (IsKept s) (time_ok at v) (λ t moment. window_kept t d.from moment k.from)
 
-  key_kept : (n : RuleKey) (v : Data) → is_listed s n ≡ true → IsOfTexts v → IfOk (key_read ms at d n v) (IsKept s)
-  key_kept key.Allow v listed text = allow_kept v
-  key_kept key.Anonymous v listed text = anonymous_kept v listed
-  key_kept (key.Event e) v listed text = event_kept e v listed
-  key_kept key.Except v listed text = except_kept v text
-  key_kept key.From v listed text = from_kept v
-  key_kept key.Id v listed text = id_kept v
-  key_kept key.Many v listed text = many_kept v
-  key_kept key.Media v listed text = media_kept v text
-  key_kept (key.Notice n) v listed text = notice_kept n v
-  key_kept key.One v listed text = one_kept v text
-  key_kept key.Target v listed text = target_kept v text
-  key_kept key.Until v listed text = until_kept v
+  key_kept : (n : RuleKey) (v : Data) → is_listed s n ≡ true → IsSound v → IfOk (key_read ms at d n v) (IsKept s)
+  key_kept key.Allow v listed sound = allow_kept v
+  key_kept key.Anonymous v listed sound = anonymous_kept v listed
+  key_kept (key.Event e) v listed sound = event_kept e v listed
+  key_kept key.Except v listed sound = except_kept v sound
+  key_kept key.From v listed sound = from_kept v
+  key_kept key.Id v listed sound = id_kept v
+  key_kept key.Many v listed sound = many_kept v
+  key_kept key.Media v listed sound = media_kept v sound
+  key_kept (key.Notice n) v listed sound = notice_kept n v
+  key_kept key.One v listed sound = one_kept v sound
+  key_kept key.Target v listed sound = target_kept v sound
+  key_kept key.Until v listed sound = until_kept v
 
-  listed_kept : (o : Option RuleKey) (v : Data) → IfSome o (λ n. is_listed s n ≡ true) → IsOfTexts v → IfOk (listed_read ms at d o v) (IsKept s)
-  listed_kept None v listed text = tt
-  listed_kept (Some n) v listed text = key_kept n v listed text
+  listed_kept : (o : Option RuleKey) (v : Data) → IfSome o (λ n. is_listed s n ≡ true) → IsSound v → IfOk (listed_read ms at d o v) (IsKept s)
+  listed_kept None v listed sound = tt
+  listed_kept (Some n) v listed sound = key_kept n v listed sound
 
 only_listed : (s : Service) (n : RuleKey) (b : Bool) → is_listed s n ≡ b → IfSome (cond b (Some n) None) (λ m. is_listed s m ≡ true)
 only_listed s n true e = e
@@ -115,7 +112,7 @@ is_in_list : (s : Service) (o : Option RuleKey) → IfSome (listed s o) (λ n. i
 is_in_list s None = tt
 is_in_list s (Some n) = only_listed s n (is_listed s n) refl
 
-pub keys_kept : (s : Service) (ms : Members) (path : List ℕ) (d : RuleDraft) (rest : Members) → IsKept s d → HaveTexts rest → IfOk (read_keys s ms path d rest) (IsKept s)
-keys_kept s ms path d no_members k texts = k
-keys_kept s ms path d (member n v rest) k texts =
-    then_all (rule_key_read s ms (dotted path n) d n v) (λ e. read_keys s ms path e rest) (IsKept s) (IsKept s) (listed_kept s ms (dotted path n) d k (listed s (rule_key_of n)) v (is_in_list s (rule_key_of n)) texts.0) (λ e kept. keys_kept s ms path e rest kept texts.1)
+pub keys_kept : (s : Service) (ms : Members) (path : List ℕ) (d : RuleDraft) (rest : Members) → IsKept s d → IsSoundTable rest → IfOk (keys_from s ms path d rest) (IsKept s)
+keys_kept s ms path d no_members k sound = k
+keys_kept s ms path d (member n v rest) k sound =
+    then_all (rule_key_read s ms (dotted path n) d n v) (λ e. keys_from s ms path e rest) (IsKept s) (IsKept s) (listed_kept s ms (dotted path n) d k (listed s (rule_key_of n)) v (is_in_list s (rule_key_of n)) sound.1) (λ e kept. keys_kept s ms path e rest kept sound.2)

@@ -1,31 +1,28 @@
 -- What is read of a rule can be printed: whom it is about, and what it does.
-use Rattle.std.proofs.Common.{◌≡◌, ℕ, ℤ, ◌+◌, ◌≤◌, ◌<◌, Bool, true, false, cond, ◌&&◌, not, nat_lt, int_lt, List, [], ◌∷◌, ◌++◌, length, Option, Some, None, Ok, Err, Ordering, Less, Equal, Greater, nat_cmp, is_eq, refl, sym, ap, subst, ◌∙◌, ◌⊎◌, inl, inr, arith, codes}
-use Rattle.std.proofs.lemmas.Bool.{false≢true, and_parts}
+use Rattle.std.proofs.Common.{◌≡◌, ℕ, ℤ, ◌+◌, ◌≤◌, Bool, true, false, cond, ◌&&◌, not, nat_lt, int_lt, List, [], length, Option, Some, None, Ok, Ordering, Less, Equal, Greater, nat_cmp, is_eq, refl, sym, ap, subst, ◌∙◌, ◌⊎◌, inl, inr, arith, codes}
+use Rattle.std.proofs.lemmas.Bool.{false≢true}
 use Rattle.std.proofs.lemmas.Bool.Decides.{nat_tests}
 use Rattle.std.specs.Cmp.Lexicographic.{slice_cmp}
-use Rattle.std.specs.Ordering.{match_ordering}
+use Rattle.std.specs.Ordering.{match_ordering, is_lt}
 use Rattle.std.specs.Option.{is_some}
 use Rattle.std.specs.Prelude.{IfOk, IfSome}
 use Rattle.std.specs.List.{AllByRecursion}
-use Rattle.toml.specs.Data.{Data, Members, no_members, member, get_member, is_before, same_key, is_sorted, members_are_sorted}
+use Rattle.toml.specs.Data.{Data, Members, no_members, member, get_member, is_before, same_key}
 use Rattle.mmtel_lex.specs.declared.values.Uri.{Uri}
-use Rattle.mmtel_sheet_grammar.specs.Answers.{Read, then_do}
 use Rattle.mmtel_sheet_grammar.specs.Elements.{truth_at, text_at, target_at, is_domain, domain_at, time_at, uris_at, tokens_at}
-use Rattle.mmtel_sheet_grammar.specs.Keys.{rule_key_of, event_of, notice_of, identity_key_of, is_listed, is_diversion, dotted}
-use Rattle.mmtel_sheet_grammar.specs.Rules.{has_key, no_keys, with_event, event_read, from_read, until_read, key_read, listed, listed_read, rule_key_read, who_of}
+use Rattle.mmtel_sheet_grammar.specs.Keys.{rule_key_of, event_of, notice_of, identity_key_of, is_listed, dotted}
+use Rattle.mmtel_sheet_grammar.specs.Rules.{has_key, keys_from, with_event, event_read, until_read, key_read, listed, listed_read, rule_key_read, who_of}
 use Rattle.mmtel_sheet_grammar.specs.declared.faults.SheetFault.TheVariants.{Wrong, Many}
-use Rattle.mmtel_sheet_grammar.specs.declared.keys.Notice.{Notice}
 use Rattle.mmtel_sheet_grammar.specs.declared.keys.Service.{Service}
 use Rattle.mmtel_sheet_grammar.specs.declared.keys.RuleKey.{RuleKey}
 use Rattle.mmtel_sheet_grammar.specs.declared.keys.RuleKey.TheVariants as key
 use Rattle.mmtel_sheet_grammar.specs.declared.drafts.RuleDraft.{RuleDraft}
 use Rattle.mmtel_sheet_values.specs.declared.values.EventWord.{EventWord}
-use Rattle.mmtel_sheets.specs.Printable.{IsUriOfText, IsWho}
-use Rattle.mmtel_sheets.specs.Printing.{comes_before}
-use Rattle.mmtel_sheets.proofs.Granted.{then_all, then_any, where_ok, unless_err, weaker}
-use Rattle.mmtel_sheets.proofs.Inserting.{before_members}
-use Rattle.mmtel_sheets.proofs.KeyNames.{IsNamedAs, named, one_key}
-use Rattle.mmtel_sheets.proofs.KeySteps.{read_keys}
+use Rattle.mmtel_sheet_grammar.specs.Printable.{IsUriOfText, IsWho}
+use Rattle.mmtel_sheet_grammar.specs.Sound.{IsSoundTable}
+use Rattle.mmtel_sheet_reader.proofs.Granted.{then_all, then_any, where_ok, unless_err, weaker}
+use Rattle.mmtel_sheet_reader.proofs.KeyNames.{IsNamedAs, named, one_key}
+use Rattle.mmtel_sheet_reader.proofs.Order.{before_members}
 
 -- the keys that say nothing of whom a rule is about, in this way
 abbrev IsOther : RuleKey → Type 0
@@ -151,7 +148,7 @@ module _ (ms : Members) (k : List ℕ) (v : Data) (rest : Members) (sorted : is_
   -- no key follows one but in byte order
   never_one : (o : Option (List Uri)) (P : List Uri → Type 0) → k ≡ codes "except" → IfSome o (λ x. is_before (codes "one") (member k v rest) ≡ true) → IfSome o P
   never_one None P e behind = tt
-  never_one (Some x) P e behind = absurd (false≢true (subst (λ (y : List ℕ). comes_before (codes "one") y ≡ true) e behind))
+  never_one (Some x) P e behind = absurd (false≢true (subst (λ (y : List ℕ). is_lt (slice_cmp nat_cmp (codes "one") y) ≡ true) e behind))
 
   alone_by : (n : ℕ) (one : Bool) → (nat_lt 64 n && not one) ≡ false → has_key (codes "one") ms ≡ one → (n ≤ 64) ⊎ (has_key (codes "one") ms ≡ true)
   alone_by n true e is = inr is
@@ -210,15 +207,13 @@ listed_named : (s : Service) (k : List ℕ) (o : Option RuleKey) → rule_key_of
 listed_named s k None e name = tt
 listed_named s k (Some n) e name = some_listed s k n (is_listed s n) e name
 
-pub keys_counted : (s : Service) (ms : Members) (path : List ℕ) (d : RuleDraft) (rest : Members) → IsCounted ms rest d.except d.many d.one → members_are_sorted rest ≡ true
-    → IfOk (read_keys s ms path d rest) (λ e. IsCounted ms no_members e.except e.many e.one)
-keys_counted s ms path d no_members c sorted = c
-keys_counted s ms path d (member k v rest) c sorted =
-    let both = and_parts (is_before k rest && is_sorted v) (members_are_sorted rest) sorted in
-    let here = and_parts (is_before k rest) (is_sorted v) both.0 in
-    then_all (rule_key_read s ms (dotted path k) d k v) (λ e. read_keys s ms path e rest) (λ e. IsCounted ms rest e.except e.many e.one) (λ e. IsCounted ms no_members e.except e.many e.one)
-    (listed_counted ms k v rest here.0 (dotted path k) d c (listed s (rule_key_of k)) (listed_named s k (rule_key_of k) refl (named k)))
-    (λ e counted. keys_counted s ms path e rest counted both.1)
+pub keys_counted : (s : Service) (ms : Members) (path : List ℕ) (d : RuleDraft) (rest : Members) → IsCounted ms rest d.except d.many d.one → IsSoundTable rest
+    → IfOk (keys_from s ms path d rest) (λ e. IsCounted ms no_members e.except e.many e.one)
+keys_counted s ms path d no_members c sound = c
+keys_counted s ms path d (member k v rest) c sound =
+    then_all (rule_key_read s ms (dotted path k) d k v) (λ e. keys_from s ms path e rest) (λ e. IsCounted ms rest e.except e.many e.one) (λ e. IsCounted ms no_members e.except e.many e.one)
+    (listed_counted ms k v rest sound.0 (dotted path k) d c (listed s (rule_key_of k)) (listed_named s k (rule_key_of k) refl (named k)))
+    (λ e counted. keys_counted s ms path e rest counted sound.2)
 
 pub nothing_counted : (ms : Members) → IsCounted ms ms [] None None
 nothing_counted ms = record { partner = inl refl; alone = inl (omega arith); few = tt; behind = tt; many_seen = inr refl; one_seen = inr refl }

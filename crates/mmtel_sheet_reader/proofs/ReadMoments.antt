@@ -10,7 +10,7 @@ use Rattle.jiff_fmt.specs.Reader.{◌>>=◌, or_err}
 use Rattle.jiff_fmt.specs.Offset as Offset
 use Rattle.jiff_fmt.specs.Temporal.{DateTimeParts, parts_nanos, full, temporal_datetime, instant, to_timestamp, parse_timestamp}
 use Rattle.mmtel_sheet_grammar.specs.Moments.{first_moment, whole_milliseconds, moment_of, moment_of_text}
-use Rattle.mmtel_sheets.specs.Printable.{IsMoment, last_moment}
+use Rattle.mmtel_sheet_grammar.specs.Printable.{IsMoment, last_moment}
 
 bind_ok : {A B : Type 0} (r : Result A Error) (f : A → Result B Error) (y : B) → (r >>= f) ≡ Ok y → (x : A) × (r ≡ Ok x) × (f x ≡ Ok y)
 bind_ok (Ok x) f y e = (x, refl, e)

@@ -1,5 +1,5 @@
 -- What is read at a key can be printed.
-use Rattle.std.proofs.Common.{◌≡◌, ℕ, ℤ, ◌≤◌, Bool, true, false, ◌&&◌, nat_le, List, [], ◌∷◌, ◌++◌, length, Option, Some, None, Ok, Err, Result, IsUtf8, refl, arith}
+use Rattle.std.proofs.Common.{◌≡◌, ℕ, ℤ, ◌≤◌, true, ◌&&◌, nat_le, List, [], ◌∷◌, ◌++◌, length, Option, Some, None, Ok, Err, Result, IsUtf8, refl, arith}
 use Rattle.std.proofs.lemmas.Bool.Decides.{nat_tests}
 use Rattle.std.proofs.lemmas.Bool.{and_parts}
 use Rattle.std.specs.Prelude.{IfOk, IfSome}
@@ -11,11 +11,11 @@ use Rattle.mmtel_sheet_grammar.specs.Answers.{Read}
 use Rattle.mmtel_sheet_grammar.specs.Elements.{uri_read, uri_at, is_target, target_or_wrong, target_at, is_domain, domain_at, is_token_text, token_at, time_at, items_from, uris_at, tokens_at}
 use Rattle.mmtel_sheet_grammar.specs.Moments.{moment_of_text}
 use Rattle.mmtel_sheet_grammar.specs.declared.faults.SheetFault.TheVariants.{Wrong}
-use Rattle.mmtel_sheets.specs.Printable.{IsUriOfText, IsTarget, IsMoment}
-use Rattle.mmtel_sheets.specs.Texts.{IsOfTexts, AreOfTexts}
-use Rattle.mmtel_sheets.proofs.Granted.{then_all, then_any, where_ok, or_all}
-use Rattle.mmtel_sheets.proofs.ReadMoments.{moment_printable}
-use Rattle.mmtel_sheets.proofs.UriTexts.{uri_printable, target_printable}
+use Rattle.mmtel_sheet_grammar.specs.Printable.{IsUriOfText, IsTarget, IsMoment}
+use Rattle.mmtel_sheet_grammar.specs.Sound.{IsSound, IsSoundArray}
+use Rattle.mmtel_sheet_reader.proofs.Granted.{then_all, where_ok, or_all}
+use Rattle.mmtel_sheet_reader.proofs.ReadMoments.{moment_printable}
+use Rattle.mmtel_sheet_reader.proofs.UriTexts.{uri_printable, target_printable}
 
 uri_of_text : (s : List ℕ) (r : Result Uri Refusal) → uri_of s ≡ r → IfSome (uri_read r) (λ u. uri_of s ≡ Ok u)
 uri_of_text s (Ok u) e = e
@@ -25,7 +25,7 @@ uri_some : (s : List ℕ) (r : Result Uri Refusal) → uri_of s ≡ r → IsUtf8
 uri_some s (Ok u) e text = uri_printable s u text e
 uri_some s (Err f) e text = tt
 
-pub uri_ok : (at : List ℕ) (d : Data) → IsOfTexts d → IfOk (uri_at at d) IsUriOfText
+pub uri_ok : (at : List ℕ) (d : Data) → IsSound d → IfOk (uri_at at d) IsUriOfText
 uri_ok at (string s) text = or_all at (uri_read (uri_of s)) IsUriOfText (uri_some s (uri_of s) refl text)
 uri_ok at (integer z) text = tt
 uri_ok at (float x) text = tt
@@ -41,7 +41,7 @@ target_some at s u text read = where_ok (is_target u && nat_le (length s) 256) (
     let short : length s ≤ 256 = grind (arith, nat_tests) in
     target_printable s u text read both.0 short)
 
-pub target_ok : (at : List ℕ) (d : Data) → IsOfTexts d → IfOk (target_at at d) IsTarget
+pub target_ok : (at : List ℕ) (d : Data) → IsSound d → IfOk (target_at at d) IsTarget
 target_ok at (string s) text = then_all _ (λ u. target_or_wrong at s u) (λ u. uri_of s ≡ Ok u) IsTarget (or_all at (uri_read (uri_of s)) (λ u. uri_of s ≡ Ok u) (uri_of_text s (uri_of s) refl)) (λ u read. target_some at s u text read)
 target_ok at (integer z) text = tt
 target_ok at (float x) text = tt
@@ -86,11 +86,11 @@ module _ {A : Type 0} where
   all_last P [] x all p = (p, tt)
   all_last P (y ∷ xs) x all p = (all.0, all_last P xs x all.1 p)
 
-  items_ok : (read : Data → Read A) (P : A → Type 0) → ((d : Data) → IsOfTexts d → IfOk (read d) P) → (done : List A) (ds : Items) → AllByRecursion P done → AreOfTexts ds → IfOk (items_from read done ds) (AllByRecursion P)
+  items_ok : (read : Data → Read A) (P : A → Type 0) → ((d : Data) → IsSound d → IfOk (read d) P) → (done : List A) (ds : Items) → AllByRecursion P done → IsSoundArray ds → IfOk (items_from read done ds) (AllByRecursion P)
   items_ok read P each done no_items all texts = all
   items_ok read P each done (item d ds) all texts = then_all (read d) (λ a. items_from read (done ++ a ∷ []) ds) P (AllByRecursion P) (each d texts.0) (λ a p. items_ok read P each (done ++ a ∷ []) ds (all_last P done a all p) texts.1)
 
-pub uris_ok : (at : List ℕ) (d : Data) → IsOfTexts d → IfOk (uris_at at d) (AllByRecursion IsUriOfText)
+pub uris_ok : (at : List ℕ) (d : Data) → IsSound d → IfOk (uris_at at d) (AllByRecursion IsUriOfText)
 uris_ok at (string s) text = tt
 uris_ok at (integer z) text = tt
 uris_ok at (float x) text = tt
@@ -99,7 +99,7 @@ uris_ok at (datetime dt) text = tt
 uris_ok at (array ds) text = items_ok (uri_at at) IsUriOfText (uri_ok at) [] ds tt text
 uris_ok at (table ms) text = tt
 
-pub tokens_ok : (at : List ℕ) (d : Data) → IsOfTexts d → IfOk (tokens_at at d) (AllByRecursion (λ t. is_token_text t ≡ true))
+pub tokens_ok : (at : List ℕ) (d : Data) → IsSound d → IfOk (tokens_at at d) (AllByRecursion (λ t. is_token_text t ≡ true))
 tokens_ok at (string s) text = tt
 tokens_ok at (integer z) text = tt
 tokens_ok at (float x) text = tt

@@ -19,8 +19,8 @@ use Rattle.mmtel_lex.specs.declared.values.Uri.TheVariants.{Sip, Tel}
 use Rattle.mmtel_lex.proofs.PrintLaws.{printed_again}
 use Rattle.mmtel_lex.proofs.UriLaws.{uri_takes, uri_again}
 use Rattle.mmtel_sheet_grammar.specs.Elements.{is_target}
-use Rattle.mmtel_sheets.specs.Printable.{IsUriOfText, IsTarget}
-use Rattle.mmtel_sheets.proofs.Ascii.{IsOfAscii, all_ascii, host_ascii}
+use Rattle.mmtel_sheet_grammar.specs.Printable.{IsUriOfText, IsTarget}
+use Rattle.mmtel_sheet_reader.proofs.Ascii.{IsOfAscii, all_ascii, host_ascii}
 
 -- ---- bytes of ASCII before a text
 

@@ -16,6 +16,7 @@ pub mod Memory
 pub mod Openings
 pub mod Ran
 pub mod ReadBack
+pub mod Rows
 pub mod Run
 pub mod Script
 pub mod ScriptGrammar

@@ -1,6 +1,9 @@
 //! Openings: the INVITE of a caller who asks for privacy, from a trusted peer to one that is not.
 
 use crate::runs::{check, sound};
+use mmtel_cli::{ScriptLink, listing, offers, read_directory};
+use mmtel_scan::Text;
+use std::alloc::Global;
 use std::test::Fail;
 
 /// A server with a trusted peer and one that is not.
@@ -230,5 +233,20 @@ fn restricted_openings(rt: HostRuntime) -> Result<(), Fail> {
         let words = "replay|server.cfg|run.script|--token|0123456789abcdef";
         check(&rt, rt.alloc(), words, sound(&files), 0, offers)?;
     }
+    Ok(())
+}
+
+/// The listing of what the events of a script make the server offer, by the calls right below the top call.
+fn offered(alloc: Global, script: &str) -> Result<Text, Fail> {
+    let directory = read_directory(alloc, CONFIG.as_bytes())?;
+    let script = ScriptLink::read(alloc, script.as_bytes(), &directory.peers)?;
+    let offers = offers(alloc, &directory, b"0123456789abcdef", &script)?;
+    Ok(listing(alloc, &offers)?)
+}
+
+#[test]
+fn offers_of_an_opening(rt: HostRuntime) -> Result<(), Fail> {
+    let offered = offered(rt.alloc(), RESTRICTED)?;
+    assert_eq!(rt; offered.bytes(), RESTRICTED_OFFERS.as_bytes());
     Ok(())
 }

@@ -24,6 +24,7 @@ fn lists_of_words(rt: HostRuntime) -> Result<(), Fail> {
             "line 1\n",
         ),
         ("replay|--token|0123456789abcdef|--|--|c", 5, "file\n"),
+        ("replay|c|c|--token|0123456789abcdef", 2, "line 1\n"),
         ("replay|s|c|--token|0123456789abcdef", 5, "file\n"),
         ("replay||s|--token|0123456789abcdef", 5, "file\n"),
         ("replay|replay|s|--token|0123456789abcdef", 5, "file\n"),

@@ -827,6 +827,25 @@ until = "2025-12-31T23:59:59.999Z"
 =wrong outgoing-communication-barring.rule.0.until
 
 [[outgoing-communication-barring.rule]]
+until = "2026-07-01 00:00:00.5+00:00[Europe/London]"
+from = "2026-06-30t23:59:60Z"
+allow = true
+=outgoing
+=rule from<1782863999000> until<1782864000500>: allow
+
+[[outgoing-communication-barring.rule]]
+until = "x"
+from = "y"
+allow = 1
+=wrong outgoing-communication-barring.rule.0.allow
+
+[[outgoing-communication-barring.rule]]
+until = "x"
+from = "y"
+allow = true
+=wrong outgoing-communication-barring.rule.0.from
+
+[[outgoing-communication-barring.rule]]
 allow = true
 from = "2026-01-01T00:00:00"
 until = "2026-01-02T00:00:00Z"
@@ -867,7 +886,7 @@ fn reads_times(rt: HostRuntime) -> Result<(), Fail> {
     check_rows(&rt, rt.alloc(), TIMES, 20)
 }
 
-/// Arrays at their limits and past them; the items of `one` and `except` are counted together.
+/// Arrays and texts at their limits and past them; the items of `one` and `except` are counted together.
 const ARRAYS: &[u8] = br#"[outgoing-communication-barring]
 rule = [
 **{allow = false},
@@ -970,6 +989,55 @@ one = ["sip:c@d"]
 =many incoming-communication-barring.rule.0.one
 
 [[incoming-communication-barring.rule]]
+one = ["sip:c@d"]
+except = [
+**"sip:a@b",
+]
+many = "*"
+allow = true
+=many incoming-communication-barring.rule.0.one
+
+[[incoming-communication-barring.rule]]
+one = ["sip:c@d"]
+except = [
+*"sip:a@b",
+]
+many = "*"
+allow = true
+[incoming-communication-barring]
+active = false
+
+[[incoming-communication-barring.rule]]
+allow = true
+many = """\
+*abcd\
+abc"""
+[incoming-communication-barring]
+active = false
+
+[[incoming-communication-barring.rule]]
+allow = true
+many = """\
+**abcd\
+"""
+=wrong incoming-communication-barring.rule.0.many
+
+[[communication-diversion.rule]]
+target = """\
+sip:\
+*abcd\
+"""
+[communication-diversion]
+active = false
+
+[[communication-diversion.rule]]
+target = """\
+sip:\
+*abcd\
+e"""
+=wrong communication-diversion.rule.0.target
+
+[[incoming-communication-barring.rule]]
 allow = true
 media = [
 ***"audio",
@@ -978,8 +1046,8 @@ media = [
 active = false
 "#;
 
-/// Arrays of rules and of identities.
+/// Arrays of rules and of identities, domains and targets.
 #[test]
 fn counts_items(rt: HostRuntime) -> Result<(), Fail> {
-    check_rows(&rt, rt.alloc(), ARRAYS, 20)
+    check_rows(&rt, rt.alloc(), ARRAYS, 24)
 }

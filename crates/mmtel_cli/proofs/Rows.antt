@@ -36,7 +36,7 @@ use Rattle.mmtel_trust.specs.Mask as Mask
 use Rattle.mmtel_trust.specs.Privacy.{Line}
 use Rattle.mmtel_cli.specs.Directory as Directory
 use Rattle.mmtel_cli.specs.Forms as Forms
-use Rattle.mmtel_cli.specs.Openings as Openings
+use Rattle.mmtel_leg.specs.Lines as HeaderLines
 use Rattle.mmtel_cli.specs.Run as Run
 use Rattle.mmtel_cli.specs.Script as Script
 use Rattle.mmtel_cli.specs.declared.directories.Directory.{Directory}
@@ -194,7 +194,7 @@ unfolding Classes.in_class Numbers.within Numbers.number_of Scanning.parted Scri
 events_erin = refl
 
 listed_erin : listed of_erin ≡ tried (codes "Erin") (codes "erin") ++ attempted (codes "67")
-unfolding Fmt.digits Classes.in_class Numbers.within Numbers.number_of Scanning.run Scanning.after_run Scanning.parted Scanning.closes Scanning.trimmed Reading.token_at Reading.text_at Reading.value_at Reading.param_at Reading.params_at Reading.all_params_at Reading.user_at Reading.host_at Reading.port_number Reading.port_at Reading.headers_of Reading.headers_at Reading.sip_of Reading.scheme_of Reading.uri_of Reading.angle_of Reading.bare_of Reading.words_of Reading.quoted_of Reading.name_addr_of Fields.via_at Values.parts Kinds.kind_of Passed.is_shown Forms.after_form Forms.is_via_from Forms.is_sip_uri Forms.is_sip_name Forms.is_untagged Forms.is_first_form Openings.line Run.target_of Run.offers_of
+unfolding Fmt.digits Classes.in_class Numbers.within Numbers.number_of Scanning.run Scanning.after_run Scanning.parted Scanning.closes Scanning.trimmed Reading.token_at Reading.text_at Reading.value_at Reading.param_at Reading.params_at Reading.all_params_at Reading.user_at Reading.host_at Reading.port_number Reading.port_at Reading.headers_of Reading.headers_at Reading.sip_of Reading.scheme_of Reading.uri_of Reading.angle_of Reading.bare_of Reading.words_of Reading.quoted_of Reading.name_addr_of Fields.via_at Values.parts Kinds.kind_of Passed.is_shown Forms.after_form Forms.is_via_from Forms.is_sip_uri Forms.is_sip_name Forms.is_untagged Forms.is_first_form HeaderLines.line Run.target_of Run.offers_of
 listed_erin = refl
 
 -- ---- of frank
@@ -261,7 +261,7 @@ unfolding Classes.in_class Numbers.within Numbers.number_of Scanning.parted Scri
 events_frank = refl
 
 listed_frank : listed of_frank ≡ tried (codes "Frank") (codes "frank") ++ attempted (codes "67")
-unfolding Fmt.digits Classes.in_class Numbers.within Numbers.number_of Scanning.run Scanning.after_run Scanning.parted Scanning.closes Scanning.trimmed Reading.token_at Reading.text_at Reading.value_at Reading.param_at Reading.params_at Reading.all_params_at Reading.user_at Reading.host_at Reading.port_number Reading.port_at Reading.headers_of Reading.headers_at Reading.sip_of Reading.scheme_of Reading.uri_of Reading.angle_of Reading.bare_of Reading.words_of Reading.quoted_of Reading.name_addr_of Fields.via_at Values.parts Kinds.kind_of Passed.is_shown Forms.after_form Forms.is_via_from Forms.is_sip_uri Forms.is_sip_name Forms.is_untagged Forms.is_first_form Openings.line Run.target_of Run.offers_of
+unfolding Fmt.digits Classes.in_class Numbers.within Numbers.number_of Scanning.run Scanning.after_run Scanning.parted Scanning.closes Scanning.trimmed Reading.token_at Reading.text_at Reading.value_at Reading.param_at Reading.params_at Reading.all_params_at Reading.user_at Reading.host_at Reading.port_number Reading.port_at Reading.headers_of Reading.headers_at Reading.sip_of Reading.scheme_of Reading.uri_of Reading.angle_of Reading.bare_of Reading.words_of Reading.quoted_of Reading.name_addr_of Fields.via_at Values.parts Kinds.kind_of Passed.is_shown Forms.after_form Forms.is_via_from Forms.is_sip_uri Forms.is_sip_name Forms.is_untagged Forms.is_first_form HeaderLines.line Run.target_of Run.offers_of
 listed_frank = refl
 
 -- ---- the rows
@@ -285,23 +285,23 @@ unfolding Classes.in_class Numbers.within Numbers.number_of Scanning.run Scannin
 masks_alike = refl
 
 pub fewer_hops : FewerHops
-unfolding Fmt.digits Classes.in_class Numbers.within Numbers.number_of Scanning.run Scanning.after_run Scanning.parted Scanning.closes Scanning.trimmed Reading.token_at Reading.text_at Reading.value_at Reading.param_at Reading.params_at Reading.all_params_at Reading.user_at Reading.host_at Reading.port_number Reading.port_at Reading.headers_of Reading.headers_at Reading.sip_of Reading.scheme_of Reading.uri_of Reading.angle_of Reading.bare_of Reading.words_of Reading.quoted_of Reading.name_addr_of Fields.via_at Values.parts Kinds.kind_of Passed.is_shown Forms.after_form Forms.is_via_from Forms.is_sip_uri Forms.is_sip_name Forms.is_untagged Forms.is_first_form Openings.line Run.target_of Run.offers_of
+unfolding Fmt.digits Classes.in_class Numbers.within Numbers.number_of Scanning.run Scanning.after_run Scanning.parted Scanning.closes Scanning.trimmed Reading.token_at Reading.text_at Reading.value_at Reading.param_at Reading.params_at Reading.all_params_at Reading.user_at Reading.host_at Reading.port_number Reading.port_at Reading.headers_of Reading.headers_at Reading.sip_of Reading.scheme_of Reading.uri_of Reading.angle_of Reading.bare_of Reading.words_of Reading.quoted_of Reading.name_addr_of Fields.via_at Values.parts Kinds.kind_of Passed.is_shown Forms.after_form Forms.is_via_from Forms.is_sip_uri Forms.is_sip_name Forms.is_untagged Forms.is_first_form HeaderLines.line Run.target_of Run.offers_of
 fewer_hops = refl
 
 unrestricted : listed (invite bob (codes "68") (codes "Erin") (codes "erin") []) ≡ unbuilt
-unfolding Fmt.digits Classes.in_class Numbers.within Numbers.number_of Scanning.run Scanning.after_run Scanning.parted Scanning.closes Scanning.trimmed Reading.token_at Reading.text_at Reading.value_at Reading.param_at Reading.params_at Reading.all_params_at Reading.user_at Reading.host_at Reading.port_number Reading.port_at Reading.headers_of Reading.headers_at Reading.sip_of Reading.scheme_of Reading.uri_of Reading.angle_of Reading.bare_of Reading.words_of Reading.quoted_of Reading.name_addr_of Fields.via_at Values.parts Kinds.kind_of Passed.is_shown Forms.after_form Forms.is_via_from Forms.is_sip_uri Forms.is_sip_name Forms.is_untagged Forms.is_first_form Openings.line Run.target_of Run.offers_of
+unfolding Fmt.digits Classes.in_class Numbers.within Numbers.number_of Scanning.run Scanning.after_run Scanning.parted Scanning.closes Scanning.trimmed Reading.token_at Reading.text_at Reading.value_at Reading.param_at Reading.params_at Reading.all_params_at Reading.user_at Reading.host_at Reading.port_number Reading.port_at Reading.headers_of Reading.headers_at Reading.sip_of Reading.scheme_of Reading.uri_of Reading.angle_of Reading.bare_of Reading.words_of Reading.quoted_of Reading.name_addr_of Fields.via_at Values.parts Kinds.kind_of Passed.is_shown Forms.after_form Forms.is_via_from Forms.is_sip_uri Forms.is_sip_name Forms.is_untagged Forms.is_first_form HeaderLines.line Run.target_of Run.offers_of
 unrestricted = refl
 
 hopless : listed (invite bob (codes "0") (codes "Erin") (codes "erin") private) ≡ unbuilt
-unfolding Fmt.digits Classes.in_class Numbers.within Numbers.number_of Scanning.run Scanning.after_run Scanning.parted Scanning.closes Scanning.trimmed Reading.token_at Reading.text_at Reading.value_at Reading.param_at Reading.params_at Reading.all_params_at Reading.user_at Reading.host_at Reading.port_number Reading.port_at Reading.headers_of Reading.headers_at Reading.sip_of Reading.scheme_of Reading.uri_of Reading.angle_of Reading.bare_of Reading.words_of Reading.quoted_of Reading.name_addr_of Fields.via_at Values.parts Kinds.kind_of Passed.is_shown Forms.after_form Forms.is_via_from Forms.is_sip_uri Forms.is_sip_name Forms.is_untagged Forms.is_first_form Openings.line Run.target_of Run.offers_of
+unfolding Fmt.digits Classes.in_class Numbers.within Numbers.number_of Scanning.run Scanning.after_run Scanning.parted Scanning.closes Scanning.trimmed Reading.token_at Reading.text_at Reading.value_at Reading.param_at Reading.params_at Reading.all_params_at Reading.user_at Reading.host_at Reading.port_number Reading.port_at Reading.headers_of Reading.headers_at Reading.sip_of Reading.scheme_of Reading.uri_of Reading.angle_of Reading.bare_of Reading.words_of Reading.quoted_of Reading.name_addr_of Fields.via_at Values.parts Kinds.kind_of Passed.is_shown Forms.after_form Forms.is_via_from Forms.is_sip_uri Forms.is_sip_name Forms.is_untagged Forms.is_first_form HeaderLines.line Run.target_of Run.offers_of
 hopless = refl
 
 unrouted : listed (invite (codes "sip:bob@nowhere.example") (codes "68") (codes "Erin") (codes "erin") private) ≡ unbuilt
-unfolding Fmt.digits Classes.in_class Numbers.within Numbers.number_of Scanning.run Scanning.after_run Scanning.parted Scanning.closes Scanning.trimmed Reading.token_at Reading.text_at Reading.value_at Reading.param_at Reading.params_at Reading.all_params_at Reading.user_at Reading.host_at Reading.port_number Reading.port_at Reading.headers_of Reading.headers_at Reading.sip_of Reading.scheme_of Reading.uri_of Reading.angle_of Reading.bare_of Reading.words_of Reading.quoted_of Reading.name_addr_of Fields.via_at Values.parts Kinds.kind_of Passed.is_shown Forms.after_form Forms.is_via_from Forms.is_sip_uri Forms.is_sip_name Forms.is_untagged Forms.is_first_form Openings.line Run.target_of Run.offers_of
+unfolding Fmt.digits Classes.in_class Numbers.within Numbers.number_of Scanning.run Scanning.after_run Scanning.parted Scanning.closes Scanning.trimmed Reading.token_at Reading.text_at Reading.value_at Reading.param_at Reading.params_at Reading.all_params_at Reading.user_at Reading.host_at Reading.port_number Reading.port_at Reading.headers_of Reading.headers_at Reading.sip_of Reading.scheme_of Reading.uri_of Reading.angle_of Reading.bare_of Reading.words_of Reading.quoted_of Reading.name_addr_of Fields.via_at Values.parts Kinds.kind_of Passed.is_shown Forms.after_form Forms.is_via_from Forms.is_sip_uri Forms.is_sip_name Forms.is_untagged Forms.is_first_form HeaderLines.line Run.target_of Run.offers_of
 unrouted = refl
 
 second : listed_after (Came 0 Unbuilt ∷ []) of_erin ≡ unbuilt
-unfolding Fmt.digits Classes.in_class Numbers.within Numbers.number_of Scanning.run Scanning.after_run Scanning.parted Scanning.closes Scanning.trimmed Reading.token_at Reading.text_at Reading.value_at Reading.param_at Reading.params_at Reading.all_params_at Reading.user_at Reading.host_at Reading.port_number Reading.port_at Reading.headers_of Reading.headers_at Reading.sip_of Reading.scheme_of Reading.uri_of Reading.angle_of Reading.bare_of Reading.words_of Reading.quoted_of Reading.name_addr_of Fields.via_at Values.parts Kinds.kind_of Passed.is_shown Forms.after_form Forms.is_via_from Forms.is_sip_uri Forms.is_sip_name Forms.is_untagged Forms.is_first_form Openings.line Run.target_of Run.offers_of
+unfolding Fmt.digits Classes.in_class Numbers.within Numbers.number_of Scanning.run Scanning.after_run Scanning.parted Scanning.closes Scanning.trimmed Reading.token_at Reading.text_at Reading.value_at Reading.param_at Reading.params_at Reading.all_params_at Reading.user_at Reading.host_at Reading.port_number Reading.port_at Reading.headers_of Reading.headers_at Reading.sip_of Reading.scheme_of Reading.uri_of Reading.angle_of Reading.bare_of Reading.words_of Reading.quoted_of Reading.name_addr_of Fields.via_at Values.parts Kinds.kind_of Passed.is_shown Forms.after_form Forms.is_via_from Forms.is_sip_uri Forms.is_sip_name Forms.is_untagged Forms.is_first_form HeaderLines.line Run.target_of Run.offers_of
 second = refl
 
 untrusted : listing_of (gives server token (Datagram (at_port 5072) 0 (message_text of_erin) ∷ [])) ≡ unbuilt

@@ -3,3 +3,4 @@ pub mod Dialogues
 pub mod Requests
 pub mod Legs
 pub mod Deeds
+pub mod Readings

@@ -4,3 +4,4 @@ pub mod HeardLaws
 pub mod ReadLaws
 pub mod OrderLaws
 pub mod TagLaws
+pub mod FiveLaws

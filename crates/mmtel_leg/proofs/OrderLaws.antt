@@ -1,5 +1,5 @@
 -- The requests of a leg are heard in order on the other side (RFC 3261 §12.2.2), and an ACK has the number of its INVITE (§13.2.2.4).
-use Rattle.std.proofs.Common.{◌∙◌, ◌≡◌, ◌<◌, ◌≤◌, ◌+◌, ◌-◌, ◌^◌, ◌&&◌, Bool, true, false, not, ℕ, nat_lt, List, [], ◌∷◌, Option, Some, None, Result, Ok, Err, ap, arith, codes, refl, sym}
+use Rattle.std.proofs.Common.{◌∙◌, ◌≡◌, ◌<◌, ◌≤◌, ◌+◌, ◌^◌, Bool, true, false, not, ℕ, nat_lt, List, [], ◌∷◌, Option, Some, None, Result, Ok, Err, ap, arith, codes, refl, sym}
 use Rattle.std.specs.List.{list_all}
 use Rattle.std.specs.Str.{bytes_eq}
 use Rattle.std.proofs.lemmas.Bool.Decides.{nat_tests}
@@ -11,9 +11,9 @@ use Rattle.mmtel_charging.specs.Meters.{Noted}
 use Rattle.mmtel_types.specs.declared.numbers.Peer.{Peer}
 use Rattle.mmtel_message.specs.Faults.{is_method}
 use Rattle.mmtel_message.specs.Fields.{cseq_at}
-use Rattle.mmtel_message.specs.Message.{Message, first_value}
+use Rattle.mmtel_message.specs.Message.{Message}
 use Rattle.mmtel_message.specs.declared.messages.Start.{Start}
-use Rattle.mmtel_leg.specs.Dialogues.{after_hearing, after_request, hears, invited_by, last_after, next_number, number_at, number_in, or_zero, started, unless_busy, unless_old}
+use Rattle.mmtel_leg.specs.Dialogues.{after_hearing, after_request, hears, last_after, next_number, number_at, number_in, or_zero, started, unless_busy, unless_old}
 use Rattle.mmtel_leg.specs.declared.dialogues.Dialogue.{Dialogue}
 use Rattle.mmtel_leg.specs.declared.dialogues.DialogueFault.{DialogueFault}
 use Rattle.mmtel_leg.specs.declared.dialogues.InFlight.TheVariants as in_flight

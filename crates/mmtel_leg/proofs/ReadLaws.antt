@@ -1,5 +1,5 @@
 -- CSeq that is written is read again (RFC 3261 §20.16).
-use Rattle.std.proofs.Common.{◌∙◌, ◌≡◌, ◌==◌, ◌^◌, ◌<◌, ◌+◌, ℕ, true, false, List, [], ◌∷◌, ◌++◌, Option, Some, None, length, append-nil, ap, arith, codes, decimal, refl, sym}
+use Rattle.std.proofs.Common.{◌∙◌, ◌≡◌, ◌^◌, ◌<◌, ℕ, true, false, List, [], ◌∷◌, Option, Some, None, append-nil, ap, arith, decimal, refl, sym}
 use Rattle.std.specs.List.{list_all}
 use Rattle.std.specs.Char.{digit_value}
 use Rattle.std.specs.Option.{option_map}
@@ -32,7 +32,7 @@ digits_by : (ds : List ℕ) → AllDigits 10 ds → IsAll Digit ds
 digits_by [] all = refl
 digits_by (c ∷ ds) all = rw (digit_by c all.0, digits_by ds all.1) refl
 
-decimal_writes : (n : ℕ) → n < 2 ^ 64 → Writes (decimal n) n
+pub decimal_writes : (n : ℕ) → n < 2 ^ 64 → Writes (decimal n) n
 decimal_writes n small =
     let numeral = decimal_is_IsNumeral n small in
     record { digits = record { filled = numeral.0.0; each = digits_by (decimal n) numeral.0.1 }; worth = numeral.1 }
@@ -53,7 +53,7 @@ token_no_blank : (b : ℕ) → in_class Token b ≡ true → in_class Blank b �
 unfolding in_class
 token_no_blank b e = grind (arith, nat_tests)
 
-token_stops : (method : List ℕ) → IsAll Token method → Stops Blank method
+pub token_stops : (method : List ℕ) → IsAll Token method → Stops Blank method
 token_stops [] each = tt
 token_stops (b ∷ s) each = token_no_blank b (and_true (in_class Token b) (list_all (in_class Token) s) each).0
 

@@ -2,11 +2,10 @@
 use Rattle.std.proofs.Common.{◌∙◌, ◌≡◌, ◌⊎◌, inl, inr, ◌||◌, Bool, true, false, not, ℕ, List, [], ◌∷◌, ◌++◌, Option, Some, None, Result, Ok, Err, IfSome, ◌<◌, append-nil, append_assoc, ap, arith, codes, cond, length, refl, sym, subst}
 use Rattle.std.proofs.lemmas.List.{length-append}
 use Rattle.std.specs.List.{list_any}
-use Rattle.std.specs.Str.{str_eq_ignore_ascii_case}
 use Rattle.mmtel_scan.specs.Chain.{◌>>=◌}
 use Rattle.mmtel_scan.specs.Classes.{Stops, in_class}
 use Rattle.mmtel_scan.specs.declared.classes.Class.TheVariants.{Blank}
-use Rattle.mmtel_lex.specs.Grammar.{AreParams, IsAngled, IsBare, IsNameAddr, IsToken, IsValue, param_text, params_text}
+use Rattle.mmtel_lex.specs.Grammar.{AreParams, IsNameAddr, IsToken, IsValue, param_text, params_text}
 use Rattle.mmtel_lex.specs.Reading.{name_addr_of}
 use Rattle.mmtel_lex.specs.declared.values.NameAddr.{NameAddr}
 use Rattle.mmtel_lex.specs.declared.values.Param.{Param}
@@ -83,6 +82,9 @@ name_more s n tag (inr is) value = inr (record {
   params_in = are_more n.params tag is.params_in value;
 })
 
+pub tagged_reads : (value : List ℕ) (n : NameAddr) (tag : List ℕ) → name_addr_of value ≡ Some n → IsValue tag → name_addr_of (tagged value tag) ≡ Some (record n { params = n.params ++ record { name = codes "tag"; value = Some tag } ∷ [] })
+tagged_reads value n tag e is = name_addr_again (tagged value tag) (more n tag) (name_more value n tag (name_addr_takes value n e) is)
+
 neither : (a b : Bool) → not (a || b) ≡ true → (a ≡ false) × (not b ≡ true)
 neither true b e = absurd cc
 neither false b e = (refl, e)
@@ -96,8 +98,7 @@ found_behind (p ∷ ps) tag none =
 tag_by : (s : List ℕ) (o : Option NameAddr) (tag : List ℕ) → name_addr_of s ≡ o → is_untagged o ≡ true → IsValue tag → tag_of (Some (tagged s tag)) ≡ Some tag
 tag_by s None tag e untagged value = absurd cc
 tag_by s (Some n) tag e untagged value =
-    let is : IsNameAddr (tagged s tag) (more n tag) = name_more s n tag (name_addr_takes s n e) value in
-    ap (λ (o : Option NameAddr). o >>= λ m. param_value (codes "tag") m.params) (name_addr_again (tagged s tag) (more n tag) is) ∙ found_behind n.params tag untagged
+    ap (λ (o : Option NameAddr). o >>= λ m. param_value (codes "tag") m.params) (tagged_reads s n tag e value) ∙ found_behind n.params tag untagged
 
 tag_again : (s tag : List ℕ) → is_untagged (name_addr_of s) ≡ true → IsValue tag → tag_of (Some (tagged s tag)) ≡ Some tag
 tag_again s tag untagged value = tag_by s (name_addr_of s) tag refl untagged value

@@ -5,3 +5,4 @@ pub mod Dialogues
 pub mod Requests
 pub mod Legs
 pub mod Deeds
+pub mod Readings

@@ -14,9 +14,9 @@ pub use addresses::{addr_text, contact_text, ip_text, via_text};
 pub use dialogues::{DialogueFault, InFlight};
 pub use fields::request_uri;
 pub use laws::{
-    acks_have_the_number_of_their_invite, meters_come_back, numbers_read_back, numbers_rise_by_one,
-    refusals_change_nothing, requests_are_in_order, requests_name_their_dialog, tags_read_back,
-    the_way_stays,
+    acks_have_the_number_of_their_invite, five_fields_read_back, meters_come_back,
+    numbers_read_back, numbers_rise_by_one, refusals_change_nothing, requests_are_in_order,
+    requests_name_their_dialog, tags_read_back, the_way_stays,
 };
 pub use legs::{
     Asked, CalleeLeg, CallerLeg, Early, Ended, LegOf, OfCallee, OfCaller, Released, Standing,

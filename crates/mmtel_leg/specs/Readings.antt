@@ -1,0 +1,43 @@
+-- What is read of what is built in a dialog (RFC 3261 §8.1.1): its five fields.
+use Rattle.std.specs.Prelude.{◌≡◌, ◌<◌, ℕ, false, Some, List, [], ◌∷◌, ◌++◌, codes, get_or, map}
+use Rattle.mmtel_lex.specs.declared.values.NameAddr.{NameAddr}
+use Rattle.mmtel_message.specs.Message.{has_line}
+use Rattle.mmtel_message.specs.declared.fields.Five.{Five}
+use Rattle.mmtel_message.specs.declared.fields.Via.{Via}
+use Rattle.mmtel_trust.specs.declared.addrs.Addr.{Addr}
+use Rattle.mmtel_trust.specs.declared.showing.Line as showing
+use Rattle.mmtel_leg.specs.Requests.{Given, addr_text, ip_text, pair_of}
+use Rattle.mmtel_leg.specs.declared.dialogues.Dialogue.{Dialogue}
+
+-- an address that can be written: four bytes, and a port that is not 0
+pub record IsAddr (sip : Addr) : Type 0 where
+  pub bytes : (i : ℕ) → get_or sip.ip i 0 < 256
+  pub port : 0 < sip.port
+  pub fits : sip.port < 65536
+
+-- the lines that are shown bring no second one of those that the dialog writes
+pub record BringsNone (shown : List showing.Line) : Type 0 where
+  pub from : has_line (codes "From") (map pair_of shown) ≡ false
+  pub to : has_line (codes "To") (map pair_of shown) ≡ false
+  pub call_id : has_line (codes "Call-ID") (map pair_of shown) ≡ false
+  pub cseq : has_line (codes "CSeq") (map pair_of shown) ≡ false
+
+-- the server's Via as it is read (§20.42)
+abbrev pub via_of : Addr → List ℕ → Via
+via_of sip branch = record {
+  transport = codes "UDP";
+  sent_by = addr_text sip;
+  host = ip_text sip.ip;
+  port = Some sip.port;
+  params = record { name = codes "branch"; value = Some (codes "z9hG4bK" ++ branch) } ∷ [];
+}
+
+-- the five fields of what is built, where this is read of its From and To
+abbrev pub five_of : Dialogue → ℕ → List ℕ → Given → NameAddr → NameAddr → Five
+five_of d number method given from to = record {
+  via = via_of given.sip given.branch;
+  from = from;
+  to = to;
+  call_id = d.call_id;
+  cseq = record { number = number; method = method };
+}

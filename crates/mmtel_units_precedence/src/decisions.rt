@@ -6,6 +6,7 @@ use crate::records::{
 };
 use mmtel_lex::Text;
 use mmtel_precedence::{CallFacts, go_on, verdict};
+use mmtel_types::Cause;
 use std::alloc::Global;
 use std::test::Fail;
 
@@ -47,12 +48,21 @@ fn are_decided(alloc: Global, table: &[u8]) -> Result<bool, Fail> {
     Ok(false)
 }
 
-/// What `go_on` says, as text: `made`, or the refusal.
-fn gone_on(alloc: Global, counts: &[u8], record: &[u8], target: &[u8]) -> Result<Text, Fail> {
+/// What refuses a diversion to this target, if anything does.
+fn refused(
+    alloc: Global,
+    counts: &[u8],
+    record: &[u8],
+    target: &Called,
+) -> Result<Option<Cause>, Fail> {
     let (received, done, bound, cause) = numbers(counts)?;
-    let target = read_call(alloc, target)?;
     let sheet = read_record(alloc, record)?;
-    match go_on(&sheet, &facts(&target), received, done, bound, cause) {
+    Ok(go_on(&sheet, &facts(target), received, done, bound, cause))
+}
+
+/// What `go_on` says, as text: `made`, or the refusal.
+fn gone_on(alloc: Global, refusal: Option<Cause>) -> Result<Text, Fail> {
+    match refusal {
         None => Ok(Text::of(alloc, b"made")?),
         Some(refusal) => cause_text(alloc, &refusal),
     }
@@ -63,7 +73,9 @@ fn is_gone_on(alloc: Global, row: &[u8]) -> Result<bool, Fail> {
     let (wanted, rest) = cut(row);
     let (counts, rest) = cut(rest);
     let (record, target) = cut(rest);
-    let told = gone_on(alloc, counts, record, target)?;
+    let target = read_call(alloc, target)?;
+    let refusal = refused(alloc, counts, record, &target)?;
+    let told = gone_on(alloc, refusal)?;
     Ok(told.bytes() == wanted)
 }
 
@@ -120,7 +132,11 @@ divert 486 sip:vm@far.example|arrived|--2|communication-diversion = { rule = [{ 
 network-busy 486|arrived|--2|communication-waiting = { calls = 2 }
 wait|arrived|--7|communication-waiting = { calls = 8 }
 network-busy 486|arrived|--9|communication-waiting = { calls = 8 }
+network-busy 486|arrived|--8|communication-waiting = { calls = 8 }
 offer|arrived|--0|communication-waiting = { calls = 8 }
+network-busy 486|arrived|--1|
+network-busy 486|arrived|--1|communication-waiting = { active = false, calls = 8 }
+incoming-barred 603|arrived|--2|communication-waiting = { calls = 2 };incoming-communication-barring = { rule = [{ allow = false }] }
 ";
 
 #[test]
@@ -135,6 +151,10 @@ divert 404 sip:vm@far.example|arrived|-u0|communication-diversion = { rule = [{ 
 offer|arrived|--0|communication-diversion = { rule = [{ not-registered = true, target = \"sip:vm@far.example\" }] }
 not-registered 480|arrived|-u1|communication-diversion = { rule = [{ busy = true, target = \"sip:carol@home.example\" }] }
 divert 302 sip:vm@far.example|arrived|-u1|communication-diversion = { rule = [{ target = \"sip:vm@far.example\" }] }
+divert 404 sip:vm@far.example|arrived|-u0|communication-diversion = { rule = [{ not-registered = true, target = \"sip:vm@far.example\" }, { target = \"sip:carol@home.example\" }] }
+divert 302 sip:carol@home.example|arrived|--0|communication-diversion = { rule = [{ not-registered = true, target = \"sip:vm@far.example\" }, { target = \"sip:carol@home.example\" }] }
+divert 302 sip:carol@home.example|arrived|-u0|communication-diversion = { rule = [{ target = \"sip:carol@home.example\" }, { not-registered = true, target = \"sip:vm@far.example\" }] }
+incoming-barred 603|arrived|-u0|communication-diversion = { rule = [{ not-registered = true, target = \"sip:vm@far.example\" }] };incoming-communication-barring = { rule = [{ allow = false }] }
 ";
 
 #[test]
@@ -179,6 +199,11 @@ too-many-diversions 480|5 0 5 302||--0sip:vm@far.example
 made|4 0 5 486||--0sip:vm@far.example
 made|4 0 5 302||--0sip:vm@far.example
 too-many-diversions 480|3 2 5 408||--0sip:vm@far.example
+made|3 1 5 408||--0sip:vm@far.example
+too-many-diversions 486|3 2 5 486||--0sip:vm@far.example
+made|15 0 16 404||--0sip:vm@far.example
+too-many-diversions 480|32 0 16 487||--0sip:vm@far.example
+too-many-diversions 480|60000 60000 16 302||--0sip:vm@far.example
 ";
 
 #[test]

@@ -1,199 +1,17 @@
 //! Conditions over facts, and the rules that decide (RFC 4745 §6 and §7, TS 24.604 §4.9.1).
+//!
+//! The answers of a row are five: as the call arrives at a registered user, as it arrives at one who is not registered, at a busy user, without an answer, at a user who cannot be reached. Each is the place of the first rule that holds, or `-`. Rules divert, and a line has the keys behind the target.
 
-use crate::reading::{beginning, cut, facts, next_line, offered, party, sheet_of};
-use mmtel_lex::{List, Text};
-use mmtel_rules::{Identities2, When, all_bar, first, holds};
-use mmtel_sheet_values::Sheet;
-use mmtel_types::Moment;
+use crate::reading::{Called, Table, cut, facts, read_called, sheet_of, wrong_line};
+use mmtel_rules::{Facts, When, first, holds};
+use mmtel_sheet_values::Rule;
 use std::alloc::Global;
 use std::test::Fail;
 
-/// The record of a diversion with one rule of these keys.
-fn diverting(alloc: Global, keys: &[u8]) -> Result<Sheet, Fail> {
-    let mut rule = Text::of(alloc, b"{ target = \"sip:vm@far.example\"")?;
-    rule.push(alloc, keys)?;
-    rule.push(alloc, b" }")?;
-    sheet_of(alloc, b"communication-diversion", rule.bytes())
-}
-
-/// What is known of a call in a row.
-#[derive(Clone, Copy)]
-struct Call<'a> {
-    caller: &'a Identities2,
-    restricted: bool,
-    media: &'a List<Text>,
-    now: Moment,
-    when: When,
-}
-
-/// Whether the one rule of the record holds, asked alone and as the first of the list.
-fn rule_holds(sheet: &Sheet, call: &Call) -> Result<bool, Fail> {
-    let part = sheet.diversion.as_ref().ok_or("no diversion")?;
-    let rule = part.rules.items().first().ok_or("no rule")?;
-    let facts = facts(call.caller, call.restricted, call.media, call.now);
-    let held = holds(&rule.condition, &facts, call.when);
-    if held != first(part.rules.items(), &facts, call.when).is_some() {
-        Err("the first rule that holds is another")?
-    }
-    Ok(held)
-}
-
-const ARRIVAL: When = When::Arrival { registered: true };
-
-/// Whether a rule of these keys holds as the party calls.
-fn holds_of(alloc: Global, keys: &[u8], uri: &[u8], restricted: bool) -> Result<bool, Fail> {
-    let now = beginning()?;
-    let sheet = diverting(alloc, keys)?;
-    let caller = party(alloc, uri)?;
-    let media = List::new();
-    rule_holds(
-        &sheet,
-        &Call {
-            caller: &caller,
-            restricted,
-            media: &media,
-            now,
-            when: ARRIVAL,
-        },
-    )
-}
-
-/// Who is meant: `y` or `n`, the caller, the keys.
-const IDENTITIES: &[u8] = b"y||
-y|sip:alice@home.example|, one = [\"sip:alice@home.example\"]
-y|sip:alice@HOME.example:5070|, one = [\"sip:alice@home.example\"]
-n|sip:Alice@home.example|, one = [\"sip:alice@home.example\"]
-n||, one = [\"sip:alice@home.example\"]
-y|tel:+49-30-111|, one = [\"tel:+4930111\"]
-y|tel:+4930111|, one = [\"sip:+4930111@far.example;user=phone\"]
-y|tel:+4930111|, many = \"*\"
-n||, many = \"*\"
-y|sip:alice@home.example|, many = \"HOME.Example\"
-n|sip:alice@www.home.example|, many = \"home.example\"
-n|tel:+4930111|, many = \"home.example\"
-n|sip:alice@home.example|, many = \"*\", except = [\"sip:alice@home.example\"]
-y|sip:bob@home.example|, many = \"*\", except = [\"sip:alice@home.example\"]
-y|sip:alice@home.example|, one = [\"sip:alice@home.example\"], many = \"*\", except = [\"sip:alice@home.example\"]
-n|sip:alice@home.example|, one = []
-";
-
-#[test]
-fn identities(rt: HostRuntime) -> Result<(), Fail> {
-    let mut rows = IDENTITIES;
-    for _ in 0..16 {
-        let (row, rest) = next_line(rows);
-        rows = rest;
-        let (wanted, row) = cut(row);
-        let (caller, keys) = cut(row);
-        let held = holds_of(rt.alloc(), keys, caller, false)?;
-        assert_eq!(rt; held, wanted == b"y".as_slice());
-    }
-    assert!(rt; rows.is_empty());
-    Ok(())
-}
-
-#[test]
-fn anonymous(rt: HostRuntime) -> Result<(), Fail> {
-    let asked = b", anonymous = true";
-    assert!(rt; holds_of(rt.alloc(), asked, b"", true)?);
-    assert!(rt; !holds_of(rt.alloc(), asked, b"sip:alice@home.example", false)?);
-    assert!(rt; holds_of(rt.alloc(), b", anonymous = false", b"", false)?);
-    Ok(())
-}
-
-/// Whether a rule of these keys holds at a moment of the first second.
-fn holds_at(alloc: Global, keys: &[u8], at: u64) -> Result<bool, Fail> {
-    let now = Moment::new(at).ok_or("no moment of the clock")?;
-    let sheet = diverting(alloc, keys)?;
-    let caller = party(alloc, b"")?;
-    let media = List::new();
-    rule_holds(
-        &sheet,
-        &Call {
-            caller: &caller,
-            restricted: false,
-            media: &media,
-            now,
-            when: ARRIVAL,
-        },
-    )
-}
-
-/// The first millisecond of a window is in it, and its end is not.
-#[test]
-fn windows(rt: HostRuntime) -> Result<(), Fail> {
-    let window = b", from = \"1970-01-01T00:00:00.100Z\", until = \"1970-01-01T00:00:00.200Z\"";
-    assert!(rt; !holds_at(rt.alloc(), window, 99)?);
-    assert!(rt; holds_at(rt.alloc(), window, 100)?);
-    assert!(rt; holds_at(rt.alloc(), window, 199)?);
-    assert!(rt; !holds_at(rt.alloc(), window, 200)?);
-    let before = b", from = \"1960-01-01T00:00:00Z\", until = \"1970-01-01T00:00:00.006Z\"";
-    assert!(rt; holds_at(rt.alloc(), before, 5)?);
-    assert!(rt; !holds_at(rt.alloc(), before, 6)?);
-    Ok(())
-}
-
-/// Whether a rule of these keys holds where this kind of media is offered.
-fn holds_over(alloc: Global, keys: &[u8], kind: &[u8]) -> Result<bool, Fail> {
-    let now = beginning()?;
-    let sheet = diverting(alloc, keys)?;
-    let caller = party(alloc, b"")?;
-    let media = offered(alloc, kind)?;
-    rule_holds(
-        &sheet,
-        &Call {
-            caller: &caller,
-            restricted: false,
-            media: &media,
-            now,
-            when: ARRIVAL,
-        },
-    )
-}
-
-/// Kinds of media are compared byte for byte.
-#[test]
-fn media(rt: HostRuntime) -> Result<(), Fail> {
-    let audio = b", media = [\"video\", \"audio\"]";
-    assert!(rt; holds_over(rt.alloc(), audio, b"audio")?);
-    assert!(rt; !holds_over(rt.alloc(), audio, b"Audio")?);
-    assert!(rt; !holds_over(rt.alloc(), audio, b"message")?);
-    assert!(rt; !holds_over(rt.alloc(), audio, b"")?);
-    assert!(rt; !holds_over(rt.alloc(), b", media = []", b"audio")?);
-    Ok(())
-}
-
-/// Whether a rule of these keys holds when this happens.
-fn holds_when(alloc: Global, keys: &[u8], when: When) -> Result<bool, Fail> {
-    let now = beginning()?;
-    let sheet = diverting(alloc, keys)?;
-    let caller = party(alloc, b"")?;
-    let media = List::new();
-    rule_holds(
-        &sheet,
-        &Call {
-            caller: &caller,
-            restricted: false,
-            media: &media,
-            now,
-            when,
-        },
-    )
-}
-
-/// The keys of an event, and when it holds: on arrival, at a user who is not registered, busy, without an answer, not reachable.
-const EVENTS: &[u8] = b"|yynnn
-, busy = true|nnynn
-, no-answer = true|nnnyn
-, not-reachable = true|nnnny
-, not-registered = true|nynnn
-, busy = false|yynnn
-";
-
-/// The moment at a place of a row of events.
-fn moment_of(place: usize) -> When {
+/// The moment of a call at a place of the answers.
+fn when_at(place: usize) -> When {
     match place {
-        0 => ARRIVAL,
+        0 => When::Arrival { registered: true },
         1 => When::Arrival { registered: false },
         2 => When::Busy,
         3 => When::NoAnswer,
@@ -201,86 +19,382 @@ fn moment_of(place: usize) -> When {
     }
 }
 
-#[test]
-fn events(rt: HostRuntime) -> Result<(), Fail> {
-    let mut rows = EVENTS;
-    for _ in 0..6 {
-        let (row, rest) = next_line(rows);
-        rows = rest;
-        let (keys, wanted) = cut(row);
-        for place in 0..5 {
-            let held = holds_when(rt.alloc(), keys, moment_of(place))?;
-            assert_eq!(rt; held, wanted.get(place) == Some(&b'y'));
+/// The place of the first rule that holds, asked one after the other.
+fn first_by_holds(rules: &[Rule], facts: &Facts, when: When) -> Option<usize> {
+    rules
+        .iter()
+        .position(|rule| holds(&rule.condition, facts, when))
+}
+
+/// The answer of a row; `?` where `first` and `holds` do not agree.
+fn answer(rules: &[Rule], facts: &Facts, when: When) -> u8 {
+    let place = first(rules, facts, when);
+    if place != first_by_holds(rules, facts, when) {
+        return b'?';
+    }
+    match place {
+        None => b'-',
+        Some(0) => b'0',
+        Some(1) => b'1',
+        Some(2) => b'2',
+        Some(3) => b'3',
+        Some(_) => b'?',
+    }
+}
+
+/// Whether these are the five answers of rules.
+fn are_answers(wanted: &[u8], rules: &[Rule], called: &Called) -> bool {
+    for place in 0..5 {
+        let told = answer(rules, &facts(called), when_at(place));
+        if wanted.get(place) != Some(&told) {
+            return false;
         }
     }
-    assert!(rt; rows.is_empty());
+    wanted.len() == 5
+}
+
+/// Whether these are the five answers of the rules of a line.
+fn are_answers_of(
+    alloc: Global,
+    line: &[u8],
+    wanted: &[u8],
+    called: &Called,
+) -> Result<bool, Fail> {
+    let target = b"target = \"sip:vm@far.example\"";
+    let sheet = sheet_of(alloc, b"communication-diversion", b"", target, line)?;
+    match &sheet.diversion {
+        None => Err("no diversion")?,
+        Some(part) => Ok(are_answers(wanted, part.rules.items(), called)),
+    }
+}
+
+/// Rules that divert, and the first of them that holds.
+struct Rules;
+
+impl Table for Rules {
+    fn is_right(alloc: Global, line: &[u8], row: &[u8]) -> Result<bool, Fail> {
+        let (wanted, rest) = cut(row);
+        let called = read_called(alloc, rest)?;
+        are_answers_of(alloc, line, wanted, &called)
+    }
+}
+
+/// Who is meant: by `one`, by the domain of `many`, by `*`; equality of URIs is that of identities.
+const IDENTITIES: &[u8] = b"-----|-0|sip:alice@home.example|
+:
+00---|-0||
+00---|-0|sip:alice@home.example|
+:, one = [\"sip:alice@home.example\"]
+00---|-0|sip:alice@home.example|
+00---|-0|sip:alice@HOME.example:5070|
+-----|-0|sip:Alice@home.example|
+-----|-0|sip:alice@far.example|
+-----|-0||tel:+4930111
+-----|-0||
+:, one = [\"sip:alice@home.example\", \"tel:+4930111\"]
+00---|-0|sip:alice@home.example|
+00---|-0||tel:+49-30-111
+-----|-0||tel:+4930112
+:, one = [\"sip:+4930111@far.example;user=phone\"]
+00---|-0||tel:+4930111
+00---|-0|sip:+4930111@far.example|
+-----|-0|sip:+4930111@home.example;user=phone|
+:, one = []
+-----|-0|sip:alice@home.example|
+-----|-0||
+:, many = \"*\"
+00---|-0|sip:alice@home.example|
+00---|-0||tel:+4930111
+-----|-0||
+:, many = \"HOME.Example\"
+00---|-0|sip:alice@home.example|
+-----|-0|sip:alice@www.home.example|
+-----|-0||tel:+4930111
+-----|-0||
+";
+
+#[test]
+fn identities(rt: HostRuntime) -> Result<(), Fail> {
+    assert_eq!(rt; wrong_line::<Rules>(rt.alloc(), IDENTITIES)?, None);
     Ok(())
 }
 
-/// The place of the rule that bars a call, among the rules of a record.
-fn barring_place(alloc: Global, rules: &[u8], caller: &[u8]) -> Result<Option<usize>, Fail> {
-    let now = beginning()?;
-    let sheet = sheet_of(alloc, b"incoming-communication-barring", rules)?;
-    let part = sheet.incoming.as_ref().ok_or("no barring")?;
-    let caller = party(alloc, caller)?;
-    let media = List::new();
-    Ok(all_bar(part.rules.items(), &facts(&caller, false, &media, now)))
-}
+/// A caller with a sip and a tel identity: one of them suffices, and neither may be excepted.
+const TWO_IDENTITIES: &[u8] = b":, one = [\"sip:alice@home.example\"]
+00---|-0|sip:alice@home.example|tel:+4930111
+-----|-0|sip:bob@home.example|tel:+4930111
+:, one = [\"tel:+4930111\"]
+00---|-0|sip:alice@home.example|tel:+4930111
+00---|-0|sip:+4930111@home.example;user=phone|tel:+4930112
+-----|-0|sip:+4930111@home.example|tel:+4930112
+:, one = [\"sip:bob@home.example\", \"tel:+4930111\"]
+00---|-0|sip:alice@home.example|tel:+4930111
+00---|-0|sip:bob@home.example|tel:+4930112
+-----|-0|sip:alice@home.example|tel:+4930112
+:, many = \"home.example\"
+00---|-0|sip:alice@home.example|tel:+4930111
+-----|-0|sip:alice@far.example|tel:+4930111
+:, many = \"*\", except = [\"tel:+4930111\"]
+00---|-0|sip:alice@home.example|tel:+4930112
+00---|-0|sip:alice@home.example|
+-----|-0|sip:alice@home.example|tel:+4930111
+:, many = \"home.example\", except = [\"sip:+4930111@home.example;user=phone\"]
+00---|-0|sip:alice@home.example|tel:+4930112
+-----|-0|sip:alice@home.example|tel:+4930111
+";
 
-/// The least rule that holds is named, unless one that holds allows the call.
 #[test]
-fn barring_rules(rt: HostRuntime) -> Result<(), Fail> {
-    let rules =
-        b"{ one = [\"sip:alice@home.example\"], allow = false }, { many = \"home.example\", allow = false }, { one = [\"sip:carol@home.example\"], allow = true }";
-    let alice = barring_place(rt.alloc(), rules, b"sip:alice@home.example")?;
-    assert_eq!(rt; alice, Some(0));
-    let bob = barring_place(rt.alloc(), rules, b"sip:bob@home.example")?;
-    assert_eq!(rt; bob, Some(1));
-    let carol = barring_place(rt.alloc(), rules, b"sip:carol@home.example")?;
-    assert_eq!(rt; carol, None);
-    let erin = barring_place(rt.alloc(), rules, b"sip:erin@other.example")?;
-    assert_eq!(rt; erin, None);
+fn two_identities(rt: HostRuntime) -> Result<(), Fail> {
+    assert_eq!(rt; wrong_line::<Rules>(rt.alloc(), TWO_IDENTITIES)?, None);
     Ok(())
 }
 
-/// The keys of a rule with each part of a condition.
-const ALL: &[u8] =
-    b", busy = true, anonymous = true, from = \"1970-01-01T00:00:00.100Z\", until = \"1970-01-01T00:00:00.200Z\", media = [\"audio\"], many = \"home.example\"";
+/// An exception narrows `many`, and not `one`.
+const EXCEPTIONS: &[u8] = b":, many = \"*\", except = [\"sip:alice@home.example\"]
+00---|-0|sip:bob@home.example|
+00---|-0|sip:alice@far.example|
+00---|-0||tel:+4930111
+-----|-0|sip:alice@home.example|
+-----|-0||
+:, many = \"home.example\", except = [\"sip:alice@home.example\", \"sip:bob@home.example\"]
+00---|-0|sip:carol@home.example|
+-----|-0|sip:alice@home.example|
+-----|-0|sip:bob@home.example|
+-----|-0|sip:erin@other.example|
+:, one = [\"sip:erin@other.example\"], many = \"home.example\", except = [\"sip:alice@home.example\"]
+00---|-0|sip:erin@other.example|
+00---|-0|sip:bob@home.example|
+-----|-0|sip:alice@home.example|
+-----|-0|sip:frank@other.example|
+:, one = [\"sip:alice@home.example\"], many = \"home.example\", except = [\"sip:alice@home.example\"]
+00---|-0|sip:alice@home.example|
+00---|-0|sip:bob@home.example|
+:, one = [\"tel:+4930111\"], many = \"*\", except = [\"sip:alice@home.example\"]
+00---|-0|sip:alice@home.example|tel:+4930111
+00---|-0|sip:bob@home.example|tel:+4930112
+-----|-0|sip:alice@home.example|tel:+4930112
+";
 
-/// Whether the rule with each part holds of a call, of which all but these facts are as the rule asks.
-fn holds_of_all(alloc: Global, uri: &[u8], kind: &[u8], at: u64, when: When) -> Result<bool, Fail> {
-    let now = Moment::new(at).ok_or("no moment of the clock")?;
-    let sheet = diverting(alloc, ALL)?;
-    let caller = party(alloc, uri)?;
-    let media = offered(alloc, kind)?;
-    rule_holds(
-        &sheet,
-        &Call {
-            caller: &caller,
-            restricted: true,
-            media: &media,
-            now,
-            when,
-        },
-    )
+#[test]
+fn exceptions(rt: HostRuntime) -> Result<(), Fail> {
+    assert_eq!(rt; wrong_line::<Rules>(rt.alloc(), EXCEPTIONS)?, None);
+    Ok(())
 }
 
-/// A rule with each part holds where each part does, and not where one of them does not.
+/// A caller that hides who it is may have an identity or none.
+const ANONYMOUS: &[u8] = b":, anonymous = true
+00---|r0|sip:alice@home.example|tel:+4930111
+00---|r0||
+-----|-0|sip:alice@home.example|
+-----|-0||
+:, anonymous = false
+00---|r0||
+00---|-0||
+";
+
 #[test]
-fn combinations(rt: HostRuntime) -> Result<(), Fail> {
-    let bob = b"sip:bob@home.example";
-    assert!(rt; holds_of_all(rt.alloc(), bob, b"audio", 150, When::Busy)?);
-    assert!(rt;
-        !holds_of_all(
-            rt.alloc(),
-            b"sip:bob@far.example",
-            b"audio",
-            150,
-            When::Busy
-        )?
+fn anonymous(rt: HostRuntime) -> Result<(), Fail> {
+    assert_eq!(rt; wrong_line::<Rules>(rt.alloc(), ANONYMOUS)?, None);
+    Ok(())
+}
+
+/// The first millisecond of a window is in it, and its end is not; it may begin before the clock, and end with it or past it.
+const WINDOWS: &[u8] =
+    b":, from = \"1970-01-01T00:00:00.100Z\", until = \"1970-01-01T00:00:00.200Z\"
+-----|-0||
+-----|-99||
+00---|-100||
+00---|-199||
+-----|-200||
+-----|-250000000000000||
+:, from = \"1970-01-01T00:00:00.100Z\", until = \"1970-01-01T00:00:00.101Z\"
+-----|-99||
+00---|-100||
+-----|-101||
+:, from = \"1960-01-01T00:00:00Z\", until = \"1970-01-01T00:00:00.006Z\"
+00---|-0||
+00---|-5||
+-----|-6||
+:, from = \"1960-01-01T00:00:00Z\", until = \"1970-01-01T00:00:00Z\"
+-----|-0||
+:, from = \"1970-01-01T00:00:00Z\", until = \"9999-12-30T00:00:00Z\"
+00---|-0||
+00---|-250000000000000||
+";
+
+#[test]
+fn windows(rt: HostRuntime) -> Result<(), Fail> {
+    assert_eq!(rt; wrong_line::<Rules>(rt.alloc(), WINDOWS)?, None);
+    Ok(())
+}
+
+/// One of the listed kinds is among those that are offered, byte for byte.
+const MEDIA: &[u8] = b":, media = [\"video\", \"audio\"]
+00---|-0 audio||
+00---|-0 video||
+00---|-0 audio video||
+00---|-0 message audio||
+00---|-0 message application video||
+-----|-0 message||
+-----|-0 message application||
+-----|-0 Audio||
+-----|-0||
+:, media = [\"audio\"]
+00---|-0 audio||
+00---|-0 video audio||
+-----|-0 audios||
+-----|-0 audi||
+-----|-0||
+:, media = []
+-----|-0 audio||
+-----|-0||
+";
+
+#[test]
+fn media(rt: HostRuntime) -> Result<(), Fail> {
+    assert_eq!(rt; wrong_line::<Rules>(rt.alloc(), MEDIA)?, None);
+    Ok(())
+}
+
+/// Each event holds where it happened, and no event as the call arrives, whoever calls.
+const EVENTS: &[u8] = b":
+00---|-0||
+:, busy = true
+--0--|-0||
+:, no-answer = true
+---0-|-0||
+:, not-reachable = true
+----0|-0||
+:, not-registered = true
+-0---|-0||
+:, busy = false
+00---|-0||
+:, busy = false, not-registered = true
+-0---|r0 audio|sip:alice@home.example|tel:+4930111
+";
+
+#[test]
+fn events(rt: HostRuntime) -> Result<(), Fail> {
+    assert_eq!(rt; wrong_line::<Rules>(rt.alloc(), EVENTS)?, None);
+    Ok(())
+}
+
+/// Identity with each other part: both hold, the first misses, the second misses.
+const IDENTITY_WITH_ANOTHER: &[u8] = b":, one = [\"sip:alice@home.example\"], anonymous = true
+00---|r0|sip:alice@home.example|
+-----|r0|sip:bob@home.example|
+-----|r0||
+-----|-0|sip:alice@home.example|
+:, many = \"home.example\", from = \"1970-01-01T00:00:00.100Z\", until = \"1970-01-01T00:00:00.200Z\"
+00---|-100|sip:alice@home.example|
+-----|-100|sip:alice@far.example|
+-----|-200|sip:alice@home.example|
+-----|-99|sip:alice@home.example|
+:, many = \"*\", media = [\"audio\"]
+00---|-0 audio||tel:+4930111
+-----|-0 audio||
+-----|-0 video||tel:+4930111
+:, one = [\"tel:+4930111\"], busy = true
+--0--|-0|sip:alice@home.example|tel:+4930111
+-----|-0|sip:alice@home.example|tel:+4930112
+:, many = \"*\", except = [\"sip:alice@home.example\"], not-registered = true
+-0---|-0|sip:bob@home.example|
+-----|-0|sip:alice@home.example|
+";
+
+#[test]
+fn identity_with_another(rt: HostRuntime) -> Result<(), Fail> {
+    assert_eq!(rt;
+        wrong_line::<Rules>(rt.alloc(), IDENTITY_WITH_ANOTHER)?,
+        None
     );
-    assert!(rt; !holds_of_all(rt.alloc(), bob, b"video", 150, When::Busy)?);
-    assert!(rt; !holds_of_all(rt.alloc(), bob, b"audio", 200, When::Busy)?);
-    assert!(rt; !holds_of_all(rt.alloc(), bob, b"audio", 150, ARRIVAL)?);
+    Ok(())
+}
+
+/// Anonymous with window, media and event; window with media and event; media with event: both hold, the first misses, the second misses.
+const OTHER_PAIRS: &[u8] =
+    b":, anonymous = true, from = \"1970-01-01T00:00:00.100Z\", until = \"1970-01-01T00:00:00.200Z\"
+00---|r199||
+-----|-199||
+-----|r200||
+:, anonymous = true, media = [\"audio\"]
+00---|r0 audio||
+-----|-0 audio||
+-----|r0 video||
+:, anonymous = true, no-answer = true
+---0-|r0||
+-----|-0||
+:, from = \"1970-01-01T00:00:00.100Z\", until = \"1970-01-01T00:00:00.200Z\", media = [\"audio\"]
+00---|-100 video audio||
+-----|-99 video audio||
+-----|-200 audio||
+-----|-100 video||
+-----|-100||
+:, from = \"1970-01-01T00:00:00.100Z\", until = \"1970-01-01T00:00:00.200Z\", not-reachable = true
+----0|-199||
+-----|-200||
+-----|-99||
+:, media = [\"audio\"], not-registered = true
+-0---|-0 audio||
+-----|-0 video||
+-----|-0||
+";
+
+#[test]
+fn other_pairs(rt: HostRuntime) -> Result<(), Fail> {
+    assert_eq!(rt; wrong_line::<Rules>(rt.alloc(), OTHER_PAIRS)?, None);
+    Ok(())
+}
+
+/// A rule with each part holds where each part does, and not where one of them misses.
+const ALL_PARTS: &[u8] =
+    b":, busy = true, anonymous = true, from = \"1970-01-01T00:00:00.100Z\", until = \"1970-01-01T00:00:00.200Z\", media = [\"audio\"], many = \"home.example\", except = [\"sip:carol@home.example\"]
+--0--|r150 audio|sip:bob@home.example|
+--0--|r150 video audio|sip:bob@home.example|tel:+4930111
+-----|r150 audio|sip:bob@far.example|
+-----|r150 audio|sip:carol@home.example|
+-----|-150 audio|sip:bob@home.example|
+-----|r99 audio|sip:bob@home.example|
+-----|r200 audio|sip:bob@home.example|
+-----|r150 video|sip:bob@home.example|
+";
+
+#[test]
+fn all_parts(rt: HostRuntime) -> Result<(), Fail> {
+    assert_eq!(rt; wrong_line::<Rules>(rt.alloc(), ALL_PARTS)?, None);
+    Ok(())
+}
+
+/// The first rule that holds counts: the first of a list, one in the middle, the last, or none.
+const LISTS: &[u8] =
+    b":, one = [\"sip:alice@home.example\"]&, many = \"home.example\"&, anonymous = true
+00---|-0|sip:alice@home.example|
+00---|r0|sip:alice@home.example|
+11---|-0|sip:bob@home.example|
+11---|r0|sip:bob@home.example|
+22---|r0|sip:erin@other.example|
+22---|r0||
+-----|-0|sip:erin@other.example|
+-----|-0||
+:, busy = true&, not-registered = true&, no-answer = true&
+3102-|-0||
+:&, not-registered = true
+00---|-0||
+:, not-registered = true&
+10---|-0||
+:, busy = true, media = [\"video\"]&, busy = true
+--0--|-0 video||
+--1--|-0 audio||
+:, from = \"1970-01-01T00:00:00.100Z\", until = \"1970-01-01T00:00:00.200Z\"&, from = \"1970-01-01T00:00:00.200Z\", until = \"1970-01-01T00:00:00.300Z\"
+-----|-99||
+00---|-199||
+11---|-200||
+11---|-299||
+-----|-300||
+";
+
+#[test]
+fn lists(rt: HostRuntime) -> Result<(), Fail> {
+    assert_eq!(rt; wrong_line::<Rules>(rt.alloc(), LISTS)?, None);
     Ok(())
 }

@@ -31,7 +31,9 @@ use Rattle.mmtel_trust.specs.Privacy.{Line}
 use Rattle.mmtel_trust.specs.declared.addrs.Addr.{Addr}
 use Rattle.mmtel_trust.specs.declared.showing.Line as showing
 use Rattle.mmtel_leg.specs.Readings.{BringsNone, IsAddr, five_of, via_of}
-use Rattle.mmtel_leg.specs.Requests.{Given, addr_text, contact_lines, contact_text, content_lines, cseq_text, dialog_lines, ip_text, is_contact, is_contacting, line, numbered, pair_of, route_line, routing_lines, to_text, via_text}
+use Rattle.mmtel_leg.specs.Addresses.{addr_text, contact_text, ip_text, via_text}
+use Rattle.mmtel_leg.specs.Lines.{line, pair_of}
+use Rattle.mmtel_leg.specs.Requests.{Given, contact_lines, content_lines, cseq_text, dialog_lines, is_contact, is_contacting, numbered, route_line, routing_lines, to_text}
 use Rattle.mmtel_leg.specs.declared.dialogues.Dialogue.{Dialogue}
 use Rattle.mmtel_leg.proofs.LineLaws as lines
 use Rattle.mmtel_leg.proofs.ReadLaws.{cseq_again, decimal_writes, token_stops}

@@ -6,7 +6,9 @@ use Rattle.mmtel_message.specs.declared.fields.Five.{Five}
 use Rattle.mmtel_message.specs.declared.fields.Via.{Via}
 use Rattle.mmtel_trust.specs.declared.addrs.Addr.{Addr}
 use Rattle.mmtel_trust.specs.declared.showing.Line as showing
-use Rattle.mmtel_leg.specs.Requests.{Given, addr_text, ip_text, pair_of}
+use Rattle.mmtel_leg.specs.Addresses.{addr_text, ip_text}
+use Rattle.mmtel_leg.specs.Lines.{pair_of}
+use Rattle.mmtel_leg.specs.Requests.{Given}
 use Rattle.mmtel_leg.specs.declared.dialogues.Dialogue.{Dialogue}
 
 -- an address that can be written: four bytes, and a port that is not 0

@@ -1,5 +1,5 @@
 -- The worked rows compute. A message that was written is read by its stages; where a value stands alone, nothing parts it.
-use Rattle.std.proofs.Common.{◌≡◌, ◌+◌, ◌++◌, ◌∷◌, [], List, ℕ, Bool, true, false, Option, Some, None, Result, Ok, nat_lt, length, take, drop, map, codes, refl, ap, inl, inr, ◌∙◌}
+use Rattle.std.proofs.Common.{◌≡◌, ◌++◌, ◌∷◌, [], List, ℕ, Option, Some, None, Result, Ok, map, codes, refl, ap, ◌∙◌}
 use Rattle.std.specs.Fmt as Fmt
 use Rattle.mmtel_scan.specs.Classes as Classes
 use Rattle.mmtel_scan.specs.Numbers as Numbers
@@ -33,7 +33,6 @@ use Rattle.mmtel_message.specs.declared.values.Mode.TheVariants.{Plain}
 use Rattle.mmtel_trust.specs.Kinds as Kinds
 use Rattle.mmtel_trust.specs.Passed as Passed
 use Rattle.mmtel_trust.specs.Mask as Mask
-use Rattle.mmtel_trust.specs.Privacy.{Line}
 use Rattle.mmtel_cli.specs.Directory as Directory
 use Rattle.mmtel_cli.specs.Forms as Forms
 use Rattle.mmtel_leg.specs.Lines as HeaderLines
@@ -46,11 +45,10 @@ use Rattle.mmtel_cli.specs.Due.{due_of_directory, due_of_events}
 use Rattle.mmtel_cli.specs.Listing.{listing_of}
 use Rattle.mmtel_cli.specs.Run.{Unbuilt, Came, gives, digest_read, offers_of}
 use Rattle.mmtel_cli.specs.Script.{events_of}
-use Rattle.mmtel_cli.specs.declared.due.Due.{Due}
 use Rattle.mmtel_cli.specs.declared.due.Due.TheVariants.{Line as BadLine, File, Listing}
 use Rattle.mmtel_cli.specs.declared.events.Event.TheVariants.{Datagram}
-use Rattle.mmtel_cli.specs.Rows.{server, configuration, token, peer, at_port, script, invite, invite_lines, bob, private, of_erin, of_frank, tried, attempted, unbuilt, listed, listed_after, due_for, RestrictedInvite, AnotherCaller, MasksAlike, FewerHops, ComeOutOtherwise, AreRefused}
-use Rattle.mmtel_cli.proofs.Stages.{one_part, texts_of, Stages, reads_by_stages}
+use Rattle.mmtel_cli.specs.Rows.{server, configuration, token, peer, at_port, script, invite, bob, private, of_erin, of_frank, tried, attempted, unbuilt, listed, listed_after, due_for, RestrictedInvite, AnotherCaller, MasksAlike, FewerHops, ComeOutOtherwise, AreRefused}
+use Rattle.mmtel_cli.proofs.Stages.{one_part, Stages, reads_by_stages}
 
 -- ---- the message as it is read, by the caller's display and user's name
 

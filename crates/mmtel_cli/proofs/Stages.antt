@@ -1,5 +1,5 @@
 -- A message that was written is read: for one message after another, by computing its stages.
-use Rattle.std.proofs.Common.{◌≡◌, ◌+◌, ◌++◌, ◌∷◌, [], List, ℕ, Bool, true, false, Option, Some, None, Ok, nat_lt, length, take, drop, map, codes, refl, ap, inl, inr, ◌∙◌}
+use Rattle.std.proofs.Common.{◌≡◌, ◌+◌, ◌++◌, ◌∷◌, [], List, ℕ, false, Option, Some, None, Ok, nat_lt, length, take, drop, map, codes, refl, inl, inr}
 use Rattle.std.specs.Option.{option_map}
 use Rattle.std.proofs.lemmas.Bool.{cases_Bool}
 use Rattle.mmtel_message.specs.Lines.{first_break, split, unfolded}
@@ -8,7 +8,7 @@ use Rattle.mmtel_message.specs.Starts.{start_at}
 use Rattle.mmtel_message.specs.Fields.{five_at}
 use Rattle.mmtel_message.specs.Faults.{first_fault}
 use Rattle.mmtel_message.specs.Message.{Message}
-use Rattle.mmtel_message.specs.Reads.{reads, limit, most_lines, message_of, after_head, after_lines, after_start, after_five, after_faults}
+use Rattle.mmtel_message.specs.Reads.{reads, limit, most_lines, message_of}
 use Rattle.mmtel_message.specs.Texts.{message_text, start_text}
 use Rattle.mmtel_message.specs.Values.{parting, parts, is_parting, mode_after}
 use Rattle.mmtel_message.specs.declared.fields.Five.{Five}

@@ -1,25 +1,20 @@
 -- Worked rows, which compute from the definitions: a restricted INVITE towards a peer that is not trusted (RFC 3323 §4.1, RFC 3325 §7), the same INVITE of another caller, and inputs that have to come out otherwise.
-use Rattle.std.specs.Prelude.{◌≡◌, ℕ, List, [], ◌∷◌, ◌++◌, map, codes, true, false, Option, Some, None, Ok}
-use Rattle.std.specs.List.{flat_map}
+use Rattle.std.specs.Prelude.{◌≡◌, ℕ, List, [], ◌∷◌, ◌++◌, codes, true, false, Option, Some, None, Ok}
 use Rattle.mmtel_types.specs.declared.numbers.Peer.{Peer}
 use Rattle.mmtel_message.specs.Message.{Message}
 use Rattle.mmtel_message.specs.Texts.{message_text}
 use Rattle.mmtel_message.specs.declared.messages.Start.{Start}
 use Rattle.mmtel_message.specs.declared.messages.Start.TheVariants.{Request}
 use Rattle.mmtel_trust.specs.Digest.{heard}
-use Rattle.mmtel_trust.specs.Peers.{Peers}
 use Rattle.mmtel_trust.specs.Privacy.{Line}
 use Rattle.mmtel_trust.specs.declared.addrs.Addr.{Addr}
-use Rattle.mmtel_cli.specs.Directory.{directory_of}
 use Rattle.mmtel_cli.specs.Due.{due_of}
 use Rattle.mmtel_cli.specs.Listing.{listing_of}
 use Rattle.mmtel_cli.specs.Mask.{hide_digest}
-use Rattle.mmtel_cli.specs.Run.{Digest, Said, Unbuilt, Step, Came, digest_read, gives, offers_of}
-use Rattle.mmtel_cli.specs.Script.{events_of}
+use Rattle.mmtel_cli.specs.Run.{Said, Unbuilt, Step, Came, digest_read, gives, offers_of}
 use Rattle.mmtel_cli.specs.declared.directories.Directory.{Directory}
 use Rattle.mmtel_cli.specs.declared.due.Due.{Due}
 use Rattle.mmtel_cli.specs.declared.due.Due.TheVariants.{Line as BadLine, File, Listing}
-use Rattle.mmtel_cli.specs.declared.events.Event.{Event}
 use Rattle.mmtel_cli.specs.declared.events.Event.TheVariants.{Datagram}
 
 -- ---- the server

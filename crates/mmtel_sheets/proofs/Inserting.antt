@@ -1,10 +1,10 @@
 -- A key that comes before all others is put first.
-use Rattle.std.proofs.Common.{◌≡◌, ℕ, true, List, [], ◌∷◌, Option, Some, None, String, Global, Ordering, Less, Equal, Greater, string_bytes, nat_cmp, refl, ap}
+use Rattle.std.proofs.Common.{◌≡◌, ℕ, true, List, [], ◌∷◌, Option, Some, None, String, Global, Ordering, Less, Equal, Greater, string_bytes, refl, ap}
 use Rattle.std.specs.BTreeMap.{insert_entry}
 use Rattle.std.specs.Ordering.{is_lt, match_ordering}
 use Rattle.std.specs.String.{string_cmp}
 use Rattle.toml.specs.declared.value.Value.{Value}
-use Rattle.toml.specs.Data.{Data, Members, no_members, member, is_before}
+use Rattle.toml.specs.Data.{Data, Members, member, is_before}
 use Rattle.toml.specs.View.{view, members_view}
 use Rattle.mmtel_sheet_reader.proofs.Order.{before_members}
 use Rattle.mmtel_sheets.specs.Printing.{comes_before, with_key}

@@ -6,10 +6,9 @@ use Rattle.std.specs.List.{AllByRecursion}
 use Rattle.std.specs.Option.{is_some}
 use Rattle.toml.specs.Data.{Data, Members, boolean}
 use Rattle.mmtel_lex.specs.declared.values.Uri.{Uri}
-use Rattle.mmtel_sheet_grammar.specs.Answers.{Read}
 use Rattle.mmtel_sheet_grammar.specs.Elements.{is_token_text, is_domain}
 use Rattle.mmtel_sheet_grammar.specs.Keys.{rule_key_of, is_listed, is_diversion, meets_callers, dotted}
-use Rattle.mmtel_sheet_grammar.specs.Rules.{keys_from, has_key, event_read, key_read, rule_key_read}
+use Rattle.mmtel_sheet_grammar.specs.Rules.{keys_from, has_key, event_read, key_read}
 use Rattle.mmtel_sheet_grammar.specs.declared.keys.Service.{Service}
 use Rattle.mmtel_sheet_grammar.specs.declared.keys.Service.TheVariants as service
 use Rattle.mmtel_sheet_grammar.specs.declared.keys.Notice.{Notice}

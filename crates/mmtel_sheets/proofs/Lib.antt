@@ -1,8 +1,10 @@
 pub mod Calendar
+pub mod DocumentSound
 pub mod ElementsBack
 pub mod Inserting
 pub mod Items
 pub mod KeySteps
+pub mod MomentTexts
 pub mod Plain
 pub mod Printed
 pub mod ReadTimes

@@ -1,8 +1,9 @@
 //! Laws of the definitions: each is the contract of a function that does nothing.
-ghost use Rattle.std.specs.Prelude.{◌≡◌, ◌≤◌, ℕ, ℤ, List, Ok, Some, true};
-ghost use Rattle.toml.specs.Data.{members_depth, members_have_valid_dates};
+ghost use Rattle.std.specs.Prelude.{◌≡◌, ◌≤◌, ◌↔◌, ℕ, ℤ, List, Ok, Some, true};
+ghost use Rattle.toml.specs.Data.{Members, members_depth, members_have_valid_dates};
 ghost use Rattle.mmtel_sheet_grammar.specs.Moments.{moment_of_text};
 ghost use Rattle.mmtel_sheet_grammar.specs.Rules.{rule_of};
+ghost use Rattle.mmtel_sheet_grammar.specs.Sound.{IsSoundTable};
 ghost use Rattle.mmtel_sheet_grammar.specs.Walk.{sheet_of};
 ghost use Rattle.mmtel_sheet_grammar.specs.declared.keys.Service.{Service};
 ghost use Rattle.mmtel_sheet_values.specs.declared.values.Rule.{Rule};
@@ -15,6 +16,11 @@ ghost use Rattle.mmtel_sheets.specs.Times.{moment_text};
 pub fn documents_read_back()
     ensures sheet { (s : Sheet) → IsPrintable s → sheet_of (document_of s) ≡ Ok s }
     ensures rule { (s : Service) (path : List ℕ) (r : Rule) → IsRule s r → rule_of s path (rule_data s r) ≡ Ok r }
+{}
+
+/// A sheet can be printed exactly where some sound document reads as it.
+pub fn printable_is_what_documents_say()
+    ensures { (s : Sheet) → IsPrintable s ↔ ((ms : Members) × IsSoundTable ms × (sheet_of ms ≡ Ok s)) }
 {}
 
 /// The document of a sheet nests four deep, and has none of TOML's own dates.

@@ -1,6 +1,5 @@
 -- Each row computes.
 use Rattle.std.proofs.Common.{refl}
-use Rattle.mmtel_lex.specs.Identity.{reduced}
 use Rattle.mmtel_rules.specs.Conditions.{condition_holds}
 use Rattle.mmtel_rules.specs.Identities.{identity_holds}
 use Rattle.mmtel_lex.specs.SameIdentity.{is_same_identity}

@@ -1,17 +1,15 @@
 -- Worked rows of Outcome, by computing it. The accounts are bob's, carol's and nobody's of home.example; vm is of far.example, without a served account. Nobody answers unless it is said.
-use Rattle.std.specs.Prelude.{◌≡◌, ℕ, ◌+◌, Bool, true, false, List, [], ◌∷◌, Option, Some, None, codes, slice_get, unwrap_or}
+use Rattle.std.specs.Prelude.{◌≡◌, ℕ, Bool, true, false, List, [], ◌∷◌, Option, Some, None, codes, slice_get, unwrap_or}
 use Rattle.mmtel_types.specs.declared.causes.Cause.TheVariants as causes
 use Rattle.mmtel_lex.specs.declared.values.Uri.{Uri}
 use Rattle.mmtel_lex.specs.declared.values.Uri.TheVariants.{Sip, Tel}
-use Rattle.mmtel_lex.specs.declared.values.Param.{Param}
 use Rattle.mmtel_sheet_values.specs.Sheets.{empty_sheet}
 use Rattle.mmtel_sheet_values.specs.declared.values.Action.TheVariants as action
 use Rattle.mmtel_sheet_values.specs.declared.values.EventWord.{EventWord}
 use Rattle.mmtel_sheet_values.specs.declared.values.EventWord.TheVariants as event
 use Rattle.mmtel_sheet_values.specs.declared.values.Rule.{Rule}
 use Rattle.mmtel_sheet_values.specs.declared.values.Sheet.{Sheet}
-use Rattle.mmtel_precedence.specs.Services.{Account}
-use Rattle.mmtel_precedence.specs.Outcome.{Answer, UserBusy, NoReply, Deflection, Ended, Reach, Call, Offer, NotOffered, Offered, Target, Result, Pending, Answered, Final, Outcome, outcome}
+use Rattle.mmtel_precedence.specs.Outcome.{Answer, UserBusy, NoReply, Deflection, Reach, Call, Offer, NotOffered, Offered, Target, Result, Pending, Answered, Final, Outcome, outcome}
 
 -- ---- parties
 

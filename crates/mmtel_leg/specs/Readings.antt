@@ -1,11 +1,16 @@
--- What is read of what is built in a dialog (RFC 3261 §8.1.1): its five fields.
-use Rattle.std.specs.Prelude.{◌≡◌, ◌<◌, ℕ, false, Some, List, [], ◌∷◌, ◌++◌, codes, get_or, map}
+-- What is read of what is built in a dialog: its five fields (RFC 3261 §8.1.1); and the dialogs of which laws speak, from their beginning on.
+use Rattle.std.specs.Prelude.{◌≡◌, ◌<◌, ℕ, false, Option, Some, List, [], ◌∷◌, ◌++◌, codes, get_or, map}
 use Rattle.mmtel_lex.specs.declared.values.NameAddr.{NameAddr}
-use Rattle.mmtel_message.specs.Message.{has_line}
+use Rattle.mmtel_charging.specs.Meters.{Noted}
+use Rattle.mmtel_types.specs.declared.numbers.Peer.{Peer}
+use Rattle.mmtel_message.specs.Message.{Message, has_line}
+use Rattle.mmtel_message.specs.declared.messages.Start.{Start}
 use Rattle.mmtel_message.specs.declared.fields.Five.{Five}
 use Rattle.mmtel_message.specs.declared.fields.Via.{Via}
 use Rattle.mmtel_trust.specs.declared.addrs.Addr.{Addr}
 use Rattle.mmtel_trust.specs.declared.showing.Line as showing
+use Rattle.mmtel_leg.specs.Deeds.{Deed, after}
+use Rattle.mmtel_leg.specs.Dialogues.{started, taken}
 use Rattle.mmtel_leg.specs.Requests.{Given, addr_text, ip_text, pair_of}
 use Rattle.mmtel_leg.specs.declared.dialogues.Dialogue.{Dialogue}
 
@@ -41,3 +46,10 @@ five_of d number method given from to = record {
   call_id = d.call_id;
   cseq = record { number = number; method = method };
 }
+
+-- the dialog of a leg that `take` made, and of one that `start` made, after these deeds
+abbrev pub caller_after : Peer → Message Start → List ℕ → Option Noted → List Deed → Dialogue
+caller_after peer invite tag meter deeds = (after (record { dialogue = taken peer invite.lines tag; meter = meter }) deeds).dialogue
+
+abbrev pub callee_after : Peer → Message Start → Option Noted → List Deed → Dialogue
+callee_after peer invite meter deeds = (after (record { dialogue = started peer invite; meter = meter }) deeds).dialogue

@@ -10,14 +10,14 @@ ghost use Rattle.mmtel_message.specs.Fields.{five_at};
 ghost use Rattle.mmtel_charging.specs.Meters.{Noted};
 ghost use Rattle.mmtel_types.specs.declared.numbers.Peer.{Peer};
 ghost use Rattle.mmtel_leg.specs.Deeds.Deed.{Asks, Hears};
-ghost use Rattle.mmtel_leg.specs.Dialogues.{hears, number_in, or_zero, started, tagged, taken};
+ghost use Rattle.mmtel_leg.specs.Dialogues.{hears, number_in, or_zero, tagged};
 ghost use Rattle.mmtel_leg.specs.Remotes.{field, is_untagged, tag_in};
 ghost use Rattle.mmtel_leg.specs.declared.dialogues.DialogueFault.{DialogueFault};
 ghost use Rattle.mmtel_leg.specs.declared.dialogues.InFlight.{InFlight};
 ghost use Rattle.mmtel_leg.specs.Deeds.{Deed, HasNumber, HaveOneNumber, HearsEach, IsCountedFrom, IsNotBelow, ReadsAs, after, after_deed, given_back, is_later, is_not_invite, put_in, requests};
 ghost use Rattle.mmtel_leg.specs.Legs.{Leg};
 ghost use Rattle.mmtel_leg.specs.Requests.{Given, ack_of, cseq_text, numbered, request_of, to_text};
-ghost use Rattle.mmtel_leg.specs.Readings.{BringsNone, IsAddr, five_of};
+ghost use Rattle.mmtel_leg.specs.Readings.{BringsNone, IsAddr, callee_after, caller_after, five_of};
 ghost use Rattle.mmtel_leg.specs.declared.dialogues.Dialogue.{Dialogue};
 
 /// Whatever is done with a leg, the numbers of its requests rise by one from the last that it had when it began, as long as numbers of 64 bits reach.
@@ -29,7 +29,7 @@ pub fn numbers_rise_by_one()
 /// The ACK that follows an INVITE has that INVITE's number, whatever else was asked, heard or swapped in between: of an INVITE that the server made in the dialog, and of the one with which a callee's dialog began.
 pub fn acks_have_the_number_of_their_invite()
     ensures made { (leg : Leg) (invite ack : Given) (deeds : List Deed) → list_all is_not_invite deeds ≡ true → HaveOneNumber (request_of leg.dialogue (codes "INVITE") invite) (ack_of (after (after_deed leg (Asks (codes "INVITE") invite)) deeds).dialogue ack) }
-    ensures begun { (peer : Peer) (invite : Message Start) (n : ℕ) (meter : Option Noted) (ack : Given) (deeds : List Deed) → number_in invite.lines ≡ Some n → list_all is_not_invite deeds ≡ true → HasNumber n (ack_of (after (record { dialogue = started peer invite; meter = meter }) deeds).dialogue ack) }
+    ensures begun { (peer : Peer) (invite : Message Start) (n : ℕ) (meter : Option Noted) (ack : Given) (deeds : List Deed) → number_in invite.lines ≡ Some n → list_all is_not_invite deeds ≡ true → HasNumber n (ack_of (callee_after peer invite meter deeds) ack) }
 {}
 
 /// CSeq of what is built is read again as the number and the method, where the number is one of RFC 3261 (below 2^31, §8.1.1.5) and the method a token.
@@ -40,10 +40,10 @@ pub fn numbers_read_back()
 
 /// The tags by which the other side finds its dialog (RFC 3261 §12): From of what is built in a dialog is read with the server's tag and To with the other side's, whatever was done since the dialog began, and whether it is a request or an ACK.
 pub fn tags_read_back()
-    ensures caller_from { (peer : Peer) (invite : Message Start) (tag : List ℕ) (meter : Option Noted) (deeds : List Deed) (number : ℕ) (method : List ℕ) (given : Given) → is_untagged (name_addr_of (field (codes "To") invite.lines)) ≡ true → IsValue tag → tag_in (codes "From") (numbered (after (record { dialogue = taken peer invite.lines tag; meter = meter }) deeds).dialogue number method given).lines ≡ tag }
-    ensures caller_to { (peer : Peer) (invite : Message Start) (tag : List ℕ) (meter : Option Noted) (deeds : List Deed) (number : ℕ) (method : List ℕ) (given : Given) → tag_in (codes "To") (numbered (after (record { dialogue = taken peer invite.lines tag; meter = meter }) deeds).dialogue number method given).lines ≡ tag_in (codes "From") invite.lines }
-    ensures callee_from { (peer : Peer) (invite : Message Start) (meter : Option Noted) (deeds : List Deed) (number : ℕ) (method : List ℕ) (given : Given) → tag_in (codes "From") (numbered (after (record { dialogue = started peer invite; meter = meter }) deeds).dialogue number method given).lines ≡ tag_in (codes "From") invite.lines }
-    ensures callee_to { (peer : Peer) (invite : Message Start) (meter : Option Noted) (deeds : List Deed) (number : ℕ) (method : List ℕ) (given : Given) → is_untagged (name_addr_of (field (codes "To") invite.lines)) ≡ true → IsValue (after (record { dialogue = started peer invite; meter = meter }) deeds).dialogue.remote_tag → tag_in (codes "To") (numbered (after (record { dialogue = started peer invite; meter = meter }) deeds).dialogue number method given).lines ≡ (after (record { dialogue = started peer invite; meter = meter }) deeds).dialogue.remote_tag }
+    ensures caller_from { (peer : Peer) (invite : Message Start) (tag : List ℕ) (meter : Option Noted) (deeds : List Deed) (number : ℕ) (method : List ℕ) (given : Given) → is_untagged (name_addr_of (field (codes "To") invite.lines)) ≡ true → IsValue tag → tag_in (codes "From") (numbered (caller_after peer invite tag meter deeds) number method given).lines ≡ tag }
+    ensures caller_to { (peer : Peer) (invite : Message Start) (tag : List ℕ) (meter : Option Noted) (deeds : List Deed) (number : ℕ) (method : List ℕ) (given : Given) → tag_in (codes "To") (numbered (caller_after peer invite tag meter deeds) number method given).lines ≡ tag_in (codes "From") invite.lines }
+    ensures callee_from { (peer : Peer) (invite : Message Start) (meter : Option Noted) (deeds : List Deed) (number : ℕ) (method : List ℕ) (given : Given) → tag_in (codes "From") (numbered (callee_after peer invite meter deeds) number method given).lines ≡ tag_in (codes "From") invite.lines }
+    ensures callee_to { (peer : Peer) (invite : Message Start) (meter : Option Noted) (deeds : List Deed) (number : ℕ) (method : List ℕ) (given : Given) → is_untagged (name_addr_of (field (codes "To") invite.lines)) ≡ true → IsValue (callee_after peer invite meter deeds).remote_tag → tag_in (codes "To") (numbered (callee_after peer invite meter deeds) number method given).lines ≡ (callee_after peer invite meter deeds).remote_tag }
     ensures tagged { (value : List ℕ) (n : NameAddr) (tag : List ℕ) → name_addr_of value ≡ Some n → IsValue tag → name_addr_of (tagged value tag) ≡ Some (record n { params = n.params ++ record { name = codes "tag"; value = Some tag } ∷ [] }) }
     ensures values { (name : List ℕ) (m : Message Start) → (tag_in name m.lines ≡ []) ⊎ IsValue (tag_in name m.lines) }
 {}

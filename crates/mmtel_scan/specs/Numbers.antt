@@ -1,5 +1,5 @@
 -- Numbers in decimal digits, which may begin with zeros (RFC 3261 §25.1: 1*DIGIT).
-use Rattle.std.specs.Prelude.{◌≡◌, Option, Some, None, ◌==◌, if◌then◌else◌, ℕ, nat_lt, List, length}
+use Rattle.std.specs.Prelude.{◌≡◌, Option, Some, None, ◌==◌, if◌then◌else◌, ℕ, nat_lt, List, ◌∷◌, ◌++◌, length, decimal}
 use Rattle.std.specs.List.{list_all}
 use Rattle.std.specs.Str.Parse.{digits_value}
 use Rattle.mmtel_scan.specs.Classes.{in_class, IsOneOrMore}
@@ -17,3 +17,7 @@ number_of limit s = if length s == 0 then None else if list_all (in_class Digit)
 pub record Writes (s : List ℕ) (n : ℕ) : Type 0 where
   pub digits : IsOneOrMore Digit s
   pub worth : digits_value 10 s ≡ n
+
+-- the value of a tag, branch or Call-ID that is made of a token and a number: the token, a '-' and the number (RFC 3261 §19.3, §8.1.1.7, §8.1.1.4)
+abbrev pub token_text : List ℕ → ℕ → List ℕ
+token_text token n = token ++ 45 ∷ decimal n

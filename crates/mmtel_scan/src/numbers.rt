@@ -1,10 +1,13 @@
 //! Numbers in decimal digits.
-ghost use Rattle.std.specs.Prelude.{◌≡◌, ◌≤◌, IfSome};
+ghost use Rattle.std.specs.Prelude.{◌≡◌, ◌≤◌, IfOk, IfSome};
 ghost use Rattle.mmtel_scan.specs.Classes.{IsAll};
 ghost use Rattle.mmtel_scan.specs.declared.classes.Class.TheVariants.{Digit};
-ghost use Rattle.mmtel_scan.specs.Numbers.{within, number_of};
+ghost use Rattle.mmtel_scan.specs.Numbers.{within, number_of, token_text};
 
 use crate::classes::{Class, is_all};
+use crate::memory::NoMemory;
+use crate::texts::Text;
+use std::alloc::Global;
 
 /// What the digits write, where it is at most the limit.
 #[tactic(auto, unfolding(crate::specs::Numbers::within))]
@@ -38,4 +41,19 @@ pub fn number_up_to(limit: u64, bytes: &[u8]) -> Option<u64>
         return None;
     }
     worth_up_to(limit, bytes)
+}
+
+/// The value of a tag, branch or Call-ID that a token and a number make: `TOKEN-n` (RFC 3261 §19.3, §8.1.1.7, §8.1.1.4).
+///
+/// # Errors
+///
+/// Want of memory alone.
+pub fn token_text(alloc: Global, token: &[u8], number: u64) -> Result<Text, NoMemory>
+    ensures text { IfOk result (λ t. t ≡ token_text token.now number) }
+{
+    let digits = number.to_string(alloc)?;
+    let mut out = Text::of(alloc, token)?;
+    out.push(alloc, b"-")?;
+    out.push(alloc, digits.as_bytes())?;
+    Ok(out)
 }

@@ -1,6 +1,6 @@
--- A cause that is put into a URI is read there, and nothing else changes.
-use Rattle.std.proofs.Common.{◌≡◌, ◌==◌, true, false, not, ℕ, zero, suc, ◌^◌, ◌≤◌, ◌<◌, List, [], ◌∷◌, ◌++◌, length, drop, Option, Some, None, refl, sym, ap, ◌∙◌, arith, inl, inr, nat_lt, append_assoc}
-use Rattle.std.specs.Prelude.{codes, decimal}
+-- A cause that is put into a URI is read there, as the only one; and nothing else changes.
+use Rattle.std.proofs.Common.{◌≡◌, ◌==◌, true, false, not, ℕ, zero, suc, ◌^◌, ◌≤◌, ◌<◌, List, [], ◌∷◌, ◌++◌, length, drop, Option, Some, None, refl, sym, ap, ◌∙◌, arith, inl, inr, nat_lt, ◌+◌, cond}
+use Rattle.std.specs.Prelude.{codes, decimal, filter, count_by}
 use Rattle.std.specs.List.{list_all, list_any, find}
 use Rattle.std.specs.Option.{option_or}
 use Rattle.std.specs.Str.Parse.{digits_value, AllDigits}
@@ -11,15 +11,17 @@ use Rattle.std.proofs.lemmas.Fmt.{decimal_is_IsNumeral, length-decimal-le}
 use Rattle.std.proofs.lemmas.Int.Digits.{digits_value-lt}
 use Rattle.std.proofs.lemmas.List.{append-nil}
 use Rattle.std.proofs.lemmas.List.Folds.{list_all-append, find-append}
+use Rattle.std.proofs.lemmas.List.Sums.{sum_by-append, sum_by-cons}
 use Rattle.mmtel_scan.specs.Classes.{in_class, IsAll}
 use Rattle.mmtel_scan.specs.Numbers.{Writes}
 use Rattle.mmtel_scan.specs.declared.classes.Class.TheVariants.{Digit}
 use Rattle.mmtel_scan.specs.Scanning.{parted, IsFree}
 use Rattle.mmtel_scan.proofs.NumberLaws.{number_again}
 use Rattle.mmtel_scan.proofs.Runs.{and_true, parted_again, parted_free, parted_none, parted_takes}
-use Rattle.mmtel_history.specs.EntryUri.{parts, front_from, back_from, before, behind, host_part, uri_params, is_cause, cause_in, cause_number, cause_of, has_cause, is_marked, headers_from, with_cause}
+use Rattle.mmtel_history.specs.EntryUri.{parts, front_from, back_from, behind, user_part, host_part, front_part, uri_params, header_parts, is_cause, cause_in, cause_number, cause_of, causes_in, has_cause, is_marked, headers_from, plain, with_front, cause_text, without_cause, with_cause}
 use Rattle.mmtel_history.proofs.PartLaws.{free_parts}
-use Rattle.mmtel_history.proofs.UriLaws.{host_free, new_host, parted_front, parts_filled, parts_more, drop_one, same_mark}
+use Rattle.mmtel_history.proofs.FrontLaws.{none_left, plain_all, plain_params, plain_none}
+use Rattle.mmtel_history.proofs.UriLaws.{whole_uri, host_free, new_host, new_user, parted_front, parts_filled, parts_more, drop_one, same_mark}
 
 -- ---- digits
 
@@ -72,14 +74,6 @@ free_both b s t x y = rw (list_all-append, x, y) refl
 free_split : (b : ℕ) (s t : List ℕ) → IsFree b (s ++ t) → IsFree b s × IsFree b t
 free_split b s t free = and_true (list_all (λ x. not (x == b)) s) (list_all (λ x. not (x == b)) t) (rw list_all-append at free)
 
-abbrev put : List ℕ → Option (List ℕ × List ℕ) → List ℕ → List ℕ
-put h o d = front_from h o ++ (codes ";cause=" ++ (d ++ headers_from o))
-
-record Put (h : List ℕ) (o : Option (List ℕ × List ℕ)) (d : List ℕ) : Type 0 where
-  front : before 63 (put h o d) ≡ front_from h o ++ (codes ";cause=" ++ d)
-  back : behind 63 (put h o d) ≡ back_from o
-  free : IsFree 64 h → IsFree 64 (put h o d)
-
 question : in_class Digit 63 ≡ false
 unfolding in_class
 question = refl
@@ -92,38 +86,127 @@ semicolon : in_class Digit 59 ≡ false
 unfolding in_class
 semicolon = refl
 
-put_by : (h : List ℕ) (o : Option (List ℕ × List ℕ)) (d : List ℕ) → parted 63 h ≡ o → IsAll Digit d → Put h o d
-put_by h None d e each =
-    let last : put h None d ≡ h ++ (codes ";cause=" ++ d) = ap (λ (l : List ℕ). h ++ (codes ";cause=" ++ l)) (append-nil d) in
-    let free : IsFree 63 (h ++ (codes ";cause=" ++ d)) = free_both 63 h (codes ";cause=" ++ d) (parted_none 63 h e) (free_both 63 (codes ";cause=") d refl (digits_free 63 d question each)) in
-    let none : parted 63 (put h None d) ≡ None = ap (λ (l : List ℕ). parted 63 l) last ∙ parted_free 63 (h ++ (codes ";cause=" ++ d)) free in
+-- ---- another host and other parameters
+
+front_free : (h : List ℕ) (o : Option (List ℕ × List ℕ)) → parted 63 h ≡ o → IsFree 63 (front_from h o)
+front_free h None e = parted_none 63 h e
+front_free h (Some x) e = parted_front 63 h x e
+
+front_clear : (h : List ℕ) (o : Option (List ℕ × List ℕ)) → parted 63 h ≡ o → IsFree 64 h → IsFree 64 (front_from h o)
+front_clear h None e clear = clear
+front_clear h (Some x) e clear = (free_split 64 x.0 (63 ∷ x.1) (rw (parted_takes 63 h x e) at clear)).0
+
+headers_clear : (h : List ℕ) (o : Option (List ℕ × List ℕ)) → parted 63 h ≡ o → IsFree 64 h → IsFree 64 (headers_from o)
+headers_clear h None e clear = refl
+headers_clear h (Some x) e clear = (free_split 64 x.0 (63 ∷ x.1) (rw (parted_takes 63 h x e) at clear)).1
+
+abbrev new_parts : List ℕ → Option (List ℕ × List ℕ) → Option (List ℕ × List ℕ)
+new_parts f None = None
+new_parts f (Some x) = Some (f, x.1)
+
+parted_new : (f : List ℕ) (o : Option (List ℕ × List ℕ)) → IsFree 63 f → parted 63 (f ++ headers_from o) ≡ new_parts f o
+parted_new f None free = ap (λ (l : List ℕ). parted 63 l) (append-nil f) ∙ parted_free 63 f free
+parted_new f (Some x) free = parted_again 63 f x.1 free
+
+front_new : (f : List ℕ) (o : Option (List ℕ × List ℕ)) → front_from (f ++ headers_from o) (new_parts f o) ≡ f
+front_new f None = append-nil f
+front_new f (Some x) = refl
+
+back_new : (f : List ℕ) (o : Option (List ℕ × List ℕ)) → back_from (new_parts f o) ≡ back_from o
+back_new f None = refl
+back_new f (Some x) = refl
+
+headers_new : (f : List ℕ) (o : Option (List ℕ × List ℕ)) → headers_from (new_parts f o) ≡ headers_from o
+headers_new f None = refl
+headers_new f (Some x) = refl
+
+-- what stands between the last '@' and the '?' is this, and nothing else changed
+record Rebuilt (f u : List ℕ) : Type 0 where
+  user : user_part (with_front f u) ≡ user_part u
+  front : front_part (with_front f u) ≡ f
+  back : behind 63 (host_part (with_front f u)) ≡ behind 63 (host_part u)
+  headers : headers_from (parted 63 (host_part (with_front f u))) ≡ headers_from (parted 63 (host_part u))
+
+rebuilt : (f u : List ℕ) → IsFree 63 f → IsFree 64 f → Rebuilt f u
+rebuilt f u free clear =
+    let tail : List ℕ = f ++ headers_from (parted 63 (host_part u)) in
+    let tail_clear : IsFree 64 (f ++ headers_from (parted 63 (host_part u))) = free_both 64 f (headers_from (parted 63 (host_part u))) clear (headers_clear (host_part u) (parted 63 (host_part u)) refl (host_free u)) in
+    let host : host_part (with_front f u) ≡ f ++ headers_from (parted 63 (host_part u)) = new_host u (f ++ headers_from (parted 63 (host_part u))) tail_clear in
+    let at : parted 63 (host_part (with_front f u)) ≡ new_parts f (parted 63 (host_part u)) = ap (λ (l : List ℕ). parted 63 l) host ∙ parted_new f (parted 63 (host_part u)) free in
     record {
-      front = ap (λ (p : Option (List ℕ × List ℕ)). front_from (put h None d) p) none ∙ last;
-      back = ap (λ (p : Option (List ℕ × List ℕ)). back_from p) none;
-      free = λ clear. rw last (free_both 64 h (codes ";cause=" ++ d) clear (free_both 64 (codes ";cause=") d refl (digits_free 64 d at_sign each)));
-    }
-put_by h (Some x) d e each =
-    let front_free : IsFree 63 (x.0 ++ (codes ";cause=" ++ d)) = free_both 63 x.0 (codes ";cause=" ++ d) (parted_front 63 h x e) (free_both 63 (codes ";cause=") d refl (digits_free 63 d question each)) in
-    let whole : put h (Some x) d ≡ (x.0 ++ (codes ";cause=" ++ d)) ++ 63 ∷ x.1 = sym (append_assoc x.0 (codes ";cause=" ++ d) (63 ∷ x.1)) in
-    let at : parted 63 (put h (Some x) d) ≡ Some (x.0 ++ (codes ";cause=" ++ d), x.1) = ap (λ (l : List ℕ). parted 63 l) whole ∙ parted_again 63 (x.0 ++ (codes ";cause=" ++ d)) x.1 front_free in
-    record {
-      front = ap (λ (p : Option (List ℕ × List ℕ)). front_from (put h (Some x) d) p) at;
-      back = ap (λ (p : Option (List ℕ × List ℕ)). back_from p) at;
-      free = λ clear.
-          let both = free_split 64 x.0 (63 ∷ x.1) (rw (parted_takes 63 h x e) at clear) in
-          free_both 64 x.0 (codes ";cause=" ++ (d ++ 63 ∷ x.1)) both.0 (free_both 64 (codes ";cause=") (d ++ 63 ∷ x.1) refl (free_both 64 d (63 ∷ x.1) (digits_free 64 d at_sign each) both.1));
+      user = new_user u (f ++ headers_from (parted 63 (host_part u))) tail_clear;
+      front = ap (λ (l : List ℕ). front_from l (parted 63 l)) host ∙ ap (λ (o : Option (List ℕ × List ℕ)). front_from (f ++ headers_from (parted 63 (host_part u))) o) (parted_new f (parted 63 (host_part u)) free) ∙ front_new f (parted 63 (host_part u));
+      back = ap (λ (o : Option (List ℕ × List ℕ)). back_from o) at ∙ back_new f (parted 63 (host_part u));
+      headers = ap (λ (o : Option (List ℕ × List ℕ)). headers_from o) at ∙ headers_new f (parted 63 (host_part u));
     }
 
-put_in : (n : ℕ) (u : List ℕ) → n < 65536 → Put (host_part u) (parted 63 (host_part u)) (decimal n)
-put_in n u lt = put_by (host_part u) (parted 63 (host_part u)) (decimal n) refl (decimal_digits n lt)
+same_front : (f u v : List ℕ) → user_part v ≡ user_part u → headers_from (parted 63 (host_part v)) ≡ headers_from (parted 63 (host_part u)) → with_front f v ≡ with_front f u
+same_front f u v user headers = rw (user, headers) refl
 
-host_with : (n : ℕ) (u : List ℕ) → n < 65536 → host_part (with_cause n u) ≡ put (host_part u) (parted 63 (host_part u)) (decimal n)
-unfolding with_cause
-host_with n u lt = new_host u (put (host_part u) (parted 63 (host_part u)) (decimal n)) ((put_in n u lt).free (host_free u))
+front_back : (h : List ℕ) (o : Option (List ℕ × List ℕ)) → parted 63 h ≡ o → h ≡ front_from h o ++ headers_from o
+front_back h None e = sym (append-nil h)
+front_back h (Some x) e = parted_takes 63 h x e
+
+-- its own host and parameters give the URI again
+own_front : (u : List ℕ) → with_front (front_part u) u ≡ u
+own_front u = sym (whole_uri u ∙ ap (λ (l : List ℕ). user_part u ++ l) (front_back (host_part u) (parted 63 (host_part u)) refl))
+
+plain_free : (u : List ℕ) → IsFree 63 (plain (front_part u))
+plain_free u = plain_all (λ x. not (x == 63)) (front_part u) refl (front_free (host_part u) (parted 63 (host_part u)) refl)
+
+plain_clear : (u : List ℕ) → IsFree 64 (plain (front_part u))
+plain_clear u = plain_all (λ x. not (x == 64)) (front_part u) refl (front_clear (host_part u) (parted 63 (host_part u)) refl (host_free u))
+
+-- ---- a URI without its causes
+
+plain_rebuilt : (u : List ℕ) → Rebuilt (plain (front_part u)) u
+plain_rebuilt u = rebuilt (plain (front_part u)) u (plain_free u) (plain_clear u)
+
+pub without_params : (u : List ℕ) → uri_params (without_cause u) ≡ filter (λ p. not (is_cause p)) (uri_params u)
+unfolding without_cause
+without_params u = ap (λ (f : List ℕ). drop 1 (parts 59 f)) (plain_rebuilt u).front ∙ plain_params (front_part u)
+
+pub without_none : (u : List ℕ) → has_cause (without_cause u) ≡ false
+without_none u = ap (λ (l : List (List ℕ)). list_any is_cause l) (without_params u) ∙ none_left is_cause (uri_params u)
+
+pub without_user : (u : List ℕ) → user_part (without_cause u) ≡ user_part u
+unfolding without_cause
+without_user u = (plain_rebuilt u).user
+
+pub without_headers : (u : List ℕ) → header_parts (without_cause u) ≡ header_parts u
+unfolding without_cause
+without_headers u = ap (λ (l : List ℕ). parts 38 l) (plain_rebuilt u).back
+
+pub without_mark : (u : List ℕ) → is_marked (without_cause u) ≡ is_marked u
+unfolding without_cause
+without_mark u = same_mark (without_cause u) u (plain_rebuilt u).back
+
+pub without_plain : (u : List ℕ) → has_cause u ≡ false → without_cause u ≡ u
+unfolding without_cause
+without_plain u none = ap (λ (f : List ℕ). with_front f u) (plain_none (front_part u) none) ∙ own_front u
+
+pub without_once : (u : List ℕ) → without_cause (without_cause u) ≡ without_cause u
+without_once u = without_plain (without_cause u) (without_none u)
+
+-- ---- a URI with a cause
+
+abbrev caused : ℕ → List ℕ → List ℕ
+caused n u = plain (front_part u) ++ cause_text (Some n)
+
+cause_free : (n : ℕ) → n < 65536 → IsFree 63 (cause_text (Some n))
+cause_free n lt = free_both 63 (codes ";cause=") (decimal n) refl (digits_free 63 (decimal n) question (decimal_digits n lt))
+
+cause_clear : (n : ℕ) → n < 65536 → IsFree 64 (cause_text (Some n))
+cause_clear n lt = free_both 64 (codes ";cause=") (decimal n) refl (digits_free 64 (decimal n) at_sign (decimal_digits n lt))
+
+cause_rebuilt : (n : ℕ) (u : List ℕ) → n < 65536 → Rebuilt (caused n u) u
+cause_rebuilt n u lt =
+    rebuilt (caused n u) u (free_both 63 (plain (front_part u)) (cause_text (Some n)) (plain_free u) (cause_free n lt)) (free_both 64 (plain (front_part u)) (cause_text (Some n)) (plain_clear u) (cause_clear n lt))
 
 -- the mark is as it was
 pub cause_keeps_mark : (n : ℕ) (u : List ℕ) → n < 65536 → is_marked (with_cause n u) ≡ is_marked u
-cause_keeps_mark n u lt = same_mark (with_cause n u) u (ap (λ (l : List ℕ). behind 63 l) (host_with n u lt) ∙ (put_in n u lt).back)
+unfolding with_cause
+cause_keeps_mark n u lt = same_mark (with_cause n u) u (cause_rebuilt n u lt).back
 
 -- ---- the cause is read again
 
@@ -154,10 +237,37 @@ params_with a d each =
     let one : parts 59 (param d) ≡ param d ∷ [] = free_parts 59 (param d) (free_both 59 (codes "cause=") d refl (digits_free 59 d semicolon each)) in
     ap (λ (l : List (List ℕ)). drop 1 l) (parts_more 59 a (param d)) ∙ drop_one (parts 59 a) (parts 59 (param d)) (parts_filled 59 a) ∙ ap (λ (l : List (List ℕ)). drop 1 (parts 59 a) ++ l) one
 
-pub cause_law : (n : ℕ) (u : List ℕ) → has_cause u ≡ false → 100 ≤ n → n ≤ 699 → cause_of (with_cause n u) ≡ Some n
+-- the parameters but the causes, and then the cause
+params_by : (n : ℕ) (u : List ℕ) → n < 65536 → uri_params (with_cause n u) ≡ filter (λ p. not (is_cause p)) (uri_params u) ++ param (decimal n) ∷ []
+unfolding with_cause
+params_by n u lt =
+    ap (λ (f : List ℕ). drop 1 (parts 59 f)) (cause_rebuilt n u lt).front ∙ params_with (plain (front_part u)) (decimal n) (decimal_digits n lt) ∙ ap (λ (l : List (List ℕ)). l ++ param (decimal n) ∷ []) (plain_params (front_part u))
+
+pub cause_law : (n : ℕ) (u : List ℕ) → 100 ≤ n → n ≤ 699 → cause_of (with_cause n u) ≡ Some n
 unfolding cause_of
-cause_law n u none low high =
+cause_law n u low high =
     let lt : n < 65536 = omega arith in
-    let front : before 63 (host_part (with_cause n u)) ≡ before 63 (host_part u) ++ (codes ";cause=" ++ decimal n) = ap (λ (l : List ℕ). before 63 l) (host_with n u lt) ∙ (put_in n u lt).front in
-    let params : uri_params (with_cause n u) ≡ uri_params u ++ param (decimal n) ∷ [] = ap (λ (l : List ℕ). drop 1 (parts 59 l)) front ∙ params_with (before 63 (host_part u)) (decimal n) (decimal_digits n lt) in
-    ap (λ (l : List (List ℕ)). cause_in (find is_cause l)) params ∙ ap (λ (o : Option (List ℕ)). cause_in o) (found (uri_params u) (decimal n) none) ∙ ap (λ (d : List ℕ). cause_number d) (value (decimal n)) ∙ number_law n low high
+    ap (λ (l : List (List ℕ)). cause_in (find is_cause l)) (params_by n u lt) ∙ ap (λ (o : Option (List ℕ)). cause_in o) (found (filter (λ p. not (is_cause p)) (uri_params u)) (decimal n) (none_left is_cause (uri_params u))) ∙ ap (λ (d : List ℕ). cause_number d) (value (decimal n)) ∙ number_law n low high
+
+none_counted : (ps : List (List ℕ)) → list_any is_cause ps ≡ false → count_by is_cause ps ≡ 0
+none_counted [] none = refl
+none_counted (p ∷ ps) none =
+    elim (cases_Bool (is_cause p)) [
+      | inl y ↦ absurd (let f = rw y at none in cc)
+      | inr n ↦
+          let more : count_by is_cause ps ≡ 0 = none_counted ps (rw n at none) in
+          let unit : ℕ = cond (is_cause p) 1 0 in
+          let one : count_by is_cause (p ∷ ps) ≡ unit + count_by is_cause ps = sum_by-cons (λ x. cond (is_cause x) 1 0) p ps in
+          let here : unit ≡ 0 = rw n refl in
+          omega (arith, one, here, more)
+    ]
+
+-- the cause is the only one
+pub cause_alone : (n : ℕ) (u : List ℕ) → n < 65536 → causes_in (with_cause n u) ≡ 1
+cause_alone n u lt =
+    let rest : List (List ℕ) = filter (λ p. not (is_cause p)) (uri_params u) in
+    let all : causes_in (with_cause n u) ≡ count_by is_cause (filter (λ p. not (is_cause p)) (uri_params u) ++ param (decimal n) ∷ []) = ap (λ (l : List (List ℕ)). count_by is_cause l) (params_by n u lt) in
+    let both : count_by is_cause (filter (λ p. not (is_cause p)) (uri_params u) ++ param (decimal n) ∷ []) ≡ count_by is_cause (filter (λ p. not (is_cause p)) (uri_params u)) + count_by is_cause (param (decimal n) ∷ []) = sum_by-append (λ x. cond (is_cause x) 1 0) (filter (λ p. not (is_cause p)) (uri_params u)) (param (decimal n) ∷ []) in
+    let none : count_by is_cause (filter (λ p. not (is_cause p)) (uri_params u)) ≡ 0 = none_counted (filter (λ p. not (is_cause p)) (uri_params u)) (none_left is_cause (uri_params u)) in
+    let last : count_by is_cause (param (decimal n) ∷ []) ≡ 1 = rw (named (decimal n)) refl in
+    omega (arith, all, both, none, last)

@@ -1,10 +1,14 @@
 pub mod CauseLaws
 pub mod EntryLaws
 pub mod Finding
+pub mod FrontLaws
+pub mod IndexLaws
 pub mod ListLaws
+pub mod MaskedValueLaws
 pub mod Marks
 pub mod PartLaws
 pub mod Places
 pub mod ReadableLaws
 pub mod UriLaws
+pub mod ValueLaws
 pub mod ValuesLoop

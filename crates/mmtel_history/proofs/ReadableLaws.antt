@@ -1,30 +1,32 @@
 -- Entries that can be written and read again stay so.
-use Rattle.std.proofs.Common.{◌≡◌, ◌==◌, Bool, true, false, ◌||◌, ℕ, zero, suc, ◌+◌, ◌-◌, ◌≤◌, ◌<◌, List, [], ◌∷◌, ◌++◌, length, take, drop, get_or, Option, Some, None, Result, Ok, Err, refl, sym, subst, ◌∙◌, arith, inl, inr, nat_lt}
+use Rattle.std.proofs.Common.{◌≡◌, ◌==◌, Bool, true, false, ◌||◌, ℕ, zero, suc, ◌-◌, ◌≤◌, ◌<◌, List, [], ◌∷◌, ◌++◌, length, Option, Some, None, Result, Ok, Err, refl, sym, subst, ◌∙◌, arith, inl, inr, nat_lt}
 use Rattle.std.specs.Option.{option_map_or}
-use Rattle.std.specs.Prelude.{codes, decimal, slice_get, position, option_to_list, IfOk}
+use Rattle.std.specs.Prelude.{codes, decimal, slice_get, option_to_list, IfOk}
 use Rattle.std.specs.List.{list_all, find}
 use Rattle.std.proofs.lemmas.Bool.{cases_Bool}
 use Rattle.std.proofs.lemmas.Bool.Decides.{nat_tests}
-use Rattle.std.proofs.lemmas.List.{length-append, take-append-drop}
+use Rattle.std.proofs.lemmas.List.{length-append}
 use Rattle.std.proofs.lemmas.List.Folds.{list_all-append}
-use Rattle.std.proofs.lemmas.List.Quantifiers.{position-Some}
 use Rattle.mmtel_scan.specs.Classes.{in_class, IsAll}
 use Rattle.mmtel_scan.specs.Numbers.{number_of}
 use Rattle.mmtel_scan.specs.Scanning.{parted}
 use Rattle.mmtel_scan.specs.declared.classes.Class.TheVariants.{Digit, UriByte, BareByte}
-use Rattle.mmtel_scan.proofs.ChainLaws.{bind_some, some_is, unless_some, where_some}
+use Rattle.mmtel_scan.proofs.ChainLaws.{bind_some, guard_some, some_is, unless_some, where_some}
 use Rattle.mmtel_scan.proofs.NumberLaws.{number_takes}
 use Rattle.mmtel_scan.proofs.Runs.{and_true, wider, parted_takes}
-use Rattle.mmtel_lex.specs.Grammar.{AreParams, IsNameAddr}
+use Rattle.mmtel_lex.specs.Grammar.{params_text, AreParams, IsNameAddr}
+use Rattle.mmtel_lex.specs.Params.{param_value}
 use Rattle.mmtel_lex.specs.Reading.{name_addr_of}
-use Rattle.mmtel_lex.specs.declared.values.Param.{Param}
 use Rattle.mmtel_lex.specs.declared.values.NameAddr.{NameAddr}
 use Rattle.mmtel_lex.proofs.NameAddrLaws.{name_addr_takes}
-use Rattle.mmtel_history.specs.EntryUri.{front_from, user_part, host_part, uri_params, is_cause, cause_in, cause_number, from_hundred, cause_of, has_cause, hides, is_marked, headers_from, with_cause}
-use Rattle.mmtel_history.specs.HistoryInfo.{is_dotted, dotted_in, is_index, value_or_none, index_at, entry_with, entry_at, entry_in, entry_of, entries_of, anonymous, masked_uri, masked_list, hidden_entry, marked_at, hidden_if, started, last_index, target_entry, with_target, appended, IsReadable, AreReadable, IsUriText, IsTarget}
+use Rattle.mmtel_message.specs.Entries.{is_dotted, is_indexed}
+use Rattle.mmtel_history.specs.EntryUri.{front_from, user_part, host_part, front_part, uri_params, is_cause, cause_in, cause_number, from_hundred, cause_of, hides, is_marked, headers_from, plain, with_front, cause_text, with_cause}
+use Rattle.mmtel_history.specs.HistoryInfo.{index_of, but_index, entry_with, entry_in, entry_of, entries_of, anonymous, masked_uri, masked_list, hidden_entry, marked_at, hidden_if, started, last_index, target_entry, with_target, appended, IsReadable, AreReadable, IsUriText, IsTarget}
 use Rattle.mmtel_history.specs.declared.entries.Entry.{Entry}
 use Rattle.mmtel_history.proofs.CauseLaws.{cause_law, cause_keeps_mark, decimal_digits}
-use Rattle.mmtel_history.proofs.UriLaws.{whole_uri, parts_more}
+use Rattle.mmtel_history.proofs.FrontLaws.{plain_all}
+use Rattle.mmtel_history.proofs.IndexLaws.{dotted_more, index_dotted, others_readable}
+use Rattle.mmtel_history.proofs.UriLaws.{whole_uri}
 
 -- ---- what was read
 
@@ -40,56 +42,23 @@ params_by : (s : List ℕ) (n : NameAddr) → IsNameAddr s n → AreParams n.par
 params_by s n (inl is) = is.params_in
 params_by s n (inr is) = is.params_in
 
-params_append : (ps qs : List Param) → AreParams ps → AreParams qs → AreParams (ps ++ qs)
-params_append [] qs are more = more
-params_append (p ∷ ps) qs are more = (are.0, params_append ps qs are.1 more)
-
-params_split : (ps qs : List Param) → AreParams (ps ++ qs) → AreParams ps × AreParams qs
-params_split [] qs are = (tt, are)
-params_split (p ∷ ps) qs are = let more = params_split ps qs are.1 in ((are.0, more.0), more.1)
-
-params_take : (n : ℕ) (ps : List Param) → AreParams ps → AreParams (take n ps)
-params_take n ps are = (params_split (take n ps) (drop n ps) (subst (λ (l : List Param). AreParams l) (sym (take-append-drop n ps)) are)).0
-
-params_drop : (n : ℕ) (ps : List Param) → AreParams ps → AreParams (drop n ps)
-params_drop n ps are = (params_split (take n ps) (drop n ps) (subst (λ (l : List Param). AreParams l) (sym (take-append-drop n ps)) are)).1
-
-dotted_by : (o : Option (List ℕ)) → dotted_in o ≡ true → is_dotted (value_or_none o) ≡ true
-dotted_by None e = absurd cc
-dotted_by (Some v) e = e
-
-index_dotted : (p : Param) → is_index p ≡ true → is_dotted (value_or_none p.value) ≡ true
-unfolding is_index
-index_dotted p e = dotted_by p.value (and_true _ (dotted_in p.value) e).1
-
-index_found : (ps : List Param) (place : ℕ) (d : Param) → place < length ps → index_at place ps ≡ value_or_none (get_or ps place d).value
-index_found [] place d lt = absurd (omega arith)
-index_found (p ∷ ps) zero d lt = refl
-index_found (p ∷ ps) (suc place) d lt = index_found ps place d (omega arith)
-
-nothing : Param
-nothing = record { name = []; value = None }
-
-entry_readable : (s : List ℕ) (n : NameAddr) (o : Option ℕ) (e : Entry) → IsNameAddr s n → position is_index n.params ≡ o → entry_at n o ≡ Some e → IsReadable e
-entry_readable s n None e is at made = absurd cc
-entry_readable s n (Some place) e is at made =
-    let here = position-Some is_index n.params place nothing at in
-    let dotted : is_dotted (index_at place n.params) ≡ true = rw (index_found n.params place nothing here.0) (index_dotted (get_or n.params place nothing) here.1) in
-    let are : AreParams n.params = params_by s n is in
-    subst (λ (x : Entry). IsReadable x) (some_is _ e made)
+entry_readable : (s : List ℕ) (n : NameAddr) (e : Entry) → IsNameAddr s n → entry_in n ≡ Some e → IsReadable e
+entry_readable s n e is made =
+    let g = guard_some (is_indexed (Some n)) (entry_with n.uri (index_of n.params) (params_text (but_index n.params))) e made in
+    subst (λ (x : Entry). IsReadable x) g.1
     (record {
       uri = uri_by s n is;
-      index = dotted;
+      index = index_dotted (param_value (codes "index") n.params) g.0;
       cause = refl;
       mark = λ m. m;
-      rest = (take place n.params ++ drop (place + 1) n.params, refl, params_append (take place n.params) (drop (place + 1) n.params) (params_take place n.params are) (params_drop (place + 1) n.params are));
+      rest = (but_index n.params, refl, others_readable n.params (params_by s n is));
     })
 
 pub read_readable : (s : List ℕ) (e : Entry) → entry_of s ≡ Some e → IsReadable e
 unfolding entry_of
 read_readable s e read =
     let b = bind_some (name_addr_of s) entry_in e read in
-    entry_readable s b.0 (position is_index b.0.params) e (name_addr_takes s b.0 b.1) refl b.2
+    entry_readable s b.0 e (name_addr_takes s b.0 b.1) b.2
 
 pub readable_append : (h g : List Entry) → AreReadable h → AreReadable g → AreReadable (h ++ g)
 readable_append [] g are more = more
@@ -141,47 +110,57 @@ cause_word : IsAll UriByte (codes ";cause=")
 unfolding in_class
 cause_word = refl
 
-put_all : (h : List ℕ) (o : Option (List ℕ × List ℕ)) (d : List ℕ) → parted 63 h ≡ o → IsAll UriByte h → IsAll UriByte d → IsAll UriByte (front_from h o ++ (codes ";cause=" ++ (d ++ headers_from o)))
-put_all h None d e all digits = both_all h (codes ";cause=" ++ (d ++ [])) all (both_all (codes ";cause=") (d ++ []) cause_word (both_all d [] digits refl))
-put_all h (Some x) d e all digits =
-    let both = split_all x.0 (63 ∷ x.1) (rw (parted_takes 63 h x e) at all) in
-    both_all x.0 (codes ";cause=" ++ (d ++ 63 ∷ x.1)) both.0 (both_all (codes ";cause=") (d ++ 63 ∷ x.1) cause_word (both_all d (63 ∷ x.1) digits both.1))
+semicolon : in_class UriByte 59 ≡ true
+unfolding in_class
+semicolon = refl
 
-cause_filled : (s t : List ℕ) → 0 < length (s ++ (codes ";cause=" ++ t))
-cause_filled s t = omega (arith, length-append s (codes ";cause=" ++ t), length-append (codes ";cause=") t)
+front_all : (h : List ℕ) (o : Option (List ℕ × List ℕ)) → parted 63 h ≡ o → IsAll UriByte h → IsAll UriByte (front_from h o)
+front_all h None e all = all
+front_all h (Some x) e all = (split_all x.0 (63 ∷ x.1) (rw (parted_takes 63 h x e) at all)).0
 
-pub cause_text : (n : ℕ) (u : List ℕ) → n < 65536 → IsUriText u → IsUriText (with_cause n u)
-unfolding with_cause
-cause_text n u lt is =
-    let whole : IsAll UriByte (user_part u ++ host_part u) = subst (λ (l : List ℕ). IsAll UriByte l) (whole_uri u) is.each in
+headers_all : (h : List ℕ) (o : Option (List ℕ × List ℕ)) → parted 63 h ≡ o → IsAll UriByte h → IsAll UriByte (headers_from o)
+headers_all h None e all = refl
+headers_all h (Some x) e all = (split_all x.0 (63 ∷ x.1) (rw (parted_takes 63 h x e) at all)).1
+
+put_all : (u f : List ℕ) → IsAll UriByte u → IsAll UriByte f → IsAll UriByte (with_front f u)
+put_all u f all front =
+    let whole : IsAll UriByte (user_part u ++ host_part u) = subst (λ (l : List ℕ). IsAll UriByte l) (whole_uri u) all in
     let both = split_all (user_part u) (host_part u) whole in
+    both_all (user_part u) (f ++ headers_from (parted 63 (host_part u))) both.0 (both_all f (headers_from (parted 63 (host_part u))) front (headers_all (host_part u) (parted 63 (host_part u)) refl both.1))
+
+own_front : (u : List ℕ) → IsAll UriByte u → IsAll UriByte (plain (front_part u))
+own_front u all =
+    let whole : IsAll UriByte (user_part u ++ host_part u) = subst (λ (l : List ℕ). IsAll UriByte l) (whole_uri u) all in
+    plain_all (in_class UriByte) (front_part u) semicolon (front_all (host_part u) (parted 63 (host_part u)) refl (split_all (user_part u) (host_part u) whole).1)
+
+put_filled : (p f h : List ℕ) (n : ℕ) → 0 < length (p ++ ((f ++ cause_text (Some n)) ++ h))
+put_filled p f h n = omega (arith, length-append p ((f ++ cause_text (Some n)) ++ h), length-append (f ++ cause_text (Some n)) h, length-append f (cause_text (Some n)), length-append (codes ";cause=") (decimal n))
+
+pub caused_text : (n : ℕ) (u : List ℕ) → n < 65536 → IsUriText u → IsUriText (with_cause n u)
+unfolding with_cause
+caused_text n u lt is =
     let digits : IsAll UriByte (decimal n) = wider Digit UriByte digit_uri (decimal n) (decimal_digits n lt) in
-    let new : List ℕ = front_from (host_part u) (parted 63 (host_part u)) ++ (codes ";cause=" ++ (decimal n ++ headers_from (parted 63 (host_part u)))) in
-    let all : IsAll UriByte (front_from (host_part u) (parted 63 (host_part u)) ++ (codes ";cause=" ++ (decimal n ++ headers_from (parted 63 (host_part u))))) = put_all (host_part u) (parted 63 (host_part u)) (decimal n) refl both.1 digits in
+    let text : IsAll UriByte (cause_text (Some n)) = both_all (codes ";cause=") (decimal n) cause_word digits in
     record {
-      filled = omega (arith, length-append (user_part u) new, cause_filled (front_from (host_part u) (parted 63 (host_part u))) (decimal n ++ headers_from (parted 63 (host_part u))));
-      each = both_all (user_part u) (front_from (host_part u) (parted 63 (host_part u)) ++ (codes ";cause=" ++ (decimal n ++ headers_from (parted 63 (host_part u))))) both.0 all;
+      filled = put_filled (user_part u) (plain (front_part u)) (headers_from (parted 63 (host_part u))) n;
+      each = put_all u (plain (front_part u) ++ cause_text (Some n)) is.each (both_all (plain (front_part u)) (cause_text (Some n)) (own_front u is.each) text);
     }
 
-dotted_more : (i : List ℕ) → is_dotted i ≡ true → is_dotted (i ++ codes ".1") ≡ true
-unfolding is_dotted in_class
-dotted_more i e = rw (parts_more 46 i (codes "1"), list_all-append, e) refl
-
-place_dotted : (h : List Entry) (n : ℕ) → n < length h → AreReadable h → is_dotted (option_map_or (λ e. e.index) (slice_get h n) []) ≡ true
+place_dotted : (h : List Entry) (n : ℕ) → n < length h → AreReadable h → is_dotted false (option_map_or (λ e. e.index) (slice_get h n) []) ≡ true
 place_dotted [] n lt are = absurd (omega arith)
 place_dotted (e ∷ h) zero lt are = are.0.index
 place_dotted (e ∷ h) (suc n) lt are = place_dotted h n (omega arith) are.1
 
-last_dotted : (h : List Entry) → 0 < length h → AreReadable h → is_dotted (last_index h) ≡ true
+last_dotted : (h : List Entry) → 0 < length h → AreReadable h → is_dotted false (last_index h) ≡ true
 last_dotted h filled are = place_dotted h (length h - 1) (omega arith) are
 
-target_readable : (index target : List ℕ) (cause : ℕ) → is_dotted index ≡ true → IsTarget target cause → IsReadable (target_entry index target cause)
+target_readable : (index target : List ℕ) (cause : ℕ) → is_dotted false index ≡ true → IsTarget target cause → IsReadable (target_entry index target cause)
 target_readable index target cause dotted is =
     let lt : cause < 65536 = omega (arith, is.high) in
     record {
-      uri = cause_text cause target lt is.uri;
+      uri = caused_text cause target lt is.uri;
       index = dotted_more index dotted;
-      cause = sym (cause_law cause target is.alone is.low is.high);
+      cause = sym (cause_law cause target is.low is.high);
       mark = λ m. m;
       rest = ([], refl, tt);
     }
@@ -207,10 +186,6 @@ anonymous_text = record { filled = omega arith; each = refl }
 anonymous_cause : cause_of anonymous ≡ None
 unfolding cause_of host_part parted
 anonymous_cause = refl
-
-anonymous_alone : has_cause anonymous ≡ false
-unfolding host_part parted
-anonymous_alone = refl
 
 anonymous_mark : is_marked anonymous ≡ false
 unfolding is_marked host_part parted hides
@@ -248,7 +223,7 @@ nobody_readable e (Some n) same is =
     let range = range_by e.uri n (sym is.cause ∙ same) in
     let lt : n < 65536 = omega (arith, range.high) in
     let unmarked : is_marked (with_cause n anonymous) ≡ false = cause_keeps_mark n anonymous lt ∙ anonymous_mark in
-    record { uri = cause_text n anonymous lt anonymous_text; index = is.index; cause = sym (cause_law n anonymous anonymous_alone range.low range.high); mark = λ m. absurd (let f = unmarked in cc); rest = is.rest }
+    record { uri = caused_text n anonymous lt anonymous_text; index = is.index; cause = sym (cause_law n anonymous range.low range.high); mark = λ m. absurd (let f = unmarked in cc); rest = is.rest }
 
 pub masked_readable : (all : Bool) (h : List Entry) → AreReadable h → AreReadable (masked_list all h)
 masked_readable all [] are = tt

@@ -5,7 +5,7 @@ use Rattle.std.specs.List.{list_all, list_any, find, prefix_len, suffix_len, ont
 use Rattle.std.proofs.Math.Bool.{or-true}
 use Rattle.std.proofs.lemmas.Bool.{cases_Bool}
 use Rattle.std.proofs.lemmas.Bool.Decides.{nat_tests}
-use Rattle.std.proofs.lemmas.List.{length-append, length-drop, reverse-append, reverse-reverse, length-reverse, take-append-drop, drop-append-le, take_at, drop_at}
+use Rattle.std.proofs.lemmas.List.{length-append, length-drop, reverse-append, reverse-reverse, length-reverse, take-append-drop, drop-append-le, take_at, drop_at, append_cancel_right}
 use Rattle.std.proofs.lemmas.List.Folds.{list_all-append, list_any-append}
 use Rattle.std.proofs.lemmas.List.Sums.{prefix_len-le-length}
 use Rattle.mmtel_scan.specs.Scanning.{parted, IsFree}
@@ -97,6 +97,13 @@ no_host u =
 
 pub new_host : (u t : List ℕ) → IsFree 64 t → host_part (user_part u ++ t) ≡ t
 new_host u t free = host_more (user_part u) t free ∙ ap (λ (l : List ℕ). l ++ t) (no_host u)
+
+-- the user stays, whatever stands behind it
+pub new_user : (u t : List ℕ) → IsFree 64 t → user_part (user_part u ++ t) ≡ user_part u
+new_user u t free =
+    let whole : user_part u ++ t ≡ user_part (user_part u ++ t) ++ host_part (user_part u ++ t) = whole_uri (user_part u ++ t) in
+    let same : user_part (user_part u ++ t) ++ t ≡ user_part u ++ t = sym (whole ∙ ap (λ (l : List ℕ). user_part (user_part u ++ t) ++ l) (new_host u t free)) in
+    append_cancel_right (user_part (user_part u ++ t)) (user_part u) t same
 
 -- ---- parts
 

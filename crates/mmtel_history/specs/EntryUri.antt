@@ -1,6 +1,6 @@
 -- What the URI of a History-Info entry says (RFC 7044 §5 and §10.1, RFC 4458 §2, RFC 3261 §19.1.1): its parameters and its header part are looked for behind its last '@', or in all of it where it has none, whatever its scheme.
-use Rattle.std.specs.Prelude.{ℕ, zero, suc, Bool, true, false, not, ◌&&◌, ◌==◌, ◌-◌, if◌then◌else◌, nat_lt, List, [], ◌∷◌, ◌++◌, length, take, drop, Option, Some, None, is_some, codes, decimal}
-use Rattle.std.specs.List.{list_any, find, slice_split, onto_first, after_last, suffix_len}
+use Rattle.std.specs.Prelude.{ℕ, zero, suc, Bool, true, false, not, ◌&&◌, ◌==◌, ◌-◌, if◌then◌else◌, nat_lt, List, [], ◌∷◌, ◌++◌, length, take, drop, filter, count_by, Option, Some, None, is_some, codes, decimal}
+use Rattle.std.specs.List.{list_any, find, slice_split, join_with_byte, onto_first, after_last, suffix_len}
 use Rattle.std.specs.Str.{str_eq_ignore_ascii_case}
 use Rattle.mmtel_scan.specs.Numbers.{number_of}
 use Rattle.mmtel_scan.specs.Scanning.{parted}
@@ -39,9 +39,13 @@ user_part uri = take (length uri - suffix_len (λ x. not (x == 64)) uri) uri
 unfoldable pub host_part : List ℕ → List ℕ
 host_part uri = after_last (λ x. x == 64) uri
 
--- the parameters: each behind a ';', before the '?'
+-- the host with its port, and the parameters: before the '?'
+abbrev pub front_part : List ℕ → List ℕ
+front_part uri = before 63 (host_part uri)
+
+-- the parameters: each behind a ';'
 abbrev pub uri_params : List ℕ → List (List ℕ)
-uri_params uri = drop 1 (parts 59 (before 63 (host_part uri)))
+uri_params uri = drop 1 (parts 59 (front_part uri))
 
 -- the header part: behind the '?', parted at '&'
 abbrev pub header_parts : List ℕ → List (List ℕ)
@@ -68,9 +72,13 @@ is_cause param = is_named (codes "cause") param
 unfoldable pub cause_of : List ℕ → Option ℕ
 cause_of uri = cause_in (find is_cause (uri_params uri))
 
--- no parameter of that name
+-- a parameter of that name is there
 abbrev pub has_cause : List ℕ → Bool
 has_cause uri = list_any is_cause (uri_params uri)
+
+-- how many there are
+abbrev pub causes_in : List ℕ → ℕ
+causes_in uri = count_by is_cause (uri_params uri)
 
 -- ---- the mark
 
@@ -115,6 +123,28 @@ abbrev pub headers_from : Option (List ℕ × List ℕ) → List ℕ
 headers_from None = []
 headers_from (Some x) = 63 ∷ x.1
 
--- the URI with its cause, behind its other parameters
+-- the URI with this in the place of what stands between its last '@' and its '?'
+abbrev pub with_front : List ℕ → List ℕ → List ℕ
+with_front front uri = user_part uri ++ (front ++ headers_from (parted 63 (host_part uri)))
+
+-- a host and the parameters that are no causes
+abbrev pub but_causes : List (List ℕ) → List (List ℕ)
+but_causes [] = []
+but_causes (host ∷ params) = host ∷ filter (λ p. not (is_cause p)) params
+
+-- the text of a host and parameters without the causes among them
+abbrev pub plain : List ℕ → List ℕ
+plain front = join_with_byte 59 (but_causes (parts 59 front))
+
+-- the URI without the causes among its parameters: each of that name goes
+unfoldable pub without_cause : List ℕ → List ℕ
+without_cause uri = with_front (plain (front_part uri)) uri
+
+-- the text of a cause, a ';' before it; nothing where there is none
+abbrev pub cause_text : Option ℕ → List ℕ
+cause_text None = []
+cause_text (Some cause) = codes ";cause=" ++ decimal cause
+
+-- the URI with this cause in the place of its own, behind its other parameters
 unfoldable pub with_cause : ℕ → List ℕ → List ℕ
-with_cause cause uri = user_part uri ++ (before 63 (host_part uri) ++ (codes ";cause=" ++ (decimal cause ++ headers_from (parted 63 (host_part uri)))))
+with_cause cause uri = with_front (plain (front_part uri) ++ cause_text (Some cause)) uri

@@ -1,58 +1,46 @@
 -- The list of History-Info entries: how a value is read and written, and what a diversion, a mark and masking do to the list (RFC 7044 §5, §9 and §10.1; RFC 3323 §4.2).
-use Rattle.std.specs.Prelude.{◌≡◌, ◌≤◌, ℕ, zero, suc, Bool, true, false, not, ◌||◌, ◌&&◌, ◌==◌, ◌-◌, ◌+◌, drop, if◌then◌else◌, nat_lt, List, [], ◌∷◌, ◌++◌, length, take, map, position, slice_get, Option, Some, None, is_some, is_none, option_to_list, Result, Ok, Err, codes, count_by}
-use Rattle.std.specs.List.{list_all, flat_map}
-use Rattle.std.specs.Option.{option_map_or}
+use Rattle.std.specs.Prelude.{◌≡◌, ◌≤◌, ℕ, zero, suc, Bool, true, false, ◌||◌, ◌-◌, if◌then◌else◌, nat_lt, List, [], ◌∷◌, ◌++◌, length, take, map, position, slice_get, Option, Some, None, is_some, is_none, option_to_list, Result, Ok, Err, codes, count_by}
+use Rattle.std.specs.List.{flat_map}
+use Rattle.std.specs.Option.{option_map_or, unwrap_or}
 use Rattle.std.specs.Str.{str_eq_ignore_ascii_case}
 use Rattle.mmtel_scan.specs.Chain.{◌>>=◌}
-use Rattle.mmtel_scan.specs.Classes.{in_class, IsOneOrMore}
-use Rattle.mmtel_scan.specs.declared.classes.Class.TheVariants.{Digit, UriByte}
+use Rattle.mmtel_scan.specs.Classes.{IsOneOrMore}
+use Rattle.mmtel_scan.specs.declared.classes.Class.TheVariants.{UriByte}
 use Rattle.mmtel_lex.specs.Grammar.{params_text, AreParams}
+use Rattle.mmtel_lex.specs.Params.{param_value}
 use Rattle.mmtel_lex.specs.Reading.{name_addr_of}
 use Rattle.mmtel_lex.specs.declared.values.Param.{Param}
 use Rattle.mmtel_lex.specs.declared.values.NameAddr.{NameAddr}
-use Rattle.mmtel_history.specs.EntryUri.{parts, cause_of, has_cause, is_marked, marked_uri, with_cause}
+use Rattle.mmtel_message.specs.Entries.{is_dotted, is_indexed}
+use Rattle.mmtel_history.specs.EntryUri.{cause_of, is_marked, marked_uri, with_cause}
 use Rattle.mmtel_history.specs.declared.entries.Entry.{Entry}
 use Rattle.mmtel_history.specs.declared.faults.HistoryFault.{HistoryFault}
 use Rattle.mmtel_history.specs.declared.faults.HistoryFault.TheVariants as faults
 
 -- ---- a value
 
--- one digit or more
-abbrev pub is_number : List ℕ → Bool
-is_number s = not (length s == 0) && list_all (in_class Digit) s
+-- a parameter of this name, without case
+abbrev pub is_index : Param → Bool
+is_index p = str_eq_ignore_ascii_case p.name (codes "index")
 
--- numbers with dots between them (RFC 7044 §5, index-val)
-unfoldable pub is_dotted : List ℕ → Bool
-is_dotted s = list_all is_number (parts 46 s)
+-- the value of the first index, or nothing
+abbrev pub index_of : List Param → List ℕ
+index_of ps = unwrap_or (param_value (codes "index") ps) []
 
-abbrev pub dotted_in : Option (List ℕ) → Bool
-dotted_in None = false
-dotted_in (Some v) = is_dotted v
-
--- an index: the parameter of that name, with dotted numbers
-unfoldable pub is_index : Param → Bool
-is_index p = str_eq_ignore_ascii_case p.name (codes "index") && dotted_in p.value
-
-abbrev pub value_or_none : Option (List ℕ) → List ℕ
-value_or_none None = []
-value_or_none (Some v) = v
-
-abbrev pub index_at : ℕ → List Param → List ℕ
-index_at place ps = option_map_or (λ p. value_or_none p.value) (slice_get ps place) []
+-- the parameters but the first index
+abbrev pub but_index : List Param → List Param
+but_index [] = []
+but_index (p ∷ ps) = if is_index p then ps else p ∷ but_index ps
 
 -- the entry of a URI, an index and further parameters
 abbrev pub entry_with : List ℕ → List ℕ → List ℕ → Entry
 entry_with uri index rest = record { uri = uri; index = index; cause = cause_of uri; hidden = is_marked uri; rest = rest }
 
--- the entry of a name-addr whose first index is at this place
-abbrev pub entry_at : NameAddr → Option ℕ → Option Entry
-entry_at n None = None
-entry_at n (Some place) = Some (entry_with n.uri (index_at place n.params) (params_text (take place n.params ++ drop (place + 1) n.params)))
-
+-- the entry of a name-addr, where its first index has dotted numbers
 abbrev pub entry_in : NameAddr → Option Entry
-entry_in n = entry_at n (position is_index n.params)
+entry_in n = if is_indexed (Some n) then Some (entry_with n.uri (index_of n.params) (params_text (but_index n.params))) else None
 
--- the entry that a value writes: a name-addr with an index
+-- the entry that a value writes: a name-addr with an index (RFC 7044 §5)
 unfoldable pub entry_of : List ℕ → Option Entry
 entry_of value = name_addr_of value >>= entry_in
 
@@ -128,7 +116,7 @@ appended h from target cause hide_last = with_target (started from h) target cau
 abbrev pub diversions_in : List Entry → ℕ
 diversions_in h = count_by (λ e. is_some e.cause) h
 
--- nobody's URI
+-- nobody's URI: it stands for a URI that is not shown (RFC 3323 §4.1.1.3)
 abbrev pub anonymous : List ℕ
 anonymous = codes "sip:anonymous@anonymous.invalid"
 
@@ -152,7 +140,7 @@ IsUriText uri = IsOneOrMore UriByte uri
 -- an entry as values write them: each of its parts can be read, and its cause and its mark are those of its URI
 pub record IsReadable (e : Entry) : Type 0 where
   pub uri : IsUriText e.uri
-  pub index : is_dotted e.index ≡ true
+  pub index : is_dotted false e.index ≡ true
   pub cause : e.cause ≡ cause_of e.uri
   pub mark : is_marked e.uri ≡ true → e.hidden ≡ true
   pub rest : (ps : List Param) × (e.rest ≡ params_text ps) × AreParams ps
@@ -161,10 +149,9 @@ abbrev pub AreReadable : List Entry → Type 0
 AreReadable [] = Unit {0}
 AreReadable (e ∷ es) = IsReadable e × AreReadable es
 
--- a URI to which a call may be diverted by a cause: it can stand in an entry, it has no cause of its own, and the cause has three digits
+-- a URI to which a call may be diverted by a cause: it can stand in an entry, and the cause has three digits
 pub record IsTarget (target : List ℕ) (cause : ℕ) : Type 0 where
   pub uri : IsUriText target
-  pub alone : has_cause target ≡ false
   pub low : 100 ≤ cause
   pub high : cause ≤ 699
 

@@ -1,16 +1,18 @@
 //! One entry: how a value is read and written.
-ghost use Rattle.std.specs.Prelude.{Some, ◌≡◌, ◌+◌, take, drop, ◌++◌, ◌∷◌, [], IfOk, OnOk, position, length, ◌<◌, IfSome};
-ghost use Rattle.std.specs.List.{list_all};
-ghost use Rattle.mmtel_lex.specs.Grammar.{value_text, param_text, params_text};
+ghost use Rattle.std.specs.Prelude.{Some, ◌≡◌, ◌+◌, take, drop, ◌++◌, ◌∷◌, [], IfOk, MatchOption, length, ◌<◌, IfSome};
+ghost use Rattle.mmtel_lex.specs.Grammar.{params_text};
 ghost use Rattle.mmtel_lex.specs.Reading.{Gives};
-ghost use Rattle.mmtel_history.specs.EntryUri.{parts, with_cause};
-ghost use Rattle.mmtel_history.specs.HistoryInfo.{is_number, is_dotted, dotted_in, is_index, index_at, entry_with, entry_in, entry_of, shown_uri, entry_text, target_entry, masked_uri, masked_entry, IsReadable, written};
+ghost use Rattle.mmtel_history.specs.EntryUri.{with_cause};
+ghost use Rattle.mmtel_history.specs.HistoryInfo.{is_index, but_index, entry_with, entry_in, entry_of, shown_uri, entry_text, target_entry, masked_uri, masked_entry, IsReadable, written};
 
-use crate::parts::first_part;
 use crate::uris::{add_marked, cause_of, is_marked, with_cause};
-use mmtel_lex::{LexFault, NameAddr, Param, read_name_addr};
-use mmtel_scan::{Class, NoMemory, Text, is_all};
+use mmtel_lex::{LexFault, NameAddr, Param, add_params, param_value, read_name_addr};
+use mmtel_message::is_place;
+use mmtel_scan::{NoMemory, Text};
 use std::alloc::Global;
+
+/// Nobody's URI: it stands for a URI that is not shown (RFC 3323 §4.1.1.3).
+pub const ANONYMOUS: &[u8] = b"sip:anonymous@anonymous.invalid";
 
 /// An entry of History-Info (RFC 7044 §5): a target of the call.
 #[derive(Drop)]
@@ -27,54 +29,16 @@ pub struct Entry {
     pub rest: Text,
 }
 
-/// Whether the bytes are a number.
-fn is_number(bytes: &[u8]) -> bool
-    ensures { result ≡ is_number bytes.now }
-{
-    if bytes.is_empty() {
-        return false;
-    }
-    is_all(Class::Digit, bytes)
-}
-
-/// Whether the bytes are numbers with dots between them.
-#[tactic(auto, unfolding(crate::specs::HistoryInfo::is_dotted))]
-fn is_dotted(bytes: &[u8]) -> bool
-    ensures { result ≡ is_dotted bytes.now }
-{
-    let mut rest = bytes;
-    'parts: while let Some((front, tail)) = first_part(b'.', rest) {
-        if !is_number(front) {
-            return false;
-        }
-        rest = tail;
-    }
-    is_number(rest)
-}
-
-fn has_dotted(value: &Option<Text>) -> bool
-    ensures { result ≡ dotted_in value.now }
-{
-    match value {
-        None => false,
-        Some(value) => is_dotted(value.bytes()),
-    }
-}
-
-/// Whether the parameter is an index of dotted numbers.
-#[tactic(auto, unfolding(crate::specs::HistoryInfo::is_index))]
+/// Whether the parameter is an index.
 fn is_index(param: &Param) -> bool
     ensures { result ≡ is_index param.now }
 {
-    if !param.name.bytes().eq_ignore_ascii_case(b"index") {
-        return false;
-    }
-    has_dotted(&param.value)
+    param.name.bytes().eq_ignore_ascii_case(b"index")
 }
 
 /// Where the first index stands.
 fn index_place(params: &[Param]) -> Option<usize>
-    ensures place { result ≡ position is_index params.now }
+    ensures others { MatchOption result (but_index params.now ≡ params.now) (λ n. but_index params.now ≡ take n params.now ++ drop (n + 1) params.now) }
     ensures within { IfSome result (λ n. n < length params.now) }
 {
     for (i, param) in params.iter().enumerate() {
@@ -85,56 +49,20 @@ fn index_place(params: &[Param]) -> Option<usize>
     None
 }
 
-/// The value of the parameter at this place, or nothing.
-fn index_at(params: &[Param], place: usize) -> &[u8]
-    requires { place < length params.now }
-    ensures { result.now ≡ index_at place params.now }
+/// The text of the parameters but the first index.
+fn other_params(alloc: Global, params: &[Param]) -> Result<Text, NoMemory>
+    ensures { IfOk result (λ t. t ≡ params_text (but_index params.now)) }
 {
-    match &params[place].value {
-        None => &[],
-        Some(value) => value.bytes(),
-    }
-}
-
-fn add_value(alloc: Global, out: &mut Text, value: &Option<Text>) -> Result<(), NoMemory>
-    ensures { OnOk result (out.new ≡ out.old ++ value_text value.now) }
-{
-    match value {
-        None => Ok(()),
-        Some(value) => {
-            out.push(alloc, b"=")?;
-            out.push(alloc, value.bytes())
+    let mut out = Text::new();
+    match index_place(params) {
+        None => add_params(alloc, &mut out, params)?,
+        Some(place) => {
+            let (front, _) = params.split_at(place);
+            let (_, back) = params.split_at(place + 1);
+            add_params(alloc, &mut out, front)?;
+            add_params(alloc, &mut out, back)?;
         }
     }
-}
-
-fn add_param(alloc: Global, out: &mut Text, param: &Param) -> Result<(), NoMemory>
-    ensures { OnOk result (out.new ≡ out.old ++ param_text param.now) }
-{
-    out.push(alloc, b";")?;
-    out.push(alloc, param.name.bytes())?;
-    add_value(alloc, out, &param.value)
-}
-
-fn add_params(alloc: Global, out: &mut Text, params: &[Param]) -> Result<(), NoMemory>
-    ensures { OnOk result (out.new ≡ out.old ++ params_text params.now) }
-{
-    for param in params {
-        add_param(alloc, out, param)?;
-    }
-    Ok(())
-}
-
-/// The text of the parameters but the one at this place.
-fn other_params(alloc: Global, params: &[Param], place: usize) -> Result<Text, NoMemory>
-    requires { place < length params.now }
-    ensures { IfOk result (λ t. t ≡ params_text (take place params.now ++ drop (place + 1) params.now)) }
-{
-    let (front, _) = params.split_at(place);
-    let (_, back) = params.split_at(place + 1);
-    let mut out = Text::new();
-    add_params(alloc, &mut out, front)?;
-    add_params(alloc, &mut out, back)?;
     Ok(out)
 }
 
@@ -162,7 +90,7 @@ pub fn first_entry(alloc: Global, uri: &[u8]) -> Result<Entry, NoMemory>
     Ok(entry_with(uri, index, Text::new()))
 }
 
-/// The entry of a name-addr that has an index.
+/// The entry of a name-addr whose first index has dotted numbers.
 fn entry_in(alloc: Global, name_addr: NameAddr) -> Result<Entry, LexFault>
     ensures { Gives (λ x. x) result (entry_in name_addr) }
 {
@@ -172,14 +100,13 @@ fn entry_in(alloc: Global, name_addr: NameAddr) -> Result<Entry, LexFault>
         params,
     } = name_addr;
     let params = params.items();
-    match index_place(params) {
-        None => Err(LexFault::Malformed { at: 0 }),
-        Some(place) => {
-            let index = Text::of(alloc, index_at(params, place))?;
-            let rest = other_params(alloc, params, place)?;
-            Ok(entry_with(uri, index, rest))
-        }
+    let index = param_value(params, b"index");
+    if !is_place(index) {
+        return Err(LexFault::Malformed { at: 0 });
     }
+    let index = Text::of(alloc, index.unwrap_or(&[]))?;
+    let rest = other_params(alloc, params)?;
+    Ok(entry_with(uri, index, rest))
 }
 
 /// Reads a value of History-Info.
@@ -247,8 +174,8 @@ fn masked_uri(alloc: Global, cause: Option<u16>) -> Result<Text, NoMemory>
     ensures { IfOk result (λ t. t ≡ masked_uri cause) }
 {
     match cause {
-        None => Text::of(alloc, b"sip:anonymous@anonymous.invalid"),
-        Some(cause) => with_cause(alloc, b"sip:anonymous@anonymous.invalid", cause),
+        None => Text::of(alloc, ANONYMOUS),
+        Some(cause) => with_cause(alloc, ANONYMOUS, cause),
     }
 }
 

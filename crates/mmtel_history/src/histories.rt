@@ -186,7 +186,7 @@ impl History {
 
     /// Adds what a diversion to the target, by this cause, tells: an empty list first gets `from`, with index 1; then the last entry is hidden if `hide_last` says so, and the target with its cause is added, below the last entry's index (RFC 7044 §9.2 and §10.3).
     ///
-    /// The target has no cause of its own: whoever diverts takes it out.
+    /// A cause that the target has of its own is taken out.
     ///
     /// # Errors
     ///

@@ -4,10 +4,11 @@
 mod entries;
 mod faults;
 mod histories;
+pub mod laws;
 mod parts;
 mod uris;
 
-pub use entries::{Entry, write_entry};
+pub use entries::{ANONYMOUS, Entry, write_entry};
 pub use faults::HistoryFault;
 pub use histories::{History, read_values};
-pub use uris::with_cause;
+pub use uris::{with_cause, without_cause};

@@ -1,8 +1,8 @@
 //! What an entry's URI says: its cause, and whether it asks to be hidden.
-ghost use Rattle.std.specs.Prelude.{◌≡◌, ◌++◌, ◌≤◌, ◌<◌, length, take, drop, IfOk, IfSome, OnOk, Some, false};
-ghost use Rattle.std.specs.List.{list_any, find};
+ghost use Rattle.std.specs.Prelude.{◌≡◌, ◌∷◌, [], ◌++◌, ◌≤◌, ◌<◌, not, length, take, drop, filter, IfOk, IfSome, OnOk, Some, false};
+ghost use Rattle.std.specs.List.{list_any, find, flat_map};
 ghost use Rattle.std.specs.Option.{option_copied};
-ghost use Rattle.mmtel_history.specs.EntryUri.{parts, before, uri_params, header_parts, user_part, host_part, cause_number, is_cause, cause_of, escaped_parts, is_history, hides, is_marked, has_headers, has_cause, mark_text, marked_uri, with_cause};
+ghost use Rattle.mmtel_history.specs.EntryUri.{parts, before, front_part, uri_params, header_parts, user_part, host_part, cause_number, is_cause, cause_of, causes_in, escaped_parts, is_history, hides, is_marked, has_headers, has_cause, mark_text, marked_uri, plain, with_front, cause_text, without_cause, with_cause};
 
 use crate::parts::{cut, first_escaped, first_part, is_named};
 use mmtel_scan::{NoMemory, Text, number_up_to, part};
@@ -147,24 +147,70 @@ pub fn add_marked(alloc: Global, out: &mut Text, uri: &[u8]) -> Result<(), NoMem
     }
 }
 
-/// The text of the URI with the cause.
-#[tactic(auto, unfolding(crate::specs::EntryUri::with_cause))]
-fn caused(alloc: Global, uri: &[u8], cause: u16) -> Result<Text, NoMemory>
-    ensures { IfOk result (λ t. t ≡ with_cause cause uri.now) }
+/// Adds a `;` and the parameter, unless it is a cause.
+fn add_unless_cause(alloc: Global, out: &mut Text, param: &[u8]) -> Result<(), NoMemory>
+    ensures { OnOk result (out.new ≡ out.old ++ flat_map (λ p. 59 ∷ p) (filter (λ p. not (is_cause p)) (param.now ∷ []))) }
+{
+    if is_named(b"cause", param) {
+        return Ok(());
+    }
+    out.push(alloc, b";")?;
+    out.push(alloc, param)
+}
+
+/// Adds the parameters that are no causes, each behind its `;`.
+fn add_other_params(alloc: Global, out: &mut Text, params: &[u8]) -> Result<(), NoMemory>
+    ensures { OnOk result (out.new ≡ out.old ++ flat_map (λ p. 59 ∷ p) (filter (λ p. not (is_cause p)) (parts 59 params.now))) }
+{
+    let mut rest = params;
+    'parts: while let Some((front, tail)) = first_part(b';', rest) {
+        add_unless_cause(alloc, out, front)?;
+        rest = tail;
+    }
+    add_unless_cause(alloc, out, rest)
+}
+
+/// Adds the host and the parameters that are no causes.
+fn add_plain(alloc: Global, out: &mut Text, front: &[u8]) -> Result<(), NoMemory>
+    ensures { OnOk result (out.new ≡ out.old ++ plain front.now) }
+{
+    match first_part(b';', front) {
+        None => out.push(alloc, front),
+        Some((host, params)) => {
+            out.push(alloc, host)?;
+            add_other_params(alloc, out, params)
+        }
+    }
+}
+
+/// Adds the cause, where there is one.
+fn add_cause(alloc: Global, out: &mut Text, cause: Option<u16>) -> Result<(), NoMemory>
+    ensures { OnOk result (out.new ≡ out.old ++ cause_text cause) }
+{
+    match cause {
+        None => Ok(()),
+        Some(cause) => {
+            let digits = cause.to_string(alloc)?;
+            out.push(alloc, b";cause=")?;
+            out.push(alloc, digits.as_bytes())
+        }
+    }
+}
+
+/// The URI with this cause, or with none, in the place of its own.
+fn caused(alloc: Global, uri: &[u8], cause: Option<u16>) -> Result<Text, NoMemory>
+    ensures { IfOk result (λ t. t ≡ with_front (plain (front_part uri.now) ++ cause_text cause) uri.now) }
 {
     let (user, host) = split_user(uri);
-    let digits = cause.to_string(alloc)?;
     let mut out = Text::of(alloc, user)?;
     match part(b'?', host) {
         None => {
-            out.push(alloc, host)?;
-            out.push(alloc, b";cause=")?;
-            out.push(alloc, digits.as_bytes())?;
+            add_plain(alloc, &mut out, host)?;
+            add_cause(alloc, &mut out, cause)?;
         }
         Some((front, headers)) => {
-            out.push(alloc, front)?;
-            out.push(alloc, b";cause=")?;
-            out.push(alloc, digits.as_bytes())?;
+            add_plain(alloc, &mut out, front)?;
+            add_cause(alloc, &mut out, cause)?;
             out.push(alloc, b"?")?;
             out.push(alloc, headers)?;
         }
@@ -172,19 +218,33 @@ fn caused(alloc: Global, uri: &[u8], cause: u16) -> Result<Text, NoMemory>
     Ok(out)
 }
 
-/// The URI with `;cause=` and the cause behind its parameters, before its header part (RFC 4458 §2).
+/// The URI without the causes of a diversion that led to it: each parameter `cause` goes, its name in any case of letters (RFC 4458 §2, RFC 3261 §19.1.1). All else stays as it is.
 ///
-/// A cause that the URI has of its own stays: whoever diverts takes it out first.
+/// # Errors
+///
+/// Want of memory alone.
+pub fn without_cause(alloc: Global, uri: &[u8]) -> Result<Text, NoMemory>
+    ensures text { IfOk result (λ t. t ≡ without_cause uri.now) }
+    ensures none { IfOk result (λ t. has_cause t ≡ false) }
+    // The mark is as it was.
+    ensures mark { IfOk result (λ t. is_marked t ≡ is_marked uri.now) }
+{
+    caused(alloc, uri, None)
+}
+
+/// The URI with `;cause=` and the cause behind its parameters, before its header part (RFC 4458 §2). A cause that it has of its own is taken out first.
 ///
 /// # Errors
 ///
 /// Want of memory alone.
 pub fn with_cause(alloc: Global, uri: &[u8], cause: u16) -> Result<Text, NoMemory>
     ensures text { IfOk result (λ t. t ≡ with_cause cause uri.now) }
-    // The cause is read again, where it has three digits and the URI none of its own.
-    ensures cause { has_cause uri.now ≡ false → 100 ≤ cause → cause ≤ 699 → IfOk result (λ t. cause_of t ≡ Some cause) }
+    // The cause is read again, where it has three digits.
+    ensures cause { 100 ≤ cause → cause ≤ 699 → IfOk result (λ t. cause_of t ≡ Some cause) }
+    // It is the only one.
+    ensures one { IfOk result (λ t. causes_in t ≡ 1) }
     // The mark is as it was.
     ensures mark { IfOk result (λ t. is_marked t ≡ is_marked uri.now) }
 {
-    caused(alloc, uri, cause)
+    caused(alloc, uri, Some(cause))
 }

@@ -1,6 +1,0 @@
-use Rattle.std.proofs.Common.{◌≡◌, ◌++◌, take}
-use Rattle.mmtel_lex.specs.Grammar.{params_text}
-use Rattle.mmtel_history.proofs.entries.add_params.Given as goal
-
-abbrev pub invariant-loop-param : goal.invariant-loop-param
-invariant-loop-param l = l.out ≡ l.fn.out ++ params_text (take l.param-index l.params)

@@ -1,0 +1,5 @@
+use Rattle.mmtel_history.proofs.MaskedValueLaws.{masked_entry_of, masked_value_once, masked_value_index, masked_value_cause, masked_value_shown}
+use Rattle.mmtel_history.proofs.laws.values_are_masked.Goals as goal
+
+pub returns : goal.returns
+returns c = record { entry = masked_entry_of; once = masked_value_once; index = masked_value_index; cause = masked_value_cause; shown = masked_value_shown }

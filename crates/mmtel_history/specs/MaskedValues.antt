@@ -1,0 +1,20 @@
+-- A received value of History-Info as somebody may see it who is not to know its URI (RFC 3323 §4.2, RFC 7044 §10.1).
+use Rattle.std.specs.Prelude.{ℕ, Bool, true, false, List, Option, Some, None}
+use Rattle.mmtel_history.specs.HistoryInfo.{entry_of, entry_text, masked_entry}
+use Rattle.mmtel_history.specs.declared.entries.Entry.{Entry}
+
+abbrev pub masked_from : List ℕ → Option Entry → List ℕ
+masked_from value None = value
+masked_from value (Some e) = entry_text (masked_entry true e)
+
+-- the value with nobody's URI and its cause in the place of display and URI, and with its index and its other parameters; one that is no entry stays
+unfoldable pub masked_value_text : List ℕ → List ℕ
+masked_value_text value = masked_from value (entry_of value)
+
+abbrev pub is_hidden : Option Entry → Bool
+is_hidden None = false
+is_hidden (Some e) = e.hidden
+
+-- an entry that asks to be hidden
+unfoldable pub is_marked_value : List ℕ → Bool
+is_marked_value value = is_hidden (entry_of value)

@@ -2,7 +2,7 @@
 use Rattle.std.specs.Prelude.{Option, Some, None, is_none, is_some, ◌==◌, ◌&&◌, ◌||◌, not, if◌then◌else◌, ℕ, ◌+◌, Bool, true, false, List, [], ◌∷◌, ◌++◌, length, codes, nat_lt, Result, Ok, Err}
 use Rattle.std.specs.List.{list_all}
 use Rattle.std.specs.Str.{bytes_eq}
-use Rattle.mmtel_scan.specs.Classes.{in_class, is_digit}
+use Rattle.mmtel_scan.specs.Classes.{in_class}
 use Rattle.mmtel_scan.specs.Numbers.{number_of}
 use Rattle.mmtel_scan.specs.Scanning.{after_text}
 use Rattle.mmtel_scan.specs.declared.classes.Class.TheVariants.{Token}
@@ -12,6 +12,7 @@ use Rattle.mmtel_lex.specs.declared.values.NameAddr.{NameAddr}
 use Rattle.mmtel_message.specs.Message.{is_line, has_line, values_named}
 use Rattle.mmtel_message.specs.Values.{values_of, values_in}
 use Rattle.mmtel_message.specs.Fields.{param_value}
+use Rattle.mmtel_message.specs.Entries.{are_entries}
 use Rattle.mmtel_message.specs.declared.values.Mode.TheVariants.{Plain, Words}
 use Rattle.mmtel_message.specs.declared.fields.Five.{Five}
 use Rattle.mmtel_message.specs.declared.messages.Start.{Start}
@@ -79,34 +80,7 @@ abbrev pub has_case : Option NameAddr → Bool
 has_case None = false
 has_case (Some n) = is_case (param_value (codes "sescase") n.params)
 
-abbrev pub dotted_step : Bool → ℕ → Option Bool
-dotted_step digit b = if is_digit b then Some true else if digit && b == 46 then Some false else None
-
-abbrev pub goes_on : (Bool → Bool) → Option Bool → Bool
-goes_on more None = false
-goes_on more (Some digit) = more digit
-
--- numbers with dots between them; the flag says that a digit came just before
-unfoldable pub is_dotted : Bool → List ℕ → Bool
-is_dotted digit [] = digit
-is_dotted digit (b ∷ s) = goes_on (λ d. is_dotted d s) (dotted_step digit b)
-
-abbrev pub is_place : Option (List ℕ) → Bool
-is_place None = false
-is_place (Some v) = is_dotted false v
-
--- a History-Info value with an index (RFC 7044 §5)
-abbrev pub is_indexed : Option NameAddr → Bool
-is_indexed None = false
-is_indexed (Some n) = is_place (param_value (codes "index") n.params)
-
-abbrev pub is_entry : List ℕ → Bool
-is_entry v = is_indexed (name_addr_of v)
-
-abbrev pub are_entries : List (List ℕ) → Bool
-are_entries vs = list_all is_entry vs
-
--- a value that is no such entry, or over 32 values with those before
+-- a value that is no entry, or over 32 values with those before
 abbrev pub history_fault : List (List ℕ × List ℕ) → List (List ℕ) → Bool
 history_fault before values = if are_entries values then nat_lt 32 (length (values_named Plain (codes "History-Info") before) + length values) else true
 

@@ -2,10 +2,11 @@
 ghost use Rattle.std.specs.Prelude.{◌≡◌, IfOk, not, [], false, nat_lt, ◌+◌};
 ghost use Rattle.std.specs.Option.{option_copied};
 ghost use Rattle.mmtel_lex.specs.Reading.{name_addr_of};
-ghost use Rattle.mmtel_message.specs.Faults.{is_method, is_request, start_fault, is_readable, are_readable, cseq_fault, number_fault, from_fault, contact_fault, line_fault, fault_from, first_fault, or_absent, is_cookie, dotted_step, via_fault, is_case, has_case, is_dotted, is_place, is_entry, are_entries, history_fault, is_word, are_words, other_fault};
+ghost use Rattle.mmtel_message.specs.Faults.{is_method, is_request, start_fault, is_readable, are_readable, cseq_fault, number_fault, from_fault, contact_fault, line_fault, fault_from, first_fault, or_absent, is_cookie, via_fault, is_case, has_case, history_fault, is_word, are_words, other_fault};
 ghost use Rattle.mmtel_message.specs.declared.values.Mode.TheVariants.{Words};
 ghost use Rattle.mmtel_message.specs.Values.{values_of, values_in};
 
+use crate::entries::are_entries;
 use crate::fields::{Five, param_value};
 use crate::messages::{Start, has_line, is_line, values_named};
 use crate::values::{Mode, values_in};
@@ -147,61 +148,6 @@ fn has_case(alloc: Global, value: &[u8]) -> Result<bool, NoMemory>
         Err(LexFault::Malformed { at: _ }) => Ok(false),
         Err(LexFault::NoMemory) => Err(NoMemory),
     }
-}
-
-fn dotted_step(digit: bool, b: u8) -> Option<bool>
-    ensures { result ≡ dotted_step digit b }
-{
-    if b.is_ascii_digit() {
-        return Some(true);
-    }
-    if digit && b == b'.' {
-        return Some(false);
-    }
-    None
-}
-
-fn is_dotted(bytes: &[u8]) -> bool
-    ensures { result ≡ is_dotted false bytes.now }
-{
-    let mut digit = false;
-    for b in bytes {
-        match dotted_step(digit, *b) {
-            None => return false,
-            Some(next) => digit = next,
-        }
-    }
-    digit
-}
-
-fn is_place(value: Option<&[u8]>) -> bool
-    ensures { result ≡ is_place (option_copied value.entry) }
-{
-    match value {
-        None => false,
-        Some(value) => is_dotted(value),
-    }
-}
-
-fn is_entry(alloc: Global, value: &[u8]) -> Result<bool, NoMemory>
-    ensures { IfOk result (λ b. b ≡ is_entry value.now) }
-{
-    match read_name_addr(alloc, value) {
-        Ok(read) => Ok(is_place(param_value(read.params.items(), b"index"))),
-        Err(LexFault::Malformed { at: _ }) => Ok(false),
-        Err(LexFault::NoMemory) => Err(NoMemory),
-    }
-}
-
-fn are_entries(alloc: Global, values: &[Text]) -> Result<bool, NoMemory>
-    ensures { IfOk result (λ b. b ≡ are_entries values.now) }
-{
-    for value in values {
-        if !is_entry(alloc, value.bytes())? {
-            return Ok(false);
-        }
-    }
-    Ok(true)
 }
 
 fn is_over(earlier: usize, more: usize) -> bool

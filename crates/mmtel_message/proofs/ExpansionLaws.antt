@@ -366,7 +366,7 @@ listed_name h e =
                 | inl y ↦ history (line_named (codes "History-Info") h y)
                 | inr n6 ↦ elim (cases_Bool (is_line (codes "Supported") h)) [
                   | inl y ↦ supported (line_named (codes "Supported") h y)
-                  | inr n7 ↦ require (line_named (codes "Require") h (rw (n1, n2, n3, n4, n5, n6, n7) at e))
+                  | inr n7 ↦ require (line_named (codes "Require") h (or_false (is_line (codes "Require") h) ∙ (rw (n1, n2, n3, n4, n5, n6, n7) at e)))
                 ]
               ]
             ]
@@ -375,7 +375,7 @@ listed_name h e =
       ]
     ]
 
-pub history_parts : (entries many : Bool) → cond entries many true ≡ false → (entries ≡ true) × (many ≡ false)
+pub history_parts : (entries many : Bool) → (not entries || many) ≡ false → (entries ≡ true) × (many ≡ false)
 history_parts true many e = (refl, e)
 history_parts false many e = absurd cc
 

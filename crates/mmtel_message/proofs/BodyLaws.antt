@@ -13,14 +13,14 @@ use Rattle.mmtel_message.specs.Starts.{start_at}
 use Rattle.mmtel_message.specs.Fields.{five_at}
 use Rattle.mmtel_message.specs.Faults.{fault_from, first_fault}
 use Rattle.mmtel_message.specs.Expansion.{expanded, privacy_text, allow_text}
-use Rattle.mmtel_message.specs.Reads.{cut_body, body_of, message_of, after_faults, after_five, after_start, after_lines, after_head, limit, most_lines, reads}
+use Rattle.mmtel_message.specs.Reads.{cut_body, body_of, message_of, head_in_lines, after_faults, after_head, after_start, parted_at, limit, most_lines, reads}
 use Rattle.mmtel_message.specs.declared.lines.Break.TheVariants.{Head}
 use Rattle.mmtel_message.specs.declared.fields.Five.{Five}
 use Rattle.mmtel_message.specs.declared.messages.Start.{Start}
 use Rattle.mmtel_message.proofs.LineLaws.{mapped, same_some, begins_width}
 use Rattle.mmtel_message.proofs.ExpansionLaws.{Line, clean_from, clean_to}
 use Rattle.mmtel_message.proofs.CanonicalLaws.{length_kept, room_clean, first_length, number_same, Fits}
-use Rattle.mmtel_message.proofs.ReadLaws.{fault_parts, absent_parts, ok_is}
+use Rattle.mmtel_message.proofs.ReadLaws.{fault_parts, absent_parts, ok_is, with_five}
 
 -- ---- the end of the head
 
@@ -109,7 +109,7 @@ by_faults start five hs rest x v m None is e there =
     let in_hs : first_value (codes "Content-Length") (expanded hs) ≡ Some v = subst (λ (k : Message Start). first_value (codes "Content-Length") k.lines ≡ Some v) (sym same) there in
     more_message start five hs rest x v (said hs start five rest v is in_hs) is ∙ e
 
-by_five : (start : Start) (hs : List Line) (rest x v : List ℕ) (m : Message Start) (o : Option Five) → after_five start hs rest o ≡ Ok m → first_value (codes "Content-Length") m.lines ≡ Some v → after_five start hs (rest ++ x) o ≡ Ok m
+by_five : (start : Start) (hs : List Line) (rest x v : List ℕ) (m : Message Start) (o : Option Five) → after_head (with_five start hs o) rest ≡ Ok m → first_value (codes "Content-Length") m.lines ≡ Some v → after_head (with_five start hs o) (rest ++ x) ≡ Ok m
 by_five start hs rest x v m None e there = absurd cc
 by_five start hs rest x v m (Some five) e there =
     elim (cases_Bool (nat_lt most_lines (length hs))) [
@@ -121,11 +121,11 @@ by_start : (hs : List Line) (rest x v : List ℕ) (m : Message Start) (o : Optio
 by_start hs rest x v m None e there = absurd cc
 by_start hs rest x v m (Some start) e there = by_five start hs rest x v m (five_at hs) e there
 
-by_lines : (ls : List (List ℕ)) (rest x v : List ℕ) (m : Message Start) → after_lines rest ls ≡ Ok m → first_value (codes "Content-Length") m.lines ≡ Some v → after_lines (rest ++ x) ls ≡ Ok m
+by_lines : (ls : List (List ℕ)) (rest x v : List ℕ) (m : Message Start) → after_head (head_in_lines ls) rest ≡ Ok m → first_value (codes "Content-Length") m.lines ≡ Some v → after_head (head_in_lines ls) (rest ++ x) ≡ Ok m
 by_lines [] rest x v m e there = absurd cc
 by_lines (l ∷ ls) rest x v m e there = by_start (map header_line ls) rest x v m (start_at l) e there
 
-by_head : (s x v : List ℕ) (m : Message Start) (o : Option ℕ) → first_break Head s ≡ o → after_head s o ≡ Ok m → first_value (codes "Content-Length") m.lines ≡ Some v → after_head (s ++ x) (first_break Head (s ++ x)) ≡ Ok m
+by_head : (s x v : List ℕ) (m : Message Start) (o : Option ℕ) → first_break Head s ≡ o → parted_at s o ≡ Ok m → first_value (codes "Content-Length") m.lines ≡ Some v → parted_at (s ++ x) (first_break Head (s ++ x)) ≡ Ok m
 by_head s x v m None is e there = absurd cc
 by_head s x v m (Some n) is e there =
     let fits = break_fits s n is in

@@ -9,7 +9,8 @@ use Rattle.std.specs.Option.{option_map}
 use Rattle.std.proofs.lemmas.Bool.Decides.{nat_tests}
 use Rattle.mmtel_message.proofs.LineLaws.{mapped, unmapped, same_some}
 use Rattle.mmtel_message.specs.Message.{is_line, first_value, replaced, dropped}
-use Rattle.mmtel_message.specs.Faults.{line_fault, fault_from, dotted_step, is_dotted}
+use Rattle.mmtel_message.specs.Faults.{line_fault, fault_from}
+use Rattle.mmtel_message.specs.Entries.{dotted_step, is_dotted}
 use Rattle.mmtel_message.specs.Fields.{param_value}
 use Rattle.mmtel_message.specs.Expansion.{lines_for, expanded_from}
 use Rattle.std.specs.Str.{str_eq_ignore_ascii_case}

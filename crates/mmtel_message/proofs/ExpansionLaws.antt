@@ -12,7 +12,8 @@ use Rattle.mmtel_scan.proofs.Runs.{and_true}
 use Rattle.mmtel_message.specs.Headers.{trim}
 use Rattle.mmtel_message.specs.Message.{is_line, has_line, line_values, values_named}
 use Rattle.mmtel_message.specs.Values.{values_in, values_of}
-use Rattle.mmtel_message.specs.Faults.{is_method, is_request, is_readable, are_readable, is_entry, are_entries, are_words, is_cookie, line_fault, fault_from}
+use Rattle.mmtel_message.specs.Faults.{is_method, is_request, is_readable, are_readable, are_words, is_cookie, line_fault, fault_from}
+use Rattle.mmtel_message.specs.Entries.{is_entry, are_entries}
 use Rattle.mmtel_message.specs.Fields.{param_value}
 use Rattle.mmtel_message.specs.Expansion.{is_listed, lines_for, expanded_from}
 use Rattle.mmtel_message.specs.declared.values.Mode.TheVariants.{Plain, Words}
@@ -92,10 +93,10 @@ pub record Rel (B B' : List Line) : Type 0 where
 line_same : (start : Start) (five : Five) (room : ℕ) (B B' : List Line) (h : Line) → Rel B B' → line_fault start five room B' h ≡ line_fault start five room B h
 line_same start five room B B' h rel = rw (rel.has (codes "Max-Forwards"), rel.has (codes "Content-Length"), rel.has (codes "Contact"), rel.has (codes "Via"), rel.hist) refl
 
-hist_more : (B N : List Line) → values_named Plain (codes "History-Info") (B ++ N) ≡ values_named Plain (codes "History-Info") B ++ values_named Plain (codes "History-Info") N
+pub hist_more : (B N : List Line) → values_named Plain (codes "History-Info") (B ++ N) ≡ values_named Plain (codes "History-Info") B ++ values_named Plain (codes "History-Info") N
 hist_more B N = flat_map-append (λ (l : Line). line_values Plain (codes "History-Info") l) B N
 
-hist_none : (B : List Line) (h : Line) → is_line (codes "History-Info") h ≡ false → values_named Plain (codes "History-Info") (B ++ h ∷ []) ≡ values_named Plain (codes "History-Info") B
+pub hist_none : (B : List Line) (h : Line) → is_line (codes "History-Info") h ≡ false → values_named Plain (codes "History-Info") (B ++ h ∷ []) ≡ values_named Plain (codes "History-Info") B
 hist_none B h n = hist_more B (h ∷ []) ∙ rw n (append-nil (values_named Plain (codes "History-Info") B))
 
 has_other : (X : List ℕ) (B : List Line) (h : Line) → is_line X h ≡ false → has_line X B ≡ has_line X (B ++ h ∷ [])
@@ -365,7 +366,7 @@ listed_name h e =
                 | inl y ↦ history (line_named (codes "History-Info") h y)
                 | inr n6 ↦ elim (cases_Bool (is_line (codes "Supported") h)) [
                   | inl y ↦ supported (line_named (codes "Supported") h y)
-                  | inr n7 ↦ require (line_named (codes "Require") h (rw (n1, n2, n3, n4, n5, n6, n7) at e))
+                  | inr n7 ↦ require (line_named (codes "Require") h (or_false (is_line (codes "Require") h) ∙ (rw (n1, n2, n3, n4, n5, n6, n7) at e)))
                 ]
               ]
             ]
@@ -374,7 +375,7 @@ listed_name h e =
       ]
     ]
 
-history_parts : (entries many : Bool) → cond entries many true ≡ false → (entries ≡ true) × (many ≡ false)
+pub history_parts : (entries many : Bool) → (not entries || many) ≡ false → (entries ≡ true) × (many ≡ false)
 history_parts true many e = (refl, e)
 history_parts false many e = absurd cc
 

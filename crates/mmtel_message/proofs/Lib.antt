@@ -2,6 +2,7 @@ mod BodyLaws
 mod CanonicalLaws
 mod CommaLaws
 mod EditLaws
+mod EntryLaws
 mod ExpansionLaws
 mod FoldLaws
 mod LineLaws

@@ -24,7 +24,7 @@ use Rattle.mmtel_message.specs.Texts.{start_text}
 use Rattle.mmtel_message.specs.Fields.{five_at}
 use Rattle.mmtel_message.specs.Faults.{is_method, start_fault, line_fault, fault_from, or_absent, first_fault}
 use Rattle.mmtel_message.specs.Expansion.{is_listed, lines_for, expanded_from, expanded, privacy_text, allow_text, merged_text}
-use Rattle.mmtel_message.specs.Reads.{Read, body_of, message_of, after_faults, after_five, after_start, after_lines, after_head, limit, most_lines, reads, Reads}
+use Rattle.mmtel_message.specs.Reads.{Read, MessageHead, body_of, message_of, head_in_lines, after_faults, after_head, after_start, parted_at, limit, most_lines, reads, Reads}
 use Rattle.mmtel_message.specs.Datagram.{IsWhole, AreApart}
 use Rattle.mmtel_message.specs.Canonical.{IsCanonicalLine, AreCanonicalLines, IsCanonicalStart, IsCanonical}
 use Rattle.mmtel_message.specs.declared.lines.Break.TheVariants.{Head}
@@ -346,7 +346,11 @@ of_faults start five line hs rest m (Some n) whole is read found none e = absurd
 of_faults start five line hs rest m None whole is read found none e =
     subst (λ (x : Message Start). IsCanonical x) (ok_is (message_of start hs rest) m e) (canonical_message start five line hs rest whole is read found none)
 
-of_lines : (start : Start) (line : List ℕ) (hs : List Header) (rest : List ℕ) (m : Message Start) (o : Option Five) → IsWhole line → start_at line ≡ Some start → AreReadLines hs → five_at hs ≡ o → after_five start hs rest o ≡ Ok m → IsCanonical m
+-- a head with these fields
+abbrev pub with_five : Start → List Header → Option Five → Option MessageHead
+with_five start hs o = o >>= λ five. Some (record { start = start; lines = hs; five = five })
+
+of_lines : (start : Start) (line : List ℕ) (hs : List Header) (rest : List ℕ) (m : Message Start) (o : Option Five) → IsWhole line → start_at line ≡ Some start → AreReadLines hs → five_at hs ≡ o → after_head (with_five start hs o) rest ≡ Ok m → IsCanonical m
 of_lines start line hs rest m None whole is read found e = absurd cc
 of_lines start line hs rest m (Some five) whole is read found e =
     elim (cases_Bool (nat_lt most_lines (length hs))) [
@@ -358,11 +362,11 @@ of_start : (line : List ℕ) (hs : List Header) (rest : List ℕ) (m : Message S
 of_start line hs rest m None whole is read e = absurd cc
 of_start line hs rest m (Some start) whole is read e = of_lines start line hs rest m (five_at hs) whole is read refl e
 
-of_head : (ls : List (List ℕ)) (rest : List ℕ) (m : Message Start) → AreApart ls → after_lines rest ls ≡ Ok m → IsCanonical m
+of_head : (ls : List (List ℕ)) (rest : List ℕ) (m : Message Start) → AreApart ls → after_head (head_in_lines ls) rest ≡ Ok m → IsCanonical m
 of_head [] rest m each e = absurd cc
 of_head (l ∷ ls) rest m each e = of_start l (map header_line ls) rest m (start_at l) each.0 refl (all_read ls) e
 
-of_bytes : (s : List ℕ) (m : Message Start) (o : Option ℕ) → after_head s o ≡ Ok m → IsCanonical m
+of_bytes : (s : List ℕ) (m : Message Start) (o : Option ℕ) → parted_at s o ≡ Ok m → IsCanonical m
 of_bytes s m None e = absurd cc
 of_bytes s m (Some n) e = of_head (unfolded (split (take n s))) (drop (n + 4) s) m (all_lines (split (take n s)) (split_lines (take n s))) e
 

@@ -18,7 +18,7 @@ use Rattle.mmtel_message.specs.Headers.{header_at, header_line, is_value_byte}
 use Rattle.mmtel_message.specs.Message.{Message}
 use Rattle.mmtel_message.specs.Texts.{start_text, line_text, lines_text, message_text}
 use Rattle.mmtel_message.specs.Datagram.{tail_text, datagram, IsWhole, AreWhole, AreUnfolded}
-use Rattle.mmtel_message.specs.Reads.{reads, after_start, after_lines}
+use Rattle.mmtel_message.specs.Reads.{Read, head_in_lines, after_head, after_start, reads}
 use Rattle.mmtel_message.proofs.LineLaws.{and_false, unmapped, split_none}
 use Rattle.mmtel_message.specs.Canonical.{IsCanonicalLine, AreCanonicalLines, IsCanonical, IsWithinLimits}
 use Rattle.mmtel_message.specs.declared.messages.Start.{Start}
@@ -231,6 +231,10 @@ text_is start ls body = rw (tail_is ls (13 ∷ 10 ∷ body)) (sym (append_assoc 
 past : (a body : List ℕ) → drop (length a + 4) (a ++ close body) ≡ body
 past [] body = refl
 past (x ∷ a) body = let four : suc (length a) + 4 ≡ suc (length a + 4) = omega arith in rw (four, past a body) refl
+
+-- reading, from the lines on
+abbrev pub after_lines : List ℕ → List (List ℕ) → Read
+after_lines rest ls = after_head (head_in_lines ls) rest
 
 -- bytes that are these lines and this body are read of the lines, each with those that continue it
 pub reads_folded : (first : List ℕ) (rs : List (List ℕ)) (body : List ℕ) → IsWhole first → AreWhole rs → length (datagram first rs body) ≤ 16384 → reads (datagram first rs body) ≡ after_lines body (unfolded_from first rs)

@@ -18,13 +18,13 @@ use Rattle.mmtel_message.specs.Message.{is_line, named, replaced, dropped, value
 use Rattle.mmtel_message.specs.Values.{values_in}
 use Rattle.mmtel_message.specs.Starts.{start_at}
 use Rattle.mmtel_message.specs.Datagram.{tail_text, text_of, datagram, IsWhole, AreWhole, AreUnfolded}
-use Rattle.mmtel_message.specs.Reads.{reads, after_start, after_lines}
+use Rattle.mmtel_message.specs.Reads.{reads, after_start}
 use Rattle.mmtel_message.specs.declared.values.Mode.{Mode}
 use Rattle.std.proofs.lemmas.Slice.Eq.{bytes_eq-Decides}
 use Rattle.mmtel_message.specs.Fields.{five_at, parties_in, call_in}
 use Rattle.mmtel_message.proofs.LineLaws.{and_false}
 use Rattle.mmtel_message.proofs.CanonicalLaws.{first_kept, only_kept}
-use Rattle.mmtel_message.proofs.RoundTrip.{reads_folded, reads_lines}
+use Rattle.mmtel_message.proofs.RoundTrip.{reads_folded, reads_lines, after_lines}
 use Rattle.mmtel_message.proofs.ValueLaws.{trim_more, trim_led}
 
 -- ---- names

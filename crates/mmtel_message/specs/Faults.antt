@@ -1,8 +1,8 @@
--- What is wrong with a message whose five fields can be read, line by line (RFC 3261 §8.1.1, §8.2 and §20, RFC 7044, RFC 5502, RFC 3323).
+-- What is wrong with a message whose five fields can be read, line by line (RFC 3261 §8.1.1, §8.2 and §20; RFC 3323 Privacy, RFC 3325 P-Asserted-Identity, RFC 3515 Refer-To, RFC 5502 P-Served-User, RFC 7044 History-Info).
 use Rattle.std.specs.Prelude.{Option, Some, None, is_none, is_some, ◌==◌, ◌&&◌, ◌||◌, not, if◌then◌else◌, ℕ, ◌+◌, Bool, true, false, List, [], ◌∷◌, ◌++◌, length, codes, nat_lt, Result, Ok, Err}
 use Rattle.std.specs.List.{list_all}
 use Rattle.std.specs.Str.{bytes_eq}
-use Rattle.mmtel_scan.specs.Classes.{in_class, is_digit}
+use Rattle.mmtel_scan.specs.Classes.{in_class}
 use Rattle.mmtel_scan.specs.Numbers.{number_of}
 use Rattle.mmtel_scan.specs.Scanning.{after_text}
 use Rattle.mmtel_scan.specs.declared.classes.Class.TheVariants.{Token}
@@ -12,6 +12,7 @@ use Rattle.mmtel_lex.specs.declared.values.NameAddr.{NameAddr}
 use Rattle.mmtel_message.specs.Message.{is_line, has_line, values_named}
 use Rattle.mmtel_message.specs.Values.{values_of, values_in}
 use Rattle.mmtel_message.specs.Fields.{param_value}
+use Rattle.mmtel_message.specs.Entries.{are_entries}
 use Rattle.mmtel_message.specs.declared.values.Mode.TheVariants.{Plain, Words}
 use Rattle.mmtel_message.specs.declared.fields.Five.{Five}
 use Rattle.mmtel_message.specs.declared.messages.Start.{Start}
@@ -43,32 +44,14 @@ is_readable v = is_some (name_addr_of v)
 abbrev pub are_readable : List (List ℕ) → Bool
 are_readable vs = list_all is_readable vs
 
--- ---- what is wrong with a line, by its name
-
--- another method than the request's
-abbrev pub cseq_fault : Start → Five → Bool
-cseq_fault start five = is_request start && not (is_method five.cseq.method start)
-
--- there twice, or no number up to the limit
-abbrev pub number_fault : Bool → ℕ → List ℕ → Bool
-number_fault twice limit value = twice || is_none (number_of limit value)
-
--- no tag
-abbrev pub from_fault : Start → Five → Bool
-from_fault start five = is_request start && is_none (param_value (codes "tag") five.from.params)
-
--- there twice, or not exactly one readable value
-abbrev pub contact_fault : Bool → List (List ℕ) → Bool
-contact_fault twice values = twice || not (length values == 1 && are_readable values)
+-- one value, which can be read
+abbrev pub is_one_readable : List (List ℕ) → Bool
+is_one_readable vs = length vs == 1 && are_readable vs
 
 -- the branch of a request that follows RFC 3261 (§8.1.1.7)
 abbrev pub is_cookie : Option (List ℕ) → Bool
 is_cookie None = false
 is_cookie (Some v) = is_some (after_text (codes "z9hG4bK") v)
-
--- no such branch of the first Via
-abbrev pub via_fault : Start → Five → List (List ℕ × List ℕ) → Bool
-via_fault start five before = is_request start && not (has_line (codes "Via") before) && not (is_cookie (param_value (codes "branch") five.via.params))
 
 abbrev pub is_case : Option (List ℕ) → Bool
 is_case None = false
@@ -79,64 +62,48 @@ abbrev pub has_case : Option NameAddr → Bool
 has_case None = false
 has_case (Some n) = is_case (param_value (codes "sescase") n.params)
 
-abbrev pub dotted_step : Bool → ℕ → Option Bool
-dotted_step digit b = if is_digit b then Some true else if digit && b == 46 then Some false else None
-
-abbrev pub goes_on : (Bool → Bool) → Option Bool → Bool
-goes_on more None = false
-goes_on more (Some digit) = more digit
-
--- numbers with dots between them; the flag says that a digit came just before
-unfoldable pub is_dotted : Bool → List ℕ → Bool
-is_dotted digit [] = digit
-is_dotted digit (b ∷ s) = goes_on (λ d. is_dotted d s) (dotted_step digit b)
-
-abbrev pub is_place : Option (List ℕ) → Bool
-is_place None = false
-is_place (Some v) = is_dotted false v
-
--- a History-Info value with an index (RFC 7044 §5)
-abbrev pub is_indexed : Option NameAddr → Bool
-is_indexed None = false
-is_indexed (Some n) = is_place (param_value (codes "index") n.params)
-
-abbrev pub is_entry : List ℕ → Bool
-is_entry v = is_indexed (name_addr_of v)
-
-abbrev pub are_entries : List (List ℕ) → Bool
-are_entries vs = list_all is_entry vs
-
--- a value that is no such entry, or over 32 values with those before
-abbrev pub history_fault : List (List ℕ × List ℕ) → List (List ℕ) → Bool
-history_fault before values = if are_entries values then nat_lt 32 (length (values_named Plain (codes "History-Info") before) + length values) else true
-
+-- a word of Privacy is a token
 abbrev pub is_word : List ℕ → Bool
 is_word v = not (length v == 0) && list_all (in_class Token) v
 
--- each part of a Privacy value is a token
 abbrev pub are_words : List (List ℕ) → Bool
 are_words vs = list_all is_word vs
 
-abbrev pub other_fault : Start → Five → List (List ℕ × List ℕ) → List ℕ × List ℕ → Bool
-other_fault start five before h =
-    if is_line (codes "Via") h then via_fault start five before else
-    if is_line (codes "P-Served-User") h then not (has_case (name_addr_of h.1)) else
-    if is_line (codes "History-Info") h then history_fault before (values_of h.1) else
-    if is_line (codes "Refer-To") h then not (is_readable h.1) else
-    if is_line (codes "Privacy") h then not (are_words (values_in Words h.1)) else false
+-- ---- the table: a row has a name, and what is wrong with a line of that name and this value behind the lines before it; the room is the number of bytes behind the head
 
--- what is wrong with a line behind those before it; the room is the number of bytes behind the head
+abbrev pub Rows : Type 0
+Rows = List (List ℕ × Bool)
+
+-- fields of RFC 3261
+abbrev pub message_rows : Start → Five → ℕ → List (List ℕ × List ℕ) → List ℕ → Rows
+message_rows start five room before value =
+    (codes "CSeq", is_request start && not (is_method five.cseq.method start)) ∷
+    (codes "Max-Forwards", is_request start && (has_line (codes "Max-Forwards") before || is_none (number_of 255 value))) ∷
+    (codes "Content-Length", has_line (codes "Content-Length") before || is_none (number_of room value)) ∷
+    (codes "From", is_request start && is_none (param_value (codes "tag") five.from.params)) ∷
+    (codes "Via", is_request start && not (has_line (codes "Via") before) && not (is_cookie (param_value (codes "branch") five.via.params))) ∷
+    (codes "Contact", is_method (codes "INVITE") start && (has_line (codes "Contact") before || not (is_one_readable (values_of value)))) ∷
+    (codes "Route", not (are_readable (values_of value))) ∷
+    (codes "Record-Route", not (are_readable (values_of value))) ∷ []
+
+-- fields of the extensions; of History-Info there are at most 32 values, with those before
+abbrev pub extension_rows : List (List ℕ × List ℕ) → List ℕ → Rows
+extension_rows before value =
+    (codes "P-Asserted-Identity", not (are_readable (values_of value))) ∷
+    (codes "P-Served-User", not (has_case (name_addr_of value))) ∷
+    (codes "History-Info", not (are_entries (values_of value)) || nat_lt 32 (length (values_named Plain (codes "History-Info") before) + length (values_of value))) ∷
+    (codes "Refer-To", not (is_readable value)) ∷
+    (codes "Privacy", not (are_words (values_in Words value))) ∷ []
+
+-- what the row of its name says of a line; nothing is wrong with a line of a name that has none
+abbrev pub by_name : Rows → List ℕ × List ℕ → Bool
+by_name [] h = false
+by_name (row ∷ rows) h = if is_line row.0 h then row.1 else by_name rows h
+
+-- something is wrong with a line behind those before it: it has no name, or its row says so
 abbrev pub line_fault : Start → Five → ℕ → List (List ℕ × List ℕ) → List ℕ × List ℕ → Bool
 line_fault start five room before h =
-    if length h.0 == 0 then true else
-    if is_line (codes "CSeq") h then cseq_fault start five else
-    if is_line (codes "Max-Forwards") h then is_request start && number_fault (has_line (codes "Max-Forwards") before) 255 h.1 else
-    if is_line (codes "Content-Length") h then number_fault (has_line (codes "Content-Length") before) room h.1 else
-    if is_line (codes "From") h then from_fault start five else
-    if is_line (codes "Contact") h then is_method (codes "INVITE") start && contact_fault (has_line (codes "Contact") before) (values_of h.1) else
-    if is_line (codes "Route") h then not (are_readable (values_of h.1)) else
-    if is_line (codes "Record-Route") h then not (are_readable (values_of h.1)) else
-    if is_line (codes "P-Asserted-Identity") h then not (are_readable (values_of h.1)) else other_fault start five before h
+    if length h.0 == 0 then true else by_name (message_rows start five room before h.1 ++ extension_rows before h.1) h
 
 -- ---- the place of the first fault: 0 for the start line, header lines from 1, and the empty line for what is absent
 

@@ -6,6 +6,7 @@ pub mod Message
 pub mod Texts
 pub mod Starts
 pub mod Fields
+pub mod Entries
 pub mod Faults
 pub mod Expansion
 pub mod Replies

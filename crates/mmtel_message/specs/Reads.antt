@@ -1,5 +1,5 @@
 -- Reading a message (RFC 3261 §7, §18.3 and §25.1): the whole list of bytes is parted at its head's end, at its line ends and at its folds, and each piece is looked at. The refusals come in the order TooLarge, NotSip, TooMany, Bad.
-use Rattle.std.specs.Prelude.{◌≡◌, Option, Some, None, is_some, if◌then◌else◌, ℕ, nat_lt, ◌+◌, List, [], ◌∷◌, length, codes, take, drop, map, Result, Ok, Err}
+use Rattle.std.specs.Prelude.{◌≡◌, Option, Some, None, if◌then◌else◌, ℕ, nat_lt, ◌+◌, List, [], ◌∷◌, length, codes, take, drop, map, Result, Ok, Err}
 use Rattle.mmtel_scan.specs.Chain.{◌>>=◌}
 use Rattle.mmtel_scan.specs.Numbers.{number_of}
 use Rattle.mmtel_message.specs.Lines.{first_break, split, unfolded, whole_end}
@@ -37,51 +37,60 @@ message_of start hs rest = record { start = start; lines = expanded hs; body = b
 abbrev pub Read : Type 0
 Read = Result (Message Start) ReadFault
 
+-- ---- a head; None where the start line or one of the five fields cannot be read
+
+pub record MessageHead : Type 0 where
+  pub start : Start
+  pub lines : List (List ℕ × List ℕ)
+  pub five : Five
+
+abbrev pub head_of : Option Start → List (List ℕ × List ℕ) → Option MessageHead
+head_of start hs = do
+  s ← start
+  five ← five_at hs
+  Some (record { start = s; lines = hs; five = five })
+
+abbrev pub head_in_lines : List (List ℕ) → Option MessageHead
+head_in_lines [] = None
+head_in_lines (l ∷ ls) = head_of (start_at l) (map header_line ls)
+
+abbrev pub head_in : List ℕ → Option MessageHead
+head_in s = head_in_lines (unfolded (split s))
+
+-- the reply to a request that has this head and is too large
+abbrev pub large_of : Option MessageHead → Option (Message Start)
+large_of None = None
+large_of (Some head) = reply_to head.start 513 (codes "Message Too Large") head.lines
+
+-- the same of what begins with these bytes: its head is made of the whole lines among them
+abbrev pub large_reply : List ℕ → Option (Message Start)
+large_reply s = whole_end s >>= λ n. large_of (head_in (take n s))
+
+-- ---- the faults in their order
+
+-- Bad, at the place of the first fault
 abbrev pub after_faults : Start → List (List ℕ × List ℕ) → List ℕ → Option ℕ → Read
 after_faults start hs rest (Some at) = Err (fault.Bad at (reply_to start 400 (codes "Bad Request") hs))
 after_faults start hs rest None = Ok (message_of start hs rest)
 
-abbrev pub too_many : Start → List (List ℕ × List ℕ) → Read
-too_many start hs = Err (fault.TooMany (reply_to start 513 (codes "Message Too Large") hs))
+-- NotSip, then TooMany
+abbrev pub after_head : Option MessageHead → List ℕ → Read
+after_head None rest = Err fault.NotSip
+after_head (Some head) rest =
+    if nat_lt most_lines (length head.lines) then Err (fault.TooMany (reply_to head.start 513 (codes "Message Too Large") head.lines)) else after_faults head.start head.lines rest (first_fault head.start head.five (length rest) head.lines)
 
-abbrev pub of_five : Start → List (List ℕ × List ℕ) → List ℕ → Five → Read
-of_five start hs rest five = if nat_lt most_lines (length hs) then too_many start hs else after_faults start hs rest (first_fault start five (length rest) hs)
-
-abbrev pub after_five : Start → List (List ℕ × List ℕ) → List ℕ → Option Five → Read
-after_five start hs rest None = Err fault.NotSip
-after_five start hs rest (Some five) = of_five start hs rest five
-
+-- the same from the start line on
 abbrev pub after_start : List (List ℕ × List ℕ) → List ℕ → Option Start → Read
-after_start hs rest None = Err fault.NotSip
-after_start hs rest (Some start) = after_five start hs rest (five_at hs)
+after_start hs rest start = after_head (head_of start hs) rest
 
-abbrev pub after_lines : List ℕ → List (List ℕ) → Read
-after_lines rest [] = Err fault.NotSip
-after_lines rest (l ∷ ls) = after_start (map header_line ls) rest (start_at l)
+-- parted at the end of the head, where it ends
+abbrev pub parted_at : List ℕ → Option ℕ → Read
+parted_at s None = Err fault.NotSip
+parted_at s (Some n) = after_head (head_in (take n s)) (drop (n + 4) s)
 
-abbrev pub after_head : List ℕ → Option ℕ → Read
-after_head s None = Err fault.NotSip
-after_head s (Some n) = after_lines (drop (n + 4) s) (unfolded (split (take n s)))
-
-abbrev pub large_of_start : List (List ℕ × List ℕ) → Option Start → Option (Message Start)
-large_of_start hs None = None
-large_of_start hs (Some start) = if is_some (five_at hs) then reply_to start 513 (codes "Message Too Large") hs else None
-
-abbrev pub large_of_lines : List (List ℕ) → Option (Message Start)
-large_of_lines [] = None
-large_of_lines (l ∷ ls) = large_of_start (map header_line ls) (start_at l)
-
-abbrev pub large_of_end : List ℕ → Option ℕ → Option (Message Start)
-large_of_end s None = None
-large_of_end s (Some n) = large_of_lines (unfolded (split (take n s)))
-
--- the reply to what begins with these bytes and is too large
-abbrev pub large_reply : List ℕ → Option (Message Start)
-large_reply s = large_of_end s (whole_end s)
-
--- what reading the bytes gives
+-- what reading the bytes gives: TooLarge comes first
 abbrev pub reads : List ℕ → Read
-reads s = if nat_lt limit (length s) then Err (fault.TooLarge (large_reply (take limit s))) else after_head s (first_break Head s)
+reads s = if nat_lt limit (length s) then Err (fault.TooLarge (large_reply (take limit s))) else parted_at s (first_break Head s)
 
 -- this is read, unless memory ran out
 abbrev pub Stops : ReadFault → Read → Type 0

@@ -1,11 +1,16 @@
 //! What is wrong with a message.
-ghost use Rattle.std.specs.Prelude.{◌≡◌, IfOk, not, [], false, nat_lt, ◌+◌};
+ghost use Rattle.std.specs.Prelude.{◌≡◌, ◌||◌, ◌&&◌, IfOk, is_none, not, [], nat_lt, ◌+◌, length, codes};
 ghost use Rattle.std.specs.Option.{option_copied};
 ghost use Rattle.mmtel_lex.specs.Reading.{name_addr_of};
-ghost use Rattle.mmtel_message.specs.Faults.{is_method, is_request, start_fault, is_readable, are_readable, cseq_fault, number_fault, from_fault, contact_fault, line_fault, fault_from, first_fault, or_absent, is_cookie, dotted_step, via_fault, is_case, has_case, is_dotted, is_place, is_entry, are_entries, history_fault, is_word, are_words, other_fault};
-ghost use Rattle.mmtel_message.specs.declared.values.Mode.TheVariants.{Words};
+ghost use Rattle.mmtel_scan.specs.Numbers.{number_of};
+ghost use Rattle.mmtel_message.specs.Entries.{are_entries};
+ghost use Rattle.mmtel_message.specs.Faults.{is_method, is_request, start_fault, is_readable, are_readable, is_one_readable, is_cookie, is_case, has_case, is_word, are_words, extension_rows, by_name, line_fault, fault_from, first_fault, or_absent};
+ghost use Rattle.mmtel_message.specs.Fields.{param_value};
+ghost use Rattle.mmtel_message.specs.Message.{has_line, values_named};
+ghost use Rattle.mmtel_message.specs.declared.values.Mode.TheVariants.{Plain, Words};
 ghost use Rattle.mmtel_message.specs.Values.{values_of, values_in};
 
+use crate::entries::are_entries;
 use crate::fields::{Five, param_value};
 use crate::messages::{Start, has_line, is_line, values_named};
 use crate::values::{Mode, values_in};
@@ -78,13 +83,13 @@ fn listed_fault(alloc: Global, value: &[u8]) -> Result<bool, NoMemory>
 }
 
 fn number_fault(twice: bool, limit: u64, value: &[u8]) -> bool
-    ensures { result ≡ number_fault twice limit value.now }
+    ensures { result ≡ (twice || is_none (number_of limit value.now)) }
 {
     twice || number_up_to(limit, value).is_none()
 }
 
 fn contact_fault(alloc: Global, twice: bool, value: &[u8]) -> Result<bool, NoMemory>
-    ensures { IfOk result (λ b. b ≡ contact_fault twice (values_of value.now)) }
+    ensures { IfOk result (λ b. b ≡ (twice || not (is_one_readable (values_of value.now)))) }
 {
     if twice {
         return Ok(true);
@@ -98,13 +103,13 @@ fn contact_fault(alloc: Global, twice: bool, value: &[u8]) -> Result<bool, NoMem
 }
 
 fn cseq_fault(start: &Start, five: &Five) -> bool
-    ensures { result ≡ cseq_fault start.now five.now }
+    ensures { result ≡ (is_request start.now && not (is_method five.now.cseq.method start.now)) }
 {
     is_request(start) && !is_method(five.cseq.method.bytes(), start)
 }
 
 fn from_fault(start: &Start, five: &Five) -> bool
-    ensures { result ≡ from_fault start.now five.now }
+    ensures { result ≡ (is_request start.now && is_none (param_value (codes "tag") five.now.from.params)) }
 {
     is_request(start) && param_value(five.from.params.items(), b"tag").is_none()
 }
@@ -119,7 +124,7 @@ fn is_cookie(value: Option<&[u8]>) -> bool
 }
 
 fn via_fault(start: &Start, five: &Five, before: &[(Text, Text)]) -> bool
-    ensures { result ≡ via_fault start.now five.now before.now }
+    ensures { result ≡ (is_request start.now && not (has_line (codes "Via") before.now) && not (is_cookie (param_value (codes "branch") five.now.via.params))) }
 {
     if !is_request(start) {
         return false;
@@ -149,61 +154,6 @@ fn has_case(alloc: Global, value: &[u8]) -> Result<bool, NoMemory>
     }
 }
 
-fn dotted_step(digit: bool, b: u8) -> Option<bool>
-    ensures { result ≡ dotted_step digit b }
-{
-    if b.is_ascii_digit() {
-        return Some(true);
-    }
-    if digit && b == b'.' {
-        return Some(false);
-    }
-    None
-}
-
-fn is_dotted(bytes: &[u8]) -> bool
-    ensures { result ≡ is_dotted false bytes.now }
-{
-    let mut digit = false;
-    for b in bytes {
-        match dotted_step(digit, *b) {
-            None => return false,
-            Some(next) => digit = next,
-        }
-    }
-    digit
-}
-
-fn is_place(value: Option<&[u8]>) -> bool
-    ensures { result ≡ is_place (option_copied value.entry) }
-{
-    match value {
-        None => false,
-        Some(value) => is_dotted(value),
-    }
-}
-
-fn is_entry(alloc: Global, value: &[u8]) -> Result<bool, NoMemory>
-    ensures { IfOk result (λ b. b ≡ is_entry value.now) }
-{
-    match read_name_addr(alloc, value) {
-        Ok(read) => Ok(is_place(param_value(read.params.items(), b"index"))),
-        Err(LexFault::Malformed { at: _ }) => Ok(false),
-        Err(LexFault::NoMemory) => Err(NoMemory),
-    }
-}
-
-fn are_entries(alloc: Global, values: &[Text]) -> Result<bool, NoMemory>
-    ensures { IfOk result (λ b. b ≡ are_entries values.now) }
-{
-    for value in values {
-        if !is_entry(alloc, value.bytes())? {
-            return Ok(false);
-        }
-    }
-    Ok(true)
-}
-
 fn is_over(earlier: usize, more: usize) -> bool
     ensures { result ≡ nat_lt 32 (earlier + more) }
 {
@@ -211,7 +161,7 @@ fn is_over(earlier: usize, more: usize) -> bool
 }
 
 fn history_fault(alloc: Global, before: &[(Text, Text)], value: &[u8]) -> Result<bool, NoMemory>
-    ensures { IfOk result (λ b. b ≡ history_fault before.now (values_of value.now)) }
+    ensures { IfOk result (λ b. b ≡ (not (are_entries (values_of value.now)) || nat_lt 32 (length (values_named Plain (codes "History-Info") before.now) + length (values_of value.now)))) }
 {
     let values = values_in(alloc, Mode::Plain, value)?;
     if !are_entries(alloc, values.items())? {
@@ -246,35 +196,36 @@ fn privacy_fault(alloc: Global, value: &[u8]) -> Result<bool, NoMemory>
     Ok(!are_words(values.items()))
 }
 
-fn other_fault(
+/// What is wrong with a line by the rules of the extensions.
+fn extension_fault(
     alloc: Global,
-    start: &Start,
-    five: &Five,
     before: &[(Text, Text)],
     line: &(Text, Text),
 ) -> Result<bool, NoMemory>
-    ensures { IfOk result (λ b. b ≡ other_fault start.now five.now before.now line.now) }
+    ensures { IfOk result (λ b. b ≡ by_name (extension_rows before.now line.now.1) line.now) }
 {
-    if is_line(line, b"Via") {
-        return Ok(via_fault(start, five, before));
+    let value = line.1.bytes();
+    if is_line(line, b"P-Asserted-Identity") {
+        return listed_fault(alloc, value);
     }
     if is_line(line, b"P-Served-User") {
-        let has = has_case(alloc, line.1.bytes())?;
+        let has = has_case(alloc, value)?;
         return Ok(!has);
     }
     if is_line(line, b"History-Info") {
-        return history_fault(alloc, before, line.1.bytes());
+        return history_fault(alloc, before, value);
     }
     if is_line(line, b"Refer-To") {
-        let readable = is_readable(alloc, line.1.bytes())?;
+        let readable = is_readable(alloc, value)?;
         return Ok(!readable);
     }
     if is_line(line, b"Privacy") {
-        return privacy_fault(alloc, line.1.bytes());
+        return privacy_fault(alloc, value);
     }
     Ok(false)
 }
 
+/// What is wrong with a line behind those before it.
 fn line_fault(
     alloc: Global,
     start: &Start,
@@ -301,6 +252,9 @@ fn line_fault(
     if is_line(line, b"From") {
         return Ok(from_fault(start, five));
     }
+    if is_line(line, b"Via") {
+        return Ok(via_fault(start, five, before));
+    }
     if is_line(line, b"Contact") {
         if !is_method(b"INVITE", start) {
             return Ok(false);
@@ -313,10 +267,7 @@ fn line_fault(
     if is_line(line, b"Record-Route") {
         return listed_fault(alloc, value);
     }
-    if is_line(line, b"P-Asserted-Identity") {
-        return listed_fault(alloc, value);
-    }
-    other_fault(alloc, start, five, before, line)
+    extension_fault(alloc, before, line)
 }
 
 fn lines_fault(

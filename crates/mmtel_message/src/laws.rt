@@ -7,6 +7,7 @@ ghost use Rattle.mmtel_scan.specs.Scanning.{trimmed};
 ghost use Rattle.mmtel_scan.specs.declared.classes.Class.TheVariants.{Blank};
 ghost use Rattle.mmtel_lex.specs.Grammar.{IsToken};
 ghost use Rattle.mmtel_message.specs.Datagram.{datagram, text_of, IsWhole, AreApart, AreWhole, AreUnfolded};
+ghost use Rattle.mmtel_message.specs.Entries.{are_entries};
 ghost use Rattle.mmtel_message.specs.Fields.{only_value, five_at};
 ghost use Rattle.mmtel_message.specs.Headers.{header_line};
 ghost use Rattle.mmtel_message.specs.Lines.{starts_blank, split};
@@ -16,6 +17,7 @@ ghost use Rattle.mmtel_message.specs.Reads.{reads, after_start};
 ghost use Rattle.mmtel_message.specs.Starts.{start_at};
 ghost use Rattle.mmtel_message.specs.declared.messages.Start.{Start};
 ghost use Rattle.mmtel_message.specs.declared.values.Mode.{Mode};
+ghost use Rattle.mmtel_message.specs.declared.values.Mode.TheVariants.{Plain};
 
 /// A datagram of lines of which none continues another is read of its lines: of the start line, of what each header line says, and of the body.
 pub fn lines_decide()
@@ -47,6 +49,12 @@ pub fn folds_do_not_matter()
 /// Bytes behind the body of a message that says its length do not matter, within the limit.
 pub fn bytes_behind_the_body_do_not_matter()
     ensures reading { (s x v : List ℕ) (m : Message Start) → reads s ≡ Ok m → first_value (codes "Content-Length") m.lines ≡ Some v → length (s ++ x) ≤ 16384 → reads (s ++ x) ≡ Ok m }
+{}
+
+/// The values of History-Info of a message that was read are entries (RFC 7044 §5), at most 32.
+pub fn histories_are_readable()
+    ensures entries { (b : List ℕ) (m : Message Start) → reads b ≡ Ok m → are_entries (values_named Plain (codes "History-Info") m.lines) ≡ true }
+    ensures few { (b : List ℕ) (m : Message Start) → reads b ≡ Ok m → length (values_named Plain (codes "History-Info") m.lines) ≤ 32 }
 {}
 
 /// What is read of a name rests on the lines of that name alone.

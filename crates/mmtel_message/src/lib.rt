@@ -1,6 +1,7 @@
 //! SIP messages: reading bytes as a message, editing it, and its canonical text (RFC 3261 §7, §20 and §25.1).
 #![tactic(auto)]
 
+mod entries;
 mod expansion;
 mod faults;
 mod fields;
@@ -15,6 +16,7 @@ mod replies;
 mod starts;
 mod values;
 
+pub use entries::is_place;
 pub use faults::{is_method, is_readable, is_request};
 pub use fields::{CSeq, Five, Via, param_value, read_cseq, read_five, read_via};
 pub use messages::{Msg, Start, first_of, has_line, is_line, line_texts, values_named};

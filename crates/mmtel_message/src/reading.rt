@@ -1,9 +1,9 @@
 //! Reading.
-ghost use Rattle.std.specs.Prelude.{◌≡◌, Some, Err, IfOk, is_some};
-ghost use Rattle.mmtel_message.specs.Lines.{unfolded, split};
+ghost use Rattle.std.specs.Prelude.{◌≡◌, Some, Err, IfOk, codes, is_some};
 ghost use Rattle.mmtel_message.specs.Fields.{five_at};
 ghost use Rattle.mmtel_message.specs.Canonical.{IsCanonical};
-ghost use Rattle.mmtel_message.specs.Reads.{reads, Reads, large_reply, large_of_start, large_of_lines, body_of, after_start, after_lines, after_faults, of_five, too_many};
+ghost use Rattle.mmtel_message.specs.Reads.{reads, Reads, large_of, large_reply, body_of, head_of, head_in_lines, head_in, after_head, after_faults};
+ghost use Rattle.mmtel_message.specs.Replies.{reply_to};
 ghost use Rattle.mmtel_message.specs.declared.reading.ReadFault.TheVariants as fault;
 
 use crate::expansion::expanded;
@@ -54,7 +54,7 @@ fn body_of<'a>(lines: &[(Text, Text)], rest: &'a [u8]) -> &'a [u8]
 }
 
 fn too_many(alloc: Global, start: &Start, lines: &[(Text, Text)]) -> Result<Msg, ReadFault>
-    ensures { Reads result (too_many start.now lines.now) }
+    ensures { Reads result (Err (fault.TooMany (reply_to start.now 513 (codes "Message Too Large") lines.now))) }
 {
     let reply = reply_to(alloc, start, 513, b"Message Too Large", lines)?;
     Err(ReadFault::TooMany { reply })
@@ -89,7 +89,7 @@ fn of_five(
     rest: &[u8],
     five: &Five,
 ) -> Result<Msg, ReadFault>
-    ensures { Reads result (of_five start lines.now rest.now five.now) }
+    ensures { Reads result (after_head (Some (record { start = start; lines = lines.now; five = five.now })) rest.now) }
 {
     if lines.len() > 128 {
         return too_many(alloc, &start, lines);
@@ -104,7 +104,7 @@ fn read_lines(
     lines: &[(Text, Text)],
     rest: &[u8],
 ) -> Result<Msg, ReadFault>
-    ensures { Reads result (after_start lines.now rest.now (Some start)) }
+    ensures { Reads result (after_head (head_of (Some start) lines.now) rest.now) }
 {
     match read_five(alloc, lines) {
         Err(LexFault::Malformed { at: _ }) => Err(ReadFault::NotSip),
@@ -114,7 +114,7 @@ fn read_lines(
 }
 
 fn read_head(alloc: Global, head: &[u8], rest: &[u8]) -> Result<Msg, ReadFault>
-    ensures { Reads result (after_lines rest.now (unfolded (split head.now))) }
+    ensures { Reads result (after_head (head_in head.now) rest.now) }
 {
     let lines = lines(alloc, head)?;
     match lines.items() {
@@ -147,7 +147,7 @@ fn large_of_start(
     start: &Start,
     lines: &[(Text, Text)],
 ) -> Result<Option<Msg>, NoMemory>
-    ensures { IfOk result (λ m. m ≡ large_of_start lines.now (Some start.now)) }
+    ensures { IfOk result (λ m. m ≡ large_of (head_of (Some start.now) lines.now)) }
 {
     if has_five(alloc, lines)? {
         reply_to(alloc, start, 513, b"Message Too Large", lines)
@@ -157,7 +157,7 @@ fn large_of_start(
 }
 
 fn large_of_lines(alloc: Global, lines: &[Text]) -> Result<Option<Msg>, NoMemory>
-    ensures { IfOk result (λ m. m ≡ large_of_lines lines.now) }
+    ensures { IfOk result (λ m. m ≡ large_of (head_in_lines lines.now)) }
 {
     match lines {
         [] => Ok(None),

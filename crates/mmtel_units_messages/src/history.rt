@@ -1,48 +1,67 @@
 //! History-Info: reading, diversions, marks and masks.
 
-use crate::tables::next_line;
+use crate::tables::{Report, next_line};
 use mmtel_history::{Entry, History, HistoryFault, read_values, with_cause, write_entry};
-use mmtel_lex::{List, NoMemory, Text};
+use mmtel_lex::{List, Text};
 use std::alloc::Global;
 use std::test::Fail;
 
-fn list_of(alloc: Global, values: &[&[u8]]) -> Result<List<Text>, NoMemory> {
-    let mut list = List::new();
-    for value in values {
-        list.push(alloc, Text::of(alloc, value)?)?;
+/// Adds a value to a list.
+fn put_value(out: &mut Report, alloc: Global, list: &mut List<Text>, value: &[u8]) {
+    match Text::of(alloc, value) {
+        Ok(value) => {
+            if list.push(alloc, value).is_err() {
+                out.fail();
+            }
+        }
+        Err(_) => out.fail(),
     }
-    Ok(list)
 }
 
 /// Writes an entry as `URI|index|cause|hidden or shown|rest`.
-fn told(alloc: Global, entry: &Entry) -> Result<Text, NoMemory> {
-    let mut out = Text::of(alloc, entry.uri.bytes())?;
-    out.push(alloc, b"|")?;
-    out.push(alloc, entry.index.bytes())?;
-    out.push(alloc, b"|")?;
+fn put_parts(out: &mut Report, alloc: Global, entry: &Entry) {
+    out.put(alloc, entry.uri.bytes());
+    out.put(alloc, b"|");
+    out.put(alloc, entry.index.bytes());
+    out.put(alloc, b"|");
     if let Some(cause) = entry.cause {
-        out.push(alloc, cause.to_string(alloc)?.as_bytes())?;
+        out.put_number(alloc, usize::from(cause));
     }
-    out.push(
-        alloc,
-        if entry.hidden {
-            b"|hidden|"
-        } else {
-            b"|shown|"
-        },
-    )?;
-    out.push(alloc, entry.rest.bytes())?;
-    Ok(out)
+    if entry.hidden {
+        out.put(alloc, b"|hidden|");
+    } else {
+        out.put(alloc, b"|shown|");
+    }
+    out.put(alloc, entry.rest.bytes());
+    out.put(alloc, b"\n");
 }
 
-/// The values of the list, one a line.
-fn lines(alloc: Global, history: &History) -> Result<Text, NoMemory> {
-    let mut out = Text::new();
-    for entry in history.entries() {
-        out.push(alloc, write_entry(alloc, entry)?.bytes())?;
-        out.push(alloc, b"\n")?;
+/// The value of an entry.
+fn put_entry(out: &mut Report, alloc: Global, entry: &Entry) {
+    match write_entry(alloc, entry) {
+        Ok(value) => out.put(alloc, value.bytes()),
+        Err(_) => out.fail(),
     }
-    Ok(out)
+    out.put(alloc, b"\n");
+}
+
+/// The values of a history, one a line.
+fn put_history(out: &mut Report, alloc: Global, history: &History) {
+    for entry in history.entries() {
+        put_entry(out, alloc, entry);
+    }
+}
+
+/// The place of the first value that cannot be read.
+fn put_fault(out: &mut Report, alloc: Global, fault: &HistoryFault) {
+    match fault {
+        HistoryFault::Malformed { at } => {
+            out.put(alloc, b"malformed ");
+            out.put_number(alloc, *at);
+            out.put(alloc, b"\n");
+        }
+        HistoryFault::NoMemory => out.fail(),
+    }
 }
 
 /// Entries: a row is a value of History-Info, and what it says.
@@ -82,39 +101,101 @@ sip:a@b;CAUSE=0302|1||shown|
 sip:a@b;cause=700?Privacy=historyx|1||shown|
 "#;
 
+/// The parts of each entry that the values say.
+fn put_read(out: &mut Report, alloc: Global, values: &List<Text>) {
+    match read_values(alloc, values) {
+        Ok(history) => {
+            for entry in history.entries() {
+                put_parts(out, alloc, entry);
+            }
+        }
+        Err(fault) => put_fault(out, alloc, &fault),
+    }
+}
+
+/// The value, and the parts of its entry.
+fn put_row(out: &mut Report, alloc: Global, value: &[u8]) {
+    out.put(alloc, value);
+    out.put(alloc, b"\n");
+    let mut values = List::new();
+    put_value(out, alloc, &mut values, value);
+    put_read(out, alloc, &values);
+}
+
 #[test]
 fn reads_entries(rt: HostRuntime) -> Result<(), Fail> {
-    let alloc = rt.alloc();
+    let mut out = Report::new();
     let mut rows = ENTRIES;
     for _ in 0..16 {
         let (value, rest) = next_line(rows);
-        let (parts, rest) = next_line(rest);
+        let (_parts, rest) = next_line(rest);
         rows = rest;
-        let history = read_values(alloc, &list_of(alloc, &[value])?)?;
-        assert_eq!(rt; history.entries().len(), 1);
-        for entry in history.entries() {
-            assert_eq!(rt; told(alloc, entry)?.bytes(), parts);
-        }
+        put_row(&mut out, rt.alloc(), value);
     }
-    assert!(rt; rows.is_empty());
+    assert_eq!(rt; out.bytes(), ENTRIES);
     Ok(())
+}
+
+/// The value of a diversion to a voice mail by a cause.
+fn put_diverted(out: &mut Report, alloc: Global, cause: u16) {
+    match with_cause(alloc, b"sip:vm@example.com?Subject=x", cause) {
+        Ok(uri) => {
+            out.put(alloc, b"<");
+            out.put(alloc, uri.bytes());
+            out.put(alloc, b">;index=1");
+        }
+        Err(_) => out.fail(),
+    }
+}
+
+/// The number of diversions, and the parts of each entry.
+fn put_counted(out: &mut Report, alloc: Global, values: &List<Text>) {
+    match read_values(alloc, values) {
+        Ok(history) => {
+            out.put_number(alloc, usize::from(history.diversions()));
+            out.put(alloc, b"\n");
+        }
+        Err(fault) => put_fault(out, alloc, &fault),
+    }
+}
+
+/// The entry of a diversion by a cause.
+fn put_cause(out: &mut Report, alloc: Global, cause: u16) {
+    let mut value = Report::new();
+    put_diverted(&mut value, alloc, cause);
+    let mut values = List::new();
+    put_value(out, alloc, &mut values, value.bytes());
+    put_read(out, alloc, &values);
+    put_counted(out, alloc, &values);
 }
 
 /// The causes of RFC 4458 §2, each of a diversion.
 #[test]
 fn reads_causes(rt: HostRuntime) -> Result<(), Fail> {
-    let alloc = rt.alloc();
-    for cause in [404, 486, 408, 302, 487, 480, 503] {
-        let uri = with_cause(alloc, b"sip:vm@example.com?Subject=x", cause)?;
-        let mut value = Text::of(alloc, b"<")?;
-        value.push(alloc, uri.bytes())?;
-        value.push(alloc, b">;index=1")?;
-        let history = read_values(alloc, &list_of(alloc, &[value.bytes()])?)?;
-        for entry in history.entries() {
-            assert_eq!(rt; entry.cause, Some(cause));
-        }
-        assert_eq!(rt; history.diversions(), 1);
-    }
+    let wanted = b"sip:vm@example.com;cause=404?Subject=x|1|404|shown|
+1
+sip:vm@example.com;cause=486?Subject=x|1|486|shown|
+1
+sip:vm@example.com;cause=408?Subject=x|1|408|shown|
+1
+sip:vm@example.com;cause=302?Subject=x|1|302|shown|
+1
+sip:vm@example.com;cause=487?Subject=x|1|487|shown|
+1
+sip:vm@example.com;cause=480?Subject=x|1|480|shown|
+1
+sip:vm@example.com;cause=503?Subject=x|1|503|shown|
+1
+";
+    let mut out = Report::new();
+    put_cause(&mut out, rt.alloc(), 404);
+    put_cause(&mut out, rt.alloc(), 486);
+    put_cause(&mut out, rt.alloc(), 408);
+    put_cause(&mut out, rt.alloc(), 302);
+    put_cause(&mut out, rt.alloc(), 487);
+    put_cause(&mut out, rt.alloc(), 480);
+    put_cause(&mut out, rt.alloc(), 503);
+    assert_eq!(rt; out.bytes(), wanted.as_slice());
     Ok(())
 }
 
@@ -130,55 +211,78 @@ const UNREADABLE: &[u8] = br#"
 <sip:a@b;index=1>
 "#;
 
+/// What comes of the value behind one that is read.
+fn put_second(out: &mut Report, alloc: Global, value: &[u8]) {
+    let mut values = List::new();
+    put_value(out, alloc, &mut values, b"<sip:a@b>;index=1");
+    put_value(out, alloc, &mut values, value);
+    put_counted(out, alloc, &values);
+}
+
 /// Each is refused at its place, behind one that is read.
 #[test]
 fn refuses_values(rt: HostRuntime) -> Result<(), Fail> {
-    let alloc = rt.alloc();
+    let mut out = Report::new();
     let mut rows = UNREADABLE;
     for _ in 0..9 {
         let (value, rest) = next_line(rows);
         rows = rest;
-        match read_values(alloc, &list_of(alloc, &[b"<sip:a@b>;index=1", value])?) {
-            Ok(_) => assert!(rt; false),
-            Err(fault) => assert_eq!(rt; fault, HistoryFault::Malformed { at: 1 }),
-        }
+        put_second(&mut out, rt.alloc(), value);
     }
     assert!(rt; rows.is_empty());
+    assert_eq!(rt;
+        out.bytes(),
+        b"malformed 1\nmalformed 1\nmalformed 1\nmalformed 1\nmalformed 1\nmalformed 1\nmalformed 1\nmalformed 1\nmalformed 1\n".as_slice()
+    );
     Ok(())
 }
 
 /// Of 33 values none is read, and the place is 32; of 32 each.
 #[test]
 fn counts_values(rt: HostRuntime) -> Result<(), Fail> {
-    let alloc = rt.alloc();
+    let mut out = Report::new();
     let mut values = List::new();
     for _ in 0..32 {
-        values.push(alloc, Text::of(alloc, b"<sip:a@b;cause=302>;index=1")?)?;
+        put_value(
+            &mut out,
+            rt.alloc(),
+            &mut values,
+            b"<sip:a@b;cause=302>;index=1",
+        );
     }
-    assert_eq!(rt; read_values(alloc, &values)?.diversions(), 32);
-    values.push(alloc, Text::of(alloc, b"<sip:a@b>;index=1")?)?;
-    match read_values(alloc, &values) {
-        Ok(_) => assert!(rt; false),
-        Err(fault) => assert_eq!(rt; fault, HistoryFault::Malformed { at: 32 }),
-    }
+    put_counted(&mut out, rt.alloc(), &values);
+    put_value(&mut out, rt.alloc(), &mut values, b"<sip:a@b>;index=1");
+    put_counted(&mut out, rt.alloc(), &values);
+    assert_eq!(rt; out.bytes(), b"32\nmalformed 32\n".as_slice());
     Ok(())
 }
 
-/// One diversion more, where there is room for it.
+/// One more diversion by bob, where there is room for it.
 fn divert(
+    out: &mut Report,
     alloc: Global,
     history: &mut History,
-    from: &[u8],
     target: &[u8],
     cause: u16,
     hide_last: bool,
-) -> Result<(), NoMemory> {
-    let from = Text::of(alloc, from)?;
-    let target = Text::of(alloc, target)?;
-    if history.entries().len() <= 47 {
-        history.append(alloc, &from, &target, cause, hide_last)?;
+) {
+    if history.entries().len() > 47 {
+        return;
     }
-    Ok(())
+    match (
+        Text::of(alloc, b"sip:bob@home.example"),
+        Text::of(alloc, target),
+    ) {
+        (Ok(from), Ok(target)) => {
+            if history
+                .append(alloc, &from, &target, cause, hide_last)
+                .is_err()
+            {
+                out.fail();
+            }
+        }
+        _ => out.fail(),
+    }
 }
 
 /// Hides the entry at this place, where there is one.
@@ -188,99 +292,149 @@ fn hide(history: &mut History, place: usize) {
     }
 }
 
-fn empty(alloc: Global) -> Result<History, HistoryFault> {
-    read_values(alloc, &List::new())
-}
-
 /// Bob diverts every call to carol, who is busy and diverts to a voice mail.
-#[test]
-fn tells_two_diversions(rt: HostRuntime) -> Result<(), Fail> {
-    let alloc = rt.alloc();
-    let bob = b"sip:bob@home.example";
-    let mut history = empty(alloc)?;
+fn put_two_diversions(out: &mut Report, alloc: Global, mut history: History) {
     divert(
+        out,
         alloc,
         &mut history,
-        bob,
         b"sip:carol@home.example",
         302,
         false,
-    )?;
-    divert(alloc, &mut history, bob, b"sip:vm@far.example", 486, false)?;
-    assert_eq!(rt;
-        lines(alloc, &history)?.bytes(),
-        b"<sip:bob@home.example>;index=1\n<sip:carol@home.example;cause=302>;index=1.1\n<sip:vm@far.example;cause=486>;index=1.1.1\n".as_slice()
     );
-    assert_eq!(rt; history.diversions(), 2);
+    divert(out, alloc, &mut history, b"sip:vm@far.example", 486, false);
+    put_history(out, alloc, &history);
+    out.put_number(alloc, usize::from(history.diversions()));
+}
+
+#[test]
+fn tells_two_diversions(rt: HostRuntime) -> Result<(), Fail> {
+    let mut out = Report::new();
+    match read_values(rt.alloc(), &List::new()) {
+        Ok(history) => put_two_diversions(&mut out, rt.alloc(), history),
+        Err(_) => out.fail(),
+    }
+    assert_eq!(rt;
+        out.bytes(),
+        b"<sip:bob@home.example>;index=1\n<sip:carol@home.example;cause=302>;index=1.1\n<sip:vm@far.example;cause=486>;index=1.1.1\n2".as_slice()
+    );
     Ok(())
 }
 
 /// Bob diverts to himself five times: six entries, five of them diversions.
+fn put_loop(out: &mut Report, alloc: Global, mut history: History) {
+    for _ in 0..5 {
+        divert(
+            out,
+            alloc,
+            &mut history,
+            b"sip:bob@home.example",
+            302,
+            false,
+        );
+    }
+    put_history(out, alloc, &history);
+    out.put_number(alloc, usize::from(history.diversions()));
+}
+
 #[test]
 fn tells_a_loop(rt: HostRuntime) -> Result<(), Fail> {
-    let alloc = rt.alloc();
-    let bob = b"sip:bob@home.example";
-    let mut history = empty(alloc)?;
-    for _ in 0..5 {
-        divert(alloc, &mut history, bob, bob, 302, false)?;
+    let mut out = Report::new();
+    match read_values(rt.alloc(), &List::new()) {
+        Ok(history) => put_loop(&mut out, rt.alloc(), history),
+        Err(_) => out.fail(),
     }
-    assert_eq!(rt; history.diversions(), 5);
-    assert_eq!(rt; history.entries().len(), 6);
     assert_eq!(rt;
-        lines(alloc, &history)?.bytes(),
-        b"<sip:bob@home.example>;index=1\n<sip:bob@home.example;cause=302>;index=1.1\n<sip:bob@home.example;cause=302>;index=1.1.1\n<sip:bob@home.example;cause=302>;index=1.1.1.1\n<sip:bob@home.example;cause=302>;index=1.1.1.1.1\n<sip:bob@home.example;cause=302>;index=1.1.1.1.1.1\n".as_slice()
+        out.bytes(),
+        b"<sip:bob@home.example>;index=1\n<sip:bob@home.example;cause=302>;index=1.1\n<sip:bob@home.example;cause=302>;index=1.1.1\n<sip:bob@home.example;cause=302>;index=1.1.1.1\n<sip:bob@home.example;cause=302>;index=1.1.1.1.1\n<sip:bob@home.example;cause=302>;index=1.1.1.1.1.1\n5".as_slice()
     );
     Ok(())
 }
 
-/// Bob's diversion, hidden by nobody, and al's entry, which asks to be hidden; then a diversion to a voice mail that hides the last entry.
-fn hidden_and_shown(alloc: Global) -> Result<History, HistoryFault> {
-    let received: [&[u8]; 2] = [
+/// Bob's diversion, hidden by nobody, and al's entry, which asks to be hidden.
+fn received(out: &mut Report, alloc: Global) -> List<Text> {
+    let mut values = List::new();
+    put_value(
+        out,
+        alloc,
+        &mut values,
         b"<sip:bob@home.example;cause=302>;index=1;rc=0",
+    );
+    put_value(
+        out,
+        alloc,
+        &mut values,
         b"<sip:al@home.example?Privacy=history>;index=1.1",
-    ];
-    let mut history = read_values(alloc, &list_of(alloc, &received)?)?;
+    );
+    values
+}
+
+/// A diversion to a voice mail that hides the last entry; then the first and the last are hidden too.
+fn put_marked(out: &mut Report, alloc: Global, mut history: History) {
     divert(
+        out,
         alloc,
         &mut history,
-        b"sip:bob@home.example",
         b"sip:vm@far.example?Subject=x",
         486,
         true,
-    )?;
-    Ok(history)
+    );
+    put_history(out, alloc, &history);
+    hide(&mut history, 0);
+    hide(&mut history, 2);
+    put_history(out, alloc, &history);
 }
 
 /// A hidden entry is written with `Privacy=history` in its header part, once.
 #[test]
 fn marks(rt: HostRuntime) -> Result<(), Fail> {
-    let alloc = rt.alloc();
-    let mut history = hidden_and_shown(alloc)?;
+    let mut out = Report::new();
+    let values = received(&mut out, rt.alloc());
+    match read_values(rt.alloc(), &values) {
+        Ok(history) => put_marked(&mut out, rt.alloc(), history),
+        Err(_) => out.fail(),
+    }
     assert_eq!(rt;
-        lines(alloc, &history)?.bytes(),
-        b"<sip:bob@home.example;cause=302>;index=1;rc=0\n<sip:al@home.example?Privacy=history>;index=1.1\n<sip:vm@far.example;cause=486?Subject=x>;index=1.1.1\n".as_slice()
-    );
-    hide(&mut history, 0);
-    hide(&mut history, 2);
-    assert_eq!(rt;
-        lines(alloc, &history)?.bytes(),
-        b"<sip:bob@home.example;cause=302?Privacy=history>;index=1;rc=0\n<sip:al@home.example?Privacy=history>;index=1.1\n<sip:vm@far.example;cause=486?Subject=x&Privacy=history>;index=1.1.1\n".as_slice()
+        out.bytes(),
+        b"<sip:bob@home.example;cause=302>;index=1;rc=0\n<sip:al@home.example?Privacy=history>;index=1.1\n<sip:vm@far.example;cause=486?Subject=x>;index=1.1.1\n<sip:bob@home.example;cause=302?Privacy=history>;index=1;rc=0\n<sip:al@home.example?Privacy=history>;index=1.1\n<sip:vm@far.example;cause=486?Subject=x&Privacy=history>;index=1.1.1\n".as_slice()
     );
     Ok(())
+}
+
+/// The history masked: each hidden entry, or each.
+fn put_mask(out: &mut Report, alloc: Global, history: &History, all: bool) {
+    match history.masked(alloc, all) {
+        Ok(masked) => put_history(out, alloc, &masked),
+        Err(_) => out.fail(),
+    }
+}
+
+/// The history behind a diversion that hides the last entry, masked both ways.
+fn put_masked(out: &mut Report, alloc: Global, mut history: History) {
+    divert(
+        out,
+        alloc,
+        &mut history,
+        b"sip:vm@far.example?Subject=x",
+        486,
+        true,
+    );
+    put_mask(out, alloc, &history, false);
+    put_mask(out, alloc, &history, true);
 }
 
 /// A hidden entry that is masked has nobody's URI and its cause; where all are masked, so has each.
 #[test]
 fn masks(rt: HostRuntime) -> Result<(), Fail> {
-    let alloc = rt.alloc();
-    let history = hidden_and_shown(alloc)?;
+    let mut out = Report::new();
+    let values = received(&mut out, rt.alloc());
+    match read_values(rt.alloc(), &values) {
+        Ok(history) => put_masked(&mut out, rt.alloc(), history),
+        Err(_) => out.fail(),
+    }
     assert_eq!(rt;
-        lines(alloc, &history.masked(alloc, false)?)?.bytes(),
-        b"<sip:bob@home.example;cause=302>;index=1;rc=0\n<sip:anonymous@anonymous.invalid>;index=1.1\n<sip:vm@far.example;cause=486?Subject=x>;index=1.1.1\n".as_slice()
-    );
-    assert_eq!(rt;
-        lines(alloc, &history.masked(alloc, true)?)?.bytes(),
-        b"<sip:anonymous@anonymous.invalid;cause=302>;index=1;rc=0\n<sip:anonymous@anonymous.invalid>;index=1.1\n<sip:anonymous@anonymous.invalid;cause=486>;index=1.1.1\n".as_slice()
+        out.bytes(),
+        b"<sip:bob@home.example;cause=302>;index=1;rc=0\n<sip:anonymous@anonymous.invalid>;index=1.1\n<sip:vm@far.example;cause=486?Subject=x>;index=1.1.1\n<sip:anonymous@anonymous.invalid;cause=302>;index=1;rc=0\n<sip:anonymous@anonymous.invalid>;index=1.1\n<sip:anonymous@anonymous.invalid;cause=486>;index=1.1.1\n".as_slice()
     );
     Ok(())
 }

@@ -4,6 +4,8 @@
 #![tactic(auto)]
 
 #[cfg(test)]
+mod drafts;
+#[cfg(test)]
 mod history;
 #[cfg(test)]
 mod message;

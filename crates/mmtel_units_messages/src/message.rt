@@ -1,78 +1,87 @@
 //! SIP messages: what comes of the standards' examples, of damaged messages and at the limits, and the edits.
 
-use crate::tables::next_line;
-use mmtel_lex::{NoMemory, Text};
+use crate::drafts::{Draft, of_lines, request};
+use crate::tables::{Report, next_line};
+use mmtel_lex::{List, NoMemory, Text};
 use mmtel_message::{
     Mode, Msg, ReadFault, Start, is_readable, joined_by, line_texts, param_value, read, read_cseq,
     read_five, read_via, reply_with, values_in, values_named,
 };
-use mmtel_scan::part;
 use std::alloc::Global;
 use std::test::Fail;
 
-/// A number in digits.
-fn add_number(alloc: Global, out: &mut Text, number: usize) -> Result<(), NoMemory> {
-    out.push(alloc, number.to_string(alloc)?.as_bytes())
-}
-
 /// The code of a reply, or `none`.
-fn add_code(alloc: Global, out: &mut Text, reply: &Option<Msg>) -> Result<(), NoMemory> {
+fn put_code(out: &mut Report, alloc: Global, reply: &Option<Msg>) {
     match reply {
         Some(reply) => match reply.start() {
-            Start::Status { code, phrase: _ } => {
-                out.push(alloc, code.to_string(alloc)?.as_bytes())
-            }
-            Start::Request { method: _, uri: _ } => out.push(alloc, b"a request"),
+            Start::Status { code, phrase: _ } => out.put_number(alloc, usize::from(*code)),
+            Start::Request { method: _, uri: _ } => out.put(alloc, b"a request"),
         },
-        None => out.push(alloc, b"none"),
+        None => out.put(alloc, b"none"),
     }
 }
 
 /// A refusal and the code of its reply.
-fn add_fault(alloc: Global, out: &mut Text, fault: &ReadFault) -> Result<(), NoMemory> {
+fn put_fault(out: &mut Report, alloc: Global, fault: &ReadFault) {
     match fault {
         ReadFault::TooLarge { reply } => {
-            out.push(alloc, b"too large, ")?;
-            add_code(alloc, out, reply)
+            out.put(alloc, b"too large, ");
+            put_code(out, alloc, reply);
         }
-        ReadFault::NotSip => out.push(alloc, b"not sip"),
+        ReadFault::NotSip => out.put(alloc, b"not sip"),
         ReadFault::TooMany { reply } => {
-            out.push(alloc, b"too many, ")?;
-            add_code(alloc, out, reply)
+            out.put(alloc, b"too many, ");
+            put_code(out, alloc, reply);
         }
         ReadFault::Bad { at, reply } => {
-            out.push(alloc, b"bad ")?;
-            add_number(alloc, out, *at)?;
-            out.push(alloc, b", ")?;
-            add_code(alloc, out, reply)
+            out.put(alloc, b"bad ");
+            out.put_number(alloc, *at);
+            out.put(alloc, b", ");
+            put_code(out, alloc, reply);
         }
-        ReadFault::NoMemory => Err(NoMemory),
+        ReadFault::NoMemory => out.fail(),
     }
 }
 
 /// What comes of the bytes: `read`, or the refusal and the code of its reply.
-fn outcome(alloc: Global, bytes: &[u8]) -> Result<Text, NoMemory> {
-    let mut out = Text::new();
+fn put_outcome(out: &mut Report, alloc: Global, bytes: &[u8]) {
     match read(alloc, bytes) {
-        Ok(_message) => out.push(alloc, b"read")?,
-        Err(fault) => add_fault(alloc, &mut out, &fault)?,
+        Ok(_message) => out.put(alloc, b"read"),
+        Err(fault) => put_fault(out, alloc, &fault),
     }
-    Ok(out)
+}
+
+/// The text of a message.
+fn put_message(out: &mut Report, alloc: Global, message: &Msg) {
+    match message.text(alloc) {
+        Ok(text) => out.put(alloc, text.bytes()),
+        Err(_) => out.fail(),
+    }
+}
+
+/// The text of a reply, where there is one.
+fn put_reply(out: &mut Report, alloc: Global, reply: &Option<Msg>) {
+    if let Some(reply) = reply {
+        put_message(out, alloc, reply);
+    }
+}
+
+/// The text of the reply that a refusal carries.
+fn put_refusal(out: &mut Report, alloc: Global, fault: &ReadFault) {
+    match fault {
+        ReadFault::TooLarge { reply } => put_reply(out, alloc, reply),
+        ReadFault::TooMany { reply } => put_reply(out, alloc, reply),
+        ReadFault::Bad { at: _, reply } => put_reply(out, alloc, reply),
+        ReadFault::NotSip => {}
+        ReadFault::NoMemory => out.fail(),
+    }
 }
 
 /// The text of the message that is read, or of the reply.
-fn answer(alloc: Global, bytes: &[u8]) -> Result<Text, NoMemory> {
+fn put_answer(out: &mut Report, alloc: Global, bytes: &[u8]) {
     match read(alloc, bytes) {
-        Ok(message) => message.text(alloc),
-        Err(ReadFault::TooLarge { reply: Some(reply) }) => reply.text(alloc),
-        Err(ReadFault::TooMany { reply: Some(reply) }) => reply.text(alloc),
-        Err(
-            ReadFault::Bad {
-                at: _,
-                reply: Some(reply),
-            },
-        ) => reply.text(alloc),
-        Err(_) => Ok(Text::new()),
+        Ok(message) => put_message(out, alloc, &message),
+        Err(fault) => put_refusal(out, alloc, &fault),
     }
 }
 
@@ -80,23 +89,27 @@ fn answer(alloc: Global, bytes: &[u8]) -> Result<Text, NoMemory> {
 const USUAL: &[u8] =
     b"Via: SIP/2.0/UDP a.example;branch=z9hG4bKa1\r\nFrom: <sip:a@h>;tag=a\r\nTo:\r\n\t<sip:b@h>\t\r\nCall-ID: c1\r\n";
 
-/// The lines of a table up to one that begins with `mark`, each ended by CRLF; that line without the mark; and what follows it.
-fn block(alloc: Global, mark: u8, table: &[u8]) -> Result<(Text, &[u8], &[u8]), NoMemory> {
-    let mut out = Text::new();
+/// Adds the lines of a table up to one that begins with `mark`, each ended by CRLF; gives that line without the mark, and what follows it.
+fn put_block<'a>(
+    out: &mut Report,
+    alloc: Global,
+    mark: u8,
+    table: &'a [u8],
+) -> (&'a [u8], &'a [u8]) {
     let mut rest = table;
     for _ in 0..200 {
         let (line, after) = next_line(rest);
         rest = after;
         match line {
-            [first, end @ ..] if *first == mark => return Ok((out, end, rest)),
-            [b'&'] => out.push(alloc, USUAL)?,
+            [first, end @ ..] if *first == mark => return (end, rest),
+            [b'&'] => out.put(alloc, USUAL),
             _ => {
-                out.push(alloc, line)?;
-                out.push(alloc, b"\r\n")?;
+                out.put(alloc, line);
+                out.put(alloc, b"\r\n");
             }
         }
     }
-    Ok((out, b"", rest))
+    (b"", rest)
 }
 
 /// Messages and, behind a line `#`, the text that each is read as; a line `#` ends that.
@@ -212,19 +225,27 @@ Content-Length: 0
 #
 "##;
 
+/// Adds the answer to the first message of a table, and the text that is wanted; gives what follows them.
+fn put_row<'a>(came: &mut Report, wanted: &mut Report, alloc: Global, table: &'a [u8]) -> &'a [u8] {
+    let mut text = Report::new();
+    let (end, rest) = put_block(&mut text, alloc, b'#', table);
+    text.put(alloc, end);
+    put_answer(came, alloc, text.bytes());
+    let (end, rest) = put_block(wanted, alloc, b'#', rest);
+    wanted.put(alloc, end);
+    rest
+}
+
 #[test]
 fn reads_and_prints(rt: HostRuntime) -> Result<(), Fail> {
+    let mut came = Report::new();
+    let mut wanted = Report::new();
     let mut rows = READ;
     for _ in 0..4 {
-        let (mut text, end, rest) = block(rt.alloc(), b'#', rows)?;
-        text.push(rt.alloc(), end)?;
-        let (mut wanted, end, rest) = block(rt.alloc(), b'#', rest)?;
-        wanted.push(rt.alloc(), end)?;
-        rows = rest;
-        let printed = answer(rt.alloc(), text.bytes())?;
-        assert_eq!(rt; printed.bytes(), wanted.bytes());
+        rows = put_row(&mut came, &mut wanted, rt.alloc(), rows);
     }
     assert!(rt; rows.is_empty());
+    assert_eq!(rt; came.bytes(), wanted.bytes());
     Ok(())
 }
 
@@ -583,6 +604,13 @@ History-Info: <sip:a@h>;index=1, <sip:b@h>;index=1..1
 OPTIONS sip:b@h SIP/2.0
 &
 CSeq: 1 OPTIONS
+History-Info: <sip:a@b>;index=1;index=x
+History-Info: <sip:a@b>;index=x;index=1
+
+= bad 7, 400
+OPTIONS sip:b@h SIP/2.0
+&
+CSeq: 1 OPTIONS
 Refer-To: <sip:a@h>x
 
 = bad 6, 400
@@ -594,108 +622,188 @@ No colon
 = bad 6, 400
 "##;
 
+/// Adds what comes of the first message of a table, and what is wanted, each behind its first line; gives what follows them.
+fn put_verdict<'a>(
+    came: &mut Report,
+    wanted: &mut Report,
+    alloc: Global,
+    table: &'a [u8],
+) -> &'a [u8] {
+    let mut text = Report::new();
+    let (verdict, rest) = put_block(&mut text, alloc, b'=', table);
+    let (start, _) = next_line(table);
+    came.put(alloc, start);
+    came.put(alloc, b"= ");
+    put_outcome(came, alloc, text.bytes());
+    wanted.put(alloc, start);
+    wanted.put(alloc, b"=");
+    wanted.put(alloc, verdict);
+    rest
+}
+
+/// The verdicts on the messages of a table, of which there are this many.
+fn verdicts(alloc: Global, table: &[u8], number: usize) -> (Report, Report) {
+    let mut came = Report::new();
+    let mut wanted = Report::new();
+    let mut rows = table;
+    for _ in 0..number {
+        rows = put_verdict(&mut came, &mut wanted, alloc, rows);
+    }
+    if !rows.is_empty() {
+        came.fail();
+    }
+    (came, wanted)
+}
+
+#[test]
+fn judges_the_torture_tests(rt: HostRuntime) -> Result<(), Fail> {
+    let (came, wanted) = verdicts(rt.alloc(), TORTURE, 24);
+    assert_eq!(rt; came.bytes(), wanted.bytes());
+    Ok(())
+}
+
 #[test]
 fn refuses_by_the_first_fault(rt: HostRuntime) -> Result<(), Fail> {
-    for (table, number) in [(TORTURE, 24), (DAMAGED, 27)] {
-        let mut rows = table;
-        for _ in 0..number {
-            let (text, wanted, rest) = block(rt.alloc(), b'=', rows)?;
-            rows = rest;
-            let came = outcome(rt.alloc(), text.bytes())?;
-            let wanted = wanted.strip_prefix(b" ").unwrap_or(wanted);
-            assert_eq!(rt; came.bytes(), wanted, "{text:?}");
-        }
-        assert!(rt; rows.is_empty());
-    }
+    let (came, wanted) = verdicts(rt.alloc(), DAMAGED, 28);
+    assert_eq!(rt; came.bytes(), wanted.bytes());
     Ok(())
 }
 
 /// The head of a message up to where more lines may stand.
-fn head(alloc: Global) -> Result<Text, NoMemory> {
-    let mut text = Text::of(alloc, b"OPTIONS sip:b@h SIP/2.0\r\n")?;
-    text.push(alloc, USUAL)?;
-    text.push(alloc, b"CSeq: 1 OPTIONS\r\n")?;
-    Ok(text)
+fn put_head(out: &mut Report, alloc: Global) {
+    out.put(alloc, b"OPTIONS sip:b@h SIP/2.0\r\n");
+    out.put(alloc, USUAL);
+    out.put(alloc, b"CSeq: 1 OPTIONS\r\n");
 }
 
 /// Adds this many copies of a piece.
-fn add_many(alloc: Global, text: &mut Text, piece: &[u8], number: usize) -> Result<(), NoMemory> {
+fn put_many(out: &mut Report, alloc: Global, piece: &[u8], number: usize) {
     for _ in 0..number {
-        text.push(alloc, piece)?;
+        out.put(alloc, piece);
     }
-    Ok(())
+}
+
+/// What comes of a datagram of 16,384 bytes, and of one of a byte more.
+fn put_large(out: &mut Report, alloc: Global) {
+    let mut text = Report::new();
+    put_head(&mut text, alloc);
+    text.put(alloc, b"\r\n");
+    let room = 16384_usize.saturating_sub(text.bytes().len());
+    put_many(&mut text, alloc, b"x", room);
+    put_outcome(out, alloc, text.bytes());
+    out.put(alloc, b"\n");
+    text.put(alloc, b"x");
+    put_outcome(out, alloc, text.bytes());
 }
 
 /// A datagram of 16,384 bytes is read, and one of a byte more is too large.
 #[test]
 fn reads_up_to_the_limit_of_bytes(rt: HostRuntime) -> Result<(), Fail> {
-    let alloc = rt.alloc();
-    let mut text = head(alloc)?;
-    text.push(alloc, b"\r\n")?;
-    let room = 16384_usize.saturating_sub(text.bytes().len());
-    add_many(alloc, &mut text, b"x", room)?;
-    assert_eq!(rt; outcome(alloc, text.bytes())?.bytes(), b"read".as_slice());
-    text.push(alloc, b"x")?;
-    assert_eq!(rt;
-        outcome(alloc, text.bytes())?.bytes(),
-        b"too large, 513".as_slice()
-    );
+    let mut out = Report::new();
+    put_large(&mut out, rt.alloc());
+    assert_eq!(rt; out.bytes(), b"read\ntoo large, 513".as_slice());
     Ok(())
+}
+
+/// What comes of 128 header lines, and of one more.
+fn put_long(out: &mut Report, alloc: Global) {
+    let mut text = Report::new();
+    put_head(&mut text, alloc);
+    put_many(&mut text, alloc, b"X: y\r\n", 123);
+    let mut more = Report::new();
+    more.put(alloc, text.bytes());
+    text.put(alloc, b"\r\n");
+    put_outcome(out, alloc, text.bytes());
+    out.put(alloc, b"\n");
+    more.put(alloc, b"No colon\r\n\r\n");
+    put_outcome(out, alloc, more.bytes());
 }
 
 /// A datagram of 128 header lines is read, and one of a line more has too many, whatever that line is.
 #[test]
 fn reads_up_to_the_limit_of_lines(rt: HostRuntime) -> Result<(), Fail> {
-    let alloc = rt.alloc();
-    let mut text = head(alloc)?;
-    add_many(alloc, &mut text, b"X: y\r\n", 123)?;
-    let mut more = Text::of(alloc, text.bytes())?;
-    text.push(alloc, b"\r\n")?;
-    assert_eq!(rt; outcome(alloc, text.bytes())?.bytes(), b"read".as_slice());
-    more.push(alloc, b"No colon\r\n\r\n")?;
-    assert_eq!(rt;
-        outcome(alloc, more.bytes())?.bytes(),
-        b"too many, 513".as_slice()
-    );
+    let mut out = Report::new();
+    put_long(&mut out, rt.alloc());
+    assert_eq!(rt; out.bytes(), b"read\ntoo many, 513".as_slice());
     Ok(())
+}
+
+/// The parts of a Via value.
+fn put_via(out: &mut Report, alloc: Global, value: &[u8]) {
+    match read_via(alloc, value) {
+        Ok(via) => {
+            out.put(alloc, via.sent_by.bytes());
+            out.put(alloc, b"|");
+            out.put_number(alloc, usize::from(via.port.unwrap_or(0)));
+            out.put(alloc, b"|");
+            let branch = param_value(via.params.items(), b"Branch");
+            out.put(alloc, branch.unwrap_or(b""));
+        }
+        Err(_) => out.fail(),
+    }
 }
 
 /// The value of RFC 3261 §20.42 with a branch.
 #[test]
 fn reads_a_via(rt: HostRuntime) -> Result<(), Fail> {
-    let via = read_via(
+    let mut out = Report::new();
+    put_via(
+        &mut out,
         rt.alloc(),
         b"SIP/2.0/UDP erlang.bell-telephone.com:5060;branch=z9hG4bK87asdks7",
-    )?;
-    assert_eq!(rt;
-        via.sent_by.bytes(),
-        b"erlang.bell-telephone.com:5060".as_slice()
     );
-    assert_eq!(rt; via.port, Some(5060));
-    let branch = param_value(via.params.items(), b"Branch");
-    assert_eq!(rt; branch.unwrap_or(b""), b"z9hG4bK87asdks7".as_slice());
+    assert_eq!(rt;
+        out.bytes(),
+        b"erlang.bell-telephone.com:5060|5060|z9hG4bK87asdks7".as_slice()
+    );
     Ok(())
+}
+
+/// The parts of a CSeq value.
+fn put_cseq(out: &mut Report, alloc: Global, value: &[u8]) {
+    match read_cseq(alloc, value) {
+        Ok(cseq) => {
+            out.put_number(alloc, cseq.number as usize);
+            out.put(alloc, b"|");
+            out.put(alloc, cseq.method.bytes());
+        }
+        Err(_) => out.fail(),
+    }
 }
 
 /// The value of RFC 3261 §20.16.
 #[test]
 fn reads_a_cseq(rt: HostRuntime) -> Result<(), Fail> {
-    let cseq = read_cseq(rt.alloc(), b"4711 INVITE")?;
-    assert_eq!(rt; cseq.number, 4711);
-    assert_eq!(rt; cseq.method.bytes(), b"INVITE".as_slice());
+    let mut out = Report::new();
+    put_cseq(&mut out, rt.alloc(), b"4711 INVITE");
+    assert_eq!(rt; out.bytes(), b"4711|INVITE".as_slice());
     Ok(())
+}
+
+/// Whether a value can be read as a name-addr.
+fn put_readable(out: &mut Report, alloc: Global, value: &[u8]) {
+    match is_readable(alloc, value) {
+        Ok(true) => out.put(alloc, b"readable\n"),
+        Ok(false) => out.put(alloc, b"unreadable\n"),
+        Err(_) => out.fail(),
+    }
 }
 
 /// A name-addr after RFC 3261 §20.10, and one whose quotes are not closed.
 #[test]
 fn tells_name_addrs(rt: HostRuntime) -> Result<(), Fail> {
-    let readable = is_readable(
+    let mut out = Report::new();
+    put_readable(
+        &mut out,
         rt.alloc(),
         b"\"Mr. Watson\" <sip:watson@bell-telephone.com>",
-    )?;
-    assert!(rt; readable);
-    let readable = is_readable(rt.alloc(), b"\"Mr. Watson <sip:watson@bell-telephone.com>")?;
-    assert!(rt; !readable);
+    );
+    put_readable(
+        &mut out,
+        rt.alloc(),
+        b"\"Mr. Watson <sip:watson@bell-telephone.com>",
+    );
+    assert_eq!(rt; out.bytes(), b"readable\nunreadable\n".as_slice());
     Ok(())
 }
 
@@ -707,36 +815,41 @@ Call-ID: c1
 CSeq: 1 OPTIONS
 ";
 
-/// A request of so many lines of a table.
-fn of_lines(alloc: Global, table: &[u8], number: usize) -> Result<Msg, NoMemory> {
-    let method = Text::of(alloc, b"OPTIONS")?;
-    let uri = Text::of(alloc, b"sip:b@h")?;
-    let mut message = Msg::new(Start::Request { method, uri }, Text::new());
-    let mut rows = table;
-    for _ in 0..number {
-        let (row, rest) = next_line(rows);
-        rows = rest;
-        let (name, value) = part(b':', row).unwrap_or((row, b""));
-        let value = value.strip_prefix(b" ").unwrap_or(value);
-        message.add(alloc, name, Text::of(alloc, value)?)?;
+/// The text of a message that was made.
+fn put_draft(out: &mut Report, alloc: Global, made: &Draft) {
+    if made.failed {
+        out.fail();
     }
-    Ok(message)
+    put_message(out, alloc, &made.message);
+}
+
+/// Two of the five fields of a message.
+fn put_five(out: &mut Report, alloc: Global, message: &Msg) {
+    match read_five(alloc, message.lines()) {
+        Ok(five) => {
+            out.put(alloc, five.call_id.bytes());
+            out.put(alloc, b"|");
+            out.put(alloc, five.to.uri.bytes());
+        }
+        Err(_) => out.fail(),
+    }
 }
 
 #[test]
 fn reads_the_five_fields(rt: HostRuntime) -> Result<(), Fail> {
-    let message = of_lines(rt.alloc(), FIVE, 5)?;
-    let five = read_five(rt.alloc(), message.lines())?;
-    assert_eq!(rt; five.call_id.bytes(), b"c1".as_slice());
-    assert_eq!(rt; five.to.uri.bytes(), b"sip:b@h".as_slice());
+    let made = of_lines(rt.alloc(), request(rt.alloc(), b"OPTIONS")?, FIVE, 5);
+    let mut out = Report::new();
+    put_five(&mut out, rt.alloc(), &made.message);
+    assert_eq!(rt; out.bytes(), b"c1|sip:b@h".as_slice());
     Ok(())
 }
 
-/// The text of the response to the request.
-fn busy_text(alloc: Global) -> Result<Text, NoMemory> {
-    let message = of_lines(alloc, FIVE, 5)?;
-    let reply = reply_with(alloc, 486, b"Busy Here", message.lines())?;
-    reply.text(alloc)
+/// The text of the response to a request.
+fn put_busy(out: &mut Report, alloc: Global, message: &Msg) {
+    match reply_with(alloc, 486, b"Busy Here", message.lines()) {
+        Ok(reply) => put_message(out, alloc, &reply),
+        Err(_) => out.fail(),
+    }
 }
 
 /// A response repeats the lines of the request.
@@ -744,14 +857,27 @@ fn busy_text(alloc: Global) -> Result<Text, NoMemory> {
 fn answers_requests(rt: HostRuntime) -> Result<(), Fail> {
     let wanted =
         b"SIP/2.0 486 Busy Here\r\nVia: SIP/2.0/UDP a.example;branch=z9hG4bKa1\r\nFrom: <sip:a@h>;tag=a\r\nTo: <sip:b@h>\r\nCall-ID: c1\r\nCSeq: 1 OPTIONS\r\nContent-Length: 0\r\n\r\n";
-    assert_eq!(rt; busy_text(rt.alloc())?.bytes(), wanted.as_slice());
+    let made = of_lines(rt.alloc(), request(rt.alloc(), b"OPTIONS")?, FIVE, 5);
+    let mut out = Report::new();
+    put_busy(&mut out, rt.alloc(), &made.message);
+    assert_eq!(rt; out.bytes(), wanted.as_slice());
     Ok(())
 }
 
-/// The values of a text, joined.
-fn joined_values(alloc: Global, bytes: &[u8]) -> Result<Text, NoMemory> {
-    let values = values_in(alloc, Mode::Plain, bytes)?;
-    joined_by(alloc, b"|", values.items())
+/// Texts, joined.
+fn put_joined(out: &mut Report, alloc: Global, texts: Result<List<Text>, NoMemory>) {
+    match texts {
+        Ok(texts) => put_texts(out, alloc, texts.items()),
+        Err(_) => out.fail(),
+    }
+}
+
+fn put_texts(out: &mut Report, alloc: Global, texts: &[Text]) {
+    match joined_by(alloc, b"|", texts) {
+        Ok(joined) => out.put(alloc, joined.bytes()),
+        Err(_) => out.fail(),
+    }
+    out.put(alloc, b"\n");
 }
 
 /// Two Route lines with three values, and two Subject lines.
@@ -761,51 +887,41 @@ route: <sip:t@h>
 subject: two
 ";
 
-/// The values of its lines, joined.
-fn joined_routes(alloc: Global) -> Result<Text, NoMemory> {
-    let message = of_lines(alloc, ROUTED, 4)?;
-    let values = values_named(alloc, Mode::Plain, message.lines(), b"ROUTE")?;
-    joined_by(alloc, b"|", values.items())
-}
-
-/// The texts of its lines, joined.
-fn joined_texts(alloc: Global) -> Result<Text, NoMemory> {
-    let message = of_lines(alloc, ROUTED, 4)?;
-    let texts = line_texts(alloc, message.lines(), b"ROUTE")?;
-    joined_by(alloc, b"|", texts.items())
+/// What is found by a name: the values of its lines, by two calls; their texts; and the first of these.
+fn put_found(out: &mut Report, alloc: Global, message: &Msg) {
+    put_joined(
+        out,
+        alloc,
+        values_named(alloc, Mode::Plain, message.lines(), b"ROUTE"),
+    );
+    put_joined(out, alloc, message.values(alloc, b"ROUTE"));
+    put_joined(out, alloc, line_texts(alloc, message.lines(), b"ROUTE"));
+    out.put(alloc, message.first(b"ROUTE").unwrap_or(b""));
 }
 
 /// The values of a text and of lines, parted and joined.
 #[test]
 fn parts_values(rt: HostRuntime) -> Result<(), Fail> {
-    assert_eq!(rt;
-        joined_values(rt.alloc(), b"<sip:a@h,x> , \"b,c\" <sip:d@h>")?.bytes(),
-        b"<sip:a@h,x>|\"b,c\" <sip:d@h>".as_slice()
+    let mut out = Report::new();
+    put_joined(
+        &mut out,
+        rt.alloc(),
+        values_in(rt.alloc(), Mode::Plain, b"<sip:a@h,x> , \"b,c\" <sip:d@h>"),
     );
-    assert_eq!(rt;
-        joined_routes(rt.alloc())?.bytes(),
-        b"<sip:r@h>|<sip:s@h>|<sip:t@h>".as_slice()
-    );
-    assert_eq!(rt;
-        joined_texts(rt.alloc())?.bytes(),
-        b"<sip:r@h>, <sip:s@h>|<sip:t@h>".as_slice()
-    );
+    assert_eq!(rt; out.bytes(), b"<sip:a@h,x>|\"b,c\" <sip:d@h>\n".as_slice());
     Ok(())
 }
 
-/// The message that is edited.
-fn edited(alloc: Global) -> Result<Msg, NoMemory> {
-    let mut message = of_lines(alloc, ROUTED, 4)?;
-    message.set(alloc, b"Subject", Text::of(alloc, b"three")?)?;
-    message.set(alloc, b"Event", Text::of(alloc, b"refer")?)?;
-    message.drop_all(b"Route");
-    message.push_front(alloc, b"Via", Text::of(alloc, b"SIP/2.0/UDP a")?)?;
-    Ok(message)
-}
-
-/// Its text.
-fn edited_text(alloc: Global) -> Result<Text, NoMemory> {
-    edited(alloc)?.text(alloc)
+#[test]
+fn finds_values(rt: HostRuntime) -> Result<(), Fail> {
+    let made = of_lines(rt.alloc(), request(rt.alloc(), b"OPTIONS")?, ROUTED, 4);
+    let mut out = Report::new();
+    put_found(&mut out, rt.alloc(), &made.message);
+    assert_eq!(rt;
+        out.bytes(),
+        b"<sip:r@h>|<sip:s@h>|<sip:t@h>\n<sip:r@h>|<sip:s@h>|<sip:t@h>\n<sip:r@h>, <sip:s@h>|<sip:t@h>\n<sip:r@h>, <sip:s@h>".as_slice()
+    );
+    Ok(())
 }
 
 /// A message that is made and edited, and its text.
@@ -813,16 +929,13 @@ fn edited_text(alloc: Global) -> Result<Text, NoMemory> {
 fn edits_messages(rt: HostRuntime) -> Result<(), Fail> {
     let wanted =
         b"OPTIONS sip:b@h SIP/2.0\r\nVia: SIP/2.0/UDP a\r\nSubject: three\r\nEvent: refer\r\n\r\n";
-    assert_eq!(rt; edited_text(rt.alloc())?.bytes(), wanted.as_slice());
-    Ok(())
-}
-
-#[test]
-fn finds_values(rt: HostRuntime) -> Result<(), Fail> {
-    let message = of_lines(rt.alloc(), ROUTED, 4)?;
-    let routes = message.values(rt.alloc(), b"ROUTE")?;
-    assert_eq!(rt; routes.items().len(), 3);
-    let first = message.first(b"ROUTE").unwrap_or(b"");
-    assert_eq!(rt; first, b"<sip:r@h>, <sip:s@h>".as_slice());
+    let mut made = of_lines(rt.alloc(), request(rt.alloc(), b"OPTIONS")?, ROUTED, 4);
+    made.set(rt.alloc(), b"Subject", b"three");
+    made.set(rt.alloc(), b"Event", b"refer");
+    made.message.drop_all(b"Route");
+    made.push_front(rt.alloc(), b"Via", b"SIP/2.0/UDP a");
+    let mut out = Report::new();
+    put_draft(&mut out, rt.alloc(), &made);
+    assert_eq!(rt; out.bytes(), wanted.as_slice());
     Ok(())
 }

@@ -1,6 +1,8 @@
-//! Tables of tests: a table is one text, and a row is a line or more of it.
+//! Tables of tests: a table is one text, and a row is a line or more of it. What comes of the rows is written into one text, which is compared with the one that is wanted.
 
+use mmtel_lex::Text;
 use mmtel_scan::part;
+use std::alloc::Global;
 
 /// The first line of a table, and what follows it.
 pub fn next_line(table: &[u8]) -> (&[u8], &[u8]) {
@@ -12,5 +14,54 @@ pub fn numbered(row: &[u8]) -> (u16, &[u8]) {
     match row {
         [digit, b' ', rest @ ..] => (u16::from(digit.wrapping_sub(b'0')), rest),
         _ => (0, row),
+    }
+}
+
+/// A text that is being written. It remembers that something went wrong on the way, so that a test asks once, at its end.
+#[derive(Drop)]
+pub struct Report {
+    text: Text,
+    failed: bool,
+}
+
+impl Report {
+    pub fn new() -> Report {
+        Report {
+            text: Text::new(),
+            failed: false,
+        }
+    }
+
+    /// Says that something went wrong.
+    pub fn fail(&mut self) {
+        self.failed = true;
+    }
+
+    /// Adds a piece.
+    pub fn put(&mut self, alloc: Global, piece: &[u8]) {
+        if self.text.push(alloc, piece).is_err() {
+            self.failed = true;
+        }
+    }
+
+    /// Adds a number in digits.
+    pub fn put_number(&mut self, alloc: Global, number: usize) {
+        match number.to_string(alloc) {
+            Ok(digits) => self.put(alloc, digits.as_bytes()),
+            Err(_) => self.failed = true,
+        }
+    }
+
+    /// The text, or `failed`.
+    pub fn bytes(&self) -> &[u8] {
+        if self.failed {
+            return b"failed";
+        }
+        self.text.bytes()
+    }
+
+    /// The text as far as it was written.
+    pub fn written(&self) -> &[u8] {
+        self.text.bytes()
     }
 }

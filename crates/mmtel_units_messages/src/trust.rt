@@ -1,9 +1,9 @@
 //! Peers and routes, accounts, the words of Privacy, asserted identities and the header table.
 
-use crate::tables::{next_line, numbered};
+use crate::drafts::{Draft, of_lines, request};
+use crate::tables::{Report, next_line, numbered};
 use mmtel_lex::{NoMemory, Text, Uri, print_uri, read_uri};
-use mmtel_message::{Msg, Start};
-use mmtel_scan::part;
+use mmtel_message::Msg;
 use mmtel_trust::{
     Accounts, Addr, Facing, PeerTable, TableFault, asserted, attempt_from, shown, wants,
 };
@@ -18,6 +18,24 @@ fn addr(last: u8) -> Addr {
     }
 }
 
+/// What a call on a table of peers or accounts came to.
+fn put_done(out: &mut Report, alloc: Global, done: Result<(), TableFault>) {
+    match done {
+        Ok(()) => out.put(alloc, b"done\n"),
+        Err(TableFault::Taken) => out.put(alloc, b"taken\n"),
+        Err(TableFault::NoPeer) => out.put(alloc, b"no peer\n"),
+        Err(_) => out.fail(),
+    }
+}
+
+/// Adds a route of this name to the peer of the number.
+fn put_route(out: &mut Report, alloc: Global, table: &mut PeerTable, number: u16, name: &[u8]) {
+    match Text::of(alloc, name) {
+        Ok(name) => put_done(out, alloc, table.add_route(alloc, name, Peer(number))),
+        Err(_) => out.fail(),
+    }
+}
+
 /// The names of routes, each behind the number of its peer.
 const TABLE: &[u8] = b"1 home.example
 2 +4930
@@ -25,20 +43,20 @@ const TABLE: &[u8] = b"1 home.example
 3 *
 ";
 
-fn table(alloc: Global) -> Result<PeerTable, TableFault> {
+/// Three peers, of which the first is trusted, and the routes.
+fn table(out: &mut Report, alloc: Global) -> PeerTable {
     let mut table = PeerTable::new();
-    table.add_peer(alloc, Peer(1), addr(1), true)?;
-    table.add_peer(alloc, Peer(2), addr(2), false)?;
-    table.add_peer(alloc, Peer(3), addr(3), false)?;
+    put_done(out, alloc, table.add_peer(alloc, Peer(1), addr(1), true));
+    put_done(out, alloc, table.add_peer(alloc, Peer(2), addr(2), false));
+    put_done(out, alloc, table.add_peer(alloc, Peer(3), addr(3), false));
     let mut rows = TABLE;
     for _ in 0..4 {
         let (row, rest) = next_line(rows);
         rows = rest;
         let (peer, name) = numbered(row);
-        let name = Text::of(alloc, name)?;
-        table.add_route(alloc, name, Peer(peer))?;
+        put_route(out, alloc, &mut table, peer, name);
     }
-    Ok(table)
+    table
 }
 
 /// URIs, each behind the number of the peer that it leads to: hosts without case, the longest prefix of a number, and all the rest.
@@ -51,87 +69,139 @@ const ROUTES: &[u8] = b"1 sip:bob@home.example
 3 tel:7042;phone-context=home.example
 ";
 
+/// The number of the peer that a URI leads to, 0 where it leads to none, and the URI.
+fn put_way(out: &mut Report, alloc: Global, table: &PeerTable, text: &[u8]) {
+    match read_uri(alloc, text) {
+        Ok(uri) => match table.route(&uri) {
+            Some(Peer(number)) => out.put_number(alloc, usize::from(number)),
+            None => out.put(alloc, b"0"),
+        },
+        Err(_) => out.fail(),
+    }
+    out.put(alloc, b" ");
+    out.put(alloc, text);
+    out.put(alloc, b"\n");
+}
+
 #[test]
 fn routes(rt: HostRuntime) -> Result<(), Fail> {
-    let table = table(rt.alloc())?;
+    let mut out = Report::new();
+    let table = table(&mut Report::new(), rt.alloc());
     let mut rows = ROUTES;
     for _ in 0..7 {
         let (row, rest) = next_line(rows);
         rows = rest;
-        let (peer, text) = numbered(row);
-        let uri = read_uri(rt.alloc(), text)?;
-        assert_eq!(rt; table.route(&uri), Some(Peer(peer)));
+        let (_peer, text) = numbered(row);
+        put_way(&mut out, rt.alloc(), &table, text);
     }
-    assert!(rt; rows.is_empty());
+    assert_eq!(rt; out.bytes(), ROUTES);
     Ok(())
+}
+
+/// Of the peers 1 to 4: `t` for trusted and `-` for not, `a` for one with an address and `-` for one without.
+fn put_peers(out: &mut Report, alloc: Global, table: &PeerTable) {
+    for number in 1..5 {
+        let peer = Peer(number);
+        out.put(alloc, if table.trusted(peer) { b"t" } else { b"-" });
+        out.put(
+            alloc,
+            if table.addr(peer).is_some() {
+                b"a"
+            } else {
+                b"-"
+            },
+        );
+        out.put(alloc, b"\n");
+    }
 }
 
 #[test]
 fn finds_peers(rt: HostRuntime) -> Result<(), Fail> {
-    let table = table(rt.alloc())?;
+    let mut out = Report::new();
+    let table = table(&mut out, rt.alloc());
+    put_peers(&mut out, rt.alloc(), &table);
     assert_eq!(rt; table.find(addr(2)), Some(Peer(2)));
     assert_eq!(rt; table.find(addr(4)), None);
-    assert!(rt; table.trusted(Peer(1)));
-    assert!(rt; !table.trusted(Peer(2)));
-    assert!(rt; !table.trusted(Peer(4)));
-    assert!(rt; table.addr(Peer(3)).is_some());
-    assert!(rt; table.addr(Peer(4)).is_none());
+    assert_eq!(rt;
+        out.bytes(),
+        b"done\ndone\ndone\ndone\ndone\ndone\ndone\nta\n-a\n-a\n--\n".as_slice()
+    );
     Ok(())
 }
 
+/// A peer whose address is taken, one whose number is, a route whose name is but for case, and one to no peer.
 #[test]
 fn refuses_peers_and_routes(rt: HostRuntime) -> Result<(), Fail> {
-    let mut table = table(rt.alloc())?;
-    assert_eq!(rt;
-        table.add_peer(rt.alloc(), Peer(4), addr(1), true),
-        Err(TableFault::Taken)
-    );
-    assert_eq!(rt;
-        table.add_peer(rt.alloc(), Peer(1), addr(4), true),
-        Err(TableFault::Taken)
-    );
-    let again = Text::of(rt.alloc(), b"HOME.EXAMPLE")?;
-    assert_eq!(rt;
-        table.add_route(rt.alloc(), again, Peer(4)),
-        Err(TableFault::Taken)
-    );
-    let lost = Text::of(rt.alloc(), b"far.example")?;
-    assert_eq!(rt;
-        table.add_route(rt.alloc(), lost, Peer(4)),
-        Err(TableFault::NoPeer)
-    );
+    let mut table = table(&mut Report::new(), rt.alloc());
+    let mut out = Report::new();
+    let taken = table.add_peer(rt.alloc(), Peer(4), addr(1), true);
+    put_done(&mut out, rt.alloc(), taken);
+    let taken = table.add_peer(rt.alloc(), Peer(1), addr(4), true);
+    put_done(&mut out, rt.alloc(), taken);
+    put_route(&mut out, rt.alloc(), &mut table, 4, b"HOME.EXAMPLE");
+    put_route(&mut out, rt.alloc(), &mut table, 4, b"far.example");
+    assert_eq!(rt; out.bytes(), b"taken\ntaken\ntaken\nno peer\n".as_slice());
     Ok(())
 }
 
-/// The numbers of RFC 3966 §6 and the sip URI of RFC 3261 §19.1.6 that stands for a number.
+/// Adds an account of this URI.
+fn put_account(out: &mut Report, alloc: Global, accounts: &mut Accounts, number: u32, uri: &[u8]) {
+    match read_uri(alloc, uri) {
+        Ok(uri) => put_done(out, alloc, accounts.add(alloc, Account(number), uri)),
+        Err(_) => out.fail(),
+    }
+}
+
+/// The number of the account of a URI, 0 for none, and the URI.
+fn put_owner(out: &mut Report, alloc: Global, accounts: &Accounts, text: &[u8]) {
+    match read_uri(alloc, text) {
+        Ok(uri) => match accounts.find(&uri) {
+            Some(Account(number)) => out.put_number(alloc, number as usize),
+            None => out.put(alloc, b"0"),
+        },
+        Err(_) => out.fail(),
+    }
+    out.put(alloc, b" ");
+    out.put(alloc, text);
+    out.put(alloc, b"\n");
+}
+
+/// URIs, each behind the number of its account, 0 for none: the sip URI of account 1 is `sip:alice@home.example`, and the number of account 2 that of RFC 3966 §6, for which the sip URI of RFC 3261 §19.1.6 stands.
+const OWNERS: &[u8] = b"1 sip:alice@HOME.example;user=phone
+0 sip:Alice@home.example
+2 tel:+1(201)555.0123
+2 sip:+12015550123@foo.com;user=phone
+";
+
 #[test]
 fn finds_accounts(rt: HostRuntime) -> Result<(), Fail> {
     let mut accounts = Accounts::new();
-    accounts.add(
+    let mut out = Report::new();
+    put_account(
+        &mut out,
         rt.alloc(),
-        Account(1),
-        read_uri(rt.alloc(), b"sip:alice@home.example")?,
-    )?;
-    accounts.add(
-        rt.alloc(),
-        Account(2),
-        read_uri(rt.alloc(), b"tel:+1-201-555-0123")?,
-    )?;
-    let rows: [(&[u8], Option<Account>); 4] = [
-        (b"sip:alice@HOME.example;user=phone", Some(Account(1))),
-        (b"sip:Alice@home.example", None),
-        (b"tel:+1(201)555.0123", Some(Account(2))),
-        (b"sip:+12015550123@foo.com;user=phone", Some(Account(2))),
-    ];
-    for (text, account) in rows {
-        let uri = read_uri(rt.alloc(), text)?;
-        assert_eq!(rt; accounts.find(&uri), account);
-    }
-    let again = read_uri(rt.alloc(), b"tel:+12015550123")?;
-    assert_eq!(rt;
-        accounts.add(rt.alloc(), Account(3), again),
-        Err(TableFault::Taken)
+        &mut accounts,
+        1,
+        b"sip:alice@home.example",
     );
+    put_account(
+        &mut out,
+        rt.alloc(),
+        &mut accounts,
+        2,
+        b"tel:+1-201-555-0123",
+    );
+    put_account(&mut out, rt.alloc(), &mut accounts, 3, b"tel:+12015550123");
+    assert_eq!(rt; out.bytes(), b"done\ndone\ntaken\n".as_slice());
+    let mut out = Report::new();
+    let mut rows = OWNERS;
+    for _ in 0..4 {
+        let (row, rest) = next_line(rows);
+        rows = rest;
+        let (_account, text) = numbered(row);
+        put_owner(&mut out, rt.alloc(), &accounts, text);
+    }
+    assert_eq!(rt; out.bytes(), OWNERS);
     Ok(())
 }
 
@@ -148,87 +218,79 @@ Reason: SIP;cause=200
 "#;
 
 /// The message of these lines.
-fn message(alloc: Global) -> Result<Msg, NoMemory> {
-    let start = Start::Request {
-        method: Text::of(alloc, b"INVITE")?,
-        uri: Text::of(alloc, b"sip:+14085551212@cisco.com")?,
-    };
-    let mut m = Msg::new(start, Text::new());
-    let mut rows = LINES;
-    for _ in 0..9 {
-        let (row, rest) = next_line(rows);
-        rows = rest;
-        let (name, value) = part(b':', row).unwrap_or((row, b""));
-        let value = value.strip_prefix(b" ").unwrap_or(value);
-        m.add(alloc, name, Text::of(alloc, value)?)?;
-    }
-    Ok(m)
+fn invite(alloc: Global) -> Result<Draft, NoMemory> {
+    let start = request(alloc, b"INVITE")?;
+    Ok(of_lines(alloc, start, LINES, 9))
 }
 
 #[test]
 fn tells_words(rt: HostRuntime) -> Result<(), Fail> {
-    let m = message(rt.alloc())?;
+    let made = invite(rt.alloc())?;
     let wanted = PrivacySet {
         header: true,
         none: true,
         ..PrivacySet::default()
     };
-    assert_eq!(rt; wants(&m), wanted);
+    assert_eq!(rt; wants(&made.message), wanted);
     Ok(())
 }
 
-#[test]
-fn tells_identities(rt: HostRuntime) -> Result<(), Fail> {
-    let m = message(rt.alloc())?;
-    let believed = asserted(rt.alloc(), &m, true)?;
-    assert_eq!(rt;
-        text_of(rt.alloc(), &believed.sip)?.bytes(),
-        b"sip:fluffy@cisco.com".as_slice()
-    );
-    assert_eq!(rt;
-        text_of(rt.alloc(), &believed.tel)?.bytes(),
-        b"tel:+14085264000".as_slice()
-    );
-    Ok(())
-}
-
-#[test]
-fn believes_none_that_is_not_trusted(rt: HostRuntime) -> Result<(), Fail> {
-    let m = message(rt.alloc())?;
-    let identities = asserted(rt.alloc(), &m, false)?;
-    assert!(rt; identities.sip.is_none());
-    assert!(rt; identities.tel.is_none());
-    Ok(())
-}
-
-fn text_of(alloc: Global, uri: &Option<Uri>) -> Result<Text, NoMemory> {
+/// A URI, or `none`, and the end of a line.
+fn put_uri(out: &mut Report, alloc: Global, uri: &Option<Uri>) {
     match uri {
-        Some(uri) => print_uri(alloc, uri),
-        None => Ok(Text::new()),
+        Some(uri) => match print_uri(alloc, uri) {
+            Ok(text) => out.put(alloc, text.bytes()),
+            Err(_) => out.fail(),
+        },
+        None => out.put(alloc, b"none"),
+    }
+    out.put(alloc, b"\n");
+}
+
+/// The identities that are believed of a message from a peer that is trusted or not.
+fn put_identities(out: &mut Report, alloc: Global, m: &Msg, trusted: bool) {
+    match asserted(alloc, m, trusted) {
+        Ok(believed) => {
+            put_uri(out, alloc, &believed.sip);
+            put_uri(out, alloc, &believed.tel);
+        }
+        Err(_) => out.fail(),
     }
 }
 
-/// The lines that are passed on, one a line, where the sender is restricted or not and the peer trusted or not.
-fn shown_text(
-    alloc: Global,
-    m: &Msg,
-    restricted: bool,
-    to_trusted: bool,
-) -> Result<Text, NoMemory> {
+/// Those of a trusted peer are believed, and none of another.
+#[test]
+fn tells_identities(rt: HostRuntime) -> Result<(), Fail> {
+    let made = invite(rt.alloc())?;
+    let mut out = Report::new();
+    put_identities(&mut out, rt.alloc(), &made.message, true);
+    put_identities(&mut out, rt.alloc(), &made.message, false);
+    assert_eq!(rt;
+        out.bytes(),
+        b"sip:fluffy@cisco.com\ntel:+14085264000\nnone\nnone\n".as_slice()
+    );
+    Ok(())
+}
+
+/// The lines that are passed on, one a line, and a line `#`, where the sender is restricted or not and the peer trusted or not.
+fn put_shown(out: &mut Report, alloc: Global, m: &Msg, restricted: bool, to_trusted: bool) {
     let facing = Facing {
         from_trusted: true,
         restricted,
         present: true,
     };
-    let lines = shown(alloc, m, &facing, to_trusted)?;
-    let mut out = Text::new();
-    for line in lines.items() {
-        out.push(alloc, line.name.bytes())?;
-        out.push(alloc, b": ")?;
-        out.push(alloc, line.value.bytes())?;
-        out.push(alloc, b"\n")?;
+    match shown(alloc, m, &facing, to_trusted) {
+        Ok(lines) => {
+            for line in lines.items() {
+                out.put(alloc, line.name.bytes());
+                out.put(alloc, b": ");
+                out.put(alloc, line.value.bytes());
+                out.put(alloc, b"\n");
+            }
+        }
+        Err(_) => out.fail(),
     }
-    Ok(out)
+    out.put(alloc, b"#\n");
 }
 
 /// What is passed on of these lines: to an untrusted peer, where the sender is restricted and where not, and then to a trusted one. A line `#` ends each.
@@ -260,32 +322,34 @@ Reason: SIP;cause=200
 
 #[test]
 fn shows_lines(rt: HostRuntime) -> Result<(), Fail> {
-    let m = message(rt.alloc())?;
-    let mut rows = SHOWN;
-    for (restricted, to_trusted) in [(true, false), (false, false), (true, true), (false, true)] {
-        let (wanted, rest) = part(b'#', rows).unwrap_or((rows, b""));
-        rows = rest.strip_prefix(b"\n").unwrap_or(rest);
-        assert_eq!(rt;
-            shown_text(rt.alloc(), &m, restricted, to_trusted)?.bytes(),
-            wanted
-        );
-    }
-    assert!(rt; rows.is_empty());
+    let made = invite(rt.alloc())?;
+    let mut out = Report::new();
+    put_shown(&mut out, rt.alloc(), &made.message, true, false);
+    put_shown(&mut out, rt.alloc(), &made.message, false, false);
+    put_shown(&mut out, rt.alloc(), &made.message, true, true);
+    put_shown(&mut out, rt.alloc(), &made.message, false, true);
+    assert_eq!(rt; out.bytes(), SHOWN);
     Ok(())
+}
+
+/// The From of an attempt for a sender that is restricted or not.
+fn put_from(out: &mut Report, alloc: Global, m: &Msg, restricted: bool) {
+    match attempt_from(alloc, m, restricted, b"1-2") {
+        Ok(from) => out.put(alloc, from.bytes()),
+        Err(_) => out.fail(),
+    }
+    out.put(alloc, b"\n");
 }
 
 #[test]
 fn writes_from(rt: HostRuntime) -> Result<(), Fail> {
-    let m = message(rt.alloc())?;
-    let hidden = attempt_from(rt.alloc(), &m, true, b"1-2")?;
+    let made = invite(rt.alloc())?;
+    let mut out = Report::new();
+    put_from(&mut out, rt.alloc(), &made.message, true);
+    put_from(&mut out, rt.alloc(), &made.message, false);
     assert_eq!(rt;
-        hidden.bytes(),
-        b"\"Anonymous\" <sip:anonymous@anonymous.invalid>;tag=1-2".as_slice()
-    );
-    let shown = attempt_from(rt.alloc(), &m, false, b"1-2")?;
-    assert_eq!(rt;
-        shown.bytes(),
-        b"\"Cullen Jennings\" <sip:fluffy@cisco.com>;tag=1-2".as_slice()
+        out.bytes(),
+        b"\"Anonymous\" <sip:anonymous@anonymous.invalid>;tag=1-2\n\"Cullen Jennings\" <sip:fluffy@cisco.com>;tag=1-2\n".as_slice()
     );
     Ok(())
 }

@@ -1,7 +1,7 @@
 use Rattle.std.proofs.Common.{false, sym, arith}
-use Rattle.mmtel_message.specs.Faults.{is_dotted}
+use Rattle.mmtel_message.specs.Entries.{is_dotted}
 use Rattle.mmtel_message.proofs.EditLaws.{dot_over, dot_stop, dot_end}
-use Rattle.mmtel_message.proofs.faults.is_dotted.Goals as goal
+use Rattle.mmtel_message.proofs.entries.is_dotted.Goals as goal
 
 pub returns-in-None : goal.returns-in-None
 returns-in-None c = sym (dot_stop (is_dotted false c.args.bytes.now) c.loop-b.b-index c.args.bytes.now c.loop-b.digit (omega arith) (sym c.in-None.ensures) c.loop-b.invariant)

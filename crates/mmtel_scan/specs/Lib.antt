@@ -1,4 +1,7 @@
-pub mod Chain
+-- What the public clauses cite; clauses of private functions cite the same words. `Stops`, `IsOneOrMore`, `Writes` and `IsFree` beside them are for the definitions of the crates above.
 pub mod Classes
 pub mod Numbers
 pub mod Scanning
+
+-- What no clause of this crate cites: a word that the definitions of the crates above share.
+pub mod Chain

@@ -1,4 +1,4 @@
--- Words of the contracts
+-- Words of the contracts: what a reading answers, and where it stops.
 use Rattle.std.specs.Prelude.{ℕ, ◌≡◌, ◌≤◌, Option, Some, None, Result, Ok, Err}
 use Rattle.mmtel_sdp.specs.declared.faults.SdpFault.{SdpFault}
 use Rattle.mmtel_sdp.specs.declared.faults.SdpFault.TheVariants.{NotSdp, NoMemory}

@@ -1,2 +1,3 @@
+-- What the public clauses cite. Clauses of private functions cite parts of the same definitions, and nothing else.
 pub mod Deadlines
 pub mod Schedules

@@ -1,3 +1,4 @@
+-- What the public clauses cite. No private function has a clause.
 pub mod Causes
 pub mod Moments
 pub mod Sides

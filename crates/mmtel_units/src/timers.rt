@@ -1,126 +1,156 @@
 //! Deadlines, and the moments at which messages are sent again.
 
-use mmtel_timers::{Deadlines, Key, NoMemory, Schedule};
+use crate::told::{Rows, Told, wrong_line};
+use mmtel_scan::{number_up_to, part};
+use mmtel_timers::{Deadlines, Key, Schedule};
 use mmtel_types::Moment;
-use std::alloc::Global;
-use std::test::Fail;
 
-/// What is done to the deadlines.
-#[derive(Clone, Copy, Debug)]
-enum Step {
-    /// A key is armed for a moment.
-    Arm(u64, u64),
-    /// A key is disarmed.
-    Disarm(u64),
-    /// What is due at a moment is looked up.
-    LookUp(u64),
+/// The deadlines that the rows so far have left.
+#[derive(Drop)]
+struct Steps {
+    deadlines: Deadlines,
 }
 
-/// What the step answers: the moment and the key that are due.
-fn answer(
-    deadlines: &mut Deadlines,
-    alloc: Global,
-    step: Step,
-) -> Result<Option<(u64, u64)>, NoMemory> {
-    match step {
-        Step::Arm(at, key) => {
-            deadlines.arm(alloc, at, Key(key))?;
-            Ok(None)
+fn number(digits: &[u8]) -> u64 {
+    number_up_to(u64::MAX, digits).unwrap_or(0)
+}
+
+impl Steps {
+    fn arm(&mut self, told: &mut Told, deadline: &[u8]) {
+        let (at, key) = part(b' ', deadline).unwrap_or((deadline, b""));
+        if self
+            .deadlines
+            .arm(told.alloc(), number(at), Key(number(key)))
+            .is_err()
+        {
+            told.fail();
         }
-        Step::Disarm(key) => {
-            deadlines.disarm(Key(key));
-            Ok(None)
+    }
+
+    fn due_at(&self, now: u64) -> Option<(u64, Key)> {
+        self.deadlines.next_due(Moment::new(now)?)
+    }
+
+    fn look_up(&self, told: &mut Told, now: u64) {
+        match self.due_at(now) {
+            None => told.add(b"-"),
+            Some((at, key)) => {
+                told.add_number(at);
+                told.add_number(key.0);
+            }
         }
-        Step::LookUp(now) => Ok(due_at(deadlines, now)),
+        told.add(b"\n");
     }
 }
 
-fn due_at(deadlines: &Deadlines, now: u64) -> Option<(u64, u64)> {
-    let now = Moment::new(now)?;
-    let (at, key) = deadlines.next_due(now)?;
-    Some((at, key.0))
+/// Adds the moments of a schedule, also of times that are past its end.
+fn add_moments(told: &mut Told, schedule: Schedule) {
+    for k in [0, 1, 2, 3, 4, 5, 6, 7, 8, 9, 10, u32::MAX] {
+        if let Some(moment) = schedule.at(k) {
+            told.add_number(moment);
+        }
+    }
+    told.add(b"\n");
 }
 
-/// Equal moments, arming again, disarming, and moments at the ends of both ranges.
-#[test]
-fn deadlines(rt: HostRuntime) -> Result<(), Fail> {
-    let last = 250_000_000_000_000;
-    let rows = [
-        (Step::LookUp(last), None),
-        (Step::Disarm(1), None),
-        (Step::Arm(500, 1), None),
-        (Step::LookUp(499), None),
-        (Step::LookUp(500), Some((500, 1))),
-        (Step::Arm(500, 2), None),
-        (Step::Arm(400, 3), None),
-        (Step::LookUp(399), None),
-        (Step::LookUp(400), Some((400, 3))),
-        (Step::LookUp(last), Some((400, 3))),
-        (Step::Disarm(3), None),
-        (Step::LookUp(500), Some((500, 1))),
-        (Step::Arm(500, 1), None),
-        (Step::LookUp(500), Some((500, 2))),
-        (Step::Arm(600, 2), None),
-        (Step::LookUp(600), Some((500, 1))),
-        (Step::Disarm(1), None),
-        (Step::LookUp(599), None),
-        (Step::LookUp(600), Some((600, 2))),
-        (Step::Disarm(4), None),
-        (Step::LookUp(600), Some((600, 2))),
-        (Step::Disarm(2), None),
-        (Step::LookUp(last), None),
-        (Step::Arm(u64::MAX, u64::MAX), None),
-        (Step::Arm(last + 1, 5), None),
-        (Step::LookUp(last), None),
-        (Step::Arm(last, 6), None),
-        (Step::LookUp(last - 1), None),
-        (Step::LookUp(last), Some((last, 6))),
-        (Step::Arm(0, u64::MAX), None),
-        (Step::LookUp(0), Some((0, u64::MAX))),
-    ];
-    let mut deadlines = Deadlines::new();
-    for (place, (step, wanted)) in rows.iter().enumerate() {
-        let found = answer(&mut deadlines, rt.alloc(), *step)?;
-        assert_eq!(rt; found, *wanted, "{step:?}, row {place}");
+/// `+` with a moment and a key arms the key, `-` with a key disarms it. `?` with a moment tells the moment and the key that are due then, or `-`. `I` and `O` tell the schedules of an INVITE and of other messages.
+impl Rows for Steps {
+    fn tell(&mut self, told: &mut Told, asked: &[u8]) {
+        match asked {
+            [b'+', deadline @ ..] => self.arm(told, deadline),
+            [b'-', key @ ..] => self.deadlines.disarm(Key(number(key))),
+            [b'?', now @ ..] => self.look_up(told, number(now)),
+            [b'I'] => add_moments(told, Schedule::Invite),
+            _ => add_moments(told, Schedule::Other),
+        }
     }
-    Ok(())
 }
 
-/// Each is taken once, the least moment first and of equal ones the first armed.
-#[test]
-fn drained(rt: HostRuntime) -> Result<(), Fail> {
-    let mut deadlines = Deadlines::new();
-    for (at, key) in [(5, 1), (3, 2), (5, 3), (3, 4), (9, 5), (5, 2)] {
-        deadlines.arm(rt.alloc(), at, Key(key))?;
-    }
-    for wanted in [(3, 4), (5, 1), (5, 3), (5, 2)] {
-        assert_eq!(rt; due_at(&deadlines, 8), Some(wanted));
-        deadlines.disarm(Key(wanted.1));
-    }
-    assert_eq!(rt; due_at(&deadlines, 8), None);
-    Ok(())
-}
-
+/// Equal moments, arming again, disarming, and moments at the ends of both ranges; then each is taken once, the least moment first and of equal ones the first armed.
+///
 /// RFC 3261 §17.1.1.2: intervals of 500 ms, 1 s, 2 s, 4 s, 8 s and 16 s, and Timer B at 32 s.
 /// RFC 3261 §17.1.2.2: intervals of 500 ms, 1 s, 2 s, and 4 s from then on, and Timer F at 32 s.
+const STEPS: &[u8] = b"> ?250000000000000
+-
+> -1
+> +500 1
+> ?499
+-
+> ?500
+ 500 1
+> +500 2
+> +400 3
+> ?399
+-
+> ?400
+ 400 3
+> ?250000000000000
+ 400 3
+> -3
+> ?500
+ 500 1
+> +500 1
+> ?500
+ 500 2
+> +600 2
+> ?600
+ 500 1
+> -1
+> ?599
+-
+> ?600
+ 600 2
+> -4
+> ?600
+ 600 2
+> -2
+> ?250000000000000
+-
+> +18446744073709551615 18446744073709551615
+> +250000000000001 5
+> ?250000000000000
+-
+> +250000000000000 6
+> ?249999999999999
+-
+> ?250000000000000
+ 250000000000000 6
+> +0 18446744073709551615
+> ?0
+ 0 18446744073709551615
+> -5
+> -6
+> -18446744073709551615
+> +5 1
+> +3 2
+> +5 3
+> +3 4
+> +9 5
+> +5 2
+> ?8
+ 3 4
+> -4
+> ?8
+ 5 1
+> -1
+> ?8
+ 5 3
+> -3
+> ?8
+ 5 2
+> -2
+> ?8
+-
+> I
+ 500 1500 3500 7500 15500 31500
+> O
+ 500 1500 3500 7500 11500 15500 19500 23500 27500 31500
+";
+
 #[test]
-fn schedules(rt: HostRuntime) {
-    let rows: [(Schedule, &[u64]); 2] = [
-        (Schedule::Invite, &[500, 1000, 2000, 4000, 8000, 16000]),
-        (
-            Schedule::Other,
-            &[500, 1000, 2000, 4000, 4000, 4000, 4000, 4000, 4000, 4000],
-        ),
-    ];
-    for (schedule, intervals) in rows {
-        let mut moment = 0u64;
-        let mut k = 0u32;
-        for interval in intervals {
-            moment = moment.saturating_add(*interval);
-            assert_eq!(rt; schedule.at(k), Some(moment), "{schedule:?} at {k}");
-            k = k.saturating_add(1);
-        }
-        assert_eq!(rt; schedule.at(k), None, "{schedule:?} at {k}");
-        assert_eq!(rt; schedule.at(u32::MAX), None, "{schedule:?} at the end");
-    }
+fn deadlines_and_schedules(rt: HostRuntime) {
+    let steps = Steps {
+        deadlines: Deadlines::new(),
+    };
+    assert_eq!(rt; wrong_line(rt.alloc(), steps, STEPS), None);
 }

@@ -1,63 +1,71 @@
-//! Moments, sides, causes, privacy words and limits.
+//! Causes, privacy words and limits.
 
-use mmtel_types::{Cause, Moment, PrivacySet, Side, limits};
+use crate::told::Told;
+use mmtel_types::{Cause, PrivacySet, limits};
 
-/// Each cause with its word and status: RFC 3261 §21 has the reason phrases of the statuses, and RFC 5079 that of 433.
+/// The cause of this number, in the order in which they are declared; those with a status or a flag stand twice.
+fn cause(number: u8) -> Cause {
+    match number {
+        0 => Cause::OutgoingBarred,
+        1 => Cause::IncomingBarred,
+        2 => Cause::AnonymousRejected,
+        3 => Cause::NotRegistered,
+        4 => Cause::NetworkBusy,
+        5 => Cause::NoReply,
+        6 => Cause::TooManyDiversions { busy: true },
+        7 => Cause::TooManyDiversions { busy: false },
+        8 => Cause::Unreachable(408),
+        9 => Cause::Unreachable(503),
+        10 => Cause::Relayed(486),
+        11 => Cause::Relayed(600),
+        12 => Cause::Cancelled,
+        13 => Cause::NoAccount,
+        14 => Cause::NoRoute,
+        15 => Cause::BadScheme,
+        16 => Cause::Hops,
+        17 => Cause::Extension,
+        18 => Cause::Critical,
+        19 => Cause::Merged,
+        20 => Cause::Full,
+        _ => Cause::Ended,
+    }
+}
+
+/// Each cause's word and status: RFC 3261 §21 has the reason phrases of the statuses, and RFC 5079 that of 433.
+const CAUSES: &[u8] = b"outgoing-barred 603
+incoming-barred 603
+anonymous 433
+not-registered 480
+network-busy 486
+no-reply 480
+too-many-diversions 486
+too-many-diversions 480
+unreachable 408
+unreachable 503
+relayed 486
+relayed 600
+cancelled 487
+no-account 404
+no-route 404
+bad-scheme 416
+hops 483
+extension 420
+critical 500
+merged 482
+full 503
+ended 0
+";
+
 #[test]
 fn causes(rt: HostRuntime) {
-    let rows: [(Cause, &[u8], u16); 22] = [
-        (Cause::OutgoingBarred, b"outgoing-barred", 603),
-        (Cause::IncomingBarred, b"incoming-barred", 603),
-        (Cause::AnonymousRejected, b"anonymous", 433),
-        (Cause::NotRegistered, b"not-registered", 480),
-        (Cause::NetworkBusy, b"network-busy", 486),
-        (Cause::NoReply, b"no-reply", 480),
-        (
-            Cause::TooManyDiversions { busy: true },
-            b"too-many-diversions",
-            486,
-        ),
-        (
-            Cause::TooManyDiversions { busy: false },
-            b"too-many-diversions",
-            480,
-        ),
-        (Cause::Unreachable(408), b"unreachable", 408),
-        (Cause::Unreachable(503), b"unreachable", 503),
-        (Cause::Relayed(486), b"relayed", 486),
-        (Cause::Relayed(600), b"relayed", 600),
-        (Cause::Cancelled, b"cancelled", 487),
-        (Cause::NoAccount, b"no-account", 404),
-        (Cause::NoRoute, b"no-route", 404),
-        (Cause::BadScheme, b"bad-scheme", 416),
-        (Cause::Hops, b"hops", 483),
-        (Cause::Extension, b"extension", 420),
-        (Cause::Critical, b"critical", 500),
-        (Cause::Merged, b"merged", 482),
-        (Cause::Full, b"full", 503),
-        (Cause::Ended, b"ended", 0),
-    ];
-    for (cause, word, status) in rows {
-        assert_eq!(rt; cause.word().as_bytes(), word, "of {cause:?}");
-        assert_eq!(rt; cause.status(), status, "of {cause:?}");
+    let mut told = Told::new(rt.alloc());
+    for number in 0..22 {
+        let cause = cause(number);
+        told.add(cause.word().as_bytes());
+        told.add_number(u64::from(cause.status()));
+        told.add(b"\n");
     }
-}
-
-/// The first moment, the last one, and the first that is none.
-#[test]
-fn moments(rt: HostRuntime) {
-    for ms in [0, 1, 1_700_000_000_000, 250_000_000_000_000] {
-        assert_eq!(rt; Moment::new(ms).map(|moment| moment.ms()), Some(ms));
-    }
-    for ms in [250_000_000_000_001, u64::MAX] {
-        assert_eq!(rt; Moment::new(ms), None);
-    }
-}
-
-#[test]
-fn sides(rt: HostRuntime) {
-    assert_eq!(rt; Side::Caller.other(), Side::Callee);
-    assert_eq!(rt; Side::Callee.other(), Side::Caller);
+    assert_eq!(rt; told.wrong_line(CAUSES), None);
 }
 
 /// No Privacy header field asks for nothing.
@@ -75,38 +83,47 @@ fn privacy(rt: HostRuntime) {
     assert_eq!(rt; PrivacySet::default(), none_asked);
 }
 
-/// The limits that the documents promise.
-#[test]
-fn limits_promised(rt: HostRuntime) {
-    let rows = [
-        ("bytes of a datagram", limits::DATAGRAM_BYTES, 16_384),
-        ("header lines", limits::HEADER_LINES, 128),
-        ("History-Info values", limits::HISTORY_VALUES, 32),
-        ("server transactions", limits::SERVER_TRANSACTIONS, 16_384),
-        ("calls", limits::CALLS, 4_096),
-        ("rooms", limits::ROOMS, 1_024),
-        ("seats", limits::SEATS, 32),
-        ("rules", limits::RULES, 64),
-        ("identities of a rule", limits::RULE_IDENTITIES, 64),
-        ("bytes of a target", limits::TARGET_BYTES, 256),
-        ("bytes of a record", limits::SHEET_BYTES, 65_536),
-        ("bytes of a web head", limits::WEB_HEAD_BYTES, 8_192),
-        ("bytes of a web body", limits::WEB_BODY_BYTES, 65_536),
-        ("bound on diversions", limits::DIVERSIONS_DEFAULT.into(), 5),
-        ("most diversions", limits::DIVERSIONS_MOST.into(), 16),
-        (
-            "seconds to a reply",
-            limits::NO_REPLY_SECONDS_DEFAULT.into(),
-            20,
-        ),
-        ("least of them", limits::NO_REPLY_SECONDS_LEAST.into(), 5),
-        ("most of them", limits::NO_REPLY_SECONDS_MOST.into(), 180),
-        ("peers", limits::PEERS, 1_024),
-        ("routes", limits::ROUTES, 4_096),
-        ("accounts", limits::ACCOUNTS, 10_000),
-        ("identities of an account", limits::ACCOUNT_IDENTITIES, 8),
-    ];
-    for (what, is, promised) in rows {
-        assert_eq!(rt; is, promised, "{what}");
-    }
-}
+// The limits that the documents promise. The last moment stands in a contract.
+const _: () = prove!(limits::DATAGRAM_BYTES == 16_384);
+
+const _: () = prove!(limits::HEADER_LINES == 128);
+
+const _: () = prove!(limits::HISTORY_VALUES == 32);
+
+const _: () = prove!(limits::SERVER_TRANSACTIONS == 16_384);
+
+const _: () = prove!(limits::CALLS == 4_096);
+
+const _: () = prove!(limits::ROOMS == 1_024);
+
+const _: () = prove!(limits::SEATS == 32);
+
+const _: () = prove!(limits::RULES == 64);
+
+const _: () = prove!(limits::RULE_IDENTITIES == 64);
+
+const _: () = prove!(limits::TARGET_BYTES == 256);
+
+const _: () = prove!(limits::SHEET_BYTES == 65_536);
+
+const _: () = prove!(limits::WEB_HEAD_BYTES == 8_192);
+
+const _: () = prove!(limits::WEB_BODY_BYTES == 65_536);
+
+const _: () = prove!(limits::DIVERSIONS_DEFAULT == 5);
+
+const _: () = prove!(limits::DIVERSIONS_MOST == 16);
+
+const _: () = prove!(limits::NO_REPLY_SECONDS_DEFAULT == 20);
+
+const _: () = prove!(limits::NO_REPLY_SECONDS_LEAST == 5);
+
+const _: () = prove!(limits::NO_REPLY_SECONDS_MOST == 180);
+
+const _: () = prove!(limits::PEERS == 1_024);
+
+const _: () = prove!(limits::ROUTES == 4_096);
+
+const _: () = prove!(limits::ACCOUNTS == 10_000);
+
+const _: () = prove!(limits::ACCOUNT_IDENTITIES == 8);

@@ -2,6 +2,7 @@ pub mod Exact
 pub mod IdentityLaws
 pub mod NameAddrLaws
 pub mod ParamLaws
+pub mod ParamValues
 pub mod ParamsLoop
 pub mod PhoneLaws
 pub mod PrintLaws
@@ -9,3 +10,4 @@ pub mod SameIdentityLaws
 pub mod SipLaws
 pub mod UriContract
 pub mod UriLaws
+pub mod Visible

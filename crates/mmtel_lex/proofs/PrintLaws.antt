@@ -7,9 +7,11 @@ use Rattle.std.proofs.lemmas.Fmt.{decimal_is_IsNumeral}
 use Rattle.std.proofs.lemmas.Bool.Decides.{nat_tests}
 use Rattle.mmtel_scan.specs.Classes.{in_class}
 use Rattle.mmtel_scan.specs.Classes.{IsAll, IsOneOrMore, Stops}
-use Rattle.mmtel_lex.specs.Grammar.{IsPort, IsSip, IsTel, IsUri, IsSchemeName, port_text, uri_text, params_text, headers_text, AreParams, IsQuoted, IsWords, IsAngled, IsNameAddr, name_addr_text}
+use Rattle.mmtel_lex.specs.Grammar.{IsPort, IsSip, IsTel, IsUri, IsSchemeName, port_text, user_text, uri_text, params_text, headers_text, AreParams, IsQuoted, IsWords, IsAngled, IsNameAddr, name_addr_text}
 use Rattle.mmtel_scan.specs.Scanning.{IsFree}
 use Rattle.mmtel_scan.proofs.Runs.{and_true, wider}
+use Rattle.mmtel_scan.proofs.Trims.{all_append}
+use Rattle.mmtel_scan.specs.declared.classes.Class.{Class}
 use Rattle.std.specs.List.{list_all}
 use Rattle.std.proofs.lemmas.List.Folds.{list_all-append}
 use Rattle.mmtel_scan.specs.declared.classes.Class.TheVariants.{Digit, Blank, UriByte, BareByte}
@@ -62,6 +64,26 @@ lone_by host text p r is free =
     let inner = free_parts text r outer.1 in
     free_both host (port_text p ++ r) outer.0 (free_both (port_text p) r (port_free text p is) inner.1)
 
+digit_visible : (b : ℕ) → in_class Digit b ≡ true → in_class UriByte b ≡ true
+unfolding in_class
+digit_visible b e = grind (arith, nat_tests)
+
+port_visible : (text : List ℕ) (p : Option ℕ) → IsPort text p → IsAll UriByte (port_text p)
+unfolding in_class port_by
+port_visible text None is = refl
+port_visible text (Some n) is = wider Digit UriByte digit_visible (decimal n) (port_by text (Some n) is).2.writes.digits.each
+
+pub all_parts : (k : Class) (a b : List ℕ) → IsAll k (a ++ b) → IsAll k a × IsAll k b
+all_parts k a b all = and_true (list_all (in_class k) a) (list_all (in_class k) b) (rw list_all-append at all)
+
+-- the port may be spelled otherwise
+sip_visible : (user : Option (List ℕ)) (host text : List ℕ) (p : Option ℕ) (r : List ℕ) → IsPort text p → IsAll UriByte (user_text user ++ (host ++ (text ++ r))) → IsAll UriByte (user_text user ++ (host ++ (port_text p ++ r)))
+sip_visible user host text p r is all =
+    let front = all_parts UriByte (user_text user) (host ++ (text ++ r)) all in
+    let outer = all_parts UriByte host (text ++ r) front.1 in
+    let inner = all_parts UriByte text r outer.1 in
+    all_append UriByte (user_text user) (host ++ (port_text p ++ r)) front.0 (all_append UriByte host (port_text p ++ r) outer.0 (all_append UriByte (port_text p) r (port_visible text p is) inner.1))
+
 sip_name : IsSchemeName (codes "sip")
 unfolding in_class
 sip_name = (refl, refl)
@@ -78,7 +100,7 @@ printed_again s (Sip user host port params headers) is =
       rest = _;
       begins = record { whole = refl; name_in = sip_name };
       named = refl;
-      rest_in = record { port_text = port_text port; whole = refl; user_in = had.user_in; lone = lone_by host had.port_text port (params_text params ++ headers_text headers) had.port_in had.lone; host_in = had.host_in; host_fits = had.host_fits; port_in = port_by had.port_text port had.port_in; params_in = had.params_in; headers_in = had.headers_in };
+      rest_in = record { bytes_in = sip_visible user host had.port_text port (params_text params ++ headers_text headers) had.port_in (rw had.whole at had.bytes_in); port_text = port_text port; whole = refl; user_in = had.user_in; lone = lone_by host had.port_text port (params_text params ++ headers_text headers) had.port_in had.lone; host_in = had.host_in; host_fits = had.host_fits; port_in = port_by had.port_text port had.port_in; params_in = had.params_in; headers_in = had.headers_in };
     }
 printed_again s (Tel number params) is =
     let had : IsTel is.rest number params = is.rest_in in
@@ -87,7 +109,7 @@ printed_again s (Tel number params) is =
       rest = _;
       begins = record { whole = refl; name_in = tel_name };
       named = refl;
-      rest_in = record { whole = refl; number_in = had.number_in; params_in = had.params_in };
+      rest_in = record { bytes_in = rw had.whole at had.bytes_in; whole = refl; number_in = had.number_in; params_in = had.params_in };
     }
 
 pub reads_back : (r : Result Text NoMemory) (u : Uri) → IfOk r (λ t. t ≡ uri_text u) → (s : List ℕ) → IsUri s u → IfOk r (λ t. IsUri t u)

@@ -10,8 +10,8 @@ use Rattle.mmtel_scan.specs.Scanning.{run, after_run, after_byte, parted, IsFree
 use Rattle.mmtel_scan.specs.Classes.{IsAll, IsOneOrMore, Stops}
 use Rattle.mmtel_lex.specs.Grammar.{params_text, user_text, headers_text, IsPort, IsPortOf, IsSip, IsRest, IsNamed}
 use Rattle.mmtel_scan.specs.Chain.{◌>>=◌}
-use Rattle.mmtel_lex.specs.Reading.{user_at, user_from, host_at, port_of, port_number, port_from, port_at, headers_of, headers_from, headers_at, all_params_at, sip_of}
-use Rattle.mmtel_scan.specs.declared.classes.Class.TheVariants.{Digit, Token, Host, User}
+use Rattle.mmtel_lex.specs.Reading.{user_at, user_from, host_at, port_of, port_number, port_from, port_at, headers_of, headers_from, headers_at, all_params_at, sip_parts, sip_of}
+use Rattle.mmtel_scan.specs.declared.classes.Class.TheVariants.{Digit, Token, Host, User, UriByte}
 use Rattle.mmtel_scan.specs.declared.classes.Class.{Class}
 use Rattle.mmtel_lex.specs.declared.values.Param.{Param}
 use Rattle.mmtel_lex.specs.declared.values.Uri.{Uri}
@@ -19,8 +19,7 @@ use Rattle.mmtel_lex.specs.declared.values.Uri.TheVariants.{Sip}
 use Rattle.mmtel_scan.proofs.Runs.{parted_none, parted_takes, parted_free, parted_again, and_true, run_again, after_run_again, run_whole, run_each}
 use Rattle.mmtel_scan.specs.Numbers.{number_of}
 use Rattle.mmtel_scan.proofs.NumberLaws.{number_takes, number_again}
-use Rattle.mmtel_scan.proofs.ChainLaws.{guard_some}
-use Rattle.mmtel_scan.proofs.ChainLaws.{bind_some, unless_some, some_is, after_byte_whole, filled_by, filled_test, zero_by}
+use Rattle.mmtel_scan.proofs.ChainLaws.{guard_some, where_some, bind_some, unless_some, some_is, after_byte_whole, filled_by, filled_test, zero_by}
 use Rattle.mmtel_lex.proofs.ParamLaws.{EndsParam, all_params_takes, all_params_again}
 
 -- ---- the user
@@ -181,7 +180,8 @@ TakesSip s u = IsRest s u × ((name : List ℕ) → str_to_ascii_lowercase name 
 pub sip_takes : (s : List ℕ) (u : Uri) → sip_of s ≡ Some u → IsRest s u × ((name : List ℕ) → str_to_ascii_lowercase name ≡ codes "sip" → IsNamed name u)
 unfolding sip_of
 sip_takes s u e =
-    let a = bind_some (user_at s) (λ u. host_at u.1 >>= λ h. port_at h.1 >>= λ p. all_params_at p.1 >>= λ ps. headers_at ps.1 >>= λ hs. Some (Sip u.0 h.0 p.0 ps.0 hs)) u e in
+    let within = where_some (list_all (in_class UriByte) s) (sip_parts s) u e in
+    let a = bind_some (user_at s) (λ u. host_at u.1 >>= λ h. port_at h.1 >>= λ p. all_params_at p.1 >>= λ ps. headers_at ps.1 >>= λ hs. Some (Sip u.0 h.0 p.0 ps.0 hs)) u within.1 in
     let user : Option (List ℕ) × List ℕ = a.0 in
     let b = bind_some (host_at user.1) (λ h. port_at h.1 >>= λ p. all_params_at p.1 >>= λ ps. headers_at ps.1 >>= λ hs. Some (Sip user.0 h.0 p.0 ps.0 hs)) u a.2 in
     let h : List ℕ × List ℕ = b.0 in
@@ -197,7 +197,7 @@ sip_takes s u e =
     let has_params = all_params_takes p.1 ps f.1 in
     let has_headers = headers_takes ps.1 hs g.1 in
     let whole = chained s (user_text user.0) user.1 h.0 h.1 has_port.0 p.1 (params_text ps.0) ps.1 (headers_text hs) has_user.0 has_host.0 has_port.1 has_params.0 has_headers.0 in
-    let is : IsSip s user.0 h.0 p.0 ps.0 hs = record { port_text = has_port.0; whole = whole.0; user_in = has_user.1; lone = subst (λ (l : List ℕ). IsFree 64 l) whole.1 has_user.2; host_in = has_host.1; host_fits = has_host.2; port_in = has_port.2; params_in = has_params.1; headers_in = has_headers.1 } in
+    let is : IsSip s user.0 h.0 p.0 ps.0 hs = record { bytes_in = within.0; port_text = has_port.0; whole = whole.0; user_in = has_user.1; lone = subst (λ (l : List ℕ). IsFree 64 l) whole.1 has_user.2; host_in = has_host.1; host_fits = has_host.2; port_in = has_port.2; params_in = has_params.1; headers_in = has_headers.1 } in
     subst (λ (v : Uri). TakesSip s v) (some_is (Sip user.0 h.0 p.0 ps.0 hs) u g.2) (is, λ name n. n)
 
 -- ---- what is spelled so is read
@@ -257,4 +257,4 @@ sip_again s user host port params headers is =
     let four : all_params_at (params_text params ++ headers_text headers) ≡ Some (params, headers_text headers) =
     all_params_again params (headers_text headers) is.params_in (headers_end headers) (no_semicolon headers) in
     let five : headers_at (headers_text headers) ≡ Some headers = headers_again headers is.headers_in in
-    rw (one, two, three, four, five) refl
+    rw (is.bytes_in, one, two, three, four, five) refl

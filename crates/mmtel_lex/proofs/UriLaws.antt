@@ -12,8 +12,8 @@ use Rattle.mmtel_scan.specs.Scanning.{run, after_run, after_byte}
 use Rattle.mmtel_scan.specs.Classes.{IsAll, Stops}
 use Rattle.mmtel_lex.specs.Grammar.{params_text, IsTel, IsNumber, IsSchemeName, BeginsWith, IsNamed, IsRest, IsUri, IsForeign}
 use Rattle.mmtel_scan.specs.Chain.{◌>>=◌}
-use Rattle.mmtel_lex.specs.Reading.{all_params_at, sip_of, scheme_of, scheme_from, sign_of, sign_from, number_at, tel_of, at_end, Refusal, foreign, or_malformed, uri_from, uri_of, begins_with_letter}
-use Rattle.mmtel_scan.specs.declared.classes.Class.TheVariants.{Letter, Digit, Phone, SchemeRest}
+use Rattle.mmtel_lex.specs.Reading.{all_params_at, sip_of, scheme_of, scheme_from, sign_of, sign_from, number_at, tel_parts, tel_of, at_end, Refusal, foreign, or_malformed, uri_from, uri_of, begins_with_letter}
+use Rattle.mmtel_scan.specs.declared.classes.Class.TheVariants.{Letter, Digit, Phone, SchemeRest, UriByte}
 use Rattle.mmtel_lex.specs.declared.values.Param.{Param}
 use Rattle.mmtel_lex.specs.declared.values.Uri.{Uri}
 use Rattle.mmtel_lex.specs.declared.values.Uri.TheVariants.{Sip, Tel}
@@ -47,7 +47,7 @@ scheme_takes s x e =
     let g = where_some (begins_with_letter s) (scheme_from (run SchemeRest s) (after_byte 58 (after_run SchemeRest s))) x e in
     scheme_by s (after_byte 58 (after_run SchemeRest s)) x g.0 refl g.1
 
-name_all : (name : List ℕ) → IsSchemeName name → IsAll SchemeRest name
+pub name_all : (name : List ℕ) → IsSchemeName name → IsAll SchemeRest name
 unfolding in_class
 name_all [] is = absurd is
 name_all (b ∷ s) is = rw (is.0, is.1) refl
@@ -111,7 +111,8 @@ TakesTel s u = IsRest s u × ((name : List ℕ) → str_to_ascii_lowercase name 
 pub tel_takes : (s : List ℕ) (u : Uri) → tel_of s ≡ Some u → IsRest s u × ((name : List ℕ) → str_to_ascii_lowercase name ≡ codes "tel" → IsNamed name u)
 unfolding tel_of
 tel_takes s u e =
-    let b = bind_some (number_at s) (λ n. all_params_at n.1 >>= λ ps. at_end (Tel n.0 ps.0) ps.1) u e in
+    let within = where_some (list_all (in_class UriByte) s) (tel_parts s) u e in
+    let b = bind_some (number_at s) (λ n. all_params_at n.1 >>= λ ps. at_end (Tel n.0 ps.0) ps.1) u within.1 in
     let n : List ℕ × List ℕ = b.0 in
     let d = bind_some (all_params_at n.1) (λ ps. at_end (Tel n.0 ps.0) ps.1) u b.2 in
     let ps : List Param × List ℕ = d.0 in
@@ -119,7 +120,7 @@ tel_takes s u e =
     let has_number = number_takes s n b.1 in
     let has_params = all_params_takes n.1 ps d.1 in
     let rest : n.1 ≡ params_text ps.0 = has_params.0 ∙ ap (λ (l : List ℕ). params_text ps.0 ++ l) done.0 ∙ append-nil (params_text ps.0) in
-    let is : IsTel s n.0 ps.0 = record { whole = has_number.0 ∙ ap (λ (l : List ℕ). n.0 ++ l) rest; number_in = has_number.1; params_in = has_params.1 } in
+    let is : IsTel s n.0 ps.0 = record { bytes_in = within.0; whole = has_number.0 ∙ ap (λ (l : List ℕ). n.0 ++ l) rest; number_in = has_number.1; params_in = has_params.1 } in
     subst (λ (v : Uri). TakesTel s v) done.1 (is, λ name n. n)
 
 phone_stops : (ps : List Param) → Stops Phone (params_text ps)
@@ -132,7 +133,7 @@ unfolding tel_of
 tel_again s number params is =
     let one : number_at (number ++ params_text params) ≡ Some (number, params_text params) = number_again number (params_text params) is.number_in (phone_stops params) in
     let three : all_params_at (params_text params) ≡ Some (params, []) = all_params_alone params is.params_in in
-    rw (is.whole, one, three) refl
+    rw (is.bytes_in, is.whole, one, three) refl
 
 -- ---- the whole
 

@@ -79,8 +79,9 @@ abbrev pub IsPort : List ℕ → Option ℕ → Type 0
 IsPort text None = text ≡ []
 IsPort text (Some port) = (digits : List ℕ) × (text ≡ 58 ∷ digits) × IsPortOf digits port
 
--- what may stand behind 'sip:': a user and '@', where there is a user, the host, a port, parameters and the header part; the '@' behind the user is the only one
+-- what may stand behind 'sip:': a user and '@', where there is a user, the host, a port, parameters and the header part; the '@' behind the user is the only one. No byte is a blank, a control, a quote or an angle bracket: no value of a parameter is a quoted string here (uri-parameter)
 pub record IsSip (s : List ℕ) (user : Option (List ℕ)) (host : List ℕ) (port : Option ℕ) (params : List Param) (headers : List ℕ) : Type 0 where
+  pub bytes_in : IsAll UriByte s
   pub port_text : List ℕ
   pub whole : s ≡ user_text user ++ (host ++ (port_text ++ (params_text params ++ headers_text headers)))
   pub user_in : IfSome user (IsOneOrMore User)
@@ -100,8 +101,9 @@ pub record IsNumber (number : List ℕ) : Type 0 where
   pub marks_in : IsAll Phone marks
   pub digit_in : list_any is_digit marks ≡ true
 
--- what may stand behind 'tel:': a number and parameters
+-- what may stand behind 'tel:': a number and parameters, of the same bytes as behind 'sip:'
 pub record IsTel (s : List ℕ) (number : List ℕ) (params : List Param) : Type 0 where
+  pub bytes_in : IsAll UriByte s
   pub whole : s ≡ number ++ params_text params
   pub number_in : IsNumber number
   pub params_in : AreParams params

@@ -1,12 +1,12 @@
 -- Which URIs name one identity: two sip URIs by user and host, two tel URIs by their numbers without visual separators (RFC 3966 §3 and §4), a sip and a tel URI where the sip URI stands for the number (RFC 3261 §19.1.6).
-use Rattle.std.specs.Prelude.{◌≡◌, ℕ, Bool, true, false, not, ◌&&◌, ◌==◌, ◌||◌, List, ◌∷◌, Option, Some, None, codes, filter}
-use Rattle.std.specs.List.{list_any}
-use Rattle.std.specs.Str.{str_to_ascii_lowercase, str_eq_ignore_ascii_case, bytes_eq}
+use Rattle.std.specs.Prelude.{◌≡◌, ℕ, Bool, true, false, not, ◌==◌, ◌||◌, List, ◌∷◌, Option, Some, None, codes, filter}
+use Rattle.std.specs.Str.{str_to_ascii_lowercase, bytes_eq}
 use Rattle.mmtel_scan.specs.Classes.{IsAll}
 use Rattle.mmtel_scan.specs.declared.classes.Class.TheVariants.{Digit}
 use Rattle.mmtel_lex.specs.declared.values.Param.{Param}
 use Rattle.mmtel_lex.specs.declared.values.Uri.{Uri}
 use Rattle.mmtel_lex.specs.declared.values.Uri.TheVariants.{Sip, Tel}
+use Rattle.mmtel_lex.specs.Params.{param_value}
 
 -- a visual separator: '-', '.', '(' or ')' (RFC 3966 §3)
 abbrev pub is_mark : ℕ → Bool
@@ -21,13 +21,9 @@ abbrev pub is_phone_value : Option (List ℕ) → Bool
 is_phone_value None = false
 is_phone_value (Some value) = bytes_eq value (codes "phone")
 
--- the parameter user=phone, its name in any case (RFC 3261 §19.1.1)
-abbrev pub is_user_phone : Param → Bool
-is_user_phone p = is_phone_value p.value && str_eq_ignore_ascii_case p.name (codes "user")
-
--- one of the parameters is user=phone
+-- the first parameter 'user', its name in any case, says 'phone' (RFC 3261 §19.1.1)
 abbrev pub has_user_phone : List Param → Bool
-has_user_phone params = list_any is_user_phone params
+has_user_phone params = is_phone_value (param_value (codes "user") params)
 
 -- a sip URI with this user and these parameters stands for the telephone number: its user is '+' and digits, and is the number
 abbrev pub IsPhone : Option (List ℕ) → List Param → List ℕ → Type 0

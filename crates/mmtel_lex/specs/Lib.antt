@@ -1,5 +1,8 @@
+-- What the clauses of public calls cite: the grammar, identity, answers, and what parameters say.
 pub mod Grammar
 pub mod Identity
 pub mod Outcome
+pub mod Params
+-- What they cite as functions that compute, which laws tie to the grammar and to identity. Of Reading the parts of a URI and of a name-addr (user_at to headers_at, scheme_of, number_at, angle_of to quoted_of) serve private functions alone.
 pub mod Reading
 pub mod SameIdentity

@@ -118,15 +118,19 @@ headers_from (Some t) s = headers_of t
 unfoldable pub headers_at : List ℕ → Option (List ℕ)
 headers_at s = headers_from (after_byte 63 s) s
 
--- all of the bytes behind 'sip:'
-unfoldable pub sip_of : List ℕ → Option Uri
-sip_of s = do
+-- the parts behind 'sip:', one behind the other
+abbrev pub sip_parts : List ℕ → Option Uri
+sip_parts s = do
   u ← user_at s
   h ← host_at u.1
   p ← port_at h.1
   ps ← all_params_at p.1
   hs ← headers_at ps.1
   Some (Sip u.0 h.0 p.0 ps.0 hs)
+
+-- all of the bytes behind 'sip:', each of which is one of a URI
+unfoldable pub sip_of : List ℕ → Option Uri
+sip_of s = if list_all (in_class UriByte) s then sip_parts s else None
 
 -- ---- schemes
 
@@ -152,12 +156,16 @@ sign_of s = sign_from (after_byte 43 s) s
 unfoldable pub number_at : List ℕ → Option (List ℕ × List ℕ)
 number_at s = if list_any (in_class Digit) (run Phone (sign_of s).1) then Some ((sign_of s).0 ++ run Phone (sign_of s).1, after_run Phone (sign_of s).1) else None
 
--- all of the bytes behind 'tel:'
-unfoldable pub tel_of : List ℕ → Option Uri
-tel_of s = do
+-- the parts behind 'tel:', one behind the other
+abbrev pub tel_parts : List ℕ → Option Uri
+tel_parts s = do
   n ← number_at s
   ps ← all_params_at n.1
   at_end (Tel n.0 ps.0) ps.1
+
+-- all of the bytes behind 'tel:', each of which is one of a URI
+unfoldable pub tel_of : List ℕ → Option Uri
+tel_of s = if list_all (in_class UriByte) s then tel_parts s else None
 
 pub data Refusal : Type 0 where
   malformed : Refusal

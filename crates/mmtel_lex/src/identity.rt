@@ -4,9 +4,10 @@ ghost use Rattle.std.specs.Option.{option_copied};
 ghost use Rattle.std.specs.Str.{str_to_ascii_lowercase};
 ghost use Rattle.mmtel_scan.specs.Classes.{IsAll};
 ghost use Rattle.mmtel_scan.specs.declared.classes.Class.TheVariants.{Digit};
-ghost use Rattle.mmtel_lex.specs.Identity.{is_mark, reduced, is_user_phone, has_user_phone, IsPhone, IsSameIdentity, host_of};
+ghost use Rattle.mmtel_lex.specs.Identity.{is_mark, reduced, has_user_phone, IsPhone, IsSameIdentity, host_of};
 ghost use Rattle.mmtel_lex.specs.SameIdentity.{is_same_identity};
 
+use crate::params::param_value;
 use crate::values::{Param, Params, Uri};
 use mmtel_scan::{Class, Text, is_all};
 
@@ -80,21 +81,13 @@ fn same_host(a: &[u8], b: &[u8]) -> bool
     a.eq_ignore_ascii_case(b)
 }
 
-fn is_user_phone(param: &Param) -> bool
-    ensures { result ≡ is_user_phone param.now }
-{
-    match &param.value {
-        None => false,
-        Some(value) => {
-            value.bytes() == b"phone".as_slice() && param.name.bytes().eq_ignore_ascii_case(b"user")
-        }
-    }
-}
-
 fn has_user_phone(params: &[Param]) -> bool
     ensures { result ≡ has_user_phone params.now }
 {
-    params.iter().any(|param| is_user_phone(param))
+    match param_value(params, b"user") {
+        None => false,
+        Some(value) => value == b"phone".as_slice(),
+    }
 }
 
 fn is_plus_digits(bytes: &[u8]) -> bool
@@ -154,7 +147,7 @@ fn are_same(a: &Uri, b: &Uri) -> bool
 
 /// Whether the URIs are of one identity. It takes no memory.
 ///
-/// Two sip URIs are where their users are equal byte for byte and their hosts without case. Two tel URIs are where their numbers are equal without visual separators. A sip and a tel URI are where the sip URI's user is `+` and digits, one of its parameters is `user=phone`, and its user is the number without visual separators.
+/// Two sip URIs are where their users are equal byte for byte and their hosts without case. Two tel URIs are where their numbers are equal without visual separators. A sip and a tel URI are where the sip URI's user is `+` and digits, its first parameter `user` says `phone`, and its user is the number without visual separators.
 pub fn same_identity(a: &Uri, b: &Uri) -> bool
     ensures relation { IsTrue result ↔ IsSameIdentity a.now b.now }
     ensures tested { result ≡ is_same_identity a.now b.now }

@@ -1,7 +1,9 @@
 //! Laws of the definitions that the readers' contracts cite: each is the contract of a function that does nothing.
 ghost use Rattle.std.specs.Prelude.{◌≡◌, ◌↔◌, ℕ, List, Option, true};
 ghost use Rattle.std.specs.Str.{str_to_ascii_lowercase};
-ghost use Rattle.mmtel_lex.specs.Grammar.{IsParams, IsUri, IsForeign, IsNameAddr};
+ghost use Rattle.mmtel_scan.specs.Classes.{IsAll};
+ghost use Rattle.mmtel_scan.specs.declared.classes.Class.TheVariants.{UriByte};
+ghost use Rattle.mmtel_lex.specs.Grammar.{IsParams, IsUri, uri_text, IsForeign, IsNameAddr};
 ghost use Rattle.mmtel_lex.specs.Identity.{reduced, has_user_phone, IsSameIdentity};
 ghost use Rattle.mmtel_lex.specs.SameIdentity.{is_same_identity};
 ghost use Rattle.mmtel_lex.specs.declared.values.NameAddr.{NameAddr};
@@ -18,6 +20,12 @@ pub fn params_are_unique()
 pub fn uris_are_unique()
     ensures one { (s : List ℕ) (u v : Uri) → IsUri s u → IsUri s v → u ≡ v }
     ensures not_foreign { (s : List ℕ) (u : Uri) → IsUri s u → IsForeign s → ⊥ }
+{}
+
+/// A URI has visible bytes alone, and of these no quote and no angle bracket, as it was read and as it is printed: so nobody puts a line, a blank or a quoted string into a message by one.
+pub fn uris_are_visible()
+    ensures text { (s : List ℕ) (u : Uri) → IsUri s u → IsAll UriByte s }
+    ensures printed { (s : List ℕ) (u : Uri) → IsUri s u → IsAll UriByte (uri_text u) }
 {}
 
 /// One list of bytes spells one name-addr at most.
@@ -46,7 +54,7 @@ pub fn tel_identity_is_number()
     ensures same { (number number2 other : List ℕ) (params params2 other_params : List Param) → reduced number ≡ reduced number2 → IsSameIdentity (Tel number params) (Tel other other_params) ↔ IsSameIdentity (Tel number2 params2) (Tel other other_params) }
 {}
 
-/// Between a sip and a tel URI only the user of the sip URI counts, whether one of its parameters is `user=phone`, and the digits of the tel URI.
+/// Between a sip and a tel URI only the user of the sip URI counts, whether its first parameter `user` says `phone`, and the digits of the tel URI.
 pub fn phone_identity_is_user_and_number()
     ensures same { (user : Option (List ℕ)) (host host2 number number2 : List ℕ) (port port2 : Option ℕ) (params params2 tel_params tel_params2 : List Param) (headers headers2 : List ℕ) → has_user_phone params ≡ has_user_phone params2 → reduced number ≡ reduced number2 → IsSameIdentity (Sip user host port params headers) (Tel number tel_params) ↔ IsSameIdentity (Sip user host2 port2 params2 headers2) (Tel number2 tel_params2) }
 {}

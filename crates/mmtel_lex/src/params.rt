@@ -1,8 +1,10 @@
 //! Parameters and their parts (RFC 3261 §25.1).
 ghost use Rattle.std.specs.Prelude.{◌≡◌, ◌≤◌, ◌⊎◌, ℕ, List, length, IfOk, IfErr, Err};
-ghost use Rattle.std.specs.Option.{option_map};
+ghost use Rattle.std.specs.Option.{option_copied, option_map};
+ghost use Rattle.std.specs.Str.{str_eq_ignore_ascii_case};
 ghost use Rattle.mmtel_lex.specs.Reading.{Gives, token_at, text_at, value_at, param_at, all_params_at, params_of};
 ghost use Rattle.mmtel_lex.specs.Grammar.{IsParams};
+ghost use Rattle.mmtel_lex.specs.Params.{param_value};
 ghost use Rattle.mmtel_lex.specs.Outcome.{IsReadUnlessMemory, IsMalformed, IsPlaceIn};
 
 use crate::faults::LexFault;
@@ -93,6 +95,33 @@ pub fn params_front(alloc: Global, bytes: &[u8]) -> Result<(Params, &[u8]), LexF
         rest = after;
     }
     Ok((params, rest))
+}
+
+fn is_named(param: &Param, name: &[u8]) -> bool
+    ensures { result ≡ str_eq_ignore_ascii_case param.now.name name.now }
+{
+    param.name.bytes().eq_ignore_ascii_case(name)
+}
+
+fn value_bytes(value: &Option<Text>) -> Option<&[u8]>
+    ensures { option_copied result ≡ value.now }
+{
+    match value {
+        Some(value) => Some(value.bytes()),
+        None => None,
+    }
+}
+
+/// The value of the first parameter of the name, which is compared without case (RFC 3261 §7.3.1); None where there is none of that name, or the first has no value. It takes no memory.
+pub fn param_value<'a>(params: &'a [Param], name: &[u8]) -> Option<&'a [u8]>
+    ensures { option_copied result ≡ param_value name.now params.now }
+{
+    for param in params {
+        if is_named(param, name) {
+            return value_bytes(&param.value);
+        }
+    }
+    None
 }
 
 /// All of the bytes as parameters.

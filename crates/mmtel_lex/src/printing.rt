@@ -2,7 +2,7 @@
 ghost use Rattle.std.specs.Prelude.{◌≡◌, ◌++◌, ◌∷◌, [], List, ℕ, OnOk, IfOk, decimal};
 ghost use Rattle.mmtel_lex.specs.Grammar.{value_text, param_text, params_text, user_text, headers_text, port_text, uri_text, IsUri, display_text, name_addr_text, IsNameAddr};
 
-use crate::values::{NameAddr, Param, Params, Uri};
+use crate::values::{NameAddr, Param, Uri};
 use mmtel_scan::{NoMemory, Text};
 use std::alloc::Global;
 
@@ -26,10 +26,15 @@ fn add_param(alloc: Global, out: &mut Text, param: &Param) -> Result<(), NoMemor
     add_value(alloc, out, &param.value)
 }
 
-fn add_params(alloc: Global, out: &mut Text, params: &Params) -> Result<(), NoMemory>
-    ensures { OnOk result (out.new ≡ out.old ++ params_text params.now) }
+/// Writes the text of parameters, each behind its `;`, behind the text.
+///
+/// # Errors
+///
+/// Want of memory alone; what was added by then stays.
+pub fn add_params(alloc: Global, out: &mut Text, params: &[Param]) -> Result<(), NoMemory>
+    ensures text { OnOk result (out.new ≡ out.old ++ params_text params.now) }
 {
-    for param in params.items() {
+    for param in params {
         add_param(alloc, out, param)?;
     }
     Ok(())
@@ -88,14 +93,14 @@ fn printed(alloc: Global, uri: &Uri) -> Result<Text, NoMemory>
             add_user(alloc, &mut out, user)?;
             out.push(alloc, host.bytes())?;
             add_port(alloc, &mut out, *port)?;
-            add_params(alloc, &mut out, params)?;
+            add_params(alloc, &mut out, params.items())?;
             add_headers(alloc, &mut out, headers)?;
             Ok(out)
         }
         Uri::Tel { number, params } => {
             let mut out = Text::of(alloc, b"tel:")?;
             out.push(alloc, number.bytes())?;
-            add_params(alloc, &mut out, params)?;
+            add_params(alloc, &mut out, params.items())?;
             Ok(out)
         }
     }
@@ -141,7 +146,7 @@ fn printed_name_addr(alloc: Global, name_addr: &NameAddr) -> Result<Text, NoMemo
     let mut out = Text::new();
     add_display(alloc, &mut out, &name_addr.display)?;
     add_angled(alloc, &mut out, &name_addr.uri)?;
-    add_params(alloc, &mut out, &name_addr.params)?;
+    add_params(alloc, &mut out, name_addr.params.items())?;
     Ok(out)
 }
 

@@ -7,7 +7,7 @@ ghost use Rattle.std.specs.Str.Parse.{digits_value};
 ghost use Rattle.mmtel_scan.specs.Classes.{IsAll};
 ghost use Rattle.mmtel_lex.specs.Grammar.{IsUri, IsForeign, IsNoUri};
 ghost use Rattle.mmtel_lex.specs.Outcome.{IsUnlessMemory, IsMalformedUri, IsOfBytes, IsUriPlaceIn};
-ghost use Rattle.mmtel_lex.specs.Reading.{Gives, user_at, host_at, port_number, port_at, headers_at, headers_of, sip_of, scheme_of, sign_of, number_at, tel_of, uri_of, Answers, Places};
+ghost use Rattle.mmtel_lex.specs.Reading.{Gives, user_at, host_at, port_number, port_at, headers_at, headers_of, sip_parts, sip_of, scheme_of, sign_of, number_at, tel_parts, tel_of, uri_of, Answers, Places};
 ghost use Rattle.std.specs.Str.{str_eq_ignore_ascii_case};
 ghost use Rattle.std.specs.Option.{option_map};
 ghost use Rattle.mmtel_scan.specs.declared.classes.Class.TheVariants.{Digit};
@@ -130,10 +130,9 @@ fn owned(alloc: Global, bytes: Option<&[u8]>) -> Result<Option<Text>, LexFault>
     }
 }
 
-/// All of the bytes behind `sip:`.
-#[tactic(auto, unfolding(crate::specs::Reading::sip_of))]
-fn sip(alloc: Global, bytes: &[u8]) -> Result<Uri, LexFault>
-    ensures { Gives (λ x. x) result (sip_of bytes.now) }
+/// The parts behind `sip:`, one behind the other.
+fn sip_parts(alloc: Global, bytes: &[u8]) -> Result<Uri, LexFault>
+    ensures { Gives (λ x. x) result (sip_parts bytes.now) }
 {
     let (user, rest) = user(bytes)?;
     let (host, rest) = host(alloc, rest)?;
@@ -148,6 +147,18 @@ fn sip(alloc: Global, bytes: &[u8]) -> Result<Uri, LexFault>
         params,
         headers,
     })
+}
+
+/// All of the bytes behind `sip:`, each of which is one of a URI.
+#[tactic(auto, unfolding(crate::specs::Reading::sip_of))]
+fn sip(alloc: Global, bytes: &[u8]) -> Result<Uri, LexFault>
+    ensures { Gives (λ x. x) result (sip_of bytes.now) }
+{
+    if is_all(Class::UriByte, bytes) {
+        sip_parts(alloc, bytes)
+    } else {
+        Err(LexFault::Malformed { at: bytes.len() })
+    }
 }
 
 /// The name of a scheme and what follows its `:`.
@@ -201,10 +212,9 @@ fn phone(alloc: Global, bytes: &[u8]) -> Result<(Text, &[u8]), LexFault>
     Ok((number, rest))
 }
 
-/// All of the bytes behind `tel:`.
-#[tactic(auto, unfolding(crate::specs::Reading::tel_of))]
-fn tel(alloc: Global, bytes: &[u8]) -> Result<Uri, LexFault>
-    ensures { Gives (λ x. x) result (tel_of bytes.now) }
+/// The parts behind `tel:`, one behind the other.
+fn tel_parts(alloc: Global, bytes: &[u8]) -> Result<Uri, LexFault>
+    ensures { Gives (λ x. x) result (tel_parts bytes.now) }
 {
     let (number, rest) = phone(alloc, bytes)?;
     let (params, rest) = params_front(alloc, rest)?;
@@ -212,6 +222,18 @@ fn tel(alloc: Global, bytes: &[u8]) -> Result<Uri, LexFault>
         Ok(Uri::Tel { number, params })
     } else {
         Err(LexFault::Malformed { at: rest.len() })
+    }
+}
+
+/// All of the bytes behind `tel:`, each of which is one of a URI.
+#[tactic(auto, unfolding(crate::specs::Reading::tel_of))]
+fn tel(alloc: Global, bytes: &[u8]) -> Result<Uri, LexFault>
+    ensures { Gives (λ x. x) result (tel_of bytes.now) }
+{
+    if is_all(Class::UriByte, bytes) {
+        tel_parts(alloc, bytes)
+    } else {
+        Err(LexFault::Malformed { at: bytes.len() })
     }
 }
 

@@ -7,7 +7,7 @@ use mmtel_scan::{List, Text};
 pub struct Param {
     /// A token, as it was written.
     pub name: Text,
-    /// A token or a quoted string, its quotes included.
+    /// A token, or a quoted string with its quotes, which no URI has.
     pub value: Option<Text>,
 }
 

@@ -19,7 +19,7 @@ use Rattle.mmtel_waiting.specs.Waiting.{is_busy}
 use Rattle.mmtel_barring.specs.Barring.{rules_of}
 use Rattle.mmtel_precedence.specs.Services.{Circumstances, Account, Due, Says, Nothing, Refuses, Diverts, refuses_if, diverts_by, first_said, due_of, due_on, rejects_anonymous, bars_incoming, services_on_arrival}
 use Rattle.mmtel_precedence.specs.Calls.{refused_at_once, End, Answer, Cancel, UserBusy, NotReachable, NoReply, Deflection, Other, Ended, Reach, Call, Target, Final, Outcome, last_reached, then_reached, refusal_at_opening}
-use Rattle.mmtel_precedence.specs.Targets.{Next, Rests, IsDue, of_caller, said_on_arrival, due_at, is_refused, diverted_or, next_on, next_at, next_after, target_at, new_target, offer_by}
+use Rattle.mmtel_precedence.specs.Targets.{Next, Rests, IsDue, of_caller, said_on_arrival, due_at, diverted_or, next_on, next_at, next_after, target_at, new_target, offer_by}
 use Rattle.mmtel_precedence.specs.Outcome.{outcome_from, outcome}
 use Rattle.mmtel_precedence.specs.Laws.{diversion_rules, AnswerAlikeTo, AlikeCallersFareAlike}
 use Rattle.mmtel_precedence.proofs.Accounts.{account_says}

@@ -9,7 +9,7 @@ use Rattle.mmtel_types.specs.declared.causes.Cause.TheVariants as causes
 use Rattle.mmtel_lex.specs.declared.values.Uri.{Uri}
 use Rattle.mmtel_precedence.specs.Services.{Circumstances, Account, Due, Says, Nothing, Refuses, Diverts, refuses_if, diverts_by, first_said, services_on_arrival}
 use Rattle.mmtel_precedence.specs.Calls.{refused_at_once, End, Answer, Cancel, UserBusy, NotReachable, NoReply, Deflection, Other, Ended, Reach, Call, Target, Result, Final, Outcome, last_reached, then_reached, refusal_at_opening}
-use Rattle.mmtel_precedence.specs.Targets.{diverted, Next, Rests, IsDue, of_caller, said_on_arrival, is_refused, diverted_or, next_on, next_at, next_after, target_at, new_target}
+use Rattle.mmtel_precedence.specs.Targets.{Next, Rests, IsDue, of_caller, said_on_arrival, is_refused, diverted_or, next_on, next_at, next_after, target_at, new_target}
 use Rattle.mmtel_precedence.specs.Outcome.{outcome_from, outcome}
 use Rattle.mmtel_precedence.specs.Laws.{is_diverted_to, diversions_made, StaysWithinBound, Passed, passed_by, passed_from, IsOpened, IsBoundExact}
 use Rattle.mmtel_precedence.proofs.Accounts.{account_says}

@@ -1,5 +1,5 @@
 -- What the definitions of precedence come to, in the subject's words.
-use Rattle.std.specs.Prelude.{◌≡◌, ◌↔◌, ◌≤◌, ◌<◌, ℕ, zero, suc, ◌+◌, ◌-◌, ◌==◌, max, Bool, true, false, if◌then◌else◌, List, [], Option, Some, None, is_some, IsSome, count_by, option_and_then}
+use Rattle.std.specs.Prelude.{◌≡◌, ◌↔◌, ◌≤◌, ◌<◌, ℕ, zero, suc, ◌+◌, ◌-◌, ◌==◌, max, Bool, true, false, List, [], Option, Some, None, is_some, IsSome, count_by, option_and_then}
 use Rattle.mmtel_types.specs.declared.causes.Cause.TheVariants as causes
 use Rattle.mmtel_lex.specs.declared.values.Uri.{Uri}
 use Rattle.mmtel_sheet_values.specs.declared.values.DiversionPart.{DiversionPart}

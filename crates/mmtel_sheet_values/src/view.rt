@@ -36,7 +36,7 @@ impl Model for SheetView {
 impl SheetView {
     /// The view in which no account has a sheet, and each is registered. It takes no memory.
     pub fn new(alloc: Global) -> SheetView
-        ensures { result ≡ nothing_in_force }
+        ensures empty { result ≡ nothing_in_force }
     {
         SheetView {
             sheets: BTreeMap::new(alloc),

@@ -1,17 +1,22 @@
 -- A target without a served account is as one of an account with an empty record, registered and in no call.
 use Rattle.std.proofs.Common.{◌≡◌, ℕ, Bool, true, List, [], ◌∷◌, ◌++◌, refl}
 use Rattle.std.specs.Prelude.{Option, Some, None, unwrap_or, nat_lt}
-use Rattle.std.specs.Option.{option_map}
+use Rattle.std.specs.Option.{option_map, option_map_or}
 use Rattle.mmtel_lex.specs.declared.values.Uri.{Uri}
 use Rattle.mmtel_sheet_values.specs.Sheets.{empty_sheet}
 use Rattle.mmtel_rules.specs.declared.values.When.{When}
 use Rattle.mmtel_diversion.specs.Diversion.{deflection_of}
 use Rattle.mmtel_precedence.specs.Services.{Circumstances, Account, Due, Says, Nothing, Refuses, Diverts, first_said, due_on, bars_outgoing, services_on_arrival}
-use Rattle.mmtel_precedence.specs.Outcome.{Call, account_says, is_waiting, due_at, deflected_to, deflection_at, is_refused, of_target, new_target}
+use Rattle.mmtel_precedence.specs.Calls.{Call}
+use Rattle.mmtel_precedence.specs.Targets.{is_waiting, due_at, deflected_to, deflection_at, is_refused, of_target, new_target}
 
 -- the account with an empty record
 abbrev pub nobody : Account
 nobody = record { sheet = empty_sheet; registered = true; live = 0 }
+
+-- the services of the account that is served; none where no account is
+abbrev pub account_says : Circumstances → Option Account → List Says
+account_says c served = option_map_or (services_on_arrival c) served []
 
 -- what was said first, then what is said later
 abbrev pub then_said : Says → Says → Says

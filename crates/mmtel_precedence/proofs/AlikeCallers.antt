@@ -1,7 +1,7 @@
 -- Callers that answer alike: the outcome sees the answers alone.
 use Rattle.std.proofs.Common.{◌≡◌, ℕ, zero, suc, ◌+◌, ◌-◌, ◌==◌, Bool, List, [], ◌∷◌, ◌++◌, refl, ap, ◌∙◌}
 use Rattle.std.specs.Prelude.{Option, Some, None, not, option_and_then, slice_get, if◌then◌else◌}
-use Rattle.std.specs.Option.{option_map}
+use Rattle.std.specs.Option.{option_map, option_map_or}
 use Rattle.mmtel_types.specs.declared.causes.Cause.{Cause}
 use Rattle.mmtel_types.specs.declared.causes.Cause.TheVariants as causes
 use Rattle.mmtel_lex.specs.declared.values.Uri.{Uri}
@@ -18,8 +18,12 @@ use Rattle.mmtel_diversion.specs.Diversion.{diversion_among, diversion_by}
 use Rattle.mmtel_waiting.specs.Waiting.{is_busy}
 use Rattle.mmtel_barring.specs.Barring.{rules_of}
 use Rattle.mmtel_precedence.specs.Services.{Circumstances, Account, Due, Says, Nothing, Refuses, Diverts, refuses_if, diverts_by, first_said, due_of, due_on, rejects_anonymous, bars_incoming, services_on_arrival}
-use Rattle.mmtel_precedence.specs.Outcome.{End, Answer, Cancel, UserBusy, NotReachable, NoReply, Deflection, Other, Ended, Reach, Call, Target, Final, Outcome, Next, Rests, IsDue, of_caller, account_says, said_on_arrival, due_at, is_refused, diverted_or, next_on, next_after_offer, next_at, next_after, last_reached, then_reached, from_target, target_at, new_target, offer_by, refusal_at_opening, outcome_after, outcome_from, outcome}
+use Rattle.mmtel_precedence.specs.Calls.{refused_at_once, End, Answer, Cancel, UserBusy, NotReachable, NoReply, Deflection, Other, Ended, Reach, Call, Target, Final, Outcome, last_reached, then_reached, refusal_at_opening}
+use Rattle.mmtel_precedence.specs.Targets.{Next, Rests, IsDue, of_caller, said_on_arrival, due_at, diverted_or, next_on, next_at, next_after, target_at, new_target, offer_by}
+use Rattle.mmtel_precedence.specs.Outcome.{outcome_from, outcome}
 use Rattle.mmtel_precedence.specs.Laws.{diversion_rules, AnswerAlikeTo, AlikeCallersFareAlike}
+use Rattle.mmtel_precedence.proofs.Accounts.{account_says}
+use Rattle.mmtel_precedence.proofs.Nexts.{from_next}
 
 -- what the crates below say of callers that answer alike
 abbrev pub FirstIsSame : Type 0
@@ -84,22 +88,19 @@ due_at-alike : FirstIsSame → (asks asks2 : Who → Bool) (c : Circumstances) (
 due_at-alike first asks asks2 c when None h = refl
 due_at-alike first asks asks2 c when (Some account) h = due_on-alike first asks asks2 c when account.sheet h
 
-next_on-alike : FirstIsSame → (asks asks2 : Who → Bool) (c : Circumstances) (served : Option Account) (how : End) (later : List Ended) → AlikeAt asks asks2 served → next_on (asked c asks) served how later ≡ next_on (asked c asks2) served how later
-next_on-alike first asks asks2 c served Answer later h = refl
-next_on-alike first asks asks2 c served Cancel later h = refl
-next_on-alike first asks asks2 c served (UserBusy code) later h = ap (λ due. diverted_or due (causes.Relayed code) c.now later) (due_at-alike first asks asks2 c event.Busy served h)
-next_on-alike first asks asks2 c served (NotReachable code) later h = ap (λ due. diverted_or due (causes.Unreachable code) c.now later) (due_at-alike first asks asks2 c event.NotReachable served h)
-next_on-alike first asks asks2 c served NoReply later h = ap (λ due. diverted_or due causes.NoReply c.now later) (due_at-alike first asks asks2 c event.NoAnswer served h)
-next_on-alike first asks asks2 c served (Deflection target rang) later h = refl
-next_on-alike first asks asks2 c served (Other code) later h = refl
-
-after_offer-alike : FirstIsSame → (asks asks2 : Who → Bool) (call : Call) (reach : Reach) (endings : List Ended) → AlikeAt asks asks2 reach.served → next_after_offer (asking call asks) reach endings ≡ next_after_offer (asking call asks2) reach endings
-after_offer-alike first asks asks2 call reach [] h = refl
-after_offer-alike first asks asks2 call reach (ended ∷ later) h = next_on-alike first asks asks2 (of_caller call ended.at) reach.served ended.how later h
+next_on-alike : FirstIsSame → (asks asks2 : Who → Bool) (call : Call) (served : Option Account) (now : ℕ) (how : End) (later : List Ended) → AlikeAt asks asks2 served → next_on (asking call asks) served now how later ≡ next_on (asking call asks2) served now how later
+next_on-alike first asks asks2 call served now Answer later h = refl
+next_on-alike first asks asks2 call served now Cancel later h = refl
+next_on-alike first asks asks2 call served now (UserBusy code) later h = ap (λ due. diverted_or call served now due (causes.Relayed code) later) (due_at-alike first asks asks2 (of_caller call now) event.Busy served h)
+next_on-alike first asks asks2 call served now (NotReachable code) later h = ap (λ due. diverted_or call served now due (causes.Unreachable code) later) (due_at-alike first asks asks2 (of_caller call now) event.NotReachable served h)
+next_on-alike first asks asks2 call served now NoReply later h = ap (λ due. diverted_or call served now due causes.NoReply later) (due_at-alike first asks asks2 (of_caller call now) event.NoAnswer served h)
+next_on-alike first asks asks2 call served now (Deflection target rang) later h = ap (λ due. diverted_or call served now due (causes.Relayed 480) later) refl
+next_on-alike first asks asks2 call served now (Other code) later h = refl
 
 -- what is next, by what was said
 next_at-alike : FirstIsSame → (asks asks2 : Who → Bool) (says : Says) (call : Call) (reach : Reach) (endings : List Ended) → AlikeAt asks asks2 reach.served → next_at says (asking call asks) reach endings ≡ next_at says (asking call asks2) reach endings
-next_at-alike first asks asks2 Nothing call reach endings h = after_offer-alike first asks asks2 call reach endings h
+next_at-alike first asks asks2 Nothing call reach [] h = refl
+next_at-alike first asks asks2 Nothing call reach (ended ∷ later) h = next_on-alike first asks asks2 call reach.served ended.at ended.how later h
 next_at-alike first asks asks2 (Refuses cause) call reach endings h = refl
 next_at-alike first asks asks2 (Diverts due) call reach endings h = refl
 
@@ -113,40 +114,31 @@ target-alike first bars asks asks2 call k uri cause h =
     ap (λ said. record { uri = uri; cause = cause; offer = offer_by said (call.reach k).served }) (said-alike first bars asks asks2 call (call.reach k) h)
 
 -- at a target, where what comes of each diversion is the same
-if-same : (b : Bool) (outcome onward onward2 : Outcome) → onward ≡ onward2 → (if b then outcome else onward) ≡ (if b then outcome else onward2)
-if-same b outcome onward onward2 e = ap (λ o. if b then outcome else o) e
-
-from_target-same : (call : Call) (served : Option Account) (target : Target) (onward onward2 : Due → List Ended → Outcome) → ((due : Due) (later : List Ended) → onward due later ≡ onward2 due later) → (next : Next) → from_target call served target onward next ≡ from_target call served target onward2 next
-from_target-same call served target onward onward2 same (Rests result) = refl
-from_target-same call served target onward onward2 same (IsDue now due later) = if-same (is_refused call served now due) (last_reached target (Final causes.OutgoingBarred)) (onward due later) (onward2 due later) (same due later)
-
--- who is refused as a target does not depend on the caller
-from_target-caller : (asks asks2 : Who → Bool) (call : Call) (served : Option Account) (target : Target) (onward : Due → List Ended → Outcome) (next : Next) → from_target (asking call asks) served target onward next ≡ from_target (asking call asks2) served target onward next
-from_target-caller asks asks2 call served target onward (Rests result) = refl
-from_target-caller asks asks2 call None target onward (IsDue now due later) = refl
-from_target-caller asks asks2 call (Some account) target onward (IsDue now due later) = refl
+from_next-same : (target : Target) (onward onward2 : Due → List Ended → Outcome) → ((due : Due) (later : List Ended) → onward due later ≡ onward2 due later) → (next : Next) → from_next target onward next ≡ from_next target onward2 next
+from_next-same target onward onward2 same (Rests result) = refl
+from_next-same target onward onward2 same (IsDue due later) = same due later
 
 outcome_from-alike : FirstIsSame → BarsSame → (asks asks2 : Who → Bool) (call : Call) → ((k : ℕ) → AlikeAt asks asks2 (call.reach k).served) →
     (left k : ℕ) (uri : Uri) (cause : Option ℕ) (endings : List Ended) → outcome_from (asking call asks) left k uri cause endings ≡ outcome_from (asking call asks2) left k uri cause endings
 unfolding outcome_from
 outcome_from-alike first bars asks asks2 call h zero k uri cause endings =
-    ap (λ target. from_target (asking call asks) (call.reach k).served target (λ due later. last_reached target (Final (causes.TooManyDiversions (due.cause == 486)))) (next_after (asking call asks) k endings)) (target-alike first bars asks asks2 call k uri cause (h k))
-    ∙ ap (λ next. from_target (asking call asks) (call.reach k).served (target_at (asking call asks2) k uri cause) (λ due later. last_reached (target_at (asking call asks2) k uri cause) (Final (causes.TooManyDiversions (due.cause == 486)))) next) (next-alike first bars asks asks2 call k endings (h k))
-    ∙ from_target-caller asks asks2 call (call.reach k).served (target_at (asking call asks2) k uri cause) _ (next_after (asking call asks2) k endings)
+    ap (λ target. from_next target (λ due later. last_reached target (Final (causes.TooManyDiversions (due.cause == 486)))) (next_after (asking call asks) k endings)) (target-alike first bars asks asks2 call k uri cause (h k))
+    ∙ ap (λ next. from_next (target_at (asking call asks2) k uri cause) (λ due later. last_reached (target_at (asking call asks2) k uri cause) (Final (causes.TooManyDiversions (due.cause == 486)))) next) (next-alike first bars asks asks2 call k endings (h k))
 outcome_from-alike first bars asks asks2 call h (suc left) k uri cause endings =
-    ap (λ target. from_target (asking call asks) (call.reach k).served target (λ due later. then_reached target (outcome_from (asking call asks) left (k + 1) (new_target call.home due.forward.target) (Some due.cause) later)) (next_after (asking call asks) k endings)) (target-alike first bars asks asks2 call k uri cause (h k))
-    ∙ ap (λ next. from_target (asking call asks) (call.reach k).served (target_at (asking call asks2) k uri cause) (λ due later. then_reached (target_at (asking call asks2) k uri cause) (outcome_from (asking call asks) left (k + 1) (new_target call.home due.forward.target) (Some due.cause) later)) next) (next-alike first bars asks asks2 call k endings (h k))
-    ∙ from_target-caller asks asks2 call (call.reach k).served (target_at (asking call asks2) k uri cause) _ (next_after (asking call asks2) k endings)
-    ∙ from_target-same (asking call asks2) (call.reach k).served (target_at (asking call asks2) k uri cause) _ _
+    ap (λ target. from_next target (λ due later. then_reached target (outcome_from (asking call asks) left (k + 1) (new_target call.home due.forward.target) (Some due.cause) later)) (next_after (asking call asks) k endings)) (target-alike first bars asks asks2 call k uri cause (h k))
+    ∙ ap (λ next. from_next (target_at (asking call asks2) k uri cause) (λ due later. then_reached (target_at (asking call asks2) k uri cause) (outcome_from (asking call asks) left (k + 1) (new_target call.home due.forward.target) (Some due.cause) later)) next) (next-alike first bars asks asks2 call k endings (h k))
+    ∙ from_next-same (target_at (asking call asks2) k uri cause) _ _
     (λ due later. ap (then_reached (target_at (asking call asks2) k uri cause)) (outcome_from-alike first bars asks asks2 call h left (k + 1) (new_target call.home due.forward.target) (Some due.cause) later)) (next_after (asking call asks2) k endings)
 
-outcome_after-alike : FirstIsSame → BarsSame → (asks asks2 : Who → Bool) (call : Call) → ((k : ℕ) → AlikeAt asks asks2 (call.reach k).served) →
-    (refusal : Option Cause) (endings : List Ended) → outcome_after refusal (asking call asks) endings ≡ outcome_after refusal (asking call asks2) endings
-outcome_after-alike first bars asks asks2 call h None endings = outcome_from-alike first bars asks asks2 call h (call.bound - call.received) 0 call.first None endings
-outcome_after-alike first bars asks asks2 call h (Some cause) endings = refl
+-- by what the opening refuses
+opened-alike : FirstIsSame → BarsSame → (asks asks2 : Who → Bool) (call : Call) → ((k : ℕ) → AlikeAt asks asks2 (call.reach k).served) →
+    (refusal : Option Cause) (endings : List Ended) →
+    option_map_or refused_at_once refusal (outcome_from (asking call asks) (call.bound - call.received) 0 call.first None endings)
+    ≡ option_map_or refused_at_once refusal (outcome_from (asking call asks2) (call.bound - call.received) 0 call.first None endings)
+opened-alike first bars asks asks2 call h refusal endings = ap (λ onward. option_map_or refused_at_once refusal onward) (outcome_from-alike first bars asks asks2 call h (call.bound - call.received) 0 call.first None endings)
 
 pub alike_callers : FirstIsSame → BarsSame → AlikeCallersFareAlike
 alike_callers first bars one other call endings known h =
     ap (λ (b : Bool). outcome (record call { asks = identity_holds one; has_identity = b }) endings) known
-    ∙ outcome_after-alike first bars (identity_holds one) (identity_holds other) (record call { has_identity = has_identity other })
+    ∙ opened-alike first bars (identity_holds one) (identity_holds other) (record call { has_identity = has_identity other })
     (λ k. alike-at (identity_holds one) (identity_holds other) (call.reach k).served (h k)) (refusal_at_opening call) endings

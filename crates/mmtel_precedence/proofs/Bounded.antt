@@ -8,8 +8,12 @@ use Rattle.mmtel_types.specs.declared.causes.Cause.{Cause}
 use Rattle.mmtel_types.specs.declared.causes.Cause.TheVariants as causes
 use Rattle.mmtel_lex.specs.declared.values.Uri.{Uri}
 use Rattle.mmtel_precedence.specs.Services.{Circumstances, Account, Due, Says, Nothing, Refuses, Diverts, refuses_if, diverts_by, first_said, services_on_arrival}
-use Rattle.mmtel_precedence.specs.Outcome.{End, Answer, Cancel, UserBusy, NotReachable, NoReply, Deflection, Other, Ended, Reach, Call, Target, Result, Final, Outcome, Next, Rests, IsDue, of_caller, account_says, said_on_arrival, is_refused, diverted_or, next_on, next_after_offer, next_at, next_after, last_reached, then_reached, from_target, target_at, new_target, refusal_at_opening, outcome_after, outcome_from, outcome}
+use Rattle.mmtel_precedence.specs.Calls.{refused_at_once, End, Answer, Cancel, UserBusy, NotReachable, NoReply, Deflection, Other, Ended, Reach, Call, Target, Result, Final, Outcome, last_reached, then_reached, refusal_at_opening}
+use Rattle.mmtel_precedence.specs.Targets.{Next, Rests, IsDue, of_caller, said_on_arrival, is_refused, diverted_or, next_on, next_at, next_after, target_at, new_target}
+use Rattle.mmtel_precedence.specs.Outcome.{outcome_from, outcome}
 use Rattle.mmtel_precedence.specs.Laws.{is_diverted_to, diversions_made, StaysWithinBound, Passed, passed_by, passed_from, IsOpened, IsBoundExact}
+use Rattle.mmtel_precedence.proofs.Accounts.{account_says}
+use Rattle.mmtel_precedence.proofs.Nexts.{from_next}
 
 -- one where a diversion led to the target
 abbrev by_cause : Option ℕ → ℕ
@@ -26,20 +30,12 @@ made-target target more = sum_by-cons (λ (t : Target). cond (is_diverted_to t) 
 made-last : (target : Target) (result : Result) → diversions_made (last_reached target result) ≡ by_cause target.cause
 made-last target result = let e : count_by is_diverted_to (target ∷ []) ≡ by_cause target.cause + 0 = made-target target [] in e ∙ omega arith
 
--- ---- what comes of a diversion that is due, by whether outgoing barring lets it pass
-
 -- the diversions made, at a target and after it
-made-due : (call : Call) (k : ℕ) (target : Target) (onward : Due → List Ended → Outcome) (barred : Bool) (due : Due) (later : List Ended) →
-    diversions_made (if barred then last_reached target (Final causes.OutgoingBarred) else onward due later)
-    ≡ option_map_or (λ (passed : Passed). diversions_made (onward passed.due passed.later)) (if barred then None else Some (record { due = due; later = later })) (by_cause target.cause)
-made-due call k target onward true due later = made-last target (Final causes.OutgoingBarred)
-made-due call k target onward false due later = refl
-
-made-from_target : (call : Call) (k : ℕ) (target : Target) (onward : Due → List Ended → Outcome) (next : Next) →
-    diversions_made (from_target call (call.reach k).served target onward next)
-    ≡ option_map_or (λ (passed : Passed). diversions_made (onward passed.due passed.later)) (passed_by call k next) (by_cause target.cause)
-made-from_target call k target onward (Rests result) = made-last target result
-made-from_target call k target onward (IsDue now due later) = made-due call k target onward (is_refused call (call.reach k).served now due) due later
+made-from_next : (target : Target) (onward : Due → List Ended → Outcome) (next : Next) →
+    diversions_made (from_next target onward next)
+    ≡ option_map_or (λ (passed : Passed). diversions_made (onward passed.due passed.later)) (passed_by next) (by_cause target.cause)
+made-from_next target onward (Rests result) = made-last target result
+made-from_next target onward (IsDue due later) = refl
 
 -- ---- no more diversions than are left
 
@@ -51,25 +47,25 @@ made-from : (call : Call) (left k : ℕ) (uri : Uri) (cause : Option ℕ) (endin
 unfolding outcome_from
 made-from call zero k uri cause endings =
     let onward : Due → List Ended → Outcome = λ due later. last_reached (target_at call k uri cause) (Final (causes.TooManyDiversions (due.cause == 486))) in
-    let e = made-from_target call k (target_at call k uri cause) onward (next_after call k endings) in
+    let e = made-from_next (target_at call k uri cause) onward (next_after call k endings) in
     let h : (p : Passed) → diversions_made (onward p.due p.later) ≤ by_cause cause = λ p. (let f = made-last (target_at call k uri cause) (Final (causes.TooManyDiversions (p.due.cause == 486))) in omega arith) in
-    let g : option_map_or (λ (p : Passed). diversions_made (onward p.due p.later)) (passed_by call k (next_after call k endings)) (by_cause cause) ≤ by_cause cause = most-passed cause (passed_by call k (next_after call k endings)) (λ p. diversions_made (onward p.due p.later)) (by_cause cause) h (omega arith) in
+    let g : option_map_or (λ (p : Passed). diversions_made (onward p.due p.later)) (passed_by (next_after call k endings)) (by_cause cause) ≤ by_cause cause = most-passed cause (passed_by (next_after call k endings)) (λ p. diversions_made (onward p.due p.later)) (by_cause cause) h (omega arith) in
     omega arith
 made-from call (suc left) k uri cause endings =
     let onward : Due → List Ended → Outcome = λ due later. then_reached (target_at call k uri cause) (outcome_from call left (k + 1) (new_target call.home due.forward.target) (Some due.cause) later) in
-    let e = made-from_target call k (target_at call k uri cause) onward (next_after call k endings) in
+    let e = made-from_next (target_at call k uri cause) onward (next_after call k endings) in
     let h : (p : Passed) → diversions_made (onward p.due p.later) ≤ suc left + by_cause cause = λ p.
     (let f = made-target (target_at call k uri cause) (outcome_from call left (k + 1) (new_target call.home p.due.forward.target) (Some p.due.cause) p.later).targets in
     let i = made-from call left (k + 1) (new_target call.home p.due.forward.target) (Some p.due.cause) p.later in
     omega arith) in
-    let g : option_map_or (λ (p : Passed). diversions_made (onward p.due p.later)) (passed_by call k (next_after call k endings)) (by_cause cause) ≤ suc left + by_cause cause = most-passed cause (passed_by call k (next_after call k endings)) (λ p. diversions_made (onward p.due p.later)) (suc left + by_cause cause) h (omega arith) in
+    let g : option_map_or (λ (p : Passed). diversions_made (onward p.due p.later)) (passed_by (next_after call k endings)) (by_cause cause) ≤ suc left + by_cause cause = most-passed cause (passed_by (next_after call k endings)) (λ p. diversions_made (onward p.due p.later)) (suc left + by_cause cause) h (omega arith) in
     omega arith
 
 least-passed : (cause : Option ℕ) (passed : Option Passed) (made : Passed → ℕ) → ((p : Passed) → by_cause cause ≤ made p) → by_cause cause ≤ option_map_or made passed (by_cause cause)
 least-passed cause None made each = omega arith
 least-passed cause (Some passed) made each = each passed
 
-within-opened : (refusal : Option Cause) (call : Call) (endings : List Ended) → call.received + diversions_made (outcome_after refusal call endings) ≤ max call.bound call.received
+within-opened : (refusal : Option Cause) (call : Call) (endings : List Ended) → call.received + diversions_made (option_map_or refused_at_once refusal (outcome_from call (call.bound - call.received) 0 call.first None endings)) ≤ max call.bound call.received
 within-opened None call endings = let h = made-from call (call.bound - call.received) 0 call.first None endings in omega arith
 within-opened (Some cause) call endings = omega arith
 
@@ -80,10 +76,10 @@ stays_within_bound call endings = within-opened (refusal_at_opening call) call e
 
 made-least : (call : Call) (left k : ℕ) (uri : Uri) (cause : Option ℕ) (endings : List Ended) → by_cause cause ≤ diversions_made (outcome_from call left k uri cause endings)
 unfolding outcome_from
-made-least call zero k uri cause endings = rw (made-from_target call k (target_at call k uri cause) (λ due later. last_reached (target_at call k uri cause) (Final (causes.TooManyDiversions (due.cause == 486)))) (next_after call k endings))
-    (least-passed cause (passed_by call k (next_after call k endings)) _ (λ p. let f = made-last (target_at call k uri cause) (Final (causes.TooManyDiversions (p.due.cause == 486))) in omega arith))
-made-least call (suc left) k uri cause endings = rw (made-from_target call k (target_at call k uri cause) (λ due later. then_reached (target_at call k uri cause) (outcome_from call left (k + 1) (new_target call.home due.forward.target) (Some due.cause) later)) (next_after call k endings))
-    (least-passed cause (passed_by call k (next_after call k endings)) _ (λ p. let f = made-target (target_at call k uri cause) (outcome_from call left (k + 1) (new_target call.home p.due.forward.target) (Some p.due.cause) p.later).targets in omega arith))
+made-least call zero k uri cause endings = rw (made-from_next (target_at call k uri cause) (λ due later. last_reached (target_at call k uri cause) (Final (causes.TooManyDiversions (due.cause == 486)))) (next_after call k endings))
+    (least-passed cause (passed_by (next_after call k endings)) _ (λ p. let f = made-last (target_at call k uri cause) (Final (causes.TooManyDiversions (p.due.cause == 486))) in omega arith))
+made-least call (suc left) k uri cause endings = rw (made-from_next (target_at call k uri cause) (λ due later. then_reached (target_at call k uri cause) (outcome_from call left (k + 1) (new_target call.home due.forward.target) (Some due.cause) later)) (next_after call k endings))
+    (least-passed cause (passed_by (next_after call k endings)) _ (λ p. let f = made-target (target_at call k uri cause) (outcome_from call left (k + 1) (new_target call.home p.due.forward.target) (Some p.due.cause) p.later).targets in omega arith))
 
 -- after this target: it is made exactly where it is due below the bound
 abbrev IsMadeExactly : Call → ℕ → Type 0
@@ -93,13 +89,13 @@ IsMadeExactly call left =
 
 made-by : (call : Call) (left : ℕ) → IsMadeExactly call left →
     (k : ℕ) (uri : Uri) (cause : Option ℕ) (endings : List Ended) (j : ℕ) → suc left ≡ call.bound - (call.received + k) →
-    (passed : Option Passed) → passed_by call k (next_after call k endings) ≡ passed →
+    (passed : Option Passed) → passed_by (next_after call k endings) ≡ passed →
     (j + by_cause cause < option_map_or (λ (p : Passed). diversions_made (then_reached (target_at call k uri cause) (outcome_from call left (k + 1) (new_target call.home p.due.forward.target) (Some p.due.cause) p.later))) passed (by_cause cause))
     ↔ (IsSome (passed_from call j k endings) × (call.received + (k + j) < call.bound))
 unfolding passed_from
-made-by call left exactly k uri cause endings zero e None f = (λ h. absurd (omega arith), λ h. absurd (let g : is_some (passed_by call k (next_after call k endings)) ≡ true = h.0 in let i = ap is_some f in cc))
+made-by call left exactly k uri cause endings zero e None f = (λ h. absurd (omega arith), λ h. absurd (let g : is_some (passed_by (next_after call k endings)) ≡ true = h.0 in let i = ap is_some f in cc))
 made-by call left exactly k uri cause endings (suc j) e None f =
-    (λ h. absurd (omega arith), λ h. absurd (let g = ap (λ (o : Option Passed). is_some (option_and_then (λ passed. passed_from call j (k + 1) passed.later) o)) f in let i : is_some (option_and_then (λ passed. passed_from call j (k + 1) passed.later) (passed_by call k (next_after call k endings))) ≡ true = h.0 in cc))
+    (λ h. absurd (omega arith), λ h. absurd (let g = ap (λ (o : Option Passed). is_some (option_and_then (λ passed. passed_from call j (k + 1) passed.later) o)) f in let i : is_some (option_and_then (λ passed. passed_from call j (k + 1) passed.later) (passed_by (next_after call k endings))) ≡ true = h.0 in cc))
 made-by call left exactly k uri cause endings zero e (Some p) f = (
   λ h. (ap is_some f, omega arith),
   λ h. let m = made-target (target_at call k uri cause) (outcome_from call left (k + 1) (new_target call.home p.due.forward.target) (Some p.due.cause) p.later).targets in
@@ -108,20 +104,20 @@ made-by call left exactly k uri cause endings zero e (Some p) f = (
 made-by call left exactly k uri cause endings (suc j) e (Some p) f =
     let m = made-target (target_at call k uri cause) (outcome_from call left (k + 1) (new_target call.home p.due.forward.target) (Some p.due.cause) p.later).targets in
     let later = exactly (k + 1) (new_target call.home p.due.forward.target) (Some p.due.cause) p.later j (omega arith) in
-    let same : is_some (option_and_then (λ (passed : Passed). passed_from call j (k + 1) passed.later) (passed_by call k (next_after call k endings))) ≡ is_some (passed_from call j (k + 1) p.later) = ap (λ (o : Option Passed). is_some (option_and_then (λ (passed : Passed). passed_from call j (k + 1) passed.later) o)) f in (
+    let same : is_some (option_and_then (λ (passed : Passed). passed_from call j (k + 1) passed.later) (passed_by (next_after call k endings))) ≡ is_some (passed_from call j (k + 1) p.later) = ap (λ (o : Option Passed). is_some (option_and_then (λ (passed : Passed). passed_from call j (k + 1) passed.later) o)) f in (
       λ h. (let r = later.0 (omega arith) in (same ∙ r.0, (let s = r.1 in omega arith))),
       λ h. let r = later.1 (sym same ∙ h.0, (let s = h.1 in omega arith)) in omega arith,
     )
 
 made-above : (call : Call) (left k : ℕ) (uri : Uri) (cause : Option ℕ) (endings : List Ended) →
     diversions_made (outcome_from call (suc left) k uri cause endings)
-    ≡ option_map_or (λ (p : Passed). diversions_made (then_reached (target_at call k uri cause) (outcome_from call left (k + 1) (new_target call.home p.due.forward.target) (Some p.due.cause) p.later))) (passed_by call k (next_after call k endings)) (by_cause cause)
+    ≡ option_map_or (λ (p : Passed). diversions_made (then_reached (target_at call k uri cause) (outcome_from call left (k + 1) (new_target call.home p.due.forward.target) (Some p.due.cause) p.later))) (passed_by (next_after call k endings)) (by_cause cause)
 unfolding outcome_from
-made-above call left k uri cause endings = made-from_target call k (target_at call k uri cause) (λ due later. then_reached (target_at call k uri cause) (outcome_from call left (k + 1) (new_target call.home due.forward.target) (Some due.cause) later)) (next_after call k endings)
+made-above call left k uri cause endings = made-from_next (target_at call k uri cause) (λ due later. then_reached (target_at call k uri cause) (outcome_from call left (k + 1) (new_target call.home due.forward.target) (Some due.cause) later)) (next_after call k endings)
 
 made-exactly : (call : Call) (left : ℕ) → IsMadeExactly call left
 made-exactly call zero k uri cause endings j e = (λ h. absurd (let m = made-from call zero k uri cause endings in omega arith), λ h. absurd (let s = h.1 in omega arith))
-made-exactly call (suc left) k uri cause endings j e = rw (made-above call left k uri cause endings) (made-by call left (made-exactly call left) k uri cause endings j e (passed_by call k (next_after call k endings)) refl)
+made-exactly call (suc left) k uri cause endings j e = rw (made-above call left k uri cause endings) (made-by call left (made-exactly call left) k uri cause endings j e (passed_by (next_after call k endings)) refl)
 
 -- ---- no service refuses a call for too many diversions
 
@@ -171,29 +167,30 @@ plain-arrival call reach = plain-first_said _ (plain-account (of_caller call rea
 
 abbrev IsPlainNext : Next → Type 0
 IsPlainNext (Rests result) = (busy : Bool) → result ≡ Final (causes.TooManyDiversions busy) → ⊥
-IsPlainNext (IsDue now due later) = Unit {0}
+IsPlainNext (IsDue due later) = Unit {0}
 
-plain-diverted_or : (due : Option Due) (cause : Cause) (now : ℕ) (later : List Ended) → ((busy : Bool) → cause ≡ causes.TooManyDiversions busy → ⊥) → IsPlainNext (diverted_or due cause now later)
-plain-diverted_or None cause now later h = λ busy e. h busy (cc)
-plain-diverted_or (Some due) cause now later h = tt
+plain-diverted : (barred : Bool) (due : Due) (later : List Ended) → IsPlainNext (if barred then Rests (Final causes.OutgoingBarred) else IsDue due later)
+plain-diverted true due later = λ busy e. cc
+plain-diverted false due later = tt
 
-plain-on : (c : Circumstances) (served : Option Account) (how : End) (later : List Ended) → IsPlainNext (next_on c served how later)
-plain-on c served Answer later = λ busy e. cc
-plain-on c served Cancel later = λ busy e. cc
-plain-on c served (UserBusy code) later = plain-diverted_or _ (causes.Relayed code) c.now later (λ busy e. cc)
-plain-on c served (NotReachable code) later = plain-diverted_or _ (causes.Unreachable code) c.now later (λ busy e. cc)
-plain-on c served NoReply later = plain-diverted_or _ causes.NoReply c.now later (λ busy e. cc)
-plain-on c served (Deflection target rang) later = plain-diverted_or _ (causes.Relayed 480) c.now later (λ busy e. cc)
-plain-on c served (Other code) later = λ busy e. cc
+plain-diverted_or : (call : Call) (served : Option Account) (now : ℕ) (due : Option Due) (cause : Cause) (later : List Ended) → ((busy : Bool) → cause ≡ causes.TooManyDiversions busy → ⊥) → IsPlainNext (diverted_or call served now due cause later)
+plain-diverted_or call served now None cause later h = λ busy e. h busy (cc)
+plain-diverted_or call served now (Some due) cause later h = plain-diverted (is_refused call served now due) due later
 
-plain-after_offer : (call : Call) (reach : Reach) (endings : List Ended) → IsPlainNext (next_after_offer call reach endings)
-plain-after_offer call reach [] = λ busy e. cc
-plain-after_offer call reach (ended ∷ later) = plain-on (of_caller call ended.at) reach.served ended.how later
+plain-on : (call : Call) (served : Option Account) (now : ℕ) (how : End) (later : List Ended) → IsPlainNext (next_on call served now how later)
+plain-on call served now Answer later = λ busy e. cc
+plain-on call served now Cancel later = λ busy e. cc
+plain-on call served now (UserBusy code) later = plain-diverted_or call served now _ (causes.Relayed code) later (λ busy e. cc)
+plain-on call served now (NotReachable code) later = plain-diverted_or call served now _ (causes.Unreachable code) later (λ busy e. cc)
+plain-on call served now NoReply later = plain-diverted_or call served now _ causes.NoReply later (λ busy e. cc)
+plain-on call served now (Deflection target rang) later = plain-diverted_or call served now _ (causes.Relayed 480) later (λ busy e. cc)
+plain-on call served now (Other code) later = λ busy e. cc
 
 plain-at : (says : Says) (call : Call) (reach : Reach) (endings : List Ended) → IsPlain says → IsPlainNext (next_at says call reach endings)
-plain-at Nothing call reach endings h = plain-after_offer call reach endings
+plain-at Nothing call reach [] h = λ busy e. cc
+plain-at Nothing call reach (ended ∷ later) h = plain-on call reach.served ended.at ended.how later
 plain-at (Refuses cause) call reach endings h = λ busy e. h busy (cc)
-plain-at (Diverts due) call reach endings h = tt
+plain-at (Diverts due) call reach endings h = plain-diverted (is_refused call reach.served reach.at due) due endings
 
 -- ---- the result at a target and after it
 
@@ -201,15 +198,9 @@ abbrev IsResult : (onward : Due → List Ended → Outcome) → Option Passed �
 IsResult onward None result = (busy : Bool) → result ≡ Final (causes.TooManyDiversions busy) → ⊥
 IsResult onward (Some passed) result = result ≡ (onward passed.due passed.later).result
 
-result-due : (target : Target) (onward : Due → List Ended → Outcome) (barred : Bool) (due : Due) (later : List Ended) →
-    IsResult onward (if barred then None else Some (record { due = due; later = later })) (if barred then last_reached target (Final causes.OutgoingBarred) else onward due later).result
-result-due target onward true due later = λ busy e. cc
-result-due target onward false due later = refl
-
-result-from_target : (call : Call) (k : ℕ) (target : Target) (onward : Due → List Ended → Outcome) (next : Next) → IsPlainNext next →
-    IsResult onward (passed_by call k next) (from_target call (call.reach k).served target onward next).result
-result-from_target call k target onward (Rests result) h = h
-result-from_target call k target onward (IsDue now due later) h = result-due target onward (is_refused call (call.reach k).served now due) due later
+result-from_next : (target : Target) (onward : Due → List Ended → Outcome) (next : Next) → IsPlainNext next → IsResult onward (passed_by next) (from_next target onward next).result
+result-from_next target onward (Rests result) h = h
+result-from_next target onward (IsDue due later) h = refl
 
 -- ---- too many exactly where one is due at the bound
 
@@ -218,7 +209,7 @@ IsRefusedFor call left k endings busy = (passed : Passed) × (passed_from call l
 
 -- at the bound
 refused-at : (call : Call) (k : ℕ) (target : Target) (endings : List Ended) (busy : Bool) (result : Result) (passed : Option Passed) →
-    passed_by call k (next_after call k endings) ≡ passed → IsResult (λ due later. last_reached target (Final (causes.TooManyDiversions (due.cause == 486)))) passed result →
+    passed_by (next_after call k endings) ≡ passed → IsResult (λ due later. last_reached target (Final (causes.TooManyDiversions (due.cause == 486)))) passed result →
     (result ≡ Final (causes.TooManyDiversions busy)) ↔ IsRefusedFor call zero k endings busy
 unfolding passed_from
 refused-at call k target endings busy result None f h = (λ e. absurd (h busy e), λ (p, g, i). absurd (let none = sym f ∙ g in cc))
@@ -226,7 +217,7 @@ refused-at call k target endings busy result (Some passed) f h = (λ e. (passed,
 
 -- below it
 refused-below : (call : Call) (left k : ℕ) (onward : Due → List Ended → Outcome) (endings : List Ended) (busy : Bool) (result : Result) (passed : Option Passed) →
-    passed_by call k (next_after call k endings) ≡ passed → IsResult onward passed result →
+    passed_by (next_after call k endings) ≡ passed → IsResult onward passed result →
     ((due : Due) (later : List Ended) → ((onward due later).result ≡ Final (causes.TooManyDiversions busy)) ↔ IsRefusedFor call left (k + 1) later busy) →
     (result ≡ Final (causes.TooManyDiversions busy)) ↔ IsRefusedFor call (suc left) k endings busy
 unfolding passed_from
@@ -242,17 +233,17 @@ refused-exactly : (call : Call) (left k : ℕ) (uri : Uri) (cause : Option ℕ) 
     ((outcome_from call left k uri cause endings).result ≡ Final (causes.TooManyDiversions busy)) ↔ IsRefusedFor call left k endings busy
 unfolding outcome_from
 refused-exactly call zero k uri cause endings busy =
-    refused-at call k (target_at call k uri cause) endings busy _ (passed_by call k (next_after call k endings)) refl
-    (result-from_target call k (target_at call k uri cause) _ (next_after call k endings) (plain-at (said_on_arrival call (call.reach k)) call (call.reach k) endings (plain-arrival call (call.reach k))))
+    refused-at call k (target_at call k uri cause) endings busy _ (passed_by (next_after call k endings)) refl
+    (result-from_next (target_at call k uri cause) _ (next_after call k endings) (plain-at (said_on_arrival call (call.reach k)) call (call.reach k) endings (plain-arrival call (call.reach k))))
 refused-exactly call (suc left) k uri cause endings busy =
-    refused-below call left k (λ due later. then_reached (target_at call k uri cause) (outcome_from call left (k + 1) (new_target call.home due.forward.target) (Some due.cause) later)) endings busy _ (passed_by call k (next_after call k endings)) refl
-    (result-from_target call k (target_at call k uri cause) _ (next_after call k endings) (plain-at (said_on_arrival call (call.reach k)) call (call.reach k) endings (plain-arrival call (call.reach k))))
+    refused-below call left k (λ due later. then_reached (target_at call k uri cause) (outcome_from call left (k + 1) (new_target call.home due.forward.target) (Some due.cause) later)) endings busy _ (passed_by (next_after call k endings)) refl
+    (result-from_next (target_at call k uri cause) _ (next_after call k endings) (plain-at (said_on_arrival call (call.reach k)) call (call.reach k) endings (plain-arrival call (call.reach k))))
     (λ due later. refused-exactly call left (k + 1) (new_target call.home due.forward.target) (Some due.cause) later busy)
 
 -- ---- of the whole call
 
 outcome-opened : (call : Call) (endings : List Ended) → IsOpened call → outcome call endings ≡ outcome_from call (call.bound - call.received) 0 call.first None endings
-outcome-opened call endings opened = ap (λ refusal. outcome_after refusal call endings) opened
+outcome-opened call endings opened = ap (λ refusal. option_map_or refused_at_once refusal (outcome_from call (call.bound - call.received) 0 call.first None endings)) opened
 
 pub is_bound_exact : IsBoundExact
 is_bound_exact = record {

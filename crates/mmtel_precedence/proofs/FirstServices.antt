@@ -6,8 +6,12 @@ use Rattle.mmtel_types.specs.declared.causes.Cause.TheVariants as causes
 use Rattle.mmtel_lex.specs.declared.values.Uri.{Uri}
 use Rattle.mmtel_precedence.specs.Services.{Circumstances, Account, Says, Nothing, Refuses, Diverts, refuses_if, first_said, rejects_anonymous, bars_incoming, services_after_barring, services_on_arrival}
 use Rattle.mmtel_precedence.specs.Verdicts.{decision_by}
-use Rattle.mmtel_precedence.specs.Outcome.{Call, Ended, Reach, NotOffered, Final, account_says, of_caller, offer_by, said_on_arrival, next_at, from_target, target_at, last_reached, then_reached, new_target, outcome_from}
+use Rattle.mmtel_precedence.specs.Calls.{Call, Ended, Reach, NotOffered, Final, last_reached, then_reached}
+use Rattle.mmtel_precedence.specs.Targets.{of_caller, offer_by, said_on_arrival, next_at, target_at, new_target}
+use Rattle.mmtel_precedence.specs.Outcome.{outcome_from}
 use Rattle.mmtel_precedence.specs.Laws.{BarringComesFirst}
+use Rattle.mmtel_precedence.proofs.Accounts.{account_says}
+use Rattle.mmtel_precedence.proofs.Nexts.{from_next}
 
 said_anonymous : (c : Circumstances) (account : Account) → rejects_anonymous c account.sheet ≡ true → first_said (services_on_arrival c account) ≡ Refuses causes.AnonymousRejected
 said_anonymous c account e = ap (λ b. first_said (refuses_if b causes.AnonymousRejected ∷ refuses_if (bars_incoming c account.sheet) causes.IncomingBarred ∷ services_after_barring c account)) e
@@ -34,11 +38,11 @@ outcome_from-refused : (call : Call) (left k : ℕ) (uri : Uri) (cause : Option 
     said_on_arrival call (call.reach k) ≡ Refuses why → outcome_from call left k uri cause endings ≡ last_reached (record { uri = uri; cause = cause; offer = NotOffered }) (Final why)
 unfolding outcome_from
 outcome_from-refused call zero k uri cause endings why e =
-    ap (λ said. from_target call (call.reach k).served (record { uri = uri; cause = cause; offer = offer_by said (call.reach k).served })
+    ap (λ said. from_next (record { uri = uri; cause = cause; offer = offer_by said (call.reach k).served })
     (λ due later. last_reached (target_at call k uri cause) (Final (causes.TooManyDiversions (due.cause == 486))))
     (next_at said call (call.reach k) endings)) e
 outcome_from-refused call (suc left) k uri cause endings why e =
-    ap (λ said. from_target call (call.reach k).served (record { uri = uri; cause = cause; offer = offer_by said (call.reach k).served })
+    ap (λ said. from_next (record { uri = uri; cause = cause; offer = offer_by said (call.reach k).served })
     (λ due later. then_reached (target_at call k uri cause) (outcome_from call left (k + 1) (new_target call.home due.forward.target) (Some due.cause) later))
     (next_at said call (call.reach k) endings)) e
 

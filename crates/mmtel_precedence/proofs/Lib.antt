@@ -4,4 +4,5 @@ mod Barrings
 mod Bounded
 mod FirstServices
 mod Moving
+mod Nexts
 mod Settling

@@ -1,7 +1,7 @@
 -- Moves of a call that goes no further.
 use Rattle.std.proofs.Common.{◌≡◌, ℕ, zero, suc, List, [], refl}
 use Rattle.mmtel_precedence.specs.Services.{Account}
-use Rattle.mmtel_precedence.specs.Outcome.{Ended, Call, Target, Result}
+use Rattle.mmtel_precedence.specs.Calls.{Ended, Call, Target, Result}
 use Rattle.mmtel_precedence.specs.Moves.{Kept, Phase, Ringing, Over, moves, move_in}
 
 abbrev pub kept_at : ℕ → List Target → Phase → List Ended → Kept

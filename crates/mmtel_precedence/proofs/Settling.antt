@@ -1,7 +1,7 @@
 -- Moves come to the outcome: by the diversions that are left below the bound.
 use Rattle.std.proofs.Common.{◌≡◌, ℕ, zero, suc, ◌+◌, ◌-◌, ◌*◌, ◌≤◌, ◌<◌, ◌==◌, Bool, true, false, List, [], ◌∷◌, ◌++◌, ap, sym, ◌∙◌, append_assoc, arith}
 use Rattle.std.specs.Prelude.{Option, Some, None, unwrap_or, nat_lt, if◌then◌else◌}
-use Rattle.std.specs.Option.{option_map}
+use Rattle.std.specs.Option.{option_map, option_map_or}
 use Rattle.std.proofs.lemmas.Bool.Decides.{nat_tests}
 use Rattle.mmtel_types.specs.declared.causes.Cause.{Cause}
 use Rattle.mmtel_types.specs.declared.causes.Cause.TheVariants as causes
@@ -11,10 +11,13 @@ use Rattle.mmtel_diversion.specs.Bound.{is_within}
 use Rattle.mmtel_diversion.specs.Diversion.{deflection_of}
 use Rattle.mmtel_precedence.specs.Services.{Account, Due, Says, Nothing, Refuses, Diverts, refuses_if, first_said, due_on, bars_outgoing, services_on_arrival}
 use Rattle.mmtel_precedence.specs.Verdicts.{decision_by, forwards_or, deflects_or}
-use Rattle.mmtel_precedence.specs.Outcome.{End, Answer, Cancel, UserBusy, NotReachable, NoReply, Deflection, Other, Ended, Reach, Call, NotOffered, Offered, Target, Result, Answered, Final, Outcome, IsDue, of_caller, of_target, new_target, offer_by, deflected_to, diverted_or, next_on, next_after_offer, next_at, next_after, is_waiting, last_reached, then_reached, from_target, target_at, outcome_from, refusal_at_opening, outcome_after}
+use Rattle.mmtel_precedence.specs.Calls.{refused_at_once, End, Answer, Cancel, UserBusy, NotReachable, NoReply, Deflection, Other, Ended, Reach, Call, NotOffered, Offered, Target, Result, Answered, Final, Outcome, last_reached, then_reached, refusal_at_opening}
+use Rattle.mmtel_precedence.specs.Targets.{Rests, diverted, IsDue, of_caller, of_target, new_target, offer_by, deflected_to, diverted_or, next_on, next_at, next_after, is_waiting, target_at}
+use Rattle.mmtel_precedence.specs.Outcome.{outcome_from}
 use Rattle.mmtel_precedence.specs.Moves.{Kept, Phase, Reaching, Ringing, Over, moves, gone_on, divert, ended_by, on_end, offer_unless, reached, outcome_so_far, first_phase, moves_enough, MovesGiveTheOutcome}
 use Rattle.mmtel_precedence.proofs.Accounts.{nobody, then_said, first_said-account, is_waiting-account, due_at-account, deflection_at-account, is_refused-account}
 use Rattle.mmtel_precedence.proofs.Moving.{kept_at, moves-over, moves-ringing, moves-suc}
+use Rattle.mmtel_precedence.proofs.Nexts.{from_next}
 
 -- an outcome behind targets that were reached before
 abbrev pub behind : List Target → Outcome → Outcome
@@ -47,7 +50,7 @@ settles-over n call k targets target result later = ap outcome_so_far (moves-ove
 settles-diversion : (call : Call) (k least : ℕ) (onward : Onward) → GoesOn call k least onward →
     (n : ℕ) (bars : Bool) (target : Target) (due : Due) (targets : List Target) (phase : Phase) (later : List Ended) → least ≤ n →
     Settles n call (gone_on (if bars then Some causes.OutgoingBarred else by_bound call k due.cause) (kept_at k (targets ++ target ∷ []) phase later) (new_target call.home due.forward.target) due.cause) targets
-    (if bars then last_reached target (Final causes.OutgoingBarred) else onward target due later)
+    (from_next target (onward target) (if bars then Rests (Final causes.OutgoingBarred) else IsDue due later))
 settles-diversion call k least onward goes n true target due targets phase later enough = settles-over n call k targets target (Final causes.OutgoingBarred) later
 settles-diversion call k least onward goes n false target due targets phase later enough = goes n target due targets phase later enough
 
@@ -55,16 +58,16 @@ settles-diversion call k least onward goes n false target due targets phase late
 settles-due : (call : Call) (k least : ℕ) (onward : Onward) → GoesOn call k least onward →
     (n : ℕ) (served : Option Account) (now : ℕ) (target : Target) (due : Due) (targets : List Target) (phase : Phase) (later : List Ended) → least ≤ n →
     Settles n call (divert call (kept_at k (targets ++ target ∷ []) phase later) (unwrap_or served nobody) now due.forward.target due.cause) targets
-    (from_target call served target (onward target) (IsDue now due later))
+    (from_next target (onward target) (diverted call served now due later))
 settles-due call k least onward goes n served now target due targets phase later enough =
     settles-diversion call k least onward goes n (bars_outgoing (of_target call now (new_target call.home due.forward.target)) (unwrap_or served nobody).sheet) target due targets phase later enough
-    ∙ ap (λ b. behind targets (if b then last_reached target (Final causes.OutgoingBarred) else onward target due later)) (sym (is_refused-account call served now due))
+    ∙ ap (λ b. behind targets (from_next target (onward target) (if b then Rests (Final causes.OutgoingBarred) else IsDue due later))) (sym (is_refused-account call served now due))
 
 -- an ending for which rules may ask a diversion
 settles-rules : (call : Call) (k least : ℕ) (onward : Onward) → GoesOn call k least onward →
     (n : ℕ) (served : Option Account) (now : ℕ) (due : Option Due) (cause : Cause) (target : Target) (targets : List Target) (phase : Phase) (later : List Ended) → least ≤ n →
     Settles n call (ended_by call (unwrap_or served nobody) now None (forwards_or due cause) (kept_at k (targets ++ target ∷ []) phase later)) targets
-    (from_target call served target (onward target) (diverted_or due cause now later))
+    (from_next target (onward target) (diverted_or call served now due cause later))
 settles-rules call k least onward goes n served now None cause target targets phase later enough = settles-over n call k targets target (Final cause) later
 settles-rules call k least onward goes n served now (Some due) cause target targets phase later enough = settles-due call k least onward goes n served now target due targets phase later enough
 
@@ -72,7 +75,7 @@ settles-rules call k least onward goes n served now (Some due) cause target targ
 settles-deflection : (call : Call) (k least : ℕ) (onward : Onward) → GoesOn call k least onward →
     (n : ℕ) (served : Option Account) (now : ℕ) (uri : Uri) (cause : Option ℕ) (target : Target) (targets : List Target) (phase : Phase) (later : List Ended) → least ≤ n →
     Settles n call (ended_by call (unwrap_or served nobody) now (Some uri) (deflects_or cause) (kept_at k (targets ++ target ∷ []) phase later)) targets
-    (from_target call served target (onward target) (diverted_or (option_map (deflected_to uri) cause) (causes.Relayed 480) now later))
+    (from_next target (onward target) (diverted_or call served now (option_map (deflected_to uri) cause) (causes.Relayed 480) later))
 settles-deflection call k least onward goes n served now uri None target targets phase later enough = settles-over n call k targets target (Final (causes.Relayed 480)) later
 settles-deflection call k least onward goes n served now uri (Some cause) target targets phase later enough = settles-due call k least onward goes n served now target (deflected_to uri cause) targets phase later enough
 
@@ -80,28 +83,28 @@ settles-deflection call k least onward goes n served now uri (Some cause) target
 settles-end : (call : Call) (k least : ℕ) (onward : Onward) → GoesOn call k least onward →
     (n : ℕ) (served : Option Account) (now : ℕ) (how : End) (target : Target) (targets : List Target) (phase : Phase) (later : List Ended) → least ≤ n →
     Settles n call (on_end call (unwrap_or served nobody) now how (kept_at k (targets ++ target ∷ []) phase later)) targets
-    (from_target call served target (onward target) (next_on (of_caller call now) served how later))
+    (from_next target (onward target) (next_on call served now how later))
 settles-end call k least onward goes n served now Answer target targets phase later enough = settles-over n call k targets target Answered later
 settles-end call k least onward goes n served now Cancel target targets phase later enough = settles-over n call k targets target (Final causes.Cancelled) later
 settles-end call k least onward goes n served now (UserBusy code) target targets phase later enough =
     settles-rules call k least onward goes n served now (due_on (of_caller call now) event.Busy (unwrap_or served nobody).sheet) (causes.Relayed code) target targets phase later enough
-    ∙ ap (λ due. behind targets (from_target call served target (onward target) (diverted_or due (causes.Relayed code) now later))) (sym (due_at-account (of_caller call now) event.Busy served))
+    ∙ ap (λ due. behind targets (from_next target (onward target) (diverted_or call served now due (causes.Relayed code) later))) (sym (due_at-account (of_caller call now) event.Busy served))
 settles-end call k least onward goes n served now (NotReachable code) target targets phase later enough =
     settles-rules call k least onward goes n served now (due_on (of_caller call now) event.NotReachable (unwrap_or served nobody).sheet) (causes.Unreachable code) target targets phase later enough
-    ∙ ap (λ due. behind targets (from_target call served target (onward target) (diverted_or due (causes.Unreachable code) now later))) (sym (due_at-account (of_caller call now) event.NotReachable served))
+    ∙ ap (λ due. behind targets (from_next target (onward target) (diverted_or call served now due (causes.Unreachable code) later))) (sym (due_at-account (of_caller call now) event.NotReachable served))
 settles-end call k least onward goes n served now NoReply target targets phase later enough =
     settles-rules call k least onward goes n served now (due_on (of_caller call now) event.NoAnswer (unwrap_or served nobody).sheet) causes.NoReply target targets phase later enough
-    ∙ ap (λ due. behind targets (from_target call served target (onward target) (diverted_or due causes.NoReply now later))) (sym (due_at-account (of_caller call now) event.NoAnswer served))
+    ∙ ap (λ due. behind targets (from_next target (onward target) (diverted_or call served now due causes.NoReply later))) (sym (due_at-account (of_caller call now) event.NoAnswer served))
 settles-end call k least onward goes n served now (Deflection uri rang) target targets phase later enough =
     settles-deflection call k least onward goes n served now uri (deflection_of (unwrap_or served nobody).sheet rang) target targets phase later enough
-    ∙ ap (λ due. behind targets (from_target call served target (onward target) (diverted_or due (causes.Relayed 480) now later))) (sym (deflection_at-account served uri rang))
+    ∙ ap (λ due. behind targets (from_next target (onward target) (diverted_or call served now due (causes.Relayed 480) later))) (sym (deflection_at-account served uri rang))
 settles-end call k least onward goes n served now (Other code) target targets phase later enough = settles-over n call k targets target (Final (causes.Relayed code)) later
 
 -- after an offer
 settles-offer : (call : Call) (k least : ℕ) (onward : Onward) → GoesOn call k least onward →
     (n : ℕ) (reach : Reach) (target : Target) (targets : List Target) (endings : List Ended) → least ≤ n →
     Settles (suc n) call (kept_at k (targets ++ target ∷ []) (Ringing (unwrap_or reach.served nobody)) endings) targets
-    (from_target call reach.served target (onward target) (next_after_offer call reach endings))
+    (from_next target (onward target) (next_at Nothing call reach endings))
 settles-offer call k least onward goes n reach target targets [] enough = ap outcome_so_far (moves-ringing (suc n) call k (targets ++ target ∷ []) (unwrap_or reach.served nobody))
 settles-offer call k least onward goes n reach target targets (ended ∷ later) enough =
     ap outcome_so_far (moves-suc n call (kept_at k (targets ++ target ∷ []) (Ringing (unwrap_or reach.served nobody)) (ended ∷ later)))
@@ -119,7 +122,7 @@ said_of_any unknown no_peer = first_said (refuses_if unknown causes.NoAccount �
 settles-unrefused : (call : Call) (k least : ℕ) (onward : Onward) → GoesOn call k least onward →
     (n : ℕ) (unknown no_peer : Bool) (reach : Reach) (uri : Uri) (cause : Option ℕ) (targets : List Target) (phase : Phase) (endings : List Ended) → least ≤ n →
     Settles (suc n) call (offer_unless unknown no_peer (unwrap_or reach.served nobody) (is_waiting reach.served) (kept_at k targets phase endings) uri cause) targets
-    (from_target call reach.served (target_by (said_of_any unknown no_peer) reach.served uri cause) (onward (target_by (said_of_any unknown no_peer) reach.served uri cause)) (next_at (said_of_any unknown no_peer) call reach endings))
+    (from_next (target_by (said_of_any unknown no_peer) reach.served uri cause) (onward (target_by (said_of_any unknown no_peer) reach.served uri cause)) (next_at (said_of_any unknown no_peer) call reach endings))
 settles-unrefused call k least onward goes n true no_peer reach uri cause targets phase endings enough =
     settles-over (suc n) call k targets (record { uri = uri; cause = cause; offer = NotOffered }) (Final causes.NoAccount) endings
 settles-unrefused call k least onward goes n false true reach uri cause targets phase endings enough =
@@ -132,7 +135,7 @@ settles-said : (call : Call) (k least : ℕ) (onward : Onward) → GoesOn call k
     (n : ℕ) (says : Says) (reach : Reach) (uri : Uri) (cause : Option ℕ) (targets : List Target) (phase : Phase) (endings : List Ended) → least ≤ n →
     (let said = then_said says (said_of_any reach.is_unknown reach.has_no_peer) in
     Settles (suc n) call (reached call reach (unwrap_or reach.served nobody) (decision_by says (unwrap_or reach.served nobody).live) (kept_at k targets phase endings) uri cause) targets
-    (from_target call reach.served (target_by said reach.served uri cause) (onward (target_by said reach.served uri cause)) (next_at said call reach endings)))
+    (from_next (target_by said reach.served uri cause) (onward (target_by said reach.served uri cause)) (next_at said call reach endings)))
 settles-said call k least onward goes n Nothing reach uri cause targets phase endings enough =
     ap (λ waiting. outcome_so_far (moves (suc n) call (offer_unless reach.is_unknown reach.has_no_peer (unwrap_or reach.served nobody) waiting (kept_at k targets phase endings) uri cause))) (sym (is_waiting-account reach.served))
     ∙ settles-unrefused call k least onward goes n reach.is_unknown reach.has_no_peer reach uri cause targets phase endings enough
@@ -145,11 +148,11 @@ settles-said call k least onward goes n (Diverts due) reach uri cause targets ph
 settles-reaching : (call : Call) (k least : ℕ) (onward : Onward) → GoesOn call k least onward →
     (n : ℕ) (uri : Uri) (cause : Option ℕ) (targets : List Target) (endings : List Ended) → least ≤ n →
     Settles (suc (suc n)) call (kept_at k targets (Reaching uri cause) endings) targets
-    (from_target call (call.reach k).served (target_at call k uri cause) (onward (target_at call k uri cause)) (next_after call k endings))
+    (from_next (target_at call k uri cause) (onward (target_at call k uri cause)) (next_after call k endings))
 settles-reaching call k least onward goes n uri cause targets endings enough =
     ap outcome_so_far (moves-suc (suc n) call (kept_at k targets (Reaching uri cause) endings))
     ∙ settles-said call k least onward goes n (first_said (services_on_arrival (of_caller call (call.reach k).at) (unwrap_or (call.reach k).served nobody))) (call.reach k) uri cause targets (Reaching uri cause) endings enough
-    ∙ ap (λ said. behind targets (from_target call (call.reach k).served (target_by said (call.reach k).served uri cause) (onward (target_by said (call.reach k).served uri cause)) (next_at said call (call.reach k) endings)))
+    ∙ ap (λ said. behind targets (from_next (target_by said (call.reach k).served uri cause) (onward (target_by said (call.reach k).served uri cause)) (next_at said call (call.reach k) endings)))
     (sym (first_said-account (of_caller call (call.reach k).at) (call.reach k).served (refuses_if (call.reach k).is_unknown causes.NoAccount ∷ refuses_if (call.reach k).has_no_peer causes.NoRoute ∷ [])))
 
 -- the moves from the target after k diversions come to the outcome from there
@@ -189,7 +192,7 @@ settles-from call (suc left) k (suc (suc n)) uri cause targets endings e enough 
 
 -- by what the opening refuses
 settles-opened : (refusal : Option Cause) (call : Call) (endings : List Ended) (n : ℕ) → moves_enough call ≤ n →
-    outcome_so_far (moves n call (kept_at 0 [] (first_phase refusal call) endings)) ≡ outcome_after refusal call endings
+    outcome_so_far (moves n call (kept_at 0 [] (first_phase refusal call) endings)) ≡ option_map_or refused_at_once refusal (outcome_from call (call.bound - call.received) 0 call.first None endings)
 settles-opened None call endings n enough = settles-from call (call.bound - call.received) 0 n call.first None [] endings (omega arith) enough
 settles-opened (Some cause) call endings n enough = ap outcome_so_far (moves-over n call 0 [] (Final cause) endings)
 

@@ -1,5 +1,5 @@
 -- What the definitions of precedence come to, in the subject's words.
-use Rattle.std.specs.Prelude.{◌≡◌, ◌↔◌, ◌≤◌, ◌<◌, ℕ, zero, suc, ◌+◌, ◌-◌, ◌==◌, max, Bool, true, false, if◌then◌else◌, List, [], Option, Some, None, is_some, IsSome, count_by, option_and_then}
+use Rattle.std.specs.Prelude.{◌≡◌, ◌↔◌, ◌≤◌, ◌<◌, ℕ, zero, suc, ◌+◌, ◌-◌, ◌==◌, max, Bool, true, false, List, [], Option, Some, None, is_some, IsSome, count_by, option_and_then}
 use Rattle.mmtel_types.specs.declared.causes.Cause.TheVariants as causes
 use Rattle.mmtel_lex.specs.declared.values.Uri.{Uri}
 use Rattle.mmtel_sheet_values.specs.declared.values.DiversionPart.{DiversionPart}
@@ -13,7 +13,9 @@ use Rattle.mmtel_barring.specs.Barring.{rules_of}
 use Rattle.mmtel_precedence.specs.declared.endings.Ending.TheVariants as ending
 use Rattle.mmtel_precedence.specs.Services.{Circumstances, Account, Due, rejects_anonymous, bars_incoming}
 use Rattle.mmtel_precedence.specs.Verdicts.{Ends, verdict_of}
-use Rattle.mmtel_precedence.specs.Outcome.{Call, Ended, Target, NotOffered, Final, Outcome, Next, Rests, IsDue, next_after, is_refused, last_reached, of_caller, refusal_at_opening, outcome_from, outcome}
+use Rattle.mmtel_precedence.specs.Calls.{Call, Ended, Target, NotOffered, Final, Outcome, last_reached, refusal_at_opening}
+use Rattle.mmtel_precedence.specs.Targets.{Next, Rests, IsDue, next_after, of_caller}
+use Rattle.mmtel_precedence.specs.Outcome.{outcome_from, outcome}
 
 -- ---- barring comes before diversion, and anonymous communication rejection before both: whatever the other rules of the account, its registration and its live calls are
 
@@ -48,14 +50,14 @@ pub record Passed : Type 0 where
   pub due : Due
   pub later : List Ended
 
-abbrev pub passed_by : Call → ℕ → Next → Option Passed
-passed_by call k (Rests result) = None
-passed_by call k (IsDue now due later) = if is_refused call (call.reach k).served now due then None else Some (record { due = due; later = later })
+abbrev pub passed_by : Next → Option Passed
+passed_by (Rests result) = None
+passed_by (IsDue due later) = Some (record { due = due; later = later })
 
 -- what is due after j more diversions, beginning where k were made, if there were no bound
 unfoldable pub passed_from : Call → (j : ℕ) → (k : ℕ) → List Ended → Option Passed
-passed_from call zero k endings = passed_by call k (next_after call k endings)
-passed_from call (suc j) k endings = option_and_then (λ passed. passed_from call j (k + 1) passed.later) (passed_by call k (next_after call k endings))
+passed_from call zero k endings = passed_by (next_after call k endings)
+passed_from call (suc j) k endings = option_and_then (λ passed. passed_from call j (k + 1) passed.later) (passed_by (next_after call k endings))
 
 -- what is due after so many diversions
 abbrev pub passed_after : Call → ℕ → List Ended → Option Passed

@@ -8,7 +8,9 @@ use Rattle.mmtel_sheet_values.specs.Sheets.{empty_sheet}
 use Rattle.mmtel_precedence.specs.declared.endings.Ending.TheVariants as ending
 use Rattle.mmtel_precedence.specs.Services.{Account}
 use Rattle.mmtel_precedence.specs.Verdicts.{Decision, Offers, Forwards, Ends, verdict_of, go_on_of}
-use Rattle.mmtel_precedence.specs.Outcome.{End, Answer, Cancel, UserBusy, NotReachable, NoReply, Deflection, Other, Ended, Reach, Call, Offer, NotOffered, Offered, Target, Result, Pending, Answered, Final, Outcome, of_caller, of_target, new_target, refusal_at_opening, outcome}
+use Rattle.mmtel_precedence.specs.Calls.{End, Answer, Cancel, UserBusy, NotReachable, NoReply, Deflection, Other, Ended, Reach, Call, Offer, NotOffered, Offered, Target, Result, Pending, Answered, Final, Outcome, refusal_at_opening}
+use Rattle.mmtel_precedence.specs.Targets.{of_caller, of_target, new_target}
+use Rattle.mmtel_precedence.specs.Outcome.{outcome}
 
 -- where the call stands
 pub data Phase : Type 0 where

@@ -65,12 +65,6 @@ due_of chosen = record { forward = chosen.forward; cause = chosen.cause }
 abbrev pub due_on : Circumstances → When → Sheet → Option Due
 due_on c when sheet = option_map due_of (diversion_of c.asks c.restricted c.media c.now when sheet)
 
--- what the refusal of a caller says, if there is one, before what is said later
-abbrev pub said_by : Option Refusal → Says → Says
-said_by None later = later
-said_by (Some refusals.Anonymous) later = Refuses AnonymousRejected
-said_by (Some (refusals.Barred rule)) later = Refuses IncomingBarred
-
 -- callers that hide who they are are refused (anonymous communication rejection, TS 24.611 §4.5.2)
 abbrev pub rejects_anonymous : Circumstances → Sheet → Bool
 rejects_anonymous c sheet = option_map_or (is_anonymous_refused c.has_identity c.restricted) sheet.incoming false
@@ -83,29 +77,25 @@ bars_incoming c sheet = is_barred c.asks c.restricted c.media c.now (rules_of sh
 abbrev pub bars_outgoing : Circumstances → Sheet → Bool
 bars_outgoing c sheet = is_barred c.asks c.restricted c.media c.now (rules_of sheet.outgoing)
 
--- the services of an account that a call reaches, in their precedence
-abbrev pub services_on_arrival : Circumstances → Account → List Says
-services_on_arrival c account =
-    refuses_if (rejects_anonymous c account.sheet) AnonymousRejected
-    ∷ refuses_if (bars_incoming c account.sheet) IncomingBarred
-    ∷ diverts_by (due_on c (Arrival account.registered) account.sheet)
-    ∷ refuses_if (not account.registered) NotRegistered
-    ∷ diverts_by (if is_busy account.live account.sheet then due_on c Busy account.sheet else None)
-    ∷ refuses_if (is_busy account.live account.sheet) NetworkBusy
-    ∷ []
+-- ---- the services of an account that a call reaches, in their precedence, each list by the next
 
--- those of them that come after barring
-abbrev pub services_after_barring : Circumstances → Account → List Says
-services_after_barring c account =
-    diverts_by (due_on c (Arrival account.registered) account.sheet)
-    ∷ refuses_if (not account.registered) NotRegistered
-    ∷ diverts_by (if is_busy account.live account.sheet then due_on c Busy account.sheet else None)
-    ∷ refuses_if (is_busy account.live account.sheet) NetworkBusy
-    ∷ []
-
--- those of them that the number of its calls decides
+-- by the number of its calls: its diversion of a busy user, and network determined user busy
 abbrev pub services_of_capacity : Circumstances → Account → List Says
 services_of_capacity c account =
-    diverts_by (if is_busy account.live account.sheet then due_on c Busy account.sheet else None)
-    ∷ refuses_if (is_busy account.live account.sheet) NetworkBusy
-    ∷ []
+    diverts_by (if is_busy account.live account.sheet then due_on c Busy account.sheet else None) ∷ refuses_if (is_busy account.live account.sheet) NetworkBusy ∷ []
+
+-- before them, by its diversion on arrival, and its registration
+abbrev pub services_after_barring : Circumstances → Account → List Says
+services_after_barring c account = diverts_by (due_on c (Arrival account.registered) account.sheet) ∷ refuses_if (not account.registered) NotRegistered ∷ services_of_capacity c account
+
+-- and before all, by its barring of incoming calls
+abbrev pub services_on_arrival : Circumstances → Account → List Says
+services_on_arrival c account = refuses_if (rejects_anonymous c account.sheet) AnonymousRejected ∷ refuses_if (bars_incoming c account.sheet) IncomingBarred ∷ services_after_barring c account
+
+-- ---- what private calls cite
+
+-- what the refusal of a caller says, if there is one, before what is said later
+abbrev pub said_by : Option Refusal → Says → Says
+said_by None later = later
+said_by (Some refusals.Anonymous) later = Refuses AnonymousRejected
+said_by (Some (refusals.Barred rule)) later = Refuses IncomingBarred

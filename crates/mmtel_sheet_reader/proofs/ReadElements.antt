@@ -22,7 +22,7 @@ uri_of_text s (Ok u) e = e
 uri_of_text s (Err f) e = tt
 
 uri_some : (s : List ℕ) (r : Result Uri Refusal) → uri_of s ≡ r → IsUtf8 s → IfSome (uri_read r) IsUriOfText
-uri_some s (Ok u) e text = uri_printable s u text e
+uri_some s (Ok u) e text = uri_printable s u e
 uri_some s (Err f) e text = tt
 
 pub uri_ok : (at : List ℕ) (d : Data) → IsSound d → IfOk (uri_at at d) IsUriOfText
@@ -39,7 +39,7 @@ target_some at s u text read = where_ok (is_target u && nat_le (length s) 256) (
     let both = and_parts (is_target u) (nat_le (length s) 256) e in
     let test = both.1 in
     let short : length s ≤ 256 = grind (arith, nat_tests) in
-    target_printable s u text read both.0 short)
+    target_printable s u read both.0 short)
 
 pub target_ok : (at : List ℕ) (d : Data) → IsSound d → IfOk (target_at at d) IsTarget
 target_ok at (string s) text = then_all _ (λ u. target_or_wrong at s u) (λ u. uri_of s ≡ Ok u) IsTarget (or_all at (uri_read (uri_of s)) (λ u. uri_of s ≡ Ok u) (uri_of_text s (uri_of s) refl)) (λ u read. target_some at s u text read)

@@ -1,17 +1,34 @@
--- The sheets that are in force and the registrations, as maps from the numbers of accounts.
+-- Which record is in force for each account, and which registrations end when.
 use Rattle.std.specs.Prelude.{ℕ, Bool, true, nat_lt, Option, Some, None}
 use Rattle.std.specs.Ordering.{nat_cmp}
-use Rattle.std.specs.BTreeMap.{get}
+use Rattle.std.specs.FinMap as map
 use Rattle.mmtel_sheet_values.specs.declared.values.Sheet.{Sheet}
-use Rattle.mmtel_sheet_values.specs.declared.view.SheetView.{SheetView}
+
+-- by the numbers of accounts: an account that has no sheet here never said anything, and a registration that is not here has no end
+pub record InForce : Type 0 where
+  pub sheets : map.FinMap nat_cmp Sheet
+  pub ends : map.FinMap nat_cmp ℕ
+
+-- no account has a sheet, and no registration an end
+abbrev pub nothing_in_force : InForce
+nothing_in_force = record { sheets = map.empty; ends = map.empty }
 
 -- the sheet of the account
-abbrev pub sheet_in : SheetView → ℕ → Option Sheet
-sheet_in v a = get nat_cmp v.sheets a
+abbrev pub sheet_in : InForce → ℕ → Option Sheet
+sheet_in v a = map.get v.sheets a
 
 -- the moment at which the account's registration ends
-abbrev pub end_in : SheetView → ℕ → Option ℕ
-end_in v a = get nat_cmp v.ends a
+abbrev pub end_in : InForce → ℕ → Option ℕ
+end_in v a = map.get v.ends a
+
+-- this sheet in the place of the account's
+abbrev pub with_sheet : InForce → ℕ → Sheet → InForce
+with_sheet v a s = record v { sheets = map.insert v.sheets a s }
+
+-- the registration of the account ends at this moment, or has no end
+abbrev pub with_end : InForce → ℕ → Option ℕ → InForce
+with_end v a None = record v { ends = map.remove v.ends a }
+with_end v a (Some until) = record v { ends = map.insert v.ends a until }
 
 -- registered at this moment, where the registration ends so
 abbrev pub is_registered : Option ℕ → ℕ → Bool

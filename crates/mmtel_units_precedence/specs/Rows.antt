@@ -9,7 +9,8 @@ use Rattle.mmtel_sheet_values.specs.declared.values.EventWord.{EventWord}
 use Rattle.mmtel_sheet_values.specs.declared.values.EventWord.TheVariants as event
 use Rattle.mmtel_sheet_values.specs.declared.values.Rule.{Rule}
 use Rattle.mmtel_sheet_values.specs.declared.values.Sheet.{Sheet}
-use Rattle.mmtel_precedence.specs.Outcome.{Answer, UserBusy, NoReply, Deflection, Reach, Call, Offer, NotOffered, Offered, Target, Result, Pending, Answered, Final, Outcome, outcome}
+use Rattle.mmtel_precedence.specs.Calls.{Answer, UserBusy, NoReply, Deflection, Reach, Call, Offer, NotOffered, Offered, Target, Result, Pending, Answered, Final, Outcome}
+use Rattle.mmtel_precedence.specs.Outcome.{outcome}
 
 -- ---- parties
 

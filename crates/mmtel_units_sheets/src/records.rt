@@ -507,6 +507,16 @@ rule = [{target = "sip:"}]
 =wrong communication-diversion.rule.0.target
 
 [communication-diversion]
+active = false
+rule = [{target = "sip:vm@far.example;x=\"\r\nSubject: injected\r\nY: \""}]
+=wrong communication-diversion.rule.0.target
+
+[communication-diversion]
+active = false
+rule = [{one = ["sip:a@home.example;x=\"\""], target = "sip:a@home.example"}]
+=wrong communication-diversion.rule.0.one
+
+[communication-diversion]
 rule = [{}]
 =wrong communication-diversion.rule.0.target
 

@@ -1,6 +1,7 @@
 //! Laws of the definitions that the contracts of legs cite: each is the contract of a function that does nothing.
 ghost use Rattle.std.specs.Prelude.{◌≡◌, ◌+◌, ◌<◌, ◌^◌, ◌++◌, ◌∷◌, ◌⊎◌, ℕ, List, [], Option, Some, Err, codes, length, true};
 ghost use Rattle.std.specs.List.{list_all};
+ghost use Rattle.std.specs.Option.{unwrap_or};
 ghost use Rattle.mmtel_message.specs.Message.{Message, first_value};
 ghost use Rattle.mmtel_message.specs.declared.messages.Start.{Start};
 ghost use Rattle.mmtel_lex.specs.Grammar.{IsToken, IsValue};
@@ -10,7 +11,7 @@ ghost use Rattle.mmtel_message.specs.Fields.{five_at};
 ghost use Rattle.mmtel_charging.specs.Meters.{Noted};
 ghost use Rattle.mmtel_types.specs.declared.numbers.Peer.{Peer};
 ghost use Rattle.mmtel_leg.specs.Deeds.Deed.{Asks, Hears};
-ghost use Rattle.mmtel_leg.specs.Dialogues.{hears, number_in, or_zero, tagged};
+ghost use Rattle.mmtel_leg.specs.Dialogues.{hears, number_in, tagged};
 ghost use Rattle.mmtel_leg.specs.Remotes.{field, is_untagged, tag_in};
 ghost use Rattle.mmtel_leg.specs.declared.dialogues.DialogueFault.{DialogueFault};
 ghost use Rattle.mmtel_leg.specs.declared.dialogues.InFlight.{InFlight};
@@ -35,7 +36,7 @@ pub fn acks_have_the_number_of_their_invite()
 /// CSeq of what is built is read again as the number and the method, where the number is one of RFC 3261 (below 2^31, §8.1.1.5) and the method a token.
 pub fn numbers_read_back()
     ensures request { (d : Dialogue) (method : List ℕ) (given : Given) → d.own + 1 < 2 ^ 31 → IsToken method → ReadsAs (d.own + 1) method (request_of d method given) }
-    ensures ack { (d : Dialogue) (given : Given) → or_zero d.invited < 2 ^ 31 → ReadsAs (or_zero d.invited) (codes "ACK") (ack_of d given) }
+    ensures ack { (d : Dialogue) (given : Given) → unwrap_or d.invited 0 < 2 ^ 31 → ReadsAs (unwrap_or d.invited 0) (codes "ACK") (ack_of d given) }
 {}
 
 /// The tags by which the other side finds its dialog (RFC 3261 §12): From of what is built in a dialog is read with the server's tag and To with the other side's, whatever was done since the dialog began, and whether it is a request or an ACK.

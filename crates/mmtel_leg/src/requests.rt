@@ -1,8 +1,9 @@
 //! The requests that the server makes in a dialog (RFC 3261 §12.2.1.1).
 ghost use Rattle.std.specs.Prelude.{◌≡◌, ◌++◌, IfOk, OnErr, OnOk, codes, decimal, map};
 ghost use Rattle.std.specs.List.{list_any};
+ghost use Rattle.std.specs.Option.{unwrap_or};
 ghost use Rattle.mmtel_leg.specs.Addresses.{contact_text, via_text};
-ghost use Rattle.mmtel_leg.specs.Dialogues.{after_request, or_zero};
+ghost use Rattle.mmtel_leg.specs.Dialogues.{after_request};
 ghost use Rattle.mmtel_leg.specs.Lines.{line, pair_of};
 ghost use Rattle.mmtel_leg.specs.Requests.{ack_of, contact_lines, content_lines, cseq_text, dialog_lines, is_contact, is_contacting, numbered, request_of, route_line, routing_lines, to_text};
 
@@ -291,16 +292,6 @@ impl Dialogue {
         Ok(message)
     }
 
-    /// The number of the server's last INVITE, or 0 where it sent none.
-    fn number_of_ack(&self) -> u64
-        ensures { result ≡ or_zero self.now.invited }
-    {
-        match self.invited {
-            None => 0,
-            Some(invited) => invited,
-        }
-    }
-
     /// The ACK of the server's last INVITE (RFC 3261 §13.2.2.4). Where it sent none, there is nothing to acknowledge, and the number is 0.
     ///
     /// # Errors
@@ -309,6 +300,6 @@ impl Dialogue {
     pub fn ack(&self, alloc: Global, parts: &Parts<'_>) -> Result<Msg, NoMemory>
         ensures message { IfOk result (λ m. m ≡ ack_of self.now parts.now) }
     {
-        numbered(alloc, self, self.number_of_ack(), b"ACK", parts)
+        numbered(alloc, self, self.invited.unwrap_or(0), b"ACK", parts)
     }
 }

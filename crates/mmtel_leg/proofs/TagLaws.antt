@@ -154,7 +154,7 @@ local_stays leg deeds = stays (λ (d : Dialogue). d.local) (λ d r. refl) (λ d 
 remote_stays : (leg : Leg) (deeds : List Deed) → (after leg deeds).dialogue.remote ≡ leg.dialogue.remote
 remote_stays leg deeds = stays (λ (d : Dialogue). d.remote) (λ d r. refl) (λ d method. refl) (λ d m. refl) leg deeds
 
-side_stays : (leg : Leg) (deeds : List Deed) → (after leg deeds).dialogue.side ≡ leg.dialogue.side
+pub side_stays : (leg : Leg) (deeds : List Deed) → (after leg deeds).dialogue.side ≡ leg.dialogue.side
 side_stays leg deeds = stays (λ (d : Dialogue). d.side) (λ d r. refl) (λ d method. refl) (λ d m. refl) leg deeds
 
 -- ---- the tags in what is built
@@ -205,21 +205,27 @@ callee_from peer invite meter deeds number method given =
     let leg : Leg = record { dialogue = started peer invite; meter = meter } in
     from_reads (after leg deeds).dialogue number method given (field (codes "From") invite.lines) (local_stays leg deeds) ∙ kept_field (codes "From") invite.lines
 
--- behind a callee's To comes its tag, which is not empty
-filled_value : (tag : List ℕ) → IsValue tag → 0 < length tag
-filled_value tag (inl is) = is.filled
-filled_value tag (inr is) = omega (arith, ap (λ (l : List ℕ). length l) is.whole)
+-- behind a callee's To comes its tag, where it gave one
+without_tag : (ps : List Param) → not (list_any is_tag ps) ≡ true → param_value (codes "tag") ps ≡ None
+without_tag [] none = refl
+without_tag (p ∷ ps) none =
+    let both = neither (is_tag p) (list_any is_tag ps) none in
+    rw (both.0, without_tag ps both.1) refl
 
-callee_text : (value tag : List ℕ) → 0 < length tag → to_text Callee value tag ≡ tagged value tag
-callee_text value [] filled = absurd (omega arith)
-callee_text value (b ∷ tag) filled = refl
+no_tag_by : (s : List ℕ) (o : Option NameAddr) → name_addr_of s ≡ o → is_untagged o ≡ true → tag_of (Some s) ≡ None
+no_tag_by s None e untagged = absurd cc
+no_tag_by s (Some n) e untagged = ap (λ (o : Option NameAddr). o >>= λ m. param_value (codes "tag") m.params) e ∙ without_tag n.params untagged
 
-pub callee_to : (peer : Peer) (invite : Message Start) (meter : Option Noted) (deeds : List Deed) (number : ℕ) (method : List ℕ) (given : Given) → is_untagged (name_addr_of (field (codes "To") invite.lines)) ≡ true → IsValue (after (record { dialogue = started peer invite; meter = meter }) deeds).dialogue.remote_tag → tag_in (codes "To") (numbered (after (record { dialogue = started peer invite; meter = meter }) deeds).dialogue number method given).lines ≡ (after (record { dialogue = started peer invite; meter = meter }) deeds).dialogue.remote_tag
-callee_to peer invite meter deeds number method given untagged value =
+read_tag : (value tag : List ℕ) → is_untagged (name_addr_of value) ≡ true → (tag ≡ []) ⊎ IsValue tag → unwrap_or (tag_of (Some (to_text Callee value tag))) [] ≡ tag
+read_tag value [] untagged is = ap (λ (o : Option (List ℕ)). unwrap_or o []) (no_tag_by value (name_addr_of value) refl untagged)
+read_tag value (b ∷ tag) untagged (inl none) = absurd cc
+read_tag value (b ∷ tag) untagged (inr is) = ap (λ (o : Option (List ℕ)). unwrap_or o []) (tag_again value (b ∷ tag) untagged is)
+
+pub callee_to : (peer : Peer) (invite : Message Start) (meter : Option Noted) (deeds : List Deed) (number : ℕ) (method : List ℕ) (given : Given) → is_untagged (name_addr_of (field (codes "To") invite.lines)) ≡ true → ((after (record { dialogue = started peer invite; meter = meter }) deeds).dialogue.remote_tag ≡ []) ⊎ IsValue (after (record { dialogue = started peer invite; meter = meter }) deeds).dialogue.remote_tag → tag_in (codes "To") (numbered (after (record { dialogue = started peer invite; meter = meter }) deeds).dialogue number method given).lines ≡ (after (record { dialogue = started peer invite; meter = meter }) deeds).dialogue.remote_tag
+callee_to peer invite meter deeds number method given untagged is =
     let leg : Leg = record { dialogue = started peer invite; meter = meter } in
     let d : Dialogue = (after leg deeds).dialogue in
-    let to : to_text d.side d.remote d.remote_tag ≡ tagged (field (codes "To") invite.lines) d.remote_tag =
-    ap (λ (side : Side). to_text side d.remote d.remote_tag) (side_stays leg deeds)
-    ∙ (ap (λ (l : List ℕ). to_text Callee l d.remote_tag) (remote_stays leg deeds) ∙ callee_text (field (codes "To") invite.lines) d.remote_tag (filled_value d.remote_tag value)) in
-    to_reads d number method given (tagged (field (codes "To") invite.lines) d.remote_tag) to
-    ∙ ap (λ (o : Option (List ℕ)). unwrap_or o []) (tag_again (field (codes "To") invite.lines) d.remote_tag untagged value)
+    let value : List ℕ = field (codes "To") invite.lines in
+    let to : to_text d.side d.remote d.remote_tag ≡ to_text Callee value d.remote_tag =
+    ap (λ (side : Side). to_text side d.remote d.remote_tag) (side_stays leg deeds) ∙ ap (λ (l : List ℕ). to_text Callee l d.remote_tag) (remote_stays leg deeds) in
+    to_reads d number method given (to_text Callee value d.remote_tag) to ∙ read_tag value d.remote_tag untagged is

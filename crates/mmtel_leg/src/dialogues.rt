@@ -147,7 +147,50 @@ fn tagged(alloc: Global, value: Text, tag: &[u8]) -> Result<Text, NoMemory>
     Ok(out)
 }
 
+/// The same texts.
+fn texts_copied(alloc: Global, texts: &[Text]) -> Result<List<Text>, NoMemory>
+    ensures { IfOk result (λ copy. copy ≡ texts.now) }
+{
+    let mut copy = List::new();
+    for text in texts {
+        let text = Text::of(alloc, text.bytes())?;
+        copy.push(alloc, text)?;
+    }
+    Ok(copy)
+}
+
 impl Dialogue {
+    /// The same dialog.
+    ///
+    /// # Errors
+    ///
+    /// Want of memory alone.
+    pub fn copied(&self, alloc: Global) -> Result<Dialogue, NoMemory>
+        ensures copy { IfOk result (λ d. d ≡ self.now) }
+    {
+        let call_id = Text::of(alloc, self.call_id.bytes())?;
+        let local = Text::of(alloc, self.local.bytes())?;
+        let remote = Text::of(alloc, self.remote.bytes())?;
+        let local_tag = Text::of(alloc, self.local_tag.bytes())?;
+        let remote_tag = Text::of(alloc, self.remote_tag.bytes())?;
+        let target = Text::of(alloc, self.target.bytes())?;
+        let routes = texts_copied(alloc, self.routes.items())?;
+        Ok(Dialogue {
+            side: self.side,
+            peer: self.peer,
+            call_id,
+            local,
+            remote,
+            local_tag,
+            remote_tag,
+            target,
+            routes,
+            own: self.own,
+            last: self.last,
+            invited: self.invited,
+        })
+    }
+
     /// The dialog of an INVITE that came from the peer, where the server answers with this tag (RFC 3261 §12.1.1).
     ///
     /// # Errors

@@ -10,7 +10,8 @@ ghost use Rattle.mmtel_lex.specs.declared.values.NameAddr.{NameAddr};
 ghost use Rattle.mmtel_message.specs.Fields.{five_at};
 ghost use Rattle.mmtel_charging.specs.Meters.{Noted};
 ghost use Rattle.mmtel_types.specs.declared.numbers.Peer.{Peer};
-ghost use Rattle.mmtel_leg.specs.Deeds.Deed.{Asks, Hears};
+ghost use Rattle.mmtel_leg.specs.Deeds.Deed.{Asks, Hears, Meets};
+ghost use Rattle.mmtel_leg.specs.declared.remotes.Remote.{Remote};
 ghost use Rattle.mmtel_leg.specs.Dialogues.{hears, number_in, tagged};
 ghost use Rattle.mmtel_leg.specs.Remotes.{field, is_untagged, tag_in};
 ghost use Rattle.mmtel_leg.specs.declared.dialogues.DialogueFault.{DialogueFault};
@@ -44,7 +45,7 @@ pub fn tags_read_back()
     ensures caller_from { (peer : Peer) (invite : Message Start) (tag : List ℕ) (meter : Option Noted) (deeds : List Deed) (number : ℕ) (method : List ℕ) (given : Given) → is_untagged (name_addr_of (field (codes "To") invite.lines)) ≡ true → IsValue tag → tag_in (codes "From") (numbered (caller_after peer invite tag meter deeds) number method given).lines ≡ tag }
     ensures caller_to { (peer : Peer) (invite : Message Start) (tag : List ℕ) (meter : Option Noted) (deeds : List Deed) (number : ℕ) (method : List ℕ) (given : Given) → tag_in (codes "To") (numbered (caller_after peer invite tag meter deeds) number method given).lines ≡ tag_in (codes "From") invite.lines }
     ensures callee_from { (peer : Peer) (invite : Message Start) (meter : Option Noted) (deeds : List Deed) (number : ℕ) (method : List ℕ) (given : Given) → tag_in (codes "From") (numbered (callee_after peer invite meter deeds) number method given).lines ≡ tag_in (codes "From") invite.lines }
-    ensures callee_to { (peer : Peer) (invite : Message Start) (meter : Option Noted) (deeds : List Deed) (number : ℕ) (method : List ℕ) (given : Given) → is_untagged (name_addr_of (field (codes "To") invite.lines)) ≡ true → IsValue (callee_after peer invite meter deeds).remote_tag → tag_in (codes "To") (numbered (callee_after peer invite meter deeds) number method given).lines ≡ (callee_after peer invite meter deeds).remote_tag }
+    ensures callee_to { (peer : Peer) (invite : Message Start) (meter : Option Noted) (deeds : List Deed) (number : ℕ) (method : List ℕ) (given : Given) → is_untagged (name_addr_of (field (codes "To") invite.lines)) ≡ true → ((callee_after peer invite meter deeds).remote_tag ≡ []) ⊎ IsValue (callee_after peer invite meter deeds).remote_tag → tag_in (codes "To") (numbered (callee_after peer invite meter deeds) number method given).lines ≡ (callee_after peer invite meter deeds).remote_tag }
     ensures tagged { (value : List ℕ) (n : NameAddr) (tag : List ℕ) → name_addr_of value ≡ Some n → IsValue tag → name_addr_of (tagged value tag) ≡ Some (record n { params = n.params ++ record { name = codes "tag"; value = Some tag } ∷ [] }) }
     ensures values { (name : List ℕ) (m : Message Start) → (tag_in name m.lines ≡ []) ⊎ IsValue (tag_in name m.lines) }
 {}
@@ -71,6 +72,13 @@ pub fn requests_name_their_dialog()
     ensures call_id { (d : Dialogue) (number : ℕ) (method : List ℕ) (given : Given) → first_value (codes "Call-ID") (numbered d number method given).lines ≡ Some d.call_id }
     ensures from { (d : Dialogue) (number : ℕ) (method : List ℕ) (given : Given) → first_value (codes "From") (numbered d number method given).lines ≡ Some d.local }
     ensures to { (d : Dialogue) (number : ℕ) (method : List ℕ) (given : Given) → first_value (codes "To") (numbered d number method given).lines ≡ Some (to_text d.side d.remote d.remote_tag) }
+{}
+
+/// The last answer of a callee decides, whatever was said before it: until the callee speaks of itself again, its tag and the routes to it are those of that answer, also where these are none, and its target is the answer's where that has one (RFC 3261 §12.1.2, §13.2.2.4).
+pub fn the_last_answer_decides()
+    ensures tag { (peer : Peer) (invite : Message Start) (meter : Option Noted) (before later : List Deed) (answer : Remote) → list_all is_later later ≡ true → (callee_after peer invite meter (before ++ Meets answer ∷ later)).remote_tag ≡ answer.tag }
+    ensures routes { (peer : Peer) (invite : Message Start) (meter : Option Noted) (before later : List Deed) (answer : Remote) → list_all is_later later ≡ true → (callee_after peer invite meter (before ++ Meets answer ∷ later)).routes ≡ answer.routes }
+    ensures target { (peer : Peer) (invite : Message Start) (meter : Option Noted) (before later : List Deed) (answer : Remote) → list_all is_later later ≡ true → 0 < length answer.target → (callee_after peer invite meter (before ++ Meets answer ∷ later)).target ≡ answer.target }
 {}
 
 /// Nothing that is heard, asked or swapped after a leg stands changes its target or its routes.

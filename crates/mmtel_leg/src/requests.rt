@@ -225,14 +225,18 @@ fn add_content(
 }
 
 /// The request of the method with this number, to the target of the dialog.
-fn numbered(
+///
+/// # Errors
+///
+/// Want of memory alone.
+pub fn numbered(
     alloc: Global,
     dialogue: &Dialogue,
     number: u64,
     method: &[u8],
     parts: &Parts<'_>,
 ) -> Result<Msg, NoMemory>
-    ensures { IfOk result (λ m. m ≡ numbered dialogue.now number method.now parts.now) }
+    ensures message { IfOk result (λ m. m ≡ numbered dialogue.now number method.now parts.now) }
 {
     let routes = dialogue.routes.items();
     let mut lines = List::new();
@@ -286,8 +290,7 @@ impl Dialogue {
         ensures counted { OnOk result (self.new ≡ after_request self.old method.now) }
         ensures refused { OnErr result (self.new ≡ self.old) }
     {
-        let number = self.own.saturating_add(1);
-        let message = numbered(alloc, self, number, method, parts)?;
+        let message = numbered(alloc, self, self.own.saturating_add(1), method, parts)?;
         self.count(method);
         Ok(message)
     }

@@ -63,7 +63,7 @@ taken peer ls tag = record {
   invited = None;
 }
 
--- the dialog of an INVITE that the server sends (§12.1.2); until it is answered the target is the Request-URI
+-- the dialog of an INVITE that the server sends (§12.1.2); until it is answered the target is the Request-URI; a number that cannot be read counts as 0
 abbrev pub started : Peer → Message Start → Dialogue
 started peer m = record {
   side = Callee;
@@ -130,6 +130,7 @@ after_hearing d m = record d { last = last_after (number_in m.lines) d.last }
 
 -- ---- what is asked in a dialog
 
+-- the number of the last INVITE, once a request of the method was made with this number
 abbrev pub invited_by : List ℕ → ℕ → Option ℕ → Option ℕ
 invited_by method number before = if bytes_eq method (codes "INVITE") then Some number else before
 

@@ -138,7 +138,7 @@ fn names_itself(side: Side, tag: &[u8]) -> bool
 }
 
 /// A From or To value with a tag behind it.
-fn tagged(alloc: Global, value: Text, tag: &[u8]) -> Result<Text, NoMemory>
+pub fn tagged(alloc: Global, value: Text, tag: &[u8]) -> Result<Text, NoMemory>
     ensures { IfOk result (λ t. t ≡ tagged value tag.now) }
 {
     let mut out = value;

@@ -21,6 +21,6 @@ pub use laws::{
 pub use legs::{
     Asked, CalleeLeg, CallerLeg, Early, Ended, LegOf, OfCallee, OfCaller, Released, Standing,
 };
-pub use lines::{add_bytes, add_decimal, add_line, add_number};
+pub use lines::{add_bytes, add_decimal, add_line, add_number, add_passed};
 pub use remotes::Remote;
 pub use requests::{Parts, numbered};

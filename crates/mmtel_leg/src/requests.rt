@@ -8,8 +8,8 @@ ghost use Rattle.mmtel_leg.specs.Lines.{line, pair_of};
 ghost use Rattle.mmtel_leg.specs.Requests.{ack_of, contact_lines, content_lines, cseq_text, dialog_lines, is_contact, is_contacting, numbered, request_of, route_line, routing_lines, to_text};
 
 use crate::addresses::{contact_text, via_text};
-use crate::dialogues::Dialogue;
-use crate::lines::{add_bytes, add_decimal, add_line, add_number};
+use crate::dialogues::{Dialogue, tagged};
+use crate::lines::{add_bytes, add_decimal, add_line, add_number, add_passed};
 use mmtel_message::{Msg, Start};
 use mmtel_scan::{List, NoMemory, Text};
 use mmtel_trust::{Addr, Line};
@@ -112,16 +112,12 @@ fn add_routing(
 fn to_text(alloc: Global, side: Side, value: &[u8], tag: &[u8]) -> Result<Text, NoMemory>
     ensures { IfOk result (λ t. t ≡ to_text side value.now tag.now) }
 {
-    let mut out = Text::of(alloc, value)?;
+    let value = Text::of(alloc, value)?;
     match side {
-        Side::Caller => Ok(out),
+        Side::Caller => Ok(value),
         Side::Callee => match tag {
-            [] => Ok(out),
-            _ => {
-                out.push(alloc, b";tag=")?;
-                out.push(alloc, tag)?;
-                Ok(out)
-            }
+            [] => Ok(value),
+            _ => tagged(alloc, value, tag),
         },
     }
 }
@@ -195,18 +191,6 @@ fn add_contact(
     Ok(())
 }
 
-/// Adds the lines that are passed on.
-fn add_shown(alloc: Global, out: &mut List<(Text, Text)>, shown: &[Line]) -> Result<(), NoMemory>
-    ensures { OnOk result (out.new ≡ out.old ++ map pair_of shown.now) }
-{
-    for line in shown {
-        let name = Text::of(alloc, line.name.bytes())?;
-        let value = Text::of(alloc, line.value.bytes())?;
-        out.push(alloc, (name, value))?;
-    }
-    Ok(())
-}
-
 /// Adds what the request brings.
 fn add_content(
     alloc: Global,
@@ -219,7 +203,7 @@ fn add_content(
     ensures { OnOk result (out.new ≡ out.old ++ content_lines method.now sip shown.now body.now) }
 {
     add_contact(alloc, out, method, sip, shown)?;
-    add_shown(alloc, out, shown)?;
+    add_passed(alloc, out, shown)?;
     add_decimal(alloc, out, b"Content-Length", body.len() as u64)?;
     Ok(())
 }

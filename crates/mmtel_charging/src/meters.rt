@@ -41,6 +41,13 @@ impl Meter {
         }
     }
 
+    /// For what it runs.
+    pub fn kind(&self) -> Kind
+        ensures kind { result ≡ self.now.kind }
+    {
+        self.kind
+    }
+
     /// Notes the moment at which the call was answered, in place of any that was noted before.
     pub fn answered(&mut self, now: Moment)
         ensures noted { self.new ≡ record self.old { answered = Some now } }

@@ -5,3 +5,4 @@ pub mod ReadLaws
 pub mod OrderLaws
 pub mod TagLaws
 pub mod FiveLaws
+pub mod AnswerLaws

@@ -1,6 +1,7 @@
 -- The requests of a leg are heard in order on the other side (RFC 3261 §12.2.2), and an ACK has the number of its INVITE (§13.2.2.4).
 use Rattle.std.proofs.Common.{◌∙◌, ◌≡◌, ◌<◌, ◌≤◌, ◌+◌, ◌^◌, Bool, true, false, not, ℕ, nat_lt, List, [], ◌∷◌, Option, Some, None, Result, Ok, Err, ap, arith, codes, refl, sym}
 use Rattle.std.specs.List.{list_all}
+use Rattle.std.specs.Option.{unwrap_or}
 use Rattle.std.specs.Str.{bytes_eq}
 use Rattle.std.proofs.lemmas.Bool.Decides.{nat_tests}
 use Rattle.mmtel_scan.specs.Chain.{◌>>=◌}
@@ -13,7 +14,7 @@ use Rattle.mmtel_message.specs.Faults.{is_method}
 use Rattle.mmtel_message.specs.Fields.{cseq_at}
 use Rattle.mmtel_message.specs.Message.{Message}
 use Rattle.mmtel_message.specs.declared.messages.Start.{Start}
-use Rattle.mmtel_leg.specs.Dialogues.{after_hearing, after_request, hears, last_after, next_number, number_at, number_in, or_zero, started, unless_busy, unless_old}
+use Rattle.mmtel_leg.specs.Dialogues.{after_hearing, after_request, hears, last_after, next_number, number_at, number_in, started, unless_busy, unless_old}
 use Rattle.mmtel_leg.specs.declared.dialogues.Dialogue.{Dialogue}
 use Rattle.mmtel_leg.specs.declared.dialogues.DialogueFault.{DialogueFault}
 use Rattle.mmtel_leg.specs.declared.dialogues.InFlight.TheVariants as in_flight
@@ -36,9 +37,9 @@ ack_token : IsToken (codes "ACK")
 unfolding in_class
 ack_token = record { filled = omega arith; each = refl }
 
-pub ack_reads : (d : Dialogue) (given : Given) → or_zero d.invited < 2 ^ 31 → ReadsAs (or_zero d.invited) (codes "ACK") (ack_of d given)
+pub ack_reads : (d : Dialogue) (given : Given) → unwrap_or d.invited 0 < 2 ^ 31 → ReadsAs (unwrap_or d.invited 0) (codes "ACK") (ack_of d given)
 ack_reads d given small =
-    ap (λ (o : Option (List ℕ)). o >>= cseq_at) (cseq d (or_zero d.invited) (codes "ACK") given) ∙ cseq_again (or_zero d.invited) (codes "ACK") small ack_token
+    ap (λ (o : Option (List ℕ)). o >>= cseq_at) (cseq d (unwrap_or d.invited 0) (codes "ACK") given) ∙ cseq_again (unwrap_or d.invited 0) (codes "ACK") small ack_token
 
 -- ---- what is heard of the requests
 
@@ -99,7 +100,7 @@ invited_stays leg (Hears request busy ∷ deeds) others =
 invited_stays leg (Swaps meter ∷ deeds) others = invited_stays (after_deed leg (Swaps meter)) deeds others
 
 ack_has : (d : Dialogue) (n : ℕ) (ack : Given) → d.invited ≡ Some n → HasNumber n (ack_of d ack)
-ack_has d n ack e = (codes "ACK", cseq d (or_zero d.invited) (codes "ACK") ack ∙ ap (λ (o : Option ℕ). Some (cseq_text (or_zero o) (codes "ACK"))) e)
+ack_has d n ack e = (codes "ACK", cseq d (unwrap_or d.invited 0) (codes "ACK") ack ∙ ap (λ (o : Option ℕ). Some (cseq_text (unwrap_or o 0) (codes "ACK"))) e)
 
 pub made : (leg : Leg) (invite ack : Given) (deeds : List Deed) → list_all is_not_invite deeds ≡ true → HaveOneNumber (request_of leg.dialogue (codes "INVITE") invite) (ack_of (after (after_deed leg (Asks (codes "INVITE") invite)) deeds).dialogue ack)
 made leg invite ack deeds others =

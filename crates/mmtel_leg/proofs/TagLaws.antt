@@ -2,6 +2,7 @@
 use Rattle.std.proofs.Common.{◌∙◌, ◌≡◌, ◌⊎◌, inl, inr, ◌||◌, Bool, true, false, not, ℕ, List, [], ◌∷◌, ◌++◌, Option, Some, None, Result, Ok, Err, IfSome, ◌<◌, append-nil, append_assoc, ap, arith, codes, cond, length, refl, sym, subst}
 use Rattle.std.proofs.lemmas.List.{length-append}
 use Rattle.std.specs.List.{list_any}
+use Rattle.std.specs.Option.{unwrap_or}
 use Rattle.mmtel_scan.specs.Chain.{◌>>=◌}
 use Rattle.mmtel_scan.specs.Classes.{Stops, in_class}
 use Rattle.mmtel_scan.specs.declared.classes.Class.TheVariants.{Blank}
@@ -23,7 +24,7 @@ use Rattle.mmtel_leg.specs.Deeds.{Deed, after, after_answer, after_deed}
 use Rattle.mmtel_leg.specs.Deeds.Deed.{Meets, Asks, Hears, Swaps}
 use Rattle.mmtel_leg.specs.Dialogues.{after_hearing, after_request, hears, met, started, tagged, taken}
 use Rattle.mmtel_leg.specs.Legs.{Leg}
-use Rattle.mmtel_leg.specs.Remotes.{field, is_tag, is_untagged, or_nothing, tag_in}
+use Rattle.mmtel_leg.specs.Remotes.{field, is_tag, is_untagged, tag_in}
 use Rattle.mmtel_leg.specs.Requests.{Given, numbered, to_text}
 use Rattle.mmtel_leg.specs.declared.dialogues.Dialogue.{Dialogue}
 use Rattle.mmtel_leg.specs.declared.dialogues.DialogueFault.{DialogueFault}
@@ -117,7 +118,7 @@ params_in : (s : List ℕ) (n : NameAddr) → IsNameAddr s n → AreParams n.par
 params_in s n (inl is) = is.params_in
 params_in s n (inr is) = is.params_in
 
-value_of : (o : Option (List ℕ)) → IfSome o IsValue → (or_nothing o ≡ []) ⊎ IsValue (or_nothing o)
+value_of : (o : Option (List ℕ)) → IfSome o IsValue → (unwrap_or o [] ≡ []) ⊎ IsValue (unwrap_or o [])
 value_of None is = inl refl
 value_of (Some tag) is = inr is
 
@@ -153,7 +154,7 @@ local_stays leg deeds = stays (λ (d : Dialogue). d.local) (λ d r. refl) (λ d 
 remote_stays : (leg : Leg) (deeds : List Deed) → (after leg deeds).dialogue.remote ≡ leg.dialogue.remote
 remote_stays leg deeds = stays (λ (d : Dialogue). d.remote) (λ d r. refl) (λ d method. refl) (λ d m. refl) leg deeds
 
-side_stays : (leg : Leg) (deeds : List Deed) → (after leg deeds).dialogue.side ≡ leg.dialogue.side
+pub side_stays : (leg : Leg) (deeds : List Deed) → (after leg deeds).dialogue.side ≡ leg.dialogue.side
 side_stays leg deeds = stays (λ (d : Dialogue). d.side) (λ d r. refl) (λ d method. refl) (λ d m. refl) leg deeds
 
 -- ---- the tags in what is built
@@ -163,34 +164,34 @@ no_name : (n : NameAddr) → IsNameAddr [] n → ⊥
 no_name n (inl is) = absurd (omega (arith, ap (λ (l : List ℕ). length l) is.whole, length-append n.display (is.gap ++ (60 ∷ (n.uri ++ 62 ∷ params_text n.params))), length-append is.gap (60 ∷ (n.uri ++ 62 ∷ params_text n.params))))
 no_name n (inr is) = absurd (omega (arith, is.uri_in.filled, ap (λ (l : List ℕ). length l) is.whole, length-append n.uri (params_text n.params)))
 
-unnamed : (o : Option NameAddr) → name_addr_of [] ≡ o → or_nothing (o >>= λ n. param_value (codes "tag") n.params) ≡ []
+unnamed : (o : Option NameAddr) → name_addr_of [] ≡ o → unwrap_or (o >>= λ n. param_value (codes "tag") n.params) [] ≡ []
 unnamed None e = refl
 unnamed (Some n) e = absurd (no_name n (name_addr_takes [] n e))
 
-kept_tag : (o : Option (List ℕ)) → or_nothing (tag_of (Some (or_nothing o))) ≡ or_nothing (tag_of o)
+kept_tag : (o : Option (List ℕ)) → unwrap_or (tag_of (Some (unwrap_or o []))) [] ≡ unwrap_or (tag_of o) []
 kept_tag (Some value) = refl
 kept_tag None = unnamed (name_addr_of []) refl
 
 -- what is read of the line of this name, where that is known
-reads : (name : List ℕ) (ls : List Line) (value : List ℕ) → first_value name ls ≡ Some value → tag_in name ls ≡ or_nothing (tag_of (Some value))
+reads : (name : List ℕ) (ls : List Line) (value : List ℕ) → first_value name ls ≡ Some value → tag_in name ls ≡ unwrap_or (tag_of (Some value)) []
 unfolding tag_in
-reads name ls value e = ap (λ (o : Option (List ℕ)). or_nothing (tag_of o)) e
+reads name ls value e = ap (λ (o : Option (List ℕ)). unwrap_or (tag_of o) []) e
 
-kept_field : (name : List ℕ) (ls : List Line) → or_nothing (tag_of (Some (field name ls))) ≡ tag_in name ls
+kept_field : (name : List ℕ) (ls : List Line) → unwrap_or (tag_of (Some (field name ls))) [] ≡ tag_in name ls
 unfolding tag_in field
 kept_field name ls = kept_tag (first_value name ls)
 
-from_reads : (d : Dialogue) (number : ℕ) (method : List ℕ) (given : Given) (value : List ℕ) → d.local ≡ value → tag_in (codes "From") (numbered d number method given).lines ≡ or_nothing (tag_of (Some value))
+from_reads : (d : Dialogue) (number : ℕ) (method : List ℕ) (given : Given) (value : List ℕ) → d.local ≡ value → tag_in (codes "From") (numbered d number method given).lines ≡ unwrap_or (tag_of (Some value)) []
 from_reads d number method given value e = reads (codes "From") (numbered d number method given).lines value (lines.from d number method given ∙ ap (λ (l : List ℕ). Some l) e)
 
-to_reads : (d : Dialogue) (number : ℕ) (method : List ℕ) (given : Given) (value : List ℕ) → to_text d.side d.remote d.remote_tag ≡ value → tag_in (codes "To") (numbered d number method given).lines ≡ or_nothing (tag_of (Some value))
+to_reads : (d : Dialogue) (number : ℕ) (method : List ℕ) (given : Given) (value : List ℕ) → to_text d.side d.remote d.remote_tag ≡ value → tag_in (codes "To") (numbered d number method given).lines ≡ unwrap_or (tag_of (Some value)) []
 to_reads d number method given value e = reads (codes "To") (numbered d number method given).lines value (lines.to d number method given ∙ ap (λ (l : List ℕ). Some l) e)
 
 pub caller_from : (peer : Peer) (invite : Message Start) (tag : List ℕ) (meter : Option Noted) (deeds : List Deed) (number : ℕ) (method : List ℕ) (given : Given) → is_untagged (name_addr_of (field (codes "To") invite.lines)) ≡ true → IsValue tag → tag_in (codes "From") (numbered (after (record { dialogue = taken peer invite.lines tag; meter = meter }) deeds).dialogue number method given).lines ≡ tag
 caller_from peer invite tag meter deeds number method given untagged value =
     let leg : Leg = record { dialogue = taken peer invite.lines tag; meter = meter } in
     from_reads (after leg deeds).dialogue number method given (tagged (field (codes "To") invite.lines) tag) (local_stays leg deeds)
-    ∙ ap (λ (o : Option (List ℕ)). or_nothing o) (tag_again (field (codes "To") invite.lines) tag untagged value)
+    ∙ ap (λ (o : Option (List ℕ)). unwrap_or o []) (tag_again (field (codes "To") invite.lines) tag untagged value)
 
 pub caller_to : (peer : Peer) (invite : Message Start) (tag : List ℕ) (meter : Option Noted) (deeds : List Deed) (number : ℕ) (method : List ℕ) (given : Given) → tag_in (codes "To") (numbered (after (record { dialogue = taken peer invite.lines tag; meter = meter }) deeds).dialogue number method given).lines ≡ tag_in (codes "From") invite.lines
 caller_to peer invite tag meter deeds number method given =
@@ -204,21 +205,27 @@ callee_from peer invite meter deeds number method given =
     let leg : Leg = record { dialogue = started peer invite; meter = meter } in
     from_reads (after leg deeds).dialogue number method given (field (codes "From") invite.lines) (local_stays leg deeds) ∙ kept_field (codes "From") invite.lines
 
--- behind a callee's To comes its tag, which is not empty
-filled_value : (tag : List ℕ) → IsValue tag → 0 < length tag
-filled_value tag (inl is) = is.filled
-filled_value tag (inr is) = omega (arith, ap (λ (l : List ℕ). length l) is.whole)
+-- behind a callee's To comes its tag, where it gave one
+without_tag : (ps : List Param) → not (list_any is_tag ps) ≡ true → param_value (codes "tag") ps ≡ None
+without_tag [] none = refl
+without_tag (p ∷ ps) none =
+    let both = neither (is_tag p) (list_any is_tag ps) none in
+    rw (both.0, without_tag ps both.1) refl
 
-callee_text : (value tag : List ℕ) → 0 < length tag → to_text Callee value tag ≡ tagged value tag
-callee_text value [] filled = absurd (omega arith)
-callee_text value (b ∷ tag) filled = refl
+no_tag_by : (s : List ℕ) (o : Option NameAddr) → name_addr_of s ≡ o → is_untagged o ≡ true → tag_of (Some s) ≡ None
+no_tag_by s None e untagged = absurd cc
+no_tag_by s (Some n) e untagged = ap (λ (o : Option NameAddr). o >>= λ m. param_value (codes "tag") m.params) e ∙ without_tag n.params untagged
 
-pub callee_to : (peer : Peer) (invite : Message Start) (meter : Option Noted) (deeds : List Deed) (number : ℕ) (method : List ℕ) (given : Given) → is_untagged (name_addr_of (field (codes "To") invite.lines)) ≡ true → IsValue (after (record { dialogue = started peer invite; meter = meter }) deeds).dialogue.remote_tag → tag_in (codes "To") (numbered (after (record { dialogue = started peer invite; meter = meter }) deeds).dialogue number method given).lines ≡ (after (record { dialogue = started peer invite; meter = meter }) deeds).dialogue.remote_tag
-callee_to peer invite meter deeds number method given untagged value =
+read_tag : (value tag : List ℕ) → is_untagged (name_addr_of value) ≡ true → (tag ≡ []) ⊎ IsValue tag → unwrap_or (tag_of (Some (to_text Callee value tag))) [] ≡ tag
+read_tag value [] untagged is = ap (λ (o : Option (List ℕ)). unwrap_or o []) (no_tag_by value (name_addr_of value) refl untagged)
+read_tag value (b ∷ tag) untagged (inl none) = absurd cc
+read_tag value (b ∷ tag) untagged (inr is) = ap (λ (o : Option (List ℕ)). unwrap_or o []) (tag_again value (b ∷ tag) untagged is)
+
+pub callee_to : (peer : Peer) (invite : Message Start) (meter : Option Noted) (deeds : List Deed) (number : ℕ) (method : List ℕ) (given : Given) → is_untagged (name_addr_of (field (codes "To") invite.lines)) ≡ true → ((after (record { dialogue = started peer invite; meter = meter }) deeds).dialogue.remote_tag ≡ []) ⊎ IsValue (after (record { dialogue = started peer invite; meter = meter }) deeds).dialogue.remote_tag → tag_in (codes "To") (numbered (after (record { dialogue = started peer invite; meter = meter }) deeds).dialogue number method given).lines ≡ (after (record { dialogue = started peer invite; meter = meter }) deeds).dialogue.remote_tag
+callee_to peer invite meter deeds number method given untagged is =
     let leg : Leg = record { dialogue = started peer invite; meter = meter } in
     let d : Dialogue = (after leg deeds).dialogue in
-    let to : to_text d.side d.remote d.remote_tag ≡ tagged (field (codes "To") invite.lines) d.remote_tag =
-    ap (λ (side : Side). to_text side d.remote d.remote_tag) (side_stays leg deeds)
-    ∙ (ap (λ (l : List ℕ). to_text Callee l d.remote_tag) (remote_stays leg deeds) ∙ callee_text (field (codes "To") invite.lines) d.remote_tag (filled_value d.remote_tag value)) in
-    to_reads d number method given (tagged (field (codes "To") invite.lines) d.remote_tag) to
-    ∙ ap (λ (o : Option (List ℕ)). or_nothing o) (tag_again (field (codes "To") invite.lines) d.remote_tag untagged value)
+    let value : List ℕ = field (codes "To") invite.lines in
+    let to : to_text d.side d.remote d.remote_tag ≡ to_text Callee value d.remote_tag =
+    ap (λ (side : Side). to_text side d.remote d.remote_tag) (side_stays leg deeds) ∙ ap (λ (l : List ℕ). to_text Callee l d.remote_tag) (remote_stays leg deeds) in
+    to_reads d number method given (to_text Callee value d.remote_tag) to ∙ read_tag value d.remote_tag untagged is

@@ -1,6 +1,6 @@
 -- What a leg knows of its dialog (RFC 3261 §12): its names, the way to the other side, and its numbers; how it begins (§12.1), what it takes of the other side, and which requests it hears (§12.2.2, §14.2).
-use Rattle.std.specs.Prelude.{ℕ, ◌+◌, ◌-◌, ◌^◌, min, nat_lt, Bool, if◌then◌else◌, List, [], ◌∷◌, ◌++◌, Option, Some, None, Result, Ok, Err, codes}
-use Rattle.std.specs.Option.{option_map}
+use Rattle.std.specs.Prelude.{ℕ, ◌+◌, ◌-◌, ◌^◌, min, nat_lt, Bool, true, false, if◌then◌else◌, List, [], ◌∷◌, ◌++◌, Option, Some, None, Result, Ok, Err, codes}
+use Rattle.std.specs.Option.{option_map, unwrap_or}
 use Rattle.std.specs.Str.{bytes_eq}
 use Rattle.mmtel_scan.specs.Chain.{◌>>=◌}
 use Rattle.mmtel_message.specs.Faults.{is_method}
@@ -11,6 +11,7 @@ use Rattle.mmtel_message.specs.declared.messages.Start.{Start}
 use Rattle.mmtel_message.specs.declared.messages.Start.TheVariants.{Request, Status}
 use Rattle.mmtel_trust.specs.Privacy.{Line}
 use Rattle.mmtel_types.specs.declared.numbers.Peer.{Peer}
+use Rattle.mmtel_types.specs.declared.sides.Side.{Side}
 use Rattle.mmtel_types.specs.declared.sides.Side.TheVariants.{Caller, Callee}
 use Rattle.mmtel_leg.specs.Remotes.{field, tag_in}
 use Rattle.mmtel_leg.specs.declared.dialogues.Dialogue.{Dialogue}
@@ -29,10 +30,6 @@ number_at s = option_map (λ (c : CSeq). c.number) (cseq_at s)
 -- the number in CSeq, where that can be read
 unfoldable pub number_in : List Line → Option ℕ
 number_in ls = first_value (codes "CSeq") ls >>= number_at
-
-abbrev pub or_zero : Option ℕ → ℕ
-or_zero None = 0
-or_zero (Some n) = n
 
 -- the number of the next request, which stays at the greatest
 abbrev pub next_number : ℕ → ℕ
@@ -66,7 +63,7 @@ taken peer ls tag = record {
   invited = None;
 }
 
--- the dialog of an INVITE that the server sends (§12.1.2); until it is answered the target is the Request-URI
+-- the dialog of an INVITE that the server sends (§12.1.2); until it is answered the target is the Request-URI; a number that cannot be read counts as 0
 abbrev pub started : Peer → Message Start → Dialogue
 started peer m = record {
   side = Callee;
@@ -78,26 +75,31 @@ started peer m = record {
   remote_tag = [];
   target = request_uri m.start;
   routes = [];
-  own = or_zero (number_in m.lines);
+  own = unwrap_or (number_in m.lines) 0;
   last = None;
   invited = number_in m.lines;
 }
 
 -- ---- what is taken of the other side
 
--- what was said, or what stands where nothing was
+-- whether a side says by this tag who it is and which way leads to it. A caller says so in its INVITE, which has a tag; of what comes later nothing is new, and no tag (§12.1.1). A callee says so anew in each answer that makes or confirms a dialog, also where it gives no tag (§12.1.2, §13.2.2.4)
+abbrev pub names_itself : Side → List ℕ → Bool
+names_itself Caller [] = false
+names_itself Caller (b ∷ tag) = true
+names_itself Callee tag = true
+
+-- the target that was said, or the one before where none was
 abbrev pub said_or : List ℕ → List ℕ → List ℕ
 said_or [] before = before
-said_or (x ∷ xs) before = x ∷ xs
+said_or (b ∷ target) before = b ∷ target
 
--- the routes that were said, where the other side said who it is by a tag
-abbrev pub routes_or : List ℕ → List (List ℕ) → List (List ℕ) → List (List ℕ)
-routes_or [] routes before = before
-routes_or (x ∷ xs) routes before = routes
-
--- the dialog with what the other side said of itself: without a tag its tag and routes stay, and without a target its target
+-- the dialog with what the other side said of itself
 abbrev pub met : Dialogue → Remote → Dialogue
-met d r = record d { remote_tag = said_or r.tag d.remote_tag; target = said_or r.target d.target; routes = routes_or r.tag r.routes d.routes }
+met d r = record d {
+  remote_tag = if names_itself d.side r.tag then r.tag else d.remote_tag;
+  target = said_or r.target d.target;
+  routes = if names_itself d.side r.tag then r.routes else d.routes;
+}
 
 -- ---- what is heard in a dialog
 
@@ -128,6 +130,7 @@ after_hearing d m = record d { last = last_after (number_in m.lines) d.last }
 
 -- ---- what is asked in a dialog
 
+-- the number of the last INVITE, once a request of the method was made with this number
 abbrev pub invited_by : List ℕ → ℕ → Option ℕ → Option ℕ
 invited_by method number before = if bytes_eq method (codes "INVITE") then Some number else before
 

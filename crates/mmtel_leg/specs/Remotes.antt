@@ -1,6 +1,7 @@
 -- What the other side of a dialog says of itself where the dialog begins: its tag, the URI of its Contact, and the way to it (RFC 3261 §12.1.1 for a caller, who sent the INVITE, and §12.1.2 for a callee, who answered it).
 use Rattle.std.specs.Prelude.{ℕ, Bool, false, not, List, [], ◌∷◌, Option, Some, None, codes, reverse}
 use Rattle.std.specs.List.{list_any}
+use Rattle.std.specs.Option.{unwrap_or}
 use Rattle.std.specs.Str.{str_eq_ignore_ascii_case}
 use Rattle.mmtel_lex.specs.Reading.{name_addr_of}
 use Rattle.mmtel_lex.specs.declared.values.NameAddr.{NameAddr}
@@ -13,18 +14,13 @@ use Rattle.mmtel_types.specs.declared.sides.Side.{Side}
 use Rattle.mmtel_types.specs.declared.sides.Side.TheVariants.{Caller, Callee}
 use Rattle.mmtel_leg.specs.declared.remotes.Remote.{Remote}
 
--- the bytes, or none
-abbrev pub or_nothing : Option (List ℕ) → List ℕ
-or_nothing None = []
-or_nothing (Some s) = s
-
 -- the value of the first line of the name, or no bytes
 unfoldable pub field : List ℕ → List Line → List ℕ
-field name ls = or_nothing (first_value name ls)
+field name ls = unwrap_or (first_value name ls) []
 
 -- the tag of the first line of the name, or no bytes
 unfoldable pub tag_in : List ℕ → List Line → List ℕ
-tag_in name ls = or_nothing (tag_of (first_value name ls))
+tag_in name ls = unwrap_or (tag_of (first_value name ls)) []
 
 abbrev pub is_tag : Param → Bool
 is_tag p = str_eq_ignore_ascii_case p.name (codes "tag")

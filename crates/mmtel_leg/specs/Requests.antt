@@ -1,6 +1,7 @@
 -- The requests of a dialog (RFC 3261 §12.2.1.1 and §8.1.1): each line, in its order.
 use Rattle.std.specs.Prelude.{ℕ, Bool, not, ◌&&◌, ◌||◌, if◌then◌else◌, List, [], ◌∷◌, ◌++◌, codes, decimal, length, map}
 use Rattle.std.specs.List.{list_any}
+use Rattle.std.specs.Option.{unwrap_or}
 use Rattle.std.specs.Str.{bytes_eq, str_eq_ignore_ascii_case}
 use Rattle.mmtel_message.specs.Message.{Message}
 use Rattle.mmtel_message.specs.declared.messages.Start.{Start}
@@ -11,7 +12,7 @@ use Rattle.mmtel_trust.specs.declared.showing.Line as showing
 use Rattle.mmtel_types.specs.declared.sides.Side.{Side}
 use Rattle.mmtel_types.specs.declared.sides.Side.TheVariants.{Caller, Callee}
 use Rattle.mmtel_leg.specs.Addresses.{contact_text, via_text}
-use Rattle.mmtel_leg.specs.Dialogues.{tagged, next_number, or_zero}
+use Rattle.mmtel_leg.specs.Dialogues.{tagged, next_number}
 use Rattle.mmtel_leg.specs.Lines.{line, pair_of}
 use Rattle.mmtel_leg.specs.declared.dialogues.Dialogue.{Dialogue}
 
@@ -93,4 +94,4 @@ request_of d method given = numbered d (next_number d.own) method given
 
 -- the ACK of the server's last INVITE, which has its number (§13.2.2.4); with number 0 where there was none
 abbrev pub ack_of : Dialogue → Given → Message Start
-ack_of d given = numbered d (or_zero d.invited) (codes "ACK") given
+ack_of d given = numbered d (unwrap_or d.invited 0) (codes "ACK") given

@@ -1,6 +1,6 @@
 //! What a leg of either side knows of its dialog (RFC 3261 §12).
-ghost use Rattle.std.specs.Prelude.{◌≡◌, ◌++◌, IfOk, OnErr, OnOk, codes};
-ghost use Rattle.mmtel_leg.specs.Dialogues.{after_hearing, hears, last_after, met, or_zero, routes_or, said_or, started, tagged, taken, unless_busy, unless_old};
+ghost use Rattle.std.specs.Prelude.{◌≡◌, ◌++◌, IfOk, OnErr, OnOk, codes, if◌then◌else◌};
+ghost use Rattle.mmtel_leg.specs.Dialogues.{after_hearing, hears, last_after, met, names_itself, said_or, started, tagged, taken, unless_busy, unless_old};
 
 use crate::fields::{field, number_in, request_uri, tag_in};
 use crate::remotes::Remote;
@@ -127,17 +127,18 @@ fn widened(number: Option<u32>) -> Option<u64>
     }
 }
 
-fn or_zero(number: Option<u32>) -> u64
-    ensures { result ≡ or_zero number }
+/// Whether a side says by this tag who it is and which way leads to it.
+fn names_itself(side: Side, tag: &[u8]) -> bool
+    ensures { result ≡ names_itself side tag.now }
 {
-    match number {
-        None => 0,
-        Some(number) => u64::from(number),
+    match side {
+        Side::Caller => !tag.is_empty(),
+        Side::Callee => true,
     }
 }
 
 /// A From or To value with a tag behind it.
-fn tagged(alloc: Global, value: Text, tag: &[u8]) -> Result<Text, NoMemory>
+pub fn tagged(alloc: Global, value: Text, tag: &[u8]) -> Result<Text, NoMemory>
     ensures { IfOk result (λ t. t ≡ tagged value tag.now) }
 {
     let mut out = value;
@@ -146,7 +147,50 @@ fn tagged(alloc: Global, value: Text, tag: &[u8]) -> Result<Text, NoMemory>
     Ok(out)
 }
 
+/// The same texts.
+fn texts_copied(alloc: Global, texts: &[Text]) -> Result<List<Text>, NoMemory>
+    ensures { IfOk result (λ copy. copy ≡ texts.now) }
+{
+    let mut copy = List::new();
+    for text in texts {
+        let text = Text::of(alloc, text.bytes())?;
+        copy.push(alloc, text)?;
+    }
+    Ok(copy)
+}
+
 impl Dialogue {
+    /// The same dialog.
+    ///
+    /// # Errors
+    ///
+    /// Want of memory alone.
+    pub fn copied(&self, alloc: Global) -> Result<Dialogue, NoMemory>
+        ensures copy { IfOk result (λ d. d ≡ self.now) }
+    {
+        let call_id = Text::of(alloc, self.call_id.bytes())?;
+        let local = Text::of(alloc, self.local.bytes())?;
+        let remote = Text::of(alloc, self.remote.bytes())?;
+        let local_tag = Text::of(alloc, self.local_tag.bytes())?;
+        let remote_tag = Text::of(alloc, self.remote_tag.bytes())?;
+        let target = Text::of(alloc, self.target.bytes())?;
+        let routes = texts_copied(alloc, self.routes.items())?;
+        Ok(Dialogue {
+            side: self.side,
+            peer: self.peer,
+            call_id,
+            local,
+            remote,
+            local_tag,
+            remote_tag,
+            target,
+            routes,
+            own: self.own,
+            last: self.last,
+            invited: self.invited,
+        })
+    }
+
     /// The dialog of an INVITE that came from the peer, where the server answers with this tag (RFC 3261 §12.1.1).
     ///
     /// # Errors
@@ -206,7 +250,7 @@ impl Dialogue {
             remote_tag: Text::new(),
             target,
             routes: List::new(),
-            own: or_zero(number),
+            own: u64::from(number.unwrap_or(0)),
             last: None,
             invited: widened(number),
         })
@@ -223,22 +267,22 @@ impl Dialogue {
         }
     }
 
-    /// With the tag and the routes that were said, where a tag was.
+    /// With the tag and the routes that were said, where its side says by them who it is.
     fn answered_by(self, tag: Text, routes: List<Text>) -> Dialogue
-        ensures { result ≡ record self { remote_tag = said_or tag self.remote_tag; routes = routes_or tag routes self.routes } }
+        ensures { result ≡ record self { remote_tag = if names_itself self.side tag then tag else self.remote_tag; routes = if names_itself self.side tag then routes else self.routes } }
     {
-        if tag.bytes().is_empty() {
-            self
-        } else {
+        if names_itself(self.side, tag.bytes()) {
             Dialogue {
                 remote_tag: tag,
                 routes,
                 ..self
             }
+        } else {
+            self
         }
     }
 
-    /// The dialog once the other side has said who it is and where it is reached. Without a tag its tag and its routes stay as they are, and without a target its target.
+    /// The dialog once the other side has said who it is and where it is reached. Tag and routes of a callee are those that it says, also where it gives no tag (RFC 3261 §12.1.2, §13.2.2.4); those of a caller stay as they are where it says no tag. Without a target the target stays.
     pub fn meet(self, remote: Remote) -> Dialogue
         ensures met { result ≡ met self remote }
     {

@@ -1,8 +1,8 @@
 //! Fields of a message that was received, as a dialog reads them (RFC 3261 §12).
-ghost use Rattle.std.specs.Prelude.{◌≡◌, IfOk};
-ghost use Rattle.std.specs.Option.{option_copied};
+ghost use Rattle.std.specs.Prelude.{◌≡◌, IfOk, []};
+ghost use Rattle.std.specs.Option.{option_copied, unwrap_or};
 ghost use Rattle.mmtel_trust.specs.Digest.{tag_of};
-ghost use Rattle.mmtel_leg.specs.Remotes.{field, or_nothing, tag_in};
+ghost use Rattle.mmtel_leg.specs.Remotes.{field, tag_in};
 ghost use Rattle.mmtel_leg.specs.Dialogues.{number_at, number_in, request_uri};
 
 use mmtel_lex::{LexFault, read_name_addr};
@@ -12,12 +12,9 @@ use std::alloc::Global;
 
 /// These bytes, or none.
 fn copied(alloc: Global, value: Option<&[u8]>) -> Result<Text, NoMemory>
-    ensures { IfOk result (λ t. t ≡ or_nothing (option_copied value.entry)) }
+    ensures { IfOk result (λ t. t ≡ unwrap_or (option_copied value.entry) []) }
 {
-    match value {
-        None => Ok(Text::new()),
-        Some(value) => Text::of(alloc, value),
-    }
+    Text::of(alloc, value.unwrap_or(b""))
 }
 
 /// The value of the first line of the name, or no bytes.
@@ -30,7 +27,7 @@ pub fn field(alloc: Global, name: &[u8], lines: &[(Text, Text)]) -> Result<Text,
 
 /// The tag of a From or To value (RFC 3261 §19.3), or no bytes.
 fn tag_of(alloc: Global, value: Option<&[u8]>) -> Result<Text, NoMemory>
-    ensures { IfOk result (λ t. t ≡ or_nothing (tag_of (option_copied value.entry))) }
+    ensures { IfOk result (λ t. t ≡ unwrap_or (tag_of (option_copied value.entry)) []) }
 {
     match value {
         None => Ok(Text::new()),

@@ -1,6 +1,7 @@
 //! Laws of the definitions that the contracts of legs cite: each is the contract of a function that does nothing.
 ghost use Rattle.std.specs.Prelude.{◌≡◌, ◌+◌, ◌<◌, ◌^◌, ◌++◌, ◌∷◌, ◌⊎◌, ℕ, List, [], Option, Some, Err, codes, length, true};
 ghost use Rattle.std.specs.List.{list_all};
+ghost use Rattle.std.specs.Option.{unwrap_or};
 ghost use Rattle.mmtel_message.specs.Message.{Message, first_value};
 ghost use Rattle.mmtel_message.specs.declared.messages.Start.{Start};
 ghost use Rattle.mmtel_lex.specs.Grammar.{IsToken, IsValue};
@@ -9,8 +10,9 @@ ghost use Rattle.mmtel_lex.specs.declared.values.NameAddr.{NameAddr};
 ghost use Rattle.mmtel_message.specs.Fields.{five_at};
 ghost use Rattle.mmtel_charging.specs.Meters.{Noted};
 ghost use Rattle.mmtel_types.specs.declared.numbers.Peer.{Peer};
-ghost use Rattle.mmtel_leg.specs.Deeds.Deed.{Asks, Hears};
-ghost use Rattle.mmtel_leg.specs.Dialogues.{hears, number_in, or_zero, tagged};
+ghost use Rattle.mmtel_leg.specs.Deeds.Deed.{Asks, Hears, Meets};
+ghost use Rattle.mmtel_leg.specs.declared.remotes.Remote.{Remote};
+ghost use Rattle.mmtel_leg.specs.Dialogues.{hears, number_in, tagged};
 ghost use Rattle.mmtel_leg.specs.Remotes.{field, is_untagged, tag_in};
 ghost use Rattle.mmtel_leg.specs.declared.dialogues.DialogueFault.{DialogueFault};
 ghost use Rattle.mmtel_leg.specs.declared.dialogues.InFlight.{InFlight};
@@ -35,7 +37,7 @@ pub fn acks_have_the_number_of_their_invite()
 /// CSeq of what is built is read again as the number and the method, where the number is one of RFC 3261 (below 2^31, §8.1.1.5) and the method a token.
 pub fn numbers_read_back()
     ensures request { (d : Dialogue) (method : List ℕ) (given : Given) → d.own + 1 < 2 ^ 31 → IsToken method → ReadsAs (d.own + 1) method (request_of d method given) }
-    ensures ack { (d : Dialogue) (given : Given) → or_zero d.invited < 2 ^ 31 → ReadsAs (or_zero d.invited) (codes "ACK") (ack_of d given) }
+    ensures ack { (d : Dialogue) (given : Given) → unwrap_or d.invited 0 < 2 ^ 31 → ReadsAs (unwrap_or d.invited 0) (codes "ACK") (ack_of d given) }
 {}
 
 /// The tags by which the other side finds its dialog (RFC 3261 §12): From of what is built in a dialog is read with the server's tag and To with the other side's, whatever was done since the dialog began, and whether it is a request or an ACK.
@@ -43,7 +45,7 @@ pub fn tags_read_back()
     ensures caller_from { (peer : Peer) (invite : Message Start) (tag : List ℕ) (meter : Option Noted) (deeds : List Deed) (number : ℕ) (method : List ℕ) (given : Given) → is_untagged (name_addr_of (field (codes "To") invite.lines)) ≡ true → IsValue tag → tag_in (codes "From") (numbered (caller_after peer invite tag meter deeds) number method given).lines ≡ tag }
     ensures caller_to { (peer : Peer) (invite : Message Start) (tag : List ℕ) (meter : Option Noted) (deeds : List Deed) (number : ℕ) (method : List ℕ) (given : Given) → tag_in (codes "To") (numbered (caller_after peer invite tag meter deeds) number method given).lines ≡ tag_in (codes "From") invite.lines }
     ensures callee_from { (peer : Peer) (invite : Message Start) (meter : Option Noted) (deeds : List Deed) (number : ℕ) (method : List ℕ) (given : Given) → tag_in (codes "From") (numbered (callee_after peer invite meter deeds) number method given).lines ≡ tag_in (codes "From") invite.lines }
-    ensures callee_to { (peer : Peer) (invite : Message Start) (meter : Option Noted) (deeds : List Deed) (number : ℕ) (method : List ℕ) (given : Given) → is_untagged (name_addr_of (field (codes "To") invite.lines)) ≡ true → IsValue (callee_after peer invite meter deeds).remote_tag → tag_in (codes "To") (numbered (callee_after peer invite meter deeds) number method given).lines ≡ (callee_after peer invite meter deeds).remote_tag }
+    ensures callee_to { (peer : Peer) (invite : Message Start) (meter : Option Noted) (deeds : List Deed) (number : ℕ) (method : List ℕ) (given : Given) → is_untagged (name_addr_of (field (codes "To") invite.lines)) ≡ true → ((callee_after peer invite meter deeds).remote_tag ≡ []) ⊎ IsValue (callee_after peer invite meter deeds).remote_tag → tag_in (codes "To") (numbered (callee_after peer invite meter deeds) number method given).lines ≡ (callee_after peer invite meter deeds).remote_tag }
     ensures tagged { (value : List ℕ) (n : NameAddr) (tag : List ℕ) → name_addr_of value ≡ Some n → IsValue tag → name_addr_of (tagged value tag) ≡ Some (record n { params = n.params ++ record { name = codes "tag"; value = Some tag } ∷ [] }) }
     ensures values { (name : List ℕ) (m : Message Start) → (tag_in name m.lines ≡ []) ⊎ IsValue (tag_in name m.lines) }
 {}
@@ -70,6 +72,13 @@ pub fn requests_name_their_dialog()
     ensures call_id { (d : Dialogue) (number : ℕ) (method : List ℕ) (given : Given) → first_value (codes "Call-ID") (numbered d number method given).lines ≡ Some d.call_id }
     ensures from { (d : Dialogue) (number : ℕ) (method : List ℕ) (given : Given) → first_value (codes "From") (numbered d number method given).lines ≡ Some d.local }
     ensures to { (d : Dialogue) (number : ℕ) (method : List ℕ) (given : Given) → first_value (codes "To") (numbered d number method given).lines ≡ Some (to_text d.side d.remote d.remote_tag) }
+{}
+
+/// The last answer of a callee decides, whatever was said before it: until the callee speaks of itself again, its tag and the routes to it are those of that answer, also where these are none, and its target is the answer's where that has one (RFC 3261 §12.1.2, §13.2.2.4).
+pub fn the_last_answer_decides()
+    ensures tag { (peer : Peer) (invite : Message Start) (meter : Option Noted) (before later : List Deed) (answer : Remote) → list_all is_later later ≡ true → (callee_after peer invite meter (before ++ Meets answer ∷ later)).remote_tag ≡ answer.tag }
+    ensures routes { (peer : Peer) (invite : Message Start) (meter : Option Noted) (before later : List Deed) (answer : Remote) → list_all is_later later ≡ true → (callee_after peer invite meter (before ++ Meets answer ∷ later)).routes ≡ answer.routes }
+    ensures target { (peer : Peer) (invite : Message Start) (meter : Option Noted) (before later : List Deed) (answer : Remote) → list_all is_later later ≡ true → 0 < length answer.target → (callee_after peer invite meter (before ++ Meets answer ∷ later)).target ≡ answer.target }
 {}
 
 /// Nothing that is heard, asked or swapped after a leg stands changes its target or its routes.

@@ -105,6 +105,13 @@ impl<P, S> LegOf<P, S> {
         self.dialogue.call_id.bytes()
     }
 
+    /// Its dialog.
+    pub fn dialogue(&self) -> &Dialogue
+        ensures dialogue { result.now ≡ self.now.dialogue }
+    {
+        &self.dialogue
+    }
+
     /// The server's tag in its dialog.
     pub fn local(&self) -> &[u8]
         ensures tag { result.now ≡ self.now.dialogue.local_tag }
@@ -174,6 +181,18 @@ impl LegOf<OfCaller, Asked> {
 }
 
 impl LegOf<OfCallee, Asked> {
+    /// The leg of a callee with whom this dialog began.
+    pub fn begun(dialogue: Dialogue, meter: Option<Meter>) -> CalleeLeg<Asked>
+        ensures leg { result ≡ record { dialogue = dialogue; meter = meter } }
+    {
+        LegOf {
+            dialogue,
+            meter,
+            party: PhantomData,
+            state: PhantomData,
+        }
+    }
+
     /// The leg of a callee to whom the server sends this INVITE by the peer.
     ///
     /// # Errors

@@ -11,15 +11,16 @@ mod remotes;
 mod requests;
 
 pub use addresses::{addr_text, contact_text, ip_text, via_text};
-pub use dialogues::{DialogueFault, InFlight};
+pub use dialogues::{Dialogue, DialogueFault, InFlight};
 pub use fields::request_uri;
 pub use laws::{
     acks_have_the_number_of_their_invite, five_fields_read_back, meters_come_back,
     numbers_read_back, numbers_rise_by_one, refusals_change_nothing, requests_are_in_order,
-    requests_name_their_dialog, tags_read_back, the_way_stays,
+    requests_name_their_dialog, tags_read_back, the_last_answer_decides, the_way_stays,
 };
 pub use legs::{
     Asked, CalleeLeg, CallerLeg, Early, Ended, LegOf, OfCallee, OfCaller, Released, Standing,
 };
-pub use lines::{add_bytes, add_decimal, add_line, add_number};
+pub use lines::{add_bytes, add_decimal, add_line, add_number, add_passed};
 pub use remotes::Remote;
+pub use requests::{Parts, numbered};

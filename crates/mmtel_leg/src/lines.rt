@@ -1,8 +1,9 @@
 //! The header lines of a message that the server builds, one behind another.
-ghost use Rattle.std.specs.Prelude.{◌≡◌, ◌++◌, OnErr, OnOk, decimal};
-ghost use Rattle.mmtel_leg.specs.Lines.{line};
+ghost use Rattle.std.specs.Prelude.{◌≡◌, ◌++◌, OnErr, OnOk, decimal, map};
+ghost use Rattle.mmtel_leg.specs.Lines.{line, pair_of};
 
 use mmtel_scan::{List, NoMemory, Text};
+use mmtel_trust::Line;
 use std::alloc::Global;
 
 /// Adds the decimal digits of a number.
@@ -73,4 +74,23 @@ pub fn add_decimal(
     let mut value = Text::new();
     add_number(alloc, &mut value, number)?;
     add_line(alloc, out, name, value)
+}
+
+/// Adds the lines that are passed on, in their order.
+///
+/// # Errors
+///
+/// Want of memory alone; the list may then have some of them.
+#[tactic(auto, unfolding(crate::specs::Lines::line))]
+pub fn add_passed(
+    alloc: Global,
+    out: &mut List<(Text, Text)>,
+    passed: &[Line],
+) -> Result<(), NoMemory>
+    ensures added { OnOk result (out.new ≡ out.old ++ map pair_of passed.now) }
+{
+    for line in passed {
+        add_bytes(alloc, out, line.name.bytes(), line.value.bytes())?;
+    }
+    Ok(())
 }

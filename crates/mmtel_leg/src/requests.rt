@@ -1,14 +1,15 @@
 //! The requests that the server makes in a dialog (RFC 3261 §12.2.1.1).
 ghost use Rattle.std.specs.Prelude.{◌≡◌, ◌++◌, IfOk, OnErr, OnOk, codes, decimal, map};
 ghost use Rattle.std.specs.List.{list_any};
+ghost use Rattle.std.specs.Option.{unwrap_or};
 ghost use Rattle.mmtel_leg.specs.Addresses.{contact_text, via_text};
-ghost use Rattle.mmtel_leg.specs.Dialogues.{after_request, or_zero};
+ghost use Rattle.mmtel_leg.specs.Dialogues.{after_request};
 ghost use Rattle.mmtel_leg.specs.Lines.{line, pair_of};
 ghost use Rattle.mmtel_leg.specs.Requests.{ack_of, contact_lines, content_lines, cseq_text, dialog_lines, is_contact, is_contacting, numbered, request_of, route_line, routing_lines, to_text};
 
 use crate::addresses::{contact_text, via_text};
-use crate::dialogues::Dialogue;
-use crate::lines::{add_bytes, add_decimal, add_line, add_number};
+use crate::dialogues::{Dialogue, tagged};
+use crate::lines::{add_bytes, add_decimal, add_line, add_number, add_passed};
 use mmtel_message::{Msg, Start};
 use mmtel_scan::{List, NoMemory, Text};
 use mmtel_trust::{Addr, Line};
@@ -111,16 +112,12 @@ fn add_routing(
 fn to_text(alloc: Global, side: Side, value: &[u8], tag: &[u8]) -> Result<Text, NoMemory>
     ensures { IfOk result (λ t. t ≡ to_text side value.now tag.now) }
 {
-    let mut out = Text::of(alloc, value)?;
+    let value = Text::of(alloc, value)?;
     match side {
-        Side::Caller => Ok(out),
+        Side::Caller => Ok(value),
         Side::Callee => match tag {
-            [] => Ok(out),
-            _ => {
-                out.push(alloc, b";tag=")?;
-                out.push(alloc, tag)?;
-                Ok(out)
-            }
+            [] => Ok(value),
+            _ => tagged(alloc, value, tag),
         },
     }
 }
@@ -194,18 +191,6 @@ fn add_contact(
     Ok(())
 }
 
-/// Adds the lines that are passed on.
-fn add_shown(alloc: Global, out: &mut List<(Text, Text)>, shown: &[Line]) -> Result<(), NoMemory>
-    ensures { OnOk result (out.new ≡ out.old ++ map pair_of shown.now) }
-{
-    for line in shown {
-        let name = Text::of(alloc, line.name.bytes())?;
-        let value = Text::of(alloc, line.value.bytes())?;
-        out.push(alloc, (name, value))?;
-    }
-    Ok(())
-}
-
 /// Adds what the request brings.
 fn add_content(
     alloc: Global,
@@ -218,20 +203,24 @@ fn add_content(
     ensures { OnOk result (out.new ≡ out.old ++ content_lines method.now sip shown.now body.now) }
 {
     add_contact(alloc, out, method, sip, shown)?;
-    add_shown(alloc, out, shown)?;
+    add_passed(alloc, out, shown)?;
     add_decimal(alloc, out, b"Content-Length", body.len() as u64)?;
     Ok(())
 }
 
 /// The request of the method with this number, to the target of the dialog.
-fn numbered(
+///
+/// # Errors
+///
+/// Want of memory alone.
+pub fn numbered(
     alloc: Global,
     dialogue: &Dialogue,
     number: u64,
     method: &[u8],
     parts: &Parts<'_>,
 ) -> Result<Msg, NoMemory>
-    ensures { IfOk result (λ m. m ≡ numbered dialogue.now number method.now parts.now) }
+    ensures message { IfOk result (λ m. m ≡ numbered dialogue.now number method.now parts.now) }
 {
     let routes = dialogue.routes.items();
     let mut lines = List::new();
@@ -285,20 +274,9 @@ impl Dialogue {
         ensures counted { OnOk result (self.new ≡ after_request self.old method.now) }
         ensures refused { OnErr result (self.new ≡ self.old) }
     {
-        let number = self.own.saturating_add(1);
-        let message = numbered(alloc, self, number, method, parts)?;
+        let message = numbered(alloc, self, self.own.saturating_add(1), method, parts)?;
         self.count(method);
         Ok(message)
-    }
-
-    /// The number of the server's last INVITE, or 0 where it sent none.
-    fn number_of_ack(&self) -> u64
-        ensures { result ≡ or_zero self.now.invited }
-    {
-        match self.invited {
-            None => 0,
-            Some(invited) => invited,
-        }
     }
 
     /// The ACK of the server's last INVITE (RFC 3261 §13.2.2.4). Where it sent none, there is nothing to acknowledge, and the number is 0.
@@ -309,6 +287,6 @@ impl Dialogue {
     pub fn ack(&self, alloc: Global, parts: &Parts<'_>) -> Result<Msg, NoMemory>
         ensures message { IfOk result (λ m. m ≡ ack_of self.now parts.now) }
     {
-        numbered(alloc, self, self.number_of_ack(), b"ACK", parts)
+        numbered(alloc, self, self.invited.unwrap_or(0), b"ACK", parts)
     }
 }

@@ -6,4 +6,12 @@
 #[cfg(test)]
 mod charging;
 #[cfg(test)]
-mod leg;
+mod dialogs;
+#[cfg(test)]
+mod legs;
+#[cfg(test)]
+mod remotes;
+#[cfg(test)]
+mod requests;
+#[cfg(test)]
+mod told;

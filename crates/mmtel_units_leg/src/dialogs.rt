@@ -1,0 +1,252 @@
+//! What legs know of their dialogs: what they take of the other side, what they hear, and their meters.
+
+use crate::legs::{
+    ANSWER, CAME, OFFERED, SIP, Tells, message, moment, next_line, tell_answered, tell_leg, tell_meter,
+};
+use crate::told::Told;
+use mmtel_charging::{Kind, Meter};
+use mmtel_leg::{DialogueFault, InFlight, LegOf, Remote, Standing};
+use mmtel_message::{Msg, Start};
+use mmtel_scan::{List, Text, part};
+use mmtel_types::{Account, CallNo, Side};
+
+/// What stands before the first `|` of a row, and what follows it; tells the former again.
+fn cell<'a>(told: &mut Told, row: &'a [u8]) -> (&'a [u8], &'a [u8]) {
+    let (cell, rest) = part(b'|', row).unwrap_or((row, b""));
+    told.add(cell);
+    told.add(b"|");
+    (cell, rest)
+}
+
+/// One route, or none of no bytes.
+fn routes(told: &mut Told, route: &[u8]) -> List<Text> {
+    let mut routes = List::new();
+    if !route.is_empty() {
+        let route = told.copy(route);
+        let pushed = routes.push(told.alloc, route);
+        told.noted(pushed);
+    }
+    routes
+}
+
+/// What a side says of itself, of three cells: its tag, its target and its route.
+fn remote<'a>(told: &mut Told, row: &'a [u8]) -> (Remote, &'a [u8]) {
+    let (tag, rest) = cell(told, row);
+    let (target, rest) = cell(told, rest);
+    let (route, rest) = cell(told, rest);
+    let remote = Remote {
+        tag: told.copy(tag),
+        target: told.copy(target),
+        routes: routes(told, route),
+    };
+    (remote, rest)
+}
+
+/// Tells target, To and routes of an ACK.
+fn tell_way(told: &mut Told, ack: &Msg) {
+    if let Start::Request { method: _, uri } = ack.start() {
+        told.add(uri.bytes());
+    }
+    for line in ack.lines() {
+        if line.0.bytes() == b"To".as_slice() || line.0.bytes() == b"Route".as_slice() {
+            told.add(b" ");
+            told.add(line.1.bytes());
+        }
+    }
+    told.add(b"\n");
+}
+
+/// Target, To and routes of an ACK.
+struct Way;
+
+impl Tells for Way {
+    fn tell<P>(told: &mut Told, leg: &mut LegOf<P, Standing>) {
+        let ack = leg.ack(told.alloc, SIP, 70, &Text::new(), &List::new(), b"");
+        if let Some(ack) = told.noted(ack) {
+            tell_way(told, &ack);
+        }
+    }
+}
+
+/// What a side says early and then, each as tag, target and route; and target, routes and To of an ACK to it.
+///
+/// Tag and routes of a callee are those of its 2xx, also where it has none (RFC 3261 §12.1.2, §13.2.2.4); those of a caller stay where it says no tag. Without a target the target stays, and without any it is the Request-URI of the INVITE.
+const EARLY: &[u8] = br##"callee|e|sip:e@h|<sip:p0;lr>|b|sip:b@h|<sip:p1;lr>|sip:b@h <sip:p1;lr> <sip:bob@far.example>;tag=b
+callee|e|sip:e@h|<sip:p0;lr>|b|||sip:e@h <sip:bob@far.example>;tag=b
+callee|e|sip:e@h|<sip:p0;lr>||sip:b@h|<sip:p1;lr>|sip:b@h <sip:p1;lr> <sip:bob@far.example>
+callee|e|sip:e@h|<sip:p0;lr>|||<sip:p1;lr>|sip:e@h <sip:p1;lr> <sip:bob@far.example>
+callee|e|sip:e@h|<sip:p0;lr>||||sip:e@h <sip:bob@far.example>
+callee|e|||b|||sip:bob@far.example <sip:bob@far.example>;tag=b
+callee|||||||sip:bob@far.example <sip:bob@far.example>
+caller|a|sip:a@h|<sip:p0;lr>||||sip:a@h <sip:p0;lr> "Erin" <sip:erin@other.example>;tag=a
+caller|a|sip:a@h|<sip:p0;lr>|||<sip:p1;lr>|sip:a@h <sip:p0;lr> "Erin" <sip:erin@other.example>;tag=a
+caller|a|sip:a@h|<sip:p0;lr>||sip:c@h||sip:c@h <sip:p0;lr> "Erin" <sip:erin@other.example>;tag=a
+caller|a|sip:a@h|<sip:p0;lr>|c|sip:c@h|<sip:p1;lr>|sip:c@h <sip:p1;lr> "Erin" <sip:erin@other.example>;tag=a
+"##;
+
+/// Tells a row again, as the leg of its side has it.
+fn tell_early(told: &mut Told, row: &[u8]) {
+    let (side, rest) = cell(told, row);
+    let (early, rest) = remote(told, rest);
+    let (said, _) = remote(told, rest);
+    if side == b"caller".as_slice() {
+        tell_leg::<Way>(told, Side::Caller, CAME, Some(early), said);
+    } else {
+        tell_leg::<Way>(told, Side::Callee, OFFERED, Some(early), said);
+    }
+}
+
+#[test]
+fn early_dialogs(rt: HostRuntime) {
+    let mut told = Told::new(rt.alloc());
+    let mut rows = EARLY;
+    for _ in 0..11 {
+        let (row, rest) = next_line(rows);
+        tell_early(&mut told, row);
+        rows = rest;
+    }
+    assert_eq!(rt; told.whole(), EARLY);
+}
+
+/// The request of this number and method to the server, as lines.
+fn lines_of(told: &mut Told, number: &[u8], method: &[u8]) -> Text {
+    let mut lines = Told::new(told.alloc);
+    lines.add(method);
+    lines.add(b" sip:127.0.0.1:5060 SIP/2.0\nVia: SIP/2.0/UDP h;branch=z9hG4bKb\nMax-Forwards: 70\nFrom: <sip:a@h>;tag=a\nTo: <sip:b@h>;tag=b\nCall-ID: c1\nContact: <sip:a@h>\nCSeq: ");
+    lines.add(number);
+    lines.add(b" ");
+    lines.add(method);
+    lines.add(b"\n\n");
+    told.copy(lines.bytes())
+}
+
+fn in_flight(word: &[u8]) -> InFlight {
+    if word == b"own".as_slice() {
+        InFlight::Own
+    } else if word == b"theirs".as_slice() {
+        InFlight::Theirs
+    } else {
+        InFlight::None
+    }
+}
+
+fn tell_answer(told: &mut Told, answer: Result<(), DialogueFault>) {
+    match answer {
+        Ok(()) => told.add(b" heard\n"),
+        Err(DialogueFault::Pending) => told.add(b" pending\n"),
+        Err(DialogueFault::Unfinished) => told.add(b" unfinished\n"),
+        Err(DialogueFault::OldCSeq { last }) => {
+            told.add(b" old ");
+            told.add_number(u64::from(last));
+            told.add(b"\n");
+        }
+    }
+}
+
+/// Tells a row again, as a leg answers it.
+fn tell_heard<P>(told: &mut Told, leg: &mut LegOf<P, Standing>, row: &[u8]) {
+    let (asked, _) = part(b':', row).unwrap_or((row, b""));
+    let (number, rest) = part(b' ', asked).unwrap_or((asked, b""));
+    let (method, busy) = part(b' ', rest).unwrap_or((rest, b""));
+    told.add(asked);
+    told.add(b":");
+    let lines = lines_of(told, number, method);
+    if let Some(request) = message(told, lines.bytes()) {
+        let answer = leg.heard(&request, in_flight(busy));
+        tell_answer(told, answer);
+    }
+}
+
+/// Tells a table again, as a leg answers it.
+fn tell_all_heard<P>(told: &mut Told, leg: &mut LegOf<P, Standing>, table: &[u8]) {
+    let mut rest = table;
+    for _ in 0..100 {
+        if rest.is_empty() {
+            break;
+        }
+        let (row, later) = next_line(rest);
+        tell_heard(told, leg, row);
+        rest = later;
+    }
+}
+
+/// Requests to a leg whose last number was 7, one after another: number, method, which INVITE is in flight, and the answer.
+///
+/// RFC 3261 §12.2.2 (a lower number is out of order) and §14.2 (an INVITE while another is in flight); what is refused leaves the last number as it was.
+const HEARD: &[u8] = br##"6 BYE none: old 7
+6 INVITE own: old 7
+6 INVITE theirs: old 7
+7 INVITE own: pending
+7 INVITE theirs: unfinished
+7 INVITE none: heard
+7 BYE own: heard
+9 OPTIONS theirs: heard
+8 BYE none: old 9
+20 INVITE own: pending
+20 INVITE theirs: unfinished
+10 BYE own: heard
+0010 invite own: heard
+2147483647 INVITE none: heard
+2147483646 INVITE none: old 2147483647
+"##;
+
+struct HeardLater;
+
+impl Tells for HeardLater {
+    fn tell<P>(told: &mut Told, leg: &mut LegOf<P, Standing>) {
+        tell_all_heard(told, leg, HEARD);
+    }
+}
+
+/// The same, of a leg that has heard nothing yet.
+const HEARD_FIRST: &[u8] = br##"0 INVITE own: pending
+0 BYE own: heard
+0 INVITE none: heard
+1 INVITE none: heard
+0 BYE none: old 1
+"##;
+
+struct HeardFirst;
+
+impl Tells for HeardFirst {
+    fn tell<P>(told: &mut Told, leg: &mut LegOf<P, Standing>) {
+        tell_all_heard(told, leg, HEARD_FIRST);
+    }
+}
+
+#[test]
+fn hears_the_caller(rt: HostRuntime) {
+    let mut told = Told::new(rt.alloc());
+    tell_answered::<HeardLater>(&mut told, Side::Caller, CAME, CAME);
+    assert_eq!(rt; told.whole(), HEARD);
+}
+
+#[test]
+fn hears_the_callee(rt: HostRuntime) {
+    let mut told = Told::new(rt.alloc());
+    tell_answered::<HeardFirst>(&mut told, Side::Callee, OFFERED, ANSWER);
+    assert_eq!(rt; told.whole(), HEARD_FIRST);
+}
+
+/// Two accounts' meters are put into a leg one after another.
+struct Meters;
+
+impl Tells for Meters {
+    fn tell<P>(told: &mut Told, leg: &mut LegOf<P, Standing>) {
+        let origin = Meter::start(Kind::Origin, Account(1), CallNo(1), moment(0));
+        tell_meter(told, leg.swap_meter(Some(origin)));
+        told.add(b"then\n");
+        let seat = Meter::start(Kind::Participant, Account(2), CallNo(1), moment(0));
+        tell_meter(told, leg.swap_meter(Some(seat)));
+        told.add(b"at the end\n");
+    }
+}
+
+/// A leg's meter is given back by a swap, and the last one by its leaving, where the leg was taken out of its call.
+#[test]
+fn meters_of_legs(rt: HostRuntime) {
+    let mut told = Told::new(rt.alloc());
+    tell_answered::<Meters>(&mut told, Side::Caller, CAME, CAME);
+    let wanted = b"then\naccount 1\nat the end\naccount 2\n";
+    assert_eq!(rt; told.whole(), wanted.as_slice());
+}

@@ -1,0 +1,177 @@
+//! Legs that are made of messages, what is told of them, and their end.
+ghost use Rattle.std.specs.Prelude.{◌≤◌};
+ghost use Rattle.mmtel_types.specs.Moments.{last_moment};
+
+use crate::told::Told;
+use mmtel_charging::Meter;
+use mmtel_leg::{Asked, CalleeLeg, CallerLeg, Ended, LegOf, Released, Remote, Standing};
+use mmtel_message::{Msg, read};
+use mmtel_scan::{Text, part};
+use mmtel_trust::Addr;
+use mmtel_types::{Cause, Moment, Peer, Side};
+
+/// The server's address.
+pub const SIP: Addr = Addr {
+    ip: [127, 0, 0, 1],
+    port: 5060,
+};
+
+/// A restricted INVITE as it comes.
+pub const CAME: &[u8] = br##"INVITE sip:bob@far.example SIP/2.0
+Via: SIP/2.0/UDP 127.0.0.1:5071;branch=z9hG4bKa1
+Max-Forwards: 68
+From: "Erin" <sip:erin@other.example>;tag=a
+To: <sip:bob@far.example>
+Call-ID: c1
+CSeq: 7 INVITE
+Contact: <sip:erin@127.0.0.1:5071>
+P-Asserted-Identity: <sip:erin@other.example>
+Privacy: id
+Content-Length: 0
+
+"##;
+
+/// The INVITE that is offered of it.
+pub const OFFERED: &[u8] = br##"INVITE sip:bob@far.example SIP/2.0
+Via: SIP/2.0/UDP 127.0.0.1:5060;branch=z9hG4bK0123456789abcdef-4
+Max-Forwards: 67
+From: "Anonymous" <sip:anonymous@anonymous.invalid>;tag=0123456789abcdef-3
+To: <sip:bob@far.example>
+Call-ID: 0123456789abcdef-2
+CSeq: 1 INVITE
+Contact: <sip:127.0.0.1:5060>
+Content-Length: 0
+
+"##;
+
+/// The answer to that.
+pub const ANSWER: &[u8] = br##"SIP/2.0 200 OK
+Via: SIP/2.0/UDP 127.0.0.1:5060;branch=z9hG4bK0123456789abcdef-4
+Record-Route: <sip:p2.far.example;lr>, <sip:p1.far.example;lr>
+From: "Anonymous" <sip:anonymous@anonymous.invalid>;tag=0123456789abcdef-3
+To: "Bob" <sip:bob@far.example;x=y>;tag=b
+Call-ID: 0123456789abcdef-2
+CSeq: 1 INVITE
+Contact: <sip:bob@127.0.0.1:5072>
+Content-Length: 0
+
+"##;
+
+/// What is told of a leg that stands.
+pub trait Tells {
+    fn tell<P>(told: &mut Told, leg: &mut LegOf<P, Standing>);
+}
+
+/// The first line of a table, and what follows it.
+pub fn next_line(table: &[u8]) -> (&[u8], &[u8]) {
+    part(b'\n', table).unwrap_or((table, b""))
+}
+
+/// The message of these lines, each ended by LF.
+pub fn message(told: &mut Told, lines: &[u8]) -> Option<Msg> {
+    let mut text = Told::new(told.alloc);
+    text.add_with_cr(lines);
+    let message = read(told.alloc, text.bytes());
+    told.noted(message)
+}
+
+/// What the side that sent the message says of itself.
+pub fn remote_in(told: &mut Told, lines: &[u8], side: Side) -> Option<Remote> {
+    let message = message(told, lines)?;
+    let remote = Remote::read(told.alloc, &message, side);
+    told.noted(remote)
+}
+
+/// The moment of this many milliseconds.
+pub fn moment(ms: u64) -> Moment
+    requires { ms ≤ last_moment }
+{
+    match Moment::new(ms) {
+        Some(moment) => moment,
+        None => unreachable!(),
+    }
+}
+
+/// Spends a meter; tells its account, where there is one.
+pub fn tell_meter(told: &mut Told, meter: Option<Meter>) {
+    match meter {
+        Some(meter) => {
+            let row = meter.close(moment(0), 0, Cause::Ended);
+            told.add(b"account ");
+            told.add_number(u64::from(row.account.0));
+            told.add(b"\n");
+        }
+        None => {}
+    }
+}
+
+/// Spends a leg that was taken out of its call; tells the meter that was in it.
+fn tell_end(told: &mut Told, leg: Released) {
+    let Ended { meter } = match leg {
+        Released::Caller(leg) => leg.leave(),
+        Released::Callee(leg) => leg.leave(),
+    };
+    tell_meter(told, meter);
+}
+
+/// The leg that stands by what its other side says, of which some may be said early.
+fn standing<P>(leg: LegOf<P, Asked>, early: Option<Remote>, said: Remote) -> LegOf<P, Standing> {
+    match early {
+        None => leg.stand(said),
+        Some(early) => leg.early(early).stand(said),
+    }
+}
+
+/// Tells of the leg of the caller who sent an INVITE, to whom the server's tag is the first that was drawn.
+fn tell_caller<T: Tells>(told: &mut Told, invite: &Msg, early: Option<Remote>, said: Remote) {
+    let tag = told.copy(b"0123456789abcdef-1");
+    match CallerLeg::<Asked>::take(told.alloc, Peer(1), invite, tag, None) {
+        Ok(leg) => {
+            let mut leg = standing(leg, early, said);
+            T::tell(told, &mut leg);
+            tell_end(told, Released::Caller(leg));
+        }
+        Err((meter, _)) => {
+            told.fail();
+            tell_meter(told, meter);
+        }
+    }
+}
+
+/// Tells of the leg of the callee to whom an INVITE is sent.
+fn tell_callee<T: Tells>(told: &mut Told, invite: &Msg, early: Option<Remote>, said: Remote) {
+    match CalleeLeg::<Asked>::start(told.alloc, Peer(2), invite, None) {
+        Ok(leg) => {
+            let mut leg = standing(leg, early, said);
+            T::tell(told, &mut leg);
+            tell_end(told, Released::Callee(leg));
+        }
+        Err((meter, _)) => {
+            told.fail();
+            tell_meter(told, meter);
+        }
+    }
+}
+
+/// Tells of the leg of this side that is made of an INVITE, and of what the side says of itself, early and then.
+pub fn tell_leg<T: Tells>(
+    told: &mut Told,
+    side: Side,
+    invite: &[u8],
+    early: Option<Remote>,
+    said: Remote,
+) {
+    if let Some(invite) = message(told, invite) {
+        match side {
+            Side::Caller => tell_caller::<T>(told, &invite, early, said),
+            Side::Callee => tell_callee::<T>(told, &invite, early, said),
+        }
+    }
+}
+
+/// Tells of the leg of this side that is made of an INVITE and of one message in which the side speaks of itself.
+pub fn tell_answered<T: Tells>(told: &mut Told, side: Side, invite: &[u8], answer: &[u8]) {
+    if let Some(said) = remote_in(told, answer, side) {
+        tell_leg::<T>(told, side, invite, None, said);
+    }
+}

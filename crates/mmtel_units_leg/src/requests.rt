@@ -1,0 +1,472 @@
+//! Requests and ACKs of legs, byte for byte.
+
+use crate::legs::{
+    ANSWER, CAME, OFFERED, SIP, Tells, message, remote_in, tell_answered, tell_leg, tell_meter,
+};
+use crate::told::Told;
+use mmtel_leg::{
+    Asked, CalleeLeg, Dialogue, Ended, LegOf, Parts, Standing, addr_text, contact_text, numbered,
+    via_text,
+};
+use mmtel_message::Msg;
+use mmtel_scan::{List, NoMemory, Text};
+use mmtel_trust::{Addr, Line};
+use mmtel_types::{Peer, Side};
+use std::alloc::Global;
+
+fn line(alloc: Global, name: &[u8], value: &[u8]) -> Result<Line, NoMemory> {
+    let name = Text::of(alloc, name)?;
+    let value = Text::of(alloc, value)?;
+    Ok(Line { name, value })
+}
+
+/// Adds a line to be shown.
+fn show(told: &mut Told, lines: &mut List<Line>, name: &[u8], value: &[u8]) {
+    let line = line(told.alloc, name, value);
+    if let Some(line) = told.noted(line) {
+        let pushed = lines.push(told.alloc, line);
+        told.noted(pushed);
+    }
+}
+
+/// Tells a message, its lines ended by LF, and a line `#`.
+fn tell_message(told: &mut Told, message: &Msg) {
+    let text = message.text(told.alloc);
+    if let Some(text) = told.noted(text) {
+        told.add_without_cr(text.bytes());
+        told.add(b"#\n");
+    }
+}
+
+/// Tells the message that was built.
+fn tell_built(told: &mut Told, built: Result<Msg, NoMemory>) {
+    if let Some(message) = told.noted(built) {
+        tell_message(told, &message);
+    }
+}
+
+/// The branch of this number.
+fn branch(told: &mut Told, number: &[u8]) -> Text {
+    let mut branch = Told::new(told.alloc);
+    branch.add(b"0123456789abcdef-");
+    branch.add(number);
+    told.copy(branch.bytes())
+}
+
+/// Tells a request with Max-Forwards 70, these lines shown and this body.
+fn tell_request<P>(
+    told: &mut Told,
+    leg: &mut LegOf<P, Standing>,
+    method: &[u8],
+    number: &[u8],
+    lines: &List<Line>,
+    body: &[u8],
+) {
+    let branch = branch(told, number);
+    let request = leg.request(told.alloc, method, SIP, 70, &branch, lines, body);
+    tell_built(told, request);
+}
+
+/// Tells a request with nothing shown and no body.
+fn tell_plain<P>(told: &mut Told, leg: &mut LegOf<P, Standing>, method: &[u8], number: &[u8]) {
+    tell_request(told, leg, method, number, &List::new(), b"");
+}
+
+/// Tells the ACK of the last INVITE that the server sent.
+fn tell_ack<P>(told: &mut Told, leg: &LegOf<P, Standing>, hops: u8, number: &[u8]) {
+    let branch = branch(told, number);
+    let ack = leg.ack(told.alloc, SIP, hops, &branch, &List::new(), b"");
+    tell_built(told, ack);
+}
+
+/// Tells an INVITE with a body and two lines shown for it.
+fn tell_invite<P>(told: &mut Told, leg: &mut LegOf<P, Standing>) {
+    let mut lines = List::new();
+    show(told, &mut lines, b"Privacy", b"id");
+    show(told, &mut lines, b"Content-Type", b"application/sdp");
+    tell_request(told, leg, b"INVITE", b"6", &lines, b"v=0\n");
+}
+
+/// Tells a NOTIFY of a conference room, whose Contact is shown.
+fn tell_notify<P>(told: &mut Told, leg: &mut LegOf<P, Standing>) {
+    let mut lines = List::new();
+    show(told, &mut lines, b"Contact", b"<sip:room-1@127.0.0.1:5060>;isfocus");
+    tell_request(told, leg, b"NOTIFY", b"8", &lines, b"");
+}
+
+/// Tells the number of a leg's peer, its Call-ID, the server's tag and the other side's.
+fn tell_names<P>(told: &mut Told, leg: &LegOf<P, Standing>) {
+    told.add_number(u64::from(leg.peer().0));
+    told.add(b" ");
+    told.add(leg.call_id());
+    told.add(b" ");
+    told.add(leg.local());
+    told.add(b" ");
+    told.add(leg.remote());
+    told.add(b"\n");
+}
+
+/// What the server says to a callee: the ACK of the INVITE that was offered, another INVITE and its ACK, a NOTIFY of a conference room, BYE, and the ACK once more.
+struct ToCallee;
+
+impl Tells for ToCallee {
+    fn tell<P>(told: &mut Told, leg: &mut LegOf<P, Standing>) {
+        tell_names(told, leg);
+        tell_ack(told, leg, 69, b"5");
+        tell_invite(told, leg);
+        tell_ack(told, leg, 0, b"7");
+        tell_notify(told, leg);
+        tell_plain(told, leg, b"BYE", b"9");
+        tell_ack(told, leg, 255, b"10");
+    }
+}
+
+/// Requests to the callee of a restricted call: nothing in them names the caller.
+const SAID_TO_CALLEE: &[u8] = br##"2 0123456789abcdef-2 0123456789abcdef-3 b
+ACK sip:bob@127.0.0.1:5072 SIP/2.0
+Via: SIP/2.0/UDP 127.0.0.1:5060;branch=z9hG4bK0123456789abcdef-5
+Route: <sip:p1.far.example;lr>
+Route: <sip:p2.far.example;lr>
+Max-Forwards: 69
+From: "Anonymous" <sip:anonymous@anonymous.invalid>;tag=0123456789abcdef-3
+To: <sip:bob@far.example>;tag=b
+Call-ID: 0123456789abcdef-2
+CSeq: 1 ACK
+Content-Length: 0
+
+#
+INVITE sip:bob@127.0.0.1:5072 SIP/2.0
+Via: SIP/2.0/UDP 127.0.0.1:5060;branch=z9hG4bK0123456789abcdef-6
+Route: <sip:p1.far.example;lr>
+Route: <sip:p2.far.example;lr>
+Max-Forwards: 70
+From: "Anonymous" <sip:anonymous@anonymous.invalid>;tag=0123456789abcdef-3
+To: <sip:bob@far.example>;tag=b
+Call-ID: 0123456789abcdef-2
+CSeq: 2 INVITE
+Contact: <sip:127.0.0.1:5060>
+Privacy: id
+Content-Type: application/sdp
+Content-Length: 4
+
+v=0
+#
+ACK sip:bob@127.0.0.1:5072 SIP/2.0
+Via: SIP/2.0/UDP 127.0.0.1:5060;branch=z9hG4bK0123456789abcdef-7
+Route: <sip:p1.far.example;lr>
+Route: <sip:p2.far.example;lr>
+Max-Forwards: 0
+From: "Anonymous" <sip:anonymous@anonymous.invalid>;tag=0123456789abcdef-3
+To: <sip:bob@far.example>;tag=b
+Call-ID: 0123456789abcdef-2
+CSeq: 2 ACK
+Content-Length: 0
+
+#
+NOTIFY sip:bob@127.0.0.1:5072 SIP/2.0
+Via: SIP/2.0/UDP 127.0.0.1:5060;branch=z9hG4bK0123456789abcdef-8
+Route: <sip:p1.far.example;lr>
+Route: <sip:p2.far.example;lr>
+Max-Forwards: 70
+From: "Anonymous" <sip:anonymous@anonymous.invalid>;tag=0123456789abcdef-3
+To: <sip:bob@far.example>;tag=b
+Call-ID: 0123456789abcdef-2
+CSeq: 3 NOTIFY
+Contact: <sip:room-1@127.0.0.1:5060>;isfocus
+Content-Length: 0
+
+#
+BYE sip:bob@127.0.0.1:5072 SIP/2.0
+Via: SIP/2.0/UDP 127.0.0.1:5060;branch=z9hG4bK0123456789abcdef-9
+Route: <sip:p1.far.example;lr>
+Route: <sip:p2.far.example;lr>
+Max-Forwards: 70
+From: "Anonymous" <sip:anonymous@anonymous.invalid>;tag=0123456789abcdef-3
+To: <sip:bob@far.example>;tag=b
+Call-ID: 0123456789abcdef-2
+CSeq: 4 BYE
+Content-Length: 0
+
+#
+ACK sip:bob@127.0.0.1:5072 SIP/2.0
+Via: SIP/2.0/UDP 127.0.0.1:5060;branch=z9hG4bK0123456789abcdef-10
+Route: <sip:p1.far.example;lr>
+Route: <sip:p2.far.example;lr>
+Max-Forwards: 255
+From: "Anonymous" <sip:anonymous@anonymous.invalid>;tag=0123456789abcdef-3
+To: <sip:bob@far.example>;tag=b
+Call-ID: 0123456789abcdef-2
+CSeq: 2 ACK
+Content-Length: 0
+
+#
+"##;
+
+#[test]
+fn requests_to_callee(rt: HostRuntime) {
+    let mut told = Told::new(rt.alloc());
+    tell_answered::<ToCallee>(&mut told, Side::Callee, OFFERED, ANSWER);
+    assert_eq!(rt; told.whole(), SAID_TO_CALLEE);
+}
+
+/// What the server says to a caller: an INVITE, its ACK, and BYE; before them an ACK of nothing, whose number is 0 (RFC 3261 §13.2.2.4 has the number of the INVITE, and the server sent none).
+struct ToCaller;
+
+impl Tells for ToCaller {
+    fn tell<P>(told: &mut Told, leg: &mut LegOf<P, Standing>) {
+        tell_names(told, leg);
+        tell_ack(told, leg, 70, b"4");
+        tell_plain(told, leg, b"INVITE", b"5");
+        tell_plain(told, leg, b"BYE", b"6");
+        tell_ack(told, leg, 70, b"7");
+    }
+}
+
+/// Requests to callers. From and To of the INVITE have changed places, their bytes kept, and the server's numbers begin with 1. The second caller's From and To are bare, with parameters, and its INVITE came by two proxies.
+const SAID_TO_CALLERS: &[u8] = br##"1 c1 0123456789abcdef-1 a
+ACK sip:erin@127.0.0.1:5071 SIP/2.0
+Via: SIP/2.0/UDP 127.0.0.1:5060;branch=z9hG4bK0123456789abcdef-4
+Max-Forwards: 70
+From: <sip:bob@far.example>;tag=0123456789abcdef-1
+To: "Erin" <sip:erin@other.example>;tag=a
+Call-ID: c1
+CSeq: 0 ACK
+Content-Length: 0
+
+#
+INVITE sip:erin@127.0.0.1:5071 SIP/2.0
+Via: SIP/2.0/UDP 127.0.0.1:5060;branch=z9hG4bK0123456789abcdef-5
+Max-Forwards: 70
+From: <sip:bob@far.example>;tag=0123456789abcdef-1
+To: "Erin" <sip:erin@other.example>;tag=a
+Call-ID: c1
+CSeq: 1 INVITE
+Contact: <sip:127.0.0.1:5060>
+Content-Length: 0
+
+#
+BYE sip:erin@127.0.0.1:5071 SIP/2.0
+Via: SIP/2.0/UDP 127.0.0.1:5060;branch=z9hG4bK0123456789abcdef-6
+Max-Forwards: 70
+From: <sip:bob@far.example>;tag=0123456789abcdef-1
+To: "Erin" <sip:erin@other.example>;tag=a
+Call-ID: c1
+CSeq: 2 BYE
+Content-Length: 0
+
+#
+ACK sip:erin@127.0.0.1:5071 SIP/2.0
+Via: SIP/2.0/UDP 127.0.0.1:5060;branch=z9hG4bK0123456789abcdef-7
+Max-Forwards: 70
+From: <sip:bob@far.example>;tag=0123456789abcdef-1
+To: "Erin" <sip:erin@other.example>;tag=a
+Call-ID: c1
+CSeq: 1 ACK
+Content-Length: 0
+
+#
+1 c2 0123456789abcdef-1 a
+ACK sip:a@127.0.0.1:5071 SIP/2.0
+Via: SIP/2.0/UDP 127.0.0.1:5060;branch=z9hG4bK0123456789abcdef-4
+Route: <sip:p2;lr>
+Route: <sip:p1;lr>
+Max-Forwards: 70
+From: sip:b@h;x=y;tag=0123456789abcdef-1
+To: sip:a@h;x=y;tag=a;z
+Call-ID: c2
+CSeq: 0 ACK
+Content-Length: 0
+
+#
+INVITE sip:a@127.0.0.1:5071 SIP/2.0
+Via: SIP/2.0/UDP 127.0.0.1:5060;branch=z9hG4bK0123456789abcdef-5
+Route: <sip:p2;lr>
+Route: <sip:p1;lr>
+Max-Forwards: 70
+From: sip:b@h;x=y;tag=0123456789abcdef-1
+To: sip:a@h;x=y;tag=a;z
+Call-ID: c2
+CSeq: 1 INVITE
+Contact: <sip:127.0.0.1:5060>
+Content-Length: 0
+
+#
+BYE sip:a@127.0.0.1:5071 SIP/2.0
+Via: SIP/2.0/UDP 127.0.0.1:5060;branch=z9hG4bK0123456789abcdef-6
+Route: <sip:p2;lr>
+Route: <sip:p1;lr>
+Max-Forwards: 70
+From: sip:b@h;x=y;tag=0123456789abcdef-1
+To: sip:a@h;x=y;tag=a;z
+Call-ID: c2
+CSeq: 2 BYE
+Content-Length: 0
+
+#
+ACK sip:a@127.0.0.1:5071 SIP/2.0
+Via: SIP/2.0/UDP 127.0.0.1:5060;branch=z9hG4bK0123456789abcdef-7
+Route: <sip:p2;lr>
+Route: <sip:p1;lr>
+Max-Forwards: 70
+From: sip:b@h;x=y;tag=0123456789abcdef-1
+To: sip:a@h;x=y;tag=a;z
+Call-ID: c2
+CSeq: 1 ACK
+Content-Length: 0
+
+#
+"##;
+
+/// The INVITE of the second caller.
+const BARE: &[u8] = br##"INVITE sip:b@h SIP/2.0
+Via: SIP/2.0/UDP 127.0.0.1:5071;branch=z9hG4bKa2
+From: sip:a@h;x=y;tag=a;z
+To: sip:b@h;x=y
+Call-ID: c2
+CSeq: 1 INVITE
+Contact: sip:a@127.0.0.1:5071
+Record-Route: <sip:p2;lr>, <sip:p1;lr>
+
+"##;
+
+#[test]
+fn requests_to_callers(rt: HostRuntime) {
+    let mut told = Told::new(rt.alloc());
+    tell_answered::<ToCaller>(&mut told, Side::Caller, CAME, CAME);
+    tell_answered::<ToCaller>(&mut told, Side::Caller, BARE, BARE);
+    assert_eq!(rt; told.whole(), SAID_TO_CALLERS);
+}
+
+/// What the server says to a callee that answers: the ACK.
+struct ToAnswer;
+
+impl Tells for ToAnswer {
+    fn tell<P>(told: &mut Told, leg: &mut LegOf<P, Standing>) {
+        tell_ack(told, leg, 70, b"5");
+    }
+}
+
+/// An early dialog with a tag, by one proxy.
+const RINGING: &[u8] = br##"SIP/2.0 180 Ringing
+Via: SIP/2.0/UDP 127.0.0.1:5060;branch=z9hG4bK0123456789abcdef-4
+Record-Route: <sip:p0;lr>
+From: "Anonymous" <sip:anonymous@anonymous.invalid>;tag=0123456789abcdef-3
+To: <sip:bob@far.example>;tag=e
+Call-ID: 0123456789abcdef-2
+CSeq: 1 INVITE
+Contact: <sip:e@127.0.0.1:5072>
+Content-Length: 0
+
+"##;
+
+/// A 2xx without tag and without Contact, by another proxy.
+const UNTAGGED: &[u8] = br##"SIP/2.0 200 OK
+Via: SIP/2.0/UDP 127.0.0.1:5060;branch=z9hG4bK0123456789abcdef-4
+Record-Route: <sip:p1;lr>
+From: "Anonymous" <sip:anonymous@anonymous.invalid>;tag=0123456789abcdef-3
+To: <sip:bob@far.example>
+Call-ID: 0123456789abcdef-2
+CSeq: 1 INVITE
+Content-Length: 0
+
+"##;
+
+/// RFC 3261 §12.1.2, §13.2.2.4: the dialog is that of the 2xx, so the ACK goes by its route set, and To has the tag that it gave, which is none.
+const ACK_OF_UNTAGGED: &[u8] = br##"ACK sip:e@127.0.0.1:5072 SIP/2.0
+Via: SIP/2.0/UDP 127.0.0.1:5060;branch=z9hG4bK0123456789abcdef-5
+Route: <sip:p1;lr>
+Max-Forwards: 70
+From: "Anonymous" <sip:anonymous@anonymous.invalid>;tag=0123456789abcdef-3
+To: <sip:bob@far.example>
+Call-ID: 0123456789abcdef-2
+CSeq: 1 ACK
+Content-Length: 0
+
+#
+"##;
+
+#[test]
+fn untagged_answer_behind_an_early_dialog(rt: HostRuntime) {
+    let mut told = Told::new(rt.alloc());
+    let early = remote_in(&mut told, RINGING, Side::Callee);
+    if let Some(said) = remote_in(&mut told, UNTAGGED, Side::Callee) {
+        tell_leg::<ToAnswer>(&mut told, Side::Callee, OFFERED, early, said);
+    }
+    assert_eq!(rt; told.whole(), ACK_OF_UNTAGGED);
+}
+
+/// Tells the CANCEL of the INVITE with which a dialog began.
+fn tell_cancel(told: &mut Told, dialogue: &Dialogue) {
+    let branch = branch(told, b"4");
+    let none = List::new();
+    let parts = Parts::of(SIP, 70, &branch, &none, b"");
+    let cancel = numbered(told.alloc, dialogue, dialogue.own, b"CANCEL", &parts);
+    tell_built(told, cancel);
+}
+
+/// Tells the CANCEL of a leg that begins with this dialog, and spends the leg.
+fn tell_begun(told: &mut Told, dialogue: Dialogue) {
+    let leg = CalleeLeg::<Asked>::begun(dialogue, None);
+    tell_cancel(told, leg.dialogue());
+    let Ended { meter } = leg.leave();
+    tell_meter(told, meter);
+}
+
+/// Tells the CANCEL of a leg that begins with a copy of the dialog of an INVITE.
+fn tell_copied(told: &mut Told, invite: &Msg) {
+    let dialogue = Dialogue::of_callee(told.alloc, Peer(2), invite);
+    if let Some(dialogue) = told.noted(dialogue) {
+        let copy = dialogue.copied(told.alloc);
+        if let Some(copy) = told.noted(copy) {
+            tell_begun(told, copy);
+        }
+    }
+}
+
+/// RFC 3261 §9.1: Request-URI, Call-ID, From, To and the number are those of the INVITE, and so is its Via.
+const CANCEL: &[u8] = br##"CANCEL sip:bob@far.example SIP/2.0
+Via: SIP/2.0/UDP 127.0.0.1:5060;branch=z9hG4bK0123456789abcdef-4
+Max-Forwards: 70
+From: "Anonymous" <sip:anonymous@anonymous.invalid>;tag=0123456789abcdef-3
+To: <sip:bob@far.example>
+Call-ID: 0123456789abcdef-2
+CSeq: 1 CANCEL
+Content-Length: 0
+
+#
+"##;
+
+#[test]
+fn cancel_of_a_dialog_that_began(rt: HostRuntime) {
+    let mut told = Told::new(rt.alloc());
+    if let Some(invite) = message(&mut told, OFFERED) {
+        tell_copied(&mut told, &invite);
+    }
+    assert_eq!(rt; told.whole(), CANCEL);
+}
+
+/// Tells a text, and a line's end.
+fn tell_text(told: &mut Told, text: Result<Text, NoMemory>) {
+    if let Some(text) = told.noted(text) {
+        told.add(text.bytes());
+        told.add(b"\n");
+    }
+}
+
+/// How the server names itself.
+#[test]
+fn texts_of_addresses(rt: HostRuntime) {
+    let addr = Addr {
+        ip: [192, 0, 2, 255],
+        port: 65535,
+    };
+    let mut told = Told::new(rt.alloc());
+    tell_text(&mut told, addr_text(rt.alloc(), addr));
+    tell_text(&mut told, contact_text(rt.alloc(), SIP));
+    tell_text(&mut told, via_text(rt.alloc(), SIP, b"T-4"));
+    let wanted = b"192.0.2.255:65535
+<sip:127.0.0.1:5060>
+SIP/2.0/UDP 127.0.0.1:5060;branch=z9hG4bKT-4
+";
+    assert_eq!(rt; told.whole(), wanted.as_slice());
+}

@@ -1,6 +1,6 @@
 -- The ACK of a non-2xx final ends its sending again, and only its own.
 use Rattle.std.proofs.Common.{◌≡◌, ℕ, ◌+◌, List, [], ◌∷◌, length, refl, true, false, Bool, not, ◌&&◌, ◌||◌, inl, inr, sym, ap, ◌∙◌, arith, cond, subst, nat_lt}
-use Rattle.std.specs.Prelude.{Option, Some, None, ◌==◌, nat_le, option_map}
+use Rattle.std.specs.Prelude.{Option, Some, None, ◌==◌, nat_le, option_map, is_some}
 use Rattle.std.specs.List.{find}
 use Rattle.std.specs.Str.{bytes_eq}
 use Rattle.std.proofs.lemmas.Bool.{and_parts, both_ways, eq-eqb, eqb-true, leb-true, ltb-false, ne_eqb, not-false, not-true, or_parts}
@@ -15,9 +15,9 @@ use Rattle.mmtel_transaction.specs.declared.entries.Plan.TheVariants as plan
 use Rattle.mmtel_transaction.specs.declared.parts.Part.{Part}
 use Rattle.mmtel_transaction.specs.declared.parts.Part.TheVariants as part
 use Rattle.mmtel_transaction.specs.Heads.{head_of, is_2xx, is_ack, is_invite, is_provisional, is_refusal, is_same_call}
-use Rattle.mmtel_transaction.specs.Deadlines.{deadline, is_there, resend_at}
+use Rattle.mmtel_transaction.specs.Deadlines.{deadline, resend_at}
 use Rattle.mmtel_transaction.specs.Changes.{acked, acked_2xx, answered, finished, hit, is_ack_of, kept, rang, replied}
-use Rattle.mmtel_transaction.specs.Calls.{Done, DidBegin, DidHear, DidAsk, DidReply, DidAck, DidFire, change, heard_opens, is_live, live, opened, opens, step_of}
+use Rattle.mmtel_transaction.specs.Calls.{Done, DidBegin, DidHear, DidAsk, DidReply, DidAck, DidFire, change, heard_opens, is_live, live, offers, opened, opens, step_of}
 use Rattle.mmtel_transaction.specs.Answers.{by_key, hears, is_client_of, is_full, is_server_of, part_ack, part_of, part_request, part_response}
 use Rattle.mmtel_transaction.specs.Runs.{IsRun}
 use Rattle.mmtel_transaction.specs.Table.{settle}
@@ -81,7 +81,7 @@ module _ (e : Entry) (s : IsSound e) where
   not_acked : (e.done == 0) ≡ true → e.is_acked ≡ true → ⊥
   not_acked q a = both_ways (e.done == 0) (s.done a) q
 
-  sound_fired : (step : ℕ) (o : Option ℕ) → resend_at e ≡ o → IsSound (cond (is_there o) (record e { shots = e.shots + 1; step = step }) (record e { is_over = true }))
+  sound_fired : (step : ℕ) (o : Option ℕ) → resend_at e ≡ o → IsSound (cond (is_some o) (record e { shots = e.shots + 1; step = step }) (record e { is_over = true }))
   sound_fired step None q = record { acked = s.acked; done = s.done; refused = s.refused }
   sound_fired step (Some a) q = record { acked = λ k. absurd (none-some a (sym (s.acked k) ∙ q)); done = s.done; refused = s.refused }
 
@@ -139,7 +139,7 @@ module _ (h : List Done) (e : Entry) (g : Has e (live h)) (s : IsSound e) where
       let same : w.0 ≡ e = same_entry h w.0 e w.1 g (sym w.3 ∙ sym (eqb-true e.key j k)) in
       ap (λ (x : Entry). x.is_refused) (sym same) ∙ w.2
 
-  sound_heard : (p : Peer) (m : Message Start) (now : ℕ) (t : Part) → t ≡ part_of (head_of m) (live h) → IsSound (change (step_of h) (length h) (DidHear p m now t) e)
+  sound_heard : (p : Peer) (m : Message Start) (now : ℕ) (t : Part) → t ≡ part_of (head_of m) (live h) → IsSound (change (step_of h) (offers h) (DidHear p m now t) e)
   sound_heard p m now part.Fresh q = s
   sound_heard p m now part.Full q = s
   sound_heard p m now (part.Repeat j) q = s
@@ -149,31 +149,31 @@ module _ (h : List Done) (e : Entry) (g : Has e (live h)) (s : IsSound e) where
   sound_heard p m now part.AckOf2xx q = sound_acked_2xx e s (step_of h) (head_of m)
   sound_heard p m now part.Stray q = s
 
-  sound_more : (c : Done) → IsRun (c ∷ h) → IsSound (change (step_of h) (length h) c e)
+  sound_more : (c : Done) → IsRun (c ∷ h) → IsSound (change (step_of h) (offers h) c e)
   sound_more (DidBegin n) r = s
   sound_more (DidHear p m now t) r = sound_heard p m now t r.0
   sound_more (DidAsk p m now) r = s
-  sound_more (DidReply j m now) r = sound_if (e.key == j) _ e (λ f. sound_replied e s (step_of h) (length h) (head_of m).status (message_text m) (head_of m).to_tag now) (λ f. s)
+  sound_more (DidReply j m now) r = sound_if (e.key == j) _ e (λ f. sound_replied e s (step_of h) (offers h) (head_of m).status (message_text m) (head_of m).to_tag now) (λ f. s)
   sound_more (DidAck j m) r = sound_if (e.key == j) _ e (λ f. sound_kept e s (message_text m)) (λ f. s)
   sound_more (DidFire j) r = sound_if (e.key == j) _ e (λ f. sound_fired e s (step_of h) (resend_at e) refl) (λ f. s)
 
 sound_same : (e x : Entry) → e ≡ x → IsSound x → IsSound e
 sound_same e x q s = subst IsSound (sym q) s
 
-sound_news_heard : (s i k : ℕ) (p : Peer) (m : Message Start) (now : ℕ) (t : Part) (e : Entry) → Has e (heard_opens s i k p m now t) → IsSound e
-sound_news_heard s i k p m now part.Fresh e (inl q) = sound_same e _ q (record { acked = λ f. absurd cc; done = λ f. absurd cc; refused = λ f. absurd cc })
-sound_news_heard s i k p m now part.Fresh e (inr f) = absurd f
-sound_news_heard s i k p m now part.Full e f = absurd f
-sound_news_heard s i k p m now (part.Repeat j) e f = absurd f
-sound_news_heard s i k p m now (part.Same j) e f = absurd f
-sound_news_heard s i k p m now (part.Answer j) e f = absurd f
-sound_news_heard s i k p m now (part.Acked j) e f = absurd f
-sound_news_heard s i k p m now part.AckOf2xx e f = absurd f
-sound_news_heard s i k p m now part.Stray e f = absurd f
+sound_news_heard : (s k : ℕ) (p : Peer) (m : Message Start) (now : ℕ) (t : Part) (e : Entry) → Has e (heard_opens s k p m now t) → IsSound e
+sound_news_heard s k p m now part.Fresh e (inl q) = sound_same e _ q (record { acked = λ f. absurd cc; done = λ f. absurd cc; refused = λ f. absurd cc })
+sound_news_heard s k p m now part.Fresh e (inr f) = absurd f
+sound_news_heard s k p m now part.Full e f = absurd f
+sound_news_heard s k p m now (part.Repeat j) e f = absurd f
+sound_news_heard s k p m now (part.Same j) e f = absurd f
+sound_news_heard s k p m now (part.Answer j) e f = absurd f
+sound_news_heard s k p m now (part.Acked j) e f = absurd f
+sound_news_heard s k p m now part.AckOf2xx e f = absurd f
+sound_news_heard s k p m now part.Stray e f = absurd f
 
 sound_news : (s i k : ℕ) (c : Done) (e : Entry) → Has e (opens s i k c) → IsSound e
 sound_news s i k (DidBegin n) e f = absurd f
-sound_news s i k (DidHear p m now t) e f = sound_news_heard s i k p m now t e f
+sound_news s i k (DidHear p m now t) e f = sound_news_heard s k p m now t e f
 sound_news s i k (DidAsk p m now) e (inl q) = sound_same e _ q (record { acked = λ f. absurd cc; done = λ f. absurd cc; refused = λ f. absurd cc })
 sound_news s i k (DidAsk p m now) e (inr f) = absurd f
 sound_news s i k (DidReply j m now) e f = absurd f
@@ -183,8 +183,8 @@ sound_news s i k (DidFire j) e f = absurd f
 sound : (h : List Done) → IsRun h → (e : Entry) → Has e (live h) → IsSound e
 sound [] r e g = absurd g
 sound (c ∷ h) r e g = elim (has_more_back c h e g) [
-  | inl w ↦ sound_same e (change (step_of h) (length h) c w.0) w.2 (sound_more h w.0 w.1 (sound h (run_before c h r) w.0 w.1) c r)
-  | inr f ↦ sound_news (step_of h) (length h) (length (opened h)) c e f
+  | inl w ↦ sound_same e (change (step_of h) (offers h) c w.0) w.2 (sound_more h w.0 w.1 (sound h (run_before c h r) w.0 w.1) c r)
+  | inr f ↦ sound_news (step_of h) (offers h) (length (opened h)) c e f
 ]
 
 -- every other transaction is found as before
@@ -219,7 +219,7 @@ module _ (h : List Done) (p : Peer) (m : Message Start) (now key : ℕ) (r : IsR
       let x : Entry = hit key (acked (step_of h) now) e in
       let same : x ≡ acked (step_of h) now e = is_hit e k in
       let l : is_live x ≡ true = ap is_live same ∙ acked_live e (has_live h e g) in
-      let i : x.key ≡ key = (keeps_change (step_of h) (length h) call e).key ∙ sym k in
+      let i : x.key ≡ key = (keeps_change (step_of h) (offers h) call e).key ∙ sym k in
       subst (λ j. by_key j (live (call ∷ h)) ≡ Some x) i (at_key (call ∷ h) x (has_more call h e g l)) ∙ ap Some same
 
   not_again : (e : Entry) → IsSound e → e.is_refused ≡ true → resend_at (acked (step_of h) now e) ≡ None

@@ -13,7 +13,7 @@ use Rattle.mmtel_transaction.specs.declared.entries.Entry.{Entry}
 use Rattle.mmtel_transaction.specs.declared.parts.Part.{Part}
 use Rattle.mmtel_transaction.specs.declared.parts.Part.TheVariants as part
 use Rattle.mmtel_transaction.specs.Heads.{head_of, invite, is_ack, is_invite, is_refusal}
-use Rattle.mmtel_transaction.specs.Calls.{Done, DidBegin, DidHear, DidAsk, DidReply, DidAck, DidFire, change, heard_opens, live, opened, opens, step_of}
+use Rattle.mmtel_transaction.specs.Calls.{Done, DidBegin, DidHear, DidAsk, DidReply, DidAck, DidFire, change, heard_opens, live, offers, opened, opens, step_of}
 use Rattle.mmtel_transaction.specs.Answers.{by_key, is_client_of, is_full, is_server_of, key_method, part_ack, part_of, part_request, part_response}
 use Rattle.mmtel_transaction.specs.Runs.{IsRun}
 use Rattle.mmtel_transaction.specs.Laws.{HaveOneKey}
@@ -91,7 +91,7 @@ asked_is : (e x : Entry) → e ≡ x → e.asked ≡ x.asked
 asked_is e x q = ap (λ (y : Entry). y.asked) q
 
 -- what is opened has another key than every live server transaction
-news_apart : (c : Done) (h : List Done) → IsRun (c ∷ h) → (e x : Entry) → Has e (live h) → Has x (opens (step_of h) (length h) (length (opened h)) c) → HaveOneKey e x → ⊥
+news_apart : (c : Done) (h : List Done) → IsRun (c ∷ h) → (e x : Entry) → Has e (live h) → Has x (opens (step_of h) (offers h) (length (opened h)) c) → HaveOneKey e x → ⊥
 news_apart (DidBegin n) h r e x g f k = f
 news_apart (DidHear p m now part.Fresh) h r e x g (inl q) k =
     let w = fresh_is (head_of m) (live h) r.0 in
@@ -118,21 +118,21 @@ news_apart (DidReply j m now) h r e x g f k = f
 news_apart (DidAck j m) h r e x g f k = f
 news_apart (DidFire j) h r e x g f k = f
 
-heard_alone : (s i k : ℕ) (p : Peer) (m : Message Start) (now : ℕ) (t : Part) (e x : Entry) → Has e (heard_opens s i k p m now t) → Has x (heard_opens s i k p m now t) → e ≡ x
-heard_alone s i k p m now part.Fresh e x (inl a) (inl b) = a ∙ sym b
-heard_alone s i k p m now part.Fresh e x (inl a) (inr g) = absurd g
-heard_alone s i k p m now part.Fresh e x (inr f) g = absurd f
-heard_alone s i k p m now part.Full e x f g = absurd f
-heard_alone s i k p m now (part.Repeat j) e x f g = absurd f
-heard_alone s i k p m now (part.Same j) e x f g = absurd f
-heard_alone s i k p m now (part.Answer j) e x f g = absurd f
-heard_alone s i k p m now (part.Acked j) e x f g = absurd f
-heard_alone s i k p m now part.AckOf2xx e x f g = absurd f
-heard_alone s i k p m now part.Stray e x f g = absurd f
+heard_alone : (s k : ℕ) (p : Peer) (m : Message Start) (now : ℕ) (t : Part) (e x : Entry) → Has e (heard_opens s k p m now t) → Has x (heard_opens s k p m now t) → e ≡ x
+heard_alone s k p m now part.Fresh e x (inl a) (inl b) = a ∙ sym b
+heard_alone s k p m now part.Fresh e x (inl a) (inr g) = absurd g
+heard_alone s k p m now part.Fresh e x (inr f) g = absurd f
+heard_alone s k p m now part.Full e x f g = absurd f
+heard_alone s k p m now (part.Repeat j) e x f g = absurd f
+heard_alone s k p m now (part.Same j) e x f g = absurd f
+heard_alone s k p m now (part.Answer j) e x f g = absurd f
+heard_alone s k p m now (part.Acked j) e x f g = absurd f
+heard_alone s k p m now part.AckOf2xx e x f g = absurd f
+heard_alone s k p m now part.Stray e x f g = absurd f
 
 news_alone : (s i k : ℕ) (c : Done) (e x : Entry) → Has e (opens s i k c) → Has x (opens s i k c) → e ≡ x
 news_alone s i k (DidBegin n) e x f g = absurd f
-news_alone s i k (DidHear p m now t) e x f g = heard_alone s i k p m now t e x f g
+news_alone s i k (DidHear p m now t) e x f g = heard_alone s k p m now t e x f g
 news_alone s i k (DidAsk p m now) e x (inl a) (inl b) = a ∙ sym b
 news_alone s i k (DidAsk p m now) e x (inl a) (inr g) = absurd g
 news_alone s i k (DidAsk p m now) e x (inr f) g = absurd f
@@ -144,16 +144,16 @@ abbrev AreApart : List Entry → Type 0
 AreApart es = (e x : Entry) → Has e es → Has x es → HaveOneKey e x → e ≡ x
 
 module _ (c : Done) (h : List Done) (r : IsRun (c ∷ h)) (ih : AreApart (live h)) where
-  was : (e d : Entry) → e ≡ change (step_of h) (length h) c d → (e.is_server ≡ d.is_server) × (e.asked ≡ d.asked)
-  was e d q = let w = keeps_change (step_of h) (length h) c d in (server_is e _ q ∙ w.server, asked_is e _ q ∙ w.asked)
+  was : (e d : Entry) → e ≡ change (step_of h) (offers h) c d → (e.is_server ≡ d.is_server) × (e.asked ≡ d.asked)
+  was e d q = let w = keeps_change (step_of h) (offers h) c d in (server_is e _ q ∙ w.server, asked_is e _ q ∙ w.asked)
 
-  both_old : (e x d y : Entry) → Has d (live h) → Has y (live h) → e ≡ change (step_of h) (length h) c d → x ≡ change (step_of h) (length h) c y → HaveOneKey e x → e ≡ x
+  both_old : (e x d y : Entry) → Has d (live h) → Has y (live h) → e ≡ change (step_of h) (offers h) c d → x ≡ change (step_of h) (offers h) c y → HaveOneKey e x → e ≡ x
   both_old e x d y f g p q k =
       let a = was e d p in
       let b = was x y q in
-      p ∙ (ap (change (step_of h) (length h) c) (ih d y f g (before_key e x d y a.0 a.1 b.0 b.1 k)) ∙ sym q)
+      p ∙ (ap (change (step_of h) (offers h) c) (ih d y f g (before_key e x d y a.0 a.1 b.0 b.1 k)) ∙ sym q)
 
-  old_new : (e x d : Entry) → Has d (live h) → e ≡ change (step_of h) (length h) c d → Has x (opens (step_of h) (length h) (length (opened h)) c) → HaveOneKey e x → ⊥
+  old_new : (e x d : Entry) → Has d (live h) → e ≡ change (step_of h) (offers h) c d → Has x (opens (step_of h) (offers h) (length (opened h)) c) → HaveOneKey e x → ⊥
   old_new e x d f p g k = let a = was e d p in news_apart c h r d x f g (before_key e x d x a.0 a.1 refl refl k)
 
   apart_more : AreApart (live (c ∷ h))
@@ -165,7 +165,7 @@ module _ (c : Done) (h : List Done) (r : IsRun (c ∷ h)) (ih : AreApart (live h
         ]
         | inr a ↦ elim (has_more_back c h x g) [
           | inl b ↦ absurd (old_new x e b.0 b.1 b.2 a (turned e x k))
-          | inr b ↦ news_alone (step_of h) (length h) (length (opened h)) c e x a b
+          | inr b ↦ news_alone (step_of h) (offers h) (length (opened h)) c e x a b
         ]
       ]
 

@@ -1,6 +1,6 @@
 -- What has ended is never live again, and a deadline that ends a transaction ends it.
 use Rattle.std.proofs.Common.{◌≡◌, ℕ, ◌≤◌, ◌<◌, List, [], ◌∷◌, ◌++◌, length, refl, true, false, Bool, inl, inr, sym, ap, ◌∙◌, arith, cond, length-append}
-use Rattle.std.specs.Prelude.{Option, Some, None}
+use Rattle.std.specs.Prelude.{Option, Some, None, is_some}
 use Rattle.std.proofs.lemmas.Bool.{both_ways, eq-eqb}
 use Rattle.std.proofs.lemmas.Option.{none-some}
 use Rattle.mmtel_types.specs.declared.numbers.Peer.{Peer}
@@ -10,9 +10,9 @@ use Rattle.mmtel_transaction.specs.declared.entries.Entry.{Entry}
 use Rattle.mmtel_transaction.specs.declared.parts.Part.{Part}
 use Rattle.mmtel_transaction.specs.declared.parts.Part.TheVariants as part
 use Rattle.mmtel_transaction.specs.declared.words.Due.TheVariants as due
-use Rattle.mmtel_transaction.specs.Deadlines.{ends, is_there, resend_at}
+use Rattle.mmtel_transaction.specs.Deadlines.{ends, resend_at}
 use Rattle.mmtel_transaction.specs.Changes.{fired, hit}
-use Rattle.mmtel_transaction.specs.Calls.{Done, DidBegin, DidHear, DidAsk, DidReply, DidAck, DidFire, heard_opens, is_live, live, opened, opens, step_of}
+use Rattle.mmtel_transaction.specs.Calls.{Done, DidBegin, DidHear, DidAsk, DidReply, DidAck, DidFire, heard_opens, is_live, live, offers, opened, opens, step_of}
 use Rattle.mmtel_transaction.specs.Answers.{Next, by_key, fires, is_of, next_due, says_due, text_again, tkey}
 use Rattle.mmtel_transaction.specs.Laws.{IsLast, LastOnesEnd, WhatEndedStays}
 use Rattle.mmtel_transaction.proofs.Lists.{keeps_change}
@@ -23,20 +23,20 @@ none_of : (o : Option Entry) → ((e : Entry) → o ≡ Some e → ⊥) → o �
 none_of None f = refl
 none_of (Some e) f = absurd (f e refl)
 
-heard_key : (s i k : ℕ) (p : Peer) (m : Message Start) (now : ℕ) (t : Part) (e : Entry) → Has e (heard_opens s i k p m now t) → e.key ≡ k
-heard_key s i k p m now part.Fresh e (inl q) = ap (λ (x : Entry). x.key) q
-heard_key s i k p m now part.Fresh e (inr f) = absurd f
-heard_key s i k p m now part.Full e f = absurd f
-heard_key s i k p m now (part.Repeat j) e f = absurd f
-heard_key s i k p m now (part.Same j) e f = absurd f
-heard_key s i k p m now (part.Answer j) e f = absurd f
-heard_key s i k p m now (part.Acked j) e f = absurd f
-heard_key s i k p m now part.AckOf2xx e f = absurd f
-heard_key s i k p m now part.Stray e f = absurd f
+heard_key : (s k : ℕ) (p : Peer) (m : Message Start) (now : ℕ) (t : Part) (e : Entry) → Has e (heard_opens s k p m now t) → e.key ≡ k
+heard_key s k p m now part.Fresh e (inl q) = ap (λ (x : Entry). x.key) q
+heard_key s k p m now part.Fresh e (inr f) = absurd f
+heard_key s k p m now part.Full e f = absurd f
+heard_key s k p m now (part.Repeat j) e f = absurd f
+heard_key s k p m now (part.Same j) e f = absurd f
+heard_key s k p m now (part.Answer j) e f = absurd f
+heard_key s k p m now (part.Acked j) e f = absurd f
+heard_key s k p m now part.AckOf2xx e f = absurd f
+heard_key s k p m now part.Stray e f = absurd f
 
 news_key : (s i k : ℕ) (c : Done) (e : Entry) → Has e (opens s i k c) → e.key ≡ k
 news_key s i k (DidBegin n) e f = absurd f
-news_key s i k (DidHear p m now t) e f = heard_key s i k p m now t e f
+news_key s i k (DidHear p m now t) e f = heard_key s k p m now t e f
 news_key s i k (DidAsk p m now) e (inl q) = ap (λ (x : Entry). x.key) q
 news_key s i k (DidAsk p m now) e (inr f) = absurd f
 news_key s i k (DidReply j m now) e f = absurd f
@@ -45,7 +45,7 @@ news_key s i k (DidFire j) e f = absurd f
 
 more_opened : (h g : List Done) → length (opened h) ≤ length (opened (g ++ h))
 more_opened h [] = omega arith
-more_opened h (c ∷ g) = omega (arith, more_opened h g, length-append (opened (g ++ h)) (opens (step_of (g ++ h)) (length (g ++ h)) (length (opened (g ++ h))) c))
+more_opened h (c ∷ g) = omega (arith, more_opened h g, length-append (opened (g ++ h)) (opens (step_of (g ++ h)) (offers (g ++ h)) (length (opened (g ++ h))) c))
 
 still_ended : (c : Done) (h : List Done) (key : ℕ) → key < length (opened h) → by_key key (live h) ≡ None → by_key key (live (c ∷ h)) ≡ None
 still_ended c h key l n = none_of (by_key key (live (c ∷ h))) (λ e q.
@@ -53,10 +53,10 @@ still_ended c h key l n = none_of (by_key key (live (c ∷ h))) (λ e q.
     elim (has_more_back c h e v.0) [
       | inl w ↦
           let x : Entry = w.0 in
-          let k : x.key ≡ key = sym ((keeps_change (step_of h) (length h) c x).key) ∙ (ap (λ (y : Entry). y.key) (sym w.2) ∙ v.1) in
+          let k : x.key ≡ key = sym ((keeps_change (step_of h) (offers h) c x).key) ∙ (ap (λ (y : Entry). y.key) (sym w.2) ∙ v.1) in
           let y = finds (is_of key) x (live h) w.1 (eq-eqb x.key key k) in
           none-some y.0 (sym n ∙ y.1)
-      | inr f ↦ absurd (omega (arith, l, v.1, news_key (step_of h) (length h) (length (opened h)) c e f))
+      | inr f ↦ absurd (omega (arith, l, v.1, news_key (step_of h) (offers h) (length (opened h)) c e f))
     ])
 
 pub stays_ended : WhatEndedStays
@@ -67,7 +67,7 @@ stays_ended h (c ∷ g) key l n = still_ended c (g ++ h) key (omega (arith, l, m
 last_is : (key : ℕ) (n : Next) → IsLast key (says_due (Some n)) → (resend_at n.entry ≡ None) × (n.entry.key ≡ key)
 last_is key n q = either (resend_at n.entry) refl (ends n.entry.plan) q
   where
-    either : (o : Option ℕ) → resend_at n.entry ≡ o → (b : Bool) → IsLast key (cond (is_there o) (due.Again n.entry.peer n.at (text_again n.entry)) (cond b (due.Over (tkey n.entry.key) n.at) (due.Silent (tkey n.entry.key) n.entry.asked.branch n.entry.asked.method n.at))) → (resend_at n.entry ≡ None) × (n.entry.key ≡ key)
+    either : (o : Option ℕ) → resend_at n.entry ≡ o → (b : Bool) → IsLast key (cond (is_some o) (due.Again n.entry.peer n.at (text_again n.entry)) (cond b (due.Over (tkey n.entry.key) n.at) (due.Silent (tkey n.entry.key) n.entry.asked.branch n.entry.asked.method n.at))) → (resend_at n.entry ≡ None) × (n.entry.key ≡ key)
     either None f true p = (f, p)
     either None f false p = (f, p)
     either (Some a) f b p = absurd p
@@ -82,7 +82,7 @@ last_ends h now key n q l = none_of (by_key key (live (DidFire n.entry.key ∷ h
     elim (has_more_back (DidFire n.entry.key) h e v.0) [
       | inl w ↦
           let x : Entry = w.0 in
-          let k : x.key ≡ n.entry.key = sym ((keeps_change (step_of h) (length h) (DidFire n.entry.key) x).key) ∙ (ap (λ (y : Entry). y.key) (sym w.2) ∙ (v.1 ∙ sym a.1)) in
+          let k : x.key ≡ n.entry.key = sym ((keeps_change (step_of h) (offers h) (DidFire n.entry.key) x).key) ∙ (ap (λ (y : Entry). y.key) (sym w.2) ∙ (v.1 ∙ sym a.1)) in
           let same : x ≡ n.entry = same_entry h x n.entry w.1 (is_next now (live h) n q).stands k in
           let hits : hit n.entry.key (fired (step_of h)) x ≡ fired (step_of h) x = ap (λ b. cond b (fired (step_of h) x) x) (eq-eqb x.key n.entry.key k) in
           both_ways (is_live e) (ap is_live (w.2 ∙ hits) ∙ over_is (step_of h) x (ap resend_at same ∙ a.0)) (has_live (DidFire n.entry.key ∷ h) e v.0)

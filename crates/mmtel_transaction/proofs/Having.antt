@@ -5,7 +5,7 @@ use Rattle.std.specs.List.{find}
 use Rattle.std.proofs.lemmas.Bool.{eq-eqb, eqb-true, false_from_ne_true}
 use Rattle.std.proofs.lemmas.Option.{none-some, same_Some}
 use Rattle.mmtel_transaction.specs.declared.entries.Entry.{Entry}
-use Rattle.mmtel_transaction.specs.Calls.{Done, DidBegin, DidHear, DidAsk, DidReply, DidAck, DidFire, change, entry_of, is_live, live, opened, opens, step_of}
+use Rattle.mmtel_transaction.specs.Calls.{Done, DidBegin, DidHear, DidAsk, DidReply, DidAck, DidFire, change, entry_of, is_live, live, offers, opened, opens, step_of}
 use Rattle.mmtel_transaction.specs.Answers.{by_key, is_of}
 use Rattle.mmtel_transaction.specs.Runs.{IsRun}
 use Rattle.mmtel_transaction.proofs.Lists.{Rising, live_more, rising}
@@ -112,18 +112,18 @@ of_key h k e q = let v = found_in (is_of k) e (live h) q in (v.0, eqb-true e.key
 pub has_live : (h : List Done) (e : Entry) → Has e (live h) → is_live e ≡ true
 has_live h e g = (has_filter_back is_live e (map (entry_of h) (opened h)) g).1
 
-pub has_more : (c : Done) (h : List Done) (e : Entry) → Has e (live h) → is_live (change (step_of h) (length h) c e) ≡ true → Has (change (step_of h) (length h) c e) (live (c ∷ h))
+pub has_more : (c : Done) (h : List Done) (e : Entry) → Has e (live h) → is_live (change (step_of h) (offers h) c e) ≡ true → Has (change (step_of h) (offers h) c e) (live (c ∷ h))
 has_more c h e g l =
-    let f = change (step_of h) (length h) c in
-    subst (λ es. Has (f e) es) (sym (live_more c h)) (has_left (f e) (filter is_live (map f (live h))) (opens (step_of h) (length h) (length (opened h)) c) (has_filter is_live (f e) (map f (live h)) (has_map f e (live h) g) l))
+    let f = change (step_of h) (offers h) c in
+    subst (λ es. Has (f e) es) (sym (live_more c h)) (has_left (f e) (filter is_live (map f (live h))) (opens (step_of h) (offers h) (length (opened h)) c) (has_filter is_live (f e) (map f (live h)) (has_map f e (live h) g) l))
 
-pub has_new : (c : Done) (h : List Done) (e : Entry) → Has e (opens (step_of h) (length h) (length (opened h)) c) → Has e (live (c ∷ h))
-has_new c h e g = subst (λ es. Has e es) (sym (live_more c h)) (has_right e (filter is_live (map (change (step_of h) (length h) c) (live h))) (opens (step_of h) (length h) (length (opened h)) c) g)
+pub has_new : (c : Done) (h : List Done) (e : Entry) → Has e (opens (step_of h) (offers h) (length (opened h)) c) → Has e (live (c ∷ h))
+has_new c h e g = subst (λ es. Has e es) (sym (live_more c h)) (has_right e (filter is_live (map (change (step_of h) (offers h) c) (live h))) (opens (step_of h) (offers h) (length (opened h)) c) g)
 
-pub has_more_back : (c : Done) (h : List Done) (e : Entry) → Has e (live (c ∷ h)) → ((x : Entry) × Has x (live h) × (e ≡ change (step_of h) (length h) c x)) ⊎ Has e (opens (step_of h) (length h) (length (opened h)) c)
+pub has_more_back : (c : Done) (h : List Done) (e : Entry) → Has e (live (c ∷ h)) → ((x : Entry) × Has x (live h) × (e ≡ change (step_of h) (offers h) c x)) ⊎ Has e (opens (step_of h) (offers h) (length (opened h)) c)
 has_more_back c h e g =
-    let f = change (step_of h) (length h) c in
-    elim (has_append_back e (filter is_live (map f (live h))) (opens (step_of h) (length h) (length (opened h)) c) (subst (λ es. Has e es) (live_more c h) g)) [
+    let f = change (step_of h) (offers h) c in
+    elim (has_append_back e (filter is_live (map f (live h))) (opens (step_of h) (offers h) (length (opened h)) c) (subst (λ es. Has e es) (live_more c h) g)) [
       | inl a ↦ inl (has_map_back f e (live h) (has_filter_back is_live e (map f (live h)) a).0)
       | inr b ↦ inr b
     ]

@@ -1,3 +1,6 @@
+mod Drawn
+mod Few
+mod Times
 mod Lists
 mod Places
 mod Written

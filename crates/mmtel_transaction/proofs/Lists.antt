@@ -1,6 +1,6 @@
 -- The live transactions after one more call are those before it, changed.
 use Rattle.std.proofs.Common.{◌≡◌, ℕ, suc, ◌+◌, ◌≤◌, ◌<◌, List, [], ◌∷◌, ◌++◌, length, refl, true, false, Bool, not, ◌&&◌, ◌||◌, sym, ap, ◌∙◌, arith, map, cond, length-append, subst}
-use Rattle.std.specs.Prelude.{nat_lt, ◌==◌, filter}
+use Rattle.std.specs.Prelude.{nat_lt, ◌==◌, filter, is_some}
 use Rattle.std.proofs.lemmas.List.{map-append}
 use Rattle.std.proofs.lemmas.Bool.Decides.{nat_tests}
 use Rattle.mmtel_types.specs.declared.numbers.Peer.{Peer}
@@ -13,50 +13,56 @@ use Rattle.mmtel_transaction.specs.declared.entries.Entry.{Entry}
 use Rattle.mmtel_transaction.specs.declared.parts.Part.{Part}
 use Rattle.mmtel_transaction.specs.declared.parts.Part.TheVariants as part
 use Rattle.mmtel_transaction.specs.Table.{settle}
-use Rattle.mmtel_transaction.specs.Deadlines.{is_there, resend_at}
+use Rattle.mmtel_transaction.specs.Deadlines.{resend_at}
 use Rattle.mmtel_transaction.specs.Changes.{fired, replied, rang, finished, answered, acked, acked_2xx, kept, hit}
-use Rattle.mmtel_transaction.specs.Calls.{Done, DidBegin, DidHear, DidAsk, DidReply, DidAck, DidFire, step_of, opens, heard_opens, opened, entry_of, live, is_live, change, heard_change}
+use Rattle.mmtel_transaction.specs.Calls.{Done, DidBegin, DidHear, DidAsk, DidReply, DidAck, DidFire, offers, step_of, opens, heard_opens, opened, entry_of, live, is_live, change, heard_change}
 
-abbrev pub AllOpened : ℕ → List Entry → Type 0
-AllOpened k [] = Unit {0}
-AllOpened k (e ∷ es) = (e.opened_in < k) × AllOpened k es
+-- keys rise
+abbrev pub Rising : ℕ → List Entry → ℕ → Type 0
+Rising lo [] hi = lo ≤ hi
+Rising lo (e ∷ es) hi = (lo ≤ e.key) × Rising (suc e.key) es hi
 
-opened_more : (k j : ℕ) (es : List Entry) → k ≤ j → AllOpened k es → AllOpened j es
-opened_more k j [] l a = tt
-opened_more k j (e ∷ es) l a = (omega arith, opened_more k j es l a.1)
+rising_lower : (lo lower : ℕ) (es : List Entry) (hi : ℕ) → lower ≤ lo → Rising lo es hi → Rising lower es hi
+rising_lower lo lower [] hi l r = omega (arith, r)
+rising_lower lo lower (e ∷ es) hi l r = (omega (arith, r.0), r.1)
 
-opened_append : (k : ℕ) (es fs : List Entry) → AllOpened k es → AllOpened k fs → AllOpened k (es ++ fs)
-opened_append k [] fs a b = b
-opened_append k (e ∷ es) fs a b = (a.0, opened_append k es fs a.1 b)
+rising_append : (lo mid hi : ℕ) (es fs : List Entry) → Rising lo es mid → Rising mid fs hi → Rising lo (es ++ fs) hi
+rising_append lo mid hi [] fs r q = rising_lower mid lo fs hi r q
+rising_append lo mid hi (e ∷ es) fs r q = (r.0, rising_append (suc e.key) mid hi es fs r.1 q)
 
-heard_one : (s i k : ℕ) (p : Peer) (now : ℕ) (m : Message Start) (t : Part) → AllOpened (suc i) (heard_opens s i k p m now t)
-heard_one s i k p now m part.Fresh = (omega arith, tt)
-heard_one s i k p now m part.Full = tt
-heard_one s i k p now m (part.Repeat j) = tt
-heard_one s i k p now m (part.Same j) = tt
-heard_one s i k p now m (part.Answer j) = tt
-heard_one s i k p now m (part.Acked j) = tt
-heard_one s i k p now m part.AckOf2xx = tt
-heard_one s i k p now m part.Stray = tt
+rising_heard : (s k : ℕ) (p : Peer) (now : ℕ) (m : Message Start) (t : Part) → Rising k (heard_opens s k p m now t) (k + length (heard_opens s k p m now t))
+rising_heard s k p now m part.Fresh = (omega arith, omega arith)
+rising_heard s k p now m part.Full = omega arith
+rising_heard s k p now m (part.Repeat j) = omega arith
+rising_heard s k p now m (part.Same j) = omega arith
+rising_heard s k p now m (part.Answer j) = omega arith
+rising_heard s k p now m (part.Acked j) = omega arith
+rising_heard s k p now m part.AckOf2xx = omega arith
+rising_heard s k p now m part.Stray = omega arith
 
-opens_one : (s i k : ℕ) (c : Done) → AllOpened (suc i) (opens s i k c)
-opens_one s i k (DidBegin n) = tt
-opens_one s i k (DidHear p m now t) = heard_one s i k p now m t
-opens_one s i k (DidAsk p m now) = (omega arith, tt)
-opens_one s i k (DidReply j m now) = tt
-opens_one s i k (DidAck j m) = tt
-opens_one s i k (DidFire j) = tt
+rising_opens : (s i k : ℕ) (c : Done) → Rising k (opens s i k c) (k + length (opens s i k c))
+rising_opens s i k (DidBegin n) = omega arith
+rising_opens s i k (DidHear p m now t) = rising_heard s k p now m t
+rising_opens s i k (DidAsk p m now) = (omega arith, omega arith)
+rising_opens s i k (DidReply j m now) = omega arith
+rising_opens s i k (DidAck j m) = omega arith
+rising_opens s i k (DidFire j) = omega arith
 
-pub opened_below : (h : List Done) → AllOpened (length h) (opened h)
-opened_below [] = tt
-opened_below (c ∷ h) = opened_append (suc (length h)) (opened h) (opens (step_of h) (length h) (length (opened h)) c) (opened_more (length h) (suc (length h)) (opened h) (omega arith) (opened_below h)) (opens_one (step_of h) (length h) (length (opened h)) c)
+pub rising_opened : (h : List Done) → Rising 0 (opened h) (length (opened h))
+rising_opened [] = omega arith
+rising_opened (c ∷ h) = subst (Rising 0 (opened (c ∷ h))) (sym (length-append (opened h) (opens (step_of h) (offers h) (length (opened h)) c))) (rising_append 0 (length (opened h)) _ (opened h) (opens (step_of h) (offers h) (length (opened h)) c) (rising_opened h) (rising_opens (step_of h) (offers h) (length (opened h)) c))
 
-later : (h : List Done) (e : Entry) → e.opened_in < length h → nat_lt e.opened_in (length h) ≡ true
-later h e l = grind (arith, nat_tests)
+-- keys that rise are below the next one
+rising_top : (lo hi : ℕ) (es : List Entry) → Rising lo es hi → lo ≤ hi
+rising_top lo hi [] r = r
+rising_top lo hi (e ∷ es) r = omega (arith, r.0, rising_top (suc e.key) hi es r.1)
 
-changed : (c : Done) (h : List Done) (es : List Entry) → AllOpened (length h) es → map (entry_of (c ∷ h)) es ≡ map (change (step_of h) (length h) c) (map (entry_of h) es)
-changed c h [] a = refl
-changed c h (e ∷ es) a = rw (later h e a.0, changed c h es a.1) refl
+later : (k hi : ℕ) → k < hi → nat_lt k hi ≡ true
+later k hi l = grind (arith, nat_tests)
+
+changed : (c : Done) (h : List Done) (lo : ℕ) (es : List Entry) → Rising lo es (length (opened h)) → map (entry_of (c ∷ h)) es ≡ map (change (step_of h) (offers h) c) (map (entry_of h) es)
+changed c h lo [] r = refl
+changed c h lo (e ∷ es) r = rw (later e.key (length (opened h)) (omega (arith, rising_top (suc e.key) (length (opened h)) es r.1)), changed c h (suc e.key) es r.1) refl
 
 -- a change keeps the key, the request, from or to whom it went, and the ending
 pub record Keeps (e x : Entry) : Type 0 where
@@ -74,7 +80,7 @@ same : {A : Type 0} (x : A) → x ≡ x
 same x = refl
 
 pub keeps_fired : (s : ℕ) (e : Entry) → Keeps e (fired s e)
-keeps_fired s e = keeps_if (is_there (resend_at e)) e (record e { shots = e.shots + 1; step = s }) (record e { is_over = true }) (record { key = refl; server = refl; asked = refl; peer = refl; over = λ o. o }) (record { key = refl; server = refl; asked = refl; peer = refl; over = λ o. refl })
+keeps_fired s e = keeps_if (is_some (resend_at e)) e (record e { shots = e.shots + 1; step = s }) (record e { is_over = true }) (record { key = refl; server = refl; asked = refl; peer = refl; over = λ o. o }) (record { key = refl; server = refl; asked = refl; peer = refl; over = λ o. refl })
 
 pub keeps_replied : (s i st : ℕ) (t g : List ℕ) (now : ℕ) (e : Entry) → Keeps e (replied s i st t g now e)
 keeps_replied s i st t g now e = keeps_if (not e.is_server || not (e.done == 0)) e e _ (record { key = refl; server = refl; asked = refl; peer = refl; over = λ o. o })
@@ -148,68 +154,33 @@ not_later : (i : ℕ) → nat_lt i i ≡ false
 not_later i = grind (arith, nat_tests)
 
 -- what is opened is live, and as it was opened
-news_heard : (h : List Done) (c : Done) (s k : ℕ) (p : Peer) (now : ℕ) (m : Message Start) (t : Part) → filter is_live (map (entry_of (c ∷ h)) (heard_opens s (length h) k p m now t)) ≡ heard_opens s (length h) k p m now t
-news_heard h c s k p now m part.Fresh = rw (not_later (length h)) refl
-news_heard h c s k p now m part.Full = refl
-news_heard h c s k p now m (part.Repeat j) = refl
-news_heard h c s k p now m (part.Same j) = refl
-news_heard h c s k p now m (part.Answer j) = refl
-news_heard h c s k p now m (part.Acked j) = refl
-news_heard h c s k p now m part.AckOf2xx = refl
-news_heard h c s k p now m part.Stray = refl
+news_heard : (h : List Done) (c : Done) (s : ℕ) (p : Peer) (now : ℕ) (m : Message Start) (t : Part) → filter is_live (map (entry_of (c ∷ h)) (heard_opens s (length (opened h)) p m now t)) ≡ heard_opens s (length (opened h)) p m now t
+news_heard h c s p now m part.Fresh = rw (not_later (length (opened h))) refl
+news_heard h c s p now m part.Full = refl
+news_heard h c s p now m (part.Repeat j) = refl
+news_heard h c s p now m (part.Same j) = refl
+news_heard h c s p now m (part.Answer j) = refl
+news_heard h c s p now m (part.Acked j) = refl
+news_heard h c s p now m part.AckOf2xx = refl
+news_heard h c s p now m part.Stray = refl
 
-news : (h : List Done) (d : Done) (s k : ℕ) (c : Done) → filter is_live (map (entry_of (d ∷ h)) (opens s (length h) k c)) ≡ opens s (length h) k c
-news h d s k (DidBegin n) = refl
-news h d s k (DidHear p m now t) = news_heard h d s k p now m t
-news h d s k (DidAsk p m now) = rw (not_later (length h)) refl
-news h d s k (DidReply j m now) = refl
-news h d s k (DidAck j m) = refl
-news h d s k (DidFire j) = refl
+news : (h : List Done) (d : Done) (s i : ℕ) (c : Done) → filter is_live (map (entry_of (d ∷ h)) (opens s i (length (opened h)) c)) ≡ opens s i (length (opened h)) c
+news h d s i (DidBegin n) = refl
+news h d s i (DidHear p m now t) = news_heard h d s p now m t
+news h d s i (DidAsk p m now) = rw (not_later (length (opened h))) refl
+news h d s i (DidReply j m now) = refl
+news h d s i (DidAck j m) = refl
+news h d s i (DidFire j) = refl
 
 -- the live transactions after one more call
-pub live_more : (c : Done) (h : List Done) → live (c ∷ h) ≡ filter is_live (map (change (step_of h) (length h) c) (live h)) ++ opens (step_of h) (length h) (length (opened h)) c
+pub live_more : (c : Done) (h : List Done) → live (c ∷ h) ≡ filter is_live (map (change (step_of h) (offers h) c) (live h)) ++ opens (step_of h) (offers h) (length (opened h)) c
 live_more c h =
-    let f = change (step_of h) (length h) c in
-    let new = opens (step_of h) (length h) (length (opened h)) c in
+    let f = change (step_of h) (offers h) c in
+    let new = opens (step_of h) (offers h) (length (opened h)) c in
     ap (filter is_live) (map-append (entry_of (c ∷ h)) (opened h) new)
     ∙ (filter_both (map (entry_of (c ∷ h)) (opened h)) (map (entry_of (c ∷ h)) new)
-    ∙ (ap (λ xs. filter is_live (map (entry_of (c ∷ h)) (opened h)) ++ xs) (news h c (step_of h) (length (opened h)) c)
-    ∙ ap (λ xs. xs ++ new) (ap (filter is_live) (changed c h (opened h) (opened_below h)) ∙ sym (filter_changed f (map (entry_of h) (opened h)) (λ e. keeps_change (step_of h) (length h) c e)))))
-
--- keys rise
-abbrev pub Rising : ℕ → List Entry → ℕ → Type 0
-Rising lo [] hi = lo ≤ hi
-Rising lo (e ∷ es) hi = (lo ≤ e.key) × Rising (suc e.key) es hi
-
-rising_lower : (lo lower : ℕ) (es : List Entry) (hi : ℕ) → lower ≤ lo → Rising lo es hi → Rising lower es hi
-rising_lower lo lower [] hi l r = omega (arith, r)
-rising_lower lo lower (e ∷ es) hi l r = (omega (arith, r.0), r.1)
-
-rising_append : (lo mid hi : ℕ) (es fs : List Entry) → Rising lo es mid → Rising mid fs hi → Rising lo (es ++ fs) hi
-rising_append lo mid hi [] fs r q = rising_lower mid lo fs hi r q
-rising_append lo mid hi (e ∷ es) fs r q = (r.0, rising_append (suc e.key) mid hi es fs r.1 q)
-
-rising_heard : (s i k : ℕ) (p : Peer) (now : ℕ) (m : Message Start) (t : Part) → Rising k (heard_opens s i k p m now t) (k + length (heard_opens s i k p m now t))
-rising_heard s i k p now m part.Fresh = (omega arith, omega arith)
-rising_heard s i k p now m part.Full = omega arith
-rising_heard s i k p now m (part.Repeat j) = omega arith
-rising_heard s i k p now m (part.Same j) = omega arith
-rising_heard s i k p now m (part.Answer j) = omega arith
-rising_heard s i k p now m (part.Acked j) = omega arith
-rising_heard s i k p now m part.AckOf2xx = omega arith
-rising_heard s i k p now m part.Stray = omega arith
-
-rising_opens : (s i k : ℕ) (c : Done) → Rising k (opens s i k c) (k + length (opens s i k c))
-rising_opens s i k (DidBegin n) = omega arith
-rising_opens s i k (DidHear p m now t) = rising_heard s i k p now m t
-rising_opens s i k (DidAsk p m now) = (omega arith, omega arith)
-rising_opens s i k (DidReply j m now) = omega arith
-rising_opens s i k (DidAck j m) = omega arith
-rising_opens s i k (DidFire j) = omega arith
-
-pub rising_opened : (h : List Done) → Rising 0 (opened h) (length (opened h))
-rising_opened [] = omega arith
-rising_opened (c ∷ h) = subst (Rising 0 (opened (c ∷ h))) (sym (length-append (opened h) (opens (step_of h) (length h) (length (opened h)) c))) (rising_append 0 (length (opened h)) _ (opened h) (opens (step_of h) (length h) (length (opened h)) c) (rising_opened h) (rising_opens (step_of h) (length h) (length (opened h)) c))
+    ∙ (ap (λ xs. filter is_live (map (entry_of (c ∷ h)) (opened h)) ++ xs) (news h c (step_of h) (offers h) c)
+    ∙ ap (λ xs. xs ++ new) (ap (filter is_live) (changed c h 0 (opened h) (rising_opened h)) ∙ sym (filter_changed f (map (entry_of h) (opened h)) (λ e. keeps_change (step_of h) (offers h) c e)))))
 
 rising_map : (f : Entry → Entry) (lo hi : ℕ) (es : List Entry) → ((e : Entry) → (f e).key ≡ e.key) → Rising lo es hi → Rising lo (map f es) hi
 rising_map f lo hi [] k r = r
@@ -217,9 +188,9 @@ rising_map f lo hi (e ∷ es) k r = rw (k e) (r.0, rising_map f (suc e.key) hi e
 
 keeps_key : (h : List Done) (e : Entry) → (entry_of h e).key ≡ e.key
 keeps_key [] e = refl
-keeps_key (c ∷ h) e = either (nat_lt e.opened_in (length h)) ((keeps_change (step_of h) (length h) c (entry_of h e)).key ∙ keeps_key h e)
+keeps_key (c ∷ h) e = either (nat_lt e.key (length (opened h))) ((keeps_change (step_of h) (offers h) c (entry_of h e)).key ∙ keeps_key h e)
   where
-    either : (b : Bool) → (change (step_of h) (length h) c (entry_of h e)).key ≡ e.key → (cond b (change (step_of h) (length h) c (entry_of h e)) e).key ≡ e.key
+    either : (b : Bool) → (change (step_of h) (offers h) c (entry_of h e)).key ≡ e.key → (cond b (change (step_of h) (offers h) c (entry_of h e)) e).key ≡ e.key
     either true q = q
     either false q = refl
 

@@ -1,13 +1,14 @@
 -- Deadlines fire in order, and each once.
 use Rattle.std.proofs.Common.{◌≡◌, ℕ, zero, suc, ◌+◌, ◌≤◌, ◌<◌, List, [], ◌∷◌, refl, true, false, Bool, ◌⊎◌, inl, inr, sym, ap, ◌∙◌, arith, cond, subst, nat_lt, ◌&&◌, ◌||◌}
-use Rattle.std.specs.Prelude.{Option, Some, None, ◌==◌, nat_le, option_map, slice_get}
+use Rattle.std.specs.Prelude.{Option, Some, None, ◌==◌, nat_le, option_map, slice_get, is_some}
+use Rattle.std.specs.Option.{option_or}
 use Rattle.std.specs.List.{AllByRecursion}
 use Rattle.std.proofs.lemmas.Bool.{cases_lt, eq-eqb, eqb-false, eqb-true, le-leb, le-ltb, leb-true, ltb-false, ltb-true, or_from, or_parts}
 use Rattle.std.proofs.lemmas.Bool.Decides.{nat_tests}
 use Rattle.std.proofs.lemmas.Option.{none-some, same_Some}
 use Rattle.mmtel_timers.specs.Schedules.{moments_of}
 use Rattle.mmtel_timers.specs.declared.schedules.Schedule.TheVariants as schedule
-use Rattle.mmtel_transaction.specs.Deadlines.{counted, deadline, if_before, is_there, last_by, or_else, resend_at, resend_by, slow_moments}
+use Rattle.mmtel_transaction.specs.Deadlines.{deadline, if_before, last_by, resend_at, resend_by, slow_at}
 use Rattle.mmtel_transaction.specs.declared.entries.Entry.{Entry}
 use Rattle.mmtel_transaction.specs.declared.entries.Plan.{Plan}
 use Rattle.mmtel_transaction.specs.declared.entries.Plan.TheVariants.{Idle, Invite, Other, Slow, Final, End}
@@ -28,7 +29,7 @@ counted_at : (start : ℕ) (o : Option ℕ) (a : ℕ) → option_map (λ d. star
 counted_at start None a q = absurd (none-some a q)
 counted_at start (Some d) a q = (d, refl, same_Some (start + d) a q)
 
-climbs : (ds : List ℕ) (k start a b : ℕ) → Climbs ds → option_map (λ d. start + d) (slice_get ds k) ≡ Some a → or_else (option_map (λ d. start + d) (slice_get ds (suc k))) (Some (start + 32000)) ≡ Some b → a < b
+climbs : (ds : List ℕ) (k start a b : ℕ) → Climbs ds → option_map (λ d. start + d) (slice_get ds k) ≡ Some a → option_or (option_map (λ d. start + d) (slice_get ds (suc k))) (Some (start + 32000)) ≡ Some b → a < b
 climbs [] k start a b c q r = absurd (none-some a q)
 climbs (d ∷ []) zero start a b c q r = let x = same_Some (start + d) a q in let y = same_Some (start + 32000) b r in omega (arith, x, y, c)
 climbs (d ∷ []) (suc k) start a b c q r = absurd (none-some a q)
@@ -36,36 +37,27 @@ climbs (d ∷ e ∷ ds) zero start a b c q r = let x = same_Some (start + d) a q
 climbs (d ∷ e ∷ ds) (suc k) start a b c q r = climbs (e ∷ ds) k start a b c.1 q r
 
 -- the slow moments are cut at an end
-before_end : (end : ℕ) (o : Option ℕ) (a : ℕ) → if_before end o ≡ Some a → (o ≡ Some a) × (a < end)
-before_end end None a q = absurd (none-some a q)
-before_end end (Some x) a q = either (nat_lt x end) refl q
+before_end : (end at a : ℕ) → if_before end at ≡ Some a → (at ≡ a) × (a < end)
+before_end end at a q = either (nat_lt at end) refl q
   where
-    either : (t : Bool) → nat_lt x end ≡ t → cond t (Some x) None ≡ Some a → (◌≡◌ {A = Option ℕ} (Some x) (Some a)) × (a < end)
-    either true e p = let w = same_Some x a p in (p, omega (arith, w, ltb-true x end e))
+    either : (t : Bool) → nat_lt at end ≡ t → cond t (Some at) None ≡ Some a → (at ≡ a) × (a < end)
+    either true e p = let w = same_Some at a p in (w, omega (arith, w, ltb-true at end e))
     either false e p = absurd (none-some a p)
 
-slow_next : (end b : ℕ) (o : Option ℕ) → or_else (if_before end o) (Some end) ≡ Some b → (o ≡ Some b) ⊎ (end ≡ b)
-slow_next end b None q = inr (same_Some end b q)
-slow_next end b (Some x) q = either (nat_lt x end) q
+slow_next : (end at b : ℕ) → option_or (if_before end at) (Some end) ≡ Some b → (at ≡ b) ⊎ (end ≡ b)
+slow_next end at b q = either (nat_lt at end) q
   where
-    either : (t : Bool) → or_else (cond t (Some x) None) (Some end) ≡ Some b → (◌≡◌ {A = Option ℕ} (Some x) (Some b)) ⊎ (end ≡ b)
-    either true p = inl p
+    either : (t : Bool) → option_or (cond t (Some at) None) (Some end) ≡ Some b → (at ≡ b) ⊎ (end ≡ b)
+    either true p = inl (same_Some at b p)
     either false p = inr (same_Some end b p)
 
--- of two moments counted from one start the one that is counted next
-slow_climbs : (ds : List ℕ) (k start a b : ℕ) → Climbs ds → option_map (λ d. start + d) (slice_get ds k) ≡ Some a → option_map (λ d. start + d) (slice_get ds (suc k)) ≡ Some b → a < b
-slow_climbs ds k start a b c q r = climbs ds k start a b c q (ap (λ o. or_else o (Some (start + 32000))) r)
-
-is_later : (p : Plan) (start opened k a b : ℕ) → resend_by p start opened k ≡ Some a → or_else (resend_by p start opened (suc k)) (last_by p start opened) ≡ Some b → a < b
+is_later : (p : Plan) (start opened k a b : ℕ) → resend_by p start opened k ≡ Some a → option_or (resend_by p start opened (suc k)) (last_by p start opened) ≡ Some b → a < b
 is_later Idle start opened k a b q r = absurd (none-some a q)
 is_later Invite start opened k a b q r = climbs (moments_of schedule.Invite) k start a b (omega arith, (omega arith, (omega arith, (omega arith, (omega arith, omega arith))))) q r
 is_later Other start opened k a b q r = climbs (moments_of schedule.Other) k start a b (omega arith, (omega arith, (omega arith, (omega arith, (omega arith, (omega arith, (omega arith, (omega arith, (omega arith, omega arith))))))))) q r
 is_later Slow start opened k a b q r =
-    let w = before_end (opened + 32000) (counted start slow_moments k) a q in
-    elim (slow_next (opened + 32000) b (counted start slow_moments (suc k)) r) [
-      | inl s ↦ slow_climbs slow_moments k start a b (omega arith, (omega arith, (omega arith, (omega arith, (omega arith, (omega arith, omega arith)))))) w.0 s
-      | inr s ↦ omega (arith, w.1, s)
-    ]
+    let w = before_end (opened + 32000) (slow_at start k) a q in
+    elim (slow_next (opened + 32000) (slow_at start (suc k)) b r) [ inl s ↦ omega (arith, w.0, s) | inr s ↦ omega (arith, w.1, s) ]
 is_later Final start opened k a b q r = climbs (moments_of schedule.Other) k start a b (omega arith, (omega arith, (omega arith, (omega arith, (omega arith, (omega arith, (omega arith, (omega arith, (omega arith, omega arith))))))))) q r
 is_later End start opened k a b q r = absurd (none-some a q)
 is_later plan.Acked start opened k a b q r = absurd (none-some a q)
@@ -74,9 +66,9 @@ is_later plan.Acked start opened k a b q r = absurd (none-some a q)
 fired_later : (s a b : ℕ) (e : Entry) → deadline e ≡ Some a → is_live (fired s e) ≡ true → deadline (fired s e) ≡ Some b → a < b
 fired_later s a b e q l r = either (resend_at e) refl q l r
   where
-    either : (o : Option ℕ) → resend_at e ≡ o → or_else o (last_by e.plan e.start e.at) ≡ Some a → is_live (cond (is_there o) (record e { shots = e.shots + 1; step = s }) (record e { is_over = true })) ≡ true → deadline (cond (is_there o) (record e { shots = e.shots + 1; step = s }) (record e { is_over = true })) ≡ Some b → a < b
+    either : (o : Option ℕ) → resend_at e ≡ o → option_or o (last_by e.plan e.start e.at) ≡ Some a → is_live (cond (is_some o) (record e { shots = e.shots + 1; step = s }) (record e { is_over = true })) ≡ true → deadline (cond (is_some o) (record e { shots = e.shots + 1; step = s }) (record e { is_over = true })) ≡ Some b → a < b
     either None f p m u = absurd cc
-    either (Some x) f p m u = is_later e.plan e.start e.at e.shots a b (f ∙ p) (ap (λ k. or_else (resend_by e.plan e.start e.at k) (last_by e.plan e.start e.at)) (let w : suc e.shots ≡ e.shots + 1 = omega arith in w) ∙ u)
+    either (Some x) f p m u = is_later e.plan e.start e.at e.shots a b (f ∙ p) (ap (λ k. option_or (resend_by e.plan e.start e.at k) (last_by e.plan e.start e.at)) (let w : suc e.shots ≡ e.shots + 1 = omega arith in w) ∙ u)
 
 -- the order of deadlines, on numbers: of moments, steps and offers
 abbrev pub before : ℕ → ℕ → ℕ → ℕ → ℕ → ℕ → Bool

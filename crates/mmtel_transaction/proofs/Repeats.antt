@@ -1,6 +1,7 @@
 -- A request that is heard again opens nothing until the end of its transaction was given.
 use Rattle.std.proofs.Common.{◌≡◌, ℕ, ◌+◌, List, [], ◌∷◌, ◌++◌, length, refl, true, false, Bool, not, ◌&&◌, ◌||◌, ◌⊎◌, inl, inr, sym, ap, ◌∙◌, cond, subst, append-nil}
-use Rattle.std.specs.Prelude.{Option, Some, None, ◌==◌}
+use Rattle.std.specs.Prelude.{Option, Some, None, ◌==◌, is_some}
+use Rattle.std.specs.Option.{option_or}
 use Rattle.std.specs.List.{find}
 use Rattle.std.specs.Str.{bytes_eq}
 use Rattle.std.proofs.lemmas.Bool.{and_parts, both_ways, eqb-true, ne_eqb, not-true}
@@ -19,9 +20,9 @@ use Rattle.mmtel_transaction.specs.declared.parts.Part.TheVariants as part
 use Rattle.mmtel_transaction.specs.declared.words.Heard.TheVariants as heard
 use Rattle.mmtel_transaction.specs.declared.words.Due.TheVariants as due
 use Rattle.mmtel_transaction.specs.Heads.{head_of, invite, is_2xx, is_ack, is_invite, is_provisional, is_refusal}
-use Rattle.mmtel_transaction.specs.Deadlines.{ends, is_there, last_by, or_else, resend_at}
+use Rattle.mmtel_transaction.specs.Deadlines.{ends, last_by, resend_at}
 use Rattle.mmtel_transaction.specs.Changes.{acked, answered, heard_first, is_ack_of, kept, replied}
-use Rattle.mmtel_transaction.specs.Calls.{Done, DidBegin, DidHear, DidAsk, DidReply, DidAck, DidFire, change, is_live, live, opened, step_of}
+use Rattle.mmtel_transaction.specs.Calls.{Done, DidBegin, DidHear, DidAsk, DidReply, DidAck, DidFire, change, is_live, live, offers, opened, step_of}
 use Rattle.mmtel_transaction.specs.Answers.{Next, by_key, fires, gives_again, gives_same, hear_says, is_client_of, is_full, is_server_of, key_method, part_ack, part_of, part_request, part_response, says, says_due, then_gives, tkey}
 use Rattle.mmtel_transaction.specs.Runs.{IsNextOf, IsRun}
 use Rattle.mmtel_transaction.specs.Laws.{EndWasGiven, GivesEnd, IsRepeatOf, OpensNothing}
@@ -110,7 +111,7 @@ gives_end h j e r g s k f =
     let w = is_next r.now (live h) n r.first in
     let same : n.entry ≡ e = same_entry h n.entry e w.stands g (r.same ∙ sym k) in
     let none : resend_at n.entry ≡ None = ap resend_at same ∙ f in
-    let last : last_by n.entry.plan n.entry.start n.entry.at ≡ Some n.at = ap (λ o. or_else o (last_by n.entry.plan n.entry.start n.entry.at)) (sym none) ∙ w.moment in
+    let last : last_by n.entry.plan n.entry.start n.entry.at ≡ Some n.at = ap (λ o. option_or o (last_by n.entry.plan n.entry.start n.entry.at)) (sym none) ∙ w.moment in
     let over : ends n.entry.plan ≡ true = ends_if n.entry.plan n.entry.start n.entry.at n.at (ap (λ (x : Entry). is_servers x.plan) same ∙ s.plan) last in
     record {
       now = r.now;
@@ -121,7 +122,7 @@ gives_end h j e r g s k f =
 
 -- a server transaction after one more call of a run: it goes on, or its end was given
 module _ (h : List Done) (e : Entry) (g : Has e (live h)) (server : e.is_server ≡ true) (s : IsServing e) where
-  fire_if : (t : Bool) (o : Option ℕ) (j : ℕ) → IsNextOf j h → (e.key == j) ≡ t → resend_at e ≡ o → IsServing (cond t (cond (is_there o) (record e { shots = e.shots + 1; step = step_of h }) (record e { is_over = true })) e) ⊎ GivesEnd e.key (DidFire j) h
+  fire_if : (t : Bool) (o : Option ℕ) (j : ℕ) → IsNextOf j h → (e.key == j) ≡ t → resend_at e ≡ o → IsServing (cond t (cond (is_some o) (record e { shots = e.shots + 1; step = step_of h }) (record e { is_over = true })) e) ⊎ GivesEnd e.key (DidFire j) h
   fire_if false o j r k f = inl s
   fire_if true (Some a) j r k f = inl (record { live = s.live; plan = s.plan })
   fire_if true None j r k f = inr (gives_end h j e r g s (eqb-true e.key j k) f)
@@ -130,7 +131,7 @@ module _ (h : List Done) (e : Entry) (g : Has e (live h)) (server : e.is_server 
   answer_hit true j x k f = absurd (f (eqb-true e.key j k))
   answer_hit false j x k f = s
 
-  heard_more : (p : Peer) (m : Message Start) (now : ℕ) (t : Part) → t ≡ part_of (head_of m) (live h) → IsServing (change (step_of h) (length h) (DidHear p m now t) e)
+  heard_more : (p : Peer) (m : Message Start) (now : ℕ) (t : Part) → t ≡ part_of (head_of m) (live h) → IsServing (change (step_of h) (offers h) (DidHear p m now t) e)
   heard_more p m now part.Fresh q = s
   heard_more p m now part.Full q = s
   heard_more p m now (part.Repeat j) q = s
@@ -140,11 +141,11 @@ module _ (h : List Done) (e : Entry) (g : Has e (live h)) (server : e.is_server 
   heard_more p m now part.AckOf2xx q = serving_if (is_ack_of (head_of m) e) _ e (record { live = s.live; plan = refl }) s
   heard_more p m now part.Stray q = s
 
-  serving_more : (c : Done) → IsRun (c ∷ h) → IsServing (change (step_of h) (length h) c e) ⊎ GivesEnd e.key c h
+  serving_more : (c : Done) → IsRun (c ∷ h) → IsServing (change (step_of h) (offers h) c e) ⊎ GivesEnd e.key c h
   serving_more (DidBegin n) r = inl s
   serving_more (DidHear p m now t) r = inl (heard_more p m now t r.0)
   serving_more (DidAsk p m now) r = inl s
-  serving_more (DidReply j m now) r = inl (serving_if (e.key == j) (replied (step_of h) (length h) (head_of m).status (message_text m) (head_of m).to_tag now e) e (serving_if (not e.is_server || not (e.done == 0)) e _ s (serving_if (is_provisional (head_of m).status) _ _ (record { live = s.live; plan = s.plan }) (record { live = s.live; plan = final_plan (is_invite e.asked) }))) s)
+  serving_more (DidReply j m now) r = inl (serving_if (e.key == j) (replied (step_of h) (offers h) (head_of m).status (message_text m) (head_of m).to_tag now e) e (serving_if (not e.is_server || not (e.done == 0)) e _ s (serving_if (is_provisional (head_of m).status) _ _ (record { live = s.live; plan = s.plan }) (record { live = s.live; plan = final_plan (is_invite e.asked) }))) s)
   serving_more (DidAck j m) r = inl (serving_if (e.key == j) (kept (message_text m) e) e (serving_if (not e.is_server && e.is_refused) _ e (record { live = s.live; plan = s.plan }) s) s)
   serving_more (DidFire j) r = fire_if (e.key == j) (resend_at e) j r.0 refl refl
 
@@ -164,14 +165,14 @@ tracked k p m [] h e r f t = inr (e, f, t)
 tracked k p m (c ∷ g) h e r f t = elim (tracked k p m g h e (run_before c (g ++ h) r) f t) [
   | inl w ↦ inl (inr w)
   | inr w ↦ elim (serving_more (g ++ h) w.0 w.1 w.2.server w.2.serving c r) [
-    | inl s ↦ inr (change (step_of (g ++ h)) (length (g ++ h)) c w.0, has_more c (g ++ h) w.0 w.1 s.live, tracks_more k p m w.0 (change (step_of (g ++ h)) (length (g ++ h)) c w.0) (keeps_change (step_of (g ++ h)) (length (g ++ h)) c w.0) s w.2)
+    | inl s ↦ inr (change (step_of (g ++ h)) (offers (g ++ h)) c w.0, has_more c (g ++ h) w.0 w.1 s.live, tracks_more k p m w.0 (change (step_of (g ++ h)) (offers (g ++ h)) c w.0) (keeps_change (step_of (g ++ h)) (offers (g ++ h)) c w.0) s w.2)
     | inr s ↦ inl (inl (subst (λ j. GivesEnd j c (g ++ h)) w.2.key s))
   ]
 ]
 
 tracked_since : (h g : List Done) (p : Peer) (m : Message Start) (t : ℕ) → IsRun (g ++ DidHear p m t part.Fresh ∷ h) → EndWasGiven (length (opened h)) g (DidHear p m t part.Fresh ∷ h) ⊎ ((x : Entry) × Has x (live (g ++ DidHear p m t part.Fresh ∷ h)) × Tracks (length (opened h)) p (head_of m) x)
 tracked_since h g p m t r =
-    let e : Entry = heard_first (step_of h) (length h) (length (opened h)) p (head_of m) t in
+    let e : Entry = heard_first (step_of h) (length (opened h)) p (head_of m) t in
     tracked (length (opened h)) p (head_of m) g (DidHear p m t part.Fresh ∷ h) e r
     (has_new (DidHear p m t part.Fresh) h e (inl refl))
     (record { key = refl; server = refl; peer = refl; asked = refl; serving = record { live = refl; plan = refl } })

@@ -1,6 +1,7 @@
 -- A request that nobody answers: for each peer, message and moment.
 use Rattle.std.proofs.Common.{◌≡◌, ℕ, suc, ◌+◌, ◌≤◌, List, [], ◌∷◌, ◌++◌, length, map, refl, true, false, arith, Bool, ap, ◌∙◌, cond}
 use Rattle.std.specs.Prelude.{nat_le, Option, Some, None, option_map, slice_get}
+use Rattle.std.specs.Option.{option_or}
 use Rattle.std.proofs.lemmas.Bool.Decides.{nat_tests}
 use Rattle.std.proofs.lemmas.Bool.{eq-eqb}
 use Rattle.mmtel_types.specs.declared.numbers.Peer.{Peer}
@@ -10,9 +11,9 @@ use Rattle.mmtel_message.specs.declared.messages.Start.{Start}
 use Rattle.mmtel_timers.specs.Schedules.{moments_of}
 use Rattle.mmtel_timers.specs.declared.schedules.Schedule.TheVariants as schedule
 use Rattle.mmtel_transaction.specs.Heads.{head_of, is_invite}
-use Rattle.mmtel_transaction.specs.Deadlines.{counted, resend_by, last_by, resend_at, deadline, or_else, ends}
+use Rattle.mmtel_transaction.specs.Deadlines.{counted, resend_by, last_by, resend_at, deadline, ends}
 use Rattle.mmtel_transaction.specs.Changes.{fired, asked_first}
-use Rattle.mmtel_transaction.specs.Calls.{Done, DidAsk, DidFire, is_live, live, opened, step_of}
+use Rattle.mmtel_transaction.specs.Calls.{Done, DidAsk, DidFire, is_live, live, offers, opened, step_of}
 use Rattle.mmtel_transaction.specs.Answers.{Next, next_due, due_one, sooner, says_due, fires, text_again, tkey}
 use Rattle.mmtel_transaction.specs.Table.{settle}
 use Rattle.mmtel_transaction.specs.Laws.{IsGivenUpAfter, again, dues}
@@ -78,8 +79,8 @@ module _ (step i key : ℕ) (p : Peer) (m : Message Start) (t now : ℕ) (plan :
   resend : (k : ℕ) (o : Option ℕ) → slice_get moments k ≡ o → resend_at (waiting step i key p m t plan k) ≡ option_map (λ d. t + d) o
   resend k o q = r k ∙ ap (option_map (λ d. t + d)) q
 
-  due_then : (k : ℕ) (o : Option ℕ) → slice_get moments k ≡ o → deadline (waiting step i key p m t plan k) ≡ or_else (option_map (λ d. t + d) o) (Some (t + 32000))
-  due_then k o q = ap (λ x. or_else x (last_by plan t t)) (resend k o q) ∙ ap (or_else (option_map (λ d. t + d) o)) z
+  due_then : (k : ℕ) (o : Option ℕ) → slice_get moments k ≡ o → deadline (waiting step i key p m t plan k) ≡ option_or (option_map (λ d. t + d) o) (Some (t + 32000))
+  due_then k o q = ap (λ x. option_or x (last_by plan t t)) (resend k o q) ∙ ap (option_or (option_map (λ d. t + d) o)) z
 
   first_of : (k : ℕ) (ds : List ℕ) → ((j : ℕ) → slice_get moments (k + j) ≡ slice_get ds j) → slice_get moments k ≡ slice_get ds 0
   first_of k ds q = ap (slice_get moments) (let a : k ≡ k + 0 = omega arith in a) ∙ q 0
@@ -99,21 +100,21 @@ module _ (step i key : ℕ) (p : Peer) (m : Message Start) (t now : ℕ) (plan :
       w.1)))
 
 -- it is asked where no transaction is live
-asked_alone : (h : List Done) (p : Peer) (m : Message Start) (t : ℕ) (b : Bool) → live h ≡ [] → is_invite (head_of m) ≡ b → live (DidAsk p m t ∷ h) ≡ waiting (step_of h) (length h) (length (opened h)) p m t (cond b Invite Other) 0 ∷ []
+asked_alone : (h : List Done) (p : Peer) (m : Message Start) (t : ℕ) (b : Bool) → live h ≡ [] → is_invite (head_of m) ≡ b → live (DidAsk p m t ∷ h) ≡ waiting (step_of h) (offers h) (length (opened h)) p m t (cond b Invite Other) 0 ∷ []
 asked_alone h p m t b l q =
-    let e : Entry = asked_first (step_of h) (length h) (length (opened h)) p (head_of m) (message_text m) t in
+    let e : Entry = asked_first (step_of h) (offers h) (length (opened h)) p (head_of m) (message_text m) t in
     live_new (DidAsk p m t) h (λ x. refl) ∙ (ap (λ xs. xs ++ e ∷ []) l ∙ ap (λ b. (let x : Entry = record e { plan = cond b Invite Other } in x) ∷ []) q)
 
 pub invite_given_up : (p : Peer) (m : Message Start) (t : ℕ) → is_invite (head_of m) ≡ true → IsGivenUpAfter (moments_of schedule.Invite) p m t
 invite_given_up p m t i h now l le =
-    rest (step_of h) (length h) (length (opened h)) p m t now Invite (moments_of schedule.Invite) le (λ k. refl) refl refl 0 (moments_of schedule.Invite) (DidAsk p m t ∷ h) refl
+    rest (step_of h) (offers h) (length (opened h)) p m t now Invite (moments_of schedule.Invite) le (λ k. refl) refl refl 0 (moments_of schedule.Invite) (DidAsk p m t ∷ h) refl
     (asked_alone h p m t true l i)
     (λ j. ap (slice_get (moments_of schedule.Invite)) (let a : 0 + j ≡ j = omega arith in a))
     (omega arith, (omega arith, (omega arith, (omega arith, (omega arith, (omega arith, tt))))))
 
 pub other_given_up : (p : Peer) (m : Message Start) (t : ℕ) → is_invite (head_of m) ≡ false → IsGivenUpAfter (moments_of schedule.Other) p m t
 other_given_up p m t i h now l le =
-    rest (step_of h) (length h) (length (opened h)) p m t now Other (moments_of schedule.Other) le (λ k. refl) refl refl 0 (moments_of schedule.Other) (DidAsk p m t ∷ h) refl
+    rest (step_of h) (offers h) (length (opened h)) p m t now Other (moments_of schedule.Other) le (λ k. refl) refl refl 0 (moments_of schedule.Other) (DidAsk p m t ∷ h) refl
     (asked_alone h p m t false l i)
     (λ j. ap (slice_get (moments_of schedule.Other)) (let a : 0 + j ≡ j = omega arith in a))
     (omega arith, (omega arith, (omega arith, (omega arith, (omega arith, (omega arith, (omega arith, (omega arith, (omega arith, (omega arith, tt))))))))))

@@ -1,7 +1,8 @@
 -- What the transactions stand for after one more call.
-use Rattle.std.proofs.Common.{◌≡◌, ℕ, suc, ◌+◌, ◌≤◌, ◌<◌, ◌%◌, ◌^◌, List, [], ◌∷◌, ◌++◌, length, refl, true, false, Bool, sym, ap, ◌∙◌, arith, map, cond, subst, append-nil, length-append}
-use Rattle.std.specs.Prelude.{Some, filter}
-use Rattle.std.proofs.Math.Nat.{mod-eq_of_lt}
+use Rattle.std.proofs.Common.{◌≡◌, ℕ, suc, ◌+◌, ◌-◌, ◌≤◌, ◌<◌, ◌^◌, List, [], ◌∷◌, ◌++◌, length, refl, true, false, Bool, sym, ap, ◌∙◌, arith, map, cond, subst, append-nil, length-append, inl, inr}
+use Rattle.std.specs.Prelude.{Some, filter, min}
+use Rattle.std.proofs.Math.Nat.{min-eq_left, min-eq_right}
+use Rattle.std.proofs.lemmas.Bool.{cases_lt}
 use Rattle.mmtel_types.specs.declared.numbers.Peer.{Peer}
 use Rattle.mmtel_message.specs.Message.{Message}
 use Rattle.mmtel_message.specs.declared.messages.Start.{Start}
@@ -15,14 +16,12 @@ use Rattle.mmtel_transaction.specs.declared.table.Found.{Found}
 use Rattle.mmtel_transaction.specs.declared.words.Due.{Due}
 use Rattle.mmtel_transaction.specs.declared.transactions.Transactions.{Transactions}
 use Rattle.mmtel_transaction.specs.Changes.{fired, hit, acked_2xx, is_ack_of}
-use Rattle.mmtel_transaction.specs.Calls.{Done, DidBegin, DidHear, DidAsk, DidReply, DidAck, DidFire, step_of, opens, heard_opens, opened, live, is_live, change, entry_of}
+use Rattle.mmtel_transaction.specs.Calls.{Done, DidBegin, DidHear, DidAsk, DidReply, DidAck, DidFire, offers, step_of, opens, opened, live, is_live, change, entry_of}
 use Rattle.mmtel_transaction.specs.Answers.{next_due, fires, part_of, says_due}
 use Rattle.mmtel_transaction.specs.Runs.{IsRun}
-use Rattle.mmtel_transaction.specs.Table.{settle, Stands, found_of}
+use Rattle.mmtel_transaction.specs.Table.{settle, found_of}
+use Rattle.mmtel_transaction.specs.Stands.{HasRoom, Stands}
 use Rattle.mmtel_transaction.proofs.Lists.{live_more, settled, rising, all_live, AllLive}
-
-pub small : (x n : ℕ) → x ≡ n → n < 2 ^ 62 → (x + 1) % 2 ^ 64 ≡ suc n
-small x n a b = let e : x + 1 < 2 ^ 64 = omega (arith, a) in rw (mod-eq_of_lt e) (omega (arith, a))
 
 map_as : (f g : Entry → Entry) (es : List Entry) → ((e : Entry) → f e ≡ g e) → map f es ≡ map g es
 map_as f g [] q = refl
@@ -33,31 +32,44 @@ all_kept f [] q a = refl
 all_kept f (e ∷ es) q a = rw (q e, a.0, all_kept f es q a.1) refl
 
 -- a call that hits one key
-pub live_hit : (c : Done) (h : List Done) (k : ℕ) (f : Entry → Entry) → ((e : Entry) → change (step_of h) (length h) c e ≡ hit k f e) → opens (step_of h) (length h) (length (opened h)) c ≡ [] → live (c ∷ h) ≡ settle k f (live h)
-live_hit c h k f q o = live_more c h ∙ (ap (λ xs. filter is_live (map (change (step_of h) (length h) c) (live h)) ++ xs) o ∙ (append-nil _ ∙ (ap (filter is_live) (map_as (change (step_of h) (length h) c) (hit k f) (live h) q) ∙ settled k 0 f (live h) (length (opened h)) (rising h) (all_live (map (entry_of h) (opened h))))))
+pub live_hit : (c : Done) (h : List Done) (k : ℕ) (f : Entry → Entry) → ((e : Entry) → change (step_of h) (offers h) c e ≡ hit k f e) → opens (step_of h) (offers h) (length (opened h)) c ≡ [] → live (c ∷ h) ≡ settle k f (live h)
+live_hit c h k f q o = live_more c h ∙ (ap (λ xs. filter is_live (map (change (step_of h) (offers h) c) (live h)) ++ xs) o ∙ (append-nil _ ∙ (ap (filter is_live) (map_as (change (step_of h) (offers h) c) (hit k f) (live h) q) ∙ settled k 0 f (live h) (length (opened h)) (rising h) (all_live (map (entry_of h) (opened h))))))
 
 -- a call that changes nothing but what it opens
-pub live_new : (c : Done) (h : List Done) → ((e : Entry) → change (step_of h) (length h) c e ≡ e) → live (c ∷ h) ≡ live h ++ opens (step_of h) (length h) (length (opened h)) c
-live_new c h q = live_more c h ∙ ap (λ xs. xs ++ opens (step_of h) (length h) (length (opened h)) c) (all_kept (change (step_of h) (length h) c) (live h) q (all_live (map (entry_of h) (opened h))))
+pub live_new : (c : Done) (h : List Done) → ((e : Entry) → change (step_of h) (offers h) c e ≡ e) → live (c ∷ h) ≡ live h ++ opens (step_of h) (offers h) (length (opened h)) c
+live_new c h q = live_more c h ∙ ap (λ xs. xs ++ opens (step_of h) (offers h) (length (opened h)) c) (all_kept (change (step_of h) (offers h) c) (live h) q (all_live (map (entry_of h) (opened h))))
 
-none_opened : (c : Done) (h : List Done) → opens (step_of h) (length h) (length (opened h)) c ≡ [] → length (opened (c ∷ h)) ≡ length (opened h)
+none_opened : (c : Done) (h : List Done) → opens (step_of h) (offers h) (length (opened h)) c ≡ [] → length (opened (c ∷ h)) ≡ length (opened h)
 none_opened c h o = ap length (ap (λ xs. opened h ++ xs) o ∙ append-nil (opened h))
 
-module _ (c : Done) (h : List Done) (old new : Transactions) (st : Stands old h) (short : length h < 2 ^ 62) (run : IsRun (c ∷ h)) (calls : new.calls ≡ (old.calls + 1) % 2 ^ 64) where
-  pub stands_hit : (k : ℕ) (F : ℕ → ℕ → Entry → Entry) → new.step ≡ old.step → new.next ≡ old.next → new.entries ≡ settle k (F old.step old.calls) old.entries → step_of (c ∷ h) ≡ step_of h → opens (step_of h) (length h) (length (opened h)) c ≡ [] → ((e : Entry) → change (step_of h) (length h) c e ≡ hit k (F (step_of h) (length h)) e) → Stands new (c ∷ h)
+-- the count of what was opened, and what is drawn from it
+abbrev pub kept_count : ℕ → ℕ
+kept_count n = min n (2 ^ 64 - 1)
+
+one_more : (n : ℕ) → min (kept_count n + 1) (2 ^ 64 - 1) ≡ kept_count (n + 1)
+one_more n = elim (cases_lt n (2 ^ 64 - 1)) [
+  | inl l ↦ ap (λ x. min (x + 1) (2 ^ 64 - 1)) (min-eq_left {n = n} {m = 2 ^ 64 - 1} (omega (arith, l)))
+  | inr l ↦ ap (λ x. min (x + 1) (2 ^ 64 - 1)) (min-eq_right {n = 2 ^ 64 - 1} {m = n} l) ∙ (min-eq_right {n = 2 ^ 64 - 1} {m = 2 ^ 64 - 1 + 1} (omega arith) ∙ sym (min-eq_right {n = 2 ^ 64 - 1} {m = n + 1} (omega (arith, l))))
+]
+
+pub kept_few : (n : ℕ) → n < 2 ^ 64 → kept_count n ≡ n
+kept_few n l = min-eq_left {n = n} {m = 2 ^ 64 - 1} (omega (arith, l))
+
+module _ (c : Done) (h : List Done) (old new : Transactions) (st : Stands old h) (run : IsRun (c ∷ h)) (offered : new.offers ≡ offers (c ∷ h)) where
+  pub stands_hit : (k : ℕ) (F : ℕ → ℕ → Entry → Entry) → new.step ≡ old.step → new.next ≡ old.next → new.entries ≡ settle k (F old.step old.offers) old.entries → step_of (c ∷ h) ≡ step_of h → opens (step_of h) (offers h) (length (opened h)) c ≡ [] → ((e : Entry) → change (step_of h) (offers h) c e ≡ hit k (F (step_of h) (offers h)) e) → Stands new (c ∷ h)
   stands_hit k F step next items same o q = record {
     step = step ∙ (st.step ∙ sym same);
-    calls = calls ∙ small old.calls (length h) st.calls short;
-    next = next ∙ (st.next ∙ sym (none_opened c h o));
-    entries = items ∙ (ap (settle k (F old.step old.calls)) st.entries ∙ (ap (λ s. settle k (F s old.calls) (live h)) st.step ∙ (ap (λ i. settle k (F (step_of h) i) (live h)) st.calls ∙ sym (live_hit c h k (F (step_of h) (length h)) q o))));
+    offers = offered;
+    next = next ∙ (st.next ∙ ap kept_count (sym (none_opened c h o)));
+    entries = items ∙ (ap (settle k (F old.step old.offers)) st.entries ∙ (ap (λ s. settle k (F s old.offers) (live h)) st.step ∙ (ap (λ i. settle k (F (step_of h) i) (live h)) st.offers ∙ sym (live_hit c h k (F (step_of h) (offers h)) q o))));
     run = run;
   }
 
-  pub stands_same : new.step ≡ step_of (c ∷ h) → new.next ≡ old.next → new.entries ≡ old.entries → opens (step_of h) (length h) (length (opened h)) c ≡ [] → ((e : Entry) → change (step_of h) (length h) c e ≡ e) → Stands new (c ∷ h)
+  pub stands_same : new.step ≡ step_of (c ∷ h) → new.next ≡ old.next → new.entries ≡ old.entries → opens (step_of h) (offers h) (length (opened h)) c ≡ [] → ((e : Entry) → change (step_of h) (offers h) c e ≡ e) → Stands new (c ∷ h)
   stands_same step next items o q = record {
     step = step;
-    calls = calls ∙ small old.calls (length h) st.calls short;
-    next = next ∙ (st.next ∙ sym (none_opened c h o));
+    offers = offered;
+    next = next ∙ (st.next ∙ ap kept_count (sym (none_opened c h o)));
     entries = items ∙ (st.entries ∙ sym (live_new c h q ∙ (ap (λ xs. live h ++ xs) o ∙ append-nil (live h))));
     run = run;
   }
@@ -65,40 +77,17 @@ module _ (c : Done) (h : List Done) (old new : Transactions) (st : Stands old h)
 length_both : (xs ys : List Entry) → length (xs ++ ys) ≡ length xs + length ys
 length_both xs ys = length-append xs ys
 
-few_heard : (s i k : ℕ) (p : Peer) (now : ℕ) (m : Message Start) (t : Part) → length (heard_opens s i k p m now t) ≤ 1
-few_heard s i k p now m part.Fresh = omega arith
-few_heard s i k p now m part.Full = omega arith
-few_heard s i k p now m (part.Repeat j) = omega arith
-few_heard s i k p now m (part.Same j) = omega arith
-few_heard s i k p now m (part.Answer j) = omega arith
-few_heard s i k p now m (part.Acked j) = omega arith
-few_heard s i k p now m part.AckOf2xx = omega arith
-few_heard s i k p now m part.Stray = omega arith
-
-few_opens : (s i k : ℕ) (c : Done) → length (opens s i k c) ≤ 1
-few_opens s i k (DidBegin n) = omega arith
-few_opens s i k (DidHear p m now t) = few_heard s i k p now m t
-few_opens s i k (DidAsk p m now) = omega arith
-few_opens s i k (DidReply j m now) = omega arith
-few_opens s i k (DidAck j m) = omega arith
-few_opens s i k (DidFire j) = omega arith
-
-pub opened_few : (h : List Done) → length (opened h) ≤ length h
-opened_few [] = omega arith
-opened_few (c ∷ h) = omega (arith, length_both (opened h) (opens (step_of h) (length h) (length (opened h)) c), few_opens (step_of h) (length h) (length (opened h)) c, opened_few h)
-
-next_small : (x n m : ℕ) → x ≡ n → n ≤ m → m < 2 ^ 62 → (x + 1) % 2 ^ 64 ≡ n + 1
-next_small x n m a l b = let e : x + 1 < 2 ^ 64 = omega (arith, a, l) in rw (mod-eq_of_lt e) (omega (arith, a))
-
 -- a call that opens a transaction
-pub stands_open : (c : Done) (h : List Done) (old new : Transactions) (N : ℕ → ℕ → ℕ → Entry) → Stands old h → length h < 2 ^ 62 → IsRun (c ∷ h) → new.calls ≡ (old.calls + 1) % 2 ^ 64 → new.next ≡ (old.next + 1) % 2 ^ 64 → new.step ≡ old.step → new.entries ≡ old.entries ++ N old.step old.calls old.next ∷ [] → step_of (c ∷ h) ≡ step_of h → opens (step_of h) (length h) (length (opened h)) c ≡ N (step_of h) (length h) (length (opened h)) ∷ [] → ((e : Entry) → change (step_of h) (length h) c e ≡ e) → Stands new (c ∷ h)
-stands_open c h old new N st short run calls next step items same o q = record {
-  step = step ∙ (st.step ∙ sym same);
-  calls = calls ∙ small old.calls (length h) st.calls short;
-  next = next ∙ (next_small old.next (length (opened h)) (length h) st.next (opened_few h) short ∙ sym (length_both (opened h) (opens (step_of h) (length h) (length (opened h)) c) ∙ ap (λ xs. length (opened h) + length xs) o));
-  entries = items ∙ (ap (λ xs. xs ++ N old.step old.calls old.next ∷ []) st.entries ∙ (ap (λ s. live h ++ N s old.calls old.next ∷ []) st.step ∙ (ap (λ i. live h ++ N (step_of h) i old.next ∷ []) st.calls ∙ (ap (λ k. live h ++ N (step_of h) (length h) k ∷ []) st.next ∙ sym (live_new c h q ∙ ap (λ xs. live h ++ xs) o)))));
-  run = run;
-}
+pub stands_open : (c : Done) (h : List Done) (old new : Transactions) (N : ℕ → ℕ → ℕ → Entry) → Stands old h → HasRoom h → IsRun (c ∷ h) → new.offers ≡ offers (c ∷ h) → new.next ≡ min (old.next + 1) (2 ^ 64 - 1) → new.step ≡ old.step → new.entries ≡ old.entries ++ N old.step old.offers old.next ∷ [] → step_of (c ∷ h) ≡ step_of h → opens (step_of h) (offers h) (length (opened h)) c ≡ N (step_of h) (offers h) (length (opened h)) ∷ [] → ((e : Entry) → change (step_of h) (offers h) c e ≡ e) → Stands new (c ∷ h)
+stands_open c h old new N st room run offered next step items same o q =
+    let key : old.next ≡ length (opened h) = st.next ∙ kept_few (length (opened h)) room in
+    record {
+      step = step ∙ (st.step ∙ sym same);
+      offers = offered;
+      next = next ∙ (ap (λ n. min (n + 1) (2 ^ 64 - 1)) st.next ∙ (one_more (length (opened h)) ∙ ap kept_count (sym (length_both (opened h) (opens (step_of h) (offers h) (length (opened h)) c) ∙ ap (λ xs. length (opened h) + length xs) o))));
+      entries = items ∙ (ap (λ xs. xs ++ N old.step old.offers old.next ∷ []) st.entries ∙ (ap (λ s. live h ++ N s old.offers old.next ∷ []) st.step ∙ (ap (λ i. live h ++ N (step_of h) i old.next ∷ []) st.offers ∙ (ap (λ k. live h ++ N (step_of h) (offers h) k ∷ []) key ∙ sym (live_new c h q ∙ ap (λ xs. live h ++ xs) o)))));
+      run = run;
+    }
 
 -- the ACK of a 2xx
 ack_live : (s : ℕ) (m : Head) (e : Entry) → is_live e ≡ true → is_live (acked_2xx s m e) ≡ true
@@ -112,19 +101,19 @@ all_acked : (s : ℕ) (m : Head) (es : List Entry) → AllLive es → filter is_
 all_acked s m [] a = refl
 all_acked s m (e ∷ es) a = rw (ack_live s m e a.0, all_acked s m es a.1) refl
 
-pub stands_acked : (p : Peer) (now : ℕ) (m : Message Start) (h : List Done) (old new : Transactions) → Stands old h → length h < 2 ^ 62 → part.AckOf2xx ≡ part_of (head_of m) (live h) → new.calls ≡ (old.calls + 1) % 2 ^ 64 → new.next ≡ old.next → new.step ≡ old.step → new.entries ≡ map (acked_2xx old.step (head_of m)) old.entries → Stands new (DidHear p m now part.AckOf2xx ∷ h)
-stands_acked p now m h old new st short taken calls next step items = record {
+pub stands_acked : (p : Peer) (now : ℕ) (m : Message Start) (h : List Done) (old new : Transactions) → Stands old h → part.AckOf2xx ≡ part_of (head_of m) (live h) → new.offers ≡ old.offers → new.next ≡ old.next → new.step ≡ old.step → new.entries ≡ map (acked_2xx old.step (head_of m)) old.entries → Stands new (DidHear p m now part.AckOf2xx ∷ h)
+stands_acked p now m h old new st taken offered next step items = record {
   step = step ∙ st.step;
-  calls = calls ∙ small old.calls (length h) st.calls short;
-  next = next ∙ (st.next ∙ sym (none_opened (DidHear p m now part.AckOf2xx) h refl));
+  offers = offered ∙ st.offers;
+  next = next ∙ (st.next ∙ ap kept_count (sym (none_opened (DidHear p m now part.AckOf2xx) h refl)));
   entries = items ∙ (ap (map (acked_2xx old.step (head_of m))) st.entries ∙ (ap (λ s. map (acked_2xx s (head_of m)) (live h)) st.step ∙ sym (live_more (DidHear p m now part.AckOf2xx) h ∙ (append-nil _ ∙ all_acked (step_of h) (head_of m) (live h) (all_live (map (entry_of h) (opened h)))))));
   run = (taken, st.run);
 }
 
 -- a deadline that fired
-pub fired_done : (old new : Transactions) (h : List Done) (now : ℕ) (f : Found) (said : Due) → Stands old h → length h < 2 ^ 62 → Some (found_of f) ≡ next_due now old.entries → new.calls ≡ (old.calls + 1) % 2 ^ 64 → new.step ≡ old.step → new.next ≡ old.next → new.entries ≡ settle f.of.now.key (fired old.step) old.entries → said ≡ says_due (Some (found_of f)) → Stands new (fires h (next_due now (live h))) × (said ≡ says_due (next_due now (live h)))
-fired_done old new h now f said st short found calls step next items says =
+pub fired_done : (old new : Transactions) (h : List Done) (now : ℕ) (f : Found) (said : Due) → Stands old h → Some (found_of f) ≡ next_due now old.entries → new.offers ≡ old.offers → new.step ≡ old.step → new.next ≡ old.next → new.entries ≡ settle f.of.now.key (fired old.step) old.entries → said ≡ says_due (Some (found_of f)) → Stands new (fires h (next_due now (live h))) × (said ≡ says_due (next_due now (live h)))
+fired_done old new h now f said st found offered step next items says =
     let e : Some (found_of f) ≡ next_due now (live h) = found ∙ ap (next_due now) st.entries in (
-      subst (λ o. Stands new (fires h o)) e (stands_hit (DidFire f.of.now.key) h old new st short (record { now = now; next = found_of f; first = sym e; same = refl }, st.run) calls f.of.now.key (λ s i. fired s) step next items refl refl (λ x. refl)),
+      subst (λ o. Stands new (fires h o)) e (stands_hit (DidFire f.of.now.key) h old new st (record { now = now; next = found_of f; first = sym e; same = refl }, st.run) (offered ∙ st.offers) f.of.now.key (λ s i. fired s) step next items refl refl (λ x. refl)),
       says ∙ ap says_due e,
     )

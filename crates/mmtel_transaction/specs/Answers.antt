@@ -1,12 +1,13 @@
 -- What each call answers, by the live transactions: what a message is taken for (RFC 3261 §17.1.3, §17.2.3, §9.2, §8.2.2.2), what a repeat gives (§17.2.1, §17.2.2; RFC 6026 §7.1), and which deadline comes next.
-use Rattle.std.specs.Prelude.{ℕ, Bool, false, not, ◌&&◌, ◌||◌, nat_lt, nat_le, ◌==◌, if◌then◌else◌, List, [], ◌∷◌, length, Option, Some, None, option_map, count_by}
+use Rattle.std.specs.Prelude.{ℕ, Bool, false, not, ◌&&◌, ◌||◌, nat_lt, nat_le, ◌==◌, if◌then◌else◌, List, [], ◌∷◌, length, Option, Some, None, option_map, count_by, is_some}
 use Rattle.std.specs.List.{find, list_any}
+use Rattle.std.specs.Option.{unwrap_or}
 use Rattle.std.specs.Str.{bytes_eq}
 use Rattle.mmtel_types.specs.declared.numbers.Peer.{Peer}
 use Rattle.mmtel_message.specs.Message.{Message}
 use Rattle.mmtel_message.specs.declared.messages.Start.{Start}
-use Rattle.mmtel_transaction.specs.Heads.{or_empty, head_of, invite, is_invite, is_ack, is_cancel, is_2xx, is_refusal, is_same_call}
-use Rattle.mmtel_transaction.specs.Deadlines.{resend_at, deadline, ends, is_there}
+use Rattle.mmtel_transaction.specs.Heads.{head_of, invite, is_invite, is_ack, is_cancel, is_2xx, is_refusal, is_same_call}
+use Rattle.mmtel_transaction.specs.Deadlines.{resend_at, deadline, ends}
 use Rattle.mmtel_transaction.specs.Calls.{Done, DidHear, DidFire, opened, live}
 use Rattle.mmtel_transaction.specs.declared.heads.Head.{Head}
 use Rattle.mmtel_transaction.specs.declared.entries.Entry.{Entry}
@@ -133,13 +134,13 @@ next_due now (e ∷ es) = sooner (due_one now e (deadline e)) (next_due now es)
 
 -- what is sent again: the request of a client transaction, the last response of a server transaction
 abbrev pub text_again : Entry → List ℕ
-text_again e = if e.is_server then or_empty e.last else e.request
+text_again e = if e.is_server then unwrap_or e.last [] else e.request
 
 -- what `due` says
 abbrev pub says_due : Option Next → Due
 says_due None = due.Nothing
 says_due (Some n) =
-    if is_there (resend_at n.entry) then due.Again n.entry.peer n.at (text_again n.entry)
+    if is_some (resend_at n.entry) then due.Again n.entry.peer n.at (text_again n.entry)
     else if ends n.entry.plan then due.Over (tkey n.entry.key) n.at
     else due.Silent (tkey n.entry.key) n.entry.asked.branch n.entry.asked.method n.at
 

@@ -1,5 +1,5 @@
 -- The calls that were made of the transactions, and which transactions they opened, changed and left live (RFC 3261 §17; RFC 6026).
-use Rattle.std.specs.Prelude.{ℕ, Bool, not, nat_lt, if◌then◌else◌, List, [], ◌∷◌, ◌++◌, length, filter, map}
+use Rattle.std.specs.Prelude.{ℕ, ◌+◌, ◌-◌, ◌^◌, min, Bool, not, nat_lt, if◌then◌else◌, List, [], ◌∷◌, ◌++◌, length, filter, map}
 use Rattle.mmtel_types.specs.declared.numbers.Peer.{Peer}
 use Rattle.mmtel_message.specs.Message.{Message}
 use Rattle.mmtel_message.specs.Texts.{message_text}
@@ -29,6 +29,16 @@ step_of (DidReply key m now ∷ h) = step_of h
 step_of (DidAck key m ∷ h) = step_of h
 step_of (DidFire key ∷ h) = step_of h
 
+-- how many requests and answers were offered: a count that stays at its greatest number
+abbrev pub offers : List Done → ℕ
+offers [] = 0
+offers (DidBegin step ∷ h) = offers h
+offers (DidHear p m now taken ∷ h) = offers h
+offers (DidAsk p m now ∷ h) = min (offers h + 1) (2 ^ 128 - 1)
+offers (DidReply key m now ∷ h) = min (offers h + 1) (2 ^ 128 - 1)
+offers (DidAck key m ∷ h) = offers h
+offers (DidFire key ∷ h) = offers h
+
 -- a transaction after what was heard
 abbrev pub heard_change : ℕ → Message Start → ℕ → Part → Entry → Entry
 heard_change step m now part.Fresh e = e
@@ -40,47 +50,47 @@ heard_change step m now (part.Acked key) e = hit key (acked step now) e
 heard_change step m now part.AckOf2xx e = acked_2xx step (head_of m) e
 heard_change step m now part.Stray e = e
 
--- a transaction after one more call
+-- a transaction after one more call, which is made in this step and after so many offers
 abbrev pub change : ℕ → ℕ → Done → Entry → Entry
-change step index (DidBegin n) e = e
-change step index (DidHear p m now taken) e = heard_change step m now taken e
-change step index (DidAsk p m now) e = e
-change step index (DidReply key m now) e = hit key (replied step index (head_of m).status (message_text m) (head_of m).to_tag now) e
-change step index (DidAck key m) e = hit key (kept (message_text m)) e
-change step index (DidFire key) e = hit key (fired step) e
+change step order (DidBegin n) e = e
+change step order (DidHear p m now taken) e = heard_change step m now taken e
+change step order (DidAsk p m now) e = e
+change step order (DidReply key m now) e = hit key (replied step order (head_of m).status (message_text m) (head_of m).to_tag now) e
+change step order (DidAck key m) e = hit key (kept (message_text m)) e
+change step order (DidFire key) e = hit key (fired step) e
 
-abbrev pub heard_opens : ℕ → ℕ → ℕ → Peer → Message Start → ℕ → Part → List Entry
-heard_opens step index key p m now part.Fresh = heard_first step index key p (head_of m) now ∷ []
-heard_opens step index key p m now part.Full = []
-heard_opens step index key p m now (part.Repeat k) = []
-heard_opens step index key p m now (part.Same k) = []
-heard_opens step index key p m now (part.Answer k) = []
-heard_opens step index key p m now (part.Acked k) = []
-heard_opens step index key p m now part.AckOf2xx = []
-heard_opens step index key p m now part.Stray = []
+abbrev pub heard_opens : ℕ → ℕ → Peer → Message Start → ℕ → Part → List Entry
+heard_opens step key p m now part.Fresh = heard_first step key p (head_of m) now ∷ []
+heard_opens step key p m now part.Full = []
+heard_opens step key p m now (part.Repeat k) = []
+heard_opens step key p m now (part.Same k) = []
+heard_opens step key p m now (part.Answer k) = []
+heard_opens step key p m now (part.Acked k) = []
+heard_opens step key p m now part.AckOf2xx = []
+heard_opens step key p m now part.Stray = []
 
 -- what a call opens: a request that is heard afresh a server transaction, one that is asked a client transaction
 abbrev pub opens : ℕ → ℕ → ℕ → Done → List Entry
-opens step index key (DidBegin n) = []
-opens step index key (DidHear p m now taken) = heard_opens step index key p m now taken
-opens step index key (DidAsk p m now) = asked_first step index key p (head_of m) (message_text m) now ∷ []
-opens step index key (DidReply k m now) = []
-opens step index key (DidAck k m) = []
-opens step index key (DidFire k) = []
+opens step order key (DidBegin n) = []
+opens step order key (DidHear p m now taken) = heard_opens step key p m now taken
+opens step order key (DidAsk p m now) = asked_first step order key p (head_of m) (message_text m) now ∷ []
+opens step order key (DidReply k m now) = []
+opens step order key (DidAck k m) = []
+opens step order key (DidFire k) = []
 
 -- what was opened, once a call is made; a key is how many were opened before
 abbrev pub opened_by : ℕ → ℕ → Done → List Entry → List Entry
-opened_by step index c es = es ++ opens step index (length es) c
+opened_by step order c es = es ++ opens step order (length es) c
 
 -- all transactions that were ever opened, the oldest first, each as it was then
 abbrev pub opened : List Done → List Entry
 opened [] = []
-opened (c ∷ h) = opened_by (step_of h) (length h) c (opened h)
+opened (c ∷ h) = opened_by (step_of h) (offers h) c (opened h)
 
--- such a transaction after all calls that came after its opening
+-- such a transaction after all calls that came after its opening, which are those before which more were opened than its key says
 abbrev pub entry_of : List Done → Entry → Entry
 entry_of [] e = e
-entry_of (c ∷ h) e = if nat_lt e.opened_in (length h) then change (step_of h) (length h) c (entry_of h e) else e
+entry_of (c ∷ h) e = if nat_lt e.key (length (opened h)) then change (step_of h) (offers h) c (entry_of h e) else e
 
 abbrev pub is_live : Entry → Bool
 is_live e = not e.is_over

@@ -1,5 +1,6 @@
 -- What the transactions read of a message: what names its transaction (RFC 3261 §17.1.3, §17.2.3), its dialogue's names and number (§12, §13.2.2.4), and its status (§21).
 use Rattle.std.specs.Prelude.{ℕ, Bool, true, false, ◌&&◌, ◌==◌, nat_lt, nat_le, List, [], codes, Option, Some, None}
+use Rattle.std.specs.Option.{unwrap_or}
 use Rattle.std.specs.Str.{bytes_eq}
 use Rattle.mmtel_message.specs.Message.{Message}
 use Rattle.mmtel_message.specs.Fields.{five_at, param_value}
@@ -9,14 +10,9 @@ use Rattle.mmtel_message.specs.declared.fields.Five.{Five}
 use Rattle.mmtel_lex.specs.declared.values.Param.{Param}
 use Rattle.mmtel_transaction.specs.declared.heads.Head.{Head}
 
--- a text, or none at all where there is none
-abbrev pub or_empty : Option (List ℕ) → List ℕ
-or_empty None = []
-or_empty (Some text) = text
-
 -- the value of a parameter; an absent tag or branch is empty (§12.1.1)
 abbrev pub param_text : List ℕ → List Param → List ℕ
-param_text name params = or_empty (param_value name params)
+param_text name params = unwrap_or (param_value name params) []
 
 abbrev pub is_request : Start → Bool
 is_request (Request method uri) = true

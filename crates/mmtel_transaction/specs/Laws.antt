@@ -1,5 +1,5 @@
 -- Laws over whole lists of calls.
-use Rattle.std.specs.Prelude.{◌≡◌, ℕ, zero, suc, ◌+◌, ◌^◌, ◌<◌, ◌≤◌, ◌⊎◌, true, false, List, [], ◌∷◌, ◌++◌, length, map, Option, Some, None, option_map}
+use Rattle.std.specs.Prelude.{◌≡◌, ℕ, zero, suc, ◌+◌, ◌-◌, ◌*◌, ◌^◌, ◌<◌, ◌≤◌, ◌⊎◌, true, false, List, [], ◌∷◌, ◌++◌, length, map, Option, Some, None, option_map, slice_get}
 use Rattle.std.specs.List.{AllByRecursion}
 use Rattle.mmtel_types.specs.declared.numbers.Peer.{Peer}
 use Rattle.mmtel_message.specs.Message.{Message}
@@ -9,10 +9,12 @@ use Rattle.mmtel_timers.specs.Schedules.{moments_of}
 use Rattle.mmtel_timers.specs.declared.schedules.Schedule.TheVariants as schedule
 use Rattle.mmtel_transaction.specs.Heads.{head_of, is_ack, is_invite}
 use Rattle.mmtel_transaction.specs.Deadlines.{deadline, resend_at}
-use Rattle.mmtel_transaction.specs.Calls.{Done, DidAsk, DidHear, live, opened}
+use Rattle.mmtel_transaction.specs.Calls.{Done, DidBegin, DidHear, DidAsk, DidReply, DidAck, DidFire, live, opened}
 use Rattle.mmtel_transaction.specs.Answers.{Next, by_key, fires, hear_says, hears, is_before, next_due, part_of, says_due, tkey}
 use Rattle.mmtel_transaction.specs.Runs.{IsRun}
-use Rattle.mmtel_transaction.specs.Tokens.{token_text}
+use Rattle.mmtel_transaction.specs.Stands.{HasRoom}
+use Rattle.mmtel_transaction.specs.Tokens.{next_number}
+use Rattle.mmtel_scan.specs.Numbers.{token_text}
 use Rattle.mmtel_transaction.specs.declared.entries.Entry.{Entry}
 use Rattle.mmtel_transaction.specs.declared.heads.Head.{Head}
 use Rattle.mmtel_transaction.specs.declared.parts.Part.TheVariants as part
@@ -39,6 +41,41 @@ InvitesAreGivenUp = (p : Peer) (m : Message Start) (t : ℕ) → is_invite (head
 
 abbrev pub OthersAreGivenUp : Type 0
 OthersAreGivenUp = (p : Peer) (m : Message Start) (t : ℕ) → is_invite (head_of m) ≡ false → IsGivenUpAfter (moments_of schedule.Other) p m t
+
+-- how many messages were heard, and how many requests were asked
+abbrev pub heard_in : List Done → ℕ
+heard_in [] = 0
+heard_in (DidBegin step ∷ h) = heard_in h
+heard_in (DidHear p m now taken ∷ h) = suc (heard_in h)
+heard_in (DidAsk p m now ∷ h) = heard_in h
+heard_in (DidReply key m now ∷ h) = heard_in h
+heard_in (DidAck key m ∷ h) = heard_in h
+heard_in (DidFire key ∷ h) = heard_in h
+
+abbrev pub asked_in : List Done → ℕ
+asked_in [] = 0
+asked_in (DidBegin step ∷ h) = asked_in h
+asked_in (DidHear p m now taken ∷ h) = asked_in h
+asked_in (DidAsk p m now ∷ h) = suc (asked_in h)
+asked_in (DidReply key m now ∷ h) = asked_in h
+asked_in (DidAck key m ∷ h) = asked_in h
+asked_in (DidFire key ∷ h) = asked_in h
+
+-- no more transactions are opened than messages are heard and requests asked
+abbrev pub FewAreOpened : Type 0
+FewAreOpened = (h : List Done) → length (opened h) ≤ heard_in h + asked_in h
+
+-- so one more has a number of its own, where each step hears one message at most and each drawn branch is of two requests at most, an INVITE and its CANCEL, whatever else is called, and there are fewer than 2^60 steps and draws
+abbrev pub RoomIsLeft : Type 0
+RoomIsLeft = (h : List Done) (steps draws : ℕ) → heard_in h ≤ steps → asked_in h ≤ 2 * draws → steps < 2 ^ 60 → draws < 2 ^ 60 → HasRoom h
+
+-- the number of a transaction is how many were opened before it
+abbrev pub NumbersCount : Type 0
+NumbersCount = (h : List Done) (k : ℕ) (e : Entry) → slice_get (opened h) k ≡ Some e → e.key ≡ k
+
+-- and no two live transactions have one number
+abbrev pub NumbersDiffer : Type 0
+NumbersDiffer = (h : List Done) (i j : ℕ) (e x : Entry) → slice_get (live h) i ≡ Some e → slice_get (live h) j ≡ Some x → e.key ≡ x.key → i ≡ j
 
 -- two server transactions of one branch, sent-by and method (RFC 3261 §17.2.3)
 pub record HaveOneKey (e x : Entry) : Type 0 where
@@ -144,6 +181,6 @@ LastOnesEnd = (h : List Done) (now key : ℕ) → IsLast key (says_due (next_due
 abbrev pub WhatEndedStays : Type 0
 WhatEndedStays = (h g : List Done) (key : ℕ) → key < length (opened h) → by_key key (live h) ≡ None → by_key key (live (g ++ h)) ≡ None
 
--- tokens of two numbers differ
+-- of two draws, both before the greatest number, the tokens differ
 abbrev pub TokensDiffer : Type 0
-TokensDiffer = (token : List ℕ) (m n : ℕ) → m < 2 ^ 64 → n < 2 ^ 64 → token_text token m ≡ token_text token n → m ≡ n
+TokensDiffer = (token : List ℕ) (m n : ℕ) → m < 2 ^ 64 - 1 → n < 2 ^ 64 - 1 → token_text token (next_number m) ≡ token_text token (next_number n) → m ≡ n

@@ -1,10 +1,13 @@
+-- What public clauses cite.
 pub mod Heads
 pub mod Deadlines
 pub mod Changes
 pub mod Calls
 pub mod Answers
 pub mod Runs
-pub mod Table
+pub mod Stands
 pub mod Tokens
 pub mod Laws
 pub mod Rows
+-- What private functions cite.
+pub mod Table

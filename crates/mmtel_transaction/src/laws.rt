@@ -1,5 +1,5 @@
 //! Laws over whole lists of calls: each is the contract of a function that does nothing.
-ghost use Rattle.mmtel_transaction.specs.Laws.{AcksEndResends, FiresInOrder, InvitesAreGivenUp, KeysAreTheirOwn, LastOnesEnd, OthersAreGivenUp, RepeatsOpenNothing, StrangersGetNothing, TheFirstFires, TokensDiffer, WhatEndedStays};
+ghost use Rattle.mmtel_transaction.specs.Laws.{AcksEndResends, FewAreOpened, FiresInOrder, InvitesAreGivenUp, KeysAreTheirOwn, LastOnesEnd, NumbersCount, NumbersDiffer, OthersAreGivenUp, RepeatsOpenNothing, RoomIsLeft, StrangersGetNothing, TheFirstFires, TokensDiffer, WhatEndedStays};
 ghost use Rattle.mmtel_transaction.specs.Rows.{EndsAfterTheAck, RepeatedInvite, SecondSilence, Silence};
 
 /// An INVITE that nobody answers is sent again at the moments of its closed list, then it is given up, and then nothing is due (RFC 3261 §17.1.1.2).
@@ -10,6 +10,14 @@ pub fn invites_are_given_up()
 /// So is any other request, by its own list (RFC 3261 §17.1.2.2).
 pub fn others_are_given_up()
     ensures given_up { OthersAreGivenUp }
+{}
+
+/// Transactions are opened by messages that are heard and requests that are asked alone, so over fewer than 2^60 steps and 2^60 drawn branches each has a number of its own, which is how many were opened before it.
+pub fn numbers_are_distinct()
+    ensures few { FewAreOpened }
+    ensures room { RoomIsLeft }
+    ensures count { NumbersCount }
+    ensures differ { NumbersDiffer }
 {}
 
 /// No two live server transactions have one branch, sent-by and method (RFC 3261 §17.2.3).
@@ -40,7 +48,7 @@ pub fn ends_are_given_once()
     ensures stays { WhatEndedStays }
 {}
 
-/// Each token is drawn once: those of two numbers differ.
+/// Each token is drawn once: those of two draws differ, before the number of the draw stays at its greatest.
 pub fn tokens_differ()
     ensures differ { TokensDiffer }
 {}

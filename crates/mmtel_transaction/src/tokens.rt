@@ -1,12 +1,13 @@
 //! Tokens: the values of the tags, branches and Call-IDs that the server makes.
-ghost use Rattle.std.specs.Prelude.{◌≡◌, ◌+◌, ◌<◌, ◌^◌, OnOk, OnErr, IfOk};
-ghost use Rattle.mmtel_transaction.specs.Tokens.{token_text};
+ghost use Rattle.std.specs.Prelude.{◌≡◌, OnOk, OnErr, IfOk};
+ghost use Rattle.mmtel_scan.specs.Numbers.{token_text};
+ghost use Rattle.mmtel_transaction.specs.Tokens.{next_number};
 
-use mmtel_scan::{NoMemory, Text};
+use mmtel_scan::{NoMemory, Text, token_text};
 use std::alloc::Global;
 use std::marker::Model;
 
-/// A text, and how many tokens were drawn from it.
+/// A text, and the number of the last token that was drawn from it.
 #[derive(Drop)]
 pub struct Tokens {
     token: Text,
@@ -29,21 +30,18 @@ impl Tokens {
         Tokens { token, drawn: 0 }
     }
 
-    /// The next token, `TOKEN-n`, by the number that follows the last one drawn: from 1, each once.
+    /// The next token, `TOKEN-n`, by the number that follows the last one drawn: from 1, each once, up to 2^64 - 1, at which the number stays.
     ///
     /// # Errors
     ///
     /// Want of memory alone; no number is then drawn.
     pub fn draw(&mut self, alloc: Global) -> Result<Text, NoMemory>
-        ensures text { self.old.drawn < 2 ^ 62 → IfOk result (λ text. text ≡ token_text self.old.token (self.old.drawn + 1)) }
-        ensures counted { self.old.drawn < 2 ^ 62 → OnOk result (self.new ≡ record { token = self.old.token; drawn = self.old.drawn + 1 }) }
+        ensures text { IfOk result (λ text. text ≡ token_text self.old.token (next_number self.old.drawn)) }
+        ensures counted { OnOk result (self.new ≡ record { token = self.old.token; drawn = next_number self.old.drawn }) }
         ensures err { OnErr result (self.new ≡ self.old) }
     {
-        let number = self.drawn.wrapping_add(1);
-        let digits = number.to_string(alloc)?;
-        let mut text = Text::of(alloc, self.token.bytes())?;
-        text.push(alloc, b"-")?;
-        text.push(alloc, digits.as_bytes())?;
+        let number = self.drawn.saturating_add(1);
+        let text = token_text(alloc, self.token.bytes(), number)?;
         self.drawn = number;
         Ok(text)
     }

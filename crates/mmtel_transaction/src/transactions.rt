@@ -1,9 +1,10 @@
 //! The transactions.
-ghost use Rattle.std.specs.Prelude.{◌≡◌, [], ◌∷◌, ◌<◌, ◌^◌, IfErr, IfOk, List, length, OnErr, OnOk, Some};
+ghost use Rattle.std.specs.Prelude.{◌≡◌, [], ◌∷◌, IfErr, IfOk, List, length, OnErr, OnOk, Some};
 ghost use Rattle.mmtel_transaction.specs.Heads.{head_of};
 ghost use Rattle.mmtel_transaction.specs.Calls.{DidAck, DidAsk, DidBegin, DidReply, Done, live, opened};
 ghost use Rattle.mmtel_transaction.specs.Answers.{fires, hear_says, hears, is_merged, next_due, part_of, peer_of, says_due, says_opened, tkey, upcoming_of};
-ghost use Rattle.mmtel_transaction.specs.Table.{Does, HearsAs, IsRefusal, Stands, Stays};
+ghost use Rattle.mmtel_transaction.specs.Stands.{Does, HasRoom, IsRefusal, MayOpen, Stands, Stays};
+ghost use Rattle.mmtel_transaction.specs.Table.{HearsAs};
 ghost use Rattle.mmtel_transaction.specs.declared.parts.Part.TheVariants.{Acked, AckOf2xx, Answer, Fresh, Repeat, Same, Stray};
 
 use crate::entries::{Change, asked_entry, heard_entry, reply_change};
@@ -23,9 +24,9 @@ use std::alloc::Global;
 pub struct Transactions {
     /// The number that deadlines carry which are armed from here on.
     step: u64,
-    /// How many calls were made.
-    calls: u64,
-    /// How many transactions were opened.
+    /// How many requests and answers were offered.
+    offers: u128,
+    /// How many transactions were opened, which is the number of the next one.
     next: u64,
     /// The live transactions, the oldest first.
     entries: Entries,
@@ -38,7 +39,7 @@ impl Transactions {
     {
         Transactions {
             step: 0,
-            calls: 0,
+            offers: 0,
             next: 0,
             entries: Entries::new(),
         }
@@ -46,10 +47,9 @@ impl Transactions {
 
     /// Deadlines that are armed from here on carry this number, which is at least that of the `begin` before.
     pub fn begin(&mut self, step: u64)
-        ensures done { (h : List Done) → Stands self.old h → length h < 2 ^ 62 → Stands self.new (DidBegin step ∷ h) }
+        ensures done { (h : List Done) → Stands self.old h → Stands self.new (DidBegin step ∷ h) }
     {
         self.step = step;
-        self.calls = self.calls.wrapping_add(1);
     }
 
     /// A request is sent in a client transaction of its own, whose key is given.
@@ -58,7 +58,7 @@ impl Transactions {
     ///
     /// Want of memory alone; the transactions are then as before.
     pub fn ask(&mut self, alloc: Global, p: Peer, m: &Msg, now: Moment) -> Result<TKey, NoMemory>
-        ensures done { IfOk result (λ key. Does self.old self.new (λ h. DidAsk p m.now now ∷ h) (λ h. key ≡ tkey (length (opened h)))) }
+        ensures done { IfOk result (λ key. MayOpen self.old self.new (λ h. DidAsk p m.now now ∷ h) (λ h. key ≡ tkey (length (opened h)))) }
         ensures err { OnErr result ((h : List Done) → Stands self.old h → Stands self.new h) }
     {
         let asked = Head::of(alloc, m)?;
@@ -66,10 +66,10 @@ impl Transactions {
         let key = self.next;
         self.entries.push(
             alloc,
-            asked_entry(self.step, self.calls, key, p, asked, text, now.ms()),
+            asked_entry(self.step, self.offers, key, p, asked, text, now.ms()),
         )?;
-        self.calls = self.calls.wrapping_add(1);
-        self.next = self.next.wrapping_add(1);
+        self.offers = self.offers.saturating_add(1);
+        self.next = self.next.saturating_add(1);
         Ok(TKey(key))
     }
 
@@ -79,14 +79,14 @@ impl Transactions {
     ///
     /// Want of memory alone; the transactions are then as before.
     pub fn reply(&mut self, alloc: Global, key: TKey, m: &Msg, now: Moment) -> Result<(), NoMemory>
-        ensures done { OnOk result ((h : List Done) → Stands self.old h → length h < 2 ^ 62 → Stands self.new (DidReply key.0 m.now now ∷ h)) }
+        ensures done { OnOk result ((h : List Done) → Stands self.old h → Stands self.new (DidReply key.0 m.now now ∷ h)) }
         ensures err { OnErr result ((h : List Done) → Stands self.old h → Stands self.new h) }
     {
         let head = Head::of(alloc, m)?;
         let text = m.text(alloc)?;
-        let change = reply_change(self.step, self.calls, head, text, now.ms());
+        let change = reply_change(self.step, self.offers, head, text, now.ms());
         self.entries.settle(key.0, change);
-        self.calls = self.calls.wrapping_add(1);
+        self.offers = self.offers.saturating_add(1);
         Ok(())
     }
 
@@ -96,12 +96,11 @@ impl Transactions {
     ///
     /// Want of memory alone; the transactions are then as before.
     pub fn ack(&mut self, alloc: Global, key: TKey, m: &Msg) -> Result<(), NoMemory>
-        ensures done { OnOk result ((h : List Done) → Stands self.old h → length h < 2 ^ 62 → Stands self.new (DidAck key.0 m.now ∷ h)) }
+        ensures done { OnOk result ((h : List Done) → Stands self.old h → Stands self.new (DidAck key.0 m.now ∷ h)) }
         ensures err { OnErr result ((h : List Done) → Stands self.old h → Stands self.new h) }
     {
         let text = m.text(alloc)?;
         self.entries.settle(key.0, Change::Keep(text));
-        self.calls = self.calls.wrapping_add(1);
         Ok(())
     }
 
@@ -111,7 +110,7 @@ impl Transactions {
     ///
     /// `Full`, which hands the message back, exactly where it would open a server transaction and 16,384 are live; and want of memory. The transactions are then as before.
     pub fn hear(&mut self, alloc: Global, p: Peer, m: Msg, now: Moment) -> Result<Heard, HearFault>
-        ensures done { IfOk result (λ said. Does self.old self.new (λ h. hears h p m now) (λ h. Some said ≡ hear_says h p m)) }
+        ensures done { IfOk result (λ said. MayOpen self.old self.new (λ h. hears h p m now) (λ h. Some said ≡ hear_says h p m)) }
         ensures refused { IfErr result (λ fault. Stays self.old self.new (λ h. IsRefusal (part_of (head_of m) (live h)) m fault)) }
     {
         let head = Head::of(alloc, &m)?;
@@ -134,7 +133,6 @@ impl Transactions {
                 let said = say_due(alloc, found)?;
                 let key = found.of.key;
                 self.entries.settle(key, Change::Fire(self.step));
-                self.calls = self.calls.wrapping_add(1);
                 Ok(said)
             }
         }
@@ -184,55 +182,51 @@ impl Transactions {
         head: Head,
         now: u64,
     ) -> Result<Heard, NoMemory>
-        ensures done { head ≡ head_of m → IfOk result (λ said. HearsAs self.old self.new p m now Fresh said) }
+        ensures done { head ≡ head_of m → IfOk result (λ said. (h : List Done) → HasRoom h → HearsAs self.old self.new p m now Fresh said h) }
         ensures err { OnErr result ((h : List Done) → Stands self.old h → Stands self.new h) }
     {
         let key = self.next;
         let invite = invite_key(self.entries.items(), &head);
         let is_cancel = head.is_cancel();
-        self.entries.push(alloc, heard_entry(self.step, self.calls, key, p, head, now))?;
-        self.calls = self.calls.wrapping_add(1);
-        self.next = self.next.wrapping_add(1);
+        self.entries
+            .push(alloc, heard_entry(self.step, key, p, head, now))?;
+        self.next = self.next.saturating_add(1);
         Ok(say_fresh(key, invite, is_cancel, m))
     }
 
     /// A request is heard again.
     fn hear_repeat(
-        &mut self,
+        &self,
         alloc: Global,
         p: Peer,
         m: Msg,
         now: u64,
         key: u64,
     ) -> Result<Heard, NoMemory>
-        ensures done { IfOk result (λ said. HearsAs self.old self.new p m now (Repeat key) said) }
-        ensures err { OnErr result ((h : List Done) → Stands self.old h → Stands self.new h) }
+        ensures { IfOk result (λ said. (h : List Done) → HearsAs self.now self.now p m now (Repeat key) said h) }
     {
         let given = give_key(alloc, self.entries.items(), key, p)?;
-        self.calls = self.calls.wrapping_add(1);
         Ok(Heard::Repeat(given))
     }
 
     /// A non-2xx final is heard again.
     fn hear_same(
-        &mut self,
+        &self,
         alloc: Global,
         p: Peer,
         m: Msg,
         now: u64,
         key: u64,
     ) -> Result<Heard, NoMemory>
-        ensures done { IfOk result (λ said. HearsAs self.old self.new p m now (Same key) said) }
-        ensures err { OnErr result ((h : List Done) → Stands self.old h → Stands self.new h) }
+        ensures { IfOk result (λ said. (h : List Done) → HearsAs self.now self.now p m now (Same key) said h) }
     {
         let given = same_key(alloc, self.entries.items(), key)?;
-        self.calls = self.calls.wrapping_add(1);
         Ok(Heard::Repeat(given))
     }
 
     /// A response is heard that answers a client transaction.
     fn hear_answer(&mut self, p: Peer, m: Msg, status: u16, now: u64, key: u64) -> Heard
-        ensures { status ≡ (head_of m).status → HearsAs self.old self.new p m now (Answer key) result }
+        ensures { status ≡ (head_of m).status → (h : List Done) → HearsAs self.old self.new p m now (Answer key) result h }
     {
         self.entries.settle(
             key,
@@ -242,13 +236,12 @@ impl Transactions {
                 now,
             },
         );
-        self.calls = self.calls.wrapping_add(1);
         Heard::Answer(TKey(key), m)
     }
 
     /// The ACK of a non-2xx final is heard.
     fn hear_acked(&mut self, p: Peer, m: Msg, now: u64, key: u64) -> Heard
-        ensures { HearsAs self.old self.new p m now (Acked key) result }
+        ensures { (h : List Done) → HearsAs self.old self.new p m now (Acked key) result h }
     {
         self.entries.settle(
             key,
@@ -257,24 +250,21 @@ impl Transactions {
                 now,
             },
         );
-        self.calls = self.calls.wrapping_add(1);
         Heard::Acked(TKey(key))
     }
 
     /// Any other ACK is heard.
     fn hear_ack(&mut self, p: Peer, m: Msg, head: &Head, now: u64) -> Heard
-        ensures { head.now ≡ head_of m → HearsAs self.old self.new p m now AckOf2xx result }
+        ensures { head.now ≡ head_of m → (h : List Done) → HearsAs self.old self.new p m now AckOf2xx result h }
     {
         self.entries.ack_2xx(self.step, head);
-        self.calls = self.calls.wrapping_add(1);
         Heard::AckOf2xx(m)
     }
 
     /// A response is heard that answers nothing.
-    fn hear_stray(&mut self, p: Peer, m: Msg, now: u64) -> Heard
-        ensures { HearsAs self.old self.new p m now Stray result }
+    fn hear_stray(&self, p: Peer, m: Msg, now: u64) -> Heard
+        ensures { (h : List Done) → HearsAs self.now self.now p m now Stray result h }
     {
-        self.calls = self.calls.wrapping_add(1);
         Heard::Stray
     }
 
@@ -288,7 +278,7 @@ impl Transactions {
         now: u64,
         taken: Part,
     ) -> Result<Heard, HearFault>
-        ensures done { head ≡ head_of m → IfOk result (λ said. HearsAs self.old self.new p m now taken said) }
+        ensures done { head ≡ head_of m → IfOk result (λ said. (h : List Done) → HasRoom h → HearsAs self.old self.new p m now taken said h) }
         ensures refused { IfErr result (λ fault. Stays self.old self.new (λ h. IsRefusal taken m fault)) }
     {
         match taken {

@@ -1,6 +1,6 @@
 //! Which message belongs to which transaction (RFC 3261 §17.1.3, §17.2.3, §9.2, §8.2.2.2), and the order of deadlines.
 
-use crate::calls::played;
+use crate::calls::is_played;
 use std::test::Fail;
 
 /// Branch, sent-by and method name a server transaction, an ACK by its INVITE; branch and CSeq method a client transaction. A repeat from another peer gets nothing; an ACK and a response count whoever sends them.
@@ -13,7 +13,7 @@ hear 1 0 INVITE/a//other/other/other/9> repeat
 reply 0 10 180/INVITE/a> done
 hear 2 20 INVITE/a> repeat
 hear 1 20 INVITE/a> repeat 1 SIP/2.0 180 Status
-peer 0> 1
+peer 0> of 1
 peer 9> none
 hear 1 30 CANCEL/a> cancel 4 0
 hear 1 30 CANCEL/a> repeat
@@ -23,22 +23,21 @@ hear 1 30 ACK/a> ack of 2xx
 reply 0 40 487/INVITE/a> done
 hear 1 40 ACK/a/127.0.0.1:5072> ack of 2xx
 hear 2 40 ACK/a//other> acked 0
-ask 7 50 OPTIONS/z> 7
-ask 8 50 OPTIONS/z> 8
-ask 8 50 INVITE/z> 9
+ask 7 50 OPTIONS/z> asked 7
+ask 8 50 OPTIONS/z> asked 8
+ask 8 50 INVITE/z> asked 9
 hear 8 60 200/OPTIONS/z/127.0.0.1:9/x/x/x/9> answer 7
 hear 8 60 200/OPTIONS/z> answer 8
 hear 8 60 200/OPTIONS/z> stray
 hear 8 60 100/INVITE/z> answer 9
 hear 8 60 100/INVITE/y> stray
 peer 7> none
-peer 9> 8
+peer 9> of 8
 ";
 
 #[test]
 fn keys(rt: HostRuntime) -> Result<(), Fail> {
-    let found = played(rt.alloc(), KEYS)?;
-    assert_eq!(rt; found.bytes(), KEYS);
+    assert!(rt; is_played(rt.alloc(), KEYS)?);
     Ok(())
 }
 
@@ -64,8 +63,7 @@ due 32000> nothing
 
 #[test]
 fn acks(rt: HostRuntime) -> Result<(), Fail> {
-    let found = played(rt.alloc(), ACKS)?;
-    assert_eq!(rt; found.bytes(), ACKS);
+    assert!(rt; is_played(rt.alloc(), ACKS)?);
     Ok(())
 }
 
@@ -79,7 +77,7 @@ hear 1 0 INVITE/b//g> fresh 2
 hear 1 0 INVITE/c////d> fresh 3
 hear 1 0 INVITE/d/////2> fresh 4
 merged 4> no
-ask 1 0 INVITE/e> 5
+ask 1 0 INVITE/e> asked 5
 hear 1 0 100/INVITE/e> answer 5
 merged 0> no
 hear 2 0 INVITE/f/127.0.0.1:5072///c/01> fresh 6
@@ -96,17 +94,16 @@ merged 6> no
 
 #[test]
 fn merged(rt: HostRuntime) -> Result<(), Fail> {
-    let found = played(rt.alloc(), MERGED)?;
-    assert_eq!(rt; found.bytes(), MERGED);
+    assert!(rt; is_played(rt.alloc(), MERGED)?);
     Ok(())
 }
 
 /// Deadlines come by moment; of one moment, by the step that armed them; of one step, by the offers of their messages.
 const ORDER: &[u8] = b"begin 1> done
-ask 1 0 OPTIONS/a> 0
-ask 2 0 OPTIONS/b> 1
+ask 1 0 OPTIONS/a> asked 0
+ask 2 0 OPTIONS/b> asked 1
 begin 2> done
-ask 3 1000 OPTIONS/c> 2
+ask 3 1000 OPTIONS/c> asked 2
 begin 3> done
 upcoming 9999> at 500 1
 due 9999> again 1 500 OPTIONS sip:bob@home.example SIP/2.0
@@ -126,7 +123,6 @@ due 3500> again 2 3500 OPTIONS sip:bob@home.example SIP/2.0
 
 #[test]
 fn order(rt: HostRuntime) -> Result<(), Fail> {
-    let found = played(rt.alloc(), ORDER)?;
-    assert_eq!(rt; found.bytes(), ORDER);
+    assert!(rt; is_played(rt.alloc(), ORDER)?);
     Ok(())
 }

@@ -13,3 +13,5 @@ mod keys;
 mod limits;
 #[cfg(test)]
 mod messages;
+#[cfg(test)]
+mod output;

@@ -7,8 +7,8 @@ use Rattle.mmtel_transaction.specs.Answers.{by_key, gives_same, then_gives}
 use Rattle.mmtel_transaction.proofs.Standing.{stands_same}
 use Rattle.mmtel_transaction.proofs.transactions.Transactions.hear_same.Goals as goal
 
-pub returns-clause-done : goal.returns-clause-done
-returns-clause-done c h st short taken = (
-  stands_same (DidHear c.args.p c.args.m c.args.now (Same c.args.key)) h c.args.self.now _ st short (taken, st.run) refl st.step refl refl refl (λ e. refl),
+pub returns : goal.returns
+returns c h st taken = (
+  stands_same (DidHear c.args.p c.args.m c.args.now (Same c.args.key)) h c.args.self.now c.args.self.now st (taken, st.run) st.offers st.step refl refl refl (λ e. refl),
   ap (λ g. Some (heard.Repeat g)) (c.in_ok-given.ensures ∙ ap (λ es. then_gives (gives_same) (by_key c.args.key es)) (c.items.ensures ∙ st.entries)),
 )

@@ -5,4 +5,4 @@ use Rattle.mmtel_transaction.proofs.Standing.{stands_same}
 use Rattle.mmtel_transaction.proofs.transactions.Transactions.hear_stray.Goals as goal
 
 pub returns : goal.returns
-returns c h st short taken = (stands_same (DidHear c.args.p c.args.m c.args.now Stray) h c.args.self.now _ st short (taken, st.run) refl st.step refl refl refl (λ e. refl), refl)
+returns c h st taken = (stands_same (DidHear c.args.p c.args.m c.args.now Stray) h c.args.self.now c.args.self.now st (taken, st.run) st.offers st.step refl refl refl (λ e. refl), refl)

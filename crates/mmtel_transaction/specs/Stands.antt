@@ -1,0 +1,40 @@
+-- Which calls the transactions stand for, and what is true of these after one more.
+use Rattle.std.specs.Prelude.{◌≡◌, ℕ, ◌<◌, ◌-◌, ◌^◌, min, List, length}
+use Rattle.mmtel_message.specs.Message.{Message}
+use Rattle.mmtel_message.specs.declared.messages.Start.{Start}
+use Rattle.mmtel_transaction.specs.Calls.{Done, offers, step_of, opened, live}
+use Rattle.mmtel_transaction.specs.Runs.{IsRun}
+use Rattle.mmtel_transaction.specs.declared.parts.Part.{Part}
+use Rattle.mmtel_transaction.specs.declared.parts.Part.TheVariants as part
+use Rattle.mmtel_transaction.specs.declared.words.HearFault.{HearFault}
+use Rattle.mmtel_transaction.specs.declared.words.HearFault.TheVariants as fault
+use Rattle.mmtel_transaction.specs.declared.transactions.Transactions.{Transactions}
+
+-- these calls can come about, and the transactions are what they leave; the number of the next one stays at its greatest number
+pub record Stands (t : Transactions) (h : List Done) : Type 0 where
+  pub step : t.step ≡ step_of h
+  pub offers : t.offers ≡ offers h
+  pub next : t.next ≡ min (length (opened h)) (2 ^ 64 - 1)
+  pub entries : t.entries ≡ live h
+  pub run : IsRun h
+
+-- so few transactions were opened that one more has a number of its own
+abbrev pub HasRoom : List Done → Type 0
+HasRoom h = length (opened h) < 2 ^ 64
+
+-- whatever calls they stood for, they stand for those and more, and so much is true of those
+abbrev pub Does : Transactions → Transactions → (List Done → List Done) → (List Done → Type 0) → Type 0
+Does old new more P = (h : List Done) → Stands old h → Stands new (more h) × P h
+
+-- so it is of a call that may open a transaction, where one more has a number of its own
+abbrev pub MayOpen : Transactions → Transactions → (List Done → List Done) → (List Done → Type 0) → Type 0
+MayOpen old new more P = (h : List Done) → Stands old h → HasRoom h → Stands new (more h) × P h
+
+-- whatever calls they stood for, they still do, and so much is true of those
+abbrev pub Stays : Transactions → Transactions → (List Done → Type 0) → Type 0
+Stays old new P = (h : List Done) → Stands old h → Stands new h × P h
+
+-- why `hear` refuses a message that is taken for this: one too many, which is handed back, or want of memory, which is free
+abbrev pub IsRefusal : Part → Message Start → HearFault → Type 0
+IsRefusal taken m (fault.Full x) = (x ≡ m) × (taken ≡ part.Full)
+IsRefusal taken m fault.NoMemory = Unit {0}

@@ -11,7 +11,7 @@ use Rattle.mmtel_message.proofs.LineLaws.{mapped, unmapped, same_some}
 use Rattle.mmtel_message.specs.Message.{is_line, first_value, replaced, dropped}
 use Rattle.mmtel_message.specs.Faults.{line_fault, fault_from}
 use Rattle.mmtel_message.specs.Entries.{dotted_step, is_dotted}
-use Rattle.mmtel_message.specs.Fields.{param_value}
+use Rattle.mmtel_lex.specs.Params.{param_value}
 use Rattle.mmtel_message.specs.Expansion.{lines_for, expanded_from}
 use Rattle.std.specs.Str.{str_eq_ignore_ascii_case}
 use Rattle.mmtel_lex.specs.declared.values.Param.{Param}
@@ -29,18 +29,6 @@ first_over name ls i x whole lt at_i e so_far =
 pub first_here : (name : List ℕ) (ls : List Line) (i : ℕ) (x : Line) (whole : Option (List ℕ)) → i < length ls → x ≡ get_or ls i x → is_line name x ≡ true → whole ≡ first_value name (drop i ls) → whole ≡ Some x.1
 first_here name ls i x whole lt at_i e so_far =
     let one : drop i ls ≡ x ∷ drop (i + 1) ls = rw (add-one, drop-cons ls i x lt, sym at_i) refl in
-    rw (one, e) at so_far
-
--- ---- the first parameter of a name
-
-pub param_over : (name : List ℕ) (ps : List Param) (i : ℕ) (x : Param) (whole : Option (List ℕ)) → i < length ps → x ≡ get_or ps i x → str_eq_ignore_ascii_case x.name name ≡ false → whole ≡ param_value name (drop i ps) → whole ≡ param_value name (drop (i + 1) ps)
-param_over name ps i x whole lt at_i e so_far =
-    let one : drop i ps ≡ x ∷ drop (i + 1) ps = rw (add-one, drop-cons ps i x lt, sym at_i) refl in
-    rw (one, e) at so_far
-
-pub param_here : (name : List ℕ) (ps : List Param) (i : ℕ) (x : Param) (whole : Option (List ℕ)) → i < length ps → x ≡ get_or ps i x → str_eq_ignore_ascii_case x.name name ≡ true → whole ≡ param_value name (drop i ps) → whole ≡ x.value
-param_here name ps i x whole lt at_i e so_far =
-    let one : drop i ps ≡ x ∷ drop (i + 1) ps = rw (add-one, drop-cons ps i x lt, sym at_i) refl in
     rw (one, e) at so_far
 
 -- ---- expanded lines

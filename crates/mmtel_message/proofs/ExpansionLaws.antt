@@ -14,7 +14,7 @@ use Rattle.mmtel_message.specs.Message.{is_line, has_line, line_values, values_n
 use Rattle.mmtel_message.specs.Values.{values_in, values_of}
 use Rattle.mmtel_message.specs.Faults.{is_method, is_request, is_readable, are_readable, are_words, is_cookie, line_fault, fault_from}
 use Rattle.mmtel_message.specs.Entries.{is_entry, are_entries}
-use Rattle.mmtel_message.specs.Fields.{param_value}
+use Rattle.mmtel_lex.specs.Params.{param_value}
 use Rattle.mmtel_message.specs.Expansion.{is_listed, lines_for, expanded_from}
 use Rattle.mmtel_message.specs.declared.values.Mode.TheVariants.{Plain, Words}
 use Rattle.mmtel_message.specs.declared.fields.Five.{Five}

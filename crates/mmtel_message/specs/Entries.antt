@@ -4,7 +4,7 @@ use Rattle.std.specs.List.{list_all}
 use Rattle.mmtel_scan.specs.Classes.{is_digit}
 use Rattle.mmtel_lex.specs.Reading.{name_addr_of}
 use Rattle.mmtel_lex.specs.declared.values.NameAddr.{NameAddr}
-use Rattle.mmtel_message.specs.Fields.{param_value}
+use Rattle.mmtel_lex.specs.Params.{param_value}
 
 -- whether a digit or a dot (46) may come, where the flag says that a digit came just before; and what the flag is then
 abbrev pub dotted_step : Bool → ℕ → Option Bool

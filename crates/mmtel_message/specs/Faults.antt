@@ -11,7 +11,7 @@ use Rattle.mmtel_lex.specs.declared.values.Uri.{Uri}
 use Rattle.mmtel_lex.specs.declared.values.NameAddr.{NameAddr}
 use Rattle.mmtel_message.specs.Message.{is_line, has_line, values_named}
 use Rattle.mmtel_message.specs.Values.{values_of, values_in}
-use Rattle.mmtel_message.specs.Fields.{param_value}
+use Rattle.mmtel_lex.specs.Params.{param_value}
 use Rattle.mmtel_message.specs.Entries.{are_entries}
 use Rattle.mmtel_message.specs.declared.values.Mode.TheVariants.{Plain, Words}
 use Rattle.mmtel_message.specs.declared.fields.Five.{Five}

@@ -16,11 +16,6 @@ use Rattle.mmtel_message.specs.declared.fields.Five.{Five}
 use Rattle.mmtel_message.specs.declared.fields.Via.{Via}
 use Rattle.mmtel_message.specs.declared.fields.CSeq.{CSeq}
 
--- the value of the first parameter of the name, which is compared without case; None where that has none
-abbrev pub param_value : List ℕ → List Param → Option (List ℕ)
-param_value name [] = None
-param_value name (p ∷ ps) = if str_eq_ignore_ascii_case p.name name then p.value else param_value name ps
-
 -- the value of the only line of the name
 abbrev pub only_value : List ℕ → List (List ℕ × List ℕ) → Option (List ℕ)
 only_value name ls = if count_by (λ l. is_line name l) ls == 1 then first_value name ls else None

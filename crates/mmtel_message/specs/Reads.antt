@@ -44,15 +44,15 @@ pub record MessageHead : Type 0 where
   pub lines : List (List ℕ × List ℕ)
   pub five : Five
 
-abbrev pub head_of : Option Start → List (List ℕ × List ℕ) → Option MessageHead
-head_of start hs = do
+abbrev pub message_head : Option Start → List (List ℕ × List ℕ) → Option MessageHead
+message_head start hs = do
   s ← start
   five ← five_at hs
   Some (record { start = s; lines = hs; five = five })
 
 abbrev pub head_in_lines : List (List ℕ) → Option MessageHead
 head_in_lines [] = None
-head_in_lines (l ∷ ls) = head_of (start_at l) (map header_line ls)
+head_in_lines (l ∷ ls) = message_head (start_at l) (map header_line ls)
 
 abbrev pub head_in : List ℕ → Option MessageHead
 head_in s = head_in_lines (unfolded (split s))
@@ -81,7 +81,7 @@ after_head (Some head) rest =
 
 -- the same from the start line on
 abbrev pub after_start : List (List ℕ × List ℕ) → List ℕ → Option Start → Read
-after_start hs rest start = after_head (head_of start hs) rest
+after_start hs rest start = after_head (message_head start hs) rest
 
 -- parted at the end of the head, where it ends
 abbrev pub parted_at : List ℕ → Option ℕ → Read

@@ -3,8 +3,7 @@ ghost use Rattle.std.specs.Prelude.{◌≡◌, IfOk, false};
 ghost use Rattle.std.specs.Option.{option_copied};
 ghost use Rattle.mmtel_message.specs.Entries.{dotted_step, is_dotted, is_place, is_entry, are_entries};
 
-use crate::fields::param_value;
-use mmtel_lex::{LexFault, NoMemory, Text, read_name_addr};
+use mmtel_lex::{LexFault, NoMemory, Text, param_value, read_name_addr};
 use std::alloc::Global;
 
 fn dotted_step(digit: bool, b: u8) -> Option<bool>

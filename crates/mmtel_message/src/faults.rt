@@ -5,16 +5,16 @@ ghost use Rattle.mmtel_lex.specs.Reading.{name_addr_of};
 ghost use Rattle.mmtel_scan.specs.Numbers.{number_of};
 ghost use Rattle.mmtel_message.specs.Entries.{are_entries};
 ghost use Rattle.mmtel_message.specs.Faults.{is_method, is_request, start_fault, is_readable, are_readable, is_one_readable, is_cookie, is_case, has_case, is_word, are_words, extension_rows, by_name, line_fault, fault_from, first_fault, or_absent};
-ghost use Rattle.mmtel_message.specs.Fields.{param_value};
+ghost use Rattle.mmtel_lex.specs.Params.{param_value};
 ghost use Rattle.mmtel_message.specs.Message.{has_line, values_named};
 ghost use Rattle.mmtel_message.specs.declared.values.Mode.TheVariants.{Plain, Words};
 ghost use Rattle.mmtel_message.specs.Values.{values_of, values_in};
 
 use crate::entries::are_entries;
-use crate::fields::{Five, param_value};
+use crate::fields::Five;
 use crate::messages::{Start, has_line, is_line, values_named};
 use crate::values::{Mode, values_in};
-use mmtel_lex::{LexFault, NoMemory, Text, UriFault, read_name_addr, read_uri};
+use mmtel_lex::{LexFault, NoMemory, Text, UriFault, param_value, read_name_addr, read_uri};
 use mmtel_scan::{Class, is_all, number_up_to, skip_text};
 use std::alloc::Global;
 

@@ -1,16 +1,15 @@
 //! The five fields that each message has (RFC 3261 §8.1.1).
 ghost use Rattle.std.specs.Prelude.{◌≡◌, count_by};
 ghost use Rattle.std.specs.Option.{option_copied};
-ghost use Rattle.std.specs.Str.{str_eq_ignore_ascii_case};
 ghost use Rattle.mmtel_lex.specs.Reading.{Gives};
 ghost use Rattle.mmtel_message.specs.Message.{is_line};
-ghost use Rattle.mmtel_message.specs.Fields.{param_value, only_value, first_part, via_at, cseq_at, via_in, parties_in, call_in, five_at, after_blanks, before_rest, if_end, filled};
+ghost use Rattle.mmtel_message.specs.Fields.{only_value, first_part, via_at, cseq_at, via_in, parties_in, call_in, five_at, after_blanks, before_rest, if_end, filled};
 
 use crate::messages::{first_of, is_line};
 use crate::values::{Mode, next_part};
 use mmtel_lex::params::{params_front, token};
 use mmtel_lex::uris::{host, port};
-use mmtel_lex::{LexFault, NameAddr, Param, Params, Text, read_name_addr};
+use mmtel_lex::{LexFault, NameAddr, Params, Text, read_name_addr};
 use mmtel_scan::{Class, number_up_to, skip_text, split_run, trim};
 use std::alloc::Global;
 
@@ -43,33 +42,6 @@ pub struct Five {
     /// The Call-ID, which is not empty.
     pub call_id: Text,
     pub cseq: CSeq,
-}
-
-fn is_param(param: &Param, name: &[u8]) -> bool
-    ensures { result ≡ str_eq_ignore_ascii_case param.now.name name.now }
-{
-    param.name.bytes().eq_ignore_ascii_case(name)
-}
-
-/// The value of the first parameter of the name, which is compared without case (RFC 3261 §7.3.1); None where there is none, or it has no value.
-pub fn param_value<'a>(params: &'a [Param], name: &[u8]) -> Option<&'a [u8]>
-    ensures { option_copied result ≡ param_value name.now params.now }
-{
-    for param in params {
-        if is_param(param, name) {
-            return value_bytes(&param.value);
-        }
-    }
-    None
-}
-
-fn value_bytes(value: &Option<Text>) -> Option<&[u8]>
-    ensures { option_copied result ≡ value.now }
-{
-    match value {
-        Some(value) => Some(value.bytes()),
-        None => None,
-    }
 }
 
 fn count(lines: &[(Text, Text)], name: &[u8]) -> usize

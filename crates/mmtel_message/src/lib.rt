@@ -18,7 +18,8 @@ mod values;
 
 pub use entries::is_place;
 pub use faults::{is_method, is_readable, is_request};
-pub use fields::{CSeq, Five, Via, param_value, read_cseq, read_five, read_via};
+pub use fields::{CSeq, Five, Via, read_cseq, read_five, read_via};
+pub use mmtel_lex::param_value;
 pub use messages::{Msg, Start, first_of, has_line, is_line, line_texts, values_named};
 pub use names::long_name;
 pub use reading::{ReadFault, read};

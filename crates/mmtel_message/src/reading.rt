@@ -2,7 +2,7 @@
 ghost use Rattle.std.specs.Prelude.{◌≡◌, Some, Err, IfOk, codes, is_some};
 ghost use Rattle.mmtel_message.specs.Fields.{five_at};
 ghost use Rattle.mmtel_message.specs.Canonical.{IsCanonical};
-ghost use Rattle.mmtel_message.specs.Reads.{reads, Reads, large_of, large_reply, body_of, head_of, head_in_lines, head_in, after_head, after_faults};
+ghost use Rattle.mmtel_message.specs.Reads.{reads, Reads, large_of, large_reply, body_of, message_head, head_in_lines, head_in, after_head, after_faults};
 ghost use Rattle.mmtel_message.specs.Replies.{reply_to};
 ghost use Rattle.mmtel_message.specs.declared.reading.ReadFault.TheVariants as fault;
 
@@ -104,7 +104,7 @@ fn read_lines(
     lines: &[(Text, Text)],
     rest: &[u8],
 ) -> Result<Msg, ReadFault>
-    ensures { Reads result (after_head (head_of (Some start) lines.now) rest.now) }
+    ensures { Reads result (after_head (message_head (Some start) lines.now) rest.now) }
 {
     match read_five(alloc, lines) {
         Err(LexFault::Malformed { at: _ }) => Err(ReadFault::NotSip),
@@ -147,7 +147,7 @@ fn large_of_start(
     start: &Start,
     lines: &[(Text, Text)],
 ) -> Result<Option<Msg>, NoMemory>
-    ensures { IfOk result (λ m. m ≡ large_of (head_of (Some start.now) lines.now)) }
+    ensures { IfOk result (λ m. m ≡ large_of (message_head (Some start.now) lines.now)) }
 {
     if has_five(alloc, lines)? {
         reply_to(alloc, start, 513, b"Message Too Large", lines)

@@ -3,7 +3,8 @@ use Rattle.std.specs.Prelude.{ℕ, Bool, true, false, ◌&&◌, ◌==◌, nat_lt
 use Rattle.std.specs.Option.{unwrap_or}
 use Rattle.std.specs.Str.{bytes_eq}
 use Rattle.mmtel_message.specs.Message.{Message}
-use Rattle.mmtel_message.specs.Fields.{five_at, param_value}
+use Rattle.mmtel_lex.specs.Params.{param_value}
+use Rattle.mmtel_message.specs.Fields.{five_at}
 use Rattle.mmtel_message.specs.declared.messages.Start.{Start}
 use Rattle.mmtel_message.specs.declared.messages.Start.TheVariants.{Request, Status}
 use Rattle.mmtel_message.specs.declared.fields.Five.{Five}

@@ -8,7 +8,7 @@ use Rattle.std.proofs.lemmas.Slice.Eq.{bytes_eq-Decides}
 use Rattle.mmtel_scan.specs.Chain.{◌>>=◌}
 use Rattle.mmtel_lex.specs.Reading.{name_addr_of}
 use Rattle.mmtel_lex.specs.declared.values.NameAddr.{NameAddr}
-use Rattle.mmtel_message.specs.Fields.{param_value}
+use Rattle.mmtel_lex.specs.Params.{param_value}
 use Rattle.mmtel_message.specs.Message.{is_line, first_value, named, line_values, values_named}
 use Rattle.mmtel_message.specs.declared.values.Mode.{Mode}
 use Rattle.mmtel_message.specs.declared.values.Mode.TheVariants.{Words}

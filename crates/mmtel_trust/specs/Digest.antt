@@ -7,7 +7,7 @@ use Rattle.mmtel_scan.specs.Numbers.{number_of}
 use Rattle.mmtel_lex.specs.Reading.{name_addr_of, uri_of}
 use Rattle.mmtel_lex.specs.declared.values.NameAddr.{NameAddr}
 use Rattle.mmtel_message.specs.Faults.{is_method, is_request}
-use Rattle.mmtel_message.specs.Fields.{param_value}
+use Rattle.mmtel_lex.specs.Params.{param_value}
 use Rattle.mmtel_message.specs.Message.{Message, first_value, values_named}
 use Rattle.mmtel_message.specs.declared.messages.Start.{Start}
 use Rattle.mmtel_message.specs.declared.values.Mode.TheVariants.{Plain}

@@ -6,7 +6,7 @@ use Rattle.mmtel_lex.specs.Grammar.{name_addr_text}
 use Rattle.mmtel_lex.specs.Reading.{name_addr_of}
 use Rattle.mmtel_lex.specs.declared.values.Param.{Param}
 use Rattle.mmtel_lex.specs.declared.values.NameAddr.{NameAddr}
-use Rattle.mmtel_message.specs.Fields.{param_value}
+use Rattle.mmtel_lex.specs.Params.{param_value}
 use Rattle.mmtel_message.specs.Message.{Message}
 use Rattle.mmtel_message.specs.declared.messages.Start.{Start}
 use Rattle.mmtel_trust.specs.Kinds.{kind_of}

@@ -40,16 +40,21 @@ after_blanks s = if length (run Blank s) == 0 then None else Some (after_run Bla
 abbrev pub before_rest : List ℕ → List ℕ → List ℕ
 before_rest s rest = take (length s - length rest) s
 
+-- the rest of a Via value, behind its transport: sent-by and parameters
+abbrev pub via_by : List ℕ → List ℕ → Option Via
+via_by transport b = do
+  h ← host_at b
+  n ← port_at h.1
+  ps ← all_params_at n.1
+  if_end (record { transport = transport; sent_by = before_rest b n.1; host = h.0; port = n.0; params = ps.0 }) ps.1
+
 -- a Via value (§20.42): `SIP/2.0/transport`, blanks, sent-by, parameters
 unfoldable pub via_at : List ℕ → Option Via
 via_at s = do
   t ← after_text (codes "SIP/2.0/") s
   p ← token_at t
   b ← after_blanks p.1
-  h ← host_at b
-  n ← port_at h.1
-  ps ← all_params_at n.1
-  if_end (record { transport = p.0; sent_by = before_rest b n.1; host = h.0; port = n.0; params = ps.0 }) ps.1
+  via_by p.0 b
 
 -- a CSeq value (§20.16): a number below 2^31, blanks, a method
 unfoldable pub cseq_at : List ℕ → Option CSeq
@@ -66,13 +71,15 @@ filled s = if length s == 0 then None else Some s
 abbrev pub via_in : List (List ℕ × List ℕ) → Option Via
 via_in ls = first_value (codes "Via") ls >>= λ v. via_at (first_part v)
 
+-- the only line of the name, as a name-addr
+abbrev pub party_in : List ℕ → List (List ℕ × List ℕ) → Option NameAddr
+party_in name ls = only_value name ls >>= λ v. name_addr_of v
+
 -- From and To
 unfoldable pub parties_in : List (List ℕ × List ℕ) → Option (NameAddr × NameAddr)
 parties_in ls = do
-  f ← only_value (codes "From") ls
-  from ← name_addr_of f
-  t ← only_value (codes "To") ls
-  to ← name_addr_of t
+  from ← party_in (codes "From") ls
+  to ← party_in (codes "To") ls
   Some (from, to)
 
 -- Call-ID, which is not empty, and CSeq

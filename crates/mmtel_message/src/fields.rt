@@ -3,7 +3,7 @@ ghost use Rattle.std.specs.Prelude.{◌≡◌, count_by};
 ghost use Rattle.std.specs.Option.{option_copied};
 ghost use Rattle.mmtel_lex.specs.Reading.{Gives};
 ghost use Rattle.mmtel_message.specs.Message.{is_line};
-ghost use Rattle.mmtel_message.specs.Fields.{only_value, first_part, via_at, cseq_at, via_in, parties_in, call_in, five_at, after_blanks, before_rest, if_end, filled};
+ghost use Rattle.mmtel_message.specs.Fields.{only_value, first_part, via_by, via_at, cseq_at, via_in, party_in, parties_in, call_in, five_at, after_blanks, before_rest, if_end, filled};
 
 use crate::messages::{first_of, is_line};
 use crate::values::{Mode, next_part};
@@ -108,6 +108,26 @@ fn ended(via: Via, rest: &[u8]) -> Result<Via, LexFault>
     }
 }
 
+/// Reads sent-by and parameters of a Via value of this transport.
+fn via_by(alloc: Global, transport: Text, by: &[u8]) -> Result<Via, LexFault>
+    ensures { Gives (λ x. x) result (via_by transport by.now) }
+{
+    let (host, rest) = host(alloc, by)?;
+    let (port, rest) = port(rest)?;
+    let sent_by = Text::of(alloc, before_rest(by, rest))?;
+    let (params, rest) = params_front(alloc, rest)?;
+    ended(
+        Via {
+            transport,
+            sent_by,
+            host,
+            port,
+            params,
+        },
+        rest,
+    )
+}
+
 /// Reads a Via value (RFC 3261 §20.42).
 ///
 /// # Errors
@@ -122,20 +142,7 @@ pub fn read_via(alloc: Global, bytes: &[u8]) -> Result<Via, LexFault>
         Some(rest) => {
             let (transport, rest) = token(alloc, rest)?;
             let by = skip_blanks(rest)?;
-            let (host, rest) = host(alloc, by)?;
-            let (port, rest) = port(rest)?;
-            let sent_by = Text::of(alloc, before_rest(by, rest))?;
-            let (params, rest) = params_front(alloc, rest)?;
-            ended(
-                Via {
-                    transport,
-                    sent_by,
-                    host,
-                    port,
-                    params,
-                },
-                rest,
-            )
+            via_by(alloc, transport, by)
         }
     }
 }
@@ -176,15 +183,21 @@ fn via_in(alloc: Global, lines: &[(Text, Text)]) -> Result<Via, LexFault>
     }
 }
 
+/// Reads the only line of the name as a name-addr.
+fn party_in(alloc: Global, lines: &[(Text, Text)], name: &[u8]) -> Result<NameAddr, LexFault>
+    ensures { Gives (λ x. x) result (party_in name.now lines.now) }
+{
+    let value = only(lines, name)?;
+    read_name_addr(alloc, value)
+}
+
 /// Reads From and To.
 #[tactic(auto, unfolding(crate::specs::Fields::parties_in))]
 fn parties_in(alloc: Global, lines: &[(Text, Text)]) -> Result<(NameAddr, NameAddr), LexFault>
     ensures { Gives (λ x. x) result (parties_in lines.now) }
 {
-    let value = only(lines, b"From")?;
-    let from = read_name_addr(alloc, value)?;
-    let value = only(lines, b"To")?;
-    let to = read_name_addr(alloc, value)?;
+    let from = party_in(alloc, lines, b"From")?;
+    let to = party_in(alloc, lines, b"To")?;
     Ok((from, to))
 }
 

@@ -1,5 +1,5 @@
 //! The canonical text.
-ghost use Rattle.std.specs.Prelude.{◌≡◌, ◌++◌, OnOk, IfOk, Ok};
+ghost use Rattle.std.specs.Prelude.{◌≡◌, ◌++◌, OnOk, IfOk, Ok, decimal};
 ghost use Rattle.mmtel_message.specs.Canonical.{IsCanonical, IsWithinLimits};
 ghost use Rattle.mmtel_message.specs.Reads.{reads};
 ghost use Rattle.mmtel_message.specs.Texts.{start_text, line_text, lines_text, message_text};
@@ -7,6 +7,13 @@ ghost use Rattle.mmtel_message.specs.Texts.{start_text, line_text, lines_text, m
 use crate::messages::{Msg, Start};
 use mmtel_lex::{NoMemory, Text};
 use std::alloc::Global;
+
+fn add_number(alloc: Global, out: &mut Text, number: u16) -> Result<(), NoMemory>
+    ensures { OnOk result (out.new ≡ out.old ++ decimal number) }
+{
+    let digits = number.to_string(alloc)?;
+    out.push(alloc, digits.as_bytes())
+}
 
 fn add_start(alloc: Global, out: &mut Text, start: &Start) -> Result<(), NoMemory>
     ensures { OnOk result (out.new ≡ out.old ++ start_text start.now) }
@@ -20,8 +27,7 @@ fn add_start(alloc: Global, out: &mut Text, start: &Start) -> Result<(), NoMemor
         }
         Start::Status { code, phrase } => {
             out.push(alloc, b"SIP/2.0 ")?;
-            let digits = code.to_string(alloc)?;
-            out.push(alloc, digits.as_bytes())?;
+            add_number(alloc, out, *code)?;
             out.push(alloc, b" ")?;
             out.push(alloc, phrase.bytes())
         }

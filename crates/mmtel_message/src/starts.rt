@@ -1,13 +1,13 @@
 //! Start lines (RFC 3261 §7.1, §7.2 and §25.1).
-ghost use Rattle.std.specs.Prelude.{◌≡◌};
+ghost use Rattle.std.specs.Prelude.{◌≡◌, Some};
 ghost use Rattle.mmtel_lex.specs.Reading.{Gives};
 ghost use Rattle.mmtel_message.specs.Starts.{status_at, request_at, start_at};
+ghost use Rattle.mmtel_message.specs.declared.messages.Start.TheVariants.{Request};
 
 use crate::headers::is_value;
 use crate::messages::Start;
-use mmtel_lex::params::token;
 use mmtel_lex::{LexFault, Text};
-use mmtel_scan::{number_up_to, part, skip_byte, skip_text};
+use mmtel_scan::{Class, number_up_to, part, skip_byte, skip_text, split_run};
 use std::alloc::Global;
 
 /// Reads what follows `SIP/2.0 `.
@@ -41,12 +41,24 @@ fn status(alloc: Global, bytes: &[u8]) -> Result<Start, LexFault>
     }
 }
 
+/// The start line of a request of these parts.
+fn request_of(alloc: Global, method: &[u8], uri: &[u8]) -> Result<Start, LexFault>
+    ensures { Gives (λ x. x) result (Some (Request method.now uri.now)) }
+{
+    let method = Text::of(alloc, method)?;
+    let uri = Text::of(alloc, uri)?;
+    Ok(Start::Request { method, uri })
+}
+
 /// Reads a request's start line.
-#[tactic(auto, unfolding(crate::specs::Starts::request_at))]
+#[tactic(auto, unfolding(crate::specs::Starts::request_at, mmtel_lex::specs::Reading::token_at))]
 fn request(alloc: Global, bytes: &[u8]) -> Result<Start, LexFault>
     ensures { Gives (λ x. x) result (request_at bytes.now) }
 {
-    let (method, rest) = token(alloc, bytes)?;
+    let (method, rest) = split_run(Class::Token, bytes);
+    if method.is_empty() {
+        return Err(LexFault::Malformed { at: 0 });
+    }
     match skip_byte(b' ', rest) {
         None => Err(LexFault::Malformed { at: 0 }),
         Some(rest) => match part(b' ', rest) {
@@ -55,12 +67,10 @@ fn request(alloc: Global, bytes: &[u8]) -> Result<Start, LexFault>
                 if uri.is_empty() {
                     return Err(LexFault::Malformed { at: 0 });
                 }
-                if version == b"SIP/2.0".as_slice() {
-                    let uri = Text::of(alloc, uri)?;
-                    Ok(Start::Request { method, uri })
-                } else {
-                    Err(LexFault::Malformed { at: 0 })
+                if version != b"SIP/2.0".as_slice() {
+                    return Err(LexFault::Malformed { at: 0 });
                 }
+                request_of(alloc, method, uri)
             }
         },
     }

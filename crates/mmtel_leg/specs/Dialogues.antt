@@ -82,7 +82,7 @@ started peer m = record {
 
 -- ---- what is taken of the other side
 
--- whether a side says by this tag who it is and which way leads to it. A caller says so in its INVITE, which has a tag; of what comes later nothing is new, and no tag (§12.1.1). A callee says so anew in each answer that makes or confirms a dialog, also where it gives no tag (§12.1.2, §13.2.2.4)
+-- whether a side says with this tag who it is and which way leads to it. A caller does so in its INVITE, which has a tag (§12.1.1); later it has nothing new to say, and no tag. A callee does so anew in each answer that makes or confirms a dialog, also where it gives no tag (§12.1.2, §13.2.2.4)
 abbrev pub names_itself : Side → List ℕ → Bool
 names_itself Caller [] = false
 names_itself Caller (b ∷ tag) = true

@@ -9,4 +9,5 @@ pub mod Legs
 -- Of the laws alone:
 pub mod Deeds
 pub mod Readings
+
 -- What private functions alone cite: nothing.

@@ -1,7 +1,8 @@
 //! What legs know of their dialogs: what they take of the other side, what they hear, and their meters.
 
 use crate::legs::{
-    ANSWER, CAME, OFFERED, SIP, Tells, message, moment, next_line, tell_answered, tell_leg, tell_meter,
+    ANSWER, CAME, OFFERED, SIP, Tells, message, moment, next_line, tell_answered, tell_leg,
+    tell_meter,
 };
 use crate::told::Told;
 use mmtel_charging::{Kind, Meter};
@@ -71,7 +72,8 @@ impl Tells for Way {
 /// What a side says early and then, each as tag, target and route; and target, routes and To of an ACK to it.
 ///
 /// Tag and routes of a callee are those of its 2xx, also where it has none (RFC 3261 §12.1.2, §13.2.2.4); those of a caller stay where it says no tag. Without a target the target stays, and without any it is the Request-URI of the INVITE.
-const EARLY: &[u8] = br##"callee|e|sip:e@h|<sip:p0;lr>|b|sip:b@h|<sip:p1;lr>|sip:b@h <sip:p1;lr> <sip:bob@far.example>;tag=b
+const EARLY: &[u8] =
+    br##"callee|e|sip:e@h|<sip:p0;lr>|b|sip:b@h|<sip:p1;lr>|sip:b@h <sip:p1;lr> <sip:bob@far.example>;tag=b
 callee|e|sip:e@h|<sip:p0;lr>|b|||sip:e@h <sip:bob@far.example>;tag=b
 callee|e|sip:e@h|<sip:p0;lr>||sip:b@h|<sip:p1;lr>|sip:b@h <sip:p1;lr> <sip:bob@far.example>
 callee|e|sip:e@h|<sip:p0;lr>|||<sip:p1;lr>|sip:e@h <sip:p1;lr> <sip:bob@far.example>
@@ -112,7 +114,9 @@ fn early_dialogs(rt: HostRuntime) {
 fn lines_of(told: &mut Told, number: &[u8], method: &[u8]) -> Text {
     let mut lines = Told::new(told.alloc);
     lines.add(method);
-    lines.add(b" sip:127.0.0.1:5060 SIP/2.0\nVia: SIP/2.0/UDP h;branch=z9hG4bKb\nMax-Forwards: 70\nFrom: <sip:a@h>;tag=a\nTo: <sip:b@h>;tag=b\nCall-ID: c1\nContact: <sip:a@h>\nCSeq: ");
+    lines.add(
+        b" sip:127.0.0.1:5060 SIP/2.0\nVia: SIP/2.0/UDP h;branch=z9hG4bKb\nMax-Forwards: 70\nFrom: <sip:a@h>;tag=a\nTo: <sip:b@h>;tag=b\nCall-ID: c1\nContact: <sip:a@h>\nCSeq: ",
+    );
     lines.add(number);
     lines.add(b" ");
     lines.add(method);
@@ -214,20 +218,6 @@ impl Tells for HeardFirst {
     }
 }
 
-#[test]
-fn hears_the_caller(rt: HostRuntime) {
-    let mut told = Told::new(rt.alloc());
-    tell_answered::<HeardLater>(&mut told, Side::Caller, CAME, CAME);
-    assert_eq!(rt; told.whole(), HEARD);
-}
-
-#[test]
-fn hears_the_callee(rt: HostRuntime) {
-    let mut told = Told::new(rt.alloc());
-    tell_answered::<HeardFirst>(&mut told, Side::Callee, OFFERED, ANSWER);
-    assert_eq!(rt; told.whole(), HEARD_FIRST);
-}
-
 /// Two accounts' meters are put into a leg one after another.
 struct Meters;
 
@@ -242,11 +232,30 @@ impl Tells for Meters {
     }
 }
 
-/// A leg's meter is given back by a swap, and the last one by its leaving, where the leg was taken out of its call.
+/// What a caller's leg hears, whose last number is that of its INVITE.
 #[test]
-fn meters_of_legs(rt: HostRuntime) {
+fn hears_the_caller(rt: HostRuntime) {
     let mut told = Told::new(rt.alloc());
+    tell_answered::<HeardLater>(&mut told, Side::Caller, CAME, CAME);
+    assert_eq!(rt; told.whole(), HEARD);
+}
+
+/// What a callee's leg hears; and the meters of a leg: each is given back by a swap, and the last one by its leaving, where the leg was taken out of its call.
+const HEARD_FIRST_AND_METERS: &[u8] = br##"0 INVITE own: pending
+0 BYE own: heard
+0 INVITE none: heard
+1 INVITE none: heard
+0 BYE none: old 1
+then
+account 1
+at the end
+account 2
+"##;
+
+#[test]
+fn hears_the_callee_and_has_meters(rt: HostRuntime) {
+    let mut told = Told::new(rt.alloc());
+    tell_answered::<HeardFirst>(&mut told, Side::Callee, OFFERED, ANSWER);
     tell_answered::<Meters>(&mut told, Side::Caller, CAME, CAME);
-    let wanted = b"then\naccount 1\nat the end\naccount 2\n";
-    assert_eq!(rt; told.whole(), wanted.as_slice());
+    assert_eq!(rt; told.whole(), HEARD_FIRST_AND_METERS);
 }

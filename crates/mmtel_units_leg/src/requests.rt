@@ -90,7 +90,12 @@ fn tell_invite<P>(told: &mut Told, leg: &mut LegOf<P, Standing>) {
 /// Tells a NOTIFY of a conference room, whose Contact is shown.
 fn tell_notify<P>(told: &mut Told, leg: &mut LegOf<P, Standing>) {
     let mut lines = List::new();
-    show(told, &mut lines, b"Contact", b"<sip:room-1@127.0.0.1:5060>;isfocus");
+    show(
+        told,
+        &mut lines,
+        b"Contact",
+        b"<sip:room-1@127.0.0.1:5060>;isfocus",
+    );
     tell_request(told, leg, b"NOTIFY", b"8", &lines, b"");
 }
 
@@ -371,28 +376,12 @@ Content-Length: 0
 
 "##;
 
-/// RFC 3261 §12.1.2, §13.2.2.4: the dialog is that of the 2xx, so the ACK goes by its route set, and To has the tag that it gave, which is none.
-const ACK_OF_UNTAGGED: &[u8] = br##"ACK sip:e@127.0.0.1:5072 SIP/2.0
-Via: SIP/2.0/UDP 127.0.0.1:5060;branch=z9hG4bK0123456789abcdef-5
-Route: <sip:p1;lr>
-Max-Forwards: 70
-From: "Anonymous" <sip:anonymous@anonymous.invalid>;tag=0123456789abcdef-3
-To: <sip:bob@far.example>
-Call-ID: 0123456789abcdef-2
-CSeq: 1 ACK
-Content-Length: 0
-
-#
-"##;
-
-#[test]
-fn untagged_answer_behind_an_early_dialog(rt: HostRuntime) {
-    let mut told = Told::new(rt.alloc());
-    let early = remote_in(&mut told, RINGING, Side::Callee);
-    if let Some(said) = remote_in(&mut told, UNTAGGED, Side::Callee) {
-        tell_leg::<ToAnswer>(&mut told, Side::Callee, OFFERED, early, said);
+/// Tells the ACK of the 2xx without tag, behind the early dialog.
+fn tell_untagged(told: &mut Told) {
+    let early = remote_in(told, RINGING, Side::Callee);
+    if let Some(said) = remote_in(told, UNTAGGED, Side::Callee) {
+        tell_leg::<ToAnswer>(told, Side::Callee, OFFERED, early, said);
     }
-    assert_eq!(rt; told.whole(), ACK_OF_UNTAGGED);
 }
 
 /// Tells the CANCEL of the INVITE with which a dialog began.
@@ -412,37 +401,27 @@ fn tell_begun(told: &mut Told, dialogue: Dialogue) {
     tell_meter(told, meter);
 }
 
-/// Tells the CANCEL of a leg that begins with a copy of the dialog of an INVITE.
-fn tell_copied(told: &mut Told, invite: &Msg) {
-    let dialogue = Dialogue::of_callee(told.alloc, Peer(2), invite);
-    if let Some(dialogue) = told.noted(dialogue) {
-        let copy = dialogue.copied(told.alloc);
-        if let Some(copy) = told.noted(copy) {
-            tell_begun(told, copy);
-        }
+/// Tells the CANCEL of a leg that begins with a copy of this dialog.
+fn tell_copied(told: &mut Told, dialogue: &Dialogue) {
+    let copy = dialogue.copied(told.alloc);
+    if let Some(copy) = told.noted(copy) {
+        tell_begun(told, copy);
     }
 }
 
-/// RFC 3261 §9.1: Request-URI, Call-ID, From, To and the number are those of the INVITE, and so is its Via.
-const CANCEL: &[u8] = br##"CANCEL sip:bob@far.example SIP/2.0
-Via: SIP/2.0/UDP 127.0.0.1:5060;branch=z9hG4bK0123456789abcdef-4
-Max-Forwards: 70
-From: "Anonymous" <sip:anonymous@anonymous.invalid>;tag=0123456789abcdef-3
-To: <sip:bob@far.example>
-Call-ID: 0123456789abcdef-2
-CSeq: 1 CANCEL
-Content-Length: 0
-
-#
-"##;
-
-#[test]
-fn cancel_of_a_dialog_that_began(rt: HostRuntime) {
-    let mut told = Told::new(rt.alloc());
-    if let Some(invite) = message(&mut told, OFFERED) {
-        tell_copied(&mut told, &invite);
+/// Tells the CANCEL of an INVITE.
+fn tell_canceled(told: &mut Told, invite: &Msg) {
+    let dialogue = Dialogue::of_callee(told.alloc, Peer(2), invite);
+    if let Some(dialogue) = told.noted(dialogue) {
+        tell_copied(told, &dialogue);
     }
-    assert_eq!(rt; told.whole(), CANCEL);
+}
+
+/// Tells the CANCEL of the INVITE that is offered.
+fn tell_cancel_of_offered(told: &mut Told) {
+    if let Some(invite) = message(told, OFFERED) {
+        tell_canceled(told, &invite);
+    }
 }
 
 /// Tells a text, and a line's end.
@@ -453,20 +432,51 @@ fn tell_text(told: &mut Told, text: Result<Text, NoMemory>) {
     }
 }
 
-/// How the server names itself.
-#[test]
-fn texts_of_addresses(rt: HostRuntime) {
+/// Tells how the server names itself.
+fn tell_addresses(told: &mut Told) {
     let addr = Addr {
         ip: [192, 0, 2, 255],
         port: 65535,
     };
-    let mut told = Told::new(rt.alloc());
-    tell_text(&mut told, addr_text(rt.alloc(), addr));
-    tell_text(&mut told, contact_text(rt.alloc(), SIP));
-    tell_text(&mut told, via_text(rt.alloc(), SIP, b"T-4"));
-    let wanted = b"192.0.2.255:65535
+    tell_text(told, addr_text(told.alloc, addr));
+    tell_text(told, contact_text(told.alloc, SIP));
+    tell_text(told, via_text(told.alloc, SIP, b"T-4"));
+}
+
+/// What is built for a callee that is not yet in a call: the ACK of a 2xx without tag behind an early dialog, and a CANCEL; and how the server names itself.
+///
+/// The dialog is that of the 2xx (RFC 3261 §12.1.2, §13.2.2.4), so the ACK goes by its route set, and To has the tag that it gave, which is none. Of a CANCEL (§9.1) Request-URI, Call-ID, From, To and the number are those of the INVITE, and so is its Via.
+const BUILT: &[u8] = br##"ACK sip:e@127.0.0.1:5072 SIP/2.0
+Via: SIP/2.0/UDP 127.0.0.1:5060;branch=z9hG4bK0123456789abcdef-5
+Route: <sip:p1;lr>
+Max-Forwards: 70
+From: "Anonymous" <sip:anonymous@anonymous.invalid>;tag=0123456789abcdef-3
+To: <sip:bob@far.example>
+Call-ID: 0123456789abcdef-2
+CSeq: 1 ACK
+Content-Length: 0
+
+#
+CANCEL sip:bob@far.example SIP/2.0
+Via: SIP/2.0/UDP 127.0.0.1:5060;branch=z9hG4bK0123456789abcdef-4
+Max-Forwards: 70
+From: "Anonymous" <sip:anonymous@anonymous.invalid>;tag=0123456789abcdef-3
+To: <sip:bob@far.example>
+Call-ID: 0123456789abcdef-2
+CSeq: 1 CANCEL
+Content-Length: 0
+
+#
+192.0.2.255:65535
 <sip:127.0.0.1:5060>
 SIP/2.0/UDP 127.0.0.1:5060;branch=z9hG4bKT-4
-";
-    assert_eq!(rt; told.whole(), wanted.as_slice());
+"##;
+
+#[test]
+fn untagged_answer_cancel_and_addresses(rt: HostRuntime) {
+    let mut told = Told::new(rt.alloc());
+    tell_untagged(&mut told);
+    tell_cancel_of_offered(&mut told);
+    tell_addresses(&mut told);
+    assert_eq!(rt; told.whole(), BUILT);
 }

@@ -2,6 +2,7 @@ pub mod CauseLaws
 pub mod EntryLaws
 pub mod Finding
 pub mod ListLaws
+pub mod MaskedValueLaws
 pub mod Marks
 pub mod PartLaws
 pub mod Places

@@ -1,2 +1,3 @@
 pub mod EntryUri
 pub mod HistoryInfo
+pub mod MaskedValues

@@ -80,7 +80,7 @@ abbrev alice : Account
 alice = record { 0 = 1 }
 
 abbrev accounts : List AccountIdentity
-accounts = record { account = alice; uri = Sip (Some (codes "alice")) (codes "home.example") None [] [] } ∷ []
+accounts = record { account = alice; uri = Sip (Some (codes "a")) (codes "h") None [] [] } ∷ []
 
 abbrev is_permanent : Option Account → Bool
 is_permanent None = false
@@ -94,9 +94,9 @@ abbrev invite : List Line → Message Start
 invite more = record {
   start = Request (codes "INVITE") (codes "sip:bob@far.example");
   lines =
-      (codes "From", codes "\"Alice\" <sip:alice@home.example>;tag=7") ∷
+      (codes "From", codes "\"Alice\" <sip:a@h>;tag=7") ∷
       (codes "To", codes "<sip:bob@far.example>") ∷
-      (codes "P-Asserted-Identity", codes "<sip:alice@home.example>") ∷
+      (codes "P-Asserted-Identity", codes "<sip:a@h>") ∷
       (codes "Subject", codes "me") ∷ more;
   body = [];
 }
@@ -115,7 +115,7 @@ worked_permanent : left true [] ≡
 unfolding Fmt.digits SameIdentity.is_same_identity Scanning.closes masked_line kind_of hidden hidden_value served_value masked_value_text is_marked_value History.entry_of History.is_index History.is_dotted History.shown_uri History.entry_text EntryUri.user_part EntryUri.host_part EntryUri.cause_number EntryUri.cause_of EntryUri.hides EntryUri.is_marked EntryUri.with_cause Numbers.number_of Numbers.within Values.parts Values.parting Reading.name_addr_of Reading.words_of Reading.quoted_of Reading.angle_of Reading.bare_of Reading.all_params_at Reading.params_at Reading.param_at Reading.token_at Reading.value_at Reading.text_at Reading.user_at Reading.host_at Reading.port_number Reading.port_at Reading.headers_of Reading.headers_at Reading.sip_of Reading.scheme_of Reading.number_at Reading.tel_of Reading.uri_of Classes.in_class Scanning.run Scanning.after_run Scanning.trimmed Scanning.parted
 worked_permanent = refl
 
-worked_served : left true ((codes "P-Served-User", codes "<sip:alice@home.example>;sescase=orig") ∷ []) ≡
+worked_served : left true ((codes "P-Served-User", codes "<sip:a@h>;sescase=orig") ∷ []) ≡
     (codes "From", codes "<sip:anonymous@anonymous.invalid>;tag=7") ∷
     (codes "To", codes "<sip:bob@far.example>") ∷
     (codes "P-Served-User", codes "<sip:anonymous@anonymous.invalid>;sescase=orig") ∷ []
@@ -123,8 +123,8 @@ unfolding Fmt.digits SameIdentity.is_same_identity Scanning.closes masked_line k
 worked_served = refl
 
 -- where the terminating user is served, her record is not asked; of two lines the first counts, and of two parameters
-worked_terminating : left true ((codes "P-Served-User", codes "<sip:bob@home.example>;sescase=term;sescase=orig") ∷ (codes "P-Served-User", codes "<sip:alice@home.example>;sescase=orig") ∷ []) ≡
-    (invite ((codes "P-Served-User", codes "<sip:bob@home.example>;sescase=term;sescase=orig") ∷ (codes "P-Served-User", codes "<sip:alice@home.example>;sescase=orig") ∷ [])).lines
+worked_terminating : left true ((codes "P-Served-User", codes "<sip:bob@home.example>;sescase=term;sescase=orig") ∷ (codes "P-Served-User", codes "<sip:a@h>;sescase=orig") ∷ []) ≡
+    (invite ((codes "P-Served-User", codes "<sip:bob@home.example>;sescase=term;sescase=orig") ∷ (codes "P-Served-User", codes "<sip:a@h>;sescase=orig") ∷ [])).lines
 unfolding Fmt.digits SameIdentity.is_same_identity Scanning.closes masked_line kind_of hidden hidden_value served_value masked_value_text is_marked_value History.entry_of History.is_index History.is_dotted History.shown_uri History.entry_text EntryUri.user_part EntryUri.host_part EntryUri.cause_number EntryUri.cause_of EntryUri.hides EntryUri.is_marked EntryUri.with_cause Numbers.number_of Numbers.within Values.parts Values.parting Reading.name_addr_of Reading.words_of Reading.quoted_of Reading.angle_of Reading.bare_of Reading.all_params_at Reading.params_at Reading.param_at Reading.token_at Reading.value_at Reading.text_at Reading.user_at Reading.host_at Reading.port_number Reading.port_at Reading.headers_of Reading.headers_at Reading.sip_of Reading.scheme_of Reading.number_at Reading.tel_of Reading.uri_of Classes.in_class Scanning.run Scanning.after_run Scanning.trimmed Scanning.parted
 worked_terminating = refl
 

@@ -52,7 +52,7 @@ fn is_home(alloc: Global, directory: &Directory) -> bool {
         (b"sip:bob@other.example", 2),
     ];
     directory.sip.is_same(peer_addr(5060))
-        && directory.home.bytes() == b"home.example"
+        && directory.home.bytes() == b"home.example".as_slice()
         && is_known(directory, 1, 5071, true)
         && is_known(directory, 2, 5072, false)
         && directory.peers.find(peer_addr(5060)).is_none()
@@ -183,6 +183,7 @@ const SCRIPTS: &[u8] = b"0|
 3|at 0 peer 1;|a; at 1 peer 1";
 
 /// Scripts of the peers of a configuration.
+#[derive(Clone, Copy)]
 struct Scripts<'a> {
     directory: &'a Directory,
 }

@@ -75,6 +75,7 @@ fn status_of(text: &[u8]) -> u8 {
 }
 
 /// Lists of words, over three files.
+#[derive(Clone, Copy)]
 struct Words<'a> {
     files: &'a [(&'a str, &'a str)],
 }

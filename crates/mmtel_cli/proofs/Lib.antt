@@ -9,11 +9,9 @@ pub mod Numerals
 pub mod Pairs
 pub mod Pieces
 pub mod ReadBackLaws
-mod Rows
 pub mod RunLaws
 pub mod Running
 pub mod Secrets
-mod Stages
 pub mod StepLaws
 pub mod TellingLaws
 pub mod WholeLaws

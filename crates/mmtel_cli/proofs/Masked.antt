@@ -6,8 +6,7 @@ use Rattle.std.proofs.lemmas.Bool.Decides.{nat_tests}
 use Rattle.mmtel_types.specs.declared.numbers.Peer.{Peer}
 use Rattle.mmtel_message.specs.Texts.{message_text}
 use Rattle.mmtel_scan.proofs.Runs.{and_true}
-use Rattle.mmtel_trust.specs.Digest.{Heard, Tests, is_private, is_opening, lines_if, hide}
-use Rattle.mmtel_trust.specs.Mask.{opening, masked_lines}
+use Rattle.mmtel_trust.specs.Digest.{Heard, Tests, is_private, is_opening, hide}
 use Rattle.mmtel_trust.specs.Passed.{passed, attempt_from}
 use Rattle.mmtel_trust.specs.Peers.{is_trusted}
 use Rattle.mmtel_trust.specs.Privacy.{Line}
@@ -22,9 +21,11 @@ use Rattle.mmtel_cli.specs.declared.events.Event.{Event}
 use Rattle.mmtel_cli.specs.declared.events.Offer.{Offer}
 use Rattle.mmtel_cli.specs.declared.events.Offer.TheVariants as offer
 
--- what the header table shows an untrusted peer of a restricted message does not depend on its private places
-abbrev pub MaskedIsEnough : Type 0
-MaskedIsEnough = (f : Facing) (ls : List Line) → f.restricted ≡ true → passed f false [] (masked_lines opening ls) ≡ passed f false [] ls
+-- what is shown of what was heard does not depend on its private places: of a restricted opening to an untrusted peer, of any other message to anybody, and From where it names nobody in a restricted opening
+pub record MaskedIsEnough : Type 0 where
+  pub shown : (f : Facing) (m : Heard) → f.restricted ≡ true → passed f false [] (hide by_words [] m).lines ≡ passed f false [] m.lines
+  pub others : (f : Facing) (m : Heard) → is_private by_words [] m ≡ false → passed f false [] (hide by_words [] m).lines ≡ passed f false [] m.lines
+  pub from : (restricted : Bool) (tag : List ℕ) (m : Heard) → (is_private by_words [] m ≡ true → restricted ≡ true) → attempt_from restricted tag (hide by_words [] m).lines ≡ attempt_from restricted tag m.lines
 
 -- ---- the INVITE of an attempt
 
@@ -37,19 +38,13 @@ attempt-as sip token m ls ts from rest = rw (from _, rest) refl
 hiding_of : (m : Heard) → is_private by_words [] m ≡ true → is_hiding m.wants ≡ true
 hiding_of m e = (and_true (is_opening m) (is_hiding m.wants) e).1
 
-from_nobody : (b : Bool) (tag : List ℕ) (ls ms : List Line) → b ≡ true → attempt_from b tag ls ≡ attempt_from b tag ms
-from_nobody true tag ls ms e = refl
-from_nobody false tag ls ms e = absurd cc
-
-attempt_by : MaskedIsEnough → (sip : Addr) (token : List ℕ) (m : Heard) (ts : Tests) (b : Bool) → is_private by_words [] m ≡ b
-    → attempt sip token 0 false (record m { lines = lines_if b m.lines; tests = ts }) ≡ attempt sip token 0 false m
-attempt_by law sip token m ts false e = attempt-as sip token m m.lines ts (λ tag. refl) refl
-attempt_by law sip token m ts true e =
-    let hiding = hiding_of m e in
-    attempt-as sip token m (masked_lines opening m.lines) ts (λ tag. from_nobody (is_hiding m.wants) tag (masked_lines opening m.lines) m.lines hiding) (law (facing m) m.lines hiding)
+passed_by : MaskedIsEnough → (m : Heard) (b : Bool) → is_private by_words [] m ≡ b → passed (facing m) false [] (hide by_words [] m).lines ≡ passed (facing m) false [] m.lines
+passed_by law m true e = law.shown (facing m) m (hiding_of m e)
+passed_by law m false e = law.others (facing m) m e
 
 attempt-hidden : MaskedIsEnough → (sip : Addr) (token : List ℕ) (m : Heard) → attempt sip token 0 false (hide by_words [] m) ≡ attempt sip token 0 false m
-attempt-hidden law sip token m = attempt_by law sip token m (hide by_words [] m).tests (is_private by_words [] m) refl
+attempt-hidden law sip token m =
+    attempt-as sip token m (hide by_words [] m).lines (hide by_words [] m).tests (λ tag. law.from (is_hiding m.wants) tag m (hiding_of m)) (passed_by law m (is_private by_words [] m) refl)
 
 -- ---- peers
 

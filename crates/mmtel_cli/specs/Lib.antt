@@ -16,7 +16,6 @@ pub mod Memory
 pub mod Openings
 pub mod Ran
 pub mod ReadBack
-pub mod Rows
 pub mod Run
 pub mod Script
 pub mod ScriptGrammar

@@ -12,7 +12,7 @@ use Rattle.mmtel_cli.specs.declared.events.Event.{Event}
 abbrev pub by_words : Restriction
 by_words wants account = is_hiding wants
 
--- what a trusted peer said, without what is private of an opening; what an untrusted one said stands
+-- what a trusted peer said, without its private places; what an untrusted one said stands
 abbrev pub hide_said : Bool → Heard → Heard
 hide_said trusted m = if trusted then hide by_words [] m else m
 

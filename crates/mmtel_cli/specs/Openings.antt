@@ -1,7 +1,7 @@
 -- What the server builds of an INVITE that opens a call: the 100 to its sender (RFC 3261 §8.2.6), and the INVITE of the first attempt, which it makes as a user agent of its own (RFC 3261 §6, §8.1.1).
 use Rattle.std.specs.Prelude.{ℕ, ◌+◌, ◌-◌, Bool, true, ◌||◌, Option, Some, None, List, [], ◌∷◌, ◌++◌, codes, decimal}
 use Rattle.mmtel_scan.specs.Chain.{◌>>=◌}
-use Rattle.mmtel_scan.specs.Numbers.{number_of}
+use Rattle.mmtel_scan.specs.Numbers.{number_of, token_text}
 use Rattle.mmtel_leg.specs.Addresses.{contact_text, via_text}
 use Rattle.mmtel_leg.specs.Dialogues.{request_uri}
 use Rattle.mmtel_leg.specs.Lines.{line}
@@ -17,10 +17,6 @@ use Rattle.mmtel_trust.specs.Privacy.{Line}
 use Rattle.mmtel_trust.specs.declared.addrs.Addr.{Addr}
 use Rattle.mmtel_trust.specs.declared.showing.Facing.{Facing}
 use Rattle.mmtel_types.specs.declared.privacy.PrivacySet.{PrivacySet}
-
--- what a drawn number is written as: the run's token, `-` and the number
-abbrev pub drawn_text : List ℕ → ℕ → List ℕ
-drawn_text token n = token ++ 45 ∷ decimal n
 
 -- the 100: Via, From, To, Call-ID and CSeq as received
 abbrev pub trying : Heard → Message Start
@@ -51,14 +47,14 @@ to_text (Some n) = name_addr_text (record n { params = [] })
 -- the lines that the server writes of its own, before those that it passes on. So many numbers were drawn before: the next is the tag of the caller's side, then come those of Call-ID, From tag and branch
 abbrev pub sender_lines : Addr → List ℕ → ℕ → Heard → List Line
 sender_lines sip token drawn m =
-    line (codes "Via") (via_text sip (drawn_text token (drawn + 4))) ++
+    line (codes "Via") (via_text sip (token_text token (drawn + 4))) ++
     (line (codes "Max-Forwards") (decimal (hops_left m.hops)) ++
-    line (codes "From") (attempt_from (is_hiding m.wants) (drawn_text token (drawn + 3)) m.lines))
+    line (codes "From") (attempt_from (is_hiding m.wants) (token_text token (drawn + 3)) m.lines))
 
 abbrev pub dialog_lines : Addr → List ℕ → ℕ → Heard → List Line
 dialog_lines sip token drawn m =
     line (codes "To") (to_text (read_by m.to)) ++
-    (line (codes "Call-ID") (drawn_text token (drawn + 2)) ++
+    (line (codes "Call-ID") (token_text token (drawn + 2)) ++
     (line (codes "CSeq") (codes "1 INVITE") ++
     line (codes "Contact") (contact_text sip)))
 

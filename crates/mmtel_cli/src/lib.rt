@@ -27,7 +27,7 @@ pub use disk::{DiskFiles, OutSink};
 pub use due::{Due, out_of_memory, report};
 pub use events::{Event, Offer};
 pub use files::{FileFault, Files};
-pub use laws::{rows_compute, runs_keep_the_secret};
+pub use laws::runs_keep_the_secret;
 pub use listings::{listed_bytes_read_back, listing};
 pub use memory_files::MemoryFiles;
 pub use memory_sink::MemorySink;

@@ -6,26 +6,16 @@ ghost use Rattle.mmtel_trust.specs.Digest.{heard};
 ghost use Rattle.mmtel_trust.specs.Passed.{passed, attempt_from, read_by};
 ghost use Rattle.mmtel_leg.specs.Addresses.{contact_text, via_text};
 ghost use Rattle.mmtel_leg.specs.Lines.{line, pair_of};
-ghost use Rattle.mmtel_cli.specs.Openings.{drawn_text, trying, hops_left, hops_in, is_hiding, facing, to_text, sender_lines, dialog_lines, attempt_lines, attempt};
+ghost use Rattle.mmtel_cli.specs.Openings.{trying, hops_left, hops_in, is_hiding, facing, to_text, sender_lines, dialog_lines, attempt_lines, attempt};
 
 use mmtel_leg::{
-    add_bytes, add_decimal, add_line, add_number, contact_text, request_uri, via_text,
+    add_bytes, add_decimal, add_line, contact_text, request_uri, via_text,
 };
 use mmtel_lex::{LexFault, List, NameAddr, print_name_addr, read_name_addr};
 use mmtel_message::{Msg, Start, first_of, reply_with};
-use mmtel_scan::{NoMemory, Text, number_up_to};
+use mmtel_scan::{NoMemory, Text, number_up_to, token_text};
 use mmtel_trust::{Addr, Facing, Line, attempt_from, shown, wants};
 use std::alloc::Global;
-
-/// What a drawn number is written as.
-fn drawn_text(alloc: Global, token: &[u8], number: u64) -> Result<Text, NoMemory>
-    ensures { IfOk result (λ t. t ≡ drawn_text token.now number) }
-{
-    let mut out = Text::of(alloc, token)?;
-    out.push(alloc, b"-")?;
-    add_number(alloc, &mut out, number)?;
-    Ok(out)
-}
 
 /// The hops that are left (RFC 3261 §16.6).
 fn hops_left(value: Option<&[u8]>) -> u64
@@ -160,8 +150,8 @@ fn add_sender(
     requires { drawn + 4 < 2 ^ 64 }
     ensures { OnOk result (out.new ≡ out.old ++ sender_lines sip token.now drawn (heard true invite.now)) }
 {
-    let branch = drawn_text(alloc, token, drawn + 4)?;
-    let tag = drawn_text(alloc, token, drawn + 3)?;
+    let branch = token_text(alloc, token, drawn + 4)?;
+    let tag = token_text(alloc, token, drawn + 3)?;
     add_via(alloc, out, sip, branch.bytes())?;
     add_hops(alloc, out, invite)?;
     add_from(alloc, out, tag.bytes(), invite)?;
@@ -180,7 +170,7 @@ fn add_dialog(
     requires { drawn + 4 < 2 ^ 64 }
     ensures { OnOk result (out.new ≡ out.old ++ dialog_lines sip token.now drawn (heard true invite.now)) }
 {
-    let call_id = drawn_text(alloc, token, drawn + 2)?;
+    let call_id = token_text(alloc, token, drawn + 2)?;
     add_to(alloc, out, invite)?;
     add_line(alloc, out, b"Call-ID", call_id)?;
     add_bytes(alloc, out, b"CSeq", b"1 INVITE")?;

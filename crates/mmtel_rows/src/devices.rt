@@ -1,16 +1,22 @@
 //! Files and sinks that fail, and files that break their grammars.
 
 use crate::openings::{CONFIG, RESTRICTED, RESTRICTED_OFFERS};
-use crate::runs::{Devices, check, sound};
-use std::test::Fail;
+use crate::runs::{Devices, is_right, sound};
+use std::alloc::Global;
 
 const REPLAY: &str = "replay|server.cfg|run.script|--token|0123456789abcdef";
 
 const FILES: &[(&str, &str)] = &[("server.cfg", CONFIG), ("run.script", RESTRICTED)];
 
+/// Whether a run over these two files is due to write this, by the status of a bad line.
+fn is_bad(alloc: Global, config: &str, script: &str, text: &str) -> bool {
+    let files = [("server.cfg", config), ("run.script", script)];
+    is_right(alloc, REPLAY, sound(&files), 2, text)
+}
+
 /// The first line that breaks its grammar, of the configuration and else of the script; one past the last where a line is absent that has to be there.
 #[test]
-fn bad_lines(rt: HostRuntime) -> Result<(), Fail> {
+fn bad_lines(rt: HostRuntime) {
     let third = "sip 127.0.0.1:5060\nhome home.example\npeer x\n";
     let rows: &[(&str, &str, &str)] = &[
         (third, RESTRICTED, "line 3\n"),
@@ -21,49 +27,79 @@ fn bad_lines(rt: HostRuntime) -> Result<(), Fail> {
         (CONFIG, "at 0 peer 3\n", "line 1\n"),
         (CONFIG, "\n# none yet\n|a\n", "line 3\n"),
     ];
-    for (config, script, written) in rows {
-        let files = [("server.cfg", *config), ("run.script", *script)];
-        check(&rt, rt.alloc(), REPLAY, sound(&files), 2, written)?;
-    }
-    Ok(())
+    let alloc = rt.alloc();
+    assert!(rt; rows.iter().all(|row| is_bad(alloc, row.0, row.1, row.2)));
+}
+
+/// Whether a run over files of which these reads fail answers this.
+fn fails_to_read(
+    alloc: Global,
+    files: &[(&str, &str)],
+    failing: &[u64],
+    status: u8,
+    text: &str,
+) -> bool {
+    let devices = Devices {
+        failing_reads: failing,
+        ..sound(files)
+    };
+    is_right(alloc, REPLAY, devices, status, text)
 }
 
 /// Files that are not there, and reads that fail by their number: the configuration comes first, then the script.
 #[test]
-fn failing_files(rt: HostRuntime) -> Result<(), Fail> {
-    let alloc = rt.alloc();
-    let config_alone = [("server.cfg", CONFIG)];
-    let script_alone = [("run.script", RESTRICTED)];
-    let bad_alone = [("server.cfg", "peer x\n")];
-    check(&rt, alloc, REPLAY, sound(&[]), 5, "file\n")?;
-    check(&rt, alloc, REPLAY, sound(&config_alone), 5, "file\n")?;
-    check(&rt, alloc, REPLAY, sound(&script_alone), 5, "file\n")?;
-    check(&rt, alloc, REPLAY, sound(&bad_alone), 2, "line 1\n")?;
-    let rows: &[(&[u64], u8, &str)] = &[
-        (&[1], 5, "file\n"),
-        (&[2], 5, "file\n"),
-        (&[2, 1], 5, "file\n"),
-        (&[3], 0, RESTRICTED_OFFERS),
-        (&[0, 4], 0, RESTRICTED_OFFERS),
+fn failing_files(rt: HostRuntime) {
+    let config_alone: &[(&str, &str)] = &[("server.cfg", CONFIG)];
+    let script_alone: &[(&str, &str)] = &[("run.script", RESTRICTED)];
+    let bad_alone: &[(&str, &str)] = &[("server.cfg", "peer x\n")];
+    let rows: &[(&[(&str, &str)], &[u64], u8, &str)] = &[
+        (&[], &[], 5, "file\n"),
+        (config_alone, &[], 5, "file\n"),
+        (script_alone, &[], 5, "file\n"),
+        (bad_alone, &[], 2, "line 1\n"),
+        (bad_alone, &[2], 2, "line 1\n"),
+        (FILES, &[1], 5, "file\n"),
+        (FILES, &[2], 5, "file\n"),
+        (FILES, &[2, 1], 5, "file\n"),
+        (FILES, &[3], 0, RESTRICTED_OFFERS),
+        (FILES, &[0, 4], 0, RESTRICTED_OFFERS),
     ];
-    for (failing, status, written) in rows {
-        let devices = Devices {
-            failing_reads: failing,
-            ..sound(FILES)
-        };
-        check(&rt, alloc, REPLAY, devices, *status, written)?;
-    }
-    let devices = Devices {
-        failing_reads: &[2],
-        ..sound(&bad_alone)
-    };
-    check(&rt, alloc, REPLAY, devices, 2, "line 1\n")
+    let alloc = rt.alloc();
+    assert!(rt;
+        rows.iter()
+            .all(|row| fails_to_read(alloc, row.0, row.1, row.2, row.3))
+    );
 }
 
-/// A sink that takes a byte a write, that fails at once, in the midst or at the end, and that has no room: a listing that is cut short is status 7, and every other status stays.
+/// A sink that takes so many bytes in all and in one write, and whose writes of these numbers fail.
+#[derive(Clone, Copy)]
+struct Cut<'a> {
+    room: usize,
+    most: usize,
+    failing: &'a [u64],
+}
+
+/// Whether a run of these words over these files and such a sink answers this.
+fn fails_to_write(
+    alloc: Global,
+    words: &str,
+    files: &[(&str, &str)],
+    cut: Cut<'_>,
+    status: u8,
+    text: &str,
+) -> bool {
+    let devices = Devices {
+        room: cut.room,
+        most: cut.most,
+        failing_writes: cut.failing,
+        ..sound(files)
+    };
+    is_right(alloc, words, devices, status, text)
+}
+
+/// A sink that takes a byte a write, that fails at once, in the midst or at the end, and that has no room: a listing that is cut short is status 7.
 #[test]
-fn failing_sinks(rt: HostRuntime) -> Result<(), Fail> {
-    let alloc = rt.alloc();
+fn failing_sinks(rt: HostRuntime) {
     let whole = RESTRICTED_OFFERS.len();
     let rows: &[(usize, usize, &[u64], u8, &str)] = &[
         (65_536, 1, &[], 0, RESTRICTED_OFFERS),
@@ -76,25 +112,36 @@ fn failing_sinks(rt: HostRuntime) -> Result<(), Fail> {
         (65_536, 0, &[], 7, ""),
         (65_536, 65_536, &[2], 0, RESTRICTED_OFFERS),
     ];
-    for (room, most, failing, status, written) in rows {
-        let devices = Devices {
-            room: *room,
-            most: *most,
-            failing_writes: failing,
-            ..sound(FILES)
-        };
-        check(&rt, alloc, REPLAY, devices, *status, written)?;
-    }
-    let cut = Devices {
-        room: 2,
-        ..sound(&[])
-    };
-    check(&rt, alloc, REPLAY, cut, 5, "fi")?;
-    check(&rt, alloc, "replay", cut, 1, "us")?;
-    let bad_alone = [("server.cfg", "peer x\n")];
-    let cut = Devices {
-        room: 6,
-        ..sound(&bad_alone)
-    };
-    check(&rt, alloc, REPLAY, cut, 2, "line 1")
+    let alloc = rt.alloc();
+    assert!(rt;
+        rows.iter().all(|row| {
+            let cut = Cut {
+                room: row.0,
+                most: row.1,
+                failing: row.2
+            };
+            fails_to_write(alloc, REPLAY, FILES, cut, row.3, row.4)
+        })
+    );
+}
+
+/// Where the sink has room for so many bytes, every other status stays.
+#[test]
+fn statuses_that_stay(rt: HostRuntime) {
+    let rows: &[(&str, &[(&str, &str)], usize, u8, &str)] = &[
+        (REPLAY, &[], 2, 5, "fi"),
+        ("replay", &[], 2, 1, "us"),
+        (REPLAY, &[("server.cfg", "peer x\n")], 6, 2, "line 1"),
+    ];
+    let alloc = rt.alloc();
+    assert!(rt;
+        rows.iter().all(|row| {
+            let cut = Cut {
+                room: row.2,
+                most: 65_536,
+                failing: &[]
+            };
+            fails_to_write(alloc, row.0, row.1, cut, row.3, row.4)
+        })
+    );
 }

@@ -12,4 +12,6 @@ mod openings;
 #[cfg(test)]
 mod runs;
 #[cfg(test)]
+mod tables;
+#[cfg(test)]
 mod words;

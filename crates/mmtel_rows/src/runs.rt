@@ -1,10 +1,8 @@
 //! One run of the top call, and what comes of it.
 
 use mmtel_cli::{MemoryFiles, MemorySink, run};
-use mmtel_scan::{List, Text};
+use mmtel_scan::{List, NoMemory, Text, part};
 use std::alloc::Global;
-use std::process::Abort;
-use std::test::Fail;
 
 /// The files of a run, by name, and how the files and the sink fail.
 #[derive(Clone, Copy)]
@@ -32,7 +30,7 @@ pub fn sound<'a>(files: &'a [(&'a str, &'a str)]) -> Devices<'a> {
     }
 }
 
-fn numbers(alloc: Global, numbers: &[u64]) -> Result<List<u64>, Fail> {
+fn numbers(alloc: Global, numbers: &[u64]) -> Result<List<u64>, NoMemory> {
     let mut list = List::new();
     for number in numbers {
         list.push(alloc, *number)?;
@@ -40,7 +38,7 @@ fn numbers(alloc: Global, numbers: &[u64]) -> Result<List<u64>, Fail> {
     Ok(list)
 }
 
-fn files(alloc: Global, devices: Devices<'_>) -> Result<MemoryFiles, Fail> {
+fn files(alloc: Global, devices: Devices<'_>) -> Result<MemoryFiles, NoMemory> {
     let mut files = List::new();
     for (name, text) in devices.files {
         let name = Text::of(alloc, name.as_bytes())?;
@@ -51,36 +49,57 @@ fn files(alloc: Global, devices: Devices<'_>) -> Result<MemoryFiles, Fail> {
     Ok(MemoryFiles::new(files, failing))
 }
 
-/// The words that `|` parts; none where there is no byte.
-fn texts(alloc: Global, words: &str) -> Result<Vec<Text>, Fail> {
-    let mut texts = Vec::new(alloc);
+fn sink(alloc: Global, devices: Devices<'_>) -> Result<MemorySink, NoMemory> {
+    let failing = numbers(alloc, devices.failing_writes)?;
+    Ok(MemorySink::new(alloc, devices.room, devices.most, failing)?)
+}
+
+/// The words that `|` parts, at most a dozen; none where there is no byte.
+fn texts(alloc: Global, words: &[u8]) -> Result<List<Text>, NoMemory> {
+    let mut texts = List::new();
     if words.is_empty() {
         return Ok(texts);
     }
-    for word in words.split('|') {
-        texts.push(Text::of(alloc, word.as_bytes())?)?;
+    let mut rest = words;
+    for _ in 0..12 {
+        match part(b'|', rest) {
+            None => break,
+            Some((word, later)) => {
+                texts.push(alloc, Text::of(alloc, word)?)?;
+                rest = later;
+            }
+        }
     }
+    texts.push(alloc, Text::of(alloc, rest)?)?;
     Ok(texts)
 }
 
-/// Runs these words, parted by `|`, over these devices, and asserts the status and what was written.
-pub fn check(
-    rt: &impl Abort,
+/// What a run over these files and this sink answers, and the text that it writes.
+fn ran(
     alloc: Global,
-    words: &str,
-    devices: Devices<'_>,
-    status: u8,
-    written: &str,
-) -> Result<(), Fail> {
-    let mut files = files(alloc, devices)?;
-    let failing = numbers(alloc, devices.failing_writes)?;
-    let mut out = MemorySink::new(alloc, devices.room, devices.most, failing)?;
-    let words = texts(alloc, words)?;
-    let answer = run(alloc, words.as_slice(), &mut files, &mut out);
-    assert_eq!(rt; answer, status, "the status, where {written} is due");
-    assert!(rt;
-        out.taken() == written.as_bytes(),
-        "what was written, where {written} is due"
-    );
-    Ok(())
+    words: &[Text],
+    files: &mut MemoryFiles,
+    out: &mut MemorySink,
+) -> Option<(u8, Text)> {
+    let status = run(alloc, words, files, out);
+    match Text::of(alloc, out.taken()) {
+        Ok(text) => Some((status, text)),
+        Err(_) => None,
+    }
+}
+
+/// The status of a run of these words, parted by `|`, over these devices, and what it writes; None for want of memory.
+pub fn written(alloc: Global, words: &[u8], devices: Devices<'_>) -> Option<(u8, Text)> {
+    let words = texts(alloc, words).ok()?;
+    let mut files = files(alloc, devices).ok()?;
+    let mut out = sink(alloc, devices).ok()?;
+    ran(alloc, words.items(), &mut files, &mut out)
+}
+
+/// Whether a run of these words, parted by `|`, over these devices answers this status and writes this text.
+pub fn is_right(alloc: Global, words: &str, devices: Devices<'_>, status: u8, text: &str) -> bool {
+    match written(alloc, words.as_bytes(), devices) {
+        None => false,
+        Some((answer, told)) => answer == status && told.bytes() == text.as_bytes(),
+    }
 }

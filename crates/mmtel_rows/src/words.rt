@@ -1,90 +1,99 @@
 //! The words of the command line.
 
-use crate::runs::{check, sound};
-use std::test::Fail;
+use crate::runs::{sound, written};
+use crate::tables::{Table, cut, wrong_row};
+use std::alloc::Global;
 
-/// Lists of words, parted here by `|`, each with whether it asks for a run. The name of the configuration is that of a file whose first line is bad, so that a run ends with its number; every other name is of no file.
-#[test]
-fn lists_of_words(rt: HostRuntime) -> Result<(), Fail> {
-    let files = [("c", "bad\n"), ("-", "\nbad\n"), ("-c", "\n\nbad\n")];
-    let asks: &[(&str, u8, &str)] = &[
-        ("replay|c|s|--token|0123456789abcdef", 2, "line 1\n"),
-        ("replay|c|--token|0123456789abcdef|s", 2, "line 1\n"),
-        ("replay|--token|0123456789abcdef|c|s", 2, "line 1\n"),
-        ("replay|c|s|--token=0123456789abcdef", 2, "line 1\n"),
-        ("replay|--token=ffffffffffffffff|c|s", 2, "line 1\n"),
-        ("replay|--token|0123456789abcdef|--|c|s", 2, "line 1\n"),
-        ("replay|c|--token|0123456789abcdef|--|s", 2, "line 1\n"),
-        ("replay|c|s|--token|0123456789abcdef|--", 2, "line 1\n"),
-        ("replay|-|s|--token|0123456789abcdef", 2, "line 2\n"),
-        ("replay|--token|0123456789abcdef|--|-c|s", 2, "line 3\n"),
-        (
-            "replay|--token|0123456789abcdef|--|c|--token",
-            2,
-            "line 1\n",
-        ),
-        ("replay|--token|0123456789abcdef|--|--|c", 5, "file\n"),
-        ("replay|c|c|--token|0123456789abcdef", 2, "line 1\n"),
-        ("replay|s|c|--token|0123456789abcdef", 5, "file\n"),
-        ("replay||s|--token|0123456789abcdef", 5, "file\n"),
-        ("replay|replay|s|--token|0123456789abcdef", 5, "file\n"),
-    ];
-    for (words, status, written) in asks {
-        check(&rt, rt.alloc(), words, sound(&files), *status, written)?;
+/// What each list of words, parted here by `|`, makes a run write. The name of the configuration is that of a file whose first line is bad, so that a run ends with its number; every other name is of no file, and no file is read for words that ask for nothing.
+const WORDS: &[u8] = b"line 1|replay|c|s|--token|0123456789abcdef
+line 1|replay|c|--token|0123456789abcdef|s
+line 1|replay|--token|0123456789abcdef|c|s
+line 1|replay|c|s|--token=0123456789abcdef
+line 1|replay|--token=ffffffffffffffff|c|s
+line 1|replay|--token|0123456789abcdef|--|c|s
+line 1|replay|c|--token|0123456789abcdef|--|s
+line 1|replay|c|s|--token|0123456789abcdef|--
+line 2|replay|-|s|--token|0123456789abcdef
+line 3|replay|--token|0123456789abcdef|--|-c|s
+line 1|replay|--token|0123456789abcdef|--|c|--token
+file|replay|--token|0123456789abcdef|--|--|c
+line 1|replay|c|c|--token|0123456789abcdef
+file|replay|s|c|--token|0123456789abcdef
+file|replay||s|--token|0123456789abcdef
+file|replay|replay|s|--token|0123456789abcdef
+usage
+usage||replay|c|s|--token|0123456789abcdef
+usage|replay
+usage|serve
+usage|serve|c|--token|0123456789abcdef|--turns|1
+usage|check|c
+usage|charges|c
+usage|workload|--calls|1|--salt|0
+usage|Replay|c|s|--token|0123456789abcdef
+usage|replay |c|s|--token|0123456789abcdef
+usage|--|replay|c|s|--token|0123456789abcdef
+usage|--token|0123456789abcdef|replay|c|s
+usage|replay|c|s
+usage|replay|c|--token|0123456789abcdef
+usage|replay|c|s|t|--token|0123456789abcdef
+usage|replay|--token|0123456789abcdef|--|c|s|t
+usage|replay|c|s|--token
+usage|replay|c|s|--token=
+usage|replay|c|s|--token|0123456789abcdef|--token|0123456789abcdef
+usage|replay|c|s|--token|0123456789abcdef|--token=0123456789abcdef
+usage|replay|c|s|--|--token|0123456789abcdef
+usage|replay|c|s|--token|--|0123456789abcdef
+usage|replay|c|s|--token|-
+usage|replay|c|s|--token|0123456789abcde
+usage|replay|c|s|--token|0123456789abcdef0
+usage|replay|c|s|--token|0123456789abcdeF
+usage|replay|c|s|--token|0123456789abcdeg
+usage|replay|c|s|--token|+123456789abcdef
+usage|replay|c|s|--token|0x23456789abcdef
+usage|replay|c|s|--token| 123456789abcdef
+usage|replay|c|s|--token=0123456789abcde
+usage|replay|c|s|-token|0123456789abcdef
+usage|replay|c|s|--tokens|0123456789abcdef
+usage|replay|c|s|--Token|0123456789abcdef
+usage|replay|c|s|--tok|0123456789abcdef
+usage|replay|c|s|--token|0123456789abcdef|--turns|1
+usage|replay|c|s|--token|0123456789abcdef|--help
+usage|replay|c|-s|--token|0123456789abcdef
+usage|replay|c|---|--token|0123456789abcdef
+usage|--help
+usage|-h
+usage|help";
+
+/// The status of a run that writes this.
+fn status_of(text: &[u8]) -> u8 {
+    match text.first() {
+        Some(b'u') => 1,
+        Some(b'l') => 2,
+        Some(b'f') => 5,
+        _ => 0,
     }
-    Ok(())
 }
 
-/// Lists of words that ask for nothing: `usage`, and no file is read.
-#[test]
-fn other_words(rt: HostRuntime) -> Result<(), Fail> {
-    let files = [("c", "bad\n")];
-    let refused: &[&str] = &[
-        "",
-        "|replay|c|s|--token|0123456789abcdef",
-        "replay",
-        "serve",
-        "serve|c|--token|0123456789abcdef|--turns|1",
-        "check|c",
-        "charges|c",
-        "workload|--calls|1|--salt|0",
-        "Replay|c|s|--token|0123456789abcdef",
-        "replay |c|s|--token|0123456789abcdef",
-        "--|replay|c|s|--token|0123456789abcdef",
-        "--token|0123456789abcdef|replay|c|s",
-        "replay|c|s",
-        "replay|c|--token|0123456789abcdef",
-        "replay|c|s|t|--token|0123456789abcdef",
-        "replay|--token|0123456789abcdef|--|c|s|t",
-        "replay|c|s|--token",
-        "replay|c|s|--token=",
-        "replay|c|s|--token|0123456789abcdef|--token|0123456789abcdef",
-        "replay|c|s|--token|0123456789abcdef|--token=0123456789abcdef",
-        "replay|c|s|--|--token|0123456789abcdef",
-        "replay|c|s|--token|--|0123456789abcdef",
-        "replay|c|s|--token|-",
-        "replay|c|s|--token|0123456789abcde",
-        "replay|c|s|--token|0123456789abcdef0",
-        "replay|c|s|--token|0123456789abcdeF",
-        "replay|c|s|--token|0123456789abcdeg",
-        "replay|c|s|--token|+123456789abcdef",
-        "replay|c|s|--token|0x23456789abcdef",
-        "replay|c|s|--token| 123456789abcdef",
-        "replay|c|s|--token=0123456789abcde",
-        "replay|c|s|-token|0123456789abcdef",
-        "replay|c|s|--tokens|0123456789abcdef",
-        "replay|c|s|--Token|0123456789abcdef",
-        "replay|c|s|--tok|0123456789abcdef",
-        "replay|c|s|--token|0123456789abcdef|--turns|1",
-        "replay|c|s|--token|0123456789abcdef|--help",
-        "replay|c|-s|--token|0123456789abcdef",
-        "replay|c|---|--token|0123456789abcdef",
-        "--help",
-        "-h",
-        "help",
-    ];
-    for words in refused {
-        check(&rt, rt.alloc(), words, sound(&files), 1, "usage\n")?;
+/// Lists of words, over three files.
+#[derive(Clone, Copy)]
+struct Words<'a> {
+    files: &'a [(&'a str, &'a str)],
+}
+
+impl Table for Words<'_> {
+    fn is_right(&self, alloc: Global, row: &[u8]) -> bool {
+        let (due, words) = cut(row);
+        match written(alloc, words, sound(self.files)) {
+            None => false,
+            Some((status, text)) => {
+                status == status_of(due) && text.bytes().strip_suffix(b"\n") == Some(due)
+            }
+        }
     }
-    Ok(())
+}
+
+#[test]
+fn lists_of_words(rt: HostRuntime) {
+    let files = [("c", "bad\n"), ("-", "\nbad\n"), ("-c", "\n\nbad\n")];
+    assert_eq!(rt; wrong_row(rt.alloc(), &Words { files: &files }, WORDS), 0);
 }

@@ -8,18 +8,24 @@ use Rattle.std.proofs.lemmas.Slice.Eq.{bytes_eq-Decides}
 use Rattle.mmtel_scan.specs.Chain.{◌>>=◌}
 use Rattle.mmtel_lex.specs.Reading.{name_addr_of}
 use Rattle.mmtel_lex.specs.declared.values.NameAddr.{NameAddr}
+use Rattle.mmtel_lex.specs.declared.values.Param.{Param}
 use Rattle.mmtel_lex.specs.Params.{param_value}
-use Rattle.mmtel_message.specs.Message.{is_line, first_value, named, line_values, values_named}
+use Rattle.mmtel_message.specs.Message.{Message, is_line, first_value, named, line_values, values_named}
+use Rattle.mmtel_message.specs.declared.messages.Start.{Start}
 use Rattle.mmtel_message.specs.declared.values.Mode.{Mode}
-use Rattle.mmtel_message.specs.declared.values.Mode.TheVariants.{Words}
+use Rattle.mmtel_message.specs.declared.values.Mode.TheVariants.{Words, Plain}
 use Rattle.mmtel_trust.specs.Kinds.{kind_of}
 use Rattle.mmtel_trust.specs.Privacy.{Line, words, wants}
-use Rattle.mmtel_trust.specs.Mask.{is_kept, hidden_value, Places, hide_if, serve_if, masked_value, with_name, masked_line, masked_lines}
-use Rattle.mmtel_trust.specs.Digest.{tag_of}
+use Rattle.mmtel_trust.specs.Mask.{Entries, NoEntries, MarkedEntries, AllEntries, only, masked, are_public, is_kept, is_session, hidden_value, served_value, Places, hide_if, serve_if, unless_gone, masked_entries, masked_value, with_name, masked_line, masked_lines}
+use Rattle.mmtel_trust.specs.Asserted.{asserted}
+use Rattle.mmtel_trust.specs.Digest.{tag_of, is_terminating, terminates_by, origin_account}
+use Rattle.mmtel_trust.specs.Passed.{is_shown, passed, attempt_from}
+use Rattle.mmtel_trust.specs.declared.accounts.AccountIdentity.{AccountIdentity}
+use Rattle.mmtel_trust.specs.declared.showing.Facing.{Facing}
 use Rattle.mmtel_trust.specs.declared.kinds.Kind.{Kind}
 use Rattle.mmtel_trust.specs.declared.kinds.Kind.TheVariants.{From, To, Contact, Asserted, Served, Privacy, History, Options, Passed, Personal, Trusted, Other}
 use Rattle.mmtel_trust.proofs.Absorbed.{filtered}
-use Rattle.mmtel_trust.proofs.Masked.{hidden_params}
+use Rattle.mmtel_trust.proofs.Masked.{hidden_params, served_params}
 
 -- ---- names that are equal without case are of one kind
 
@@ -35,17 +41,26 @@ serve_not : (b : Bool) (v : List ℕ) → not b ≡ true → serve_if b v ≡ v
 serve_not true v e = absurd cc
 serve_not false v e = refl
 
+gone_not : (b : Bool) (v : List ℕ) → not b ≡ true → unless_gone b v ≡ Some v
+gone_not true v e = absurd cc
+gone_not false v e = refl
+
+public_entries : (es : Entries) (v : List ℕ) → are_public es ≡ true → masked_entries es v ≡ v
+public_entries NoEntries v e = refl
+public_entries MarkedEntries v e = absurd cc
+public_entries AllEntries v e = absurd cc
+
 kept_value : (p : Places) (k : Kind) (v : List ℕ) → is_kept p k ≡ true → masked_value p k v ≡ Some v
 kept_value p From v e = ap (λ w. Some w) (hide_not p.from v e)
 kept_value p To v e = ap (λ w. Some w) (hide_not p.to v e)
 kept_value p Contact v e = ap (λ w. Some w) (hide_not p.contact v e)
-kept_value p Asserted v e = absurd cc
+kept_value p Asserted v e = gone_not p.asserted v e
 kept_value p Served v e = ap (λ w. Some w) (serve_not p.served v e)
 kept_value p Privacy v e = refl
-kept_value p History v e = refl
+kept_value p History v e = ap (λ w. Some w) (public_entries p.history v e)
 kept_value p Options v e = refl
 kept_value p Passed v e = refl
-kept_value p Personal v e = absurd cc
+kept_value p Personal v e = gone_not p.personal v e
 kept_value p Trusted v e = refl
 kept_value p Other v e = refl
 
@@ -147,3 +162,82 @@ from_tag-masked p ls = ap tag_of (changed p (codes "From") (hide_if p.from) ls (
 
 pub to_tag-masked : (p : Places) (ls : List Line) → tag_of (first_value (codes "To") (masked_lines p ls)) ≡ tag_of (first_value (codes "To") ls)
 to_tag-masked p ls = ap tag_of (changed p (codes "To") (hide_if p.to) ls (to_value p)) ∙ tag_hidden p.to (first_value (codes "To") ls)
+
+-- ---- where only entries of History-Info are private
+
+identity_kept : (es : Entries) → is_kept (only es) (kind_of (codes "P-Asserted-Identity")) ≡ true
+unfolding kind_of
+identity_kept es = refl
+
+from_kept : (es : Entries) → is_kept (only es) (kind_of (codes "From")) ≡ true
+unfolding kind_of
+from_kept es = refl
+
+served_kept : (es : Entries) → is_kept (only es) (kind_of (codes "P-Served-User")) ≡ true
+unfolding kind_of
+served_kept es = refl
+
+shown_kind : (es : Entries) (f : Facing) (to_trusted : Bool) (k : Kind) (l : Line) → kind_of l.0 ≡ k → filter (is_shown f to_trusted) (with_name l.0 (masked_value (only es) k l.1)) ≡ filter (is_shown f to_trusted) (l ∷ [])
+unfolding is_shown
+shown_kind es f to_trusted From l e = refl
+shown_kind es f to_trusted To l e = refl
+shown_kind es f to_trusted Contact l e = refl
+shown_kind es f to_trusted Asserted l e = refl
+shown_kind es f to_trusted Served l e = refl
+shown_kind es f to_trusted Privacy l e = refl
+shown_kind es f to_trusted History l e = rw e refl
+shown_kind es f to_trusted Options l e = refl
+shown_kind es f to_trusted Passed l e = refl
+shown_kind es f to_trusted Personal l e = refl
+shown_kind es f to_trusted Trusted l e = refl
+shown_kind es f to_trusted Other l e = refl
+
+shown_alone : (es : Entries) (f : Facing) (to_trusted : Bool) (l : Line) → filter (is_shown f to_trusted) (masked_line (only es) l) ≡ filter (is_shown f to_trusted) (l ∷ [])
+unfolding masked_line
+shown_alone es f to_trusted l = shown_kind es f to_trusted (kind_of l.0) l refl
+
+-- what is passed of a message, to whomever
+pub passed-entries : (es : Entries) (f : Facing) (to_trusted : Bool) (history ls : List Line) → passed f to_trusted history (masked_lines (only es) ls) ≡ passed f to_trusted history ls
+passed-entries es f to_trusted history ls =
+    rw (
+      named-masked (only es) (codes "P-Asserted-Identity") ls (identity_kept es),
+      named-masked (only es) (codes "Privacy") ls (privacy_kept (only es)),
+      words-masked (only es) ls,
+      filtered (masked_line (only es)) (is_shown f to_trusted) (shown_alone es f to_trusted) ls,
+    ) refl
+
+pub passed_alike-entries : (es : Entries) (f : Facing) (to_trusted : Bool) (history : List Line) (m n : Message Start) → masked (only es) m ≡ masked (only es) n → passed f to_trusted history m.lines ≡ passed f to_trusted history n.lines
+passed_alike-entries es f to_trusted history m n e =
+    sym (passed-entries es f to_trusted history m.lines) ∙ (ap (λ (x : Message Start). passed f to_trusted history x.lines) e ∙ passed-entries es f to_trusted history n.lines)
+
+pub from-entries : (es : Entries) (restricted : Bool) (tag : List ℕ) (ls : List Line) → attempt_from restricted tag (masked_lines (only es) ls) ≡ attempt_from restricted tag ls
+from-entries es restricted tag ls = rw (first-masked (only es) (codes "From") ls (from_kept es)) refl
+
+-- the account of the caller, and whether there is an identity
+pub asserted-entries : (es : Entries) (trusted : Bool) (ls : List Line) → asserted trusted (masked_lines (only es) ls) ≡ asserted trusted ls
+asserted-entries es trusted ls = rw (values-masked (only es) Plain (codes "P-Asserted-Identity") ls (identity_kept es)) refl
+
+pub origin-entries : (es : Entries) (accounts : List AccountIdentity) (trusted : Bool) (ls : List Line) → origin_account accounts trusted (masked_lines (only es) ls) ≡ origin_account accounts trusted ls
+origin-entries es accounts trusted ls = rw (asserted-entries es trusted ls, first-masked (only es) (codes "P-Served-User") ls (served_kept es)) refl
+
+-- ---- the session case of P-Served-User
+
+served_value_at : (p : Places) (v : List ℕ) → masked_value p (kind_of (codes "P-Served-User")) v ≡ Some (serve_if p.served v)
+unfolding kind_of
+served_value_at p v = refl
+
+abbrev session_of : Option (List Param) → Bool
+session_of None = false
+session_of (Some ps) = is_session (codes "term") ps
+
+session_by : (r : Option NameAddr) → is_terminating r ≡ session_of (option_map (λ n. n.params) r)
+session_by None = refl
+session_by (Some n) = refl
+
+terminates_value : (b : Bool) (v : Option (List ℕ)) → terminates_by (option_map (serve_if b) v) ≡ terminates_by v
+terminates_value b None = refl
+terminates_value true (Some s) = session_by (name_addr_of (served_value s)) ∙ (ap session_of (served_params s) ∙ sym (session_by (name_addr_of s)))
+terminates_value false (Some s) = refl
+
+pub terminates-masked : (p : Places) (ls : List Line) → terminates_by (first_value (codes "P-Served-User") (masked_lines p ls)) ≡ terminates_by (first_value (codes "P-Served-User") ls)
+terminates-masked p ls = ap terminates_by (changed p (codes "P-Served-User") (serve_if p.served) ls (served_value_at p)) ∙ terminates_value p.served (first_value (codes "P-Served-User") ls)

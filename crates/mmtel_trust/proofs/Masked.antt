@@ -14,9 +14,12 @@ use Rattle.mmtel_lex.specs.declared.values.NameAddr.{NameAddr}
 use Rattle.mmtel_lex.proofs.NameAddrLaws.{name_addr_again, name_addr_takes}
 use Rattle.mmtel_message.specs.Message.{Message}
 use Rattle.mmtel_message.specs.declared.messages.Start.{Start}
+use Rattle.mmtel_history.specs.HistoryInfo.{anonymous}
+use Rattle.mmtel_history.specs.MaskedValues.{is_marked_value, masked_value_text}
+use Rattle.mmtel_history.proofs.MaskedValueLaws.{masked_value_once, masked_value_shown}
 use Rattle.mmtel_trust.specs.Kinds.{kind_of}
 use Rattle.mmtel_trust.specs.Passed.{Line, is_shown, asserted_lines, passed}
-use Rattle.mmtel_trust.specs.Mask.{nobody, hidden, hidden_value, is_orig, served_value, Places, hide_if, serve_if, masked_value, with_name, masked_line, masked_lines, masked}
+use Rattle.mmtel_trust.specs.Mask.{Entries, NoEntries, MarkedEntries, AllEntries, hidden, hidden_value, is_orig, served_value, Places, hide_if, serve_if, unless_gone, masked_entries, masked_value, with_name, masked_line, masked_lines, masked}
 use Rattle.mmtel_trust.specs.declared.showing.Facing.{Facing}
 use Rattle.mmtel_trust.specs.declared.kinds.Kind.{Kind}
 use Rattle.mmtel_trust.specs.declared.kinds.Kind.TheVariants.{From, To, Contact, Asserted, Served, Privacy, History, Options, Passed, Personal, Trusted, Other}
@@ -29,15 +32,15 @@ params_of s n (inl is) = is.params_in
 params_of s n (inr is) = is.params_in
 
 abbrev pub with_params : List Param → NameAddr
-with_params ps = record { display = []; uri = nobody; params = ps }
+with_params ps = record { display = []; uri = anonymous; params = ps }
 
-nobody_in : IsOneOrMore UriByte nobody
+anonymous_in : IsOneOrMore UriByte anonymous
 unfolding Classes.in_class
-nobody_in = record { filled = omega arith; each = refl }
+anonymous_in = record { filled = omega arith; each = refl }
 
 pub hidden_reads : (ps : List Param) → AreParams ps → name_addr_of (hidden ps) ≡ Some (with_params ps)
 unfolding hidden Classes.in_class
-hidden_reads ps are = name_addr_again (hidden ps) (with_params ps) (inl (record { gap = []; whole = refl; starts = refl; display_in = inl (record { each = refl; ends = tt }); gap_in = refl; uri_in = nobody_in; params_in = are }))
+hidden_reads ps are = name_addr_again (hidden ps) (with_params ps) (inl (record { gap = []; whole = refl; starts = refl; display_in = inl (record { each = refl; ends = tt }); gap_in = refl; uri_in = anonymous_in; params_in = are }))
 
 read_params : (v : List ℕ) (n : NameAddr) → name_addr_of v ≡ Some n → AreParams n.params
 read_params v n e = params_of v n (name_addr_takes v n e)
@@ -75,6 +78,30 @@ served_by v (Some n) e = served_if (is_orig n.params) v n e refl
 pub served_once : (v : List ℕ) → served_value (served_value v) ≡ served_value v
 served_once v = served_by v (name_addr_of v) refl
 
+served_params_if : (b : Bool) (v : List ℕ) (n : NameAddr) → name_addr_of v ≡ Some n → is_orig n.params ≡ b → option_map (λ n. n.params) (name_addr_of (served_value v)) ≡ Some n.params
+unfolding served_value
+served_params_if true v n e o = rw (e, o, hidden_reads n.params (read_params v n e)) refl
+served_params_if false v n e o = rw (e, o, e) refl
+
+served_params_by : (v : List ℕ) (r : Option NameAddr) → name_addr_of v ≡ r → option_map (λ n. n.params) (name_addr_of (served_value v)) ≡ option_map (λ n. n.params) r
+served_params_by v None e = ap (λ (w : List ℕ). option_map (λ n. n.params) (name_addr_of w)) (unserved v e) ∙ ap (λ (r : Option NameAddr). option_map (λ n. n.params) r) e
+served_params_by v (Some n) e = served_params_if (is_orig n.params) v n e refl
+
+-- the parameters of a P-Served-User stay
+pub served_params : (v : List ℕ) → option_map (λ n. n.params) (name_addr_of (served_value v)) ≡ option_map (λ n. n.params) (name_addr_of v)
+served_params v = served_params_by v (name_addr_of v) refl
+
+-- ---- entries of History-Info
+
+marked_if : (b : Bool) (v : List ℕ) → is_marked_value v ≡ b → masked_entries MarkedEntries (masked_entries MarkedEntries v) ≡ masked_entries MarkedEntries v
+marked_if true v e = rw (e, masked_value_shown v) refl
+marked_if false v e = rw (e, e) refl
+
+entries_once : (es : Entries) (v : List ℕ) → masked_entries es (masked_entries es v) ≡ masked_entries es v
+entries_once NoEntries v = refl
+entries_once MarkedEntries v = marked_if (is_marked_value v) v refl
+entries_once AllEntries v = masked_value_once v
+
 -- ---- lines
 
 hide_once : (b : Bool) (v : List ℕ) → hide_if b (hide_if b v) ≡ hide_if b v
@@ -85,23 +112,30 @@ serve_once : (b : Bool) (v : List ℕ) → serve_if b (serve_if b v) ≡ serve_i
 serve_once true v = served_once v
 serve_once false v = refl
 
-abbrev pub again : Places → Kind → Option (List ℕ) → Option (List ℕ)
-again p k None = None
-again p k (Some v) = masked_value p k v
+abbrev pub then_by : (List ℕ → Option (List ℕ)) → Option (List ℕ) → Option (List ℕ)
+then_by f None = None
+then_by f (Some v) = f v
 
-value_once : (p : Places) (k : Kind) (v : List ℕ) → again p k (masked_value p k v) ≡ masked_value p k v
-value_once p From v = ap (λ w. Some w) (hide_once p.from v)
-value_once p To v = ap (λ w. Some w) (hide_once p.to v)
-value_once p Contact v = ap (λ w. Some w) (hide_once p.contact v)
-value_once p Asserted v = refl
-value_once p Served v = ap (λ w. Some w) (serve_once p.served v)
-value_once p Privacy v = refl
-value_once p History v = refl
-value_once p Options v = refl
-value_once p Passed v = refl
-value_once p Personal v = refl
-value_once p Trusted v = refl
-value_once p Other v = refl
+abbrev pub again : Places → Kind → Option (List ℕ) → Option (List ℕ)
+again p k o = then_by (masked_value p k) o
+
+gone_once : (b : Bool) (v : List ℕ) → then_by (unless_gone b) (unless_gone b v) ≡ unless_gone b v
+gone_once true v = refl
+gone_once false v = refl
+
+kind_once : (p : Places) (k : Kind) (v : List ℕ) → again p k (masked_value p k v) ≡ masked_value p k v
+kind_once p From v = ap (λ w. Some w) (hide_once p.from v)
+kind_once p To v = ap (λ w. Some w) (hide_once p.to v)
+kind_once p Contact v = ap (λ w. Some w) (hide_once p.contact v)
+kind_once p Asserted v = gone_once p.asserted v
+kind_once p Served v = ap (λ w. Some w) (serve_once p.served v)
+kind_once p Privacy v = refl
+kind_once p History v = ap (λ w. Some w) (entries_once p.history v)
+kind_once p Options v = refl
+kind_once p Passed v = refl
+kind_once p Personal v = gone_once p.personal v
+kind_once p Trusted v = refl
+kind_once p Other v = refl
 
 name_once : (p : Places) (n : List ℕ) (o : Option (List ℕ)) → flat_map (masked_line p) (with_name n o) ≡ with_name n (again p (kind_of n) o)
 unfolding masked_line
@@ -110,25 +144,29 @@ name_once p n (Some v) = append-nil _
 
 line_once : (p : Places) (l : Line) → flat_map (masked_line p) (masked_line p l) ≡ masked_line p l
 unfolding masked_line
-line_once p l = name_once p l.0 (masked_value p (kind_of l.0) l.1) ∙ ap (with_name l.0) (value_once p (kind_of l.0) l.1)
+line_once p l = name_once p l.0 (masked_value p (kind_of l.0) l.1) ∙ ap (with_name l.0) (kind_once p (kind_of l.0) l.1)
 
 pub masked_again : (p : Places) (m : Message Start) → masked p (masked p m) ≡ masked p m
 masked_again p m = ap (λ ls. record m { lines = ls }) (absorbed (masked_line p) (masked_line p) (line_once p) m.lines)
 
 -- ---- what is shown
 
+gone_shown : (f : Facing) (b : Bool) (l : Line) → is_shown f false l ≡ false → filter (is_shown f false) (with_name l.0 (unless_gone b l.1)) ≡ filter (is_shown f false) (l ∷ [])
+gone_shown f true l e = rw e refl
+gone_shown f false l e = refl
+
 shown_as : (p : Places) (f : Facing) → f.restricted ≡ true → (k : Kind) (l : Line) → kind_of l.0 ≡ k → filter (is_shown f false) (with_name l.0 (masked_value p k l.1)) ≡ filter (is_shown f false) (l ∷ [])
 unfolding is_shown
 shown_as p f r From l e = rw e refl
 shown_as p f r To l e = rw e refl
 shown_as p f r Contact l e = rw e refl
-shown_as p f r Asserted l e = rw e refl
+shown_as p f r Asserted l e = gone_shown f p.asserted l (rw e refl)
 shown_as p f r Served l e = rw e refl
 shown_as p f r Privacy l e = refl
-shown_as p f r History l e = refl
+shown_as p f r History l e = rw e refl
 shown_as p f r Options l e = refl
 shown_as p f r Passed l e = refl
-shown_as p f r Personal l e = rw (e, r) refl
+shown_as p f r Personal l e = gone_shown f p.personal l (rw (e, r) refl)
 shown_as p f r Trusted l e = refl
 shown_as p f r Other l e = refl
 

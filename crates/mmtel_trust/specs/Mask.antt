@@ -1,5 +1,5 @@
--- What of a message is private, and the message without it. In a private place one text stands for whoever would be named there; it is never offered to anybody.
-use Rattle.std.specs.Prelude.{ℕ, Bool, true, false, not, Option, Some, None, List, [], ◌∷◌, codes, if◌then◌else◌}
+-- What of a message is private, and the message without it (RFC 3323 §4.1, RFC 3325 §7, RFC 7044 §10.1). In a private place nobody's URI stands for whoever would be named there; what is masked is compared, and never offered to anybody.
+use Rattle.std.specs.Prelude.{ℕ, Bool, true, false, not, ◌||◌, Option, Some, None, List, [], ◌∷◌, codes, if◌then◌else◌}
 use Rattle.std.specs.List.{flat_map}
 use Rattle.std.specs.Str.{bytes_eq}
 use Rattle.mmtel_lex.specs.Grammar.{name_addr_text}
@@ -9,6 +9,9 @@ use Rattle.mmtel_lex.specs.declared.values.NameAddr.{NameAddr}
 use Rattle.mmtel_lex.specs.Params.{param_value}
 use Rattle.mmtel_message.specs.Message.{Message}
 use Rattle.mmtel_message.specs.declared.messages.Start.{Start}
+use Rattle.mmtel_history.specs.HistoryInfo.{anonymous}
+use Rattle.mmtel_history.specs.MaskedValues.{is_marked_value, masked_value_text}
+use Rattle.mmtel_types.specs.declared.privacy.PrivacySet.{PrivacySet}
 use Rattle.mmtel_trust.specs.Kinds.{kind_of}
 use Rattle.mmtel_trust.specs.Privacy.{Line}
 use Rattle.mmtel_trust.specs.declared.kinds.Kind.{Kind}
@@ -16,13 +19,9 @@ use Rattle.mmtel_trust.specs.declared.kinds.Kind.TheVariants.{From, To, Contact,
 
 -- ---- values
 
--- the URI of nobody (RFC 3323 §4.1.1.3)
-abbrev pub nobody : List ℕ
-nobody = codes "sip:anonymous@anonymous.invalid"
-
--- nobody, with these parameters
+-- nobody's URI (RFC 3323 §4.1.1.3), with these parameters
 unfoldable pub hidden : List Param → List ℕ
-hidden ps = name_addr_text (record { display = []; uri = nobody; params = ps })
+hidden ps = name_addr_text (record { display = []; uri = anonymous; params = ps })
 
 abbrev pub hidden_from : List ℕ → Option NameAddr → List ℕ
 hidden_from v None = v
@@ -32,13 +31,17 @@ hidden_from v (Some n) = hidden n.params
 unfoldable pub hidden_value : List ℕ → List ℕ
 hidden_value v = hidden_from v (name_addr_of v)
 
-abbrev pub is_orig_case : Option (List ℕ) → Bool
-is_orig_case None = false
-is_orig_case (Some v) = bytes_eq v (codes "orig")
+abbrev pub is_value : List ℕ → Option (List ℕ) → Bool
+is_value word None = false
+is_value word (Some v) = bytes_eq v word
 
--- of the originating session case (RFC 5502 §4)
+-- of this session case (RFC 5502 §4): the first parameter `sescase` decides
+abbrev pub is_session : List ℕ → List Param → Bool
+is_session word ps = is_value word (param_value (codes "sescase") ps)
+
+-- of the originating case
 abbrev pub is_orig : List Param → Bool
-is_orig ps = is_orig_case (param_value (codes "sescase") ps)
+is_orig ps = is_session (codes "orig") ps
 
 abbrev pub served_from : List ℕ → Option NameAddr → List ℕ
 served_from v None = v
@@ -48,32 +51,79 @@ served_from v (Some n) = if is_orig n.params then hidden n.params else v
 unfoldable pub served_value : List ℕ → List ℕ
 served_value v = served_from v (name_addr_of v)
 
--- ---- lines
+-- ---- places
 
--- which places are private, beside the lines that tell who somebody is; those go
+-- which entries of History-Info are private
+pub data Entries : Type 0 where
+  NoEntries : Entries
+  MarkedEntries : Entries
+  AllEntries : Entries
+
+-- which places of a message are private
 pub record Places : Type 0 where
+  -- display and URI of these
   pub from : Bool
   pub to : Bool
   pub contact : Bool
+  -- those of a P-Served-User of the originating case
   pub served : Bool
+  -- the P-Asserted-Identity lines, which go
+  pub asserted : Bool
+  -- the lines that tell who somebody is, which go
+  pub personal : Bool
+  -- display and URI of these entries
+  pub history : Entries
+
+-- no place but these entries
+abbrev pub only : Entries → Places
+only private = record { from = false; to = false; contact = false; served = false; asserted = false; personal = false; history = private }
 
 -- of an INVITE that opens a restricted call
 abbrev pub opening : Places
-opening = record { from = true; to = false; contact = true; served = true }
+opening = record (only NoEntries) { from = true; contact = true; served = true; asserted = true; personal = true }
 
 -- of a later request of the restricted caller, and of a response
 abbrev pub asking : Places
-asking = record { from = true; to = false; contact = true; served = false }
+asking = record (only NoEntries) { from = true; contact = true; asserted = true; personal = true }
 
 abbrev pub answering : Places
-answering = record { from = false; to = true; contact = true; served = false }
+answering = record (only NoEntries) { to = true; contact = true; asserted = true; personal = true }
 
--- of a request of a restricted callee, and of a response, which may redirect
+-- of a request of a restricted callee, and of a response, whose Contact tells where to call where it redirects
 abbrev pub called : Places
-called = record { from = true; to = false; contact = true; served = false }
+called = record (only NoEntries) { from = true; contact = true; asserted = true; personal = true }
 
 abbrev pub answered : Bool → Places
-answered redirects = record { from = false; to = false; contact = not redirects; served = false }
+answered redirects = record (only NoEntries) { contact = not redirects; asserted = true; personal = true }
+
+-- of any request, by the words of its Privacy: each entry where one of them is `history`, else the marked ones
+abbrev pub entries_of : PrivacySet → Entries
+entries_of wants = if wants.history then AllEntries else MarkedEntries
+
+abbrev pub history_of : PrivacySet → Places
+history_of wants = only (entries_of wants)
+
+-- the entries of the one or of the other
+abbrev pub joined_entries : Entries → Entries → Entries
+joined_entries NoEntries other = other
+joined_entries MarkedEntries NoEntries = MarkedEntries
+joined_entries MarkedEntries MarkedEntries = MarkedEntries
+joined_entries MarkedEntries AllEntries = AllEntries
+joined_entries AllEntries other = AllEntries
+
+-- the places of the one or of the other
+abbrev pub joined : Places → Places → Places
+joined p q = record {
+  from = p.from || q.from;
+  to = p.to || q.to;
+  contact = p.contact || q.contact;
+  served = p.served || q.served;
+  asserted = p.asserted || q.asserted;
+  personal = p.personal || q.personal;
+  history = joined_entries p.history q.history;
+}
+
+-- ---- lines
 
 abbrev pub hide_if : Bool → List ℕ → List ℕ
 hide_if b v = if b then hidden_value v else v
@@ -81,18 +131,27 @@ hide_if b v = if b then hidden_value v else v
 abbrev pub serve_if : Bool → List ℕ → List ℕ
 serve_if b v = if b then served_value v else v
 
+abbrev pub unless_gone : Bool → List ℕ → Option (List ℕ)
+unless_gone b v = if b then None else Some v
+
+-- an entry, where these are private
+abbrev pub masked_entries : Entries → List ℕ → List ℕ
+masked_entries NoEntries v = v
+masked_entries MarkedEntries v = if is_marked_value v then masked_value_text v else v
+masked_entries AllEntries v = masked_value_text v
+
 -- what is left of a value of the kind; None where the line goes
 abbrev pub masked_value : Places → Kind → List ℕ → Option (List ℕ)
 masked_value p From v = Some (hide_if p.from v)
 masked_value p To v = Some (hide_if p.to v)
 masked_value p Contact v = Some (hide_if p.contact v)
-masked_value p Asserted v = None
+masked_value p Asserted v = unless_gone p.asserted v
 masked_value p Served v = Some (serve_if p.served v)
 masked_value p Privacy v = Some v
-masked_value p History v = Some v
+masked_value p History v = Some (masked_entries p.history v)
 masked_value p Options v = Some v
 masked_value p Passed v = Some v
-masked_value p Personal v = None
+masked_value p Personal v = unless_gone p.personal v
 masked_value p Trusted v = Some v
 masked_value p Other v = Some v
 
@@ -113,17 +172,22 @@ masked p m = record m { lines = masked_lines p m.lines }
 
 -- ---- what masking leaves alone
 
+abbrev pub are_public : Entries → Bool
+are_public NoEntries = true
+are_public MarkedEntries = false
+are_public AllEntries = false
+
 -- lines of the kind stay as they are
 abbrev pub is_kept : Places → Kind → Bool
 is_kept p From = not p.from
 is_kept p To = not p.to
 is_kept p Contact = not p.contact
-is_kept p Asserted = false
+is_kept p Asserted = not p.asserted
 is_kept p Served = not p.served
 is_kept p Privacy = true
-is_kept p History = true
+is_kept p History = are_public p.history
 is_kept p Options = true
 is_kept p Passed = true
-is_kept p Personal = false
+is_kept p Personal = not p.personal
 is_kept p Trusted = true
 is_kept p Other = true

@@ -96,16 +96,6 @@ abbrev pub longest : List Route → Option Route
 longest [] = None
 longest (r ∷ rs) = longer r (longest rs)
 
--- the longer of what was found before and what is found later
-abbrev pub longest_of : Option Route → Option Route → Option Route
-longest_of None later = later
-longest_of (Some r) later = longer r later
-
--- the longer of what was found before and this route
-abbrev pub better : Option Route → Route → Route
-better None r = r
-better (Some b) r = if nat_lt (length b.name) (length r.name) then r else b
-
 -- the route that names the host, or the longest prefix of the number
 abbrev pub own_route : Uri → List Route → Option Route
 own_route (Sip user host port params headers) rs = named_route host rs

@@ -1,9 +1,9 @@
 //! The table of peers and routes.
-ghost use Rattle.std.specs.Prelude.{◌≡◌, Some, OnOk, OnErr, IfSome, true, [], filter};
+ghost use Rattle.std.specs.Prelude.{◌≡◌, ◌∷◌, ◌++◌, Some, OnOk, OnErr, IfSome, true, [], filter, option_to_list};
 ghost use Rattle.std.specs.Option.{option_map, option_copied};
 ghost use Rattle.mmtel_lex.specs.Identity.{is_mark, reduced};
 ghost use Rattle.mmtel_trust.specs.Faults.{Meets};
-ghost use Rattle.mmtel_trust.specs.Peers.{Peers, peer_fault, route_fault, has_number, has_addr, peer_at, addr_of, is_trusted, is_route, has_name, with_peer, with_route, begins_with, is_prefix, leads, longest, better, named_route, route_of};
+ghost use Rattle.mmtel_trust.specs.Peers.{Peers, peer_fault, route_fault, has_number, has_addr, peer_at, addr_of, is_trusted, is_route, has_name, with_peer, with_route, begins_with, is_prefix, leads, longest, named_route, route_of};
 
 use crate::addrs::Addr;
 use crate::faults::TableFault;
@@ -142,7 +142,7 @@ fn leads(route: &Route, number: &[u8]) -> bool
 
 /// The route of the longer name; the one that was found before where they are as long.
 fn better<'a>(best: Option<&'a Route>, route: &'a Route) -> &'a Route
-    ensures { result.now ≡ better (option_copied best.entry) route.now }
+    ensures { Some result.now ≡ longest (option_to_list (option_copied best.entry) ++ route.now ∷ []) }
 {
     match best {
         None => route,
@@ -155,6 +155,7 @@ fn better<'a>(best: Option<&'a Route>, route: &'a Route) -> &'a Route
 }
 
 /// The peer of the longest prefix with which the number begins.
+#[tactic(auto, using(crate::proofs::Longest::further))]
 fn prefix_peer(routes: &[Route], number: &[u8]) -> Option<Peer>
     ensures { result ≡ option_map (λ r. r.peer) (longest (filter (leads (reduced number.now)) routes.now)) }
 {

@@ -122,13 +122,34 @@ AnotherCaller = due_for (Some configuration) (Some (script (codes "Frank") (code
 abbrev pub MasksAlike : Type 0
 MasksAlike = hide_digest server (Said (peer 1) (heard true of_erin)) ≡ hide_digest server (Said (peer 1) (heard true of_frank))
 
+-- an INVITE that asks for no more than that its history be hidden, with an entry of this URI
+abbrev pub diverted : (uri : List ℕ) → Message Start
+diverted uri = record {
+  start = Request (codes "INVITE") bob;
+  lines =
+      (codes "From", codes "\"Erin\" <sip:erin@other.example>;tag=a") ∷
+      (codes "To", codes "<sip:bob@far.example>") ∷
+      (codes "P-Asserted-Identity", codes "<sip:erin@other.example>") ∷
+      (codes "Subject", codes "lunch") ∷
+      (codes "Privacy", codes "history") ∷
+      (codes "History-Info", codes "<" ++ uri ++ codes ">;index=1.1") ∷ [];
+  body = [];
+}
+
+-- the entry is its one private place: nobody's URI stands there, with the cause, and Subject and asserted identity stay
+abbrev pub HidesHistory : Type 0
+HidesHistory =
+    hide_digest server (Said (peer 1) (heard true (diverted (codes "sip:carol@other.example;cause=302")))) ≡
+    Said (peer 1) (heard true (diverted (codes "sip:anonymous@anonymous.invalid;cause=302")))
+
 -- hops are no private place
 abbrev pub FewerHops : Type 0
 FewerHops = listed (invite bob (codes "10") (codes "Erin") (codes "erin") private) ≡ tried (codes "Erin") (codes "erin") ++ attempted (codes "9")
 
--- of no form that is built: without a word of privacy, without a hop left, to where no route leads, behind another event, from a peer that is not trusted
+-- of no form that is built: without a word of privacy, with a History-Info entry, without a hop left, to where no route leads, behind another event, from a peer that is not trusted
 pub record ComeOutOtherwise : Type 0 where
   pub unrestricted : listed (invite bob (codes "68") (codes "Erin") (codes "erin") []) ≡ unbuilt
+  pub diverted_before : listed (invite bob (codes "68") (codes "Erin") (codes "erin") ((codes "Privacy", codes "id") ∷ (codes "History-Info", codes "<sip:carol@other.example>;index=1") ∷ [])) ≡ unbuilt
   pub hopless : listed (invite bob (codes "0") (codes "Erin") (codes "erin") private) ≡ unbuilt
   pub unrouted : listed (invite (codes "sip:bob@nowhere.example") (codes "68") (codes "Erin") (codes "erin") private) ≡ unbuilt
   pub second : listed_after (Came 0 Unbuilt ∷ []) of_erin ≡ unbuilt

@@ -30,6 +30,9 @@ use Rattle.mmtel_message.specs.declared.fields.Via.{Via}
 use Rattle.mmtel_message.specs.declared.messages.Start.{Start}
 use Rattle.mmtel_message.specs.declared.messages.Start.TheVariants.{Request}
 use Rattle.mmtel_message.specs.declared.values.Mode.TheVariants.{Plain}
+use Rattle.mmtel_history.specs.EntryUri as EntryUri
+use Rattle.mmtel_history.specs.HistoryInfo as History
+use Rattle.mmtel_history.specs.MaskedValues as MaskedValues
 use Rattle.mmtel_trust.specs.Kinds as Kinds
 use Rattle.mmtel_trust.specs.Passed as Passed
 use Rattle.mmtel_trust.specs.Mask as Mask
@@ -47,8 +50,8 @@ use Rattle.mmtel_cli.specs.Run.{Unbuilt, Came, gives, digest_read, offers_of}
 use Rattle.mmtel_cli.specs.Script.{events_of}
 use Rattle.mmtel_cli.specs.declared.due.Due.TheVariants.{Line as BadLine, File, Listing}
 use Rattle.mmtel_cli.specs.declared.events.Event.TheVariants.{Datagram}
-use Rattle.mmtel_cli.specs.Rows.{server, configuration, token, peer, at_port, script, invite, bob, private, of_erin, of_frank, tried, attempted, unbuilt, listed, listed_after, due_for, RestrictedInvite, AnotherCaller, MasksAlike, FewerHops, ComeOutOtherwise, AreRefused}
-use Rattle.mmtel_cli.proofs.Stages.{one_part, Stages, reads_by_stages}
+use Rattle.mmtel_cli_rows.specs.Rows.{server, configuration, token, peer, at_port, script, invite, bob, private, of_erin, of_frank, tried, attempted, unbuilt, listed, listed_after, due_for, RestrictedInvite, AnotherCaller, MasksAlike, HidesHistory, FewerHops, ComeOutOtherwise, AreRefused}
+use Rattle.mmtel_cli_rows.proofs.Stages.{one_part, Stages, reads_by_stages}
 
 -- ---- the message as it is read, by the caller's display and user's name
 
@@ -282,6 +285,10 @@ pub masks_alike : MasksAlike
 unfolding Classes.in_class Numbers.within Numbers.number_of Scanning.run Scanning.after_run Scanning.parted Scanning.closes Scanning.trimmed Reading.token_at Reading.text_at Reading.value_at Reading.param_at Reading.params_at Reading.all_params_at Reading.angle_of Reading.bare_of Reading.words_of Reading.quoted_of Reading.name_addr_of Values.parts Kinds.kind_of Mask.masked_line Mask.hidden Mask.hidden_value Mask.served_value Reading.user_at Reading.host_at Reading.port_number Reading.port_at Reading.headers_of Reading.headers_at Reading.sip_of Reading.scheme_of Reading.uri_of Fields.via_at
 masks_alike = refl
 
+pub hides_history : HidesHistory
+unfolding Fmt.digits Scanning.closes Mask.masked_line Kinds.kind_of Mask.hidden Mask.hidden_value Mask.served_value MaskedValues.masked_value_text MaskedValues.is_marked_value History.entry_of History.is_index History.is_dotted History.shown_uri History.entry_text EntryUri.user_part EntryUri.host_part EntryUri.cause_number EntryUri.cause_of EntryUri.hides EntryUri.is_marked EntryUri.with_cause Numbers.number_of Numbers.within Values.parts Values.parting Reading.name_addr_of Reading.words_of Reading.quoted_of Reading.angle_of Reading.bare_of Reading.all_params_at Reading.params_at Reading.param_at Reading.token_at Reading.value_at Reading.text_at Reading.user_at Reading.host_at Reading.port_number Reading.port_at Reading.headers_of Reading.headers_at Reading.sip_of Reading.scheme_of Reading.number_at Reading.tel_of Reading.uri_of Classes.in_class Scanning.run Scanning.after_run Scanning.trimmed Scanning.parted
+hides_history = refl
+
 pub fewer_hops : FewerHops
 unfolding Fmt.digits Classes.in_class Numbers.within Numbers.number_of Scanning.run Scanning.after_run Scanning.parted Scanning.closes Scanning.trimmed Reading.token_at Reading.text_at Reading.value_at Reading.param_at Reading.params_at Reading.all_params_at Reading.user_at Reading.host_at Reading.port_number Reading.port_at Reading.headers_of Reading.headers_at Reading.sip_of Reading.scheme_of Reading.uri_of Reading.angle_of Reading.bare_of Reading.words_of Reading.quoted_of Reading.name_addr_of Fields.via_at Values.parts Kinds.kind_of Passed.is_shown Forms.after_form Forms.is_via_from Forms.is_sip_uri Forms.is_sip_name Forms.is_untagged Forms.is_first_form HeaderLines.line Run.target_of Run.offers_of
 fewer_hops = refl
@@ -289,6 +296,10 @@ fewer_hops = refl
 unrestricted : listed (invite bob (codes "68") (codes "Erin") (codes "erin") []) ≡ unbuilt
 unfolding Fmt.digits Classes.in_class Numbers.within Numbers.number_of Scanning.run Scanning.after_run Scanning.parted Scanning.closes Scanning.trimmed Reading.token_at Reading.text_at Reading.value_at Reading.param_at Reading.params_at Reading.all_params_at Reading.user_at Reading.host_at Reading.port_number Reading.port_at Reading.headers_of Reading.headers_at Reading.sip_of Reading.scheme_of Reading.uri_of Reading.angle_of Reading.bare_of Reading.words_of Reading.quoted_of Reading.name_addr_of Fields.via_at Values.parts Kinds.kind_of Passed.is_shown Forms.after_form Forms.is_via_from Forms.is_sip_uri Forms.is_sip_name Forms.is_untagged Forms.is_first_form HeaderLines.line Run.target_of Run.offers_of
 unrestricted = refl
+
+diverted_before : listed (invite bob (codes "68") (codes "Erin") (codes "erin") ((codes "Privacy", codes "id") ∷ (codes "History-Info", codes "<sip:carol@other.example>;index=1") ∷ [])) ≡ unbuilt
+unfolding Fmt.digits Classes.in_class Numbers.within Numbers.number_of Scanning.run Scanning.after_run Scanning.parted Scanning.closes Scanning.trimmed Reading.token_at Reading.text_at Reading.value_at Reading.param_at Reading.params_at Reading.all_params_at Reading.user_at Reading.host_at Reading.port_number Reading.port_at Reading.headers_of Reading.headers_at Reading.sip_of Reading.scheme_of Reading.uri_of Reading.angle_of Reading.bare_of Reading.words_of Reading.quoted_of Reading.name_addr_of Fields.via_at Values.parts Kinds.kind_of Passed.is_shown Forms.after_form Forms.is_via_from Forms.is_sip_uri Forms.is_sip_name Forms.is_untagged Forms.is_first_form HeaderLines.line Run.target_of Run.offers_of
+diverted_before = refl
 
 hopless : listed (invite bob (codes "0") (codes "Erin") (codes "erin") private) ≡ unbuilt
 unfolding Fmt.digits Classes.in_class Numbers.within Numbers.number_of Scanning.run Scanning.after_run Scanning.parted Scanning.closes Scanning.trimmed Reading.token_at Reading.text_at Reading.value_at Reading.param_at Reading.params_at Reading.all_params_at Reading.user_at Reading.host_at Reading.port_number Reading.port_at Reading.headers_of Reading.headers_at Reading.sip_of Reading.scheme_of Reading.uri_of Reading.angle_of Reading.bare_of Reading.words_of Reading.quoted_of Reading.name_addr_of Fields.via_at Values.parts Kinds.kind_of Passed.is_shown Forms.after_form Forms.is_via_from Forms.is_sip_uri Forms.is_sip_name Forms.is_untagged Forms.is_first_form HeaderLines.line Run.target_of Run.offers_of
@@ -330,7 +341,7 @@ unfolding Classes.in_class Numbers.within Numbers.number_of Scanning.parted Dire
 no_event = refl
 
 pub come_out_otherwise : ComeOutOtherwise
-come_out_otherwise = record { unrestricted = unrestricted; hopless = hopless; unrouted = unrouted; second = second; untrusted = untrusted }
+come_out_otherwise = record { unrestricted = unrestricted; diverted_before = diverted_before; hopless = hopless; unrouted = unrouted; second = second; untrusted = untrusted }
 
 pub are_refused : AreRefused
 are_refused = record { third_line = third_line; no_script = no_script; script_line = script_line; no_peer = no_peer; no_config = no_config; no_event = no_event }

@@ -1,5 +1,5 @@
 -- How many transactions are opened, and their numbers.
-use Rattle.std.proofs.Common.{◌≡◌, ℕ, zero, suc, ◌+◌, ◌*◌, ◌^◌, ◌≤◌, ◌<◌, List, [], ◌∷◌, ◌++◌, length, refl, sym, ap, arith, length-append, inl, inr}
+use Rattle.std.proofs.Common.{◌≡◌, ℕ, zero, suc, ◌+◌, ◌≤◌, List, [], ◌∷◌, ◌++◌, length, refl, sym, ap, arith, length-append}
 use Rattle.std.specs.Prelude.{Some, slice_get}
 use Rattle.std.proofs.lemmas.Option.{none-some, same_Some}
 use Rattle.mmtel_types.specs.declared.numbers.Peer.{Peer}
@@ -9,8 +9,7 @@ use Rattle.mmtel_transaction.specs.declared.entries.Entry.{Entry}
 use Rattle.mmtel_transaction.specs.declared.parts.Part.{Part}
 use Rattle.mmtel_transaction.specs.declared.parts.Part.TheVariants as part
 use Rattle.mmtel_transaction.specs.Calls.{Done, DidBegin, DidHear, DidAsk, DidReply, DidAck, DidFire, heard_opens, live, offers, opened, opens, step_of}
-use Rattle.mmtel_transaction.specs.Stands.{HasRoom}
-use Rattle.mmtel_transaction.specs.Laws.{FewAreOpened, NumbersCount, NumbersDiffer, RoomIsLeft, asked_in, heard_in}
+use Rattle.mmtel_transaction.specs.Laws.{FewAreOpened, NumbersCount, NumbersDiffer, RoomIsLeft}
 use Rattle.mmtel_transaction.proofs.Lists.{Rising, rising}
 
 few_heard : (s k : ℕ) (p : Peer) (m : Message Start) (now : ℕ) (t : Part) → length (heard_opens s k p m now t) ≤ 1

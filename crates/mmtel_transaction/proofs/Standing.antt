@@ -1,5 +1,5 @@
 -- What the transactions stand for after one more call.
-use Rattle.std.proofs.Common.{◌≡◌, ℕ, suc, ◌+◌, ◌-◌, ◌≤◌, ◌<◌, ◌^◌, List, [], ◌∷◌, ◌++◌, length, refl, true, false, Bool, sym, ap, ◌∙◌, arith, map, cond, subst, append-nil, length-append, inl, inr}
+use Rattle.std.proofs.Common.{◌≡◌, ℕ, ◌+◌, ◌-◌, ◌<◌, ◌^◌, List, [], ◌∷◌, ◌++◌, length, refl, true, false, Bool, sym, ap, ◌∙◌, arith, map, cond, subst, append-nil, length-append, inl, inr}
 use Rattle.std.specs.Prelude.{Some, filter, min}
 use Rattle.std.proofs.Math.Nat.{min-eq_left, min-eq_right}
 use Rattle.std.proofs.lemmas.Bool.{cases_lt}
@@ -10,13 +10,12 @@ use Rattle.mmtel_transaction.specs.Heads.{head_of}
 use Rattle.mmtel_transaction.specs.declared.heads.Head.{Head}
 use Rattle.mmtel_transaction.specs.declared.entries.Entry.{Entry}
 use Rattle.mmtel_transaction.specs.declared.entries.Plan.TheVariants.{End}
-use Rattle.mmtel_transaction.specs.declared.parts.Part.{Part}
 use Rattle.mmtel_transaction.specs.declared.parts.Part.TheVariants as part
 use Rattle.mmtel_transaction.specs.declared.table.Found.{Found}
 use Rattle.mmtel_transaction.specs.declared.words.Due.{Due}
 use Rattle.mmtel_transaction.specs.declared.transactions.Transactions.{Transactions}
 use Rattle.mmtel_transaction.specs.Changes.{fired, hit, acked_2xx, is_ack_of}
-use Rattle.mmtel_transaction.specs.Calls.{Done, DidBegin, DidHear, DidAsk, DidReply, DidAck, DidFire, offers, step_of, opens, opened, live, is_live, change, entry_of}
+use Rattle.mmtel_transaction.specs.Calls.{Done, DidHear, DidFire, offers, step_of, opens, opened, live, is_live, change, entry_of}
 use Rattle.mmtel_transaction.specs.Answers.{next_due, fires, part_of, says_due}
 use Rattle.mmtel_transaction.specs.Runs.{IsRun}
 use Rattle.mmtel_transaction.specs.Table.{settle, found_of}

@@ -19,7 +19,13 @@ fn write(alloc: Global, out: &mut Output, front: &[u8], given: &[u8], usual: &[u
 /// Writes the start line of a request, or of a response with this status.
 fn write_start(alloc: Global, out: &mut Output, status: &[u8], method: &[u8]) {
     if status.is_empty() {
-        write(alloc, out, method, b" sip:bob@home.example SIP/2.0\r\n", b"");
+        write(
+            alloc,
+            out,
+            method,
+            b" sip:bob@home.example SIP/2.0\r\n",
+            b"",
+        );
     } else {
         write(alloc, out, b"SIP/2.0 ", status, b"");
         out.write(alloc, b" Status\r\n");
@@ -36,8 +42,20 @@ fn write_lines(alloc: Global, out: &mut Output, method: &[u8], words: &[u8]) {
     let (number, _) = before(b'/', words);
     write(alloc, out, b"Via: SIP/2.0/UDP ", sent_by, b"127.0.0.1:5071");
     write(alloc, out, b";branch=z9hG4bK", branch, b"");
-    write(alloc, out, b"\r\nFrom: <sip:alice@home.example>;tag=", from_tag, b"f");
-    write(alloc, out, b"\r\nTo: <sip:bob@home.example>;tag=", to_tag, b"t");
+    write(
+        alloc,
+        out,
+        b"\r\nFrom: <sip:alice@home.example>;tag=",
+        from_tag,
+        b"f",
+    );
+    write(
+        alloc,
+        out,
+        b"\r\nTo: <sip:bob@home.example>;tag=",
+        to_tag,
+        b"t",
+    );
     write(alloc, out, b"\r\nCall-ID: ", call_id, b"c");
     write(alloc, out, b"\r\nCSeq: ", number, b"1");
     write(alloc, out, b" ", method, b"");

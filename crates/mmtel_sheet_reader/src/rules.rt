@@ -2,7 +2,7 @@
 ghost use Rattle.std.specs.Prelude.{◌≡◌, [], codes, nat_lt, ◌&&◌, not, Ok, IfOk};
 ghost use Rattle.toml.specs.View.{view, table_view, array_view};
 ghost use Rattle.mmtel_sheet_grammar.specs.Answers.{Answers, then_do};
-ghost use Rattle.mmtel_sheet_grammar.specs.Keys.{rule_key_of};
+ghost use Rattle.mmtel_sheet_grammar.specs.Keys.{rule_key_of, rule_path};
 ghost use Rattle.mmtel_sheet_grammar.specs.Rules.{has_key, no_keys, with_notice, event_read, except_read, one_read, from_read, until_read, key_read, listed, rule_key_read, who_of, condition_of, forward_read, allow_read, action_of, keys_of_rule, rule_of, are_tables, items_count, rules_from, rules_of, rules_at};
 ghost use Rattle.mmtel_sheet_grammar.specs.Sound.{IsSound, IsSoundArray, IsSoundTable};
 
@@ -372,6 +372,21 @@ fn rule(alloc: Global, service: Service, path: &[u8], table: &Table) -> Result<R
     Ok(Rule { condition, action })
 }
 
+/// The rule with this number.
+fn numbered_rule(
+    alloc: Global,
+    service: Service,
+    path: &[u8],
+    number: usize,
+    table: &Table,
+) -> Result<Rule, SheetFault>
+    ensures exact { Answers (rule_of service (rule_path path.now number) (table_view table.now)) result }
+    ensures sound { IfOk result (λ _. IsSoundTable (table_view table.now)) }
+{
+    let path = rule_path(alloc, path, number)?;
+    rule(alloc, service, path.bytes(), table)
+}
+
 fn are_tables(items: &Array) -> bool
     ensures { result ≡ are_tables (array_view items.now) }
 {
@@ -398,8 +413,8 @@ fn each_rule(
         let Value::Table(table) = item else {
             return wrong(alloc, path);
         };
-        let path = rule_path(alloc, path, rules.items().len())?;
-        rules.push(alloc, rule(alloc, service, path.bytes(), table)?)?;
+        let rule = numbered_rule(alloc, service, path, rules.items().len(), table)?;
+        rules.push(alloc, rule)?;
     }
     Ok(rules)
 }

@@ -10,7 +10,7 @@ use Rattle.mmtel_trust.specs.Privacy.{Line}
 use Rattle.mmtel_trust.specs.declared.addrs.Addr.{Addr}
 use Rattle.mmtel_cli.specs.Due.{due_of}
 use Rattle.mmtel_cli.specs.Listing.{listing_of}
-use Rattle.mmtel_cli.specs.Mask.{hide_digest}
+use Rattle.mmtel_cli.specs.Mask.{hide_said, hide_digest}
 use Rattle.mmtel_cli.specs.Run.{Said, Unbuilt, Step, Came, digest_read, gives, offers_of}
 use Rattle.mmtel_cli.specs.declared.directories.Directory.{Directory}
 use Rattle.mmtel_cli.specs.declared.due.Due.{Due}
@@ -127,9 +127,9 @@ abbrev pub diverted : (uri : List ℕ) → Message Start
 diverted uri = record {
   start = Request (codes "INVITE") bob;
   lines =
-      (codes "From", codes "\"Erin\" <sip:erin@other.example>;tag=a") ∷
+      (codes "From", codes "\"Erin\" <sip:e@h>;tag=a") ∷
       (codes "To", codes "<sip:bob@far.example>") ∷
-      (codes "P-Asserted-Identity", codes "<sip:erin@other.example>") ∷
+      (codes "P-Asserted-Identity", codes "<sip:e@h>") ∷
       (codes "Subject", codes "lunch") ∷
       (codes "Privacy", codes "history") ∷
       (codes "History-Info", codes "<" ++ uri ++ codes ">;index=1.1") ∷ [];
@@ -138,9 +138,7 @@ diverted uri = record {
 
 -- the entry is its one private place: nobody's URI stands there, with the cause, and Subject and asserted identity stay
 abbrev pub HidesHistory : Type 0
-HidesHistory =
-    hide_digest server (Said (peer 1) (heard true (diverted (codes "sip:carol@other.example;cause=302")))) ≡
-    Said (peer 1) (heard true (diverted (codes "sip:anonymous@anonymous.invalid;cause=302")))
+HidesHistory = (hide_said true (heard true (diverted (codes "sip:carol@other.example;cause=302")))).lines ≡ (diverted (codes "sip:anonymous@anonymous.invalid;cause=302")).lines
 
 -- hops are no private place
 abbrev pub FewerHops : Type 0

@@ -267,15 +267,7 @@ fn keys_of_rule(
 {
     let mut draft = no_keys();
     'members: for (key, value) in table.iter() {
-        read_name(
-            alloc,
-            service,
-            table,
-            path,
-            &mut draft,
-            key.as_str(),
-            value,
-        )?;
+        read_name(alloc, service, table, path, &mut draft, key.as_str(), value)?;
     }
     Ok(draft)
 }

@@ -12,6 +12,7 @@ use Rattle.mmtel_message.specs.Fields as Fields
 use Rattle.mmtel_message.specs.Values as Values
 use Rattle.mmtel_message.specs.Expansion as Expansion
 use Rattle.mmtel_message.specs.Entries as Entries
+use Rattle.mmtel_message.specs.Faults as Faults
 use Rattle.mmtel_message.specs.Headers as Headers
 use Rattle.mmtel_message.specs.Lines as Lines
 use Rattle.mmtel_message.specs.Starts as Starts

@@ -8,9 +8,7 @@ ghost use Rattle.mmtel_leg.specs.Addresses.{contact_text, via_text};
 ghost use Rattle.mmtel_leg.specs.Lines.{line, pair_of};
 ghost use Rattle.mmtel_cli.specs.Openings.{trying, hops_left, hops_in, is_hiding, facing, to_text, sender_lines, dialog_lines, attempt_lines, attempt};
 
-use mmtel_leg::{
-    add_bytes, add_decimal, add_line, contact_text, request_uri, via_text,
-};
+use mmtel_leg::{add_bytes, add_decimal, add_line, contact_text, request_uri, via_text};
 use mmtel_lex::{LexFault, List, NameAddr, print_name_addr, read_name_addr};
 use mmtel_message::{Msg, Start, first_of, reply_with};
 use mmtel_scan::{NoMemory, Text, number_up_to, token_text};

@@ -16,8 +16,8 @@ fn addr(port: u16) -> Addr {
     }
 }
 
-fn moment(ms: u64) -> Moment {
-    match Moment::new(ms) {
+fn moment(ms: u8) -> Moment {
+    match Moment::new(u64::from(ms)) {
         Some(moment) => moment,
         None => unreachable!(),
     }

@@ -1,0 +1,12 @@
+use Rattle.std.proofs.Common.{refl, arith}
+use Rattle.mmtel_http.proofs.Routing.{answer}
+use Rattle.matchit.proofs.OnLiterals.{matchit_on_literals}
+use Rattle.mmtel_http.proofs.routes.routed.Goals as goal
+
+pub returns : goal.returns
+unfolding matchit_on_literals
+returns c =
+    let a = c.in_ok-insert.ensures in
+    let b = c.in_ok-insert-2.ensures in
+    let found = rw (b.1, a.1, c.new-router.ensures) at c.matched.ensures in
+    answer _ _ c.args.path.now c.matched.result (λ i. omega (arith, c.type_inv.path i)) refl refl found

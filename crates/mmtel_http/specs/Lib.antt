@@ -1,0 +1,5 @@
+pub mod Heads
+pub mod Requests
+pub mod Seen
+pub mod Replies
+pub mod Places

@@ -1,0 +1,71 @@
+-- What a request target names, and which methods the server knows there (RFC 9110 §7.1 and §9.3): the charging rows, or the service record of an account by its number.
+use Rattle.std.specs.Prelude.{ℕ, ◌==◌, ◌&&◌, ◌-◌, ◌^◌, Bool, true, false, not, List, [], ◌∷◌, length, Some, None, if◌then◌else◌, nat_lt, codes}
+use Rattle.std.specs.declared.option.Option.{Option}
+use Rattle.std.specs.List.{list_all}
+use Rattle.std.specs.Option.{option_map}
+use Rattle.std.specs.Str.{bytes_eq, is_utf8}
+use Rattle.mmtel_scan.specs.Classes.{in_class}
+use Rattle.mmtel_scan.specs.declared.classes.Class.TheVariants.{Digit}
+use Rattle.mmtel_scan.specs.Numbers.{number_of}
+use Rattle.mmtel_scan.specs.Scanning.{after_text}
+use Rattle.mmtel_types.specs.declared.numbers.Account.{Account}
+use Rattle.mmtel_http.specs.declared.places.Place.{Place}
+use Rattle.mmtel_http.specs.declared.places.Place.TheVariants as place
+use Rattle.mmtel_http.specs.declared.places.Method.{Method}
+use Rattle.mmtel_http.specs.declared.places.Method.TheVariants as method
+use Rattle.mmtel_http.specs.declared.routes.Route.{Route}
+use Rattle.mmtel_http.specs.declared.routes.Route.TheVariants as route
+
+-- a zero in front of other digits
+abbrev pub leads_zero : List ℕ → Bool
+leads_zero [] = false
+leads_zero (b ∷ []) = false
+leads_zero (b ∷ c ∷ s) = b == 48
+
+-- a number in decimal, without zeros in front
+abbrev pub is_decimal : List ℕ → Bool
+is_decimal s = not (leads_zero s) && (nat_lt 0 (length s) && list_all (in_class Digit) s)
+
+abbrev pub account : ℕ → Account
+account number = record { 0 = number }
+
+-- the account of this number, where it is one that an account can have
+abbrev pub account_of : List ℕ → Option Account
+account_of digits = option_map account (number_of (2 ^ 32 - 1) digits)
+
+-- a place by what stands behind `/simservs/`: the record of the account of this number
+abbrev pub numbered : Option (List ℕ) → Place
+numbered None = place.Elsewhere
+numbered (Some digits) = if is_decimal digits then place.Sheet (account_of digits) else place.Elsewhere
+
+-- the place of a path, byte for byte
+abbrev pub path_place : List ℕ → Place
+path_place path = if bytes_eq path (codes "/charges") then place.Charges else numbered (after_text (codes "/simservs/") path)
+
+-- the place of a target: one that is not UTF-8, which no head has, names nothing
+abbrev pub place_of : List ℕ → Place
+place_of target = if is_utf8 target then path_place target else place.Elsewhere
+
+-- the method of a name, byte for byte
+abbrev pub method_of : List ℕ → Method
+method_of name =
+    if bytes_eq name (codes "GET") then method.Get
+    else if bytes_eq name (codes "PUT") then method.Put
+    else if bytes_eq name (codes "DELETE") then method.Delete
+    else method.Other
+
+-- ---- used between the functions of this crate alone
+
+abbrev pub has_slash : List ℕ → Bool
+has_slash [] = false
+has_slash (b ∷ s) = if b == 47 then true else has_slash s
+
+-- the route of a record, where one segment stands behind `/simservs/`
+abbrev pub sheet_route : Option (List ℕ) → Option Route
+sheet_route None = None
+sheet_route (Some []) = None
+sheet_route (Some (b ∷ s)) = if has_slash (b ∷ s) then None else Some route.Sheet
+
+-- the route of a path
+abbrev pub route_of : List ℕ → Option Route
+route_of path = if bytes_eq path (codes "/charges") then Some route.Charges else sheet_route (after_text (codes "/simservs/") path)

@@ -1,0 +1,16 @@
+//! HTTP requests and replies (RFC 9112): whether bytes are a whole request, and what it asks, of which place and by which method; the text of a reply.
+#![tactic(auto)]
+
+mod ends;
+mod fields;
+pub mod laws;
+mod places;
+mod replies;
+mod requests;
+mod routes;
+mod wholes;
+
+pub use places::{Method, Place, method_of, place_of};
+pub use replies::reply_text;
+pub use requests::{Asked, Request, look, whole};
+pub use wholes::Whole;

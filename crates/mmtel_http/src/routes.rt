@@ -1,0 +1,51 @@
+//! The routes of the server.
+ghost use Rattle.std.specs.Prelude.{◌≡◌, MatchOption, IfOk, Some, None};
+ghost use Rattle.matchit.specs.Seek.{first};
+ghost use Rattle.mmtel_http.specs.Places.{route_of};
+
+use matchit::{InsertError, Router};
+use mmtel_scan::NoMemory;
+use std::alloc::Global;
+
+/// A route of the server.
+#[derive(Clone, Copy, Debug, PartialEq, Eq)]
+pub enum Route {
+    /// The charging rows.
+    Charges,
+    /// The service record of an account.
+    Sheet,
+}
+
+/// The route that a router gives for a path.
+fn matched(router: &Router<Route>, path: &str) -> Option<Route>
+    ensures { MatchOption (first router.now path.now) (result ≡ None) (λ route. result ≡ Some route.value) }
+{
+    match router.at(path) {
+        Ok(found) => Some(*found.value),
+        Err(_) => None,
+    }
+}
+
+/// The route of a path, by a router of all routes.
+fn routed(alloc: Global, path: &str) -> Result<Option<Route>, InsertError>
+    ensures { IfOk result (λ route. route ≡ route_of path.now) }
+{
+    let mut router = Router::new(alloc);
+    router.insert("/charges", Route::Charges)?;
+    router.insert("/simservs/{account}", Route::Sheet)?;
+    Ok(matched(&router, path))
+}
+
+/// The route of a path.
+///
+/// # Errors
+///
+/// Want of memory alone: the routes do not conflict.
+pub fn route_of(alloc: Global, path: &str) -> Result<Option<Route>, NoMemory>
+    ensures { IfOk result (λ route. route ≡ route_of path.now) }
+{
+    match routed(alloc, path) {
+        Ok(route) => Ok(route),
+        Err(_) => Err(NoMemory),
+    }
+}

@@ -1,0 +1,105 @@
+//! Where service records and charging rows are kept.
+ghost use Rattle.std.specs.Prelude.{◌≡◌, ℕ, Option};
+ghost use Rattle.mmtel_keeper.specs.Causes.{HasKeepCause};
+ghost use Rattle.mmtel_keeper.specs.Kept.{Held, KeeperCalls, IsCall, IsBind, Becomes, Tells, with_sheet, with_rows};
+
+use mmtel_charging::Row;
+use mmtel_scan::{List, NoMemory, Text};
+use mmtel_types::Account;
+use std::alloc::Global;
+
+/// Why a call of a keeper did not do what it was asked.
+#[derive(Clone, Copy, Debug, PartialEq, Eq)]
+pub enum KeepFault {
+    /// The keeper could not. It was counted.
+    Failed,
+    /// Memory ran out. It was not counted.
+    NoMemory,
+}
+
+/// Where service records and charging rows are kept, with a count of faults.
+///
+/// A call that answers a fault changes no sheet and no row that is told.
+pub trait Keeper {
+    /// The sheets and the rows that it holds, where that is told.
+    ghost held: { Self → Option Held };
+
+    /// The path bound last, the number of calls so far and the numbers of those that fail, where that is told.
+    ghost calls: { Self → Option KeeperCalls };
+
+    /// How many calls answered `Failed`. It never falls, and stays at the greatest u64.
+    ghost faults: { Self → ℕ };
+
+    /// Takes what is kept at a path. It changes no sheet and no row that is told.
+    ///
+    /// # Errors
+    ///
+    /// `Failed` only where the count of faults rose in this call; `NoMemory` leaves the count.
+    fn bind(&mut self, alloc: Global, path: &[u8]) -> Result<(), KeepFault>
+        ensures same { held self.new ≡ held self.old }
+        ensures calls { IsBind (calls self.old) (calls self.new) path.now result }
+        ensures cause { HasKeepCause (faults self.old) (faults self.new) result };
+
+    /// The sheets that it holds: each account that has one, and its text.
+    ///
+    /// # Errors
+    ///
+    /// As of `bind`.
+    fn load(&mut self, alloc: Global) -> Result<List<(Account, Text)>, KeepFault>
+        ensures same { held self.new ≡ held self.old }
+        ensures told { Tells (held self.old) (λ h. h.sheets) result }
+        ensures calls { IsCall (calls self.old) (calls self.new) result }
+        ensures cause { HasKeepCause (faults self.old) (faults self.new) result };
+
+    /// Puts a sheet in the place of the account's.
+    ///
+    /// # Errors
+    ///
+    /// As of `bind`.
+    fn store(&mut self, alloc: Global, account: Account, text: &[u8]) -> Result<(), KeepFault>
+        ensures changed { Becomes (held self.old) (held self.new) (with_sheet account text.now) result }
+        ensures calls { IsCall (calls self.old) (calls self.new) result }
+        ensures cause { HasKeepCause (faults self.old) (faults self.new) result };
+
+    /// Adds rows behind those that it holds, all or none.
+    ///
+    /// # Errors
+    ///
+    /// As of `bind`.
+    fn add_rows(&mut self, alloc: Global, rows: &[Row]) -> Result<(), KeepFault>
+        ensures changed { Becomes (held self.old) (held self.new) (with_rows rows.now) result }
+        ensures calls { IsCall (calls self.old) (calls self.new) result }
+        ensures cause { HasKeepCause (faults self.old) (faults self.new) result };
+
+    /// The rows that it holds, in the order in which they were added.
+    ///
+    /// # Errors
+    ///
+    /// As of `bind`.
+    fn rows(&mut self, alloc: Global) -> Result<List<Row>, KeepFault>
+        ensures same { held self.new ≡ held self.old }
+        ensures told { Tells (held self.old) (λ h. h.rows) result }
+        ensures calls { IsCall (calls self.old) (calls self.new) result }
+        ensures cause { HasKeepCause (faults self.old) (faults self.new) result };
+}
+
+impl From<NoMemory> for KeepFault {
+    ghost use Rattle.mmtel_keeper.specs.declared.keepers.KeepFault.TheVariants as fault;
+
+    ghost from_gives = { λ _ e. e ≡ fault.NoMemory };
+
+    fn from(_error: NoMemory) -> KeepFault {
+        KeepFault::NoMemory
+    }
+}
+
+/// What a refused `List::push` hands back is let go, so that `?` works on it.
+impl<T: Drop> From<(T, NoMemory)> for KeepFault {
+    ghost use Rattle.mmtel_keeper.specs.declared.keepers.KeepFault.TheVariants as fault;
+
+    ghost from_gives = { λ _ e. e ≡ fault.NoMemory };
+
+    fn from(_refused: (T, NoMemory)) -> KeepFault {
+        KeepFault::NoMemory
+    }
+}

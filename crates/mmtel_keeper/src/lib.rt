@@ -1,0 +1,8 @@
+//! Keeping service records and charging rows: what a keeper is, and one in memory.
+#![tactic(auto)]
+
+mod keepers;
+mod memory;
+
+pub use keepers::{KeepFault, Keeper};
+pub use memory::MemoryKeeper;

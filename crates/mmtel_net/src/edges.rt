@@ -1,0 +1,189 @@
+//! The sockets with the web connections that wait, of which no clause says what comes.
+ghost use Rattle.std.specs.Prelude.{◌≤◌, length, IfOk};
+
+use crate::connections::{Connection, Found, find_due};
+use crate::sockets::{Sockets, clock};
+use mmtel_link::Arrival;
+use mmtel_scan::{List, Text};
+use mmtel_trust::Addr;
+use mmtel_types::Moment;
+use std::alloc::Global;
+use std::io;
+use std::io::ErrorKind;
+use std::net::SocketAddr;
+use std::time::Instant;
+
+/// The web connections that are read side by side, at most: further ones wait in the listener.
+const CONNECTIONS: usize = 64;
+
+/// The sockets, the connections that are not announced yet, and the one that was announced last.
+#[derive(Drop)]
+pub struct Edge<'a> {
+    rt: &'a HostRuntime,
+    sockets: Option<Sockets>,
+    waiting: List<Connection>,
+    connection: Option<Connection>,
+    buffer: [u8; 16_385],
+    web_first: bool,
+}
+
+/// A datagram as an arrival. The buffer holds one byte more than a datagram may have, so one that was cut is too large still.
+fn arrival(alloc: Global, from: SocketAddr, at: Moment, bytes: &[u8]) -> Arrival {
+    let SocketAddr::V4(from) = from else {
+        return Arrival::Quiet { at };
+    };
+    let from = Addr {
+        ip: from.ip().octets(),
+        port: from.port(),
+    };
+    match Text::of(alloc, bytes) {
+        Ok(bytes) => Arrival::Datagram { from, at, bytes },
+        Err(_) => Arrival::NoMemory,
+    }
+}
+
+fn not_connected() -> io::Error {
+    io::Error::from(ErrorKind::NotConnected)
+}
+
+impl<'a> Edge<'a> {
+    pub fn new(rt: &'a HostRuntime) -> Edge<'a> {
+        Edge {
+            rt,
+            sockets: None,
+            waiting: List::new(),
+            connection: None,
+            buffer: [0; 16_385],
+            web_first: true,
+        }
+    }
+
+    /// Binds the addresses, in the place of those that were bound before.
+    pub fn bind(&mut self, sip: Addr, web: Addr) -> io::Result<()> {
+        self.sockets = None;
+        let sockets = Sockets::bind(self.rt, sip, web)?;
+        self.sockets = Some(sockets);
+        Ok(())
+    }
+
+    /// Takes a web connection that has come, if there is room; true where memory ran out.
+    fn accept(&mut self, alloc: Global) -> io::Result<bool> {
+        let Some(sockets) = &self.sockets else {
+            return Err(not_connected());
+        };
+        if self.waiting.items().len() >= CONNECTIONS {
+            return Ok(false);
+        }
+        let Some(stream) = sockets.stream()? else {
+            return Ok(false);
+        };
+        let came = Instant::now(self.rt)?;
+        Ok(
+            self.waiting
+                .push(alloc, Connection::new(stream, came))
+                .is_err(),
+        )
+    }
+
+    /// A web connection that is due.
+    fn web(&mut self, alloc: Global) -> io::Result<Option<Arrival>> {
+        if self.accept(alloc)? {
+            return Ok(Some(Arrival::NoMemory));
+        }
+        match find_due(&mut self.waiting, self.rt, alloc, &mut self.buffer) {
+            Found::Nothing => Ok(None),
+            Found::NoMemory => Ok(Some(Arrival::NoMemory)),
+            Found::One(connection) => {
+                let at = clock(self.rt)?;
+                self.connection = Some(connection);
+                Ok(Some(Arrival::Web { at }))
+            }
+        }
+    }
+
+    /// A datagram.
+    fn datagram(&mut self, alloc: Global) -> io::Result<Option<Arrival>> {
+        let Some(sockets) = &self.sockets else {
+            return Err(not_connected());
+        };
+        match sockets.datagram(&mut self.buffer)? {
+            None => Ok(None),
+            Some((count, from)) => {
+                let at = clock(self.rt)?;
+                Ok(Some(arrival(alloc, from, at, &self.buffer[..count])))
+            }
+        }
+    }
+
+    /// What has come, if anything: in turns a connection or a datagram comes first, so that neither keeps the other back.
+    fn come(&mut self, alloc: Global) -> io::Result<Option<Arrival>> {
+        self.web_first = !self.web_first;
+        if self.web_first {
+            match self.web(alloc)? {
+                Some(arrival) => Ok(Some(arrival)),
+                None => self.datagram(alloc),
+            }
+        } else {
+            match self.datagram(alloc)? {
+                Some(arrival) => Ok(Some(arrival)),
+                None => self.web(alloc),
+            }
+        }
+    }
+
+    /// Waits for a datagram or a connection.
+    fn wait(&self, ms: i32) {
+        if let Some(sockets) = &self.sockets {
+            sockets.wait(ms);
+        }
+    }
+
+    /// What comes within 50 ms. While connections wait they are looked at every 5 ms.
+    pub fn next(&mut self, alloc: Global) -> io::Result<Arrival> {
+        self.connection = None;
+        let (turns, ms) = if self.waiting.items().is_empty() {
+            (1, 50)
+        } else {
+            (10, 5)
+        };
+        for _ in 0..turns {
+            if let Some(arrival) = self.come(alloc)? {
+                return Ok(arrival);
+            }
+            self.wait(ms);
+        }
+        match self.come(alloc)? {
+            Some(arrival) => Ok(arrival),
+            None => {
+                let at = clock(self.rt)?;
+                Ok(Arrival::Quiet { at })
+            }
+        }
+    }
+
+    /// Hands out what was read of the connection that was announced last.
+    pub fn read(&mut self, buf: &mut [u8]) -> io::Result<usize>
+        ensures { IfOk result (λ n. n ≤ length buf.new) }
+    {
+        match &mut self.connection {
+            Some(connection) => connection.hand(buf),
+            None => Ok(0),
+        }
+    }
+
+    /// Replies on it.
+    pub fn reply(&self, bytes: &[u8]) -> io::Result<()> {
+        match &self.connection {
+            Some(connection) => connection.reply(bytes),
+            None => Err(not_connected()),
+        }
+    }
+
+    /// Sends a datagram.
+    pub fn send(&self, to: Addr, bytes: &[u8]) -> io::Result<()> {
+        match &self.sockets {
+            Some(sockets) => sockets.send(to, bytes),
+            None => Err(not_connected()),
+        }
+    }
+}

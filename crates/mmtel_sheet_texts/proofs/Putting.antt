@@ -1,0 +1,63 @@
+-- A sheet is put where its account stands first, or behind the others.
+use Rattle.std.proofs.Common.{◌≡◌, Bool, true, false, ℕ, suc, ◌+◌, ◌==◌, List, [], ◌∷◌, ◌++◌, length, Option, Some, None, refl, ap, subst, nat_lt, slice_set, arith, inl, inr}
+use Rattle.std.proofs.lemmas.Bool.{cases_Bool}
+use Rattle.std.specs.Prelude.{position}
+use Rattle.std.specs.List.{position_or_len}
+use Rattle.std.specs.Option.{option_map}
+use Rattle.std.proofs.lemmas.Bool.Decides.{nat_tests}
+use Rattle.mmtel_types.specs.declared.numbers.Account.{Account}
+use Rattle.mmtel_sheet_texts.specs.Texts.{put}
+
+position_yes : {X : Type 0} (p : X → Bool) (x : X) (xs : List X) → p x ≡ true → position p (x ∷ xs) ≡ Some 0
+position_yes p x xs e =
+    let low : nat_lt 0 (suc (length xs)) ≡ true = grind (arith, nat_tests) in
+    rw (e, low) refl
+
+position_no : {X : Type 0} (p : X → Bool) (x : X) (xs : List X) → p x ≡ false → position p (x ∷ xs) ≡ option_map (λ n. n + 1) (position p xs)
+position_no p x xs e =
+    let a : ℕ = position_or_len p xs in
+    elim (cases_Bool (nat_lt a (length xs))) [
+      | inl y ↦
+          let low : nat_lt (1 + a) (suc (length xs)) ≡ true = grind (arith, nat_tests, y) in
+          rw (e, low, y) (ap (λ (n : ℕ). Some n) (omega arith))
+      | inr no_such ↦
+          let high : nat_lt (1 + a) (suc (length xs)) ≡ false = grind (arith, nat_tests, no_such) in
+          rw (e, high, no_such) refl
+    ]
+
+same_some : (a b : ℕ) → Some a ≡ Some b → a ≡ b
+same_some a b e = cc
+
+mapped : (o : Option ℕ) (n : ℕ) → option_map (λ m. m + 1) o ≡ Some n → (m : ℕ) × (o ≡ Some m) × (suc m ≡ n)
+mapped None n e = absurd cc
+mapped (Some m) n e = (m, refl, omega (arith, same_some (m + 1) n e))
+
+unmapped : (o : Option ℕ) → option_map (λ m. m + 1) o ≡ None → o ≡ None
+unmapped None e = refl
+unmapped (Some m) e = absurd cc
+
+abbrev is_its : Account → Account × List ℕ → Bool
+is_its account entry = entry.0.0 == account.0
+
+pub put_there : (account : Account) (text : List ℕ) (sheets : List (Account × List ℕ)) (at : ℕ) → position (λ entry. entry.0.0 == account.0) sheets ≡ Some at → slice_set sheets at (account, text) ≡ put account text sheets
+put_there account text [] at e = absurd cc
+put_there account text (s ∷ ss) at e =
+    elim (cases_Bool (is_its account s)) [
+      | inl y ↦
+          subst (λ (k : ℕ). slice_set (s ∷ ss) k (account, text) ≡ put account text (s ∷ ss))
+          (same_some 0 at (rw (position_yes (is_its account) s ss y) at e)) (rw y refl)
+      | inr other ↦
+          let p = mapped (position (is_its account) ss) at (rw (position_no (is_its account) s ss other) at e) in
+          subst (λ (k : ℕ). slice_set (s ∷ ss) k (account, text) ≡ put account text (s ∷ ss)) p.2
+          (rw (other, put_there account text ss p.0 p.1) refl)
+    ]
+
+pub put_behind : (account : Account) (text : List ℕ) (sheets : List (Account × List ℕ)) → position (λ entry. entry.0.0 == account.0) sheets ≡ None → sheets ++ (account, text) ∷ [] ≡ put account text sheets
+put_behind account text [] e = refl
+put_behind account text (s ∷ ss) e =
+    elim (cases_Bool (is_its account s)) [
+      | inl y ↦ let f = rw (position_yes (is_its account) s ss y) at e in absurd cc
+      | inr other ↦
+          let f = unmapped (position (is_its account) ss) (rw (position_no (is_its account) s ss other) at e) in
+          rw (other, put_behind account text ss f) refl
+    ]

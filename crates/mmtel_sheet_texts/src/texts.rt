@@ -1,0 +1,137 @@
+//! Texts by account.
+ghost use Rattle.std.specs.Prelude.{◌≡◌, ◌==◌, ◌<◌, [], length, position, IfSome, OnOk, OnErr};
+ghost use Rattle.std.specs.Option.{option_copied};
+ghost use Rattle.std.specs.Vec.{vec_capacity, vec_len};
+ghost use Rattle.mmtel_sheet_texts.specs.Texts.{put, text_at};
+
+use mmtel_scan::{NoMemory, Text};
+use mmtel_types::Account;
+use std::alloc::Global;
+use std::marker::Model;
+
+/// The text of each account that has one.
+///
+/// Contracts see the accounts with their texts, in the order in which each account first had one, and for how many further accounts there is room.
+#[derive(Drop)]
+pub struct SheetTexts {
+    kept: Option<Vec<(Account, Text)>>,
+}
+
+impl Model for SheetTexts {
+    ghost use Rattle.std.specs.Prelude.{[], ◌-◌};
+    ghost use Rattle.std.specs.Option.{option_map_or};
+    ghost use Rattle.std.specs.Vec.{vec_capacity, vec_len};
+    ghost use Rattle.mmtel_sheet_texts.specs.Texts.{Table};
+
+    ghost Value = { Table };
+
+    ghost view = { λ t. record {
+      texts = option_map_or (λ v. v.items) t.kept [];
+      room = option_map_or (λ v. vec_capacity v - vec_len v) t.kept 0;
+    } };
+}
+
+/// Where the account stands.
+fn place(texts: &[(Account, Text)], account: Account) -> Option<usize>
+    ensures place { result ≡ position (λ entry. entry.0.0 == account.0) texts.now }
+    ensures within { IfSome result (λ at. at < length texts.now) }
+{
+    texts.iter().position(|entry| entry.0.0 == account.0)
+}
+
+/// Puts a text in the place of the account's.
+fn put_within(texts: &mut Vec<(Account, Text)>, a: Account, text: Text)
+    requires { vec_len texts.old < vec_capacity texts.old }
+    ensures put { texts.new.items ≡ put a text texts.old.items }
+{
+    match place(texts.as_slice(), a) {
+        Some(at) => texts[at] = (a, text),
+        None => texts.push_reserved((a, text)),
+    }
+}
+
+/// The text of the account.
+fn find(texts: &[(Account, Text)], account: Account) -> Option<&Text>
+    ensures found { option_copied result ≡ text_at texts.now account }
+{
+    for entry in texts {
+        if entry.0.0 == account.0 {
+            return Some(&entry.1);
+        }
+    }
+    None
+}
+
+impl SheetTexts {
+    /// The table of no texts. It takes no memory.
+    pub fn new() -> SheetTexts
+        ensures empty { result ≡ record { texts = []; room = 0 } }
+    {
+        SheetTexts { kept: None }
+    }
+
+    /// Makes room for the text of one more account, so that a `replace` takes no memory.
+    ///
+    /// # Errors
+    ///
+    /// Want of memory alone; the table is then as before.
+    pub fn reserve(&mut self, alloc: Global) -> Result<(), NoMemory>
+        ensures same { self.new.texts ≡ self.old.texts }
+        ensures ok { OnOk result (0 < self.new.room) }
+        ensures err { OnErr result (self.new ≡ self.old) }
+    {
+        match &mut self.kept {
+            Some(kept) => {
+                kept.reserve(1)?;
+                Ok(())
+            }
+            None => {
+                let kept = Vec::with_capacity(alloc, 1)?;
+                self.kept = Some(kept);
+                Ok(())
+            }
+        }
+    }
+
+    /// Puts a text in the place of the account's. It takes no memory: `reserve` made room.
+    pub fn replace(&mut self, a: Account, text: Text)
+        requires { 0 < self.old.room }
+        ensures put { self.new.texts ≡ put a text self.old.texts }
+    {
+        match &mut self.kept {
+            Some(kept) => put_within(kept, a, text),
+            None => unreachable!(),
+        }
+    }
+
+    /// Puts a text in the place of the account's.
+    ///
+    /// # Errors
+    ///
+    /// Want of memory alone; the table is then as before.
+    pub fn put(&mut self, alloc: Global, a: Account, text: Text) -> Result<(), NoMemory>
+        ensures ok { OnOk result (self.new.texts ≡ put a text self.old.texts) }
+        ensures err { OnErr result (self.new ≡ self.old) }
+    {
+        self.reserve(alloc)?;
+        self.replace(a, text);
+        Ok(())
+    }
+
+    /// The text of the account; None where it has none. It takes no memory.
+    pub fn text(&self, a: Account) -> Option<&Text>
+        ensures found { option_copied result ≡ text_at self.now.texts a }
+    {
+        find(self.items(), a)
+    }
+
+    /// The accounts with their texts. It takes no memory.
+    pub fn items(&self) -> &[(Account, Text)]
+        ensures all { result.now ≡ self.now.texts }
+    {
+        match &self.kept {
+            Some(kept) => kept.as_slice(),
+            None => &[],
+        }
+    }
+}

@@ -1,0 +1,78 @@
+//! What an upload is.
+ghost use Rattle.std.specs.Prelude.{◌≡◌, ◌≢◌, ◌++◌, ◌∷◌, [], IfOk, OnOk, codes, decimal};
+ghost use Rattle.mmtel_uploads.specs.Uploads.{upload_of, fault_text};
+ghost use Rattle.mmtel_sheet_grammar.specs.declared.faults.SheetFault.TheVariants as kinds;
+
+use itoa::Buffer;
+use mmtel_scan::{NoMemory, Text};
+use mmtel_sheet_grammar::SheetFault;
+use mmtel_sheet_reader::read_sheet;
+use mmtel_sheet_values::Sheet;
+use std::alloc::Global;
+
+/// What an upload is.
+#[derive(Drop)]
+pub enum Upload {
+    /// A service record.
+    Accepted(Sheet),
+    /// None; the line tells its first fault.
+    Refused(Text),
+}
+
+/// A word, a key and the line's end.
+fn key_line(alloc: Global, word: &[u8], key: &Text) -> Result<Text, NoMemory>
+    ensures { IfOk result (λ line. line ≡ word.now ++ (key.now ++ codes "\n")) }
+{
+    let mut line = Text::of(alloc, word)?;
+    line.push(alloc, key.bytes())?;
+    line.push(alloc, b"\n")?;
+    Ok(line)
+}
+
+/// The line of an array that is too long.
+fn many_line(alloc: Global, key: &Text, limit: u32) -> Result<Text, NoMemory>
+    ensures { IfOk result (λ line. line ≡ codes "many " ++ (key.now ++ (codes " " ++ (decimal limit ++ codes "\n")))) }
+{
+    let mut buffer = Buffer::new();
+    let mut line = Text::of(alloc, b"many ")?;
+    line.push(alloc, key.bytes())?;
+    line.push(alloc, b" ")?;
+    line.push(alloc, buffer.format(limit).as_bytes())?;
+    line.push(alloc, b"\n")?;
+    Ok(line)
+}
+
+/// The line that tells a fault of a service record: `not toml`, or `unknown`, `wrong` or `many` with the key, and LF. No line tells want of memory.
+///
+/// # Errors
+///
+/// Want of memory, and where that is the fault.
+pub fn fault_text(alloc: Global, fault: &SheetFault) -> Result<Text, NoMemory>
+    ensures line { IfOk result (λ line. line ≡ fault_text fault.now) }
+    ensures other { IfOk result (λ _. fault.now ≢ kinds.NoMemory) }
+{
+    match fault {
+        SheetFault::NotToml { .. } => Text::of(alloc, b"not toml\n"),
+        SheetFault::Unknown { key } => key_line(alloc, b"unknown ", key),
+        SheetFault::Wrong { key } => key_line(alloc, b"wrong ", key),
+        SheetFault::Many { key, limit } => many_line(alloc, key, *limit),
+        SheetFault::NoMemory => Err(NoMemory),
+    }
+}
+
+/// What the bytes are as an upload.
+///
+/// # Errors
+///
+/// Want of memory alone.
+pub fn upload_of(alloc: Global, bytes: &[u8]) -> Result<Upload, NoMemory>
+    ensures exact { IfOk result (λ upload. upload ≡ upload_of bytes.now) }
+{
+    match read_sheet(alloc, bytes) {
+        Ok(sheet) => Ok(Upload::Accepted(sheet)),
+        Err(fault) => {
+            let line = fault_text(alloc, &fault)?;
+            Ok(Upload::Refused(line))
+        }
+    }
+}

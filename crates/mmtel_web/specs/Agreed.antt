@@ -1,0 +1,20 @@
+-- What one account is answered depends on that account alone: directories and tables of texts that agree on it.
+use Rattle.std.specs.Prelude.{◌≡◌, ℕ, List, Some}
+use Rattle.std.specs.declared.option.Option.{Option}
+use Rattle.mmtel_types.specs.declared.numbers.Account.{Account}
+use Rattle.mmtel_lex.specs.declared.values.Uri.{Uri}
+use Rattle.mmtel_trust.specs.declared.accounts.AccountIdentity.{AccountIdentity}
+use Rattle.mmtel_http.specs.Places.{place_of}
+use Rattle.mmtel_http.specs.Requests.{Asking}
+use Rattle.mmtel_http.specs.declared.places.Place.TheVariants.{Sheet}
+use Rattle.mmtel_sheet_texts.specs.Texts.{text_at}
+use Rattle.mmtel_web.specs.Parties.{is_account, is_own}
+
+-- the tables agree on whether it is an account, and on which URIs are identities of its own
+pub record AgreeOnIdentities (account : Account) (d e : List AccountIdentity) : Type 0 where
+  pub known : is_account d account ≡ is_account e account
+  pub own : (u : Uri) → is_own d account u ≡ is_own e account u
+
+-- what is asked is of the account's record
+abbrev pub AsksOf : Account → Asking → Type 0
+AsksOf account a = place_of a.target ≡ Sheet (Some account)

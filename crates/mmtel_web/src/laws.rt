@@ -1,0 +1,30 @@
+//! Laws of what the server does for a request.
+ghost use Rattle.std.specs.Prelude.{◌≡◌, ℕ, List, true};
+ghost use Rattle.mmtel_types.specs.declared.numbers.Account.{Account};
+ghost use Rattle.mmtel_charging.specs.declared.rows.Row.{Row};
+ghost use Rattle.mmtel_sheet_values.specs.declared.values.Sheet.{Sheet};
+ghost use Rattle.mmtel_http.specs.Requests.{Asking, asked};
+ghost use Rattle.mmtel_sheet_texts.specs.Texts.{text_at};
+ghost use Rattle.mmtel_web.specs.Agreed.{AgreeOnIdentities, AsksOf};
+ghost use Rattle.mmtel_web.specs.Answers.{Kept, web_of, web_reply};
+ghost use Rattle.mmtel_web.specs.Parties.{identity_of, may_ask};
+ghost use Rattle.mmtel_web.specs.declared.answers.Web.TheVariants as web;
+ghost use Rattle.mmtel_web.specs.declared.directories.WebDirectory.{WebDirectory};
+
+/// A law, and no code: what is done for a request for the record of an account, and what it is replied, are the same in any two directories and tables of texts that agree on that account.
+pub fn requests_see_one_account()
+    ensures done { (account : Account) (d e : WebDirectory) (s t : List (Account × List ℕ)) (a : Asking)
+        → AsksOf account a → AgreeOnIdentities account d.accounts e.accounts → text_at s account ≡ text_at t account
+        → web_of d s (asked a) ≡ web_of e t (asked a) }
+    ensures replied { (account : Account) (d e : WebDirectory) (s t : List (Account × List ℕ)) (a : Asking) (kept : Kept) (rows : List Row)
+        → AsksOf account a → AgreeOnIdentities account d.accounts e.accounts → text_at s account ≡ text_at t account
+        → web_reply d s (asked a) kept rows ≡ web_reply e t (asked a) kept rows }
+{}
+
+/// A law, and no code: an upload that is to be kept is of the account whose record was asked for, and an identity of that account's own asked for it.
+pub fn uploads_are_of_one_account()
+    ensures its { (account b : Account) (d : WebDirectory) (s : List (Account × List ℕ)) (a : Asking) (sheet : Sheet) (text reply : List ℕ)
+        → AsksOf account a → web_of d s (asked a) ≡ web.Store b sheet text reply → account ≡ b }
+    ensures allowed { (account b : Account) (d : WebDirectory) (s : List (Account × List ℕ)) (a : Asking) (sheet : Sheet) (text reply : List ℕ)
+        → AsksOf account a → web_of d s (asked a) ≡ web.Store b sheet text reply → may_ask d.accounts account (identity_of a.identity) ≡ true }
+{}

@@ -1,0 +1,85 @@
+//! Who asks.
+ghost use Rattle.std.specs.Prelude.{◌≡◌, IfOk};
+ghost use Rattle.std.specs.Option.{option_copied};
+ghost use Rattle.mmtel_lex.specs.Reading.{uri_of};
+ghost use Rattle.mmtel_web.specs.Parties.{identity_of, readable, quoted, is_account, is_own, may_ask, is_operator};
+
+use mmtel_lex::{Uri, UriFault, read_uri, same_identity};
+use mmtel_scan::{NoMemory, part, skip_byte};
+use mmtel_trust::AccountIdentity;
+use mmtel_types::Account;
+use std::alloc::Global;
+
+/// What stands in the quotes.
+fn quoted(value: &[u8]) -> Option<&[u8]>
+    ensures { option_copied result ≡ quoted value.now }
+{
+    let rest = skip_byte(b'"', value)?;
+    let (inner, behind) = part(b'"', rest)?;
+    if behind.is_empty() { Some(inner) } else { None }
+}
+
+/// The URI that the bytes are.
+fn uri(alloc: Global, bytes: &[u8]) -> Result<Option<Uri>, NoMemory>
+    ensures { IfOk result (λ uri. uri ≡ readable (uri_of bytes.now)) }
+{
+    match read_uri(alloc, bytes) {
+        Ok(uri) => Ok(Some(uri)),
+        Err(UriFault::NoMemory) => Err(NoMemory),
+        Err(_) => Ok(None),
+    }
+}
+
+/// The identity that the value of the header line of the asserted identity names.
+pub fn identity_of(alloc: Global, value: Option<&[u8]>) -> Result<Option<Uri>, NoMemory>
+    ensures { IfOk result (λ identity. identity ≡ identity_of (option_copied value.entry)) }
+{
+    match value {
+        None => Ok(None),
+        Some(value) => match quoted(value) {
+            None => Ok(None),
+            Some(bytes) => uri(alloc, bytes),
+        },
+    }
+}
+
+/// Whether there is such an account.
+pub fn is_account(identities: &[AccountIdentity], account: Account) -> bool
+    ensures { result ≡ is_account identities.now account }
+{
+    identities
+        .iter()
+        .any(|identity| identity.account.0 == account.0)
+}
+
+/// Whether the URI is an identity of the account's own.
+fn is_own(identities: &[AccountIdentity], account: Account, uri: &Uri) -> bool
+    ensures { result ≡ is_own identities.now account uri.now }
+{
+    identities
+        .iter()
+        .any(|identity| identity.account.0 == account.0 && same_identity(&identity.uri, uri))
+}
+
+/// Whether the identity was asserted, and is one of the account's own.
+pub fn may_ask(identities: &[AccountIdentity], account: Account, identity: &Option<Uri>) -> bool
+    ensures { result ≡ may_ask identities.now account identity.now }
+{
+    match identity {
+        None => false,
+        Some(uri) => is_own(identities, account, uri),
+    }
+}
+
+/// Whether the identity is the operator's.
+pub fn is_operator(operator: &Option<Uri>, identity: &Option<Uri>) -> bool
+    ensures { result ≡ is_operator operator.now identity.now }
+{
+    match operator {
+        None => false,
+        Some(operator) => match identity {
+            None => false,
+            Some(identity) => same_identity(operator, identity),
+        },
+    }
+}

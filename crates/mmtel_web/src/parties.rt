@@ -56,9 +56,8 @@ pub fn is_account(identities: &[AccountIdentity], account: Account) -> bool
 fn is_own(identities: &[AccountIdentity], account: Account, uri: &Uri) -> bool
     ensures { result ≡ is_own identities.now account uri.now }
 {
-    identities
-        .iter()
-        .any(|identity| identity.account.0 == account.0 && same_identity(&identity.uri, uri))
+    identities.iter().any(|identity| identity.account.0 == account.0
+        && same_identity(&identity.uri, uri))
 }
 
 /// Whether the identity was asserted, and is one of the account's own.

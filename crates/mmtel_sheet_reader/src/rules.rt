@@ -2,7 +2,7 @@
 ghost use Rattle.std.specs.Prelude.{◌≡◌, [], codes, nat_lt, ◌&&◌, not, Ok, IfOk};
 ghost use Rattle.toml.specs.View.{view, table_view, array_view};
 ghost use Rattle.mmtel_sheet_grammar.specs.Answers.{Answers, then_do};
-ghost use Rattle.mmtel_sheet_grammar.specs.Keys.{rule_key_of, rule_path};
+ghost use Rattle.mmtel_sheet_grammar.specs.Keys.{dotted, rule_key_of, rule_path};
 ghost use Rattle.mmtel_sheet_grammar.specs.Rules.{has_key, no_keys, with_notice, event_read, except_read, one_read, from_read, until_read, key_read, listed, rule_key_read, who_of, condition_of, forward_read, allow_read, action_of, keys_of_rule, rule_of, are_tables, items_count, rules_from, rules_of, rules_at};
 ghost use Rattle.mmtel_sheet_grammar.specs.Sound.{IsSound, IsSoundArray, IsSoundTable};
 
@@ -240,17 +240,18 @@ fn read_name(
     alloc: Global,
     service: Service,
     table: &Table,
-    at: &[u8],
+    path: &[u8],
     draft: &mut RuleDraft,
     name: &str,
     value: &Value,
 ) -> Result<(), SheetFault>
-    ensures exact { Answers (rule_key_read service (table_view table.now) at.now draft.old name.now (view value.now)) (then_do result (λ _. Ok draft.new)) }
+    ensures exact { Answers (rule_key_read service (table_view table.now) (dotted path.now name.now) draft.old name.now (view value.now)) (then_do result (λ _. Ok draft.new)) }
     ensures sound { IfOk result (λ _. IsSound (view value.now)) }
 {
+    let at = below(alloc, path, name.as_bytes())?;
     match listed_key(service, name) {
-        Some(key) => read_key(alloc, table, at, draft, key, value),
-        None => unknown(alloc, at),
+        Some(key) => read_key(alloc, table, at.bytes(), draft, key, value),
+        None => unknown(alloc, at.bytes()),
     }
 }
 
@@ -266,16 +267,7 @@ fn keys_of_rule(
 {
     let mut draft = no_keys();
     'members: for (key, value) in table.iter() {
-        let at = below(alloc, path, key.as_bytes())?;
-        read_name(
-            alloc,
-            service,
-            table,
-            at.bytes(),
-            &mut draft,
-            key.as_str(),
-            value,
-        )?;
+        read_name(alloc, service, table, path, &mut draft, key.as_str(), value)?;
     }
     Ok(draft)
 }

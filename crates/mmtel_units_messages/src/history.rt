@@ -2,7 +2,7 @@
 
 use crate::tables::{Report, next_line};
 use mmtel_history::{Entry, History, HistoryFault, read_values, with_cause, write_entry};
-use mmtel_lex::{List, Text};
+use mmtel_lex::{List, NoMemory, Text};
 use std::alloc::Global;
 use std::test::Fail;
 
@@ -10,11 +10,17 @@ use std::test::Fail;
 fn put_value(out: &mut Report, alloc: Global, list: &mut List<Text>, value: &[u8]) {
     match Text::of(alloc, value) {
         Ok(value) => {
-            if list.push(alloc, value).is_err() {
-                out.fail();
-            }
+            let done = list.push(alloc, value).is_ok();
+            out.keep(done);
         }
         Err(_) => out.fail(),
+    }
+}
+
+/// The digits of a cause, or nothing.
+fn put_cause_digits(out: &mut Report, alloc: Global, cause: Option<u16>) {
+    if let Some(cause) = cause {
+        out.put_number(alloc, usize::from(cause));
     }
 }
 
@@ -24,25 +30,22 @@ fn put_parts(out: &mut Report, alloc: Global, entry: &Entry) {
     out.put(alloc, b"|");
     out.put(alloc, entry.index.bytes());
     out.put(alloc, b"|");
-    if let Some(cause) = entry.cause {
-        out.put_number(alloc, usize::from(cause));
-    }
-    if entry.hidden {
-        out.put(alloc, b"|hidden|");
+    put_cause_digits(out, alloc, entry.cause);
+    let mark: &[u8] = if entry.hidden {
+        b"|hidden|"
     } else {
-        out.put(alloc, b"|shown|");
-    }
-    out.put(alloc, entry.rest.bytes());
-    out.put(alloc, b"\n");
+        b"|shown|"
+    };
+    out.put(alloc, mark);
+    out.put_line(alloc, entry.rest.bytes());
 }
 
 /// The value of an entry.
 fn put_entry(out: &mut Report, alloc: Global, entry: &Entry) {
     match write_entry(alloc, entry) {
-        Ok(value) => out.put(alloc, value.bytes()),
+        Ok(value) => out.put_line(alloc, value.bytes()),
         Err(_) => out.fail(),
     }
-    out.put(alloc, b"\n");
 }
 
 /// The values of a history, one a line.
@@ -148,7 +151,7 @@ fn put_diverted(out: &mut Report, alloc: Global, cause: u16) {
     }
 }
 
-/// The number of diversions, and the parts of each entry.
+/// The number of diversions.
 fn put_counted(out: &mut Report, alloc: Global, values: &List<Text>) {
     match read_values(alloc, values) {
         Ok(history) => {
@@ -257,7 +260,23 @@ fn counts_values(rt: HostRuntime) -> Result<(), Fail> {
     Ok(())
 }
 
-/// One more diversion by bob, where there is room for it.
+/// One more diversion, where there is room for it.
+fn append(
+    alloc: Global,
+    history: &mut History,
+    target: &[u8],
+    cause: u16,
+    hide_last: bool,
+) -> Result<(), NoMemory> {
+    if history.entries().len() > 47 {
+        return Ok(());
+    }
+    let from = Text::of(alloc, b"sip:bob@home.example")?;
+    let target = Text::of(alloc, target)?;
+    history.append(alloc, &from, &target, cause, hide_last)
+}
+
+/// One more diversion by bob.
 fn divert(
     out: &mut Report,
     alloc: Global,
@@ -266,23 +285,8 @@ fn divert(
     cause: u16,
     hide_last: bool,
 ) {
-    if history.entries().len() > 47 {
-        return;
-    }
-    match (
-        Text::of(alloc, b"sip:bob@home.example"),
-        Text::of(alloc, target),
-    ) {
-        (Ok(from), Ok(target)) => {
-            if history
-                .append(alloc, &from, &target, cause, hide_last)
-                .is_err()
-            {
-                out.fail();
-            }
-        }
-        _ => out.fail(),
-    }
+    let done = append(alloc, history, target, cause, hide_last);
+    out.note(done);
 }
 
 /// Hides the entry at this place, where there is one.

@@ -1,6 +1,6 @@
 //! SIP messages: what comes of the standards' examples, of damaged messages and at the limits, and the edits.
 
-use crate::drafts::{Draft, of_lines, request};
+use crate::drafts::{of_lines, push_front, request, set};
 use crate::tables::{Report, next_line};
 use mmtel_lex::{List, NoMemory, Text};
 use mmtel_message::{
@@ -10,13 +10,18 @@ use mmtel_message::{
 use std::alloc::Global;
 use std::test::Fail;
 
+/// The code of a response; 0 of a request.
+fn code_of(message: &Msg) -> u16 {
+    match message.start() {
+        Start::Status { code, phrase: _ } => *code,
+        Start::Request { method: _, uri: _ } => 0,
+    }
+}
+
 /// The code of a reply, or `none`.
 fn put_code(out: &mut Report, alloc: Global, reply: &Option<Msg>) {
     match reply {
-        Some(reply) => match reply.start() {
-            Start::Status { code, phrase: _ } => out.put_number(alloc, usize::from(*code)),
-            Start::Request { method: _, uri: _ } => out.put(alloc, b"a request"),
-        },
+        Some(reply) => out.put_number(alloc, usize::from(code_of(reply))),
         None => out.put(alloc, b"none"),
     }
 }
@@ -89,25 +94,31 @@ fn put_answer(out: &mut Report, alloc: Global, bytes: &[u8]) {
 const USUAL: &[u8] =
     b"Via: SIP/2.0/UDP a.example;branch=z9hG4bKa1\r\nFrom: <sip:a@h>;tag=a\r\nTo:\r\n\t<sip:b@h>\t\r\nCall-ID: c1\r\n";
 
+/// Adds a line of a message, or the usual ones.
+fn put_header(out: &mut Report, alloc: Global, line: &[u8]) {
+    if line == b"&".as_slice() {
+        out.put(alloc, USUAL);
+    } else {
+        out.put(alloc, line);
+        out.put(alloc, b"\r\n");
+    }
+}
+
 /// Adds the lines of a table up to one that begins with `mark`, each ended by CRLF; gives that line without the mark, and what follows it.
 fn put_block<'a>(
     out: &mut Report,
     alloc: Global,
-    mark: u8,
+    mark: &[u8],
     table: &'a [u8],
 ) -> (&'a [u8], &'a [u8]) {
     let mut rest = table;
     for _ in 0..200 {
         let (line, after) = next_line(rest);
         rest = after;
-        match line {
-            [first, end @ ..] if *first == mark => return (end, rest),
-            [b'&'] => out.put(alloc, USUAL),
-            _ => {
-                out.put(alloc, line);
-                out.put(alloc, b"\r\n");
-            }
+        if let Some(end) = line.strip_prefix(mark) {
+            return (end, rest);
         }
+        put_header(out, alloc, line);
     }
     (b"", rest)
 }
@@ -228,10 +239,10 @@ Content-Length: 0
 /// Adds the answer to the first message of a table, and the text that is wanted; gives what follows them.
 fn put_row<'a>(came: &mut Report, wanted: &mut Report, alloc: Global, table: &'a [u8]) -> &'a [u8] {
     let mut text = Report::new();
-    let (end, rest) = put_block(&mut text, alloc, b'#', table);
+    let (end, rest) = put_block(&mut text, alloc, b"#", table);
     text.put(alloc, end);
     put_answer(came, alloc, text.bytes());
-    let (end, rest) = put_block(wanted, alloc, b'#', rest);
+    let (end, rest) = put_block(wanted, alloc, b"#", rest);
     wanted.put(alloc, end);
     rest
 }
@@ -630,7 +641,7 @@ fn put_verdict<'a>(
     table: &'a [u8],
 ) -> &'a [u8] {
     let mut text = Report::new();
-    let (verdict, rest) = put_block(&mut text, alloc, b'=', table);
+    let (verdict, rest) = put_block(&mut text, alloc, b"=", table);
     let (start, _) = next_line(table);
     came.put(alloc, start);
     came.put(alloc, b"= ");
@@ -815,14 +826,6 @@ Call-ID: c1
 CSeq: 1 OPTIONS
 ";
 
-/// The text of a message that was made.
-fn put_draft(out: &mut Report, alloc: Global, made: &Draft) {
-    if made.failed {
-        out.fail();
-    }
-    put_message(out, alloc, &made.message);
-}
-
 /// Two of the five fields of a message.
 fn put_five(out: &mut Report, alloc: Global, message: &Msg) {
     match read_five(alloc, message.lines()) {
@@ -837,9 +840,10 @@ fn put_five(out: &mut Report, alloc: Global, message: &Msg) {
 
 #[test]
 fn reads_the_five_fields(rt: HostRuntime) -> Result<(), Fail> {
-    let made = of_lines(rt.alloc(), request(rt.alloc(), b"OPTIONS")?, FIVE, 5);
+    let start = request(rt.alloc(), b"OPTIONS")?;
     let mut out = Report::new();
-    put_five(&mut out, rt.alloc(), &made.message);
+    let message = of_lines(&mut out, rt.alloc(), start, FIVE, 5);
+    put_five(&mut out, rt.alloc(), &message);
     assert_eq!(rt; out.bytes(), b"c1|sip:b@h".as_slice());
     Ok(())
 }
@@ -857,27 +861,27 @@ fn put_busy(out: &mut Report, alloc: Global, message: &Msg) {
 fn answers_requests(rt: HostRuntime) -> Result<(), Fail> {
     let wanted =
         b"SIP/2.0 486 Busy Here\r\nVia: SIP/2.0/UDP a.example;branch=z9hG4bKa1\r\nFrom: <sip:a@h>;tag=a\r\nTo: <sip:b@h>\r\nCall-ID: c1\r\nCSeq: 1 OPTIONS\r\nContent-Length: 0\r\n\r\n";
-    let made = of_lines(rt.alloc(), request(rt.alloc(), b"OPTIONS")?, FIVE, 5);
+    let start = request(rt.alloc(), b"OPTIONS")?;
     let mut out = Report::new();
-    put_busy(&mut out, rt.alloc(), &made.message);
+    let message = of_lines(&mut out, rt.alloc(), start, FIVE, 5);
+    put_busy(&mut out, rt.alloc(), &message);
     assert_eq!(rt; out.bytes(), wanted.as_slice());
     Ok(())
 }
 
 /// Texts, joined.
+fn put_texts(out: &mut Report, alloc: Global, texts: &[Text]) {
+    match joined_by(alloc, b"|", texts) {
+        Ok(joined) => out.put_line(alloc, joined.bytes()),
+        Err(_) => out.fail(),
+    }
+}
+
 fn put_joined(out: &mut Report, alloc: Global, texts: Result<List<Text>, NoMemory>) {
     match texts {
         Ok(texts) => put_texts(out, alloc, texts.items()),
         Err(_) => out.fail(),
     }
-}
-
-fn put_texts(out: &mut Report, alloc: Global, texts: &[Text]) {
-    match joined_by(alloc, b"|", texts) {
-        Ok(joined) => out.put(alloc, joined.bytes()),
-        Err(_) => out.fail(),
-    }
-    out.put(alloc, b"\n");
 }
 
 /// Two Route lines with three values, and two Subject lines.
@@ -914,9 +918,10 @@ fn parts_values(rt: HostRuntime) -> Result<(), Fail> {
 
 #[test]
 fn finds_values(rt: HostRuntime) -> Result<(), Fail> {
-    let made = of_lines(rt.alloc(), request(rt.alloc(), b"OPTIONS")?, ROUTED, 4);
+    let start = request(rt.alloc(), b"OPTIONS")?;
     let mut out = Report::new();
-    put_found(&mut out, rt.alloc(), &made.message);
+    let message = of_lines(&mut out, rt.alloc(), start, ROUTED, 4);
+    put_found(&mut out, rt.alloc(), &message);
     assert_eq!(rt;
         out.bytes(),
         b"<sip:r@h>|<sip:s@h>|<sip:t@h>\n<sip:r@h>|<sip:s@h>|<sip:t@h>\n<sip:r@h>, <sip:s@h>|<sip:t@h>\n<sip:r@h>, <sip:s@h>".as_slice()
@@ -929,13 +934,14 @@ fn finds_values(rt: HostRuntime) -> Result<(), Fail> {
 fn edits_messages(rt: HostRuntime) -> Result<(), Fail> {
     let wanted =
         b"OPTIONS sip:b@h SIP/2.0\r\nVia: SIP/2.0/UDP a\r\nSubject: three\r\nEvent: refer\r\n\r\n";
-    let mut made = of_lines(rt.alloc(), request(rt.alloc(), b"OPTIONS")?, ROUTED, 4);
-    made.set(rt.alloc(), b"Subject", b"three");
-    made.set(rt.alloc(), b"Event", b"refer");
-    made.message.drop_all(b"Route");
-    made.push_front(rt.alloc(), b"Via", b"SIP/2.0/UDP a");
+    let start = request(rt.alloc(), b"OPTIONS")?;
     let mut out = Report::new();
-    put_draft(&mut out, rt.alloc(), &made);
+    let mut message = of_lines(&mut out, rt.alloc(), start, ROUTED, 4);
+    set(&mut out, rt.alloc(), &mut message, b"Subject", b"three");
+    set(&mut out, rt.alloc(), &mut message, b"Event", b"refer");
+    message.drop_all(b"Route");
+    push_front(&mut out, rt.alloc(), &mut message, b"Via", b"SIP/2.0/UDP a");
+    put_message(&mut out, rt.alloc(), &message);
     assert_eq!(rt; out.bytes(), wanted.as_slice());
     Ok(())
 }

@@ -1,6 +1,6 @@
 //! Tables of tests: a table is one text, and a row is a line or more of it. What comes of the rows is written into one text, which is compared with the one that is wanted.
 
-use mmtel_lex::Text;
+use mmtel_lex::{NoMemory, Text};
 use mmtel_scan::part;
 use std::alloc::Global;
 
@@ -37,11 +37,30 @@ impl Report {
         self.failed = true;
     }
 
-    /// Adds a piece.
-    pub fn put(&mut self, alloc: Global, piece: &[u8]) {
-        if self.text.push(alloc, piece).is_err() {
+    /// Keeps in mind that something went wrong, where it was not done.
+    pub fn keep(&mut self, done: bool) {
+        if !done {
             self.failed = true;
         }
+    }
+
+    /// The same of a result.
+    pub fn note(&mut self, done: Result<(), NoMemory>) {
+        if done.is_err() {
+            self.failed = true;
+        }
+    }
+
+    /// Adds a piece.
+    pub fn put(&mut self, alloc: Global, piece: &[u8]) {
+        let done = self.text.push(alloc, piece);
+        self.note(done);
+    }
+
+    /// Adds a piece and the end of a line.
+    pub fn put_line(&mut self, alloc: Global, piece: &[u8]) {
+        self.put(alloc, piece);
+        self.put(alloc, b"\n");
     }
 
     /// Adds a number in digits.

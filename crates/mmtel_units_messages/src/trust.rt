@@ -1,11 +1,11 @@
 //! Peers and routes, accounts, the words of Privacy, asserted identities and the header table.
 
-use crate::drafts::{Draft, of_lines, request};
+use crate::drafts::{of_lines, request};
 use crate::tables::{Report, next_line, numbered};
-use mmtel_lex::{NoMemory, Text, Uri, print_uri, read_uri};
+use mmtel_lex::{NoMemory, Text, Uri, UriFault, print_uri, read_uri};
 use mmtel_message::Msg;
 use mmtel_trust::{
-    Accounts, Addr, Facing, PeerTable, TableFault, asserted, attempt_from, shown, wants,
+    Accounts, Addr, Facing, Line, PeerTable, TableFault, asserted, attempt_from, shown, wants,
 };
 use mmtel_types::{Account, Peer, PrivacySet};
 use std::alloc::Global;
@@ -69,18 +69,28 @@ const ROUTES: &[u8] = b"1 sip:bob@home.example
 3 tel:7042;phone-context=home.example
 ";
 
-/// The number of the peer that a URI leads to, 0 where it leads to none, and the URI.
+/// A number and a text.
+fn put_numbered(out: &mut Report, alloc: Global, number: usize, text: &[u8]) {
+    out.put_number(alloc, number);
+    out.put(alloc, b" ");
+    out.put_line(alloc, text);
+}
+
+/// The number of the peer that a URI leads to, 0 where it leads to none.
+fn way(alloc: Global, table: &PeerTable, text: &[u8]) -> Result<u16, UriFault> {
+    let uri = read_uri(alloc, text)?;
+    match table.route(&uri) {
+        Some(Peer(number)) => Ok(number),
+        None => Ok(0),
+    }
+}
+
+/// The number of the peer that a URI leads to, and the URI.
 fn put_way(out: &mut Report, alloc: Global, table: &PeerTable, text: &[u8]) {
-    match read_uri(alloc, text) {
-        Ok(uri) => match table.route(&uri) {
-            Some(Peer(number)) => out.put_number(alloc, usize::from(number)),
-            None => out.put(alloc, b"0"),
-        },
+    match way(alloc, table, text) {
+        Ok(number) => put_numbered(out, alloc, usize::from(number), text),
         Err(_) => out.fail(),
     }
-    out.put(alloc, b" ");
-    out.put(alloc, text);
-    out.put(alloc, b"\n");
 }
 
 #[test]
@@ -98,28 +108,20 @@ fn routes(rt: HostRuntime) -> Result<(), Fail> {
     Ok(())
 }
 
-/// Of the peers 1 to 4: `t` for trusted and `-` for not, `a` for one with an address and `-` for one without.
-fn put_peers(out: &mut Report, alloc: Global, table: &PeerTable) {
-    for number in 1..5 {
-        let peer = Peer(number);
-        out.put(alloc, if table.trusted(peer) { b"t" } else { b"-" });
-        out.put(
-            alloc,
-            if table.addr(peer).is_some() {
-                b"a"
-            } else {
-                b"-"
-            },
-        );
-        out.put(alloc, b"\n");
-    }
+/// Of a peer: `t` for trusted and `-` for not, `a` with an address and `-` without.
+fn put_peer(out: &mut Report, alloc: Global, table: &PeerTable, peer: Peer) {
+    out.put(alloc, if table.trusted(peer) { b"t" } else { b"-" });
+    let address = table.addr(peer).is_some();
+    out.put_line(alloc, if address { b"a" } else { b"-" });
 }
 
 #[test]
 fn finds_peers(rt: HostRuntime) -> Result<(), Fail> {
     let mut out = Report::new();
     let table = table(&mut out, rt.alloc());
-    put_peers(&mut out, rt.alloc(), &table);
+    for number in 1..5 {
+        put_peer(&mut out, rt.alloc(), &table, Peer(number));
+    }
     assert_eq!(rt; table.find(addr(2)), Some(Peer(2)));
     assert_eq!(rt; table.find(addr(4)), None);
     assert_eq!(rt;
@@ -152,18 +154,21 @@ fn put_account(out: &mut Report, alloc: Global, accounts: &mut Accounts, number:
     }
 }
 
-/// The number of the account of a URI, 0 for none, and the URI.
+/// The number of the account of a URI, 0 for none.
+fn owner(alloc: Global, accounts: &Accounts, text: &[u8]) -> Result<u32, UriFault> {
+    let uri = read_uri(alloc, text)?;
+    match accounts.find(&uri) {
+        Some(Account(number)) => Ok(number),
+        None => Ok(0),
+    }
+}
+
+/// The number of the account of a URI, and the URI.
 fn put_owner(out: &mut Report, alloc: Global, accounts: &Accounts, text: &[u8]) {
-    match read_uri(alloc, text) {
-        Ok(uri) => match accounts.find(&uri) {
-            Some(Account(number)) => out.put_number(alloc, number as usize),
-            None => out.put(alloc, b"0"),
-        },
+    match owner(alloc, accounts, text) {
+        Ok(number) => put_numbered(out, alloc, number as usize, text),
         Err(_) => out.fail(),
     }
-    out.put(alloc, b" ");
-    out.put(alloc, text);
-    out.put(alloc, b"\n");
 }
 
 /// URIs, each behind the number of its account, 0 for none: the sip URI of account 1 is `sip:alice@home.example`, and the number of account 2 that of RFC 3966 §6, for which the sip URI of RFC 3261 §19.1.6 stands.
@@ -218,41 +223,45 @@ Reason: SIP;cause=200
 "#;
 
 /// The message of these lines.
-fn invite(alloc: Global) -> Result<Draft, NoMemory> {
+fn invite(out: &mut Report, alloc: Global) -> Result<Msg, NoMemory> {
     let start = request(alloc, b"INVITE")?;
-    Ok(of_lines(alloc, start, LINES, 9))
+    Ok(of_lines(out, alloc, start, LINES, 9))
 }
 
 #[test]
 fn tells_words(rt: HostRuntime) -> Result<(), Fail> {
-    let made = invite(rt.alloc())?;
+    let message = invite(&mut Report::new(), rt.alloc())?;
     let wanted = PrivacySet {
         header: true,
         none: true,
         ..PrivacySet::default()
     };
-    assert_eq!(rt; wants(&made.message), wanted);
+    assert_eq!(rt; wants(&message), wanted);
     Ok(())
 }
 
-/// A URI, or `none`, and the end of a line.
-fn put_uri(out: &mut Report, alloc: Global, uri: &Option<Uri>) {
-    match uri {
-        Some(uri) => match print_uri(alloc, uri) {
-            Ok(text) => out.put(alloc, text.bytes()),
-            Err(_) => out.fail(),
-        },
-        None => out.put(alloc, b"none"),
+/// A URI.
+fn put_uri(out: &mut Report, alloc: Global, uri: &Uri) {
+    match print_uri(alloc, uri) {
+        Ok(text) => out.put_line(alloc, text.bytes()),
+        Err(_) => out.fail(),
     }
-    out.put(alloc, b"\n");
+}
+
+/// A URI, or `none`.
+fn put_identity(out: &mut Report, alloc: Global, uri: &Option<Uri>) {
+    match uri {
+        Some(uri) => put_uri(out, alloc, uri),
+        None => out.put_line(alloc, b"none"),
+    }
 }
 
 /// The identities that are believed of a message from a peer that is trusted or not.
 fn put_identities(out: &mut Report, alloc: Global, m: &Msg, trusted: bool) {
     match asserted(alloc, m, trusted) {
         Ok(believed) => {
-            put_uri(out, alloc, &believed.sip);
-            put_uri(out, alloc, &believed.tel);
+            put_identity(out, alloc, &believed.sip);
+            put_identity(out, alloc, &believed.tel);
         }
         Err(_) => out.fail(),
     }
@@ -261,10 +270,10 @@ fn put_identities(out: &mut Report, alloc: Global, m: &Msg, trusted: bool) {
 /// Those of a trusted peer are believed, and none of another.
 #[test]
 fn tells_identities(rt: HostRuntime) -> Result<(), Fail> {
-    let made = invite(rt.alloc())?;
     let mut out = Report::new();
-    put_identities(&mut out, rt.alloc(), &made.message, true);
-    put_identities(&mut out, rt.alloc(), &made.message, false);
+    let message = invite(&mut out, rt.alloc())?;
+    put_identities(&mut out, rt.alloc(), &message, true);
+    put_identities(&mut out, rt.alloc(), &message, false);
     assert_eq!(rt;
         out.bytes(),
         b"sip:fluffy@cisco.com\ntel:+14085264000\nnone\nnone\n".as_slice()
@@ -272,7 +281,17 @@ fn tells_identities(rt: HostRuntime) -> Result<(), Fail> {
     Ok(())
 }
 
-/// The lines that are passed on, one a line, and a line `#`, where the sender is restricted or not and the peer trusted or not.
+/// Lines, one a line, and a line `#`.
+fn put_lines(out: &mut Report, alloc: Global, lines: &[Line]) {
+    for line in lines {
+        out.put(alloc, line.name.bytes());
+        out.put(alloc, b": ");
+        out.put_line(alloc, line.value.bytes());
+    }
+    out.put(alloc, b"#\n");
+}
+
+/// The lines that are passed on, where the sender is restricted or not and the peer trusted or not.
 fn put_shown(out: &mut Report, alloc: Global, m: &Msg, restricted: bool, to_trusted: bool) {
     let facing = Facing {
         from_trusted: true,
@@ -280,17 +299,9 @@ fn put_shown(out: &mut Report, alloc: Global, m: &Msg, restricted: bool, to_trus
         present: true,
     };
     match shown(alloc, m, &facing, to_trusted) {
-        Ok(lines) => {
-            for line in lines.items() {
-                out.put(alloc, line.name.bytes());
-                out.put(alloc, b": ");
-                out.put(alloc, line.value.bytes());
-                out.put(alloc, b"\n");
-            }
-        }
+        Ok(lines) => put_lines(out, alloc, lines.items()),
         Err(_) => out.fail(),
     }
-    out.put(alloc, b"#\n");
 }
 
 /// What is passed on of these lines: to an untrusted peer, where the sender is restricted and where not, and then to a trusted one. A line `#` ends each.
@@ -322,12 +333,12 @@ Reason: SIP;cause=200
 
 #[test]
 fn shows_lines(rt: HostRuntime) -> Result<(), Fail> {
-    let made = invite(rt.alloc())?;
     let mut out = Report::new();
-    put_shown(&mut out, rt.alloc(), &made.message, true, false);
-    put_shown(&mut out, rt.alloc(), &made.message, false, false);
-    put_shown(&mut out, rt.alloc(), &made.message, true, true);
-    put_shown(&mut out, rt.alloc(), &made.message, false, true);
+    let message = invite(&mut out, rt.alloc())?;
+    put_shown(&mut out, rt.alloc(), &message, true, false);
+    put_shown(&mut out, rt.alloc(), &message, false, false);
+    put_shown(&mut out, rt.alloc(), &message, true, true);
+    put_shown(&mut out, rt.alloc(), &message, false, true);
     assert_eq!(rt; out.bytes(), SHOWN);
     Ok(())
 }
@@ -335,18 +346,17 @@ fn shows_lines(rt: HostRuntime) -> Result<(), Fail> {
 /// The From of an attempt for a sender that is restricted or not.
 fn put_from(out: &mut Report, alloc: Global, m: &Msg, restricted: bool) {
     match attempt_from(alloc, m, restricted, b"1-2") {
-        Ok(from) => out.put(alloc, from.bytes()),
+        Ok(from) => out.put_line(alloc, from.bytes()),
         Err(_) => out.fail(),
     }
-    out.put(alloc, b"\n");
 }
 
 #[test]
 fn writes_from(rt: HostRuntime) -> Result<(), Fail> {
-    let made = invite(rt.alloc())?;
     let mut out = Report::new();
-    put_from(&mut out, rt.alloc(), &made.message, true);
-    put_from(&mut out, rt.alloc(), &made.message, false);
+    let message = invite(&mut out, rt.alloc())?;
+    put_from(&mut out, rt.alloc(), &message, true);
+    put_from(&mut out, rt.alloc(), &message, false);
     assert_eq!(rt;
         out.bytes(),
         b"\"Anonymous\" <sip:anonymous@anonymous.invalid>;tag=1-2\n\"Cullen Jennings\" <sip:fluffy@cisco.com>;tag=1-2\n".as_slice()

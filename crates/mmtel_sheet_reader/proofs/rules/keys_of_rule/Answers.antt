@@ -4,8 +4,8 @@ use Rattle.toml.proofs.Views.{Entry}
 use Rattle.mmtel_sheet_reader.proofs.Sounds.{members_step}
 use Rattle.mmtel_sheet_reader.proofs.rules.keys_of_rule.Goals as goal
 
-pub members-preserved-in_ok-read_name : goal.members-preserved-in_ok-read_name
-members-preserved-in_ok-read_name c =
+pub members-preserved : goal.members-preserved
+members-preserved c =
     let (can, finite, same, left) = c.members.invariant in
     let e : Entry = (c.in-Some.key.now, c.in-Some.value.now) in
     let first : c.members.key-iterator ≡ e ∷ c.next.new.self = grind (arith, common_steps) in

@@ -14,7 +14,6 @@ pub mod Ran
 -- Noninterference:
 pub mod Mask
 pub mod Secret
-
 -- What private functions alone cite.
 pub mod Found
 pub mod Gives

@@ -11,6 +11,7 @@ use Rattle.mmtel_lex.specs.declared.values.Param.{Param}
 use Rattle.mmtel_message.specs.Fields as Fields
 use Rattle.mmtel_message.specs.Values as Values
 use Rattle.mmtel_message.specs.Expansion as Expansion
+use Rattle.mmtel_message.specs.Entries as Entries
 use Rattle.mmtel_message.specs.Faults as Faults
 use Rattle.mmtel_message.specs.Headers as Headers
 use Rattle.mmtel_message.specs.Lines as Lines
@@ -162,7 +163,7 @@ same_erin =
     ap (λ (p : List ℕ). built (codes "Erin") (codes "erin") (via_value ∷ []) (contact (codes "erin") ∷ []) (asserted (codes "erin") ∷ []) p) privacy_erin))
 
 faultless_erin : first_fault of_erin.start (five (codes "Erin") (codes "erin")) 0 of_erin.lines ≡ None
-unfolding Classes.in_class Numbers.within Numbers.number_of Scanning.run Scanning.after_run Scanning.parted Scanning.closes Scanning.trimmed Reading.token_at Reading.text_at Reading.value_at Reading.param_at Reading.params_at Reading.all_params_at Reading.user_at Reading.host_at Reading.port_number Reading.port_at Reading.headers_of Reading.headers_at Reading.sip_of Reading.scheme_of Reading.number_at Reading.tel_of Reading.uri_of Reading.angle_of Reading.bare_of Reading.words_of Reading.quoted_of Reading.name_addr_of Faults.is_dotted Faults.fault_from Fields.via_at Values.parts
+unfolding Classes.in_class Numbers.within Numbers.number_of Scanning.run Scanning.after_run Scanning.parted Scanning.closes Scanning.trimmed Reading.token_at Reading.text_at Reading.value_at Reading.param_at Reading.params_at Reading.all_params_at Reading.user_at Reading.host_at Reading.port_number Reading.port_at Reading.headers_of Reading.headers_at Reading.sip_of Reading.scheme_of Reading.number_at Reading.tel_of Reading.uri_of Reading.angle_of Reading.bare_of Reading.words_of Reading.quoted_of Reading.name_addr_of Entries.is_dotted Faults.fault_from Fields.via_at Values.parts
 faultless_erin = refl
 
 fields_erin : five_at of_erin.lines ≡ Some (five (codes "Erin") (codes "erin"))
@@ -229,7 +230,7 @@ same_frank =
     ap (λ (p : List ℕ). built (codes "Frank") (codes "frank") (via_value ∷ []) (contact (codes "frank") ∷ []) (asserted (codes "frank") ∷ []) p) privacy_frank))
 
 faultless_frank : first_fault of_frank.start (five (codes "Frank") (codes "frank")) 0 of_frank.lines ≡ None
-unfolding Classes.in_class Numbers.within Numbers.number_of Scanning.run Scanning.after_run Scanning.parted Scanning.closes Scanning.trimmed Reading.token_at Reading.text_at Reading.value_at Reading.param_at Reading.params_at Reading.all_params_at Reading.user_at Reading.host_at Reading.port_number Reading.port_at Reading.headers_of Reading.headers_at Reading.sip_of Reading.scheme_of Reading.number_at Reading.tel_of Reading.uri_of Reading.angle_of Reading.bare_of Reading.words_of Reading.quoted_of Reading.name_addr_of Faults.is_dotted Faults.fault_from Fields.via_at Values.parts
+unfolding Classes.in_class Numbers.within Numbers.number_of Scanning.run Scanning.after_run Scanning.parted Scanning.closes Scanning.trimmed Reading.token_at Reading.text_at Reading.value_at Reading.param_at Reading.params_at Reading.all_params_at Reading.user_at Reading.host_at Reading.port_number Reading.port_at Reading.headers_of Reading.headers_at Reading.sip_of Reading.scheme_of Reading.number_at Reading.tel_of Reading.uri_of Reading.angle_of Reading.bare_of Reading.words_of Reading.quoted_of Reading.name_addr_of Entries.is_dotted Faults.fault_from Fields.via_at Values.parts
 faultless_frank = refl
 
 fields_frank : five_at of_frank.lines ≡ Some (five (codes "Frank") (codes "frank"))
@@ -286,7 +287,7 @@ unfolding Classes.in_class Numbers.within Numbers.number_of Scanning.run Scannin
 masks_alike = refl
 
 pub hides_history : HidesHistory
-unfolding Fmt.digits Scanning.closes Mask.masked_line Kinds.kind_of Mask.hidden Mask.hidden_value Mask.served_value MaskedValues.masked_value_text MaskedValues.is_marked_value History.entry_of History.is_index History.is_dotted History.shown_uri History.entry_text EntryUri.user_part EntryUri.host_part EntryUri.cause_number EntryUri.cause_of EntryUri.hides EntryUri.is_marked EntryUri.with_cause Numbers.number_of Numbers.within Values.parts Values.parting Reading.name_addr_of Reading.words_of Reading.quoted_of Reading.angle_of Reading.bare_of Reading.all_params_at Reading.params_at Reading.param_at Reading.token_at Reading.value_at Reading.text_at Reading.user_at Reading.host_at Reading.port_number Reading.port_at Reading.headers_of Reading.headers_at Reading.sip_of Reading.scheme_of Reading.number_at Reading.tel_of Reading.uri_of Classes.in_class Scanning.run Scanning.after_run Scanning.trimmed Scanning.parted
+unfolding Fmt.digits Scanning.closes Mask.masked_line Kinds.kind_of Mask.hidden Mask.hidden_value Mask.served_value MaskedValues.masked_value_text MaskedValues.is_marked_value History.entry_of Entries.is_dotted History.shown_uri History.entry_text EntryUri.user_part EntryUri.host_part EntryUri.cause_number EntryUri.cause_of EntryUri.hides EntryUri.is_marked EntryUri.with_cause Numbers.number_of Numbers.within Values.parts Values.parting Reading.name_addr_of Reading.words_of Reading.quoted_of Reading.angle_of Reading.bare_of Reading.all_params_at Reading.params_at Reading.param_at Reading.token_at Reading.value_at Reading.text_at Reading.user_at Reading.host_at Reading.port_number Reading.port_at Reading.headers_of Reading.headers_at Reading.sip_of Reading.scheme_of Reading.number_at Reading.tel_of Reading.uri_of Classes.in_class Scanning.run Scanning.after_run Scanning.trimmed Scanning.parted
 hides_history = refl
 
 pub fewer_hops : FewerHops

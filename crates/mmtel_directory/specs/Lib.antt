@@ -2,6 +2,5 @@
 pub mod Lines
 pub mod Directory
 pub mod Configuration
-
 -- What private functions alone cite.
 pub mod Drafts

@@ -3,7 +3,8 @@ use Rattle.std.proofs.Common.{Option, Some, Result, Ok, Err, ◌∙◌, ℕ, ◌
 use Rattle.std.specs.List.{list_all}
 use Rattle.mmtel_message.specs.Message.{Message}
 use Rattle.mmtel_message.specs.declared.messages.Start.{Start}
-use Rattle.mmtel_leg.specs.Dialogues.{hears, next_number}
+use Rattle.mmtel_scan.specs.Numbers.{next_number}
+use Rattle.mmtel_leg.specs.Dialogues.{hears}
 use Rattle.mmtel_leg.specs.declared.dialogues.Dialogue.{Dialogue}
 use Rattle.mmtel_leg.specs.declared.dialogues.DialogueFault.{DialogueFault}
 use Rattle.mmtel_leg.specs.Deeds.{Deed, IsCountedFrom, after, after_answer, after_deed, given_back, is_later, put_in, requests}

@@ -14,7 +14,8 @@ use Rattle.mmtel_message.specs.Faults.{is_method}
 use Rattle.mmtel_message.specs.Fields.{cseq_at}
 use Rattle.mmtel_message.specs.Message.{Message}
 use Rattle.mmtel_message.specs.declared.messages.Start.{Start}
-use Rattle.mmtel_leg.specs.Dialogues.{after_hearing, after_request, hears, last_after, next_number, number_at, number_in, started, unless_busy, unless_old}
+use Rattle.mmtel_scan.specs.Numbers.{next_number}
+use Rattle.mmtel_leg.specs.Dialogues.{after_hearing, after_request, hears, last_after, number_at, number_in, started, unless_busy, unless_old}
 use Rattle.mmtel_leg.specs.declared.dialogues.Dialogue.{Dialogue}
 use Rattle.mmtel_leg.specs.declared.dialogues.DialogueFault.{DialogueFault}
 use Rattle.mmtel_leg.specs.declared.dialogues.InFlight.TheVariants as in_flight

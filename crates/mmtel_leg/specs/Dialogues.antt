@@ -3,6 +3,7 @@ use Rattle.std.specs.Prelude.{ℕ, ◌+◌, ◌-◌, ◌^◌, min, nat_lt, Bool,
 use Rattle.std.specs.Option.{option_map, unwrap_or}
 use Rattle.std.specs.Str.{bytes_eq}
 use Rattle.mmtel_scan.specs.Chain.{◌>>=◌}
+use Rattle.mmtel_scan.specs.Numbers.{next_number}
 use Rattle.mmtel_message.specs.Faults.{is_method}
 use Rattle.mmtel_message.specs.Fields.{cseq_at}
 use Rattle.mmtel_message.specs.Message.{Message, first_value}
@@ -30,10 +31,6 @@ number_at s = option_map (λ (c : CSeq). c.number) (cseq_at s)
 -- the number in CSeq, where that can be read
 unfoldable pub number_in : List Line → Option ℕ
 number_in ls = first_value (codes "CSeq") ls >>= number_at
-
--- the number of the next request, which stays at the greatest
-abbrev pub next_number : ℕ → ℕ
-next_number n = min (n + 1) (2 ^ 64 - 1)
 
 -- ---- how a dialog begins
 

@@ -12,7 +12,8 @@ use Rattle.mmtel_trust.specs.declared.showing.Line as showing
 use Rattle.mmtel_types.specs.declared.sides.Side.{Side}
 use Rattle.mmtel_types.specs.declared.sides.Side.TheVariants.{Caller, Callee}
 use Rattle.mmtel_leg.specs.Addresses.{contact_text, via_text}
-use Rattle.mmtel_leg.specs.Dialogues.{tagged, next_number}
+use Rattle.mmtel_scan.specs.Numbers.{next_number}
+use Rattle.mmtel_leg.specs.Dialogues.{tagged}
 use Rattle.mmtel_leg.specs.Lines.{line, pair_of}
 use Rattle.mmtel_leg.specs.declared.dialogues.Dialogue.{Dialogue}
 

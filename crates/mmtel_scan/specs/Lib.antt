@@ -2,6 +2,5 @@
 pub mod Classes
 pub mod Numbers
 pub mod Scanning
-
 -- What no clause of this crate cites: a word that the definitions of the crates above share.
 pub mod Chain

@@ -1,5 +1,5 @@
 -- Numbers in decimal digits, which may begin with zeros (RFC 3261 §25.1: 1*DIGIT).
-use Rattle.std.specs.Prelude.{◌≡◌, Option, Some, None, ◌==◌, if◌then◌else◌, ℕ, nat_lt, List, ◌∷◌, ◌++◌, length, decimal}
+use Rattle.std.specs.Prelude.{◌≡◌, Option, Some, None, ◌==◌, if◌then◌else◌, ℕ, nat_lt, ◌+◌, ◌-◌, ◌^◌, min, List, ◌∷◌, ◌++◌, length, decimal}
 use Rattle.std.specs.List.{list_all}
 use Rattle.std.specs.Str.Parse.{digits_value}
 use Rattle.mmtel_scan.specs.Classes.{in_class, IsOneOrMore}
@@ -21,3 +21,7 @@ pub record Writes (s : List ℕ) (n : ℕ) : Type 0 where
 -- the value of a tag, branch or Call-ID that is made of a token and a number: the token, a '-' and the number (RFC 3261 §19.3, §8.1.1.7, §8.1.1.4)
 abbrev pub token_text : List ℕ → ℕ → List ℕ
 token_text token n = token ++ 45 ∷ decimal n
+
+-- the number after this one, in 64 bits: it stays at the greatest
+abbrev pub next_number : ℕ → ℕ
+next_number n = min (n + 1) (2 ^ 64 - 1)

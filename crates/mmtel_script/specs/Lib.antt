@@ -5,6 +5,5 @@ pub mod ScriptGrammar
 pub mod Listing
 -- Of the laws alone:
 pub mod ReadBack
-
 -- What private functions alone cite.
 pub mod Tellings

@@ -12,4 +12,3 @@ mod Repeats
 mod Acks
 mod Silence
 mod Ends
-mod Rows

@@ -13,8 +13,7 @@ use Rattle.mmtel_transaction.specs.Calls.{Done, DidBegin, DidHear, DidAsk, DidRe
 use Rattle.mmtel_transaction.specs.Answers.{Next, by_key, fires, hear_says, hears, is_before, next_due, part_of, says_due, tkey}
 use Rattle.mmtel_transaction.specs.Runs.{IsRun}
 use Rattle.mmtel_transaction.specs.Stands.{HasRoom}
-use Rattle.mmtel_transaction.specs.Tokens.{next_number}
-use Rattle.mmtel_scan.specs.Numbers.{token_text}
+use Rattle.mmtel_scan.specs.Numbers.{next_number, token_text}
 use Rattle.mmtel_transaction.specs.declared.entries.Entry.{Entry}
 use Rattle.mmtel_transaction.specs.declared.heads.Head.{Head}
 use Rattle.mmtel_transaction.specs.declared.parts.Part.TheVariants as part

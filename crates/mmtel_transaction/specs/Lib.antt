@@ -8,6 +8,5 @@ pub mod Runs
 pub mod Stands
 pub mod Tokens
 pub mod Laws
-pub mod Rows
 -- What private functions cite.
 pub mod Table

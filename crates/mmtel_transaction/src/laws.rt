@@ -1,6 +1,5 @@
 //! Laws over whole lists of calls: each is the contract of a function that does nothing.
 ghost use Rattle.mmtel_transaction.specs.Laws.{AcksEndResends, FewAreOpened, FiresInOrder, InvitesAreGivenUp, KeysAreTheirOwn, LastOnesEnd, NumbersCount, NumbersDiffer, OthersAreGivenUp, RepeatsOpenNothing, RoomIsLeft, StrangersGetNothing, TheFirstFires, TokensDiffer, WhatEndedStays};
-ghost use Rattle.mmtel_transaction.specs.Rows.{EndsAfterTheAck, RepeatedInvite, SecondSilence, Silence};
 
 /// An INVITE that nobody answers is sent again at the moments of its closed list, then it is given up, and then nothing is due (RFC 3261 §17.1.1.2).
 pub fn invites_are_given_up()
@@ -51,12 +50,4 @@ pub fn ends_are_given_once()
 /// Each token is drawn once: those of two draws differ, before the number of the draw stays at its greatest.
 pub fn tokens_differ()
     ensures differ { TokensDiffer }
-{}
-
-/// Two worked sequences of calls compute from the definitions: a repeated INVITE and its final, and an INVITE that nobody answers with the one that is sent after it.
-pub fn rows_compute()
-    ensures repeated { RepeatedInvite }
-    ensures silence { Silence }
-    ensures second { SecondSilence }
-    ensures ended { EndsAfterTheAck }
 {}

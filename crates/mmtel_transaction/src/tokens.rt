@@ -1,7 +1,6 @@
 //! Tokens: the values of the tags, branches and Call-IDs that the server makes.
 ghost use Rattle.std.specs.Prelude.{◌≡◌, OnOk, OnErr, IfOk};
-ghost use Rattle.mmtel_scan.specs.Numbers.{token_text};
-ghost use Rattle.mmtel_transaction.specs.Tokens.{next_number};
+ghost use Rattle.mmtel_scan.specs.Numbers.{next_number, token_text};
 
 use mmtel_scan::{NoMemory, Text, token_text};
 use std::alloc::Global;

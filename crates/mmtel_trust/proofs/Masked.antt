@@ -15,7 +15,7 @@ use Rattle.mmtel_lex.proofs.NameAddrLaws.{name_addr_again, name_addr_takes}
 use Rattle.mmtel_message.specs.Message.{Message}
 use Rattle.mmtel_message.specs.declared.messages.Start.{Start}
 use Rattle.mmtel_history.specs.HistoryInfo.{anonymous}
-use Rattle.mmtel_history.specs.MaskedValues.{is_marked_value, masked_value_text}
+use Rattle.mmtel_history.specs.MaskedValues.{is_marked_value}
 use Rattle.mmtel_history.proofs.MaskedValueLaws.{masked_value_once, masked_value_shown}
 use Rattle.mmtel_trust.specs.Kinds.{kind_of}
 use Rattle.mmtel_trust.specs.Passed.{Line, is_shown, asserted_lines, passed}

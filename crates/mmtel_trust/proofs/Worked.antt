@@ -8,6 +8,7 @@ use Rattle.mmtel_lex.specs.Reading as Reading
 use Rattle.mmtel_lex.specs.SameIdentity as SameIdentity
 use Rattle.mmtel_lex.specs.declared.values.Uri.TheVariants.{Sip}
 use Rattle.mmtel_message.specs.Message.{Message}
+use Rattle.mmtel_message.specs.Entries as Entries
 use Rattle.mmtel_message.specs.Values as Values
 use Rattle.mmtel_message.specs.declared.messages.Start.{Start}
 use Rattle.mmtel_message.specs.declared.messages.Start.TheVariants.{Request}
@@ -112,37 +113,37 @@ left trusted more = (hide restricts accounts (heard trusted (invite more))).line
 worked_permanent : left true [] ≡
     (codes "From", codes "<sip:anonymous@anonymous.invalid>;tag=7") ∷
     (codes "To", codes "<sip:bob@far.example>") ∷ []
-unfolding Fmt.digits SameIdentity.is_same_identity Scanning.closes masked_line kind_of hidden hidden_value served_value masked_value_text is_marked_value History.entry_of History.is_index History.is_dotted History.shown_uri History.entry_text EntryUri.user_part EntryUri.host_part EntryUri.cause_number EntryUri.cause_of EntryUri.hides EntryUri.is_marked EntryUri.with_cause Numbers.number_of Numbers.within Values.parts Values.parting Reading.name_addr_of Reading.words_of Reading.quoted_of Reading.angle_of Reading.bare_of Reading.all_params_at Reading.params_at Reading.param_at Reading.token_at Reading.value_at Reading.text_at Reading.user_at Reading.host_at Reading.port_number Reading.port_at Reading.headers_of Reading.headers_at Reading.sip_of Reading.scheme_of Reading.number_at Reading.tel_of Reading.uri_of Classes.in_class Scanning.run Scanning.after_run Scanning.trimmed Scanning.parted
+unfolding Fmt.digits SameIdentity.is_same_identity Scanning.closes masked_line kind_of hidden hidden_value served_value masked_value_text is_marked_value History.entry_of Entries.is_dotted History.shown_uri History.entry_text EntryUri.user_part EntryUri.host_part EntryUri.cause_number EntryUri.cause_of EntryUri.hides EntryUri.is_marked EntryUri.with_cause Numbers.number_of Numbers.within Values.parts Values.parting Reading.name_addr_of Reading.words_of Reading.quoted_of Reading.angle_of Reading.bare_of Reading.all_params_at Reading.params_at Reading.param_at Reading.token_at Reading.value_at Reading.text_at Reading.user_at Reading.host_at Reading.port_number Reading.port_at Reading.headers_of Reading.headers_at Reading.sip_of Reading.scheme_of Reading.number_at Reading.tel_of Reading.uri_of Classes.in_class Scanning.run Scanning.after_run Scanning.trimmed Scanning.parted
 worked_permanent = refl
 
 worked_served : left true ((codes "P-Served-User", codes "<sip:a@h>;sescase=orig") ∷ []) ≡
     (codes "From", codes "<sip:anonymous@anonymous.invalid>;tag=7") ∷
     (codes "To", codes "<sip:bob@far.example>") ∷
     (codes "P-Served-User", codes "<sip:anonymous@anonymous.invalid>;sescase=orig") ∷ []
-unfolding Fmt.digits SameIdentity.is_same_identity Scanning.closes masked_line kind_of hidden hidden_value served_value masked_value_text is_marked_value History.entry_of History.is_index History.is_dotted History.shown_uri History.entry_text EntryUri.user_part EntryUri.host_part EntryUri.cause_number EntryUri.cause_of EntryUri.hides EntryUri.is_marked EntryUri.with_cause Numbers.number_of Numbers.within Values.parts Values.parting Reading.name_addr_of Reading.words_of Reading.quoted_of Reading.angle_of Reading.bare_of Reading.all_params_at Reading.params_at Reading.param_at Reading.token_at Reading.value_at Reading.text_at Reading.user_at Reading.host_at Reading.port_number Reading.port_at Reading.headers_of Reading.headers_at Reading.sip_of Reading.scheme_of Reading.number_at Reading.tel_of Reading.uri_of Classes.in_class Scanning.run Scanning.after_run Scanning.trimmed Scanning.parted
+unfolding Fmt.digits SameIdentity.is_same_identity Scanning.closes masked_line kind_of hidden hidden_value served_value masked_value_text is_marked_value History.entry_of Entries.is_dotted History.shown_uri History.entry_text EntryUri.user_part EntryUri.host_part EntryUri.cause_number EntryUri.cause_of EntryUri.hides EntryUri.is_marked EntryUri.with_cause Numbers.number_of Numbers.within Values.parts Values.parting Reading.name_addr_of Reading.words_of Reading.quoted_of Reading.angle_of Reading.bare_of Reading.all_params_at Reading.params_at Reading.param_at Reading.token_at Reading.value_at Reading.text_at Reading.user_at Reading.host_at Reading.port_number Reading.port_at Reading.headers_of Reading.headers_at Reading.sip_of Reading.scheme_of Reading.number_at Reading.tel_of Reading.uri_of Classes.in_class Scanning.run Scanning.after_run Scanning.trimmed Scanning.parted
 worked_served = refl
 
 -- where the terminating user is served, her record is not asked; of two lines the first counts, and of two parameters
 worked_terminating : left true ((codes "P-Served-User", codes "<sip:bob@home.example>;sescase=term;sescase=orig") ∷ (codes "P-Served-User", codes "<sip:a@h>;sescase=orig") ∷ []) ≡
     (invite ((codes "P-Served-User", codes "<sip:bob@home.example>;sescase=term;sescase=orig") ∷ (codes "P-Served-User", codes "<sip:a@h>;sescase=orig") ∷ [])).lines
-unfolding Fmt.digits SameIdentity.is_same_identity Scanning.closes masked_line kind_of hidden hidden_value served_value masked_value_text is_marked_value History.entry_of History.is_index History.is_dotted History.shown_uri History.entry_text EntryUri.user_part EntryUri.host_part EntryUri.cause_number EntryUri.cause_of EntryUri.hides EntryUri.is_marked EntryUri.with_cause Numbers.number_of Numbers.within Values.parts Values.parting Reading.name_addr_of Reading.words_of Reading.quoted_of Reading.angle_of Reading.bare_of Reading.all_params_at Reading.params_at Reading.param_at Reading.token_at Reading.value_at Reading.text_at Reading.user_at Reading.host_at Reading.port_number Reading.port_at Reading.headers_of Reading.headers_at Reading.sip_of Reading.scheme_of Reading.number_at Reading.tel_of Reading.uri_of Classes.in_class Scanning.run Scanning.after_run Scanning.trimmed Scanning.parted
+unfolding Fmt.digits SameIdentity.is_same_identity Scanning.closes masked_line kind_of hidden hidden_value served_value masked_value_text is_marked_value History.entry_of Entries.is_dotted History.shown_uri History.entry_text EntryUri.user_part EntryUri.host_part EntryUri.cause_number EntryUri.cause_of EntryUri.hides EntryUri.is_marked EntryUri.with_cause Numbers.number_of Numbers.within Values.parts Values.parting Reading.name_addr_of Reading.words_of Reading.quoted_of Reading.angle_of Reading.bare_of Reading.all_params_at Reading.params_at Reading.param_at Reading.token_at Reading.value_at Reading.text_at Reading.user_at Reading.host_at Reading.port_number Reading.port_at Reading.headers_of Reading.headers_at Reading.sip_of Reading.scheme_of Reading.number_at Reading.tel_of Reading.uri_of Classes.in_class Scanning.run Scanning.after_run Scanning.trimmed Scanning.parted
 worked_terminating = refl
 
 -- but a word of Privacy restricts her still, and the account that stands beside is hers
 worked_asked : (hide restricts accounts (heard true (invite ((codes "P-Served-User", codes "<sip:bob@home.example>;sescase=term") ∷ (codes "Privacy", codes "id") ∷ [])))).tests ≡ Answers (Some alice) true
-unfolding Fmt.digits SameIdentity.is_same_identity Scanning.closes masked_line kind_of hidden hidden_value served_value masked_value_text is_marked_value History.entry_of History.is_index History.is_dotted History.shown_uri History.entry_text EntryUri.user_part EntryUri.host_part EntryUri.cause_number EntryUri.cause_of EntryUri.hides EntryUri.is_marked EntryUri.with_cause Numbers.number_of Numbers.within Values.parts Values.parting Reading.name_addr_of Reading.words_of Reading.quoted_of Reading.angle_of Reading.bare_of Reading.all_params_at Reading.params_at Reading.param_at Reading.token_at Reading.value_at Reading.text_at Reading.user_at Reading.host_at Reading.port_number Reading.port_at Reading.headers_of Reading.headers_at Reading.sip_of Reading.scheme_of Reading.number_at Reading.tel_of Reading.uri_of Classes.in_class Scanning.run Scanning.after_run Scanning.trimmed Scanning.parted
+unfolding Fmt.digits SameIdentity.is_same_identity Scanning.closes masked_line kind_of hidden hidden_value served_value masked_value_text is_marked_value History.entry_of Entries.is_dotted History.shown_uri History.entry_text EntryUri.user_part EntryUri.host_part EntryUri.cause_number EntryUri.cause_of EntryUri.hides EntryUri.is_marked EntryUri.with_cause Numbers.number_of Numbers.within Values.parts Values.parting Reading.name_addr_of Reading.words_of Reading.quoted_of Reading.angle_of Reading.bare_of Reading.all_params_at Reading.params_at Reading.param_at Reading.token_at Reading.value_at Reading.text_at Reading.user_at Reading.host_at Reading.port_number Reading.port_at Reading.headers_of Reading.headers_at Reading.sip_of Reading.scheme_of Reading.number_at Reading.tel_of Reading.uri_of Classes.in_class Scanning.run Scanning.after_run Scanning.trimmed Scanning.parted
 worked_asked = refl
 
 -- of a peer that is not trusted nothing is believed, and nothing is private
 worked_stranger : left false ((codes "Privacy", codes "id;history") ∷ (codes "History-Info", codes "<sip:carol@home.example;cause=486>;index=1") ∷ []) ≡
     (invite ((codes "Privacy", codes "id;history") ∷ (codes "History-Info", codes "<sip:carol@home.example;cause=486>;index=1") ∷ [])).lines
-unfolding Fmt.digits SameIdentity.is_same_identity Scanning.closes masked_line kind_of hidden hidden_value served_value masked_value_text is_marked_value History.entry_of History.is_index History.is_dotted History.shown_uri History.entry_text EntryUri.user_part EntryUri.host_part EntryUri.cause_number EntryUri.cause_of EntryUri.hides EntryUri.is_marked EntryUri.with_cause Numbers.number_of Numbers.within Values.parts Values.parting Reading.name_addr_of Reading.words_of Reading.quoted_of Reading.angle_of Reading.bare_of Reading.all_params_at Reading.params_at Reading.param_at Reading.token_at Reading.value_at Reading.text_at Reading.user_at Reading.host_at Reading.port_number Reading.port_at Reading.headers_of Reading.headers_at Reading.sip_of Reading.scheme_of Reading.number_at Reading.tel_of Reading.uri_of Classes.in_class Scanning.run Scanning.after_run Scanning.trimmed Scanning.parted
+unfolding Fmt.digits SameIdentity.is_same_identity Scanning.closes masked_line kind_of hidden hidden_value served_value masked_value_text is_marked_value History.entry_of Entries.is_dotted History.shown_uri History.entry_text EntryUri.user_part EntryUri.host_part EntryUri.cause_number EntryUri.cause_of EntryUri.hides EntryUri.is_marked EntryUri.with_cause Numbers.number_of Numbers.within Values.parts Values.parting Reading.name_addr_of Reading.words_of Reading.quoted_of Reading.angle_of Reading.bare_of Reading.all_params_at Reading.params_at Reading.param_at Reading.token_at Reading.value_at Reading.text_at Reading.user_at Reading.host_at Reading.port_number Reading.port_at Reading.headers_of Reading.headers_at Reading.sip_of Reading.scheme_of Reading.number_at Reading.tel_of Reading.uri_of Classes.in_class Scanning.run Scanning.after_run Scanning.trimmed Scanning.parted
 worked_stranger = refl
 
 -- an unrestricted INVITE that asks that its history be hidden: the entries are private, and nothing else
 worked_history : (hide by_id [] (heard true (invite ((codes "Privacy", codes "history") ∷ (codes "History-Info", codes "\"Carol\" <sip:carol@home.example;cause=486>;index=1.1;np=1") ∷ [])))).lines ≡
     (invite ((codes "Privacy", codes "history") ∷ (codes "History-Info", codes "<sip:anonymous@anonymous.invalid;cause=486>;index=1.1;np=1") ∷ [])).lines
-unfolding Fmt.digits SameIdentity.is_same_identity Scanning.closes masked_line kind_of hidden hidden_value served_value masked_value_text is_marked_value History.entry_of History.is_index History.is_dotted History.shown_uri History.entry_text EntryUri.user_part EntryUri.host_part EntryUri.cause_number EntryUri.cause_of EntryUri.hides EntryUri.is_marked EntryUri.with_cause Numbers.number_of Numbers.within Values.parts Values.parting Reading.name_addr_of Reading.words_of Reading.quoted_of Reading.angle_of Reading.bare_of Reading.all_params_at Reading.params_at Reading.param_at Reading.token_at Reading.value_at Reading.text_at Reading.user_at Reading.host_at Reading.port_number Reading.port_at Reading.headers_of Reading.headers_at Reading.sip_of Reading.scheme_of Reading.number_at Reading.tel_of Reading.uri_of Classes.in_class Scanning.run Scanning.after_run Scanning.trimmed Scanning.parted
+unfolding Fmt.digits SameIdentity.is_same_identity Scanning.closes masked_line kind_of hidden hidden_value served_value masked_value_text is_marked_value History.entry_of Entries.is_dotted History.shown_uri History.entry_text EntryUri.user_part EntryUri.host_part EntryUri.cause_number EntryUri.cause_of EntryUri.hides EntryUri.is_marked EntryUri.with_cause Numbers.number_of Numbers.within Values.parts Values.parting Reading.name_addr_of Reading.words_of Reading.quoted_of Reading.angle_of Reading.bare_of Reading.all_params_at Reading.params_at Reading.param_at Reading.token_at Reading.value_at Reading.text_at Reading.user_at Reading.host_at Reading.port_number Reading.port_at Reading.headers_of Reading.headers_at Reading.sip_of Reading.scheme_of Reading.number_at Reading.tel_of Reading.uri_of Classes.in_class Scanning.run Scanning.after_run Scanning.trimmed Scanning.parted
 worked_history = refl
 
 -- without that word only the marked one of two entries is; in a restricted opening too
@@ -151,5 +152,5 @@ worked_marked : left true ((codes "History-Info", codes "<sip:carol@home.example
     (codes "To", codes "<sip:bob@far.example>") ∷
     (codes "History-Info", codes "<sip:anonymous@anonymous.invalid>;index=1") ∷
     (codes "History-Info", codes "<sip:dave@home.example;cause=302>;index=1.1") ∷ []
-unfolding Fmt.digits SameIdentity.is_same_identity Scanning.closes masked_line kind_of hidden hidden_value served_value masked_value_text is_marked_value History.entry_of History.is_index History.is_dotted History.shown_uri History.entry_text EntryUri.user_part EntryUri.host_part EntryUri.cause_number EntryUri.cause_of EntryUri.hides EntryUri.is_marked EntryUri.with_cause Numbers.number_of Numbers.within Values.parts Values.parting Reading.name_addr_of Reading.words_of Reading.quoted_of Reading.angle_of Reading.bare_of Reading.all_params_at Reading.params_at Reading.param_at Reading.token_at Reading.value_at Reading.text_at Reading.user_at Reading.host_at Reading.port_number Reading.port_at Reading.headers_of Reading.headers_at Reading.sip_of Reading.scheme_of Reading.number_at Reading.tel_of Reading.uri_of Classes.in_class Scanning.run Scanning.after_run Scanning.trimmed Scanning.parted
+unfolding Fmt.digits SameIdentity.is_same_identity Scanning.closes masked_line kind_of hidden hidden_value served_value masked_value_text is_marked_value History.entry_of Entries.is_dotted History.shown_uri History.entry_text EntryUri.user_part EntryUri.host_part EntryUri.cause_number EntryUri.cause_of EntryUri.hides EntryUri.is_marked EntryUri.with_cause Numbers.number_of Numbers.within Values.parts Values.parting Reading.name_addr_of Reading.words_of Reading.quoted_of Reading.angle_of Reading.bare_of Reading.all_params_at Reading.params_at Reading.param_at Reading.token_at Reading.value_at Reading.text_at Reading.user_at Reading.host_at Reading.port_number Reading.port_at Reading.headers_of Reading.headers_at Reading.sip_of Reading.scheme_of Reading.number_at Reading.tel_of Reading.uri_of Classes.in_class Scanning.run Scanning.after_run Scanning.trimmed Scanning.parted
 worked_marked = refl

@@ -1,7 +1,7 @@
 -- What is read of a message that was heard: a field for each part that the rules of a run read, and the lines, which hold all that may be private. A masked digest is a digest too: in it only the lines and the tests differ, so that whatever reads the other fields sees no difference.
 --
 -- What is decided from a private place is asked by one of two words, which look at the tests first: the account of the caller, and whether the caller has an identity.
-use Rattle.std.specs.Prelude.{ℕ, Bool, true, false, ◌&&◌, ◌||◌, Option, Some, None, is_some, is_none, List, codes, if◌then◌else◌}
+use Rattle.std.specs.Prelude.{ℕ, Bool, false, ◌&&◌, ◌||◌, Option, Some, None, is_some, is_none, List, codes, if◌then◌else◌}
 use Rattle.mmtel_scan.specs.Chain.{◌>>=◌}
 use Rattle.mmtel_scan.specs.Numbers.{number_of}
 use Rattle.mmtel_lex.specs.Reading.{name_addr_of, uri_of}

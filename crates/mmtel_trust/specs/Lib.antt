@@ -1,3 +1,4 @@
+-- What public clauses cite, the laws among them.
 pub mod Accounts
 pub mod Addrs
 pub mod Asserted
@@ -10,4 +11,5 @@ pub mod Passed
 pub mod Peers
 pub mod Privacy
 pub mod Shown
+-- What private functions cite.
 pub mod Written

@@ -5,6 +5,7 @@ use Rattle.mmtel_lex.specs.Grammar.{name_addr_text}
 use Rattle.mmtel_lex.specs.Reading.{name_addr_of}
 use Rattle.mmtel_lex.specs.declared.values.NameAddr.{NameAddr}
 use Rattle.mmtel_message.specs.Message.{first_value, named}
+use Rattle.mmtel_history.specs.HistoryInfo.{anonymous}
 use Rattle.mmtel_trust.specs.Kinds.{kind_of}
 use Rattle.mmtel_trust.specs.Privacy.{restricted_text}
 pub use Rattle.mmtel_trust.specs.Privacy.{Line}
@@ -47,9 +48,13 @@ passed f to_trusted history ls = asserted_lines f to_trusted ls ++ (privacy_line
 
 -- ---- From
 
+-- nobody, by display and URI (RFC 3323 §4.1.1.3)
+abbrev pub nobody : NameAddr
+nobody = record { display = codes "\"Anonymous\""; uri = anonymous; params = [] }
+
 -- the display and the URI of a name-addr, or of nobody
 abbrev pub named_text : Option NameAddr → List ℕ
-named_text None = codes "\"Anonymous\" <sip:anonymous@anonymous.invalid>"
+named_text None = name_addr_text nobody
 named_text (Some n) = name_addr_text (record n { params = [] })
 
 abbrev pub read_by : Option (List ℕ) → Option NameAddr

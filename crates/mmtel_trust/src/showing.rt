@@ -3,10 +3,11 @@ ghost use Rattle.std.specs.Prelude.{◌≡◌, ◌∷◌, ◌++◌, ◌&&◌, �
 ghost use Rattle.std.specs.Option.{option_copied};
 ghost use Rattle.mmtel_message.specs.Message.{first_value, named};
 ghost use Rattle.mmtel_trust.specs.Shown.{line_of};
-ghost use Rattle.mmtel_trust.specs.Passed.{passes, is_shown, asserted_lines, privacy_lines, other_lines, passed, named_text, attempt_from, read_by};
+ghost use Rattle.mmtel_trust.specs.Passed.{passes, is_shown, asserted_lines, privacy_lines, other_lines, passed, nobody, named_text, attempt_from, read_by};
 
 use crate::kinds::{Kind, kind_of};
 use crate::privacy::restricted_text;
+use mmtel_history::ANONYMOUS;
 use mmtel_lex::{LexFault, List, NameAddr, NoMemory, Text, print_name_addr, read_name_addr};
 use mmtel_message::{Msg, first_of, is_line};
 use std::alloc::Global;
@@ -167,12 +168,25 @@ pub fn shown(alloc: Global, m: &Msg, f: &Facing, to_trusted: bool) -> Result<Lis
     shown_of(alloc, m.lines(), *f, to_trusted)
 }
 
+/// Nobody, by display and URI (RFC 3323 §4.1.1.3).
+fn nobody(alloc: Global) -> Result<NameAddr, NoMemory>
+    ensures { IfOk result (λ n. n ≡ nobody) }
+{
+    let display = Text::of(alloc, b"\"Anonymous\"")?;
+    let uri = Text::of(alloc, ANONYMOUS)?;
+    Ok(NameAddr {
+        display,
+        uri,
+        params: List::new(),
+    })
+}
+
 /// The text of a display and a URI, or of nobody.
 fn named_text(alloc: Global, name: Option<NameAddr>) -> Result<Text, NoMemory>
     ensures { IfOk result (λ t. t ≡ named_text name) }
 {
     match name {
-        None => Text::of(alloc, b"\"Anonymous\" <sip:anonymous@anonymous.invalid>"),
+        None => print_name_addr(alloc, &nobody(alloc)?),
         Some(name) => {
             let NameAddr {
                 display,

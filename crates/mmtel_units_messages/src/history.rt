@@ -1,7 +1,9 @@
 //! History-Info: reading, diversions, marks and masks.
 
 use crate::tables::{Report, next_line};
-use mmtel_history::{Entry, History, HistoryFault, read_values, with_cause, write_entry};
+use mmtel_history::{
+    Entry, History, HistoryFault, read_values, with_cause, without_cause, write_entry,
+};
 use mmtel_lex::{List, NoMemory, Text};
 use std::alloc::Global;
 use std::test::Fail;
@@ -210,6 +212,8 @@ const UNREADABLE: &[u8] = br#"
 <sip:a@b>;index=1.
 <sip:a@b>;index=1..1
 <sip:a@b>;index="1"
+<sip:a@b>;index=x;index=1
+<sip:a@b>;index;index=1
 <sip:a@b>;index=a
 <sip:a@b;index=1>
 "#;
@@ -227,7 +231,7 @@ fn put_second(out: &mut Report, alloc: Global, value: &[u8]) {
 fn refuses_values(rt: HostRuntime) -> Result<(), Fail> {
     let mut out = Report::new();
     let mut rows = UNREADABLE;
-    for _ in 0..9 {
+    for _ in 0..11 {
         let (value, rest) = next_line(rows);
         rows = rest;
         put_second(&mut out, rt.alloc(), value);
@@ -235,7 +239,7 @@ fn refuses_values(rt: HostRuntime) -> Result<(), Fail> {
     assert!(rt; rows.is_empty());
     assert_eq!(rt;
         out.bytes(),
-        b"malformed 1\nmalformed 1\nmalformed 1\nmalformed 1\nmalformed 1\nmalformed 1\nmalformed 1\nmalformed 1\nmalformed 1\n".as_slice()
+        b"malformed 1\nmalformed 1\nmalformed 1\nmalformed 1\nmalformed 1\nmalformed 1\nmalformed 1\nmalformed 1\nmalformed 1\nmalformed 1\nmalformed 1\n".as_slice()
     );
     Ok(())
 }
@@ -322,6 +326,75 @@ fn tells_two_diversions(rt: HostRuntime) -> Result<(), Fail> {
         out.bytes(),
         b"<sip:bob@home.example>;index=1\n<sip:carol@home.example;cause=302>;index=1.1\n<sip:vm@far.example;cause=486>;index=1.1.1\n2".as_slice()
     );
+    Ok(())
+}
+
+/// Bob diverts to a URI with a cause of its own.
+fn put_own_cause(out: &mut Report, alloc: Global, mut history: History) {
+    divert(
+        out,
+        alloc,
+        &mut history,
+        b"sip:vm@far;cause=486",
+        302,
+        false,
+    );
+    put_history(out, alloc, &history);
+    out.put_number(alloc, usize::from(history.diversions()));
+}
+
+/// URIs with causes of their own among their parameters, and what looks like one elsewhere.
+const CAUSED: &[u8] = br#"sip:vm@far;cause=486
+sip:vm@far;x=1;CAUSE=486;y?Privacy=history
+sip:vm@far;cause;cause=486;causes=1
+sip:vm;cause=1@far;p
+sip:vm@far?cause=486
+tel:+49;cause=404
+"#;
+
+/// The URI without its causes, and with one of 302 in their place.
+fn put_caused(out: &mut Report, alloc: Global, uri: &[u8]) {
+    match without_cause(alloc, uri) {
+        Ok(plain) => out.put_line(alloc, plain.bytes()),
+        Err(_) => out.fail(),
+    }
+    match with_cause(alloc, uri, 302) {
+        Ok(caused) => out.put_line(alloc, caused.bytes()),
+        Err(_) => out.fail(),
+    }
+}
+
+/// The cause of a diversion stands in place of the target's own.
+#[test]
+fn takes_out_a_cause(rt: HostRuntime) -> Result<(), Fail> {
+    let mut out = Report::new();
+    let mut rows = CAUSED;
+    for _ in 0..6 {
+        let (uri, rest) = next_line(rows);
+        rows = rest;
+        put_caused(&mut out, rt.alloc(), uri);
+    }
+    assert!(rt; rows.is_empty());
+    match read_values(rt.alloc(), &List::new()) {
+        Ok(history) => put_own_cause(&mut out, rt.alloc(), history),
+        Err(_) => out.fail(),
+    }
+    let wanted = br#"sip:vm@far
+sip:vm@far;cause=302
+sip:vm@far;x=1;y?Privacy=history
+sip:vm@far;x=1;y;cause=302?Privacy=history
+sip:vm@far;causes=1
+sip:vm@far;causes=1;cause=302
+sip:vm;cause=1@far;p
+sip:vm;cause=1@far;p;cause=302
+sip:vm@far?cause=486
+sip:vm@far;cause=302?cause=486
+tel:+49
+tel:+49;cause=302
+<sip:bob@home.example>;index=1
+<sip:vm@far;cause=302>;index=1.1
+1"#;
+    assert_eq!(rt; out.bytes(), wanted.as_slice());
     Ok(())
 }
 

@@ -1,0 +1,10 @@
+//! Worked sequences of calls, as the contract of a function that does nothing.
+ghost use Rattle.mmtel_transaction_rows.specs.Rows.{EndsAfterTheAck, RepeatedInvite, SecondSilence, Silence};
+
+/// Two worked sequences of calls compute from the definitions: a repeated INVITE and its final, and an INVITE that nobody answers with the one that is sent after it.
+pub fn rows_compute()
+    ensures repeated { RepeatedInvite }
+    ensures silence { Silence }
+    ensures second { SecondSilence }
+    ensures ended { EndsAfterTheAck }
+{}

@@ -10,7 +10,7 @@ use Rattle.mmtel_outside.specs.Shelf.{Shelf, answer_at, called}
 use Rattle.mmtel_cli.specs.Words.{Asked}
 use Rattle.mmtel_directory.specs.declared.directories.Directory.{Directory}
 use Rattle.mmtel_cli.specs.declared.due.Due.{Due}
-use Rattle.mmtel_cli.specs.declared.due.Due.TheVariants.{Usage, Line, File, Memory, Listing}
+use Rattle.mmtel_cli.specs.declared.due.Due.TheVariants.{Usage, Line, File, Listing}
 use Rattle.mmtel_outside.specs.declared.events.Event.{Event}
 
 -- what is due once the script was read: the listing of what the run of its events gives, or its first bad line

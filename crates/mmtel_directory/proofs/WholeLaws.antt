@@ -1,5 +1,5 @@
 -- What is read so far of a configuration, and the whole grammar.
-use Rattle.std.proofs.Common.{◌≡◌, ◌==◌, true, cond, map, ℕ, ◌+◌, List, [], length, Option, Some, None, Result, Ok, refl, ap, ◌∙◌}
+use Rattle.std.proofs.Common.{◌≡◌, ◌==◌, true, cond, map, ℕ, ◌+◌, List, [], length, Some, None, Result, Ok, refl, ap, ◌∙◌}
 use Rattle.std.specs.List.{slice_split}
 use Rattle.mmtel_scan.proofs.ChainLaws.{bind_some, where_some, some_is}
 use Rattle.mmtel_directory.specs.declared.config_lines.Line.{Line}

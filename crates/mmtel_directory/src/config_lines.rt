@@ -130,7 +130,7 @@ fn read_trust(word: &[u8]) -> Option<bool>
 
 /// The number of a peer: 1 to 1,024.
 pub fn read_peer(digits: &[u8]) -> Option<Peer>
-    ensures { result ≡ peer_of digits.now }
+    ensures number { result ≡ peer_of digits.now }
 {
     let number = number_from(1, 1024, digits)?;
     Some(Peer(number as u16))

@@ -1,5 +1,5 @@
 -- What is read so far of a script, and the whole grammar.
-use Rattle.std.proofs.Common.{◌≡◌, ◌||◌, Bool, true, false, cond, map, ℕ, List, [], ◌∷◌, ◌++◌, Option, Some, None, Result, Ok, Err, refl, ap, sym, ◌∙◌}
+use Rattle.std.proofs.Common.{◌≡◌, ◌||◌, Bool, true, false, cond, map, ℕ, List, [], ◌∷◌, ◌++◌, Some, None, Result, Ok, Err, refl, ap, sym, ◌∙◌}
 use Rattle.std.specs.List.{list_any}
 use Rattle.mmtel_scan.proofs.ChainLaws.{bind_some, where_some, some_is}
 use Rattle.mmtel_trust.specs.declared.parties.KnownPeer.{KnownPeer}

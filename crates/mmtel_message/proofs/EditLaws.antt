@@ -11,10 +11,7 @@ use Rattle.mmtel_message.proofs.LineLaws.{mapped, unmapped, same_some}
 use Rattle.mmtel_message.specs.Message.{is_line, first_value, replaced, dropped}
 use Rattle.mmtel_message.specs.Faults.{line_fault, fault_from}
 use Rattle.mmtel_message.specs.Entries.{dotted_step, is_dotted}
-use Rattle.mmtel_lex.specs.Params.{param_value}
 use Rattle.mmtel_message.specs.Expansion.{lines_for, expanded_from}
-use Rattle.std.specs.Str.{str_eq_ignore_ascii_case}
-use Rattle.mmtel_lex.specs.declared.values.Param.{Param}
 use Rattle.mmtel_message.specs.declared.fields.Five.{Five}
 use Rattle.mmtel_message.specs.declared.messages.Start.{Start}
 

@@ -1,12 +1,10 @@
 -- The five fields that each message has (RFC 3261 §8.1.1): the first Via, From, To, Call-ID and CSeq.
 use Rattle.std.specs.Prelude.{Option, Some, None, ◌==◌, if◌then◌else◌, ℕ, ◌-◌, List, [], ◌∷◌, length, take, codes, count_by}
-use Rattle.std.specs.Str.{str_eq_ignore_ascii_case}
 use Rattle.mmtel_scan.specs.Scanning.{run, after_run, after_text}
 use Rattle.mmtel_scan.specs.Chain.{◌>>=◌}
 use Rattle.mmtel_scan.specs.Numbers.{number_of}
 use Rattle.mmtel_lex.specs.Reading.{token_at, host_at, port_at, all_params_at, name_addr_of}
 use Rattle.mmtel_scan.specs.declared.classes.Class.TheVariants.{Blank, Digit}
-use Rattle.mmtel_lex.specs.declared.values.Param.{Param}
 use Rattle.mmtel_lex.specs.declared.values.NameAddr.{NameAddr}
 use Rattle.mmtel_message.specs.Headers.{trim}
 use Rattle.mmtel_message.specs.Values.{parts}

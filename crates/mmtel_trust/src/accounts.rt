@@ -85,6 +85,13 @@ impl Accounts {
         Ok(())
     }
 
+    /// The identities with their accounts, in the order in which they were added. It takes no memory.
+    pub fn identities(&self) -> &[AccountIdentity]
+        ensures all { result.now ≡ self.now }
+    {
+        self.identities.items()
+    }
+
     /// The account of an identity: the first added account that has one equal to it. None where there is none.
     pub fn find(&self, u: &Uri) -> Option<Account>
         ensures exact { result ≡ account_of self.now u.now }

@@ -128,20 +128,15 @@ fn failing_sinks(rt: HostRuntime) {
 /// Where the sink has room for so many bytes, every other status stays.
 #[test]
 fn statuses_that_stay(rt: HostRuntime) {
-    let rows: &[(&str, &[(&str, &str)], usize, u8, &str)] = &[
-        (REPLAY, &[], 2, 5, "fi"),
-        ("replay", &[], 2, 1, "us"),
-        (REPLAY, &[("server.cfg", "peer x\n")], 6, 2, "line 1"),
-    ];
     let alloc = rt.alloc();
-    assert!(rt;
-        rows.iter().all(|row| {
-            let cut = Cut {
-                room: row.2,
-                most: 65_536,
-                failing: &[]
-            };
-            fails_to_write(alloc, row.0, row.1, cut, row.3, row.4)
-        })
-    );
+    let two = Cut {
+        room: 2,
+        most: 65_536,
+        failing: &[],
+    };
+    assert!(rt; fails_to_write(alloc, REPLAY, &[], two, 5, "fi"));
+    assert!(rt; fails_to_write(alloc, "replay", &[], two, 1, "us"));
+    let six = Cut { room: 6, ..two };
+    let bad = &[("server.cfg", "peer x\n")];
+    assert!(rt; fails_to_write(alloc, REPLAY, bad, six, 2, "line 1"));
 }

@@ -1,14 +1,15 @@
 -- What the files gave, stage by stage.
 use Rattle.std.proofs.Common.{◌≡◌, ℕ, List, refl, sym, subst, Option, Some, None, Result, Ok, Err, IfSome}
-use Rattle.mmtel_cli.specs.Directory.{directory_of}
-use Rattle.mmtel_cli.specs.Due.{due_of_script, IsDue}
+use Rattle.mmtel_directory.specs.Directory.{directory_of}
+use Rattle.mmtel_cli.specs.Due.{due_of_script}
+use Rattle.mmtel_cli.specs.Found.{IsDue}
 use Rattle.mmtel_cli.specs.Gives.{GivesScript, GivesBoth}
-use Rattle.mmtel_cli.specs.Shelf.{Shelf, answer_at, called, ReadsTold}
+use Rattle.mmtel_outside.specs.Shelf.{Shelf, answer_at, called, ReadsTold}
 use Rattle.mmtel_cli.specs.Words.{Asked}
-use Rattle.mmtel_cli.specs.declared.directories.Directory.{Directory}
+use Rattle.mmtel_directory.specs.declared.directories.Directory.{Directory}
 use Rattle.mmtel_cli.specs.declared.due.Due.{Due}
 use Rattle.mmtel_cli.specs.declared.due.Due.TheVariants.{Line, File, Memory}
-use Rattle.mmtel_cli.specs.declared.files.FileFault.TheVariants.{Failed}
+use Rattle.mmtel_outside.specs.declared.files.FileFault.TheVariants.{Failed}
 
 -- the told answer, or none where nothing is told
 abbrev pub told_answer : Option Shelf → List ℕ → Option (List ℕ)

@@ -16,10 +16,10 @@ use Rattle.mmtel_trust.specs.declared.showing.Facing.{Facing}
 use Rattle.mmtel_cli.specs.Mask.{by_words, hide_said, hide_digest, mask, KeepsTheSecret}
 use Rattle.mmtel_cli.specs.Openings.{is_hiding, facing, attempt}
 use Rattle.mmtel_cli.specs.Run.{Digest, Said, Unbuilt, Step, Came, clock_of, step_after, after, target_of, opened, offers_of, offers, digests, gives_of, gives, view}
-use Rattle.mmtel_cli.specs.declared.directories.Directory.{Directory}
-use Rattle.mmtel_cli.specs.declared.events.Event.{Event}
-use Rattle.mmtel_cli.specs.declared.events.Offer.{Offer}
-use Rattle.mmtel_cli.specs.declared.events.Offer.TheVariants as offer
+use Rattle.mmtel_directory.specs.declared.directories.Directory.{Directory}
+use Rattle.mmtel_outside.specs.declared.events.Event.{Event}
+use Rattle.mmtel_outside.specs.declared.events.Offer.{Offer}
+use Rattle.mmtel_outside.specs.declared.events.Offer.TheVariants as offer
 
 -- what is shown of what was heard does not depend on its private places: of a restricted opening to an untrusted peer, of any other message to anybody, and From where it names nobody in a restricted opening
 pub record MaskedIsEnough : Type 0 where

@@ -3,9 +3,9 @@ use Rattle.std.proofs.Common.{◌≡◌, false, ℕ, ◌+◌, ◌<◌, List, [],
 use Rattle.std.proofs.lemmas.List.{drop_all}
 use Rattle.mmtel_cli.specs.Run.{History, digests, after, offers_of, offers, gives}
 use Rattle.mmtel_cli.specs.Stands.{Stands, step_of}
-use Rattle.mmtel_cli.specs.declared.directories.Directory.{Directory}
-use Rattle.mmtel_cli.specs.declared.events.Event.{Event}
-use Rattle.mmtel_cli.specs.declared.events.Offer.{Offer}
+use Rattle.mmtel_directory.specs.declared.directories.Directory.{Directory}
+use Rattle.mmtel_outside.specs.declared.events.Event.{Event}
+use Rattle.mmtel_outside.specs.declared.events.Offer.{Offer}
 use Rattle.mmtel_cli.specs.declared.steps.Progress.{Progress}
 
 -- so much was offered of the whole, and this is to come

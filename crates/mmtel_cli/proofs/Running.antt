@@ -1,17 +1,18 @@
 -- A run, by what the files gave.
 use Rattle.std.proofs.Common.{◌≡◌, ◌↔◌, ℕ, List, refl, subst, sym, inl, inr, Option, Some, None, Result, Ok, Err, IfSome}
-use Rattle.mmtel_cli.specs.Directory.{directory_of}
-use Rattle.mmtel_cli.specs.Due.{due_of_events, due_of_script, due_of_directory, due_of_config, due_over, IsAsked}
+use Rattle.mmtel_directory.specs.Directory.{directory_of}
+use Rattle.mmtel_cli.specs.Due.{due_of_events, due_of_script, due_of_directory, due_of_config, due_over}
+use Rattle.mmtel_cli.specs.Found.{IsAsked}
 use Rattle.mmtel_cli.specs.Ends.{Ends}
 use Rattle.mmtel_cli.specs.Gives.{GivesBoth, GivesRun}
 use Rattle.mmtel_cli.specs.Ran.{Says, WroteMemory, Answered, Ran, AddsListing, ListsGiven}
-use Rattle.mmtel_cli.specs.Script.{events_of}
-use Rattle.mmtel_cli.specs.Shelf.{Shelf}
+use Rattle.mmtel_script.specs.Script.{events_of}
+use Rattle.mmtel_outside.specs.Shelf.{Shelf}
 use Rattle.mmtel_cli.specs.Words.{Asked}
-use Rattle.mmtel_cli.specs.declared.directories.Directory.{Directory}
+use Rattle.mmtel_directory.specs.declared.directories.Directory.{Directory}
 use Rattle.mmtel_cli.specs.declared.due.Due.{Due}
 use Rattle.mmtel_cli.specs.declared.due.Due.TheVariants.{Usage, Line, File, Memory, Listing}
-use Rattle.mmtel_cli.specs.declared.events.Event.{Event}
+use Rattle.mmtel_outside.specs.declared.events.Event.{Event}
 
 -- with a command, `usage` is never due
 asked-events : (directory : Directory) (token : List ℕ) (events : Result (List Event) ℕ) → IsAsked (due_of_events directory token events)

@@ -4,7 +4,7 @@ use Rattle.mmtel_cli.specs.Mask.{KeepsTheSecret}
 use Rattle.mmtel_cli.specs.Ran.{ListsGiven}
 use Rattle.mmtel_cli.specs.Run.{gives}
 use Rattle.mmtel_cli.specs.Secret.{KeepsSecret}
-use Rattle.mmtel_cli.specs.Shelf.{Shelf}
+use Rattle.mmtel_outside.specs.Shelf.{Shelf}
 use Rattle.mmtel_cli.specs.Words.{Asked}
 
 keeps_given : KeepsTheSecret → (shelf : Shelf) (asked : Option Asked) (before after : Option (List ℕ)) → ListsGiven shelf asked before after → KeepsSecret shelf asked before after

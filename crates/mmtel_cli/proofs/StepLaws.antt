@@ -3,9 +3,9 @@ use Rattle.std.proofs.Common.{◌≡◌, Bool, ℕ, max, List, [], ◌∷◌, �
 use Rattle.std.specs.Prelude.{OnErr, Result, Ok, Err}
 use Rattle.mmtel_cli.specs.Run.{Digest, Said, Unbuilt, Came, History, digest, moment_of, clock_of, has_begun, offers_of}
 use Rattle.mmtel_cli.specs.Stands.{Stands, IsPrefixOf, step_of, offers_by}
-use Rattle.mmtel_cli.specs.declared.directories.Directory.{Directory}
-use Rattle.mmtel_cli.specs.declared.events.Event.{Event}
-use Rattle.mmtel_cli.specs.declared.events.Offer.{Offer}
+use Rattle.mmtel_directory.specs.declared.directories.Directory.{Directory}
+use Rattle.mmtel_outside.specs.declared.events.Event.{Event}
+use Rattle.mmtel_outside.specs.declared.events.Offer.{Offer}
 use Rattle.mmtel_cli.specs.declared.steps.Progress.{Progress}
 
 offers_of-by : (d : Directory) (token : List ℕ) (h : History) (at : ℕ) (x : Digest) → offers_by d token (has_begun h) at x ≡ offers_of d token h (Came at x)

@@ -1,18 +1,17 @@
 -- What a run is due to write, by what the files gave: the configuration comes first, then the script, then the listing of what the definitions of the run give.
-use Rattle.std.specs.Prelude.{◌≡◌, ℕ, ◌⊎◌, List, Some, None, Ok, Err, ⊤}
+use Rattle.std.specs.Prelude.{ℕ, List, Some, None, Ok, Err}
 use Rattle.std.specs.declared.option.Option.{Option}
 use Rattle.std.specs.declared.result.Result.{Result}
-use Rattle.mmtel_cli.specs.Causes.{Rose}
-use Rattle.mmtel_cli.specs.Directory.{directory_of}
-use Rattle.mmtel_cli.specs.Listing.{listing_of}
+use Rattle.mmtel_directory.specs.Directory.{directory_of}
+use Rattle.mmtel_script.specs.Listing.{listing_of}
 use Rattle.mmtel_cli.specs.Run.{gives}
-use Rattle.mmtel_cli.specs.Script.{events_of}
-use Rattle.mmtel_cli.specs.Shelf.{Shelf, answer_at, called}
+use Rattle.mmtel_script.specs.Script.{events_of}
+use Rattle.mmtel_outside.specs.Shelf.{Shelf, answer_at, called}
 use Rattle.mmtel_cli.specs.Words.{Asked}
-use Rattle.mmtel_cli.specs.declared.directories.Directory.{Directory}
+use Rattle.mmtel_directory.specs.declared.directories.Directory.{Directory}
 use Rattle.mmtel_cli.specs.declared.due.Due.{Due}
-use Rattle.mmtel_cli.specs.declared.due.Due.TheVariants.{Usage, Line, File, Memory, Listing}
-use Rattle.mmtel_cli.specs.declared.events.Event.{Event}
+use Rattle.mmtel_cli.specs.declared.due.Due.TheVariants.{Usage, Line, File, Listing}
+use Rattle.mmtel_outside.specs.declared.events.Event.{Event}
 
 -- what is due once the script was read: the listing of what the run of its events gives, or its first bad line
 abbrev pub due_of_events : Directory → List ℕ → Result (List Event) ℕ → Due
@@ -56,43 +55,3 @@ shelf_of_config shelf (Some config) = shelf_of_directory shelf (directory_of con
 abbrev pub shelf_after : Shelf → Option Asked → Shelf
 shelf_after shelf None = shelf
 shelf_after shelf (Some asked) = shelf_of_config (called shelf) (answer_at shelf asked.config)
-
--- there is a command
-abbrev pub IsAsked : Due → Type 0
-IsAsked Usage = ⊥
-IsAsked (Line line) = ⊤
-IsAsked File = ⊤
-IsAsked Memory = ⊤
-IsAsked (Listing text) = ⊤
-
--- what was found due is what is due, unless memory ran out
-abbrev pub IsDue : Due → Due → Type 0
-IsDue Memory due = ⊤
-IsDue Usage due = due ≡ Usage
-IsDue (Line line) due = due ≡ Line line
-IsDue File due = due ≡ File
-IsDue (Listing text) due = due ≡ Listing text
-
--- the calls that are due were made; or memory ran out, at the first of them or after the last
-abbrev pub HasCalled : Due → Option Shelf → Shelf → Shelf → Type 0
-HasCalled Memory after first last = (after ≡ Some first) ⊎ (after ≡ Some last)
-HasCalled Usage after first last = after ≡ Some last
-HasCalled (Line line) after first last = after ≡ Some last
-HasCalled File after first last = after ≡ Some last
-HasCalled (Listing text) after first last = after ≡ Some last
-
--- the count of the files' faults rose where a file could not be read, and is as before otherwise
-abbrev pub CountsFiles : Due → ℕ → ℕ → Type 0
-CountsFiles File before now = Rose before now
-CountsFiles Usage before now = now ≡ before
-CountsFiles (Line line) before now = now ≡ before
-CountsFiles Memory before now = now ≡ before
-CountsFiles (Listing text) before now = now ≡ before
-
--- no file has part in it
-abbrev pub IsRead : Due → Type 0
-IsRead File = ⊥
-IsRead Usage = ⊥
-IsRead (Line line) = ⊤
-IsRead Memory = ⊤
-IsRead (Listing text) = ⊤

@@ -2,8 +2,8 @@
 use Rattle.std.specs.Prelude.{◌≡◌, ℕ, ◌⊎◌, List, [], ◌∷◌, ◌++◌, codes, decimal}
 use Rattle.std.specs.Io.KnownBytes.{Appends}
 use Rattle.std.specs.declared.option.Option.{Option}
-use Rattle.mmtel_cli.specs.Causes.{Rose}
-use Rattle.mmtel_cli.specs.Written.{AppendsPart}
+use Rattle.mmtel_outside.specs.Counts.{Rose}
+use Rattle.mmtel_outside.specs.Written.{AppendsPart}
 use Rattle.mmtel_cli.specs.declared.due.Due.{Due}
 use Rattle.mmtel_cli.specs.declared.due.Due.TheVariants.{Usage, Line, File, Memory, Listing}
 

@@ -2,10 +2,11 @@
 use Rattle.std.specs.Prelude.{◌≡◌, ℕ, List, IfSome, Some, None}
 use Rattle.std.specs.declared.option.Option.{Option}
 use Rattle.std.specs.declared.result.Result.{Result}
-use Rattle.mmtel_cli.specs.Due.{due_of_config, due_of_directory, IsDue}
-use Rattle.mmtel_cli.specs.Shelf.{Shelf, answer_at, called}
+use Rattle.mmtel_cli.specs.Due.{due_of_config, due_of_directory}
+use Rattle.mmtel_cli.specs.Found.{IsDue}
+use Rattle.mmtel_outside.specs.Shelf.{Shelf, answer_at, called}
 use Rattle.mmtel_cli.specs.Words.{Asked}
-use Rattle.mmtel_cli.specs.declared.directories.Directory.{Directory}
+use Rattle.mmtel_directory.specs.declared.directories.Directory.{Directory}
 use Rattle.mmtel_cli.specs.declared.due.Due.{Due}
 use Rattle.mmtel_cli.specs.declared.due.Due.TheVariants.{Usage}
 

@@ -1,27 +1,20 @@
+-- What public clauses cite, which a user of the crate has to believe.
+-- The words of the command line:
+pub mod Words
 pub mod Asked
-pub mod Causes
 pub mod CommandLine
-pub mod Configuration
-pub mod Directory
-pub mod Disk
-pub mod Drafts
+-- What the server offers in a run:
+pub mod Forms
+pub mod Openings
+pub mod Run
+-- What is due, and how it ends:
 pub mod Due
 pub mod Ends
-pub mod Forms
-pub mod Gives
-pub mod Lines
-pub mod Listing
-pub mod Mask
-pub mod Memory
-pub mod Openings
 pub mod Ran
-pub mod ReadBack
-pub mod Run
-pub mod Script
-pub mod ScriptGrammar
+-- Noninterference:
+pub mod Mask
 pub mod Secret
-pub mod Shelf
+-- What private functions alone cite.
+pub mod Found
+pub mod Gives
 pub mod Stands
-pub mod Tellings
-pub mod Words
-pub mod Written

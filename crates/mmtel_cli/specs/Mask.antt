@@ -5,8 +5,8 @@ use Rattle.mmtel_trust.specs.Digest.{Heard, Restriction, hide}
 use Rattle.mmtel_trust.specs.Peers.{is_trusted}
 use Rattle.mmtel_cli.specs.Openings.{is_hiding}
 use Rattle.mmtel_cli.specs.Run.{Digest, Said, Unbuilt, digests, gives, view}
-use Rattle.mmtel_cli.specs.declared.directories.Directory.{Directory}
-use Rattle.mmtel_cli.specs.declared.events.Event.{Event}
+use Rattle.mmtel_directory.specs.declared.directories.Directory.{Directory}
+use Rattle.mmtel_outside.specs.declared.events.Event.{Event}
 
 -- at this stage the words of Privacy alone restrict a caller, and no account is known
 abbrev pub by_words : Restriction

@@ -1,5 +1,5 @@
 -- What the server builds of an INVITE that opens a call: the 100 to its sender (RFC 3261 §8.2.6), and the INVITE of the first attempt, which it makes as a user agent of its own (RFC 3261 §6, §8.1.1).
-use Rattle.std.specs.Prelude.{ℕ, ◌+◌, ◌-◌, Bool, true, ◌||◌, Option, Some, None, List, [], ◌∷◌, ◌++◌, codes, decimal}
+use Rattle.std.specs.Prelude.{ℕ, ◌+◌, ◌-◌, Bool, true, ◌||◌, Option, Some, None, List, [], ◌++◌, codes, decimal}
 use Rattle.mmtel_scan.specs.Chain.{◌>>=◌}
 use Rattle.mmtel_scan.specs.Numbers.{number_of, token_text}
 use Rattle.mmtel_leg.specs.Addresses.{contact_text, via_text}
@@ -8,7 +8,7 @@ use Rattle.mmtel_leg.specs.Lines.{line}
 use Rattle.mmtel_message.specs.Message.{Message}
 use Rattle.mmtel_message.specs.Replies.{reply_with}
 use Rattle.mmtel_message.specs.declared.messages.Start.{Start}
-use Rattle.mmtel_message.specs.declared.messages.Start.TheVariants.{Request, Status}
+use Rattle.mmtel_message.specs.declared.messages.Start.TheVariants.{Request}
 use Rattle.mmtel_lex.specs.Grammar.{name_addr_text}
 use Rattle.mmtel_lex.specs.declared.values.NameAddr.{NameAddr}
 use Rattle.mmtel_trust.specs.Digest.{Heard}

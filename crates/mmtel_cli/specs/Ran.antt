@@ -2,18 +2,18 @@
 use Rattle.std.specs.Prelude.{◌≡◌, ◌≢◌, ℕ, ◌⊎◌, List, codes, IfSome, Some, Ok, ⊤}
 use Rattle.std.specs.Io.KnownBytes.{Appends}
 use Rattle.std.specs.declared.option.Option.{Option}
-use Rattle.mmtel_cli.specs.Directory.{directory_of}
+use Rattle.mmtel_directory.specs.Directory.{directory_of}
 use Rattle.mmtel_cli.specs.Due.{due_of}
 use Rattle.mmtel_cli.specs.Ends.{Wrote, WroteListing, line_text}
-use Rattle.mmtel_cli.specs.Listing.{listing_of}
+use Rattle.mmtel_script.specs.Listing.{listing_of}
 use Rattle.mmtel_cli.specs.Run.{gives}
-use Rattle.mmtel_cli.specs.Script.{events_of}
-use Rattle.mmtel_cli.specs.Shelf.{Shelf, answer_at, called}
+use Rattle.mmtel_script.specs.Script.{events_of}
+use Rattle.mmtel_outside.specs.Shelf.{Shelf, answer_at, called}
 use Rattle.mmtel_cli.specs.Words.{Asked}
-use Rattle.mmtel_cli.specs.declared.directories.Directory.{Directory}
+use Rattle.mmtel_directory.specs.declared.directories.Directory.{Directory}
 use Rattle.mmtel_cli.specs.declared.due.Due.{Due}
 use Rattle.mmtel_cli.specs.declared.due.Due.TheVariants.{Usage, Line, File, Memory, Listing}
-use Rattle.mmtel_cli.specs.declared.events.Event.{Event}
+use Rattle.mmtel_outside.specs.declared.events.Event.{Event}
 
 -- want of memory: status 8, and `memory`
 abbrev pub WroteMemory : ℕ → Option (List ℕ) → Option (List ℕ) → ℕ → ℕ → Type 0

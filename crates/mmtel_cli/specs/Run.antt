@@ -12,11 +12,11 @@ use Rattle.mmtel_cli.specs.Forms.{is_first_form}
 use Rattle.mmtel_trust.specs.Digest.{Heard, heard}
 use Rattle.mmtel_leg.specs.Dialogues.{request_uri}
 use Rattle.mmtel_cli.specs.Openings.{trying, attempt}
-use Rattle.mmtel_cli.specs.declared.directories.Directory.{Directory}
-use Rattle.mmtel_cli.specs.declared.events.Event.{Event}
-use Rattle.mmtel_cli.specs.declared.events.Event.TheVariants as event
-use Rattle.mmtel_cli.specs.declared.events.Offer.{Offer}
-use Rattle.mmtel_cli.specs.declared.events.Offer.TheVariants as offer
+use Rattle.mmtel_directory.specs.declared.directories.Directory.{Directory}
+use Rattle.mmtel_outside.specs.declared.events.Event.{Event}
+use Rattle.mmtel_outside.specs.declared.events.Event.TheVariants as event
+use Rattle.mmtel_outside.specs.declared.events.Offer.{Offer}
+use Rattle.mmtel_outside.specs.declared.events.Offer.TheVariants as offer
 
 -- ---- what is read of an event
 

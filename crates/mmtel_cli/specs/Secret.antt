@@ -4,16 +4,16 @@ use Rattle.std.specs.Io.KnownBytes.{Appends}
 use Rattle.std.specs.declared.option.Option.{Option}
 use Rattle.mmtel_types.specs.declared.numbers.Peer.{Peer}
 use Rattle.mmtel_trust.specs.Peers.{is_trusted}
-use Rattle.mmtel_cli.specs.Directory.{directory_of}
-use Rattle.mmtel_cli.specs.Listing.{listing_of}
+use Rattle.mmtel_directory.specs.Directory.{directory_of}
+use Rattle.mmtel_script.specs.Listing.{listing_of}
 use Rattle.mmtel_cli.specs.Mask.{mask}
 use Rattle.mmtel_cli.specs.Run.{gives, view}
-use Rattle.mmtel_cli.specs.Script.{events_of}
-use Rattle.mmtel_cli.specs.Shelf.{Shelf, answer_at, called}
+use Rattle.mmtel_script.specs.Script.{events_of}
+use Rattle.mmtel_outside.specs.Shelf.{Shelf, answer_at, called}
 use Rattle.mmtel_cli.specs.Words.{Asked}
-use Rattle.mmtel_cli.specs.declared.directories.Directory.{Directory}
-use Rattle.mmtel_cli.specs.declared.events.Event.{Event}
-use Rattle.mmtel_cli.specs.declared.events.Offer.{Offer}
+use Rattle.mmtel_directory.specs.declared.directories.Directory.{Directory}
+use Rattle.mmtel_outside.specs.declared.events.Event.{Event}
+use Rattle.mmtel_outside.specs.declared.events.Offer.{Offer}
 
 -- of these offers, each untrusted peer sees what the definitions give it in any other run that is equal without its private places
 abbrev pub SeesAlike : Directory → List ℕ → List Event → List Offer → Type 0

@@ -6,10 +6,10 @@ use Rattle.mmtel_message.specs.declared.messages.Start.{Start}
 use Rattle.mmtel_trust.specs.Digest.{heard}
 use Rattle.mmtel_cli.specs.declared.steps.Progress.{Progress}
 use Rattle.mmtel_cli.specs.Run.{Digest, Said, Unbuilt, Step, digest, moment_of, clock_of, has_begun, step_after, opened, target_of}
-use Rattle.mmtel_cli.specs.declared.directories.Directory.{Directory}
-use Rattle.mmtel_cli.specs.declared.events.Event.{Event}
-use Rattle.mmtel_cli.specs.declared.events.Offer.{Offer}
-use Rattle.mmtel_cli.specs.declared.events.Offer.TheVariants as offer
+use Rattle.mmtel_directory.specs.declared.directories.Directory.{Directory}
+use Rattle.mmtel_outside.specs.declared.events.Event.{Event}
+use Rattle.mmtel_outside.specs.declared.events.Offer.{Offer}
+use Rattle.mmtel_outside.specs.declared.events.Offer.TheVariants as offer
 
 -- what a server keeps of the history: the clock, and whether it has met an event
 pub record Stands (s : Progress) (h : List Step) : Type 0 where

@@ -1,12 +1,12 @@
 //! What a run is due to write, and how it writes it.
 ghost use Rattle.std.specs.Prelude.{OnOk, OnErr, decimal};
 ghost use Rattle.std.specs.Io.KnownBytes.{Appends};
-ghost use Rattle.mmtel_cli.specs.Causes.{HasCause};
+ghost use Rattle.mmtel_outside.specs.Counts.{HasCause};
 ghost use Rattle.mmtel_cli.specs.Ends.{Ends, Wrote, line_text};
-ghost use Rattle.mmtel_cli.specs.Written.{AppendsPart};
+ghost use Rattle.mmtel_outside.specs.Written.{AppendsPart};
 
-use crate::sinks::{Sink, write_all};
 use itoa::Buffer;
+use mmtel_outside::{Sink, write_all};
 use mmtel_scan::Text;
 use mmtel_types::Failed;
 

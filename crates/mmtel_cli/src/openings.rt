@@ -1,18 +1,20 @@
 //! What the server builds of an INVITE that opens a call: its 100, and the INVITE of the first attempt.
-ghost use Rattle.std.specs.Prelude.{◌≡◌, ◌+◌, ◌++◌, ◌∷◌, [], ◌^◌, ◌<◌, ◌≤◌, length, decimal, codes, map, Some, IfOk, OnOk, true};
+ghost use Rattle.std.specs.Prelude.{◌≡◌, ◌+◌, ◌++◌, ◌∷◌, [], ◌^◌, ◌<◌, ◌≤◌, length, decimal, codes, Some, IfOk, OnOk, true};
 ghost use Rattle.std.specs.Option.{option_copied};
 ghost use Rattle.mmtel_message.specs.Replies.{reply_with};
 ghost use Rattle.mmtel_trust.specs.Digest.{heard};
 ghost use Rattle.mmtel_trust.specs.Passed.{passed, attempt_from, read_by};
 ghost use Rattle.mmtel_leg.specs.Addresses.{contact_text, via_text};
-ghost use Rattle.mmtel_leg.specs.Lines.{line, pair_of};
+ghost use Rattle.mmtel_leg.specs.Lines.{line};
 ghost use Rattle.mmtel_cli.specs.Openings.{trying, hops_left, hops_in, is_hiding, facing, to_text, sender_lines, dialog_lines, attempt_lines, attempt};
 
-use mmtel_leg::{add_bytes, add_decimal, add_line, contact_text, request_uri, via_text};
+use mmtel_leg::{
+    add_bytes, add_decimal, add_line, add_passed, contact_text, request_uri, via_text,
+};
 use mmtel_lex::{LexFault, List, NameAddr, print_name_addr, read_name_addr};
 use mmtel_message::{Msg, Start, first_of, reply_with};
 use mmtel_scan::{NoMemory, Text, number_up_to, token_text};
-use mmtel_trust::{Addr, Facing, Line, attempt_from, shown, wants};
+use mmtel_trust::{Addr, Facing, attempt_from, shown, wants};
 use std::alloc::Global;
 
 /// The hops that are left (RFC 3261 §16.6).
@@ -173,18 +175,6 @@ fn add_dialog(
     add_line(alloc, out, b"Call-ID", call_id)?;
     add_bytes(alloc, out, b"CSeq", b"1 INVITE")?;
     add_contact(alloc, out, sip)?;
-    Ok(())
-}
-
-/// Adds the lines that are passed on, in their order.
-fn add_passed(alloc: Global, out: &mut List<(Text, Text)>, lines: &[Line]) -> Result<(), NoMemory>
-    ensures { OnOk result (out.new ≡ out.old ++ map pair_of lines.now) }
-{
-    for line in lines {
-        let name = Text::of(alloc, line.name.bytes())?;
-        let value = Text::of(alloc, line.value.bytes())?;
-        out.push(alloc, (name, value))?;
-    }
     Ok(())
 }
 

@@ -2,26 +2,25 @@
 ghost use Rattle.std.specs.Prelude.{◌≡◌, ◌↔◌, ◌≢◌, ◌⊎◌, ◌==◌, ◌∷◌, [], true, IfOk, IfSome, Ok, Some, None};
 ghost use Rattle.std.specs.List.{list_any};
 ghost use Rattle.mmtel_cli.specs.Asked.{asked_by};
-ghost use Rattle.mmtel_cli.specs.Causes.{Rose};
+ghost use Rattle.mmtel_outside.specs.Counts.{Rose};
 ghost use Rattle.mmtel_cli.specs.CommandLine.{IsReplay};
-ghost use Rattle.mmtel_cli.specs.Directory.{directory_of};
-ghost use Rattle.mmtel_cli.specs.Due.{due_of_events, due_of_script, due_of_directory, due_of_config, due_over, shelf_of_directory, shelf_of_config, shelf_after, IsDue, HasCalled, CountsFiles, IsRead};
+ghost use Rattle.mmtel_directory.specs.Directory.{directory_of};
+ghost use Rattle.mmtel_cli.specs.Due.{due_of_events, due_of_script, due_of_directory, due_of_config, due_over, shelf_of_directory, shelf_of_config, shelf_after};
+ghost use Rattle.mmtel_cli.specs.Found.{IsDue, HasCalled, CountsFiles, IsRead};
 ghost use Rattle.mmtel_cli.specs.Gives.{GivesScript, GivesBoth, GivesRun};
 ghost use Rattle.mmtel_cli.specs.Ran.{Says, Ran, Called, AddsListing, ListsGiven, IsGood};
 ghost use Rattle.mmtel_cli.specs.Secret.{KeepsSecret};
-ghost use Rattle.mmtel_cli.specs.Shelf.{answer_at, called};
+ghost use Rattle.mmtel_outside.specs.Shelf.{answer_at, called};
 ghost use Rattle.mmtel_cli.specs.Words.{Asked, replay_of};
 
-use crate::directories::{Directory, DirectoryFault, read_directory};
 use crate::due::{Due, report};
-use crate::files::{FileFault, Files};
 use crate::laws::runs_keep_the_secret;
-use crate::listings::listing;
-use crate::scripts::{ScriptFault, ScriptLink};
-use crate::sinks::Sink;
 use crate::steps::offers;
 use crate::words::{Replay, command};
+use mmtel_directory::{Directory, DirectoryFault, read_directory};
+use mmtel_outside::{FileFault, Files, Sink};
 use mmtel_scan::{NoMemory, Text};
+use mmtel_script::{ScriptFault, ScriptLink, listing};
 use std::alloc::Global;
 
 /// The listing of what the run of a script's events offers.

@@ -37,20 +37,20 @@ use Rattle.mmtel_history.specs.MaskedValues as MaskedValues
 use Rattle.mmtel_trust.specs.Kinds as Kinds
 use Rattle.mmtel_trust.specs.Passed as Passed
 use Rattle.mmtel_trust.specs.Mask as Mask
-use Rattle.mmtel_cli.specs.Directory as Directory
+use Rattle.mmtel_directory.specs.Directory as Directory
 use Rattle.mmtel_cli.specs.Forms as Forms
 use Rattle.mmtel_leg.specs.Lines as HeaderLines
 use Rattle.mmtel_cli.specs.Run as Run
-use Rattle.mmtel_cli.specs.Script as Script
-use Rattle.mmtel_cli.specs.declared.directories.Directory.{Directory}
-use Rattle.mmtel_cli.specs.declared.events.Event.{Event}
-use Rattle.mmtel_cli.specs.Directory.{directory_of}
+use Rattle.mmtel_script.specs.Script as Script
+use Rattle.mmtel_directory.specs.declared.directories.Directory.{Directory}
+use Rattle.mmtel_outside.specs.declared.events.Event.{Event}
+use Rattle.mmtel_directory.specs.Directory.{directory_of}
 use Rattle.mmtel_cli.specs.Due.{due_of_directory, due_of_events}
-use Rattle.mmtel_cli.specs.Listing.{listing_of}
+use Rattle.mmtel_script.specs.Listing.{listing_of}
 use Rattle.mmtel_cli.specs.Run.{Unbuilt, Came, gives, digest_read, offers_of}
-use Rattle.mmtel_cli.specs.Script.{events_of}
+use Rattle.mmtel_script.specs.Script.{events_of}
 use Rattle.mmtel_cli.specs.declared.due.Due.TheVariants.{Line as BadLine, File, Listing}
-use Rattle.mmtel_cli.specs.declared.events.Event.TheVariants.{Datagram}
+use Rattle.mmtel_outside.specs.declared.events.Event.TheVariants.{Datagram}
 use Rattle.mmtel_cli_rows.specs.Rows.{server, configuration, token, peer, at_port, script, invite, bob, private, of_erin, of_frank, tried, attempted, unbuilt, listed, listed_after, due_for, RestrictedInvite, AnotherCaller, MasksAlike, HidesHistory, FewerHops, ComeOutOtherwise, AreRefused}
 use Rattle.mmtel_cli_rows.proofs.Stages.{one_part, Stages, reads_by_stages}
 

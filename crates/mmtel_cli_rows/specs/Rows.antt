@@ -9,13 +9,13 @@ use Rattle.mmtel_trust.specs.Digest.{heard}
 use Rattle.mmtel_trust.specs.Privacy.{Line}
 use Rattle.mmtel_trust.specs.declared.addrs.Addr.{Addr}
 use Rattle.mmtel_cli.specs.Due.{due_of}
-use Rattle.mmtel_cli.specs.Listing.{listing_of}
+use Rattle.mmtel_script.specs.Listing.{listing_of}
 use Rattle.mmtel_cli.specs.Mask.{hide_said, hide_digest}
 use Rattle.mmtel_cli.specs.Run.{Said, Unbuilt, Step, Came, digest_read, gives, offers_of}
-use Rattle.mmtel_cli.specs.declared.directories.Directory.{Directory}
+use Rattle.mmtel_directory.specs.declared.directories.Directory.{Directory}
 use Rattle.mmtel_cli.specs.declared.due.Due.{Due}
 use Rattle.mmtel_cli.specs.declared.due.Due.TheVariants.{Line as BadLine, File, Listing}
-use Rattle.mmtel_cli.specs.declared.events.Event.TheVariants.{Datagram}
+use Rattle.mmtel_outside.specs.declared.events.Event.TheVariants.{Datagram}
 
 -- ---- the server
 

@@ -10,4 +10,4 @@ returns c =
     let told = ap (λ (b : Bool). passed (record { from_trusted = true; restricted = b; present = true }) c.args.to_trusted [] c.args.invite.now.lines) c.is_hiding.ensures in
     let paired : map pair_of c.items.result.now ≡ passed (record { from_trusted = true; restricted = c.is_hiding.result; present = true }) c.args.to_trusted [] c.args.invite.now.lines =
     rw (c.items.ensures, c.in_ok-lines.ensures.lines) (pairs (passed (record { from_trusted = true; restricted = c.is_hiding.result; present = true }) c.args.to_trusted [] c.args.invite.now.lines)) in
-    c.in_ok-add_passed.ensures ∙ ap (λ (ls : List Line). c.args.out.now ++ ls) (paired ∙ told)
+    c.in_ok-add_passed.ensures.added ∙ ap (λ (ls : List Line). c.args.out.now ++ ls) (paired ∙ told)

@@ -1,5 +1,5 @@
 use Rattle.std.proofs.Common.{◌≡◌, List, length, ap, arith}
-use Rattle.mmtel_cli.specs.declared.events.Event.{Event}
+use Rattle.mmtel_outside.specs.declared.events.Event.{Event}
 use Rattle.mmtel_cli.proofs.RunLaws.{begins, goes_on, is_done}
 use Rattle.mmtel_cli.proofs.steps.offers.Goals as goal
 

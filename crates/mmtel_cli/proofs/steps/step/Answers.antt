@@ -1,6 +1,6 @@
 use Rattle.std.proofs.Common.{◌++◌, ◌∙◌, List, ap, subst}
 use Rattle.mmtel_cli.specs.Stands.{IsPrefixOf}
-use Rattle.mmtel_cli.specs.declared.events.Offer.{Offer}
+use Rattle.mmtel_outside.specs.declared.events.Offer.{Offer}
 use Rattle.mmtel_cli.proofs.StepLaws.{given, on_err}
 use Rattle.mmtel_cli.proofs.steps.step.Goals as goal
 

@@ -1,8 +1,0 @@
-use Rattle.std.proofs.Common.{ℕ, Result, subst}
-use Rattle.mmtel_cli.specs.Directory.{Answers}
-use Rattle.mmtel_cli.specs.declared.directories.Directory.{Directory}
-use Rattle.mmtel_cli.proofs.WholeLaws.{whole_configuration}
-use Rattle.mmtel_cli.proofs.directories.read_directory.Goals as goal
-
-pub returns-clause-whole : goal.returns-clause-whole
-returns-clause-whole c = λ said is. subst (λ (due : Result Directory ℕ). Answers c.read_lines.result due) (whole_configuration c.args.bytes.now said is) c.read_lines.ensures

@@ -1,0 +1,89 @@
+-- A draft that is gathered line by line gives the directory of what the lines say.
+use Rattle.std.proofs.Common.{◌≡◌, ◌==◌, Bool, true, false, is_none, cond, ℕ, suc, ◌+◌, List, [], ◌∷◌, ◌++◌, length, Option, Some, None, refl, ap, sym, ◌∙◌, arith, add-zero}
+use Rattle.std.specs.List.{flat_map}
+use Rattle.std.proofs.lemmas.Bool.Decides.{nat_tests}
+use Rattle.std.proofs.lemmas.List.{length-append, append-nil}
+use Rattle.std.proofs.lemmas.Grind.{flat_map-append}
+use Rattle.mmtel_scan.specs.Chain.{◌>>=◌}
+use Rattle.mmtel_trust.specs.Peers.{Peers}
+use Rattle.mmtel_trust.specs.declared.addrs.Addr.{Addr}
+use Rattle.mmtel_directory.specs.declared.config_lines.Line.{Line}
+use Rattle.mmtel_directory.specs.declared.config_lines.Line.TheVariants as line
+use Rattle.mmtel_directory.specs.declared.directories.Draft.{Draft}
+use Rattle.mmtel_directory.specs.Lines.{lines_of, and_then, said_by}
+use Rattle.mmtel_directory.specs.Directory.{line_of, next_said, stands, directory_by, directory_from, directory_of, table_of, sip_in, home_in, route_in}
+use Rattle.mmtel_directory.specs.Drafts.{drafted, step, takes, with_line, finished_by, empty_draft}
+
+abbrev first_of : {A : Type 0} → List A → Option A
+first_of [] = None
+first_of (x ∷ xs) = Some x
+
+-- the draft of lines that say so much
+abbrev draft_of : List Line → Draft
+draft_of said = record { sip = first_of (flat_map sip_in said); home = first_of (flat_map home_in said); peers = table_of said; routes = length (flat_map route_in said) }
+
+-- ---- one line more
+
+one_more : {A : Type 0} (f : Line → List A) (said : List Line) (l : Line) → flat_map f (said ++ l ∷ []) ≡ flat_map f said ++ f l
+one_more f said l = flat_map-append f said (l ∷ []) ∙ ap (λ (xs : List _). flat_map f said ++ xs) (append-nil (f l))
+
+none_first : {A : Type 0} (xs : List A) → is_none (first_of xs) ≡ (length xs == 0)
+none_first [] = refl
+none_first (x ∷ xs) = sym (grind (arith, nat_tests))
+
+takes_is : (said : List Line) (l : Line) → takes (draft_of said) l ≡ stands said l
+takes_is said line.Remark = refl
+takes_is said (line.Sip addr) = none_first (flat_map sip_in said)
+takes_is said (line.Home name) = none_first (flat_map home_in said)
+takes_is said (line.Peer peer) = refl
+takes_is said (line.Route route) = refl
+takes_is said line.Further = refl
+
+alone_first : {A : Type 0} (xs : List A) (x : A) → (length xs == 0) ≡ true → Some x ≡ first_of (xs ++ x ∷ [])
+alone_first [] x empty = refl
+alone_first (y ∷ xs) x empty = absurd (grind (arith, nat_tests, empty))
+
+with_line_is : (said : List Line) (l : Line) → stands said l ≡ true → with_line (draft_of said) l ≡ draft_of (said ++ l ∷ [])
+with_line_is said line.Remark ok = simp (one_more, append-nil)
+with_line_is said (line.Sip addr) ok = simp (one_more, append-nil, alone_first (flat_map sip_in said) addr ok)
+with_line_is said (line.Home name) ok = simp (one_more, append-nil, alone_first (flat_map home_in said) name ok)
+with_line_is said (line.Peer peer) ok = simp (one_more, append-nil)
+with_line_is said (line.Route route) ok = simp (one_more, append-nil, length-append)
+with_line_is said line.Further ok = simp (one_more, append-nil)
+
+-- ---- the end
+
+finished_is : (last : ℕ) (sips : List Addr) (homes : List (List ℕ)) (peers : Peers) → finished_by last (first_of sips) (first_of homes) peers ≡ directory_by last sips homes peers
+finished_is last [] homes peers = refl
+finished_is last (sip ∷ sips) [] peers = refl
+finished_is last (sip ∷ sips) (home ∷ homes) peers = refl
+
+-- ---- all lines
+
+abbrev Goes : ℕ → List Line → List (List ℕ) → Type 0
+Goes number said texts = drafted number (draft_of said) texts ≡ directory_from (number + length texts) (said_by next_said number said texts)
+
+-- the next line, which stands or not
+over_line : (number : ℕ) (said : List Line) (l : Line) (texts : List (List ℕ)) (test : Bool) → stands said l ≡ test → ((more : List Line) → Goes (number + 1) more texts) →
+    and_then number (cond test (Some (with_line (draft_of said) l)) None) (λ next. drafted (number + 1) next texts) ≡ directory_from (number + 1 + length texts) (and_then number (cond test (Some l) None) (λ next. said_by next_said (number + 1) (said ++ next ∷ []) texts))
+over_line number said l texts true ok all = ap (λ (d : Draft). drafted (number + 1) d texts) (with_line_is said l ok) ∙ all (said ++ l ∷ [])
+over_line number said l texts false bad all = refl
+
+over_form : (number : ℕ) (said : List Line) (read : Option Line) (texts : List (List ℕ)) → ((more : List Line) → Goes (number + 1) more texts) →
+    and_then number (read >>= λ l. cond (takes (draft_of said) l) (Some (with_line (draft_of said) l)) None) (λ next. drafted (number + 1) next texts) ≡ directory_from (number + 1 + length texts) (and_then number (read >>= λ l. cond (stands said l) (Some l) None) (λ next. said_by next_said (number + 1) (said ++ next ∷ []) texts))
+over_form number said None texts all = refl
+over_form number said (Some l) texts all = rw (takes_is said l) (over_line number said l texts (stands said l) refl all)
+
+goes : (number : ℕ) (said : List Line) (texts : List (List ℕ)) → Goes number said texts
+unfolding step
+goes number said [] = rw add-zero (finished_is number (flat_map sip_in said) (flat_map home_in said) (table_of said))
+goes number said (text ∷ texts) =
+    let same : number + suc (length texts) ≡ number + 1 + length texts = omega arith in
+    rw same (over_form number said (line_of text) texts (λ more. goes (number + 1) more texts))
+
+-- what is gathered from no line on
+pub drafted_is : (text : List ℕ) → drafted 1 empty_draft (lines_of text) ≡ directory_of text
+unfolding directory_of
+drafted_is text =
+    let same : length (lines_of text) + 1 ≡ 1 + length (lines_of text) = omega arith in
+    rw same (goes 1 [] (lines_of text))

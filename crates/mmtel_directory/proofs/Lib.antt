@@ -1,0 +1,5 @@
+pub mod Alike
+pub mod DraftLaws
+pub mod LineLaws
+pub mod Numerals
+pub mod WholeLaws

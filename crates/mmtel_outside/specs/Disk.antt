@@ -1,0 +1,10 @@
+-- What is told of the files of the system and of the standard output: how many of their calls failed so far.
+use Rattle.std.specs.Prelude.{ℕ}
+use Rattle.mmtel_outside.specs.declared.disk.DiskFiles.{DiskFiles}
+use Rattle.mmtel_outside.specs.declared.disk.OutSink.{OutSink}
+
+abbrev pub file_faults : DiskFiles → ℕ
+file_faults files = files.faults
+
+abbrev pub sink_faults : OutSink → ℕ
+sink_faults sink = sink.faults

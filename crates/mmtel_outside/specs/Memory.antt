@@ -1,0 +1,47 @@
+-- The files and the sink in memory, as contracts see them.
+use Rattle.std.specs.Prelude.{◌≡◌, ℕ, ◌-◌, ◌==◌, min, take, length, List, ◌++◌, if◌then◌else◌, Some, None, OnOk, MatchResult}
+use Rattle.std.specs.declared.option.Option.{Option}
+use Rattle.std.specs.declared.result.Result.{Result}
+use Rattle.mmtel_outside.specs.Counts.{next_count, fails_by_number}
+use Rattle.mmtel_outside.specs.Shelf.{Shelf}
+
+-- files in memory: what they hold, and the count of their faults
+pub record CountedShelf : Type 0 where
+  pub shelf : Shelf
+  pub faults : ℕ
+
+-- a sink in memory: what it took, the room that is left, the most that one write takes, the numbers of the writes that fail, how many writes were made, and the count of faults
+pub record Basin : Type 0 where
+  pub taken : List ℕ
+  pub room : ℕ
+  pub most : ℕ
+  pub failing : List ℕ
+  pub calls : ℕ
+  pub faults : ℕ
+
+-- how many of the bytes the next write takes, where it does not fail by its number
+abbrev pub fits : Basin → List ℕ → ℕ
+fits basin bytes = min (min (length bytes) basin.most) basin.room
+
+-- what the next write answers: how many bytes it takes, or nothing where it fails, by its number or since it would take none of bytes that are not empty
+abbrev pub taken_by : Basin → List ℕ → Option ℕ
+taken_by basin bytes =
+    if length bytes == 0 then Some 0
+    else if fails_by_number basin.failing basin.calls then None
+    else if fits basin bytes == 0 then None
+    else Some (fits basin bytes)
+
+-- the sink after a write of bytes that are not empty, by what it answered
+abbrev pub basin_at : Basin → List ℕ → Option ℕ → Basin
+basin_at basin bytes None = record basin { calls = next_count basin.calls; faults = next_count basin.faults }
+basin_at basin bytes (Some count) =
+    record basin { calls = next_count basin.calls; taken = basin.taken ++ take count bytes; room = basin.room - count }
+
+-- the sink after a write: one of no bytes changes nothing and has no number
+abbrev pub basin_after : Basin → List ℕ → Basin
+basin_after basin bytes = if length bytes == 0 then basin else basin_at basin bytes (taken_by basin bytes)
+
+-- a write answers as the sink says
+abbrev pub TakesAs : {E : Type 0} → Option ℕ → Result ℕ E → Type 0
+TakesAs None result = OnOk result ⊥
+TakesAs (Some count) result = MatchResult result (λ n. n ≡ count) (λ _. ⊥)

@@ -1,0 +1,4 @@
+pub mod Pieces
+pub mod ReadBackLaws
+pub mod TellingLaws
+pub mod WholeLaws

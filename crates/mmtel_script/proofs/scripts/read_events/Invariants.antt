@@ -1,0 +1,14 @@
+use Rattle.std.proofs.Common.{◌≡◌, ◌≤◌, ◌+◌, length}
+use Rattle.mmtel_directory.specs.Lines.{lines_of}
+use Rattle.mmtel_script.specs.Script.{events_of}
+use Rattle.mmtel_script.specs.Tellings.{telling}
+use Rattle.mmtel_script.proofs.scripts.read_events.Given as goal
+
+abbrev pub invariant-lines : goal.invariant-lines
+invariant-lines l = record {
+  same : telling l.peers.known l.number l.told (lines_of l.rest) ≡ events_of l.peers.known l.bytes;
+  few : l.number + length l.rest ≤ length l.bytes + 1;
+}
+
+abbrev pub decreases-lines : goal.decreases-lines
+decreases-lines l = length l.rest

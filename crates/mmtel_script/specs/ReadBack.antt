@@ -1,0 +1,17 @@
+-- What a listing writes of bytes, read again as the lines of a script.
+use Rattle.std.specs.Prelude.{ℕ, true, nat_lt, List, map, Some, ◌≡◌}
+use Rattle.std.specs.List.{list_all, flat_map}
+use Rattle.mmtel_trust.specs.declared.parties.KnownPeer.{KnownPeer}
+use Rattle.mmtel_directory.specs.Lines.{lines_of}
+use Rattle.mmtel_script.specs.Listing.{data_lines}
+use Rattle.mmtel_script.specs.ScriptGrammar.{piece, form_of}
+
+-- each number is one of a byte
+abbrev pub AreBytes : List ℕ → Type 0
+AreBytes s = list_all (λ b. nat_lt b 256) s ≡ true
+
+-- the lines that list the bytes are data lines of a script, and give these bytes
+pub record ReadsBack (known : List KnownPeer) (bytes : List ℕ) : Type 0 where
+  pub pieces : List (List ℕ)
+  pub lines : map (λ line. form_of known line) (lines_of (data_lines bytes)) ≡ map (λ p. Some (piece p)) pieces
+  pub same : flat_map (λ p. p) pieces ≡ bytes

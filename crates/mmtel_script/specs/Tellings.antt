@@ -1,0 +1,55 @@
+-- How the events of a script are gathered line by line. What others call speaks of Script.
+use Rattle.std.specs.Prelude.{ℕ, ◌+◌, List, [], ◌∷◌, ◌++◌, Option, Some, None, Result, Ok, Err, ◌≡◌}
+use Rattle.mmtel_scan.specs.Chain.{◌>>=◌}
+use Rattle.mmtel_trust.specs.declared.parties.KnownPeer.{KnownPeer}
+use Rattle.mmtel_outside.specs.declared.events.Event.{Event}
+use Rattle.mmtel_outside.specs.declared.events.Event.TheVariants.{Datagram}
+use Rattle.mmtel_script.specs.declared.script_lines.ScriptLine.{ScriptLine}
+use Rattle.mmtel_script.specs.declared.script_lines.ScriptLine.TheVariants.{Remark, Begins, Data}
+use Rattle.mmtel_script.specs.declared.scripts.ScriptFault.{ScriptFault}
+use Rattle.mmtel_script.specs.declared.scripts.ScriptFault.TheVariants.{BadLine, NoMemory}
+use Rattle.mmtel_script.specs.declared.scripts.Opened.{Opened}
+use Rattle.mmtel_script.specs.declared.scripts.Telling.{Telling}
+use Rattle.mmtel_script.specs.Script.{line_of}
+use Rattle.mmtel_directory.specs.Lines.{and_then}
+
+abbrev pub nothing_told : Telling
+nothing_told = record { events = []; opened = None }
+
+abbrev pub event_of : Opened → Event
+event_of o = Datagram o.from o.at o.bytes
+
+-- the events, the open one with them
+abbrev pub closed : List Event → Option Opened → List Event
+closed events None = events
+closed events (Some o) = events ++ event_of o ∷ []
+
+abbrev pub all_told : Telling → List Event
+all_told told = closed told.events told.opened
+
+-- more bytes of the open event, where there is one
+abbrev pub with_data : List Event → Option Opened → List ℕ → Option Telling
+with_data events None bytes = None
+with_data events (Some o) bytes = Some (record { events = events; opened = Some (record o { bytes = o.bytes ++ bytes }) })
+
+-- what is told with the line, where it is taken
+abbrev pub with_line : Telling → ScriptLine → Option Telling
+with_line told Remark = Some told
+with_line told (Begins from at) = Some (record { events = all_told told; opened = Some (record { from = from; at = at; bytes = [] }) })
+with_line told (Data bytes) = with_data told.events told.opened bytes
+
+abbrev pub step : List KnownPeer → Telling → List ℕ → Option Telling
+step known told text = do
+  line ← line_of known text
+  with_line told line
+
+-- the events of what is told and of the lines to come
+abbrev pub telling : List KnownPeer → ℕ → Telling → List (List ℕ) → Result (List Event) ℕ
+telling known number told [] = Ok (all_told told)
+telling known number told (text ∷ texts) = and_then number (step known told text) (λ next. telling known (number + 1) next texts)
+
+-- what came of a line: this telling, or the line's number where there is none
+abbrev pub Steps : Result (Unit {0}) ScriptFault → ℕ → Option Telling → Telling → Type 0
+Steps (Ok done) number due after = due ≡ Some after
+Steps (Err (BadLine n)) number due after = (due ≡ None) × (n ≡ number)
+Steps (Err NoMemory) number due after = Unit {0}

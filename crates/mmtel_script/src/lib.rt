@@ -1,0 +1,9 @@
+//! Scripts, which write down the events of a run, and the listing of what a run offered.
+#![tactic(auto)]
+
+mod listings;
+mod script_lines;
+mod scripts;
+
+pub use listings::{listed_bytes_read_back, listing};
+pub use scripts::{ScriptFault, ScriptLink};

@@ -4,7 +4,8 @@ use Rattle.std.specs.declared.option.Option.{Option}
 use Rattle.std.specs.declared.result.Result.{Result}
 use Rattle.mmtel_types.specs.declared.numbers.Account.{Account}
 use Rattle.mmtel_charging.specs.declared.rows.Row.{Row}
-use Rattle.mmtel_outside.specs.Counts.{next_count, fails_by_number}
+use Rattle.mmtel_scan.specs.Numbers.{next_number}
+use Rattle.mmtel_outside.specs.Counts.{fails_by_number}
 use Rattle.mmtel_sheet_texts.specs.Texts.{put}
 use Rattle.mmtel_keeper.specs.declared.keepers.KeepFault.{KeepFault}
 use Rattle.mmtel_keeper.specs.declared.keepers.KeepFault.TheVariants.{Failed}
@@ -26,7 +27,7 @@ fails_next calls = fails_by_number calls.failing calls.calls
 
 -- after any call
 abbrev pub called : KeeperCalls → KeeperCalls
-called calls = record calls { calls = next_count calls.calls }
+called calls = record calls { calls = next_number calls.calls }
 
 -- a call is counted whatever it answers, and fails exactly where its number says so
 abbrev pub IsCall : {T : Type 0} → Option KeeperCalls → Option KeeperCalls → Result T KeepFault → Type 0

@@ -1,7 +1,7 @@
 -- The keeper in memory, as contracts see it.
 use Rattle.std.specs.Prelude.{◌≡◌, ℕ, true, false, Ok, Err}
 use Rattle.std.specs.declared.result.Result.{Result}
-use Rattle.mmtel_outside.specs.Counts.{next_count}
+use Rattle.mmtel_scan.specs.Numbers.{next_number}
 use Rattle.mmtel_keeper.specs.Kept.{Held, KeeperCalls, fails_next, called}
 use Rattle.mmtel_keeper.specs.declared.keepers.KeepFault.{KeepFault}
 use Rattle.mmtel_keeper.specs.declared.keepers.KeepFault.TheVariants.{Failed, NoMemory}
@@ -18,5 +18,5 @@ pub record Store : Type 0 where
 abbrev pub Begins : {T : Type 0} → Store → Store → Result T KeepFault → Type 0
 Begins before after (Ok x) = (fails_next before.calls ≡ false) × (after ≡ record before { calls = called before.calls })
 Begins before after (Err Failed) =
-    (fails_next before.calls ≡ true) × (after ≡ record before { calls = called before.calls; faults = next_count before.faults })
+    (fails_next before.calls ≡ true) × (after ≡ record before { calls = called before.calls; faults = next_number before.faults })
 Begins before after (Err NoMemory) = ⊥

@@ -4,9 +4,10 @@ use Rattle.std.specs.declared.option.Option.{Option}
 use Rattle.std.specs.declared.result.Result.{Result}
 use Rattle.mmtel_types.specs.declared.numbers.Failed.{Failed}
 use Rattle.mmtel_trust.specs.declared.addrs.Addr.{Addr}
-use Rattle.mmtel_outside.specs.Counts.{next_count, fails_by_number}
-use Rattle.mmtel_link.specs.declared.events.Event.{Event}
-use Rattle.mmtel_link.specs.declared.events.Event.TheVariants as event
+use Rattle.mmtel_scan.specs.Numbers.{next_number}
+use Rattle.mmtel_outside.specs.Counts.{fails_by_number}
+use Rattle.mmtel_outside.specs.declared.events.Event.{Event}
+use Rattle.mmtel_outside.specs.declared.events.Event.TheVariants as event
 use Rattle.mmtel_link.specs.declared.links.Arrival.{Arrival}
 use Rattle.mmtel_link.specs.declared.links.Arrival.TheVariants as arrival
 use Rattle.mmtel_link.specs.declared.links.SendFault.{SendFault}
@@ -140,7 +141,7 @@ abbrev pub fails_next : LinkCalls → Bool
 fails_next calls = fails_by_number calls.failing calls.calls
 
 abbrev pub called : LinkCalls → LinkCalls
-called calls = record calls { calls = next_count calls.calls }
+called calls = record calls { calls = next_number calls.calls }
 
 -- a call of taking in fails exactly where its number says so, and is counted
 abbrev pub IsCall : {T : Type 0} → Option LinkCalls → Option LinkCalls → Result T Failed → Type 0

@@ -1,19 +1,16 @@
 -- Counts of calls and of faults of what lies outside the program (files, sinks, links, keepers), and calls that fail by their numbers.
-use Rattle.std.specs.Prelude.{◌≡◌, ℕ, ◌+◌, ◌-◌, ◌^◌, ◌≤◌, ◌==◌, min, List, Bool, OnOk, OnErr, IsErrOf}
+use Rattle.std.specs.Prelude.{◌≡◌, ℕ, ◌≤◌, ◌==◌, List, Bool, OnOk, OnErr, IsErrOf}
 use Rattle.std.specs.List.{list_any}
 use Rattle.std.specs.declared.result.Result.{Result}
-
--- a count after one more: it stays at the greatest u64
-abbrev pub next_count : ℕ → ℕ
-next_count count = min (count + 1) (2 ^ 64 - 1)
+use Rattle.mmtel_scan.specs.Numbers.{next_number}
 
 -- whether the call after so many fails by its number: calls are numbered from 1
 abbrev pub fails_by_number : List ℕ → ℕ → Bool
-fails_by_number failing calls = list_any (λ number. number == next_count calls) failing
+fails_by_number failing calls = list_any (λ number. number == next_number calls) failing
 
 -- a count rose: it is greater than before, or stands at the greatest u64
 abbrev pub Rose : ℕ → ℕ → Type 0
-Rose before now = next_count before ≤ now
+Rose before now = next_number before ≤ now
 
 -- the count rose at `Err`, and is as before at `Ok`
 pub record HasCause {T E : Type 0} (before now : ℕ) (result : Result T E) : Type 0 where

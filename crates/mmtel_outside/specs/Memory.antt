@@ -2,7 +2,8 @@
 use Rattle.std.specs.Prelude.{◌≡◌, ℕ, ◌-◌, ◌==◌, min, take, length, List, ◌++◌, if◌then◌else◌, Some, None, OnOk, MatchResult}
 use Rattle.std.specs.declared.option.Option.{Option}
 use Rattle.std.specs.declared.result.Result.{Result}
-use Rattle.mmtel_outside.specs.Counts.{next_count, fails_by_number}
+use Rattle.mmtel_scan.specs.Numbers.{next_number}
+use Rattle.mmtel_outside.specs.Counts.{fails_by_number}
 use Rattle.mmtel_outside.specs.Shelf.{Shelf}
 
 -- files in memory: what they hold, and the count of their faults
@@ -33,9 +34,9 @@ taken_by basin bytes =
 
 -- the sink after a write of bytes that are not empty, by what it answered
 abbrev pub basin_at : Basin → List ℕ → Option ℕ → Basin
-basin_at basin bytes None = record basin { calls = next_count basin.calls; faults = next_count basin.faults }
+basin_at basin bytes None = record basin { calls = next_number basin.calls; faults = next_number basin.faults }
 basin_at basin bytes (Some count) =
-    record basin { calls = next_count basin.calls; taken = basin.taken ++ take count bytes; room = basin.room - count }
+    record basin { calls = next_number basin.calls; taken = basin.taken ++ take count bytes; room = basin.room - count }
 
 -- the sink after a write: one of no bytes changes nothing and has no number
 abbrev pub basin_after : Basin → List ℕ → Basin

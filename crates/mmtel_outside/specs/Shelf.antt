@@ -3,7 +3,8 @@ use Rattle.std.specs.Prelude.{◌≡◌, ℕ, List, [], ◌∷◌, if◌then◌e
 use Rattle.std.specs.Str.{bytes_eq}
 use Rattle.std.specs.declared.option.Option.{Option}
 use Rattle.std.specs.declared.result.Result.{Result}
-use Rattle.mmtel_outside.specs.Counts.{next_count, fails_by_number, HasFaultCause}
+use Rattle.mmtel_scan.specs.Numbers.{next_number}
+use Rattle.mmtel_outside.specs.Counts.{fails_by_number, HasFaultCause}
 use Rattle.mmtel_outside.specs.declared.files.FileFault.{FileFault}
 use Rattle.mmtel_outside.specs.declared.files.FileFault.TheVariants.{Failed, NoMemory}
 
@@ -24,7 +25,7 @@ answer_at shelf name = if fails_by_number shelf.failing shelf.calls then None el
 
 -- the shelf after a call, whatever it answered
 abbrev pub called : Shelf → Shelf
-called shelf = record shelf { calls = next_count shelf.calls }
+called shelf = record shelf { calls = next_number shelf.calls }
 
 -- a read answers as the shelf says: it fails exactly where the shelf has no answer, and else gives that answer or runs out of memory
 pub record Reads (shelf : Shelf) (name : List ℕ) (result : Result (List ℕ) FileFault) : Type 0 where

@@ -1,4 +1,5 @@
 pub mod Answered
+pub mod Audio
 pub mod Decimals
 pub mod Parts
 pub mod Plain

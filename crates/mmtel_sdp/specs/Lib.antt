@@ -1,5 +1,6 @@
 -- What the public clauses cite. Clauses of private functions cite parts of the same definitions, and nothing else.
 pub mod Lines
 pub mod Mixing
+pub mod Offers
 pub mod Outcome
 pub mod Sdp

@@ -6,10 +6,12 @@ mod lines;
 mod looking;
 mod media;
 mod mixing;
+mod offers;
 mod values;
 mod writing;
 
 pub use faults::{AnswerFault, SdpFault};
 pub use looking::look;
 pub use mixing::{mixer_answer, mixer_offer};
+pub use offers::{direction_told, kinds_of, offers_audio, view_of};
 pub use values::{Direction, Medium, Mixer, SdpView};

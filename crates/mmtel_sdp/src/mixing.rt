@@ -28,7 +28,8 @@ fn is_audio(medium: &Medium) -> bool
     medium.kind.bytes() == b"audio".as_slice()
 }
 
-fn has_audio(media: &[Medium]) -> bool
+/// Whether a medium is audio.
+pub fn has_audio(media: &[Medium]) -> bool
     ensures { result ≡ has_audio media.now }
 {
     media.iter().any(|medium| is_audio(medium))

@@ -3,9 +3,10 @@
 //! A `|` in a row ends a line of a description.
 
 use crate::told::{Rows, Told, wrong_line};
-use mmtel_scan::{NoMemory, part};
+use mmtel_scan::{List, NoMemory, Text, part};
 use mmtel_sdp::{
-    AnswerFault, Direction, Medium, Mixer, SdpFault, SdpView, look, mixer_answer, mixer_offer,
+    AnswerFault, Direction, Medium, Mixer, SdpFault, SdpView, direction_told, kinds_of, look,
+    mixer_answer, mixer_offer, offers_audio, view_of,
 };
 
 fn direction_name(direction: Direction) -> &'static [u8] {
@@ -199,4 +200,109 @@ v=0|o=mixer 1 1 IN IP4 192.0.2.10|s=-|c=IN IP4 192.0.2.10|t=0 0|m=audio 40000 RT
 #[test]
 fn answers_and_offers(rt: HostRuntime) {
     assert_eq!(rt; wrong_line(rt.alloc(), Answers, ANSWERS), None);
+}
+
+fn audio_name(offers: bool) -> &'static [u8] {
+    if offers { b"audio; " } else { b"no audio; " }
+}
+
+/// Adds what was said of audio.
+fn add_audio(told: &mut Told, said: Result<bool, NoMemory>) {
+    match said {
+        Ok(offers) => told.add(audio_name(offers)),
+        Err(NoMemory) => told.fail(),
+    }
+}
+
+/// Adds the direction, or that there is none.
+fn add_direction(told: &mut Told, said: Result<Option<Direction>, NoMemory>) {
+    match said {
+        Ok(Some(direction)) => told.add(direction_name(direction)),
+        Ok(None) => told.add(b"no direction"),
+        Err(NoMemory) => told.fail(),
+    }
+}
+
+/// Adds the kinds, with `,` before each, and ends the line.
+fn add_kinds(told: &mut Told, said: Result<List<Text>, NoMemory>) {
+    match said {
+        Ok(kinds) => {
+            for kind in kinds.items() {
+                told.add(b",");
+                told.add(kind.bytes());
+            }
+            told.add(b"\n");
+        }
+        Err(NoMemory) => told.fail(),
+    }
+}
+
+/// What a body offers.
+#[derive(Drop)]
+struct Offers;
+
+impl Rows for Offers {
+    fn tell(&mut self, told: &mut Told, asked: &[u8]) {
+        let alloc = told.alloc();
+        let mut body = Told::new(alloc);
+        body.add_ended(asked, b"\r\n");
+        add_audio(told, offers_audio(alloc, body.bytes()));
+        add_direction(told, direction_told(alloc, body.bytes()));
+        add_kinds(told, kinds_of(alloc, body.bytes()));
+    }
+}
+
+/// What the view of a body says of the same.
+#[derive(Drop)]
+struct OffersSeen;
+
+impl Rows for OffersSeen {
+    fn tell(&mut self, told: &mut Told, asked: &[u8]) {
+        let alloc = told.alloc();
+        let mut body = Told::new(alloc);
+        body.add_ended(asked, b"\r\n");
+        match view_of(alloc, body.bytes()) {
+            Ok(Some(view)) => {
+                add_audio(told, Ok(view.has_audio()));
+                add_direction(told, Ok(Some(view.direction)));
+                add_kinds(told, view.kinds(alloc));
+            }
+            Ok(None) => told.add_line(b"no audio; no direction"),
+            Err(NoMemory) => told.fail(),
+        }
+    }
+}
+
+/// The example of RFC 4566 §5, the offer and the later offer of RFC 3264 §10.1, the offer of §10.2. A kind stands once for each of its media; other kinds of RFC 4566 §5.14; audio of port 0 is offered, and `Audio` or a longer word is another kind; a description without audio has the session's direction. Then bodies that are no session descriptions, also where an `m=audio` line stands in them.
+const OFFERS: &[u8] =
+    b"> v=0|o=jdoe 2890844526 2890842807 IN IP4 10.47.16.5|s=SDP Seminar|i=A Seminar on the session description protocol|u=http://www.example.com/seminars/sdp.pdf|e=j.doe@example.com (Jane Doe)|c=IN IP4 224.2.17.12/127|t=2873397496 2873404696|a=recvonly|m=audio 49170 RTP/AVP 0|m=video 51372 RTP/AVP 99|a=rtpmap:99 h263-1998/90000|
+audio; recvonly,audio,video
+> v=0|o=alice 2890844526 2890844526 IN IP4 host.anywhere.com|s=|c=IN IP4 host.anywhere.com|t=0 0|m=audio 49170 RTP/AVP 0|a=rtpmap:0 PCMU/8000|m=video 51372 RTP/AVP 31|a=rtpmap:31 H261/90000|m=video 53000 RTP/AVP 32|a=rtpmap:32 MPV/90000|
+audio; sendrecv,audio,video,video
+> v=0|o=bob 2890844730 2890844731 IN IP4 host.example.com|s=|c=IN IP4 host.example.com|t=0 0|m=audio 65422 RTP/AVP 0|a=rtpmap:0 PCMU/8000|m=video 0 RTP/AVP 31|m=video 53000 RTP/AVP 32|a=rtpmap:32 MPV/90000|m=audio 51434 RTP/AVP 110|a=rtpmap:110 telephone-events/8000|a=recvonly|
+audio; sendrecv,audio,video,video,audio
+> v=0|o=alice 2890844526 2890844526 IN IP4 host.anywhere.com|s=|c=IN IP4 host.anywhere.com|t=0 0|m=audio 62986 RTP/AVP 0 4 18|a=rtpmap:0 PCMU/8000|a=rtpmap:4 G723/8000|a=rtpmap:18 G729/8000|a=inactive|
+audio; inactive,audio
+> v=0|m=text 1 RTP/AVP 98|m=application 2 udp wb|m=message 3 TCP/MSRP *|m=audio 0 RTP/AVP 0|a=sendonly|
+audio; sendonly,text,application,message,audio
+> v=0|a=inactive|m=video 1 RTP/AVP 31|a=sendonly|
+no audio; inactive,video
+> v=0|m=Audio 1 RTP/AVP 0|m=audio2 1 RTP/AVP 0|
+no audio; sendrecv,Audio,audio2
+> 
+no audio; no direction
+> v=0|a=sendonly|
+no audio; no direction
+> m=audio 1 RTP/AVP 0|a=sendonly|
+no audio; no direction
+> v=0|m=audio 1 RTP/AVP 0|m=video|
+no audio; no direction
+> v=0|m=audio 1 RTP/AVP 0|a=sendonly
+no audio; no direction
+";
+
+#[test]
+fn bodies_offer(rt: HostRuntime) {
+    assert_eq!(rt; wrong_line(rt.alloc(), Offers, OFFERS), None);
+    assert_eq!(rt; wrong_line(rt.alloc(), OffersSeen, OFFERS), None);
 }

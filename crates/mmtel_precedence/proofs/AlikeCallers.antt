@@ -21,7 +21,9 @@ use Rattle.mmtel_precedence.specs.Services.{Circumstances, Account, Due, Says, N
 use Rattle.mmtel_precedence.specs.Calls.{refused_at_once, End, Answer, Cancel, UserBusy, NotReachable, NoReply, Deflection, Other, Ended, Reach, Call, Target, Final, Outcome, last_reached, then_reached, refusal_at_opening}
 use Rattle.mmtel_precedence.specs.Targets.{Next, Rests, IsDue, of_caller, said_on_arrival, due_at, diverted_or, next_on, next_at, next_after, target_at, new_target, offer_by}
 use Rattle.mmtel_precedence.specs.Outcome.{outcome_from, outcome}
-use Rattle.mmtel_precedence.specs.Laws.{diversion_rules, AnswerAlikeTo, AlikeCallersFareAlike}
+use Rattle.mmtel_precedence.specs.Verdicts.{decision_by, forwards_or}
+use Rattle.mmtel_precedence.specs.declared.endings.Ending.TheVariants as endings
+use Rattle.mmtel_precedence.specs.Laws.{diversion_rules, AnswerAlikeTo, AlikeCallersFareAlike, asked, VerdictsSeeAnswersAlone}
 use Rattle.mmtel_precedence.proofs.Accounts.{account_says}
 use Rattle.mmtel_precedence.proofs.Nexts.{from_next}
 
@@ -32,9 +34,6 @@ FirstIsSame = (asks asks2 : Who → Bool) (restricted : Bool) (media : List (Lis
 abbrev pub BarsSame : Type 0
 BarsSame = (asks asks2 : Who → Bool) (restricted : Bool) (media : List (List ℕ)) (now : ℕ) (rules : List Rule) → AnswerAlike asks asks2 (identity_parts rules) → is_barred asks restricted media now rules ≡ is_barred asks2 restricted media now rules
 
--- the circumstances, with these answers
-abbrev asked : Circumstances → (Who → Bool) → Circumstances
-asked c asks = record c { asks = asks }
 
 -- the call, with these answers
 abbrev asking : Call → (Who → Bool) → Call
@@ -142,3 +141,11 @@ alike_callers first bars one other call endings known h =
     ap (λ (b : Bool). outcome (record call { asks = identity_holds one; has_identity = b }) endings) known
     ∙ opened-alike first bars (identity_holds one) (identity_holds other) (record call { has_identity = has_identity other })
     (λ k. alike-at (identity_holds one) (identity_holds other) (call.reach k).served (h k)) (refusal_at_opening call) endings
+
+pub verdicts-alike : FirstIsSame → BarsSame → VerdictsSeeAnswersAlone
+verdicts-alike first bars asks asks2 c account endings.Arrived h = ap (λ (says : List Says). decision_by (first_said says) account.live) (services-alike first bars asks asks2 c account h)
+verdicts-alike first bars asks asks2 c account (endings.UserBusy code) h = ap (λ (due : Option Due). forwards_or due (causes.Relayed code)) (due_on-alike first asks asks2 c event.Busy account.sheet h)
+verdicts-alike first bars asks asks2 c account (endings.NotReachable code) h = ap (λ (due : Option Due). forwards_or due (causes.Unreachable code)) (due_on-alike first asks asks2 c event.NotReachable account.sheet h)
+verdicts-alike first bars asks asks2 c account endings.NoReply h = ap (λ (due : Option Due). forwards_or due causes.NoReply) (due_on-alike first asks asks2 c event.NoAnswer account.sheet h)
+verdicts-alike first bars asks asks2 c account (endings.Deflected alerted) h = refl
+verdicts-alike first bars asks asks2 c account (endings.Other code) h = refl

@@ -10,6 +10,7 @@ use Rattle.mmtel_rules.specs.Alike.{AnswerAlike, identity_parts}
 use Rattle.mmtel_rules.specs.Identities.{identity_holds, has_identity}
 use Rattle.mmtel_rules.specs.declared.values.Identities2.{Identities2}
 use Rattle.mmtel_barring.specs.Barring.{rules_of}
+use Rattle.mmtel_precedence.specs.declared.endings.Ending.{Ending}
 use Rattle.mmtel_precedence.specs.declared.endings.Ending.TheVariants as ending
 use Rattle.mmtel_precedence.specs.Services.{Circumstances, Account, Due, rejects_anonymous, bars_incoming}
 use Rattle.mmtel_precedence.specs.Verdicts.{Ends, verdict_of}
@@ -96,3 +97,13 @@ AlikeCallersFareAlike = (one other : Identities2) (call : Call) (endings : List 
     has_identity one ≡ has_identity other →
     ((k : ℕ) (account : Account) → (call.reach k).served ≡ Some account → AnswerAlikeTo account.sheet (identity_holds one) (identity_holds other)) →
     outcome (called_by one call) endings ≡ outcome (called_by other call) endings
+
+-- the same circumstances, with these answers of the other party
+abbrev pub asked : Circumstances → (Who → Bool) → Circumstances
+asked c asks = record c { asks = asks }
+
+-- of a caller a verdict rests on whether it has an identity, whether it hides it, and the answers to the rules that the account asks of its callers; and on nothing else
+abbrev pub VerdictsSeeAnswersAlone : Type 0
+VerdictsSeeAnswersAlone = (asks asks2 : Who → Bool) (c : Circumstances) (account : Account) (how : Ending) →
+    AnswerAlikeTo account.sheet asks asks2 →
+    verdict_of (asked c asks) account how ≡ verdict_of (asked c asks2) account how

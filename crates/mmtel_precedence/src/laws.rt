@@ -1,5 +1,5 @@
 //! What the decisions come to. These are laws, and no code.
-ghost use Rattle.mmtel_precedence.specs.Laws.{AlikeCallersFareAlike, BarringComesFirst, IsBoundExact, StaysWithinBound};
+ghost use Rattle.mmtel_precedence.specs.Laws.{AlikeCallersFareAlike, BarringComesFirst, IsBoundExact, StaysWithinBound, VerdictsSeeAnswersAlone};
 ghost use Rattle.mmtel_precedence.specs.Moves.{MovesGiveTheOutcome};
 
 use mmtel_rules::laws::{
@@ -29,6 +29,15 @@ pub fn bound_is_exact()
 /// Two callers fare alike, and nothing that a call does tells them apart, where they answer alike to each identity part of the rules that the accounts which it reaches ask of their callers, and both or neither have an identity.
 pub fn alike_callers_fare_alike()
     ensures law { AlikeCallersFareAlike }
+{
+    first_sees_answers_alone();
+    barring_sees_answers_alone();
+    barred_where_no_rule_allows();
+}
+
+/// Of a caller a verdict rests on whether it has an identity, whether it hides it, and its answers to each identity part of the rules that the account asks of its callers, and on nothing else.
+pub fn verdicts_see_answers_alone()
+    ensures law { VerdictsSeeAnswersAlone }
 {
     first_sees_answers_alone();
     barring_sees_answers_alone();

@@ -2,6 +2,7 @@ mod Accounts
 mod AlikeCallers
 mod Barrings
 mod Bounded
+mod Extending
 mod FirstServices
 mod Moving
 mod Nexts

@@ -1,4 +1,5 @@
 //! What the decisions come to. These are laws, and no code.
+ghost use Rattle.mmtel_precedence.specs.Extension.{LaterEndingsExtend};
 ghost use Rattle.mmtel_precedence.specs.Laws.{AlikeCallersFareAlike, BarringComesFirst, IsBoundExact, StaysWithinBound, VerdictsSeeAnswersAlone};
 ghost use Rattle.mmtel_precedence.specs.Moves.{MovesGiveTheOutcome};
 
@@ -9,6 +10,11 @@ use mmtel_rules::laws::{
 /// However the attempts of a call end, and whatever records, registrations and live calls it finds at the targets that it reaches: deciding it move by move, by `verdict` and `go_on` over what is kept of it, gives exactly its Outcome.
 pub fn moves_give_the_outcome()
     ensures law { MovesGiveTheOutcome }
+{}
+
+/// Endings that come later extend an outcome: what they give begins with what was before them, and is the same where that was settled. The moves of a call go on from where it rang, so that those that are made over some endings and then over later ones, or after each ending as it comes, come to the Outcome of all of them.
+pub fn later_endings_extend()
+    ensures law { LaterEndingsExtend }
 {}
 
 /// Barring comes before diversion, and anonymous communication rejection before both, whatever the diversion rules, the registration and the live calls of the account.

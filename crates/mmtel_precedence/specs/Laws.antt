@@ -1,5 +1,5 @@
 -- What the definitions of precedence come to, in the subject's words.
-use Rattle.std.specs.Prelude.{◌≡◌, ◌↔◌, ◌≤◌, ◌<◌, ℕ, zero, suc, ◌+◌, ◌-◌, ◌==◌, max, Bool, true, false, List, [], Option, Some, None, is_some, IsSome, count_by, option_and_then}
+use Rattle.std.specs.Prelude.{◌≡◌, ◌↔◌, ◌≤◌, ◌<◌, ℕ, zero, suc, ◌+◌, ◌-◌, ◌==◌, max, Bool, true, false, List, [], length, Option, Some, None, is_some, IsSome, count_by, option_and_then}
 use Rattle.mmtel_types.specs.declared.causes.Cause.TheVariants as causes
 use Rattle.mmtel_lex.specs.declared.values.Uri.{Uri}
 use Rattle.mmtel_sheet_values.specs.declared.values.DiversionPart.{DiversionPart}
@@ -14,7 +14,7 @@ use Rattle.mmtel_precedence.specs.declared.endings.Ending.{Ending}
 use Rattle.mmtel_precedence.specs.declared.endings.Ending.TheVariants as ending
 use Rattle.mmtel_precedence.specs.Services.{Circumstances, Account, Due, rejects_anonymous, bars_incoming}
 use Rattle.mmtel_precedence.specs.Verdicts.{Ends, verdict_of}
-use Rattle.mmtel_precedence.specs.Calls.{Call, Ended, Target, NotOffered, Final, Outcome, last_reached, refusal_at_opening}
+use Rattle.mmtel_precedence.specs.Calls.{Reach, Call, Ended, Target, NotOffered, Final, Outcome, last_reached, refusal_at_opening}
 use Rattle.mmtel_precedence.specs.Targets.{Next, Rests, IsDue, next_after, of_caller}
 use Rattle.mmtel_precedence.specs.Outcome.{outcome_from, outcome}
 
@@ -107,3 +107,15 @@ abbrev pub VerdictsSeeAnswersAlone : Type 0
 VerdictsSeeAnswersAlone = (asks asks2 : Who → Bool) (c : Circumstances) (account : Account) (how : Ending) →
     AnswerAlikeTo account.sheet asks asks2 →
     verdict_of (asked c asks) account how ≡ verdict_of (asked c asks2) account how
+
+-- ---- only targets that are reached count
+
+-- the same call, whose targets stand so when it reaches them
+abbrev pub where_targets : (ℕ → Reach) → Call → Call
+where_targets reach call = record call { reach = reach }
+
+-- the outcome is the same wherever the targets that the call reaches stand the same: what else it might have found, at targets that it does not come to, is nothing to it
+abbrev pub OnlyReachedTargetsCount : Type 0
+OnlyReachedTargetsCount = (call : Call) (endings : List Ended) (other : ℕ → Reach) →
+    ((k : ℕ) → k < length (outcome call endings).targets → call.reach k ≡ other k) →
+    outcome (where_targets other call) endings ≡ outcome call endings

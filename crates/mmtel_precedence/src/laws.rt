@@ -1,6 +1,6 @@
 //! What the decisions come to. These are laws, and no code.
 ghost use Rattle.mmtel_precedence.specs.Extension.{LaterEndingsExtend};
-ghost use Rattle.mmtel_precedence.specs.Laws.{AlikeCallersFareAlike, BarringComesFirst, IsBoundExact, StaysWithinBound, VerdictsSeeAnswersAlone};
+ghost use Rattle.mmtel_precedence.specs.Laws.{AlikeCallersFareAlike, BarringComesFirst, IsBoundExact, OnlyReachedTargetsCount, StaysWithinBound, VerdictsSeeAnswersAlone};
 ghost use Rattle.mmtel_precedence.specs.Moves.{MovesGiveTheOutcome};
 
 use mmtel_rules::laws::{
@@ -15,6 +15,11 @@ pub fn moves_give_the_outcome()
 /// Endings that come later extend an outcome: what they give begins with what was before them, and is the same where that was settled. The moves of a call go on from where it rang, so that those that are made over some endings and then over later ones, or after each ending as it comes, come to the Outcome of all of them.
 pub fn later_endings_extend()
     ensures law { LaterEndingsExtend }
+{}
+
+/// Only the targets that a call reaches count: its Outcome is the same wherever those stand the same.
+pub fn only_reached_targets_count()
+    ensures law { OnlyReachedTargetsCount }
 {}
 
 /// Barring comes before diversion, and anonymous communication rejection before both, whatever the diversion rules, the registration and the live calls of the account.

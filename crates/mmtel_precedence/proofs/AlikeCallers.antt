@@ -108,9 +108,9 @@ next-alike first bars asks asks2 call k endings h =
     ap (λ says. next_at says (asking call asks) (call.reach k) endings) (said-alike first bars asks asks2 call (call.reach k) h)
     ∙ next_at-alike first asks asks2 (said_on_arrival (asking call asks2) (call.reach k)) call (call.reach k) endings h
 
-target-alike : FirstIsSame → BarsSame → (asks asks2 : Who → Bool) (call : Call) (k : ℕ) (uri : Uri) (cause : Option ℕ) → AlikeAt asks asks2 (call.reach k).served → target_at (asking call asks) k uri cause ≡ target_at (asking call asks2) k uri cause
-target-alike first bars asks asks2 call k uri cause h =
-    ap (λ said. record { uri = uri; cause = cause; offer = offer_by said (call.reach k).served }) (said-alike first bars asks asks2 call (call.reach k) h)
+target-alike : FirstIsSame → BarsSame → (asks asks2 : Who → Bool) (call : Call) (k : ℕ) (uri : Uri) (by : Option Due) → AlikeAt asks asks2 (call.reach k).served → target_at (asking call asks) k uri by ≡ target_at (asking call asks2) k uri by
+target-alike first bars asks asks2 call k uri by h =
+    ap (λ said. record { uri = uri; by = by; offer = offer_by said (call.reach k).served }) (said-alike first bars asks asks2 call (call.reach k) h)
 
 -- at a target, where what comes of each diversion is the same
 from_next-same : (target : Target) (onward onward2 : Due → List Ended → Outcome) → ((due : Due) (later : List Ended) → onward due later ≡ onward2 due later) → (next : Next) → from_next target onward next ≡ from_next target onward2 next
@@ -118,16 +118,16 @@ from_next-same target onward onward2 same (Rests result) = refl
 from_next-same target onward onward2 same (IsDue due later) = same due later
 
 outcome_from-alike : FirstIsSame → BarsSame → (asks asks2 : Who → Bool) (call : Call) → ((k : ℕ) → AlikeAt asks asks2 (call.reach k).served) →
-    (left k : ℕ) (uri : Uri) (cause : Option ℕ) (endings : List Ended) → outcome_from (asking call asks) left k uri cause endings ≡ outcome_from (asking call asks2) left k uri cause endings
+    (left k : ℕ) (uri : Uri) (by : Option Due) (endings : List Ended) → outcome_from (asking call asks) left k uri by endings ≡ outcome_from (asking call asks2) left k uri by endings
 unfolding outcome_from
-outcome_from-alike first bars asks asks2 call h zero k uri cause endings =
-    ap (λ target. from_next target (λ due later. last_reached target (Final (causes.TooManyDiversions (due.cause == 486)))) (next_after (asking call asks) k endings)) (target-alike first bars asks asks2 call k uri cause (h k))
-    ∙ ap (λ next. from_next (target_at (asking call asks2) k uri cause) (λ due later. last_reached (target_at (asking call asks2) k uri cause) (Final (causes.TooManyDiversions (due.cause == 486)))) next) (next-alike first bars asks asks2 call k endings (h k))
-outcome_from-alike first bars asks asks2 call h (suc left) k uri cause endings =
-    ap (λ target. from_next target (λ due later. then_reached target (outcome_from (asking call asks) left (k + 1) (new_target call.home due.forward.target) (Some due.cause) later)) (next_after (asking call asks) k endings)) (target-alike first bars asks asks2 call k uri cause (h k))
-    ∙ ap (λ next. from_next (target_at (asking call asks2) k uri cause) (λ due later. then_reached (target_at (asking call asks2) k uri cause) (outcome_from (asking call asks) left (k + 1) (new_target call.home due.forward.target) (Some due.cause) later)) next) (next-alike first bars asks asks2 call k endings (h k))
-    ∙ from_next-same (target_at (asking call asks2) k uri cause) _ _
-    (λ due later. ap (then_reached (target_at (asking call asks2) k uri cause)) (outcome_from-alike first bars asks asks2 call h left (k + 1) (new_target call.home due.forward.target) (Some due.cause) later)) (next_after (asking call asks2) k endings)
+outcome_from-alike first bars asks asks2 call h zero k uri by endings =
+    ap (λ target. from_next target (λ due later. last_reached target (Final (causes.TooManyDiversions (due.cause == 486)))) (next_after (asking call asks) k endings)) (target-alike first bars asks asks2 call k uri by (h k))
+    ∙ ap (λ next. from_next (target_at (asking call asks2) k uri by) (λ due later. last_reached (target_at (asking call asks2) k uri by) (Final (causes.TooManyDiversions (due.cause == 486)))) next) (next-alike first bars asks asks2 call k endings (h k))
+outcome_from-alike first bars asks asks2 call h (suc left) k uri by endings =
+    ap (λ target. from_next target (λ due later. then_reached target (outcome_from (asking call asks) left (k + 1) (new_target call.home due.forward.target) (Some due) later)) (next_after (asking call asks) k endings)) (target-alike first bars asks asks2 call k uri by (h k))
+    ∙ ap (λ next. from_next (target_at (asking call asks2) k uri by) (λ due later. then_reached (target_at (asking call asks2) k uri by) (outcome_from (asking call asks) left (k + 1) (new_target call.home due.forward.target) (Some due) later)) next) (next-alike first bars asks asks2 call k endings (h k))
+    ∙ from_next-same (target_at (asking call asks2) k uri by) _ _
+    (λ due later. ap (then_reached (target_at (asking call asks2) k uri by)) (outcome_from-alike first bars asks asks2 call h left (k + 1) (new_target call.home due.forward.target) (Some due) later)) (next_after (asking call asks2) k endings)
 
 -- by what the opening refuses
 opened-alike : FirstIsSame → BarsSame → (asks asks2 : Who → Bool) (call : Call) → ((k : ℕ) → AlikeAt asks asks2 (call.reach k).served) →

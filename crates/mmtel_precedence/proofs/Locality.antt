@@ -34,8 +34,8 @@ next-same other call k endings e =
     next_at-where other (said_on_arrival call (other k)) call (other k) endings
     ∙ ap (λ (reach : Reach). next_at (said_on_arrival call reach) call reach endings) (sym e)
 
-target-same : (other : ℕ → Reach) (call : Call) (k : ℕ) (uri : Uri) (cause : Option ℕ) → call.reach k ≡ other k → target_at (where_targets other call) k uri cause ≡ target_at call k uri cause
-target-same other call k uri cause e = ap (λ (reach : Reach). record { uri = uri; cause = cause; offer = offer_by (said_on_arrival call reach) reach.served }) (sym e)
+target-same : (other : ℕ → Reach) (call : Call) (k : ℕ) (uri : Uri) (by : Option Due) → call.reach k ≡ other k → target_at (where_targets other call) k uri by ≡ target_at call k uri by
+target-same other call k uri by e = ap (λ (reach : Reach). record { uri = uri; by = by; offer = offer_by (said_on_arrival call reach) reach.served }) (sym e)
 
 -- ---- from one target on
 
@@ -48,15 +48,15 @@ reaches-from_next : (target : Target) (onward : Due → List Ended → Outcome) 
 reaches-from_next target onward h (Rests result) = omega arith
 reaches-from_next target onward h (IsDue due later) = h due later
 
-reaches-one : (call : Call) (left k : ℕ) (uri : Uri) (cause : Option ℕ) (endings : List Ended) → 0 < length (outcome_from call left k uri cause endings).targets
+reaches-one : (call : Call) (left k : ℕ) (uri : Uri) (by : Option Due) (endings : List Ended) → 0 < length (outcome_from call left k uri by endings).targets
 unfolding outcome_from
-reaches-one call zero k uri cause endings = reaches-from_next (target_at call k uri cause) _ (λ due later. omega arith) (next_after call k endings)
-reaches-one call (suc left) k uri cause endings = reaches-from_next (target_at call k uri cause) _ (λ due later. omega arith) (next_after call k endings)
+reaches-one call zero k uri by endings = reaches-from_next (target_at call k uri by) _ (λ due later. omega arith) (next_after call k endings)
+reaches-one call (suc left) k uri by endings = reaches-from_next (target_at call k uri by) _ (λ due later. omega arith) (next_after call k endings)
 
-agrees-here : (other : ℕ → Reach) (call : Call) (left k : ℕ) (uri : Uri) (cause : Option ℕ) (endings : List Ended) → Agrees other call k (outcome_from call left k uri cause endings) → call.reach k ≡ other k
-agrees-here other call left k uri cause endings h =
+agrees-here : (other : ℕ → Reach) (call : Call) (left k : ℕ) (uri : Uri) (by : Option Due) (endings : List Ended) → Agrees other call k (outcome_from call left k uri by endings) → call.reach k ≡ other k
+agrees-here other call left k uri by endings h =
     let e : k ≡ k + 0 = omega arith in
-    ap call.reach e ∙ h 0 (reaches-one call left k uri cause endings) ∙ ap other (sym e)
+    ap call.reach e ∙ h 0 (reaches-one call left k uri by endings) ∙ ap other (sym e)
 
 agrees-after : (other : ℕ → Reach) (call : Call) (k : ℕ) (target : Target) (outcome : Outcome) → Agrees other call k (then_reached target outcome) → Agrees other call (k + 1) outcome
 agrees-after other call k target outcome h j less =
@@ -71,20 +71,20 @@ after-same : (other : ℕ → Reach) (call : Call) (k : ℕ) (target : Target) (
 after-same other call k target onward onward2 same (Rests result) h = refl
 after-same other call k target onward onward2 same (IsDue due later) h = ap (then_reached target) (same due later (agrees-after other call k target (onward due later) h))
 
-outcome_from-same : (other : ℕ → Reach) (call : Call) (left k : ℕ) (uri : Uri) (cause : Option ℕ) (endings : List Ended) → Agrees other call k (outcome_from call left k uri cause endings) →
-    outcome_from (where_targets other call) left k uri cause endings ≡ outcome_from call left k uri cause endings
+outcome_from-same : (other : ℕ → Reach) (call : Call) (left k : ℕ) (uri : Uri) (by : Option Due) (endings : List Ended) → Agrees other call k (outcome_from call left k uri by endings) →
+    outcome_from (where_targets other call) left k uri by endings ≡ outcome_from call left k uri by endings
 unfolding outcome_from
-outcome_from-same other call zero k uri cause endings h =
-    let here = agrees-here other call 0 k uri cause endings h in
-    ap (λ target. from_next target (λ due later. last_reached target (Final (causes.TooManyDiversions (due.cause == 486)))) (next_after (where_targets other call) k endings)) (target-same other call k uri cause here)
-    ∙ ap (λ next. from_next (target_at call k uri cause) (λ due later. last_reached (target_at call k uri cause) (Final (causes.TooManyDiversions (due.cause == 486)))) next) (next-same other call k endings here)
-outcome_from-same other call (suc left) k uri cause endings h =
-    let here = agrees-here other call (suc left) k uri cause endings h in
-    let onward2 : Due → List Ended → Outcome = λ due later. outcome_from (where_targets other call) left (k + 1) (new_target call.home due.forward.target) (Some due.cause) later in
-    ap (λ target. from_next target (λ due later. then_reached target (onward2 due later)) (next_after (where_targets other call) k endings)) (target-same other call k uri cause here)
-    ∙ ap (λ next. from_next (target_at call k uri cause) (λ due later. then_reached (target_at call k uri cause) (onward2 due later)) next) (next-same other call k endings here)
-    ∙ after-same other call k (target_at call k uri cause) (λ due later. outcome_from call left (k + 1) (new_target call.home due.forward.target) (Some due.cause) later) onward2
-    (λ due later. outcome_from-same other call left (k + 1) (new_target call.home due.forward.target) (Some due.cause) later) (next_after call k endings) h
+outcome_from-same other call zero k uri by endings h =
+    let here = agrees-here other call 0 k uri by endings h in
+    ap (λ target. from_next target (λ due later. last_reached target (Final (causes.TooManyDiversions (due.cause == 486)))) (next_after (where_targets other call) k endings)) (target-same other call k uri by here)
+    ∙ ap (λ next. from_next (target_at call k uri by) (λ due later. last_reached (target_at call k uri by) (Final (causes.TooManyDiversions (due.cause == 486)))) next) (next-same other call k endings here)
+outcome_from-same other call (suc left) k uri by endings h =
+    let here = agrees-here other call (suc left) k uri by endings h in
+    let onward2 : Due → List Ended → Outcome = λ due later. outcome_from (where_targets other call) left (k + 1) (new_target call.home due.forward.target) (Some due) later in
+    ap (λ target. from_next target (λ due later. then_reached target (onward2 due later)) (next_after (where_targets other call) k endings)) (target-same other call k uri by here)
+    ∙ ap (λ next. from_next (target_at call k uri by) (λ due later. then_reached (target_at call k uri by) (onward2 due later)) next) (next-same other call k endings here)
+    ∙ after-same other call k (target_at call k uri by) (λ due later. outcome_from call left (k + 1) (new_target call.home due.forward.target) (Some due) later) onward2
+    (λ due later. outcome_from-same other call left (k + 1) (new_target call.home due.forward.target) (Some due) later) (next_after call k endings) h
 
 -- by what the opening refuses
 opened-same : (other : ℕ → Reach) (call : Call) (endings : List Ended) (refusal : Option Cause) →

@@ -25,18 +25,18 @@ pub record BarringComesFirst : Type 0 where
   pub anonymous : (c : Circumstances) (account : Account) → rejects_anonymous c account.sheet ≡ true → verdict_of c account ending.Arrived ≡ Ends causes.AnonymousRejected
   pub barred : (c : Circumstances) (account : Account) → rejects_anonymous c account.sheet ≡ false → bars_incoming c account.sheet ≡ true → verdict_of c account ending.Arrived ≡ Ends causes.IncomingBarred
   -- and of the outcome at each target: it is the last one, and the call is not offered to it
-  pub anonymous_at : (call : Call) (left k : ℕ) (uri : Uri) (cause : Option ℕ) (endings : List Ended) (account : Account) →
+  pub anonymous_at : (call : Call) (left k : ℕ) (uri : Uri) (by : Option Due) (endings : List Ended) (account : Account) →
       (call.reach k).served ≡ Some account → rejects_anonymous (of_caller call (call.reach k).at) account.sheet ≡ true →
-      outcome_from call left k uri cause endings ≡ last_reached (record { uri = uri; cause = cause; offer = NotOffered }) (Final causes.AnonymousRejected)
-  pub barred_at : (call : Call) (left k : ℕ) (uri : Uri) (cause : Option ℕ) (endings : List Ended) (account : Account) →
+      outcome_from call left k uri by endings ≡ last_reached (record { uri = uri; by = by; offer = NotOffered }) (Final causes.AnonymousRejected)
+  pub barred_at : (call : Call) (left k : ℕ) (uri : Uri) (by : Option Due) (endings : List Ended) (account : Account) →
       (call.reach k).served ≡ Some account → rejects_anonymous (of_caller call (call.reach k).at) account.sheet ≡ false → bars_incoming (of_caller call (call.reach k).at) account.sheet ≡ true →
-      outcome_from call left k uri cause endings ≡ last_reached (record { uri = uri; cause = cause; offer = NotOffered }) (Final causes.IncomingBarred)
+      outcome_from call left k uri by endings ≡ last_reached (record { uri = uri; by = by; offer = NotOffered }) (Final causes.IncomingBarred)
 
 -- ---- the bound
 
 -- a diversion led to the target
 abbrev pub is_diverted_to : Target → Bool
-is_diverted_to target = is_some target.cause
+is_diverted_to target = is_some target.by
 
 -- the diversions that were made
 abbrev pub diversions_made : Outcome → ℕ

@@ -4,6 +4,7 @@ mod Barrings
 mod Bounded
 mod Extending
 mod FirstServices
+mod Led
 mod Locality
 mod Moving
 mod Nexts

@@ -1,8 +1,10 @@
 -- What the definitions of precedence come to, in the subject's words.
 use Rattle.std.specs.Prelude.{◌≡◌, ◌↔◌, ◌≤◌, ◌<◌, ℕ, zero, suc, ◌+◌, ◌-◌, ◌==◌, max, Bool, true, false, List, [], length, Option, Some, None, is_some, IsSome, count_by, option_and_then}
+use Rattle.std.specs.List.{AllByRecursion}
 use Rattle.mmtel_types.specs.declared.causes.Cause.TheVariants as causes
 use Rattle.mmtel_lex.specs.declared.values.Uri.{Uri}
 use Rattle.mmtel_sheet_values.specs.declared.values.DiversionPart.{DiversionPart}
+use Rattle.mmtel_sheet_values.specs.declared.values.Forward.{Forward}
 use Rattle.mmtel_sheet_values.specs.declared.values.Rule.{Rule}
 use Rattle.mmtel_sheet_values.specs.declared.values.Sheet.{Sheet}
 use Rattle.mmtel_sheet_values.specs.declared.values.Who.{Who}
@@ -13,9 +15,9 @@ use Rattle.mmtel_barring.specs.Barring.{rules_of}
 use Rattle.mmtel_precedence.specs.declared.endings.Ending.{Ending}
 use Rattle.mmtel_precedence.specs.declared.endings.Ending.TheVariants as ending
 use Rattle.mmtel_precedence.specs.Services.{Circumstances, Account, Due, rejects_anonymous, bars_incoming}
-use Rattle.mmtel_precedence.specs.Verdicts.{Ends, verdict_of}
+use Rattle.mmtel_precedence.specs.Verdicts.{Ends, Forwards, verdict_of}
 use Rattle.mmtel_precedence.specs.Calls.{Reach, Call, Ended, Target, NotOffered, Final, Outcome, last_reached, refusal_at_opening}
-use Rattle.mmtel_precedence.specs.Targets.{Next, Rests, IsDue, next_after, of_caller}
+use Rattle.mmtel_precedence.specs.Targets.{Next, Rests, IsDue, new_target, next_after, of_caller}
 use Rattle.mmtel_precedence.specs.Outcome.{outcome_from, outcome}
 
 -- ---- barring comes before diversion, and anonymous communication rejection before both: whatever the other rules of the account, its registration and its live calls are
@@ -119,3 +121,17 @@ abbrev pub OnlyReachedTargetsCount : Type 0
 OnlyReachedTargetsCount = (call : Call) (endings : List Ended) (other : ℕ → Reach) →
     ((k : ℕ) → k < length (outcome call endings).targets → call.reach k ≡ other k) →
     outcome (where_targets other call) endings ≡ outcome call endings
+
+-- ---- the diversion that led to a target
+
+-- where the call comes by it; without one, to its first target
+abbrev pub led_to : Call → Option Due → Uri
+led_to call None = call.first
+led_to call (Some due) = new_target call.home due.forward.target
+
+pub record DiversionsHaveForwards : Type 0 where
+  -- each target is the one to which the forward of the diversion leads that is said of it
+  pub targets : (call : Call) (endings : List Ended) → AllByRecursion (λ (target : Target). target.uri ≡ led_to call target.by) (outcome call endings).targets
+  -- the decision to divert a call that arrives has its forward, and only that on a deflection has none
+  pub on_arrival : (c : Circumstances) (account : Account) (forward : Option Forward) (cause : ℕ) → verdict_of c account ending.Arrived ≡ Forwards forward cause → IsSome forward
+  pub without : (c : Circumstances) (account : Account) (how : Ending) (cause : ℕ) → verdict_of c account how ≡ Forwards None cause → (alerted : Bool) × (how ≡ ending.Deflected alerted)

@@ -1,6 +1,6 @@
 //! What the decisions come to. These are laws, and no code.
 ghost use Rattle.mmtel_precedence.specs.Extension.{LaterEndingsExtend};
-ghost use Rattle.mmtel_precedence.specs.Laws.{AlikeCallersFareAlike, BarringComesFirst, IsBoundExact, OnlyReachedTargetsCount, StaysWithinBound, VerdictsSeeAnswersAlone};
+ghost use Rattle.mmtel_precedence.specs.Laws.{AlikeCallersFareAlike, BarringComesFirst, DiversionsHaveForwards, IsBoundExact, OnlyReachedTargetsCount, StaysWithinBound, VerdictsSeeAnswersAlone};
 ghost use Rattle.mmtel_precedence.specs.Moves.{MovesGiveTheOutcome};
 
 use mmtel_rules::laws::{
@@ -54,3 +54,8 @@ pub fn verdicts_see_answers_alone()
     barring_sees_answers_alone();
     barred_where_no_rule_allows();
 }
+
+/// Each target is the one to which the forward of the diversion leads that the Outcome says of it; without a diversion it is the first. The decision to divert a call that arrives has its forward, and only that on a deflection has none.
+pub fn diversions_have_forwards()
+    ensures law { DiversionsHaveForwards }
+{}

@@ -34,7 +34,6 @@ FirstIsSame = (asks asks2 : Who → Bool) (restricted : Bool) (media : List (Lis
 abbrev pub BarsSame : Type 0
 BarsSame = (asks asks2 : Who → Bool) (restricted : Bool) (media : List (List ℕ)) (now : ℕ) (rules : List Rule) → AnswerAlike asks asks2 (identity_parts rules) → is_barred asks restricted media now rules ≡ is_barred asks2 restricted media now rules
 
-
 -- the call, with these answers
 abbrev asking : Call → (Who → Bool) → Call
 asking call asks = record call { asks = asks }

@@ -7,7 +7,7 @@ use Rattle.mmtel_lex.specs.declared.values.Uri.{Uri}
 use Rattle.mmtel_precedence.specs.declared.endings.Ending.TheVariants as ending
 use Rattle.mmtel_precedence.specs.Services.{Account, Due}
 use Rattle.mmtel_precedence.specs.Verdicts.{Decision, Offers, Forwards, Ends, verdict_of}
-use Rattle.mmtel_precedence.specs.Calls.{End, Answer, Cancel, UserBusy, NotReachable, NoReply, Deflection, Other, Ended, Reach, Call, NotOffered, Target, Result, Outcome}
+use Rattle.mmtel_precedence.specs.Calls.{End, Answer, Cancel, UserBusy, NotReachable, NoReply, Deflection, Other, Ended, Reach, Call, NotOffered, Target}
 use Rattle.mmtel_precedence.specs.Targets.{of_caller}
 use Rattle.mmtel_precedence.specs.Outcome.{outcome}
 use Rattle.mmtel_precedence.specs.Moves.{Kept, Phase, Reaching, Ringing, Over, moves, account_at, with_target, due_by, gone_on, divert_where, offer_unless, reached, ended_by, on_end, on_reaching, result_in, outcome_so_far, at_first, moves_enough}
@@ -196,14 +196,13 @@ Follows call kept heard = (later : List Ended) (m : ℕ) → (before : ℕ) × (
 follows-next : (call : Call) (n : ℕ) (kept : Kept) (heard : List Ended) (ended : Ended) → Follows call kept heard → Follows call (moves n call (with_later kept (ended ∷ []))) (heard ++ ended ∷ [])
 follows-next call n kept heard ended follows later m =
     let (fewer, same) = moves-on call n m (with_later kept (ended ∷ [])) later in
-    let (before, behind) = follows (ended ∷ later) (fewer + m) in
-    (
+    let (before, behind) = follows (ended ∷ later) (fewer + m) in (
       before + fewer,
       same
-      ∙ ap (λ es. moves (fewer + m) call (record kept { endings = es })) (append_assoc kept.endings (ended ∷ []) later)
-      ∙ behind
-      ∙ ap (λ i. moves i call (at_first call (heard ++ ended ∷ later))) (let e : before + (fewer + m) ≡ before + fewer + m = omega arith in e)
-      ∙ ap (λ es. moves (before + fewer + m) call (at_first call es)) (sym (append_assoc heard (ended ∷ []) later)),
+          ∙ ap (λ es. moves (fewer + m) call (record kept { endings = es })) (append_assoc kept.endings (ended ∷ []) later)
+          ∙ behind
+          ∙ ap (λ i. moves i call (at_first call (heard ++ ended ∷ later))) (let e : before + (fewer + m) ≡ before + fewer + m = omega arith in e)
+          ∙ ap (λ es. moves (before + fewer + m) call (at_first call es)) (sym (append_assoc heard (ended ∷ []) later)),
     )
 
 in_turn : (call : Call) (n : ℕ) → moves_enough call ≤ n → (endings heard : List Ended) (kept : Kept) → Follows call kept heard → outcome_so_far kept ≡ outcome call heard →

@@ -1,5 +1,5 @@
 -- What the definitions of precedence come to, in the subject's words.
-use Rattle.std.specs.Prelude.{◌≡◌, ◌↔◌, ◌≤◌, ◌<◌, ℕ, zero, suc, ◌+◌, ◌-◌, ◌==◌, max, Bool, true, false, List, [], length, Option, Some, None, is_some, IsSome, count_by, option_and_then}
+use Rattle.std.specs.Prelude.{◌≡◌, ◌↔◌, ◌≤◌, ◌<◌, ℕ, zero, suc, ◌+◌, ◌-◌, ◌==◌, max, Bool, true, false, List, [], ◌∷◌, length, Option, Some, None, is_some, IsSome, count_by, option_and_then}
 use Rattle.std.specs.List.{AllByRecursion}
 use Rattle.mmtel_types.specs.declared.causes.Cause.TheVariants as causes
 use Rattle.mmtel_lex.specs.declared.values.Uri.{Uri}
@@ -129,9 +129,16 @@ abbrev pub led_to : Call → Option Due → Uri
 led_to call None = call.first
 led_to call (Some due) = new_target call.home due.forward.target
 
+-- the targets but the first
+abbrev pub after_first : List Target → List Target
+after_first [] = []
+after_first (target ∷ later) = later
+
 pub record DiversionsHaveForwards : Type 0 where
   -- each target is the one to which the forward of the diversion leads that is said of it
   pub targets : (call : Call) (endings : List Ended) → AllByRecursion (λ (target : Target). target.uri ≡ led_to call target.by) (outcome call endings).targets
+  -- only the first target is reached without one
+  pub later : (call : Call) (endings : List Ended) → AllByRecursion (λ (target : Target). IsSome target.by) (after_first (outcome call endings).targets)
   -- the decision to divert a call that arrives has its forward, and only that on a deflection has none
   pub on_arrival : (c : Circumstances) (account : Account) (forward : Option Forward) (cause : ℕ) → verdict_of c account ending.Arrived ≡ Forwards forward cause → IsSome forward
   pub without : (c : Circumstances) (account : Account) (how : Ending) (cause : ℕ) → verdict_of c account how ≡ Forwards None cause → (alerted : Bool) × (how ≡ ending.Deflected alerted)

@@ -55,7 +55,7 @@ pub fn verdicts_see_answers_alone()
     barred_where_no_rule_allows();
 }
 
-/// Each target is the one to which the forward of the diversion leads that the Outcome says of it; without a diversion it is the first. The decision to divert a call that arrives has its forward, and only that on a deflection has none.
+/// Each target is the one to which the forward of the diversion leads that the Outcome says of it; only the first is reached without one. The decision to divert a call that arrives has its forward, and only that on a deflection has none.
 pub fn diversions_have_forwards()
     ensures law { DiversionsHaveForwards }
 {}

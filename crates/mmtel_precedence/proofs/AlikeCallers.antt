@@ -21,7 +21,9 @@ use Rattle.mmtel_precedence.specs.Services.{Circumstances, Account, Due, Says, N
 use Rattle.mmtel_precedence.specs.Calls.{refused_at_once, End, Answer, Cancel, UserBusy, NotReachable, NoReply, Deflection, Other, Ended, Reach, Call, Target, Final, Outcome, last_reached, then_reached, refusal_at_opening}
 use Rattle.mmtel_precedence.specs.Targets.{Next, Rests, IsDue, of_caller, said_on_arrival, due_at, diverted_or, next_on, next_at, next_after, target_at, new_target, offer_by}
 use Rattle.mmtel_precedence.specs.Outcome.{outcome_from, outcome}
-use Rattle.mmtel_precedence.specs.Laws.{diversion_rules, AnswerAlikeTo, AlikeCallersFareAlike}
+use Rattle.mmtel_precedence.specs.Verdicts.{decision_by, forwards_or}
+use Rattle.mmtel_precedence.specs.declared.endings.Ending.TheVariants as endings
+use Rattle.mmtel_precedence.specs.Laws.{diversion_rules, AnswerAlikeTo, AlikeCallersFareAlike, asked, VerdictsSeeAnswersAlone}
 use Rattle.mmtel_precedence.proofs.Accounts.{account_says}
 use Rattle.mmtel_precedence.proofs.Nexts.{from_next}
 
@@ -31,10 +33,6 @@ FirstIsSame = (asks asks2 : Who → Bool) (restricted : Bool) (media : List (Lis
 
 abbrev pub BarsSame : Type 0
 BarsSame = (asks asks2 : Who → Bool) (restricted : Bool) (media : List (List ℕ)) (now : ℕ) (rules : List Rule) → AnswerAlike asks asks2 (identity_parts rules) → is_barred asks restricted media now rules ≡ is_barred asks2 restricted media now rules
-
--- the circumstances, with these answers
-abbrev asked : Circumstances → (Who → Bool) → Circumstances
-asked c asks = record c { asks = asks }
 
 -- the call, with these answers
 abbrev asking : Call → (Who → Bool) → Call
@@ -109,9 +107,9 @@ next-alike first bars asks asks2 call k endings h =
     ap (λ says. next_at says (asking call asks) (call.reach k) endings) (said-alike first bars asks asks2 call (call.reach k) h)
     ∙ next_at-alike first asks asks2 (said_on_arrival (asking call asks2) (call.reach k)) call (call.reach k) endings h
 
-target-alike : FirstIsSame → BarsSame → (asks asks2 : Who → Bool) (call : Call) (k : ℕ) (uri : Uri) (cause : Option ℕ) → AlikeAt asks asks2 (call.reach k).served → target_at (asking call asks) k uri cause ≡ target_at (asking call asks2) k uri cause
-target-alike first bars asks asks2 call k uri cause h =
-    ap (λ said. record { uri = uri; cause = cause; offer = offer_by said (call.reach k).served }) (said-alike first bars asks asks2 call (call.reach k) h)
+target-alike : FirstIsSame → BarsSame → (asks asks2 : Who → Bool) (call : Call) (k : ℕ) (uri : Uri) (by : Option Due) → AlikeAt asks asks2 (call.reach k).served → target_at (asking call asks) k uri by ≡ target_at (asking call asks2) k uri by
+target-alike first bars asks asks2 call k uri by h =
+    ap (λ said. record { uri = uri; by = by; offer = offer_by said (call.reach k).served }) (said-alike first bars asks asks2 call (call.reach k) h)
 
 -- at a target, where what comes of each diversion is the same
 from_next-same : (target : Target) (onward onward2 : Due → List Ended → Outcome) → ((due : Due) (later : List Ended) → onward due later ≡ onward2 due later) → (next : Next) → from_next target onward next ≡ from_next target onward2 next
@@ -119,16 +117,16 @@ from_next-same target onward onward2 same (Rests result) = refl
 from_next-same target onward onward2 same (IsDue due later) = same due later
 
 outcome_from-alike : FirstIsSame → BarsSame → (asks asks2 : Who → Bool) (call : Call) → ((k : ℕ) → AlikeAt asks asks2 (call.reach k).served) →
-    (left k : ℕ) (uri : Uri) (cause : Option ℕ) (endings : List Ended) → outcome_from (asking call asks) left k uri cause endings ≡ outcome_from (asking call asks2) left k uri cause endings
+    (left k : ℕ) (uri : Uri) (by : Option Due) (endings : List Ended) → outcome_from (asking call asks) left k uri by endings ≡ outcome_from (asking call asks2) left k uri by endings
 unfolding outcome_from
-outcome_from-alike first bars asks asks2 call h zero k uri cause endings =
-    ap (λ target. from_next target (λ due later. last_reached target (Final (causes.TooManyDiversions (due.cause == 486)))) (next_after (asking call asks) k endings)) (target-alike first bars asks asks2 call k uri cause (h k))
-    ∙ ap (λ next. from_next (target_at (asking call asks2) k uri cause) (λ due later. last_reached (target_at (asking call asks2) k uri cause) (Final (causes.TooManyDiversions (due.cause == 486)))) next) (next-alike first bars asks asks2 call k endings (h k))
-outcome_from-alike first bars asks asks2 call h (suc left) k uri cause endings =
-    ap (λ target. from_next target (λ due later. then_reached target (outcome_from (asking call asks) left (k + 1) (new_target call.home due.forward.target) (Some due.cause) later)) (next_after (asking call asks) k endings)) (target-alike first bars asks asks2 call k uri cause (h k))
-    ∙ ap (λ next. from_next (target_at (asking call asks2) k uri cause) (λ due later. then_reached (target_at (asking call asks2) k uri cause) (outcome_from (asking call asks) left (k + 1) (new_target call.home due.forward.target) (Some due.cause) later)) next) (next-alike first bars asks asks2 call k endings (h k))
-    ∙ from_next-same (target_at (asking call asks2) k uri cause) _ _
-    (λ due later. ap (then_reached (target_at (asking call asks2) k uri cause)) (outcome_from-alike first bars asks asks2 call h left (k + 1) (new_target call.home due.forward.target) (Some due.cause) later)) (next_after (asking call asks2) k endings)
+outcome_from-alike first bars asks asks2 call h zero k uri by endings =
+    ap (λ target. from_next target (λ due later. last_reached target (Final (causes.TooManyDiversions (due.cause == 486)))) (next_after (asking call asks) k endings)) (target-alike first bars asks asks2 call k uri by (h k))
+    ∙ ap (λ next. from_next (target_at (asking call asks2) k uri by) (λ due later. last_reached (target_at (asking call asks2) k uri by) (Final (causes.TooManyDiversions (due.cause == 486)))) next) (next-alike first bars asks asks2 call k endings (h k))
+outcome_from-alike first bars asks asks2 call h (suc left) k uri by endings =
+    ap (λ target. from_next target (λ due later. then_reached target (outcome_from (asking call asks) left (k + 1) (new_target call.home due.forward.target) (Some due) later)) (next_after (asking call asks) k endings)) (target-alike first bars asks asks2 call k uri by (h k))
+    ∙ ap (λ next. from_next (target_at (asking call asks2) k uri by) (λ due later. then_reached (target_at (asking call asks2) k uri by) (outcome_from (asking call asks) left (k + 1) (new_target call.home due.forward.target) (Some due) later)) next) (next-alike first bars asks asks2 call k endings (h k))
+    ∙ from_next-same (target_at (asking call asks2) k uri by) _ _
+    (λ due later. ap (then_reached (target_at (asking call asks2) k uri by)) (outcome_from-alike first bars asks asks2 call h left (k + 1) (new_target call.home due.forward.target) (Some due) later)) (next_after (asking call asks2) k endings)
 
 -- by what the opening refuses
 opened-alike : FirstIsSame → BarsSame → (asks asks2 : Who → Bool) (call : Call) → ((k : ℕ) → AlikeAt asks asks2 (call.reach k).served) →
@@ -142,3 +140,11 @@ alike_callers first bars one other call endings known h =
     ap (λ (b : Bool). outcome (record call { asks = identity_holds one; has_identity = b }) endings) known
     ∙ opened-alike first bars (identity_holds one) (identity_holds other) (record call { has_identity = has_identity other })
     (λ k. alike-at (identity_holds one) (identity_holds other) (call.reach k).served (h k)) (refusal_at_opening call) endings
+
+pub verdicts-alike : FirstIsSame → BarsSame → VerdictsSeeAnswersAlone
+verdicts-alike first bars asks asks2 c account endings.Arrived h = ap (λ (says : List Says). decision_by (first_said says) account.live) (services-alike first bars asks asks2 c account h)
+verdicts-alike first bars asks asks2 c account (endings.UserBusy code) h = ap (λ (due : Option Due). forwards_or due (causes.Relayed code)) (due_on-alike first asks asks2 c event.Busy account.sheet h)
+verdicts-alike first bars asks asks2 c account (endings.NotReachable code) h = ap (λ (due : Option Due). forwards_or due (causes.Unreachable code)) (due_on-alike first asks asks2 c event.NotReachable account.sheet h)
+verdicts-alike first bars asks asks2 c account endings.NoReply h = ap (λ (due : Option Due). forwards_or due causes.NoReply) (due_on-alike first asks asks2 c event.NoAnswer account.sheet h)
+verdicts-alike first bars asks asks2 c account (endings.Deflected alerted) h = refl
+verdicts-alike first bars asks asks2 c account (endings.Other code) h = refl

@@ -16,54 +16,54 @@ use Rattle.mmtel_precedence.proofs.Accounts.{account_says}
 use Rattle.mmtel_precedence.proofs.Nexts.{from_next}
 
 -- one where a diversion led to the target
-abbrev by_cause : Option ℕ → ℕ
-by_cause None = 0
-by_cause (Some cause) = 1
+abbrev one_for : Option Due → ℕ
+one_for None = 0
+one_for (Some due) = 1
 
-by_cause-is : (cause : Option ℕ) → cond (is_some cause) 1 0 ≡ by_cause cause
-by_cause-is None = refl
-by_cause-is (Some cause) = refl
+one_for-is : (by : Option Due) → cond (is_some by) 1 0 ≡ one_for by
+one_for-is None = refl
+one_for-is (Some due) = refl
 
-made-target : (target : Target) (more : List Target) → count_by is_diverted_to (target ∷ more) ≡ by_cause target.cause + count_by is_diverted_to more
-made-target target more = sum_by-cons (λ (t : Target). cond (is_diverted_to t) 1 0) target more ∙ ap (λ n. n + count_by is_diverted_to more) (by_cause-is target.cause)
+made-target : (target : Target) (more : List Target) → count_by is_diverted_to (target ∷ more) ≡ one_for target.by + count_by is_diverted_to more
+made-target target more = sum_by-cons (λ (t : Target). cond (is_diverted_to t) 1 0) target more ∙ ap (λ n. n + count_by is_diverted_to more) (one_for-is target.by)
 
-made-last : (target : Target) (result : Result) → diversions_made (last_reached target result) ≡ by_cause target.cause
-made-last target result = let e : count_by is_diverted_to (target ∷ []) ≡ by_cause target.cause + 0 = made-target target [] in e ∙ omega arith
+made-last : (target : Target) (result : Result) → diversions_made (last_reached target result) ≡ one_for target.by
+made-last target result = let e : count_by is_diverted_to (target ∷ []) ≡ one_for target.by + 0 = made-target target [] in e ∙ omega arith
 
 -- the diversions made, at a target and after it
 made-from_next : (target : Target) (onward : Due → List Ended → Outcome) (next : Next) →
     diversions_made (from_next target onward next)
-    ≡ option_map_or (λ (passed : Passed). diversions_made (onward passed.due passed.later)) (passed_by next) (by_cause target.cause)
+    ≡ option_map_or (λ (passed : Passed). diversions_made (onward passed.due passed.later)) (passed_by next) (one_for target.by)
 made-from_next target onward (Rests result) = made-last target result
 made-from_next target onward (IsDue due later) = refl
 
 -- ---- no more diversions than are left
 
-most-passed : (cause : Option ℕ) (passed : Option Passed) (made : Passed → ℕ) (most : ℕ) → ((p : Passed) → made p ≤ most) → by_cause cause ≤ most → option_map_or made passed (by_cause cause) ≤ most
-most-passed cause None made most each least = least
-most-passed cause (Some passed) made most each least = each passed
+most-passed : (by : Option Due) (passed : Option Passed) (made : Passed → ℕ) (most : ℕ) → ((p : Passed) → made p ≤ most) → one_for by ≤ most → option_map_or made passed (one_for by) ≤ most
+most-passed by None made most each least = least
+most-passed by (Some passed) made most each least = each passed
 
-made-from : (call : Call) (left k : ℕ) (uri : Uri) (cause : Option ℕ) (endings : List Ended) → diversions_made (outcome_from call left k uri cause endings) ≤ left + by_cause cause
+made-from : (call : Call) (left k : ℕ) (uri : Uri) (by : Option Due) (endings : List Ended) → diversions_made (outcome_from call left k uri by endings) ≤ left + one_for by
 unfolding outcome_from
-made-from call zero k uri cause endings =
-    let onward : Due → List Ended → Outcome = λ due later. last_reached (target_at call k uri cause) (Final (causes.TooManyDiversions (due.cause == 486))) in
-    let e = made-from_next (target_at call k uri cause) onward (next_after call k endings) in
-    let h : (p : Passed) → diversions_made (onward p.due p.later) ≤ by_cause cause = λ p. (let f = made-last (target_at call k uri cause) (Final (causes.TooManyDiversions (p.due.cause == 486))) in omega arith) in
-    let g : option_map_or (λ (p : Passed). diversions_made (onward p.due p.later)) (passed_by (next_after call k endings)) (by_cause cause) ≤ by_cause cause = most-passed cause (passed_by (next_after call k endings)) (λ p. diversions_made (onward p.due p.later)) (by_cause cause) h (omega arith) in
+made-from call zero k uri by endings =
+    let onward : Due → List Ended → Outcome = λ due later. last_reached (target_at call k uri by) (Final (causes.TooManyDiversions (due.cause == 486))) in
+    let e = made-from_next (target_at call k uri by) onward (next_after call k endings) in
+    let h : (p : Passed) → diversions_made (onward p.due p.later) ≤ one_for by = λ p. (let f = made-last (target_at call k uri by) (Final (causes.TooManyDiversions (p.due.cause == 486))) in omega arith) in
+    let g : option_map_or (λ (p : Passed). diversions_made (onward p.due p.later)) (passed_by (next_after call k endings)) (one_for by) ≤ one_for by = most-passed by (passed_by (next_after call k endings)) (λ p. diversions_made (onward p.due p.later)) (one_for by) h (omega arith) in
     omega arith
-made-from call (suc left) k uri cause endings =
-    let onward : Due → List Ended → Outcome = λ due later. then_reached (target_at call k uri cause) (outcome_from call left (k + 1) (new_target call.home due.forward.target) (Some due.cause) later) in
-    let e = made-from_next (target_at call k uri cause) onward (next_after call k endings) in
-    let h : (p : Passed) → diversions_made (onward p.due p.later) ≤ suc left + by_cause cause = λ p.
-    (let f = made-target (target_at call k uri cause) (outcome_from call left (k + 1) (new_target call.home p.due.forward.target) (Some p.due.cause) p.later).targets in
-    let i = made-from call left (k + 1) (new_target call.home p.due.forward.target) (Some p.due.cause) p.later in
+made-from call (suc left) k uri by endings =
+    let onward : Due → List Ended → Outcome = λ due later. then_reached (target_at call k uri by) (outcome_from call left (k + 1) (new_target call.home due.forward.target) (Some due) later) in
+    let e = made-from_next (target_at call k uri by) onward (next_after call k endings) in
+    let h : (p : Passed) → diversions_made (onward p.due p.later) ≤ suc left + one_for by = λ p.
+    (let f = made-target (target_at call k uri by) (outcome_from call left (k + 1) (new_target call.home p.due.forward.target) (Some p.due) p.later).targets in
+    let i = made-from call left (k + 1) (new_target call.home p.due.forward.target) (Some p.due) p.later in
     omega arith) in
-    let g : option_map_or (λ (p : Passed). diversions_made (onward p.due p.later)) (passed_by (next_after call k endings)) (by_cause cause) ≤ suc left + by_cause cause = most-passed cause (passed_by (next_after call k endings)) (λ p. diversions_made (onward p.due p.later)) (suc left + by_cause cause) h (omega arith) in
+    let g : option_map_or (λ (p : Passed). diversions_made (onward p.due p.later)) (passed_by (next_after call k endings)) (one_for by) ≤ suc left + one_for by = most-passed by (passed_by (next_after call k endings)) (λ p. diversions_made (onward p.due p.later)) (suc left + one_for by) h (omega arith) in
     omega arith
 
-least-passed : (cause : Option ℕ) (passed : Option Passed) (made : Passed → ℕ) → ((p : Passed) → by_cause cause ≤ made p) → by_cause cause ≤ option_map_or made passed (by_cause cause)
-least-passed cause None made each = omega arith
-least-passed cause (Some passed) made each = each passed
+least-passed : (by : Option Due) (passed : Option Passed) (made : Passed → ℕ) → ((p : Passed) → one_for by ≤ made p) → one_for by ≤ option_map_or made passed (one_for by)
+least-passed by None made each = omega arith
+least-passed by (Some passed) made each = each passed
 
 within-opened : (refusal : Option Cause) (call : Call) (endings : List Ended) → call.received + diversions_made (option_map_or refused_at_once refusal (outcome_from call (call.bound - call.received) 0 call.first None endings)) ≤ max call.bound call.received
 within-opened None call endings = let h = made-from call (call.bound - call.received) 0 call.first None endings in omega arith
@@ -74,50 +74,50 @@ stays_within_bound call endings = within-opened (refusal_at_opening call) call e
 
 -- ---- the diversions that are made are those that are due below the bound
 
-made-least : (call : Call) (left k : ℕ) (uri : Uri) (cause : Option ℕ) (endings : List Ended) → by_cause cause ≤ diversions_made (outcome_from call left k uri cause endings)
+made-least : (call : Call) (left k : ℕ) (uri : Uri) (by : Option Due) (endings : List Ended) → one_for by ≤ diversions_made (outcome_from call left k uri by endings)
 unfolding outcome_from
-made-least call zero k uri cause endings = rw (made-from_next (target_at call k uri cause) (λ due later. last_reached (target_at call k uri cause) (Final (causes.TooManyDiversions (due.cause == 486)))) (next_after call k endings))
-    (least-passed cause (passed_by (next_after call k endings)) _ (λ p. let f = made-last (target_at call k uri cause) (Final (causes.TooManyDiversions (p.due.cause == 486))) in omega arith))
-made-least call (suc left) k uri cause endings = rw (made-from_next (target_at call k uri cause) (λ due later. then_reached (target_at call k uri cause) (outcome_from call left (k + 1) (new_target call.home due.forward.target) (Some due.cause) later)) (next_after call k endings))
-    (least-passed cause (passed_by (next_after call k endings)) _ (λ p. let f = made-target (target_at call k uri cause) (outcome_from call left (k + 1) (new_target call.home p.due.forward.target) (Some p.due.cause) p.later).targets in omega arith))
+made-least call zero k uri by endings = rw (made-from_next (target_at call k uri by) (λ due later. last_reached (target_at call k uri by) (Final (causes.TooManyDiversions (due.cause == 486)))) (next_after call k endings))
+    (least-passed by (passed_by (next_after call k endings)) _ (λ p. let f = made-last (target_at call k uri by) (Final (causes.TooManyDiversions (p.due.cause == 486))) in omega arith))
+made-least call (suc left) k uri by endings = rw (made-from_next (target_at call k uri by) (λ due later. then_reached (target_at call k uri by) (outcome_from call left (k + 1) (new_target call.home due.forward.target) (Some due) later)) (next_after call k endings))
+    (least-passed by (passed_by (next_after call k endings)) _ (λ p. let f = made-target (target_at call k uri by) (outcome_from call left (k + 1) (new_target call.home p.due.forward.target) (Some p.due) p.later).targets in omega arith))
 
 -- after this target: it is made exactly where it is due below the bound
 abbrev IsMadeExactly : Call → ℕ → Type 0
 IsMadeExactly call left =
-    (k : ℕ) (uri : Uri) (cause : Option ℕ) (endings : List Ended) (j : ℕ) → left ≡ call.bound - (call.received + k) →
-    (j + by_cause cause < diversions_made (outcome_from call left k uri cause endings)) ↔ (IsSome (passed_from call j k endings) × (call.received + (k + j) < call.bound))
+    (k : ℕ) (uri : Uri) (by : Option Due) (endings : List Ended) (j : ℕ) → left ≡ call.bound - (call.received + k) →
+    (j + one_for by < diversions_made (outcome_from call left k uri by endings)) ↔ (IsSome (passed_from call j k endings) × (call.received + (k + j) < call.bound))
 
 made-by : (call : Call) (left : ℕ) → IsMadeExactly call left →
-    (k : ℕ) (uri : Uri) (cause : Option ℕ) (endings : List Ended) (j : ℕ) → suc left ≡ call.bound - (call.received + k) →
+    (k : ℕ) (uri : Uri) (by : Option Due) (endings : List Ended) (j : ℕ) → suc left ≡ call.bound - (call.received + k) →
     (passed : Option Passed) → passed_by (next_after call k endings) ≡ passed →
-    (j + by_cause cause < option_map_or (λ (p : Passed). diversions_made (then_reached (target_at call k uri cause) (outcome_from call left (k + 1) (new_target call.home p.due.forward.target) (Some p.due.cause) p.later))) passed (by_cause cause))
+    (j + one_for by < option_map_or (λ (p : Passed). diversions_made (then_reached (target_at call k uri by) (outcome_from call left (k + 1) (new_target call.home p.due.forward.target) (Some p.due) p.later))) passed (one_for by))
     ↔ (IsSome (passed_from call j k endings) × (call.received + (k + j) < call.bound))
 unfolding passed_from
-made-by call left exactly k uri cause endings zero e None f = (λ h. absurd (omega arith), λ h. absurd (let g : is_some (passed_by (next_after call k endings)) ≡ true = h.0 in let i = ap is_some f in cc))
-made-by call left exactly k uri cause endings (suc j) e None f =
+made-by call left exactly k uri by endings zero e None f = (λ h. absurd (omega arith), λ h. absurd (let g : is_some (passed_by (next_after call k endings)) ≡ true = h.0 in let i = ap is_some f in cc))
+made-by call left exactly k uri by endings (suc j) e None f =
     (λ h. absurd (omega arith), λ h. absurd (let g = ap (λ (o : Option Passed). is_some (option_and_then (λ passed. passed_from call j (k + 1) passed.later) o)) f in let i : is_some (option_and_then (λ passed. passed_from call j (k + 1) passed.later) (passed_by (next_after call k endings))) ≡ true = h.0 in cc))
-made-by call left exactly k uri cause endings zero e (Some p) f = (
+made-by call left exactly k uri by endings zero e (Some p) f = (
   λ h. (ap is_some f, omega arith),
-  λ h. let m = made-target (target_at call k uri cause) (outcome_from call left (k + 1) (new_target call.home p.due.forward.target) (Some p.due.cause) p.later).targets in
-      let least = made-least call left (k + 1) (new_target call.home p.due.forward.target) (Some p.due.cause) p.later in omega arith,
+  λ h. let m = made-target (target_at call k uri by) (outcome_from call left (k + 1) (new_target call.home p.due.forward.target) (Some p.due) p.later).targets in
+      let least = made-least call left (k + 1) (new_target call.home p.due.forward.target) (Some p.due) p.later in omega arith,
 )
-made-by call left exactly k uri cause endings (suc j) e (Some p) f =
-    let m = made-target (target_at call k uri cause) (outcome_from call left (k + 1) (new_target call.home p.due.forward.target) (Some p.due.cause) p.later).targets in
-    let later = exactly (k + 1) (new_target call.home p.due.forward.target) (Some p.due.cause) p.later j (omega arith) in
+made-by call left exactly k uri by endings (suc j) e (Some p) f =
+    let m = made-target (target_at call k uri by) (outcome_from call left (k + 1) (new_target call.home p.due.forward.target) (Some p.due) p.later).targets in
+    let later = exactly (k + 1) (new_target call.home p.due.forward.target) (Some p.due) p.later j (omega arith) in
     let same : is_some (option_and_then (λ (passed : Passed). passed_from call j (k + 1) passed.later) (passed_by (next_after call k endings))) ≡ is_some (passed_from call j (k + 1) p.later) = ap (λ (o : Option Passed). is_some (option_and_then (λ (passed : Passed). passed_from call j (k + 1) passed.later) o)) f in (
       λ h. (let r = later.0 (omega arith) in (same ∙ r.0, (let s = r.1 in omega arith))),
       λ h. let r = later.1 (sym same ∙ h.0, (let s = h.1 in omega arith)) in omega arith,
     )
 
-made-above : (call : Call) (left k : ℕ) (uri : Uri) (cause : Option ℕ) (endings : List Ended) →
-    diversions_made (outcome_from call (suc left) k uri cause endings)
-    ≡ option_map_or (λ (p : Passed). diversions_made (then_reached (target_at call k uri cause) (outcome_from call left (k + 1) (new_target call.home p.due.forward.target) (Some p.due.cause) p.later))) (passed_by (next_after call k endings)) (by_cause cause)
+made-above : (call : Call) (left k : ℕ) (uri : Uri) (by : Option Due) (endings : List Ended) →
+    diversions_made (outcome_from call (suc left) k uri by endings)
+    ≡ option_map_or (λ (p : Passed). diversions_made (then_reached (target_at call k uri by) (outcome_from call left (k + 1) (new_target call.home p.due.forward.target) (Some p.due) p.later))) (passed_by (next_after call k endings)) (one_for by)
 unfolding outcome_from
-made-above call left k uri cause endings = made-from_next (target_at call k uri cause) (λ due later. then_reached (target_at call k uri cause) (outcome_from call left (k + 1) (new_target call.home due.forward.target) (Some due.cause) later)) (next_after call k endings)
+made-above call left k uri by endings = made-from_next (target_at call k uri by) (λ due later. then_reached (target_at call k uri by) (outcome_from call left (k + 1) (new_target call.home due.forward.target) (Some due) later)) (next_after call k endings)
 
 made-exactly : (call : Call) (left : ℕ) → IsMadeExactly call left
-made-exactly call zero k uri cause endings j e = (λ h. absurd (let m = made-from call zero k uri cause endings in omega arith), λ h. absurd (let s = h.1 in omega arith))
-made-exactly call (suc left) k uri cause endings j e = rw (made-above call left k uri cause endings) (made-by call left (made-exactly call left) k uri cause endings j e (passed_by (next_after call k endings)) refl)
+made-exactly call zero k uri by endings j e = (λ h. absurd (let m = made-from call zero k uri by endings in omega arith), λ h. absurd (let s = h.1 in omega arith))
+made-exactly call (suc left) k uri by endings j e = rw (made-above call left k uri by endings) (made-by call left (made-exactly call left) k uri by endings j e (passed_by (next_after call k endings)) refl)
 
 -- ---- no service refuses a call for too many diversions
 
@@ -229,16 +229,16 @@ refused-below call left k onward endings busy result (Some passed) f h next =
       λ (p, g, i). h ∙ (next passed.due passed.later).1 (p, sym step ∙ g, i),
     )
 
-refused-exactly : (call : Call) (left k : ℕ) (uri : Uri) (cause : Option ℕ) (endings : List Ended) (busy : Bool) →
-    ((outcome_from call left k uri cause endings).result ≡ Final (causes.TooManyDiversions busy)) ↔ IsRefusedFor call left k endings busy
+refused-exactly : (call : Call) (left k : ℕ) (uri : Uri) (by : Option Due) (endings : List Ended) (busy : Bool) →
+    ((outcome_from call left k uri by endings).result ≡ Final (causes.TooManyDiversions busy)) ↔ IsRefusedFor call left k endings busy
 unfolding outcome_from
-refused-exactly call zero k uri cause endings busy =
-    refused-at call k (target_at call k uri cause) endings busy _ (passed_by (next_after call k endings)) refl
-    (result-from_next (target_at call k uri cause) _ (next_after call k endings) (plain-at (said_on_arrival call (call.reach k)) call (call.reach k) endings (plain-arrival call (call.reach k))))
-refused-exactly call (suc left) k uri cause endings busy =
-    refused-below call left k (λ due later. then_reached (target_at call k uri cause) (outcome_from call left (k + 1) (new_target call.home due.forward.target) (Some due.cause) later)) endings busy _ (passed_by (next_after call k endings)) refl
-    (result-from_next (target_at call k uri cause) _ (next_after call k endings) (plain-at (said_on_arrival call (call.reach k)) call (call.reach k) endings (plain-arrival call (call.reach k))))
-    (λ due later. refused-exactly call left (k + 1) (new_target call.home due.forward.target) (Some due.cause) later busy)
+refused-exactly call zero k uri by endings busy =
+    refused-at call k (target_at call k uri by) endings busy _ (passed_by (next_after call k endings)) refl
+    (result-from_next (target_at call k uri by) _ (next_after call k endings) (plain-at (said_on_arrival call (call.reach k)) call (call.reach k) endings (plain-arrival call (call.reach k))))
+refused-exactly call (suc left) k uri by endings busy =
+    refused-below call left k (λ due later. then_reached (target_at call k uri by) (outcome_from call left (k + 1) (new_target call.home due.forward.target) (Some due) later)) endings busy _ (passed_by (next_after call k endings)) refl
+    (result-from_next (target_at call k uri by) _ (next_after call k endings) (plain-at (said_on_arrival call (call.reach k)) call (call.reach k) endings (plain-arrival call (call.reach k))))
+    (λ due later. refused-exactly call left (k + 1) (new_target call.home due.forward.target) (Some due) later busy)
 
 -- ---- of the whole call
 

@@ -4,7 +4,7 @@ use Rattle.std.specs.Prelude.{Option, Some}
 use Rattle.mmtel_types.specs.declared.causes.Cause.{Cause}
 use Rattle.mmtel_types.specs.declared.causes.Cause.TheVariants as causes
 use Rattle.mmtel_lex.specs.declared.values.Uri.{Uri}
-use Rattle.mmtel_precedence.specs.Services.{Circumstances, Account, Says, Nothing, Refuses, Diverts, refuses_if, first_said, rejects_anonymous, bars_incoming, services_after_barring, services_on_arrival}
+use Rattle.mmtel_precedence.specs.Services.{Circumstances, Account, Due, Says, Nothing, Refuses, Diverts, refuses_if, first_said, rejects_anonymous, bars_incoming, services_after_barring, services_on_arrival}
 use Rattle.mmtel_precedence.specs.Verdicts.{decision_by}
 use Rattle.mmtel_precedence.specs.Calls.{Call, Ended, Reach, NotOffered, Final, last_reached, then_reached}
 use Rattle.mmtel_precedence.specs.Targets.{of_caller, offer_by, said_on_arrival, next_at, target_at, new_target}
@@ -34,24 +34,24 @@ said-refused call reach account why e h =
     ∙ first_said-refused (services_on_arrival (of_caller call reach.at) account) (refuses_if reach.is_unknown causes.NoAccount ∷ refuses_if reach.has_no_peer causes.NoRoute ∷ []) why h
 
 -- a target that refuses is the last
-outcome_from-refused : (call : Call) (left k : ℕ) (uri : Uri) (cause : Option ℕ) (endings : List Ended) (why : Cause) →
-    said_on_arrival call (call.reach k) ≡ Refuses why → outcome_from call left k uri cause endings ≡ last_reached (record { uri = uri; cause = cause; offer = NotOffered }) (Final why)
+outcome_from-refused : (call : Call) (left k : ℕ) (uri : Uri) (by : Option Due) (endings : List Ended) (why : Cause) →
+    said_on_arrival call (call.reach k) ≡ Refuses why → outcome_from call left k uri by endings ≡ last_reached (record { uri = uri; by = by; offer = NotOffered }) (Final why)
 unfolding outcome_from
-outcome_from-refused call zero k uri cause endings why e =
-    ap (λ said. from_next (record { uri = uri; cause = cause; offer = offer_by said (call.reach k).served })
-    (λ due later. last_reached (target_at call k uri cause) (Final (causes.TooManyDiversions (due.cause == 486))))
+outcome_from-refused call zero k uri by endings why e =
+    ap (λ said. from_next (record { uri = uri; by = by; offer = offer_by said (call.reach k).served })
+    (λ due later. last_reached (target_at call k uri by) (Final (causes.TooManyDiversions (due.cause == 486))))
     (next_at said call (call.reach k) endings)) e
-outcome_from-refused call (suc left) k uri cause endings why e =
-    ap (λ said. from_next (record { uri = uri; cause = cause; offer = offer_by said (call.reach k).served })
-    (λ due later. then_reached (target_at call k uri cause) (outcome_from call left (k + 1) (new_target call.home due.forward.target) (Some due.cause) later))
+outcome_from-refused call (suc left) k uri by endings why e =
+    ap (λ said. from_next (record { uri = uri; by = by; offer = offer_by said (call.reach k).served })
+    (λ due later. then_reached (target_at call k uri by) (outcome_from call left (k + 1) (new_target call.home due.forward.target) (Some due) later))
     (next_at said call (call.reach k) endings)) e
 
 pub barring_comes_first : BarringComesFirst
 barring_comes_first = record {
   anonymous = λ c account e. ap (λ said. decision_by said account.live) (said_anonymous c account e);
   barred = λ c account e h. ap (λ said. decision_by said account.live) (said_barred c account e h);
-  anonymous_at = λ call left k uri cause endings account s e.
-      outcome_from-refused call left k uri cause endings causes.AnonymousRejected (said-refused call (call.reach k) account causes.AnonymousRejected s (said_anonymous (of_caller call (call.reach k).at) account e));
-  barred_at = λ call left k uri cause endings account s e h.
-      outcome_from-refused call left k uri cause endings causes.IncomingBarred (said-refused call (call.reach k) account causes.IncomingBarred s (said_barred (of_caller call (call.reach k).at) account e h));
+  anonymous_at = λ call left k uri by endings account s e.
+      outcome_from-refused call left k uri by endings causes.AnonymousRejected (said-refused call (call.reach k) account causes.AnonymousRejected s (said_anonymous (of_caller call (call.reach k).at) account e));
+  barred_at = λ call left k uri by endings account s e h.
+      outcome_from-refused call left k uri by endings causes.IncomingBarred (said-refused call (call.reach k) account causes.IncomingBarred s (said_barred (of_caller call (call.reach k).at) account e h));
 }

@@ -2,7 +2,10 @@ mod Accounts
 mod AlikeCallers
 mod Barrings
 mod Bounded
+mod Extending
 mod FirstServices
+mod Led
+mod Locality
 mod Moving
 mod Nexts
 mod Settling

@@ -39,7 +39,7 @@ by_bound call k cause = if is_within call.received k call.bound then None else S
 abbrev pub GoesOn : Call → ℕ → ℕ → Onward → Type 0
 GoesOn call k least onward =
     (n : ℕ) (target : Target) (due : Due) (targets : List Target) (phase : Phase) (later : List Ended) → least ≤ n →
-    Settles n call (gone_on (by_bound call k due.cause) (kept_at k (targets ++ target ∷ []) phase later) (new_target call.home due.forward.target) due.cause) targets (onward target due later)
+    Settles n call (gone_on (by_bound call k due.cause) (kept_at k (targets ++ target ∷ []) phase later) (new_target call.home due.forward.target) due) targets (onward target due later)
 
 -- an end is settled
 settles-over : (n : ℕ) (call : Call) (k : ℕ) (targets : List Target) (target : Target) (result : Result) (later : List Ended) →
@@ -49,7 +49,7 @@ settles-over n call k targets target result later = ap outcome_so_far (moves-ove
 -- a diversion that is due: outgoing barring, then the bound
 settles-diversion : (call : Call) (k least : ℕ) (onward : Onward) → GoesOn call k least onward →
     (n : ℕ) (bars : Bool) (target : Target) (due : Due) (targets : List Target) (phase : Phase) (later : List Ended) → least ≤ n →
-    Settles n call (gone_on (if bars then Some causes.OutgoingBarred else by_bound call k due.cause) (kept_at k (targets ++ target ∷ []) phase later) (new_target call.home due.forward.target) due.cause) targets
+    Settles n call (gone_on (if bars then Some causes.OutgoingBarred else by_bound call k due.cause) (kept_at k (targets ++ target ∷ []) phase later) (new_target call.home due.forward.target) due) targets
     (from_next target (onward target) (if bars then Rests (Final causes.OutgoingBarred) else IsDue due later))
 settles-diversion call k least onward goes n true target due targets phase later enough = settles-over n call k targets target (Final causes.OutgoingBarred) later
 settles-diversion call k least onward goes n false target due targets phase later enough = goes n target due targets phase later enough
@@ -57,7 +57,7 @@ settles-diversion call k least onward goes n false target due targets phase late
 -- the same, by the account that is served
 settles-due : (call : Call) (k least : ℕ) (onward : Onward) → GoesOn call k least onward →
     (n : ℕ) (served : Option Account) (now : ℕ) (target : Target) (due : Due) (targets : List Target) (phase : Phase) (later : List Ended) → least ≤ n →
-    Settles n call (divert call (kept_at k (targets ++ target ∷ []) phase later) (unwrap_or served nobody) now due.forward.target due.cause) targets
+    Settles n call (divert call (kept_at k (targets ++ target ∷ []) phase later) (unwrap_or served nobody) now due) targets
     (from_next target (onward target) (diverted call served now due later))
 settles-due call k least onward goes n served now target due targets phase later enough =
     settles-diversion call k least onward goes n (bars_outgoing (of_target call now (new_target call.home due.forward.target)) (unwrap_or served nobody).sheet) target due targets phase later enough
@@ -111,8 +111,8 @@ settles-offer call k least onward goes n reach target targets (ended ∷ later) 
     ∙ settles-end call k least onward goes n reach.served ended.at ended.how target targets (Ringing (unwrap_or reach.served nobody)) later enough
 
 -- a target
-abbrev target_by : Says → Option Account → Uri → Option ℕ → Target
-target_by says served uri cause = record { uri = uri; cause = cause; offer = offer_by says served }
+abbrev target_by : Says → Option Account → Uri → Option Due → Target
+target_by says served uri by = record { uri = uri; by = by; offer = offer_by says served }
 
 -- what is said of any target, whoever is served
 abbrev said_of_any : Bool → Bool → Says
@@ -120,46 +120,46 @@ said_of_any unknown no_peer = first_said (refuses_if unknown causes.NoAccount �
 
 -- a target that no service refused
 settles-unrefused : (call : Call) (k least : ℕ) (onward : Onward) → GoesOn call k least onward →
-    (n : ℕ) (unknown no_peer : Bool) (reach : Reach) (uri : Uri) (cause : Option ℕ) (targets : List Target) (phase : Phase) (endings : List Ended) → least ≤ n →
-    Settles (suc n) call (offer_unless unknown no_peer (unwrap_or reach.served nobody) (is_waiting reach.served) (kept_at k targets phase endings) uri cause) targets
-    (from_next (target_by (said_of_any unknown no_peer) reach.served uri cause) (onward (target_by (said_of_any unknown no_peer) reach.served uri cause)) (next_at (said_of_any unknown no_peer) call reach endings))
-settles-unrefused call k least onward goes n true no_peer reach uri cause targets phase endings enough =
-    settles-over (suc n) call k targets (record { uri = uri; cause = cause; offer = NotOffered }) (Final causes.NoAccount) endings
-settles-unrefused call k least onward goes n false true reach uri cause targets phase endings enough =
-    settles-over (suc n) call k targets (record { uri = uri; cause = cause; offer = NotOffered }) (Final causes.NoRoute) endings
-settles-unrefused call k least onward goes n false false reach uri cause targets phase endings enough =
-    settles-offer call k least onward goes n reach (record { uri = uri; cause = cause; offer = Offered (is_waiting reach.served) }) targets endings enough
+    (n : ℕ) (unknown no_peer : Bool) (reach : Reach) (uri : Uri) (by : Option Due) (targets : List Target) (phase : Phase) (endings : List Ended) → least ≤ n →
+    Settles (suc n) call (offer_unless unknown no_peer (unwrap_or reach.served nobody) (is_waiting reach.served) (kept_at k targets phase endings) uri by) targets
+    (from_next (target_by (said_of_any unknown no_peer) reach.served uri by) (onward (target_by (said_of_any unknown no_peer) reach.served uri by)) (next_at (said_of_any unknown no_peer) call reach endings))
+settles-unrefused call k least onward goes n true no_peer reach uri by targets phase endings enough =
+    settles-over (suc n) call k targets (record { uri = uri; by = by; offer = NotOffered }) (Final causes.NoAccount) endings
+settles-unrefused call k least onward goes n false true reach uri by targets phase endings enough =
+    settles-over (suc n) call k targets (record { uri = uri; by = by; offer = NotOffered }) (Final causes.NoRoute) endings
+settles-unrefused call k least onward goes n false false reach uri by targets phase endings enough =
+    settles-offer call k least onward goes n reach (record { uri = uri; by = by; offer = Offered (is_waiting reach.served) }) targets endings enough
 
 -- a target, by what the services said
 settles-said : (call : Call) (k least : ℕ) (onward : Onward) → GoesOn call k least onward →
-    (n : ℕ) (says : Says) (reach : Reach) (uri : Uri) (cause : Option ℕ) (targets : List Target) (phase : Phase) (endings : List Ended) → least ≤ n →
+    (n : ℕ) (says : Says) (reach : Reach) (uri : Uri) (by : Option Due) (targets : List Target) (phase : Phase) (endings : List Ended) → least ≤ n →
     (let said = then_said says (said_of_any reach.is_unknown reach.has_no_peer) in
-    Settles (suc n) call (reached call reach (unwrap_or reach.served nobody) (decision_by says (unwrap_or reach.served nobody).live) (kept_at k targets phase endings) uri cause) targets
-    (from_next (target_by said reach.served uri cause) (onward (target_by said reach.served uri cause)) (next_at said call reach endings)))
-settles-said call k least onward goes n Nothing reach uri cause targets phase endings enough =
-    ap (λ waiting. outcome_so_far (moves (suc n) call (offer_unless reach.is_unknown reach.has_no_peer (unwrap_or reach.served nobody) waiting (kept_at k targets phase endings) uri cause))) (sym (is_waiting-account reach.served))
-    ∙ settles-unrefused call k least onward goes n reach.is_unknown reach.has_no_peer reach uri cause targets phase endings enough
-settles-said call k least onward goes n (Refuses why) reach uri cause targets phase endings enough =
-    settles-over (suc n) call k targets (record { uri = uri; cause = cause; offer = NotOffered }) (Final why) endings
-settles-said call k least onward goes n (Diverts due) reach uri cause targets phase endings enough =
-    settles-due call k least onward goes (suc n) reach.served reach.at (record { uri = uri; cause = cause; offer = NotOffered }) due targets phase endings (omega arith)
+    Settles (suc n) call (reached call reach (unwrap_or reach.served nobody) (decision_by says (unwrap_or reach.served nobody).live) (kept_at k targets phase endings) uri by) targets
+    (from_next (target_by said reach.served uri by) (onward (target_by said reach.served uri by)) (next_at said call reach endings)))
+settles-said call k least onward goes n Nothing reach uri by targets phase endings enough =
+    ap (λ waiting. outcome_so_far (moves (suc n) call (offer_unless reach.is_unknown reach.has_no_peer (unwrap_or reach.served nobody) waiting (kept_at k targets phase endings) uri by))) (sym (is_waiting-account reach.served))
+    ∙ settles-unrefused call k least onward goes n reach.is_unknown reach.has_no_peer reach uri by targets phase endings enough
+settles-said call k least onward goes n (Refuses why) reach uri by targets phase endings enough =
+    settles-over (suc n) call k targets (record { uri = uri; by = by; offer = NotOffered }) (Final why) endings
+settles-said call k least onward goes n (Diverts due) reach uri by targets phase endings enough =
+    settles-due call k least onward goes (suc n) reach.served reach.at (record { uri = uri; by = by; offer = NotOffered }) due targets phase endings (omega arith)
 
 -- reaching the target after k diversions
 settles-reaching : (call : Call) (k least : ℕ) (onward : Onward) → GoesOn call k least onward →
-    (n : ℕ) (uri : Uri) (cause : Option ℕ) (targets : List Target) (endings : List Ended) → least ≤ n →
-    Settles (suc (suc n)) call (kept_at k targets (Reaching uri cause) endings) targets
-    (from_next (target_at call k uri cause) (onward (target_at call k uri cause)) (next_after call k endings))
-settles-reaching call k least onward goes n uri cause targets endings enough =
-    ap outcome_so_far (moves-suc (suc n) call (kept_at k targets (Reaching uri cause) endings))
-    ∙ settles-said call k least onward goes n (first_said (services_on_arrival (of_caller call (call.reach k).at) (unwrap_or (call.reach k).served nobody))) (call.reach k) uri cause targets (Reaching uri cause) endings enough
-    ∙ ap (λ said. behind targets (from_next (target_by said (call.reach k).served uri cause) (onward (target_by said (call.reach k).served uri cause)) (next_at said call (call.reach k) endings)))
+    (n : ℕ) (uri : Uri) (by : Option Due) (targets : List Target) (endings : List Ended) → least ≤ n →
+    Settles (suc (suc n)) call (kept_at k targets (Reaching uri by) endings) targets
+    (from_next (target_at call k uri by) (onward (target_at call k uri by)) (next_after call k endings))
+settles-reaching call k least onward goes n uri by targets endings enough =
+    ap outcome_so_far (moves-suc (suc n) call (kept_at k targets (Reaching uri by) endings))
+    ∙ settles-said call k least onward goes n (first_said (services_on_arrival (of_caller call (call.reach k).at) (unwrap_or (call.reach k).served nobody))) (call.reach k) uri by targets (Reaching uri by) endings enough
+    ∙ ap (λ said. behind targets (from_next (target_by said (call.reach k).served uri by) (onward (target_by said (call.reach k).served uri by)) (next_at said call (call.reach k) endings)))
     (sym (first_said-account (of_caller call (call.reach k).at) (call.reach k).served (refuses_if (call.reach k).is_unknown causes.NoAccount ∷ refuses_if (call.reach k).has_no_peer causes.NoRoute ∷ [])))
 
 -- the moves from the target after k diversions come to the outcome from there
 abbrev pub SettlesFrom : Call → ℕ → Type 0
 SettlesFrom call left =
-    (k n : ℕ) (uri : Uri) (cause : Option ℕ) (targets : List Target) (endings : List Ended) → left ≡ call.bound - (call.received + k) → 2 * (left + 1) ≤ n →
-    Settles n call (kept_at k targets (Reaching uri cause) endings) targets (outcome_from call left k uri cause endings)
+    (k n : ℕ) (uri : Uri) (by : Option Due) (targets : List Target) (endings : List Ended) → left ≡ call.bound - (call.received + k) → 2 * (left + 1) ≤ n →
+    Settles n call (kept_at k targets (Reaching uri by) endings) targets (outcome_from call left k uri by endings)
 
 is_within-at : (a b : ℕ) → b ≤ a → nat_lt a b ≡ false
 is_within-at a b h = grind (arith, nat_tests)
@@ -170,25 +170,25 @@ is_within-below a b h = grind (arith, nat_tests)
 -- at the bound
 goes_on-at : (call : Call) (k : ℕ) → 0 ≡ call.bound - (call.received + k) → GoesOn call k 0 (λ target due later. last_reached target (Final (causes.TooManyDiversions (due.cause == 486))))
 goes_on-at call k left n target due targets phase later enough =
-    ap (λ b. outcome_so_far (moves n call (gone_on (if b then None else Some (causes.TooManyDiversions (due.cause == 486))) (kept_at k (targets ++ target ∷ []) phase later) (new_target call.home due.forward.target) due.cause))) (is_within-at (call.received + k) call.bound (omega arith))
+    ap (λ b. outcome_so_far (moves n call (gone_on (if b then None else Some (causes.TooManyDiversions (due.cause == 486))) (kept_at k (targets ++ target ∷ []) phase later) (new_target call.home due.forward.target) due))) (is_within-at (call.received + k) call.bound (omega arith))
     ∙ settles-over n call k targets target (Final (causes.TooManyDiversions (due.cause == 486))) later
 
 -- below it
 goes_on-below : (call : Call) (left k : ℕ) → SettlesFrom call left → suc left ≡ call.bound - (call.received + k) →
-    GoesOn call k (2 * (left + 1)) (λ target due later. then_reached target (outcome_from call left (k + 1) (new_target call.home due.forward.target) (Some due.cause) later))
+    GoesOn call k (2 * (left + 1)) (λ target due later. then_reached target (outcome_from call left (k + 1) (new_target call.home due.forward.target) (Some due) later))
 goes_on-below call left k settles more n target due targets phase later enough =
-    ap (λ b. outcome_so_far (moves n call (gone_on (if b then None else Some (causes.TooManyDiversions (due.cause == 486))) (kept_at k (targets ++ target ∷ []) phase later) (new_target call.home due.forward.target) due.cause))) (is_within-below (call.received + k) call.bound (omega arith))
-    ∙ settles (k + 1) n (new_target call.home due.forward.target) (Some due.cause) (targets ++ target ∷ []) later (omega arith) enough
-    ∙ ap (λ reached. record { targets = reached; result = (outcome_from call left (k + 1) (new_target call.home due.forward.target) (Some due.cause) later).result }) (append_assoc targets (target ∷ []) (outcome_from call left (k + 1) (new_target call.home due.forward.target) (Some due.cause) later).targets)
+    ap (λ b. outcome_so_far (moves n call (gone_on (if b then None else Some (causes.TooManyDiversions (due.cause == 486))) (kept_at k (targets ++ target ∷ []) phase later) (new_target call.home due.forward.target) due))) (is_within-below (call.received + k) call.bound (omega arith))
+    ∙ settles (k + 1) n (new_target call.home due.forward.target) (Some due) (targets ++ target ∷ []) later (omega arith) enough
+    ∙ ap (λ reached. record { targets = reached; result = (outcome_from call left (k + 1) (new_target call.home due.forward.target) (Some due) later).result }) (append_assoc targets (target ∷ []) (outcome_from call left (k + 1) (new_target call.home due.forward.target) (Some due) later).targets)
 
 pub settles-from : (call : Call) (left : ℕ) → SettlesFrom call left
 unfolding outcome_from
-settles-from call zero k zero uri cause targets endings e enough = absurd (omega arith)
-settles-from call zero k (suc zero) uri cause targets endings e enough = absurd (omega arith)
-settles-from call zero k (suc (suc n)) uri cause targets endings e enough = settles-reaching call k 0 _ (goes_on-at call k e) n uri cause targets endings (omega arith)
-settles-from call (suc left) k zero uri cause targets endings e enough = absurd (omega arith)
-settles-from call (suc left) k (suc zero) uri cause targets endings e enough = absurd (omega arith)
-settles-from call (suc left) k (suc (suc n)) uri cause targets endings e enough = settles-reaching call k (2 * (left + 1)) _ (goes_on-below call left k (settles-from call left) e) n uri cause targets endings (omega arith)
+settles-from call zero k zero uri by targets endings e enough = absurd (omega arith)
+settles-from call zero k (suc zero) uri by targets endings e enough = absurd (omega arith)
+settles-from call zero k (suc (suc n)) uri by targets endings e enough = settles-reaching call k 0 _ (goes_on-at call k e) n uri by targets endings (omega arith)
+settles-from call (suc left) k zero uri by targets endings e enough = absurd (omega arith)
+settles-from call (suc left) k (suc zero) uri by targets endings e enough = absurd (omega arith)
+settles-from call (suc left) k (suc (suc n)) uri by targets endings e enough = settles-reaching call k (2 * (left + 1)) _ (goes_on-below call left k (settles-from call left) e) n uri by targets endings (omega arith)
 
 -- by what the opening refuses
 settles-opened : (refusal : Option Cause) (call : Call) (endings : List Ended) (n : ℕ) → moves_enough call ≤ n →

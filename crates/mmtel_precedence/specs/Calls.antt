@@ -4,7 +4,7 @@ use Rattle.mmtel_types.specs.declared.causes.Cause.{Cause}
 use Rattle.mmtel_types.specs.declared.causes.Cause.TheVariants as causes
 use Rattle.mmtel_lex.specs.declared.values.Uri.{Uri}
 use Rattle.mmtel_sheet_values.specs.declared.values.Who.{Who}
-use Rattle.mmtel_precedence.specs.Services.{Account}
+use Rattle.mmtel_precedence.specs.Services.{Account, Due}
 
 -- ---- what is told
 
@@ -74,10 +74,10 @@ pub data Offer : Type 0 where
   NotOffered : Offer
   Offered : (waiting : Bool) → Offer
 
--- a target that the call reached, the cause of the diversion that led there, and whether it was offered
+-- a target that the call reached, the diversion that led there, with its forward and its cause, and whether it was offered
 pub record Target : Type 0 where
   pub uri : Uri
-  pub cause : Option ℕ
+  pub by : Option Due
   pub offer : Offer
 
 pub data Result : Type 0 where

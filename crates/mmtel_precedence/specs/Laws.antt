@@ -1,8 +1,10 @@
 -- What the definitions of precedence come to, in the subject's words.
-use Rattle.std.specs.Prelude.{◌≡◌, ◌↔◌, ◌≤◌, ◌<◌, ℕ, zero, suc, ◌+◌, ◌-◌, ◌==◌, max, Bool, true, false, List, [], Option, Some, None, is_some, IsSome, count_by, option_and_then}
+use Rattle.std.specs.Prelude.{◌≡◌, ◌↔◌, ◌≤◌, ◌<◌, ℕ, zero, suc, ◌+◌, ◌-◌, ◌==◌, max, Bool, true, false, List, [], ◌∷◌, length, Option, Some, None, is_some, IsSome, count_by, option_and_then}
+use Rattle.std.specs.List.{AllByRecursion}
 use Rattle.mmtel_types.specs.declared.causes.Cause.TheVariants as causes
 use Rattle.mmtel_lex.specs.declared.values.Uri.{Uri}
 use Rattle.mmtel_sheet_values.specs.declared.values.DiversionPart.{DiversionPart}
+use Rattle.mmtel_sheet_values.specs.declared.values.Forward.{Forward}
 use Rattle.mmtel_sheet_values.specs.declared.values.Rule.{Rule}
 use Rattle.mmtel_sheet_values.specs.declared.values.Sheet.{Sheet}
 use Rattle.mmtel_sheet_values.specs.declared.values.Who.{Who}
@@ -10,11 +12,12 @@ use Rattle.mmtel_rules.specs.Alike.{AnswerAlike, identity_parts}
 use Rattle.mmtel_rules.specs.Identities.{identity_holds, has_identity}
 use Rattle.mmtel_rules.specs.declared.values.Identities2.{Identities2}
 use Rattle.mmtel_barring.specs.Barring.{rules_of}
+use Rattle.mmtel_precedence.specs.declared.endings.Ending.{Ending}
 use Rattle.mmtel_precedence.specs.declared.endings.Ending.TheVariants as ending
 use Rattle.mmtel_precedence.specs.Services.{Circumstances, Account, Due, rejects_anonymous, bars_incoming}
-use Rattle.mmtel_precedence.specs.Verdicts.{Ends, verdict_of}
-use Rattle.mmtel_precedence.specs.Calls.{Call, Ended, Target, NotOffered, Final, Outcome, last_reached, refusal_at_opening}
-use Rattle.mmtel_precedence.specs.Targets.{Next, Rests, IsDue, next_after, of_caller}
+use Rattle.mmtel_precedence.specs.Verdicts.{Ends, Forwards, verdict_of}
+use Rattle.mmtel_precedence.specs.Calls.{Reach, Call, Ended, Target, NotOffered, Final, Outcome, last_reached, refusal_at_opening}
+use Rattle.mmtel_precedence.specs.Targets.{Next, Rests, IsDue, new_target, next_after, of_caller}
 use Rattle.mmtel_precedence.specs.Outcome.{outcome_from, outcome}
 
 -- ---- barring comes before diversion, and anonymous communication rejection before both: whatever the other rules of the account, its registration and its live calls are
@@ -24,18 +27,18 @@ pub record BarringComesFirst : Type 0 where
   pub anonymous : (c : Circumstances) (account : Account) → rejects_anonymous c account.sheet ≡ true → verdict_of c account ending.Arrived ≡ Ends causes.AnonymousRejected
   pub barred : (c : Circumstances) (account : Account) → rejects_anonymous c account.sheet ≡ false → bars_incoming c account.sheet ≡ true → verdict_of c account ending.Arrived ≡ Ends causes.IncomingBarred
   -- and of the outcome at each target: it is the last one, and the call is not offered to it
-  pub anonymous_at : (call : Call) (left k : ℕ) (uri : Uri) (cause : Option ℕ) (endings : List Ended) (account : Account) →
+  pub anonymous_at : (call : Call) (left k : ℕ) (uri : Uri) (by : Option Due) (endings : List Ended) (account : Account) →
       (call.reach k).served ≡ Some account → rejects_anonymous (of_caller call (call.reach k).at) account.sheet ≡ true →
-      outcome_from call left k uri cause endings ≡ last_reached (record { uri = uri; cause = cause; offer = NotOffered }) (Final causes.AnonymousRejected)
-  pub barred_at : (call : Call) (left k : ℕ) (uri : Uri) (cause : Option ℕ) (endings : List Ended) (account : Account) →
+      outcome_from call left k uri by endings ≡ last_reached (record { uri = uri; by = by; offer = NotOffered }) (Final causes.AnonymousRejected)
+  pub barred_at : (call : Call) (left k : ℕ) (uri : Uri) (by : Option Due) (endings : List Ended) (account : Account) →
       (call.reach k).served ≡ Some account → rejects_anonymous (of_caller call (call.reach k).at) account.sheet ≡ false → bars_incoming (of_caller call (call.reach k).at) account.sheet ≡ true →
-      outcome_from call left k uri cause endings ≡ last_reached (record { uri = uri; cause = cause; offer = NotOffered }) (Final causes.IncomingBarred)
+      outcome_from call left k uri by endings ≡ last_reached (record { uri = uri; by = by; offer = NotOffered }) (Final causes.IncomingBarred)
 
 -- ---- the bound
 
 -- a diversion led to the target
 abbrev pub is_diverted_to : Target → Bool
-is_diverted_to target = is_some target.cause
+is_diverted_to target = is_some target.by
 
 -- the diversions that were made
 abbrev pub diversions_made : Outcome → ℕ
@@ -96,3 +99,46 @@ AlikeCallersFareAlike = (one other : Identities2) (call : Call) (endings : List 
     has_identity one ≡ has_identity other →
     ((k : ℕ) (account : Account) → (call.reach k).served ≡ Some account → AnswerAlikeTo account.sheet (identity_holds one) (identity_holds other)) →
     outcome (called_by one call) endings ≡ outcome (called_by other call) endings
+
+-- the same circumstances, with these answers of the other party
+abbrev pub asked : Circumstances → (Who → Bool) → Circumstances
+asked c asks = record c { asks = asks }
+
+-- of a caller a verdict rests on whether it has an identity, whether it hides it, and the answers to the rules that the account asks of its callers; and on nothing else
+abbrev pub VerdictsSeeAnswersAlone : Type 0
+VerdictsSeeAnswersAlone = (asks asks2 : Who → Bool) (c : Circumstances) (account : Account) (how : Ending) →
+    AnswerAlikeTo account.sheet asks asks2 →
+    verdict_of (asked c asks) account how ≡ verdict_of (asked c asks2) account how
+
+-- ---- only targets that are reached count
+
+-- the same call, whose targets stand so when it reaches them
+abbrev pub where_targets : (ℕ → Reach) → Call → Call
+where_targets reach call = record call { reach = reach }
+
+-- the outcome is the same wherever the targets that the call reaches stand the same: what else it might have found, at targets that it does not come to, is nothing to it
+abbrev pub OnlyReachedTargetsCount : Type 0
+OnlyReachedTargetsCount = (call : Call) (endings : List Ended) (other : ℕ → Reach) →
+    ((k : ℕ) → k < length (outcome call endings).targets → call.reach k ≡ other k) →
+    outcome (where_targets other call) endings ≡ outcome call endings
+
+-- ---- the diversion that led to a target
+
+-- where the call comes by it; without one, to its first target
+abbrev pub led_to : Call → Option Due → Uri
+led_to call None = call.first
+led_to call (Some due) = new_target call.home due.forward.target
+
+-- the targets but the first
+abbrev pub after_first : List Target → List Target
+after_first [] = []
+after_first (target ∷ later) = later
+
+pub record DiversionsHaveForwards : Type 0 where
+  -- each target is the one to which the forward of the diversion leads that is said of it
+  pub targets : (call : Call) (endings : List Ended) → AllByRecursion (λ (target : Target). target.uri ≡ led_to call target.by) (outcome call endings).targets
+  -- only the first target is reached without one
+  pub later : (call : Call) (endings : List Ended) → AllByRecursion (λ (target : Target). IsSome target.by) (after_first (outcome call endings).targets)
+  -- the decision to divert a call that arrives has its forward, and only that on a deflection has none
+  pub on_arrival : (c : Circumstances) (account : Account) (forward : Option Forward) (cause : ℕ) → verdict_of c account ending.Arrived ≡ Forwards forward cause → IsSome forward
+  pub without : (c : Circumstances) (account : Account) (how : Ending) (cause : ℕ) → verdict_of c account how ≡ Forwards None cause → (alerted : Bool) × (how ≡ ending.Deflected alerted)

@@ -6,4 +6,5 @@ pub mod Calls
 pub mod Targets
 pub mod Outcome
 pub mod Moves
+pub mod Extension
 pub mod Laws

@@ -1,21 +1,22 @@
 -- A call as the server decides it, one move at a time, from what it keeps: never from the list of endings that were and will be.
 use Rattle.std.specs.Prelude.{◌≡◌, ℕ, zero, suc, ◌+◌, ◌*◌, ◌-◌, ◌≤◌, Bool, true, if◌then◌else◌, List, [], ◌∷◌, ◌++◌, Option, Some, None, unwrap_or}
+use Rattle.std.specs.Option.{option_map}
 use Rattle.mmtel_types.specs.declared.causes.Cause.{Cause}
 use Rattle.mmtel_types.specs.declared.causes.Cause.TheVariants as causes
 use Rattle.mmtel_lex.specs.declared.values.Uri.{Uri}
 use Rattle.mmtel_sheet_values.specs.declared.values.Forward.{Forward}
 use Rattle.mmtel_sheet_values.specs.Sheets.{empty_sheet}
 use Rattle.mmtel_precedence.specs.declared.endings.Ending.TheVariants as ending
-use Rattle.mmtel_precedence.specs.Services.{Account}
+use Rattle.mmtel_precedence.specs.Services.{Account, Due}
 use Rattle.mmtel_precedence.specs.Verdicts.{Decision, Offers, Forwards, Ends, verdict_of, go_on_of}
 use Rattle.mmtel_precedence.specs.Calls.{End, Answer, Cancel, UserBusy, NotReachable, NoReply, Deflection, Other, Ended, Reach, Call, Offer, NotOffered, Offered, Target, Result, Pending, Answered, Final, Outcome, refusal_at_opening}
-use Rattle.mmtel_precedence.specs.Targets.{of_caller, of_target, new_target}
+use Rattle.mmtel_precedence.specs.Targets.{of_caller, of_target, new_target, deflected_to}
 use Rattle.mmtel_precedence.specs.Outcome.{outcome}
 
 -- where the call stands
 pub data Phase : Type 0 where
   -- at a target, to which it is not offered yet
-  Reaching : (uri : Uri) → (cause : Option ℕ) → Phase
+  Reaching : (uri : Uri) → (by : Option Due) → Phase
   -- offered to its target, under the account that was read then
   Ringing : (account : Account) → Phase
   Over : (result : Result) → Phase
@@ -32,51 +33,51 @@ abbrev pub account_at : Reach → Account
 account_at reach = unwrap_or reach.served (record { sheet = empty_sheet; registered = true; live = 0 })
 
 -- a target is noted
-abbrev pub with_target : Kept → Uri → Option ℕ → Offer → Kept
-with_target kept uri cause offer = record kept { targets = kept.targets ++ record { uri = uri; cause = cause; offer = offer } ∷ [] }
+abbrev pub with_target : Kept → Uri → Option Due → Offer → Kept
+with_target kept uri by offer = record kept { targets = kept.targets ++ record { uri = uri; by = by; offer = offer } ∷ [] }
 
 abbrev pub at_phase : Kept → Phase → Kept
 at_phase kept phase = record kept { phase = phase }
 
--- one more diversion was made
-abbrev pub diverted : Kept → Uri → ℕ → Kept
-diverted kept target cause = record kept { done = kept.done + 1; phase = Reaching target (Some cause) }
+-- one more diversion was made, to this target
+abbrev pub diverted : Kept → Uri → Due → Kept
+diverted kept target due = record kept { done = kept.done + 1; phase = Reaching target (Some due) }
 
-abbrev pub gone_on : Option Cause → Kept → Uri → ℕ → Kept
-gone_on None kept target cause = diverted kept target cause
-gone_on (Some refusal) kept target cause = at_phase kept (Over (Final refusal))
+abbrev pub gone_on : Option Cause → Kept → Uri → Due → Kept
+gone_on None kept target due = diverted kept target due
+gone_on (Some refusal) kept target due = at_phase kept (Over (Final refusal))
 
 -- a diversion that is due, by this account, at this moment
-abbrev pub divert : Call → Kept → Account → (now : ℕ) → Uri → (cause : ℕ) → Kept
-divert call kept account now target cause =
-    gone_on (go_on_of (of_target call now (new_target call.home target)) account.sheet call.received kept.done call.bound cause) kept (new_target call.home target) cause
+abbrev pub divert : Call → Kept → Account → (now : ℕ) → Due → Kept
+divert call kept account now due =
+    gone_on (go_on_of (of_target call now (new_target call.home due.forward.target)) account.sheet call.received kept.done call.bound due.cause) kept (new_target call.home due.forward.target) due
 
--- where a diversion goes: where the rule forwards to, or else where the device deflects to
-abbrev pub target_by : Option Forward → Option Uri → Option Uri
-target_by None deflected = deflected
-target_by (Some forward) deflected = Some forward.target
+-- the diversion of a decision: by the rule's forward, or else to where the device deflects
+abbrev pub due_by : Option Forward → Option Uri → (cause : ℕ) → Option Due
+due_by None deflected cause = option_map (λ target. deflected_to target cause) deflected
+due_by (Some forward) deflected cause = Some (record { forward = forward; cause = cause })
 
-abbrev pub divert_to : Call → Kept → Account → (now : ℕ) → Option Uri → (cause : ℕ) → Kept
-divert_to call kept account now None cause = kept
-divert_to call kept account now (Some target) cause = divert call kept account now target cause
+abbrev pub divert_where : Call → Kept → Account → (now : ℕ) → Option Due → Kept
+divert_where call kept account now None = kept
+divert_where call kept account now (Some due) = divert call kept account now due
 
 -- a target that no service refused: it may still be nobody's, or out of reach
-abbrev pub offer_unless : (unknown no_peer : Bool) → Account → (waiting : Bool) → Kept → Uri → Option ℕ → Kept
-offer_unless unknown no_peer account waiting kept uri cause =
-    if unknown then at_phase (with_target kept uri cause NotOffered) (Over (Final causes.NoAccount))
-    else if no_peer then at_phase (with_target kept uri cause NotOffered) (Over (Final causes.NoRoute))
-    else at_phase (with_target kept uri cause (Offered waiting)) (Ringing account)
+abbrev pub offer_unless : (unknown no_peer : Bool) → Account → (waiting : Bool) → Kept → Uri → Option Due → Kept
+offer_unless unknown no_peer account waiting kept uri by =
+    if unknown then at_phase (with_target kept uri by NotOffered) (Over (Final causes.NoAccount))
+    else if no_peer then at_phase (with_target kept uri by NotOffered) (Over (Final causes.NoRoute))
+    else at_phase (with_target kept uri by (Offered waiting)) (Ringing account)
 
 -- the verdict at a target that the call reached
-abbrev pub reached : Call → Reach → Account → Decision → Kept → Uri → Option ℕ → Kept
-reached call reach account (Offers waiting) kept uri cause = offer_unless reach.is_unknown reach.has_no_peer account waiting kept uri cause
-reached call reach account (Forwards forward why) kept uri cause = divert_to call (with_target kept uri cause NotOffered) account reach.at (target_by forward None) why
-reached call reach account (Ends why) kept uri cause = at_phase (with_target kept uri cause NotOffered) (Over (Final why))
+abbrev pub reached : Call → Reach → Account → Decision → Kept → Uri → Option Due → Kept
+reached call reach account (Offers waiting) kept uri by = offer_unless reach.is_unknown reach.has_no_peer account waiting kept uri by
+reached call reach account (Forwards forward why) kept uri by = divert_where call (with_target kept uri by NotOffered) account reach.at (due_by forward None why)
+reached call reach account (Ends why) kept uri by = at_phase (with_target kept uri by NotOffered) (Over (Final why))
 
 -- the verdict on an attempt that ended
 abbrev pub ended_by : Call → Account → (now : ℕ) → Option Uri → Decision → Kept → Kept
 ended_by call account now deflected (Offers waiting) kept = kept
-ended_by call account now deflected (Forwards forward why) kept = divert_to call kept account now (target_by forward deflected) why
+ended_by call account now deflected (Forwards forward why) kept = divert_where call kept account now (due_by forward deflected why)
 ended_by call account now deflected (Ends why) kept = at_phase kept (Over (Final why))
 
 -- an attempt ended: an answer and a caller that gives up end the call, and of all else a verdict is asked
@@ -95,13 +96,13 @@ on_endings call account [] kept = kept
 on_endings call account (ended ∷ later) kept = on_end call account ended.at ended.how (record kept { endings = later })
 
 -- a target is reached: a verdict is asked
-abbrev pub on_reaching : Call → Reach → Uri → Option ℕ → Kept → Kept
-on_reaching call reach uri cause kept =
-    reached call reach (account_at reach) (verdict_of (of_caller call reach.at) (account_at reach) ending.Arrived) kept uri cause
+abbrev pub on_reaching : Call → Reach → Uri → Option Due → Kept → Kept
+on_reaching call reach uri by kept =
+    reached call reach (account_at reach) (verdict_of (of_caller call reach.at) (account_at reach) ending.Arrived) kept uri by
 
 -- one move: by what is kept
 abbrev pub move_in : Phase → Call → Kept → Kept
-move_in (Reaching uri cause) call kept = on_reaching call (call.reach kept.done) uri cause kept
+move_in (Reaching uri by) call kept = on_reaching call (call.reach kept.done) uri by kept
 move_in (Ringing account) call kept = on_endings call account kept.endings kept
 move_in (Over result) call kept = kept
 
@@ -120,7 +121,7 @@ at_first call endings = record { done = 0; targets = []; phase = first_phase (re
 
 -- how far the call came
 abbrev pub result_in : Phase → Result
-result_in (Reaching uri cause) = Pending
+result_in (Reaching uri by) = Pending
 result_in (Ringing account) = Pending
 result_in (Over result) = result
 

@@ -37,8 +37,8 @@ offer_by (Refuses cause) served = NotOffered
 offer_by (Diverts due) served = NotOffered
 
 -- the target that is reached after k diversions
-abbrev pub target_at : Call → (k : ℕ) → Uri → Option ℕ → Target
-target_at call k uri cause = record { uri = uri; cause = cause; offer = offer_by (said_on_arrival call (call.reach k)) (call.reach k).served }
+abbrev pub target_at : Call → (k : ℕ) → Uri → Option Due → Target
+target_at call k uri by = record { uri = uri; by = by; offer = offer_by (said_on_arrival call (call.reach k)) (call.reach k).served }
 
 -- ---- a diversion
 

@@ -1,5 +1,6 @@
 //! What the decisions come to. These are laws, and no code.
-ghost use Rattle.mmtel_precedence.specs.Laws.{AlikeCallersFareAlike, BarringComesFirst, IsBoundExact, StaysWithinBound};
+ghost use Rattle.mmtel_precedence.specs.Extension.{LaterEndingsExtend};
+ghost use Rattle.mmtel_precedence.specs.Laws.{AlikeCallersFareAlike, BarringComesFirst, DiversionsHaveForwards, IsBoundExact, OnlyReachedTargetsCount, StaysWithinBound, VerdictsSeeAnswersAlone};
 ghost use Rattle.mmtel_precedence.specs.Moves.{MovesGiveTheOutcome};
 
 use mmtel_rules::laws::{
@@ -9,6 +10,16 @@ use mmtel_rules::laws::{
 /// However the attempts of a call end, and whatever records, registrations and live calls it finds at the targets that it reaches: deciding it move by move, by `verdict` and `go_on` over what is kept of it, gives exactly its Outcome.
 pub fn moves_give_the_outcome()
     ensures law { MovesGiveTheOutcome }
+{}
+
+/// Endings that come later extend an outcome: what they give begins with what was before them, and is the same where that was settled. The moves of a call go on from where it rang, so that those that are made over some endings and then over later ones, or after each ending as it comes, come to the Outcome of all of them.
+pub fn later_endings_extend()
+    ensures law { LaterEndingsExtend }
+{}
+
+/// Only the targets that a call reaches count: its Outcome is the same wherever those stand the same.
+pub fn only_reached_targets_count()
+    ensures law { OnlyReachedTargetsCount }
 {}
 
 /// Barring comes before diversion, and anonymous communication rejection before both, whatever the diversion rules, the registration and the live calls of the account.
@@ -34,3 +45,17 @@ pub fn alike_callers_fare_alike()
     barring_sees_answers_alone();
     barred_where_no_rule_allows();
 }
+
+/// Of a caller a verdict rests on whether it has an identity, whether it hides it, and its answers to each identity part of the rules that the account asks of its callers, and on nothing else.
+pub fn verdicts_see_answers_alone()
+    ensures law { VerdictsSeeAnswersAlone }
+{
+    first_sees_answers_alone();
+    barring_sees_answers_alone();
+    barred_where_no_rule_allows();
+}
+
+/// Each target is the one to which the forward of the diversion leads that the Outcome says of it; only the first is reached without one. The decision to divert a call that arrives has its forward, and only that on a deflection has none.
+pub fn diversions_have_forwards()
+    ensures law { DiversionsHaveForwards }
+{}

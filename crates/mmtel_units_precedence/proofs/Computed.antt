@@ -12,6 +12,7 @@ are_outcomes = record {
   anonymous_rejection = refl;
   no_identity = refl;
   two_diversions = refl;
+  hidden_forward = refl;
   received_busy = refl;
   received_free = refl;
   received_four = refl;

@@ -538,6 +538,16 @@ OPTIONS sip:@h SIP/2.0
 CSeq: 1 ACK
 
 = bad 0, 400
+OPTIONS sip:b@h;x="a" SIP/2.0
+&
+CSeq: 1 OPTIONS
+
+= bad 0, 400
+OPTIONS tel:+4930111;x="a" SIP/2.0
+&
+CSeq: 1 OPTIONS
+
+= bad 0, 400
 OPTIONS mailto:b@h SIP/2.0
 &
 CSeq: 1 OPTIONS
@@ -675,7 +685,7 @@ fn judges_the_torture_tests(rt: HostRuntime) -> Result<(), Fail> {
 
 #[test]
 fn refuses_by_the_first_fault(rt: HostRuntime) -> Result<(), Fail> {
-    let (came, wanted) = verdicts(rt.alloc(), DAMAGED, 28);
+    let (came, wanted) = verdicts(rt.alloc(), DAMAGED, 30);
     assert_eq!(rt; came.bytes(), wanted.bytes());
     Ok(())
 }

@@ -1,64 +1,72 @@
 -- What a refusal sees of a caller, and when it is that of an anonymous one.
-use Rattle.std.proofs.Common.{◌≡◌, ℕ, Bool, true, false, cond, ◌&&◌, List, Option, Some, None, refl}
+use Rattle.std.proofs.Common.{◌≡◌, ℕ, Bool, true, false, cond, ◌&&◌, List, Option, Some, None, refl, ap, sym, ◌∙◌}
 use Rattle.std.specs.Prelude.{◌≢◌, is_some}
 use Rattle.std.specs.Option.{option_map}
 use Rattle.mmtel_sheet_values.specs.declared.values.BarPart.{BarPart}
 use Rattle.mmtel_sheet_values.specs.declared.values.Rule.{Rule}
 use Rattle.mmtel_sheet_values.specs.declared.values.Who.{Who}
+use Rattle.mmtel_rules.specs.Circumstances.{Circumstances, asked}
 use Rattle.mmtel_rules.specs.Rules.{barred_by}
 use Rattle.mmtel_barring.specs.Barring.{incoming_refusal, is_anonymous_refused, outgoing_bar, rules_of}
 use Rattle.mmtel_barring.specs.declared.bars.Barred.{Barred}
 use Rattle.mmtel_barring.specs.declared.bars.Refusal.{Refusal}
 use Rattle.mmtel_barring.specs.declared.bars.Refusal.TheVariants as Refusals
 
--- ---- answers: what bars one caller bars another where the rules bar them alike
-
-module _ (asks asks2 : Who → Bool) (restricted : Bool) (media : List (List ℕ)) (now : ℕ) where
-  pub outgoing_alike : (part : Option BarPart) → barred_by asks restricted media now (rules_of part) ≡ barred_by asks2 restricted media now (rules_of part) → outgoing_bar asks restricted media now part ≡ outgoing_bar asks2 restricted media now part
-  outgoing_alike None e = refl
-  outgoing_alike (Some part) e = rw e refl
-
-  pub incoming_alike : (known : Bool) (part : Option BarPart) → barred_by asks restricted media now (rules_of part) ≡ barred_by asks2 restricted media now (rules_of part) → incoming_refusal asks known restricted media now part ≡ incoming_refusal asks2 known restricted media now part
-  incoming_alike known None e = refl
-  incoming_alike known (Some part) e = rw e refl
-
--- ---- anonymous callers
-
 -- where it is not rejected, a refusal is a rule's
 abbrev pub refusal_unless : Bool → Option ℕ → Option Refusal
 refusal_unless rejected found = cond rejected (Some Refusals.Anonymous) (option_map (λ place. Refusals.Barred place) found)
+
+-- ---- answers: what bars one caller bars another where the rules bar them alike
+
+module _ (asks asks2 : Who → Bool) (k : Circumstances) where
+  pub outgoing_alike : (part : Option BarPart) → barred_by (asked k asks) (rules_of part) ≡ barred_by (asked k asks2) (rules_of part) → outgoing_bar (asked k asks) part ≡ outgoing_bar (asked k asks2) part
+  outgoing_alike None e = refl
+  outgoing_alike (Some part) e = ap (λ (found : Option ℕ). option_map (λ place. let bar : Barred = record { rule = place } in bar) found) e
+
+  pub incoming_alike : (part : Option BarPart) → barred_by (asked k asks) (rules_of part) ≡ barred_by (asked k asks2) (rules_of part) → incoming_refusal (asked k asks) part ≡ incoming_refusal (asked k asks2) part
+  incoming_alike None e = refl
+  incoming_alike (Some part) e = ap (refusal_unless (is_anonymous_refused k part)) e
+
+-- ---- anonymous callers
 
 by_a_rule : (rejected : Bool) (found : Option ℕ) → rejected ≡ false → refusal_unless rejected found ≢ Some Refusals.Anonymous
 by_a_rule true found e h = cc
 by_a_rule false None e h = cc
 by_a_rule false (Some place) e h = cc
 
-unknown : (a b : Bool) → (a && (b && false)) ≡ false
-unknown true true = refl
-unknown true false = refl
-unknown false b = refl
+unknown : (a b c : Bool) → c ≡ false → (a && (b && c)) ≡ false
+unknown true true c e = e
+unknown true false c e = refl
+unknown false b c e = refl
 
-shown : (a b : Bool) → (a && (false && b)) ≡ false
-shown true b = refl
-shown false b = refl
+open_caller : (a b c : Bool) → b ≡ false → (a && (b && c)) ≡ false
+open_caller true true c e = absurd cc
+open_caller true false c e = refl
+open_caller false b c e = refl
 
-module _ (asks : Who → Bool) (known restricted : Bool) (media : List (List ℕ)) (now : ℕ) where
-  pub not_anonymous : (part : BarPart) → is_anonymous_refused known restricted part ≡ false → incoming_refusal asks known restricted media now (Some part) ≢ Some Refusals.Anonymous
-  not_anonymous part e = by_a_rule (is_anonymous_refused known restricted part) (barred_by asks restricted media now part.rules) e
+all_hold : (a b c : Bool) → a ≡ true → b ≡ true → c ≡ true → (a && (b && c)) ≡ true
+all_hold true true true e f g = refl
+all_hold true true false e f g = absurd cc
+all_hold true false c e f g = absurd cc
+all_hold false b c e f g = absurd cc
 
-pub nobody : (asks : Who → Bool) (restricted : Bool) (media : List (List ℕ)) (now : ℕ) (part : Option BarPart) → incoming_refusal asks false restricted media now part ≢ Some Refusals.Anonymous
-nobody asks restricted media now None h = cc
-nobody asks restricted media now (Some part) h = not_anonymous asks false restricted media now part (unknown part.reject_anonymous restricted) h
+module _ (k : Circumstances) where
+  pub not_anonymous : (part : BarPart) → is_anonymous_refused k part ≡ false → incoming_refusal k (Some part) ≢ Some Refusals.Anonymous
+  not_anonymous part e = by_a_rule (is_anonymous_refused k part) (barred_by k part.rules) e
 
-pub opened : (asks : Who → Bool) (known : Bool) (media : List (List ℕ)) (now : ℕ) (part : Option BarPart) → incoming_refusal asks known false media now part ≢ Some Refusals.Anonymous
-opened asks known media now None h = cc
-opened asks known media now (Some part) h = not_anonymous asks known false media now part (shown part.reject_anonymous known) h
+  pub nobody : (part : Option BarPart) → k.has_identity ≡ false → incoming_refusal k part ≢ Some Refusals.Anonymous
+  nobody None e h = cc
+  nobody (Some part) e h = not_anonymous part (unknown part.reject_anonymous k.restricted k.has_identity e) h
 
-pub unasked : (asks : Who → Bool) (known restricted : Bool) (media : List (List ℕ)) (now : ℕ) (part : BarPart) → part.reject_anonymous ≡ false → incoming_refusal asks known restricted media now (Some part) ≢ Some Refusals.Anonymous
-unasked asks known restricted media now part e h = not_anonymous asks known restricted media now part (rw e refl) h
+  pub opened : (part : Option BarPart) → k.restricted ≡ false → incoming_refusal k part ≢ Some Refusals.Anonymous
+  opened None e h = cc
+  opened (Some part) e h = not_anonymous part (open_caller part.reject_anonymous k.restricted k.has_identity e) h
 
-pub refused : (asks : Who → Bool) (media : List (List ℕ)) (now : ℕ) (part : BarPart) → part.reject_anonymous ≡ true → incoming_refusal asks true true media now (Some part) ≡ Some Refusals.Anonymous
-refused asks media now part e = rw e refl
+  pub unasked : (part : BarPart) → part.reject_anonymous ≡ false → incoming_refusal k (Some part) ≢ Some Refusals.Anonymous
+  unasked part e h = not_anonymous part (ap (λ b. b && (k.restricted && k.has_identity)) e) h
+
+  pub refused : (part : BarPart) → part.reject_anonymous ≡ true → k.restricted ≡ true → k.has_identity ≡ true → incoming_refusal k (Some part) ≡ Some Refusals.Anonymous
+  refused part e f g = ap (λ b. refusal_unless b (barred_by k part.rules)) (all_hold part.reject_anonymous k.restricted k.has_identity e f g)
 
 -- ---- rules
 
@@ -73,17 +81,16 @@ is_some-refusal false None (Some place) e = absurd cc
 is_some-refusal false (Some place) None e = absurd cc
 is_some-refusal false (Some place) (Some other) e = refl
 
-module _ (asks : Who → Bool) (restricted : Bool) (media : List (List ℕ)) (now : ℕ) where
-  pub out_through : (rules : List Rule) (reject : Bool) → barred_by asks restricted media now rules ≡ None → outgoing_bar asks restricted media now (Some (record { rules = rules; reject_anonymous = reject })) ≡ None
-  out_through rules reject e = rw e refl
+module _ (k : Circumstances) where
+  pub out_through : (rules : List Rule) (reject : Bool) → barred_by k rules ≡ None → outgoing_bar k (Some (record { rules = rules; reject_anonymous = reject })) ≡ None
+  out_through rules reject e = ap (λ (found : Option ℕ). option_map (λ place. let bar : Barred = record { rule = place } in bar) found) e
 
-  pub in_through : (known : Bool) (rules : List Rule) → barred_by asks restricted media now rules ≡ None → incoming_refusal asks known restricted media now (Some (record { rules = rules; reject_anonymous = false })) ≡ None
-  in_through known rules e = rw e refl
+  pub in_through : (rules : List Rule) → barred_by k rules ≡ None → incoming_refusal k (Some (record { rules = rules; reject_anonymous = false })) ≡ None
+  in_through rules e = ap (refusal_unless false) e
 
-  pub out_in_any_order : (rules other : List Rule) (reject : Bool) → is_some (barred_by asks restricted media now rules) ≡ is_some (barred_by asks restricted media now other) → is_some (outgoing_bar asks restricted media now (Some (record { rules = rules; reject_anonymous = reject }))) ≡ is_some (outgoing_bar asks restricted media now (Some (record { rules = other; reject_anonymous = reject })))
-  out_in_any_order rules other reject same =
-      rw (is_some-bar (barred_by asks restricted media now rules), is_some-bar (barred_by asks restricted media now other)) same
+  pub out_in_any_order : (rules other : List Rule) (reject : Bool) → is_some (barred_by k rules) ≡ is_some (barred_by k other) → is_some (outgoing_bar k (Some (record { rules = rules; reject_anonymous = reject }))) ≡ is_some (outgoing_bar k (Some (record { rules = other; reject_anonymous = reject })))
+  out_in_any_order rules other reject same = is_some-bar (barred_by k rules) ∙ same ∙ sym (is_some-bar (barred_by k other))
 
-  pub in_any_order : (known : Bool) (rules other : List Rule) (reject : Bool) → is_some (barred_by asks restricted media now rules) ≡ is_some (barred_by asks restricted media now other) → is_some (incoming_refusal asks known restricted media now (Some (record { rules = rules; reject_anonymous = reject }))) ≡ is_some (incoming_refusal asks known restricted media now (Some (record { rules = other; reject_anonymous = reject })))
-  in_any_order known rules other reject same =
-      is_some-refusal (reject && (restricted && known)) (barred_by asks restricted media now rules) (barred_by asks restricted media now other) same
+  pub in_any_order : (rules other : List Rule) (reject : Bool) → is_some (barred_by k rules) ≡ is_some (barred_by k other) → is_some (incoming_refusal k (Some (record { rules = rules; reject_anonymous = reject }))) ≡ is_some (incoming_refusal k (Some (record { rules = other; reject_anonymous = reject })))
+  in_any_order rules other reject same =
+      is_some-refusal (reject && (k.restricted && k.has_identity)) (barred_by k rules) (barred_by k other) same

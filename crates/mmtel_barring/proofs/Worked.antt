@@ -6,8 +6,9 @@ use Rattle.mmtel_sheet_values.specs.declared.values.Action.TheVariants.{Allow}
 use Rattle.mmtel_sheet_values.specs.declared.values.Condition.{Condition}
 use Rattle.mmtel_sheet_values.specs.declared.values.Rule.{Rule}
 use Rattle.mmtel_sheet_values.specs.declared.values.Who.{Who}
+use Rattle.mmtel_rules.specs.Circumstances.{Circumstances}
 use Rattle.mmtel_rules.specs.Conditions.{condition_holds}
-use Rattle.mmtel_rules.specs.Identities.{has_identity, identity_holds}
+use Rattle.mmtel_rules.specs.Identities.{identity_holds}
 use Rattle.mmtel_lex.specs.SameIdentity.{is_same_identity}
 use Rattle.mmtel_rules.specs.declared.values.Identities2.{Identities2}
 use Rattle.mmtel_barring.specs.Barring.{incoming_refusal}
@@ -23,6 +24,9 @@ erin = Sip (Some (codes "erin")) (codes "other.example") None [] []
 abbrev somebody : Uri → Identities2
 somebody u = record { sip = Some u; tel = None }
 
+abbrev calling : Uri → Circumstances
+calling u = record { asks = identity_holds (somebody u); has_identity = true; restricted = false; media = []; now = 0 }
+
 abbrev about : Who → Condition
 about who = record { identity = Some who; anonymous = false; window = None; media = None; event = None }
 
@@ -33,7 +37,7 @@ abbrev alice_allowed : Rule
 alice_allowed = record { condition = about (record { one = alice ∷ []; many = None; except = [] }); action = Allow true }
 
 abbrev refused : Uri → List Rule → Option Refusal
-refused u rules = incoming_refusal (identity_holds (somebody u)) (has_identity (somebody u)) false [] 0 (Some (record { rules = rules; reject_anonymous = false }))
+refused u rules = incoming_refusal (calling u) (Some (record { rules = rules; reject_anonymous = false }))
 
 exception : refused alice (everybody_barred ∷ alice_allowed ∷ []) ≡ None
 unfolding condition_holds identity_holds is_same_identity

@@ -1,6 +1,7 @@
 //! The two directions.
 ghost use Rattle.std.specs.Prelude.{◌≡◌};
-ghost use Rattle.mmtel_rules.specs.Identities.{has_identity, identity_holds};
+ghost use Rattle.mmtel_rules.specs.Circumstances.{known};
+ghost use Rattle.mmtel_rules.specs.Identities.{has_identity};
 ghost use Rattle.mmtel_barring.specs.Barring.{incoming_refusal, is_anonymous_refused, outgoing_bar};
 
 use mmtel_rules::{Facts, Identities2, all_bar};
@@ -34,14 +35,14 @@ fn has_identity(identities: &Identities2) -> bool
 
 /// Whether the caller is refused since it hides who it is.
 fn is_anonymous_refused(part: &BarPart, f: &Facts) -> bool
-    ensures { let facts = f.entry.now in result ≡ is_anonymous_refused (has_identity facts.caller.now) facts.restricted part.now }
+    ensures { let facts = f.entry.now in result ≡ is_anonymous_refused (known facts) part.now }
 {
     part.reject_anonymous && f.restricted && has_identity(f.caller)
 }
 
 /// The rule of the user's barring of outgoing calls that bars this one; None where the user has none, or none bars it. The facts name the target as the identity. It takes no memory.
 pub fn outgoing(s: &Sheet, f: &Facts) -> Option<Barred>
-    ensures exact { let facts = f.entry.now in result ≡ outgoing_bar (identity_holds facts.caller.now) facts.restricted facts.media.now facts.now s.now.outgoing }
+    ensures exact { let facts = f.entry.now in result ≡ outgoing_bar (known facts) s.now.outgoing }
 {
     match &s.outgoing {
         None => None,
@@ -54,7 +55,7 @@ pub fn outgoing(s: &Sheet, f: &Facts) -> Option<Barred>
 
 /// Why the user's barring of incoming calls refuses this one; None where the user has none, or it does not. That the caller hides who it is comes before the rules; a caller that has no identity hides none. It takes no memory.
 pub fn incoming(s: &Sheet, f: &Facts) -> Option<Refusal>
-    ensures exact { let facts = f.entry.now in result ≡ incoming_refusal (identity_holds facts.caller.now) (has_identity facts.caller.now) facts.restricted facts.media.now facts.now s.now.incoming }
+    ensures exact { let facts = f.entry.now in result ≡ incoming_refusal (known facts) s.now.incoming }
 {
     match &s.incoming {
         None => None,

@@ -7,8 +7,8 @@ use Rattle.mmtel_cli.specs.Gives.{GivesScript, GivesBoth}
 use Rattle.mmtel_outside.specs.Shelf.{Shelf, answer_at, called, ReadsTold}
 use Rattle.mmtel_cli.specs.Words.{Asked}
 use Rattle.mmtel_directory.specs.declared.directories.Directory.{Directory}
-use Rattle.mmtel_cli.specs.declared.due.Due.{Due}
-use Rattle.mmtel_cli.specs.declared.due.Due.TheVariants.{Line, File, Memory}
+use Rattle.mmtel_cli.specs.declared.reports.Report.{Report}
+use Rattle.mmtel_cli.specs.declared.reports.Report.TheVariants.{Line, File, Memory}
 use Rattle.mmtel_outside.specs.declared.files.FileFault.TheVariants.{Failed}
 
 -- the told answer, or none where nothing is told
@@ -45,7 +45,7 @@ next-is (Some shelf) after name text script other h k =
     let P : Option Shelf → Type 0 = λ a. IfSome a (λ s. script ≡ answer_at s other) in
     subst P h.0 k
 
-pub gives_script : (told after : Option Shelf) (asked : Asked) (directory : Directory) (script : List ℕ) (found : Due) → ReadsTold told after asked.script (Ok script) → IsDue found (due_of_script directory asked.token (Some script)) → GivesScript told asked (Ok directory) found
+pub gives_script : (told after : Option Shelf) (asked : Asked) (directory : Directory) (script : List ℕ) (found : Report) → ReadsTold told after asked.script (Ok script) → IsDue found (due_of_script directory asked.token (Some script)) → GivesScript told asked (Ok directory) found
 gives_script told after asked directory script found h d = record {
   script = Some script;
   told_script = some-is told after asked.script script h;
@@ -66,7 +66,7 @@ gives_memory told asked directory = record {
   is_due = tt;
 }
 
-pub gives_config : (told after : Option Shelf) (asked : Asked) (config : List ℕ) (found : Due) → ReadsTold told after asked.config (Ok config) → GivesScript after asked (directory_of config) found → GivesBoth told asked found
+pub gives_config : (told after : Option Shelf) (asked : Asked) (config : List ℕ) (found : Report) → ReadsTold told after asked.config (Ok config) → GivesScript after asked (directory_of config) found → GivesBoth told asked found
 gives_config told after asked config found h k = record {
   config = Some config;
   script = k.script;

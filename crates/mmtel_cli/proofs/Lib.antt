@@ -2,9 +2,8 @@ pub mod Giving
 pub mod LineRead
 pub mod LineSpelled
 pub mod Masked
-pub mod Pairs
 pub mod RunLaws
 pub mod Running
-pub mod Secrets
+pub mod Saying
 pub mod StepLaws
 pub mod WordLaws

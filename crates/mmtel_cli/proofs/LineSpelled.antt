@@ -6,8 +6,8 @@ use Rattle.mmtel_scan.proofs.Runs.{and_true}
 use Rattle.mmtel_cli.proofs.WordLaws.{Says, says_mark, says_name, says_joined, says_positional, says_wrong, says, after_text_again, token_no_dash, kind_of_token, kind_of_spelled}
 use Rattle.mmtel_cli.specs.CommandLine.{Piece, Word, Apart, Joined as JoinedPiece, spelling, EachMayStand, word_in, value_in, mark_words, behind_mark}
 use Rattle.mmtel_cli.specs.Words.{is_token, is_positional, kind_of_word, mode_after_kind, is_right, positionals, tokens, all_right}
-use Rattle.mmtel_cli.specs.declared.words.Kind.{Kind}
-use Rattle.mmtel_cli.specs.declared.words.Kind.TheVariants.{Positional}
+use Rattle.mmtel_cli.specs.declared.words.WordKind.{WordKind}
+use Rattle.mmtel_cli.specs.declared.words.WordKind.TheVariants.{Positional}
 use Rattle.mmtel_cli.specs.declared.words.Mode.{Mode}
 use Rattle.mmtel_cli.specs.declared.words.Mode.TheVariants.{Options, Value as AtValue, Plain}
 
@@ -108,7 +108,7 @@ spelled_name : (words : List (List ℕ)) → SpelledAt AtValue words → Spelled
 spelled_name [] rest = absurd rest
 spelled_name (value ∷ words) rest = spelled_apart value words rest.0 rest.1
 
-spelled_word : (kind : Kind) (word : List ℕ) (words : List (List ℕ)) → Says kind word → kind_of_word word ≡ kind → is_right kind ≡ true → SpelledAt (mode_after_kind kind) words → Spelled (word ∷ words)
+spelled_word : (kind : WordKind) (word : List ℕ) (words : List (List ℕ)) → Says kind word → kind_of_word word ≡ kind → is_right kind ≡ true → SpelledAt (mode_after_kind kind) words → Spelled (word ∷ words)
 spelled_word _ _ words (says_mark word is) e right rest = let P : List ℕ → Type 0 = λ w. Spelled (w ∷ words) in subst P (sym is) (spelled_mark words)
 spelled_word _ _ words (says_name word is) e right rest = let P : List ℕ → Type 0 = λ w. Spelled (w ∷ words) in subst P (sym is) (spelled_name words rest)
 spelled_word _ _ words (says_joined word value is found t) e right rest = spelled_joined word value words is t rest

@@ -9,20 +9,20 @@ use Rattle.mmtel_outside.specs.declared.events.Offer.{Offer}
 use Rattle.mmtel_cli.specs.declared.steps.Progress.{Progress}
 
 -- so much was offered of the whole, and this is to come
-pub record Ran (d : Directory) (token : List ℕ) (p : Progress) (out : List Offer) (whole rest : List Event) : Type 0 where
+pub record Reached (d : Directory) (token : List ℕ) (p : Progress) (out : List Offer) (whole rest : List Event) : Type 0 where
   pub history : History
   pub stands : Stands p history
   pub offered : out ≡ offers d token history
   pub same : after history (digests d rest) ≡ after [] (digests d whole)
 
-pub begins : (d : Directory) (token : List ℕ) (whole : List Event) → Ran d token (record { clock = 0; begun = false }) [] whole whole
+pub begins : (d : Directory) (token : List ℕ) (whole : List Event) → Reached d token (record { clock = 0; begun = false }) [] whole whole
 begins d token whole = record { history = []; stands = record { clock = refl; begun = refl }; offered = refl; same = refl }
 
 one_more : (d : Directory) (token : List ℕ) (p next : Progress) (out now : List Offer) (whole rest : List Event) (e : Event)
-    → Ran d token p out whole (e ∷ rest)
+    → Reached d token p out whole (e ∷ rest)
     → ((h : History) → Stands p h → Stands next (step_of d h e ∷ h))
     → ((h : History) → Stands p h → now ≡ out ++ offers_of d token h (step_of d h e))
-    → Ran d token next now whole rest
+    → Reached d token next now whole rest
 one_more d token p next out now whole rest e ran stands offered = record {
   history = step_of d ran.history e ∷ ran.history;
   stands = stands ran.history ran.stands;
@@ -31,16 +31,16 @@ one_more d token p next out now whole rest e ran stands offered = record {
 }
 
 pub goes_on : (d : Directory) (token : List ℕ) (p next : Progress) (out now : List Offer) (whole : List Event) (i : ℕ) (e : Event) → i < length whole → e ≡ get_or whole i e
-    → Ran d token p out whole (drop i whole)
+    → Reached d token p out whole (drop i whole)
     → ((h : History) → Stands p h → Stands next (step_of d h e ∷ h))
     → ((h : History) → Stands p h → now ≡ out ++ offers_of d token h (step_of d h e))
-    → Ran d token next now whole (drop (i + 1) whole)
+    → Reached d token next now whole (drop (i + 1) whole)
 goes_on d token p next out now whole i e lt is ran stands offered =
     let here : drop i whole ≡ get_or whole i e ∷ drop (i + 1) whole = rw (add-one, drop-cons whole i e) refl in
     let one : drop i whole ≡ e ∷ drop (i + 1) whole = here ∙ ap (λ (x : Event). x ∷ drop (i + 1) whole) (sym is) in
-    one_more d token p next out now whole (drop (i + 1) whole) e (subst (λ (l : List Event). Ran d token p out whole l) one ran) stands offered
+    one_more d token p next out now whole (drop (i + 1) whole) e (subst (λ (l : List Event). Reached d token p out whole l) one ran) stands offered
 
-pub is_done : (d : Directory) (token : List ℕ) (p : Progress) (out : List Offer) (whole : List Event) (i : ℕ) → i ≡ length whole → Ran d token p out whole (drop i whole) → out ≡ gives d token whole
+pub is_done : (d : Directory) (token : List ℕ) (p : Progress) (out : List Offer) (whole : List Event) (i : ℕ) → i ≡ length whole → Reached d token p out whole (drop i whole) → out ≡ gives d token whole
 is_done d token p out whole i e ran =
     let none : drop i whole ≡ [] = drop_all i whole (omega (arith, e)) in
     let same : ran.history ≡ after [] (digests d whole) = (rw none at ran.same) in

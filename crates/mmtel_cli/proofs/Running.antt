@@ -1,98 +1,136 @@
 -- A run, by what the files gave.
-use Rattle.std.proofs.Common.{◌≡◌, ◌↔◌, ℕ, List, refl, subst, sym, inl, inr, Option, Some, None, Result, Ok, Err, IfSome}
+use Rattle.std.proofs.Common.{◌≡◌, ◌↔◌, ◌⊎◌, ◌∙◌, ℕ, List, refl, subst, sym, inl, inr, Option, Some, None, Result, Ok, Err, IfSome}
 use Rattle.mmtel_directory.specs.Directory.{directory_of}
-use Rattle.mmtel_cli.specs.Due.{due_of_events, due_of_script, due_of_directory, due_of_config, due_over}
-use Rattle.mmtel_cli.specs.Found.{IsAsked}
-use Rattle.mmtel_cli.specs.Ends.{Ends}
-use Rattle.mmtel_cli.specs.Gives.{GivesBoth, GivesRun}
-use Rattle.mmtel_cli.specs.Ran.{Says, WroteMemory, Answered, Ran, AddsListing, ListsGiven}
-use Rattle.mmtel_script.specs.Script.{events_of}
-use Rattle.mmtel_outside.specs.Shelf.{Shelf}
-use Rattle.mmtel_cli.specs.Words.{Asked}
 use Rattle.mmtel_directory.specs.declared.directories.Directory.{Directory}
-use Rattle.mmtel_cli.specs.declared.due.Due.{Due}
-use Rattle.mmtel_cli.specs.declared.due.Due.TheVariants.{Usage, Line, File, Memory, Listing}
+use Rattle.mmtel_outside.specs.Shelf.{Shelf, called, answer_at}
 use Rattle.mmtel_outside.specs.declared.events.Event.{Event}
+use Rattle.mmtel_script.specs.Listing.{listing_of}
+use Rattle.mmtel_script.specs.Script.{events_of}
+use Rattle.mmtel_cli.proofs.LineRead.{none_spelled, reads_spelled, spelled_read}
+use Rattle.mmtel_cli.specs.CommandLine.{IsReplay}
+use Rattle.mmtel_cli.specs.Due.{due_of_events, due_of_script, due_of_directory, due_of_config, shelf_of_config, shelf_after}
+use Rattle.mmtel_cli.specs.Ends.{Ends, WroteListing}
+use Rattle.mmtel_cli.specs.Found.{IsDue}
+use Rattle.mmtel_cli.specs.Gives.{GivesBoth, GivesRun}
+use Rattle.mmtel_cli.specs.Mask.{KeepsTheSecret}
+use Rattle.mmtel_cli.specs.Run.{gives}
+use Rattle.mmtel_cli.specs.Runs.{WroteMemory, WroteLine, WroteFile, Listed, EndsOfEvents, EndsOfScript, EndsOfDirectory, EndsOfConfig, Replayed, Refused, Ran, Called, CalledFor}
+use Rattle.mmtel_cli.specs.Words.{Asked, replay_of}
+use Rattle.mmtel_cli.specs.declared.reports.Report.{Report}
+use Rattle.mmtel_cli.specs.declared.reports.Report.TheVariants.{Usage, Line, File, Memory, Listing}
 
--- with a command, `usage` is never due
-asked-events : (directory : Directory) (token : List ℕ) (events : Result (List Event) ℕ) → IsAsked (due_of_events directory token events)
-asked-events directory token (Ok events) = tt
-asked-events directory token (Err line) = tt
+-- ---- what was written, where it is known what is due
 
-asked-script : (directory : Directory) (token : List ℕ) (script : Option (List ℕ)) → IsAsked (due_of_script directory token script)
-asked-script directory token None = tt
-asked-script directory token (Some script) = asked-events directory token (events_of directory.peers.known script)
+written_line : (found : Report) (line status : ℕ) (before after : Option (List ℕ)) (faults now : ℕ)
+    → IsDue found (Line line) → Ends found status before after faults now → WroteLine line status before after faults now ⊎ WroteMemory status before after faults now
+written_line Usage line status before after faults now due ends = absurd (let wrong : Line line ≡ Usage = due in cc)
+written_line (Line n) line status before after faults now due ends =
+    let same : n ≡ line = cc in
+    let P : ℕ → Type 0 = λ l. WroteLine l status before after faults now in
+    inl (subst P same ends)
+written_line File line status before after faults now due ends = absurd (let wrong : Line line ≡ File = due in cc)
+written_line Memory line status before after faults now due ends = inr ends
+written_line (Listing text) line status before after faults now due ends = absurd (let wrong : Line line ≡ Listing text = due in cc)
 
-asked-directory : (directory : Result Directory ℕ) (token : List ℕ) (script : Option (List ℕ)) → IsAsked (due_of_directory directory token script)
-asked-directory (Ok directory) token script = asked-script directory token script
-asked-directory (Err line) token script = tt
+written_file : (found : Report) (status : ℕ) (before after : Option (List ℕ)) (faults now : ℕ)
+    → IsDue found File → Ends found status before after faults now → WroteFile status before after faults now ⊎ WroteMemory status before after faults now
+written_file Usage status before after faults now due ends = absurd (let wrong : File ≡ Usage = due in cc)
+written_file (Line n) status before after faults now due ends = absurd (let wrong : File ≡ Line n = due in cc)
+written_file File status before after faults now due ends = inl ends
+written_file Memory status before after faults now due ends = inr ends
+written_file (Listing text) status before after faults now due ends = absurd (let wrong : File ≡ Listing text = due in cc)
 
-asked-config : (config : Option (List ℕ)) (token : List ℕ) (script : Option (List ℕ)) → IsAsked (due_of_config config token script)
-asked-config None token script = tt
-asked-config (Some config) token script = asked-directory (directory_of config) token script
-
--- want of memory may come in place of whatever is due then
-says-memory : (due : Due) (status : ℕ) (before after : Option (List ℕ)) (faults now : ℕ) → IsAsked due → WroteMemory status before after faults now → Says due status before after faults now
-says-memory Usage status before after faults now h wrote = absurd h
-says-memory (Line line) status before after faults now h wrote = inr wrote
-says-memory File status before after faults now h wrote = inr wrote
-says-memory Memory status before after faults now h wrote = wrote
-says-memory (Listing text) status before after faults now h wrote = inr wrote
-
-nothing-told : (told : Option Shelf) → IfSome told (λ shelf. Unit {0})
-nothing-told None = tt
-nothing-told (Some shelf) = tt
-
-ran-usage : (told : Option Shelf) (status : ℕ) (before after : Option (List ℕ)) (faults now : ℕ) → Ends Usage status before after faults now → Ran told None status before after faults now
-ran-usage told status before after faults now ends = record {
-  answers = record { config = None; script = None; told_config = nothing-told told; told_script = nothing-told told };
-  says = ends;
+listed_by : KeepsTheSecret → (directory : Directory) (token : List ℕ) (events : List Event) (status : ℕ) (before after : Option (List ℕ)) (faults now : ℕ)
+    → WroteListing (listing_of (gives directory token events)) status before after faults now → Listed directory token events status before after faults now
+listed_by law directory token events status before after faults now wrote = record {
+  offers = gives directory token events;
+  exact = refl;
+  secret = λ p. λ other. λ strange. λ same. law directory token p events other strange same;
+  written = wrote;
 }
 
-abbrev answers-of : (told : Option Shelf) (asked : Asked) (found : Due) → GivesBoth told asked found → Answered told (Some asked)
-answers-of told asked found gives = record {
-  config = gives.config;
-  script = gives.script;
-  told_config = gives.told_config;
-  told_script = gives.told_script;
+written_listing : KeepsTheSecret → (directory : Directory) (token : List ℕ) (events : List Event) (found : Report) (status : ℕ) (before after : Option (List ℕ)) (faults now : ℕ)
+    → IsDue found (Listing (listing_of (gives directory token events))) → Ends found status before after faults now
+    → Listed directory token events status before after faults now ⊎ WroteMemory status before after faults now
+written_listing law directory token events Usage status before after faults now due ends =
+    absurd (let wrong : Listing (listing_of (gives directory token events)) ≡ Usage = due in cc)
+written_listing law directory token events (Line n) status before after faults now due ends =
+    absurd (let wrong : Listing (listing_of (gives directory token events)) ≡ Line n = due in cc)
+written_listing law directory token events File status before after faults now due ends =
+    absurd (let wrong : Listing (listing_of (gives directory token events)) ≡ File = due in cc)
+written_listing law directory token events Memory status before after faults now due ends = inr ends
+written_listing law directory token events (Listing text) status before after faults now due ends =
+    let same : text ≡ listing_of (gives directory token events) = cc in
+    let P : List ℕ → Type 0 = λ t. WroteListing t status before after faults now in
+    inl (listed_by law directory token events status before after faults now (subst P same ends))
+
+-- ---- stage by stage
+
+ends_of_events : KeepsTheSecret → (directory : Directory) (token : List ℕ) (events : Result (List Event) ℕ) (found : Report) (status : ℕ) (before after : Option (List ℕ)) (faults now : ℕ)
+    → IsDue found (due_of_events directory token events) → Ends found status before after faults now
+    → EndsOfEvents directory token events status before after faults now ⊎ WroteMemory status before after faults now
+ends_of_events law directory token (Ok events) found status before after faults now due ends = written_listing law directory token events found status before after faults now due ends
+ends_of_events law directory token (Err line) found status before after faults now due ends = written_line found line status before after faults now due ends
+
+ends_of_script : KeepsTheSecret → (directory : Directory) (token : List ℕ) (script : Option (List ℕ)) (found : Report) (status : ℕ) (before after : Option (List ℕ)) (faults now : ℕ)
+    → IsDue found (due_of_script directory token script) → Ends found status before after faults now
+    → EndsOfScript directory token script status before after faults now ⊎ WroteMemory status before after faults now
+ends_of_script law directory token None found status before after faults now due ends = written_file found status before after faults now due ends
+ends_of_script law directory token (Some script) found status before after faults now due ends =
+    ends_of_events law directory token (events_of directory.peers.known script) found status before after faults now due ends
+
+ends_of_directory : KeepsTheSecret → (directory : Result Directory ℕ) (token : List ℕ) (script : Option (List ℕ)) (found : Report) (status : ℕ) (before after : Option (List ℕ)) (faults now : ℕ)
+    → IsDue found (due_of_directory directory token script) → Ends found status before after faults now
+    → EndsOfDirectory directory token script status before after faults now ⊎ WroteMemory status before after faults now
+ends_of_directory law (Ok directory) token script found status before after faults now due ends = ends_of_script law directory token script found status before after faults now due ends
+ends_of_directory law (Err line) token script found status before after faults now due ends = written_line found line status before after faults now due ends
+
+ends_of_config : KeepsTheSecret → (config : Option (List ℕ)) (token : List ℕ) (script : Option (List ℕ)) (found : Report) (status : ℕ) (before after : Option (List ℕ)) (faults now : ℕ)
+    → IsDue found (due_of_config config token script) → Ends found status before after faults now
+    → EndsOfConfig config token script status before after faults now ⊎ WroteMemory status before after faults now
+ends_of_config law None token script found status before after faults now due ends = written_file found status before after faults now due ends
+ends_of_config law (Some config) token script found status before after faults now due ends =
+    ends_of_directory law (directory_of config) token script found status before after faults now due ends
+
+-- ---- a whole run
+
+replayed : KeepsTheSecret → (told : Option Shelf) (words : List (List ℕ)) (asked : Asked) (found : Report) (status : ℕ) (before after : Option (List ℕ)) (faults now : ℕ)
+    → IsReplay asked words → GivesBoth told asked found → Ends found status before after faults now → Replayed told words status before after faults now
+replayed law told words asked found status before after faults now spelled gives ends = record {
+  asked = asked;
+  spelled = spelled;
+  answers = record { config = gives.config; script = gives.script; told_config = gives.told_config; told_script = gives.told_script };
+  ends = ends_of_config law gives.config asked.token gives.script found status before after faults now gives.is_due ends;
 }
 
--- what is said of what is due, where that is known
-said : (due found : Due) (status : ℕ) (before after : Option (List ℕ)) (faults now : ℕ) → due ≡ found → Says found status before after faults now → Says due status before after faults now
-said due found status before after faults now e says =
-    let P : Due → Type 0 = λ d. Says d status before after faults now in subst P (sym e) says
+ran_asked : KeepsTheSecret → (told : Option Shelf) (words : List (List ℕ)) (asked : Option Asked) (found : Report) (status : ℕ) (before after : Option (List ℕ)) (faults now : ℕ)
+    → replay_of words ≡ asked → GivesRun told asked found → Ends found status before after faults now → Ran told words status before after faults now
+ran_asked law told words None found status before after faults now read gives ends =
+    let P : Report → Type 0 = λ r. Ends r status before after faults now in
+    inr (record { none = (none_spelled words).0 read; said = subst P gives ends })
+ran_asked law told words (Some asked) found status before after faults now read gives ends =
+    inl (replayed law told words asked found status before after faults now (spelled_read asked words read) gives ends)
 
-ran-asked : (told : Option Shelf) (asked : Asked) (found : Due) (status : ℕ) (before after : Option (List ℕ)) (faults now : ℕ) → GivesBoth told asked found → (found ≡ Usage → ⊥) → Ends found status before after faults now → Ran told (Some asked) status before after faults now
-ran-asked told asked Usage status before after faults now gives never ends = absurd (never refl)
-ran-asked told asked (Line line) status before after faults now gives never ends = record {
-  answers = answers-of told asked (Line line) gives;
-  says = said _ _ status before after faults now gives.is_due (inl ends);
-}
-ran-asked told asked File status before after faults now gives never ends = record {
-  answers = answers-of told asked File gives;
-  says = said _ _ status before after faults now gives.is_due (inl ends);
-}
-ran-asked told asked Memory status before after faults now gives never ends = record {
-  answers = answers-of told asked Memory gives;
-  says = says-memory _ status before after faults now (asked-config gives.config asked.token gives.script) ends;
-}
-ran-asked told asked (Listing text) status before after faults now gives never ends = record {
-  answers = answers-of told asked (Listing text) gives;
-  says = said _ _ status before after faults now gives.is_due (inl ends);
+pub ran : KeepsTheSecret → (told : Option Shelf) (words : List (List ℕ)) (found : Report) (status : ℕ) (before after : Option (List ℕ)) (faults now : ℕ)
+    → GivesRun told (replay_of words) found → Ends found status before after faults now → Ran told words status before after faults now
+ran law told words found status before after faults now gives ends = ran_asked law told words (replay_of words) found status before after faults now refl gives ends
+
+-- ---- the calls of files
+
+called_last : (status : ℕ) (after : Option Shelf) (first last : Shelf) → (status ≡ 1) → Called status after first last → after ≡ Some last
+called_last status after first last one called = called.all (λ e. let wrong : 1 ≡ 8 = sym one ∙ e in cc)
+
+pub called_for : (shelf : Shelf) (words : List (List ℕ)) (status : ℕ) (after : Option Shelf)
+    → (status ≡ 1) ↔ (replay_of words ≡ None) → Called status after (called shelf) (shelf_after shelf (replay_of words)) → CalledFor shelf words status after
+called_for shelf words status after usage calls = record {
+  none = λ no_one.
+      let read : replay_of words ≡ None = (none_spelled words).1 no_one in
+      called_last status after (called shelf) shelf (usage.1 read) (rw read at calls);
+  each = λ asked. λ spelled. (rw (reads_spelled asked words spelled) at calls);
 }
 
-pub ran : (told : Option Shelf) (asked : Option Asked) (found : Due) (status : ℕ) (before after : Option (List ℕ)) (faults now : ℕ) → GivesRun told asked found → (found ≡ Usage) ↔ (asked ≡ None) → Ends found status before after faults now → Ran told asked status before after faults now
-ran told None found status before after faults now gives usage ends =
-    let P : Due → Type 0 = λ d. Ends d status before after faults now in
-    ran-usage told status before after faults now (subst P gives ends)
-ran told (Some asked) found status before after faults now gives usage ends =
-    ran-asked told asked found status before after faults now gives (λ e. let none = usage.0 e in cc) ends
-
--- the listing that is due is that of what the files' answers read as
-lists_given : (shelf : Shelf) (asked : Option Asked) (before after : Option (List ℕ)) → AddsListing (due_over shelf asked) before after → ListsGiven shelf asked before after
-lists_given shelf asked before after h = λ a. λ config. λ script. λ directory. λ events. λ e. λ config_is. λ directory_is. λ script_is. λ events_is.
-    rw (e, config_is, directory_is, script_is, events_is) at h
-
-pub lists_told : (told : Option Shelf) (asked : Option Asked) (status : ℕ) (before after : Option (List ℕ)) → IfSome told (λ shelf. status ≡ 0 → AddsListing (due_over shelf asked) before after) → IfSome told (λ shelf. status ≡ 0 → ListsGiven shelf asked before after)
-lists_told None asked status before after h = tt
-lists_told (Some shelf) asked status before after h = λ e. lists_given shelf asked before after (h e)
+pub calls_told : (told : Option Shelf) (words : List (List ℕ)) (status : ℕ) (after : Option Shelf)
+    → (status ≡ 1) ↔ (replay_of words ≡ None) → IfSome told (λ shelf. Called status after (called shelf) (shelf_after shelf (replay_of words)))
+    → IfSome told (λ shelf. CalledFor shelf words status after)
+calls_told None words status after usage calls = tt
+calls_told (Some shelf) words status after usage calls = called_for shelf words status after usage calls

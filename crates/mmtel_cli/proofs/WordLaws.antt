@@ -9,8 +9,8 @@ use Rattle.std.specs.Str.{bytes_eq}
 use Rattle.mmtel_scan.proofs.Runs.{and_true}
 use Rattle.mmtel_scan.specs.Scanning.{after_text}
 use Rattle.mmtel_cli.specs.Words.{is_hex, is_token, is_positional, joined_value, kind_of_value, kind_of_other, kind_of_word}
-use Rattle.mmtel_cli.specs.declared.words.Kind.{Kind}
-use Rattle.mmtel_cli.specs.declared.words.Kind.TheVariants.{Positional, Mark, Name, Value, Joined, Wrong}
+use Rattle.mmtel_cli.specs.declared.words.WordKind.{WordKind}
+use Rattle.mmtel_cli.specs.declared.words.WordKind.TheVariants.{Positional, Mark, Name, Value, Joined, Wrong}
 
 pub equal : (a b : List ℕ) → bytes_eq a b ≡ true → a ≡ b
 equal a b e = (bytes_eq-Decides a b).0 e
@@ -49,7 +49,7 @@ token_no_dash (b ∷ word) e =
     ]
 
 -- what single words are read as, and of what they are read
-pub data Says : Kind → List ℕ → Type 0 where
+pub data Says : WordKind → List ℕ → Type 0 where
   says_mark : (word : List ℕ) → word ≡ codes "--" → Says Mark word
   says_name : (word : List ℕ) → word ≡ codes "--token" → Says Name word
   says_joined : (word value : List ℕ) → word ≡ codes "--token=" ++ value → joined_value word ≡ Some value → is_token value ≡ true → Says Joined word

@@ -4,8 +4,8 @@ use Rattle.std.specs.Io.KnownBytes.{Appends}
 use Rattle.std.specs.declared.option.Option.{Option}
 use Rattle.mmtel_outside.specs.Counts.{Rose}
 use Rattle.mmtel_outside.specs.Written.{AppendsPart}
-use Rattle.mmtel_cli.specs.declared.due.Due.{Due}
-use Rattle.mmtel_cli.specs.declared.due.Due.TheVariants.{Usage, Line, File, Memory, Listing}
+use Rattle.mmtel_cli.specs.declared.reports.Report.{Report}
+use Rattle.mmtel_cli.specs.declared.reports.Report.TheVariants.{Usage, Line, File, Memory, Listing}
 
 -- `line N`
 abbrev pub line_text : ℕ → List ℕ
@@ -22,7 +22,7 @@ WroteListing text status before after faults now =
     ((status ≡ 0) × Appends before after text × (now ≡ faults)) ⊎ ((status ≡ 7) × AppendsPart before after text × Rose faults now)
 
 -- each with its status; a status from 1 to 5, or 8, stays where the writing of its text meets a fault
-abbrev pub Ends : Due → ℕ → Option (List ℕ) → Option (List ℕ) → ℕ → ℕ → Type 0
+abbrev pub Ends : Report → ℕ → Option (List ℕ) → Option (List ℕ) → ℕ → ℕ → Type 0
 Ends Usage status before after faults now = (status ≡ 1) × Wrote (codes "usage\n") before after faults now
 Ends (Line number) status before after faults now = (status ≡ 2) × Wrote (line_text number) before after faults now
 Ends File status before after faults now = (status ≡ 5) × Wrote (codes "file\n") before after faults now

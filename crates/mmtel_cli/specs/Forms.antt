@@ -10,14 +10,13 @@ use Rattle.mmtel_lex.specs.declared.values.Uri.{Uri}
 use Rattle.mmtel_lex.specs.declared.values.Uri.TheVariants.{Sip, Tel}
 use Rattle.mmtel_message.specs.Fields.{via_at}
 use Rattle.mmtel_message.specs.Faults.{is_method}
-use Rattle.mmtel_message.specs.Message.{Message, first_value}
+use Rattle.mmtel_message.specs.Message.{Line, Message, first_value}
 use Rattle.mmtel_message.specs.Texts.{message_text}
 use Rattle.mmtel_message.specs.declared.fields.Via.{Via}
 use Rattle.mmtel_message.specs.declared.messages.Start.{Start}
 use Rattle.mmtel_scan.specs.Numbers.{number_of}
 use Rattle.mmtel_trust.specs.Digest.{tag_of}
-use Rattle.mmtel_trust.specs.Privacy.{Line}
-use Rattle.mmtel_leg.specs.Addresses.{ip_text}
+use Rattle.mmtel_message.specs.Addresses.{ip_text}
 use Rattle.mmtel_leg.specs.Dialogues.{request_uri}
 
 -- what follows a line of this name, where that comes first

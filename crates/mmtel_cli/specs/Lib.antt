@@ -1,19 +1,20 @@
 -- What public clauses cite, which a user of the crate has to believe.
 -- The words of the command line:
-pub mod Words
-pub mod Asked
 pub mod CommandLine
 -- What the server offers in a run:
 pub mod Forms
 pub mod Openings
 pub mod Run
--- What is due, and how it ends:
-pub mod Due
-pub mod Ends
-pub mod Ran
 -- Noninterference:
 pub mod Mask
-pub mod Secret
+-- A whole run: what was written, answered and asked of the files; and what follows of each status:
+pub mod Runs
+pub mod Sayings
+-- The reports that are due, how each is written, and the words as the reader takes them (of calls below the top call):
+pub mod Due
+pub mod Ends
+pub mod Words
+pub mod Asked
 -- What private functions alone cite.
 pub mod Found
 pub mod Gives

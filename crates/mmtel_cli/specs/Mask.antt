@@ -1,7 +1,9 @@
 -- A run without its private places: what noninterference compares two runs by (RFC 3323, RFC 3325 §7).
-use Rattle.std.specs.Prelude.{◌≡◌, ℕ, Bool, false, List, [], map, if◌then◌else◌}
+use Rattle.std.specs.Prelude.{◌≡◌, ℕ, Bool, false, Option, Some, None, List, [], map, if◌then◌else◌}
 use Rattle.mmtel_types.specs.declared.numbers.Peer.{Peer}
-use Rattle.mmtel_trust.specs.Digest.{Heard, Restriction, hide}
+use Rattle.mmtel_trust.specs.Digest.{HeardMessage}
+use Rattle.mmtel_trust.specs.MaskedMessages as trust
+use Rattle.mmtel_trust.specs.MaskedMessages.{Masked, Restriction}
 use Rattle.mmtel_trust.specs.Peers.{is_trusted}
 use Rattle.mmtel_cli.specs.Openings.{is_hiding}
 use Rattle.mmtel_cli.specs.Run.{Digest, Said, Unbuilt, digests, gives, view}
@@ -12,17 +14,21 @@ use Rattle.mmtel_outside.specs.declared.events.Event.{Event}
 abbrev pub by_words : Restriction
 by_words wants account = is_hiding wants
 
--- what a trusted peer said, without its private places; what an untrusted one said stands
-abbrev pub hide_said : Bool → Heard → Heard
-hide_said trusted m = if trusted then hide by_words [] m else m
+-- what a trusted peer said, without its private places, and beside it what is asked of a restricted caller; what an untrusted one said stands
+abbrev pub mask_said : Bool → HeardMessage → Masked
+mask_said trusted m = if trusted then trust.mask by_words [] m else record { message = m; answers = None }
 
-abbrev pub hide_digest : Directory → Digest → Digest
-hide_digest d (Said peer m) = Said peer (hide_said (is_trusted peer d.peers.known) m)
-hide_digest d Unbuilt = Unbuilt
+-- who said it, and what is compared of it; None of an event that is not built
+abbrev pub mask_digest : Directory → Digest → Option (Peer × Masked)
+mask_digest d (Said peer m) = Some (peer, mask_said (is_trusted peer d.peers.known) m)
+mask_digest d Unbuilt = None
 
--- what is read of a run, without its private places
-abbrev pub mask : Directory → List Event → List (ℕ × Digest)
-mask d es = map (λ x. (x.0, hide_digest d x.1)) (digests d es)
+abbrev pub mask_event : Directory → ℕ × Digest → ℕ × Option (Peer × Masked)
+mask_event d x = (x.0, mask_digest d x.1)
+
+-- what is read of a run, without its private places: event by event, each with its moment
+abbrev pub mask : Directory → List Event → List (ℕ × Option (Peer × Masked))
+mask d es = map (mask_event d) (digests d es)
 
 -- what an untrusted peer is offered is equal in two runs of equal masks, whatever the private places hold
 abbrev pub KeepsTheSecret : Type 0

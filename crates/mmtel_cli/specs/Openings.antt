@@ -2,24 +2,22 @@
 use Rattle.std.specs.Prelude.{ℕ, ◌+◌, ◌-◌, Bool, true, ◌||◌, Option, Some, None, List, [], ◌++◌, codes, decimal}
 use Rattle.mmtel_scan.specs.Chain.{◌>>=◌}
 use Rattle.mmtel_scan.specs.Numbers.{number_of, token_text}
-use Rattle.mmtel_leg.specs.Addresses.{contact_text, via_text}
+use Rattle.mmtel_message.specs.Addresses.{contact_text, via_text}
 use Rattle.mmtel_leg.specs.Dialogues.{request_uri}
-use Rattle.mmtel_leg.specs.Lines.{line}
-use Rattle.mmtel_message.specs.Message.{Message}
+use Rattle.mmtel_message.specs.Message.{Line, Message, line}
 use Rattle.mmtel_message.specs.Replies.{reply_with}
 use Rattle.mmtel_message.specs.declared.messages.Start.{Start}
 use Rattle.mmtel_message.specs.declared.messages.Start.TheVariants.{Request}
 use Rattle.mmtel_lex.specs.Grammar.{name_addr_text}
 use Rattle.mmtel_lex.specs.declared.values.NameAddr.{NameAddr}
-use Rattle.mmtel_trust.specs.Digest.{Heard}
+use Rattle.mmtel_trust.specs.Digest.{HeardMessage}
 use Rattle.mmtel_trust.specs.Passed.{passed, attempt_from, read_by}
-use Rattle.mmtel_trust.specs.Privacy.{Line}
-use Rattle.mmtel_trust.specs.declared.addrs.Addr.{Addr}
+use Rattle.mmtel_types.specs.declared.addrs.Addr.{Addr}
 use Rattle.mmtel_trust.specs.declared.showing.Facing.{Facing}
 use Rattle.mmtel_types.specs.declared.privacy.PrivacySet.{PrivacySet}
 
 -- the 100: Via, From, To, Call-ID and CSeq as received
-abbrev pub trying : Heard → Message Start
+abbrev pub trying : HeardMessage → Message Start
 trying m = reply_with 100 (codes "Trying") m.lines
 
 -- the number in a Max-Forwards value
@@ -36,8 +34,8 @@ abbrev pub is_hiding : PrivacySet → Bool
 is_hiding wants = wants.id || (wants.user || wants.header)
 
 -- who sees what of the sender: whether the sender is trusted, and what it wishes
-abbrev pub facing : Heard → Facing
-facing m = record { from_trusted = m.trusted; restricted = is_hiding m.wants; present = true }
+abbrev pub facing : HeardMessage → Facing
+facing m = record { from_trusted = m.trusted; restricted = is_hiding m.wants; present = true; mask_all = m.wants.history }
 
 -- the display and the URI of a To value, as received, without its parameters
 abbrev pub to_text : Option NameAddr → List ℕ
@@ -45,13 +43,13 @@ to_text None = []
 to_text (Some n) = name_addr_text (record n { params = [] })
 
 -- the lines that the server writes of its own, before those that it passes on. So many numbers were drawn before: the next is the tag of the caller's side, then come those of Call-ID, From tag and branch
-abbrev pub sender_lines : Addr → List ℕ → ℕ → Heard → List Line
+abbrev pub sender_lines : Addr → List ℕ → ℕ → HeardMessage → List Line
 sender_lines sip token drawn m =
     line (codes "Via") (via_text sip (token_text token (drawn + 4))) ++
     (line (codes "Max-Forwards") (decimal (hops_left m.hops)) ++
     line (codes "From") (attempt_from (is_hiding m.wants) (token_text token (drawn + 3)) m.lines))
 
-abbrev pub dialog_lines : Addr → List ℕ → ℕ → Heard → List Line
+abbrev pub dialog_lines : Addr → List ℕ → ℕ → HeardMessage → List Line
 dialog_lines sip token drawn m =
     line (codes "To") (to_text (read_by m.to)) ++
     (line (codes "Call-ID") (token_text token (drawn + 2)) ++
@@ -59,12 +57,12 @@ dialog_lines sip token drawn m =
     line (codes "Contact") (contact_text sip)))
 
 -- the lines of the first attempt's INVITE: the server's own, those that are passed on, and the length of no body
-abbrev pub attempt_lines : Addr → List ℕ → ℕ → Bool → Heard → List Line
+abbrev pub attempt_lines : Addr → List ℕ → ℕ → Bool → HeardMessage → List Line
 attempt_lines sip token drawn to_trusted m =
     sender_lines sip token drawn m ++ (dialog_lines sip token drawn m ++ (passed (facing m) to_trusted [] m.lines ++ line (codes "Content-Length") (codes "0")))
 
 -- the INVITE of the first attempt
-abbrev pub attempt : Addr → List ℕ → ℕ → Bool → Heard → Message Start
+abbrev pub attempt : Addr → List ℕ → ℕ → Bool → HeardMessage → Message Start
 attempt sip token drawn to_trusted m = record {
   start = Request (codes "INVITE") (request_uri m.start);
   lines = attempt_lines sip token drawn to_trusted m;

@@ -7,9 +7,9 @@ use Rattle.mmtel_message.specs.Reads.{Read, reads}
 use Rattle.mmtel_message.specs.Texts.{message_text}
 use Rattle.mmtel_message.specs.declared.messages.Start.{Start}
 use Rattle.mmtel_trust.specs.Peers.{Peers, peer_at, is_trusted, route_of}
-use Rattle.mmtel_trust.specs.declared.addrs.Addr.{Addr}
+use Rattle.mmtel_types.specs.declared.addrs.Addr.{Addr}
 use Rattle.mmtel_cli.specs.Forms.{is_first_form}
-use Rattle.mmtel_trust.specs.Digest.{Heard, heard}
+use Rattle.mmtel_trust.specs.Digest.{HeardMessage, heard}
 use Rattle.mmtel_leg.specs.Dialogues.{request_uri}
 use Rattle.mmtel_cli.specs.Openings.{trying, attempt}
 use Rattle.mmtel_directory.specs.declared.directories.Directory.{Directory}
@@ -22,7 +22,7 @@ use Rattle.mmtel_outside.specs.declared.events.Offer.TheVariants as offer
 
 -- a message of a peer, or an event of a form that is not built yet
 pub data Digest : Type 0 where
-  Said : (peer : Peer) → (m : Heard) → Digest
+  Said : (peer : Peer) → (m : HeardMessage) → Digest
   Unbuilt : Digest
 
 -- of what reading gave of the bytes that a trusted peer sent from this address
@@ -98,7 +98,7 @@ drawn d [] = 0
 drawn d (s ∷ h) = drawn d h + step_draws d h s
 
 -- an opening: the 100 to its sender, then the INVITE to the target
-abbrev pub opened : Directory → List ℕ → List Step → ℕ → Peer → Heard → Option Peer → List Offer
+abbrev pub opened : Directory → List ℕ → List Step → ℕ → Peer → HeardMessage → Option Peer → List Offer
 opened d token h at peer m None = offer.Unbuilt at ∷ []
 opened d token h at peer m (Some target) =
     offer.To peer at (message_text (trying m)) ∷

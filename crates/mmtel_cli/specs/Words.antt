@@ -7,8 +7,8 @@ use Rattle.std.specs.declared.option.Option.{Option}
 use Rattle.mmtel_scan.specs.Scanning.{after_text}
 use Rattle.mmtel_cli.specs.declared.words.Mode.{Mode}
 use Rattle.mmtel_cli.specs.declared.words.Mode.TheVariants.{Options, Value as AtValue, Plain}
-use Rattle.mmtel_cli.specs.declared.words.Kind.{Kind}
-use Rattle.mmtel_cli.specs.declared.words.Kind.TheVariants.{Positional, Mark, Name, Value, Joined, Wrong}
+use Rattle.mmtel_cli.specs.declared.words.WordKind.{WordKind}
+use Rattle.mmtel_cli.specs.declared.words.WordKind.TheVariants.{Positional, Mark, Name, Value, Joined, Wrong}
 
 -- a digit of a token: 0 to 9 or a to f
 abbrev pub is_hex : ℕ → Bool
@@ -23,11 +23,11 @@ abbrev pub is_positional : List ℕ → Bool
 is_positional word = bytes_eq word (codes "-") || not (starts_with nat_eq word (codes "-"))
 
 -- what a word is behind `--token`
-abbrev pub kind_of_value : List ℕ → Kind
+abbrev pub kind_of_value : List ℕ → WordKind
 kind_of_value word = if is_token word then Value else Wrong
 
 -- what a word is that begins with `--token=`, by what follows
-abbrev pub kind_of_joined : List ℕ → Kind
+abbrev pub kind_of_joined : List ℕ → WordKind
 kind_of_joined value = if is_token value then Joined else Wrong
 
 -- what follows `--token=`, where a word begins so
@@ -35,25 +35,25 @@ abbrev pub joined_value : List ℕ → Option (List ℕ)
 joined_value word = after_text (codes "--token=") word
 
 -- what a word is that is neither `--` nor `--token`, by what follows its `--token=`
-abbrev pub kind_of_other : Option (List ℕ) → List ℕ → Kind
+abbrev pub kind_of_other : Option (List ℕ) → List ℕ → WordKind
 kind_of_other (Some value) word = kind_of_joined value
 kind_of_other None word = if is_positional word then Positional else Wrong
 
 -- what a word is where options may stand
-abbrev pub kind_of_word : List ℕ → Kind
+abbrev pub kind_of_word : List ℕ → WordKind
 kind_of_word word =
     if bytes_eq word (codes "--") then Mark
     else if bytes_eq word (codes "--token") then Name
     else kind_of_other (joined_value word) word
 
 -- what a word is
-abbrev pub kind_of : Mode → List ℕ → Kind
+abbrev pub kind_of : Mode → List ℕ → WordKind
 kind_of Options word = kind_of_word word
 kind_of AtValue word = kind_of_value word
 kind_of Plain word = Positional
 
 -- how the word after it is read, where the mark did not come before
-abbrev pub mode_after_kind : Kind → Mode
+abbrev pub mode_after_kind : WordKind → Mode
 mode_after_kind Mark = Plain
 mode_after_kind Name = AtValue
 mode_after_kind Positional = Options
@@ -62,13 +62,13 @@ mode_after_kind Joined = Options
 mode_after_kind Wrong = Options
 
 -- how the word after it is read
-abbrev pub mode_after : Mode → Kind → Mode
+abbrev pub mode_after : Mode → WordKind → Mode
 mode_after Plain kind = Plain
 mode_after Options kind = mode_after_kind kind
 mode_after AtValue kind = mode_after_kind kind
 
 -- a word before other positional words, where it is one
-abbrev pub with_positional : Kind → List ℕ → List (List ℕ) → List (List ℕ)
+abbrev pub with_positional : WordKind → List ℕ → List (List ℕ) → List (List ℕ)
 with_positional Positional word words = word ∷ words
 with_positional Mark word words = words
 with_positional Name word words = words
@@ -77,7 +77,7 @@ with_positional Joined word words = words
 with_positional Wrong word words = words
 
 -- the token that a word gives
-abbrev pub value_of : Kind → List ℕ → Option (List ℕ)
+abbrev pub value_of : WordKind → List ℕ → Option (List ℕ)
 value_of Value word = Some word
 value_of Joined word = joined_value word
 value_of Positional word = None
@@ -85,7 +85,7 @@ value_of Mark word = None
 value_of Name word = None
 value_of Wrong word = None
 
-abbrev pub is_right : Kind → Bool
+abbrev pub is_right : WordKind → Bool
 is_right Wrong = false
 is_right Positional = true
 is_right Mark = true

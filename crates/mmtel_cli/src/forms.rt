@@ -4,22 +4,21 @@ ghost use Rattle.std.specs.List.{list_any};
 ghost use Rattle.std.specs.Option.{option_copied};
 ghost use Rattle.std.specs.Str.{bytes_eq};
 ghost use Rattle.mmtel_message.specs.Faults.{is_method};
-ghost use Rattle.mmtel_message.specs.Message.{first_value};
+ghost use Rattle.mmtel_message.specs.Message.{Line, first_value};
 ghost use Rattle.mmtel_message.specs.Texts.{message_text};
 ghost use Rattle.mmtel_cli.specs.Forms.{after_name, after_form, holds, is_value, is_shaped, is_rport, is_from, is_via_from, is_sip_uri, is_sip_name, is_untagged, is_first_form};
 ghost use Rattle.mmtel_scan.specs.Numbers.{number_of};
-ghost use Rattle.mmtel_leg.specs.Addresses.{ip_text};
+ghost use Rattle.mmtel_message.specs.Addresses.{ip_text};
 ghost use Rattle.mmtel_leg.specs.Dialogues.{request_uri};
-ghost use Rattle.mmtel_trust.specs.Privacy.{Line};
 
-use mmtel_leg::{ip_text, request_uri};
+use mmtel_leg::request_uri;
 use mmtel_lex::{LexFault, Param, Uri, UriFault, read_name_addr, read_uri};
-use mmtel_message::{Msg, Start, Via, first_of, is_method, param_value, read_via};
+use mmtel_message::{Line, Msg, Start, Via, first_of, ip_text, is_method, param_value, read_via};
 use mmtel_scan::{NoMemory, Text, number_up_to};
 use std::alloc::Global;
 
 /// What follows a line of this name, where that comes first.
-fn after_name<'a>(name: &[u8], lines: &'a [(Text, Text)]) -> Option<&'a [(Text, Text)]>
+fn after_name<'a>(name: &[u8], lines: &'a [Line]) -> Option<&'a [Line]>
     ensures { option_copied result ≡ after_name name.now lines.now }
 {
     match lines {
@@ -36,7 +35,7 @@ fn after_name<'a>(name: &[u8], lines: &'a [(Text, Text)]) -> Option<&'a [(Text, 
 
 /// What follows the lines of the form, in their order.
 #[tactic(auto, unfolding(crate::specs::Forms::after_form))]
-fn after_form(lines: &[(Text, Text)]) -> Option<&[(Text, Text)]>
+fn after_form(lines: &[Line]) -> Option<&[Line]>
     ensures { option_copied result ≡ after_form lines.now }
 {
     let rest = after_name(b"Via", lines)?;
@@ -52,7 +51,7 @@ fn after_form(lines: &[(Text, Text)]) -> Option<&[(Text, Text)]>
 }
 
 /// Whether the lines are those of the form, and no more.
-fn are_lines_of_form(lines: &[(Text, Text)]) -> bool
+fn are_lines_of_form(lines: &[Line]) -> bool
     ensures { result ≡ holds (λ (ls : List Line). length ls == 0) (after_form lines.now) }
 {
     match after_form(lines) {

@@ -4,17 +4,20 @@ ghost use Rattle.std.specs.Option.{option_copied};
 ghost use Rattle.mmtel_message.specs.Replies.{reply_with};
 ghost use Rattle.mmtel_trust.specs.Digest.{heard};
 ghost use Rattle.mmtel_trust.specs.Passed.{passed, attempt_from, read_by};
-ghost use Rattle.mmtel_leg.specs.Addresses.{contact_text, via_text};
-ghost use Rattle.mmtel_leg.specs.Lines.{line};
+ghost use Rattle.mmtel_message.specs.Addresses.{contact_text, via_text};
+ghost use Rattle.mmtel_message.specs.Message.{line};
 ghost use Rattle.mmtel_cli.specs.Openings.{trying, hops_left, hops_in, is_hiding, facing, to_text, sender_lines, dialog_lines, attempt_lines, attempt};
 
-use mmtel_leg::{
-    add_bytes, add_decimal, add_line, add_passed, contact_text, request_uri, via_text,
-};
+use mmtel_history::History;
+use mmtel_leg::request_uri;
 use mmtel_lex::{LexFault, List, NameAddr, print_name_addr, read_name_addr};
-use mmtel_message::{Msg, Start, first_of, reply_with};
+use mmtel_message::{
+    Line, Msg, Start, add_bytes, add_decimal, add_line, add_passed, contact_text, first_of,
+    reply_with, via_text,
+};
 use mmtel_scan::{NoMemory, Text, number_up_to, token_text};
-use mmtel_trust::{Addr, Facing, attempt_from, shown, wants};
+use mmtel_trust::{Facing, attempt_from, shown, wants};
+use mmtel_types::Addr;
 use std::alloc::Global;
 
 /// The hops that are left (RFC 3261 §16.6).
@@ -89,19 +92,14 @@ fn to_text(alloc: Global, value: Option<&[u8]>) -> Result<Text, NoMemory>
     }
 }
 
-fn add_via(
-    alloc: Global,
-    out: &mut List<(Text, Text)>,
-    sip: Addr,
-    branch: &[u8],
-) -> Result<(), NoMemory>
+fn add_via(alloc: Global, out: &mut List<Line>, sip: Addr, branch: &[u8]) -> Result<(), NoMemory>
     ensures { OnOk result (out.new ≡ out.old ++ line (codes "Via") (via_text sip branch.now)) }
 {
     let via = via_text(alloc, sip, branch)?;
     add_line(alloc, out, b"Via", via)
 }
 
-fn add_hops(alloc: Global, out: &mut List<(Text, Text)>, invite: &Msg) -> Result<(), NoMemory>
+fn add_hops(alloc: Global, out: &mut List<Line>, invite: &Msg) -> Result<(), NoMemory>
     ensures { OnOk result (out.new ≡ out.old ++ line (codes "Max-Forwards") (decimal (hops_left (heard true invite.now).hops))) }
 {
     add_decimal(
@@ -112,26 +110,21 @@ fn add_hops(alloc: Global, out: &mut List<(Text, Text)>, invite: &Msg) -> Result
     )
 }
 
-fn add_from(
-    alloc: Global,
-    out: &mut List<(Text, Text)>,
-    tag: &[u8],
-    invite: &Msg,
-) -> Result<(), NoMemory>
+fn add_from(alloc: Global, out: &mut List<Line>, tag: &[u8], invite: &Msg) -> Result<(), NoMemory>
     ensures { OnOk result (out.new ≡ out.old ++ line (codes "From") (attempt_from (is_hiding (heard true invite.now).wants) tag.now invite.now.lines)) }
 {
     let from = attempt_from(alloc, invite, is_hiding(invite), tag)?;
     add_line(alloc, out, b"From", from)
 }
 
-fn add_to(alloc: Global, out: &mut List<(Text, Text)>, invite: &Msg) -> Result<(), NoMemory>
+fn add_to(alloc: Global, out: &mut List<Line>, invite: &Msg) -> Result<(), NoMemory>
     ensures { OnOk result (out.new ≡ out.old ++ line (codes "To") (to_text (read_by (heard true invite.now).to))) }
 {
     let to = to_text(alloc, to_value(invite))?;
     add_line(alloc, out, b"To", to)
 }
 
-fn add_contact(alloc: Global, out: &mut List<(Text, Text)>, sip: Addr) -> Result<(), NoMemory>
+fn add_contact(alloc: Global, out: &mut List<Line>, sip: Addr) -> Result<(), NoMemory>
     ensures { OnOk result (out.new ≡ out.old ++ line (codes "Contact") (contact_text sip)) }
 {
     let contact = contact_text(alloc, sip)?;
@@ -141,7 +134,7 @@ fn add_contact(alloc: Global, out: &mut List<(Text, Text)>, sip: Addr) -> Result
 /// Adds Via, Max-Forwards and From.
 fn add_sender(
     alloc: Global,
-    out: &mut List<(Text, Text)>,
+    out: &mut List<Line>,
     sip: Addr,
     token: &[u8],
     drawn: u64,
@@ -161,7 +154,7 @@ fn add_sender(
 /// Adds To, Call-ID, CSeq and Contact.
 fn add_dialog(
     alloc: Global,
-    out: &mut List<(Text, Text)>,
+    out: &mut List<Line>,
     sip: Addr,
     token: &[u8],
     drawn: u64,
@@ -181,7 +174,7 @@ fn add_dialog(
 /// Adds the lines that the header table passes on towards a peer of this trust.
 fn add_shown(
     alloc: Global,
-    out: &mut List<(Text, Text)>,
+    out: &mut List<Line>,
     to_trusted: bool,
     invite: &Msg,
 ) -> Result<(), NoMemory>
@@ -191,8 +184,10 @@ fn add_shown(
         from_trusted: true,
         restricted: is_hiding(invite),
         present: true,
+        mask_all: wants(invite).history,
     };
-    let lines = shown(alloc, invite, &facing, to_trusted)?;
+    let history = History::new(alloc);
+    let lines = shown(alloc, invite, &history, &facing, to_trusted)?;
     add_passed(alloc, out, lines.items())?;
     Ok(())
 }
@@ -205,7 +200,7 @@ fn attempt_lines(
     drawn: u64,
     to_trusted: bool,
     invite: &Msg,
-) -> Result<List<(Text, Text)>, NoMemory>
+) -> Result<List<Line>, NoMemory>
     requires { drawn + 4 < 2 ^ 64 }
     ensures { IfOk result (λ ls. ls ≡ attempt_lines sip token.now drawn to_trusted (heard true invite.now)) }
 {

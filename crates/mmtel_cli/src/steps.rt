@@ -18,8 +18,8 @@ use mmtel_message::{Msg, ReadFault, Start, read};
 use mmtel_outside::{Event, Offer};
 use mmtel_scan::{List, NoMemory, Text};
 use mmtel_script::ScriptLink;
-use mmtel_trust::{Addr, PeerTable};
-use mmtel_types::Peer;
+use mmtel_trust::PeerTable;
+use mmtel_types::{Addr, Peer};
 use std::alloc::Global;
 
 /// How far a run has come: what is kept of its history.

@@ -43,7 +43,7 @@ pub enum Mode {
 
 /// What a word is.
 #[derive(Clone, Copy, Debug, PartialEq, Eq)]
-pub enum Kind {
+pub enum WordKind {
     /// A positional word.
     Positional,
     /// `--`, which makes all later words positional.
@@ -80,74 +80,74 @@ fn is_token(word: &[u8]) -> bool
 }
 
 /// What a word is behind `--token`.
-fn kind_of_value(word: &[u8]) -> Kind
+fn kind_of_value(word: &[u8]) -> WordKind
     ensures exact { result ≡ kind_of_value word.now }
 {
     if is_token(word) {
-        Kind::Value
+        WordKind::Value
     } else {
-        Kind::Wrong
+        WordKind::Wrong
     }
 }
 
 /// What a word is that begins with `--token=`, by what follows.
-fn kind_of_joined(value: &[u8]) -> Kind
+fn kind_of_joined(value: &[u8]) -> WordKind
     ensures exact { result ≡ kind_of_joined value.now }
 {
     if is_token(value) {
-        Kind::Joined
+        WordKind::Joined
     } else {
-        Kind::Wrong
+        WordKind::Wrong
     }
 }
 
 /// What a word is that is neither `--` nor `--token`, by what follows its `--token=`.
-fn kind_of_other(value: Option<&[u8]>, word: &[u8]) -> Kind
+fn kind_of_other(value: Option<&[u8]>, word: &[u8]) -> WordKind
     ensures exact { result ≡ kind_of_other (option_copied value.entry) word.now }
 {
     match value {
         Some(value) => kind_of_joined(value),
         None => {
             if word == b"-".as_slice() || !word.starts_with(b"-".as_slice()) {
-                Kind::Positional
+                WordKind::Positional
             } else {
-                Kind::Wrong
+                WordKind::Wrong
             }
         }
     }
 }
 
 /// What a word is where options may stand.
-fn kind_of_word(word: &[u8]) -> Kind
+fn kind_of_word(word: &[u8]) -> WordKind
     ensures exact { result ≡ kind_of_word word.now }
 {
     if word == b"--".as_slice() {
-        Kind::Mark
+        WordKind::Mark
     } else if word == b"--token".as_slice() {
-        Kind::Name
+        WordKind::Name
     } else {
         kind_of_other(skip_text(b"--token=", word), word)
     }
 }
 
 /// What a word is.
-fn kind_of(mode: Mode, word: &[u8]) -> Kind
+fn kind_of(mode: Mode, word: &[u8]) -> WordKind
     ensures exact { result ≡ kind_of mode word.now }
 {
     match mode {
         Mode::Options => kind_of_word(word),
         Mode::Value => kind_of_value(word),
-        Mode::Plain => Kind::Positional,
+        Mode::Plain => WordKind::Positional,
     }
 }
 
 /// How the word after it is read.
-fn mode_after(mode: Mode, kind: Kind) -> Mode
+fn mode_after(mode: Mode, kind: WordKind) -> Mode
     ensures exact { result ≡ mode_after mode kind }
 {
     match (mode, kind) {
-        (Mode::Plain, _) | (_, Kind::Mark) => Mode::Plain,
-        (_, Kind::Name) => Mode::Value,
+        (Mode::Plain, _) | (_, WordKind::Mark) => Mode::Plain,
+        (_, WordKind::Name) => Mode::Value,
         _ => Mode::Options,
     }
 }
@@ -155,14 +155,14 @@ fn mode_after(mode: Mode, kind: Kind) -> Mode
 /// The positional words with this word, where it is one; None where there are more than two.
 fn with_positional<'a>(
     found: Positionals<'a>,
-    kind: Kind,
+    kind: WordKind,
     word: &'a [u8],
 ) -> Option<Positionals<'a>>
     ensures added { MatchOption result
         (2 < length (positionals_of found.entry ++ with_positional kind word.now []))
         (λ next. positionals_of next ≡ positionals_of found.entry ++ with_positional kind word.now []) }
 {
-    if kind != Kind::Positional {
+    if kind != WordKind::Positional {
         return Some(found);
     }
     match found {
@@ -173,12 +173,12 @@ fn with_positional<'a>(
 }
 
 /// The token that a word gives.
-fn value_of<'a>(kind: Kind, word: &'a [u8]) -> Option<&'a [u8]>
+fn value_of<'a>(kind: WordKind, word: &'a [u8]) -> Option<&'a [u8]>
     ensures exact { option_copied result ≡ value_of kind word.now }
 {
     match kind {
-        Kind::Value => Some(word),
-        Kind::Joined => skip_text(b"--token=", word),
+        WordKind::Value => Some(word),
+        WordKind::Joined => skip_text(b"--token=", word),
         _ => None,
     }
 }
@@ -223,7 +223,7 @@ fn replay_of_rest(words: &[Text]) -> Option<Replay<'_>>
     for word in words {
         let word = word.bytes();
         let kind = kind_of(mode, word);
-        if kind == Kind::Wrong {
+        if kind == WordKind::Wrong {
             return None;
         }
         found = with_positional(found, kind, word)?;

@@ -31,6 +31,7 @@ use Rattle.mmtel_message.specs.declared.fields.Via.{Via}
 use Rattle.mmtel_message.specs.declared.messages.Start.{Start}
 use Rattle.mmtel_message.specs.declared.messages.Start.TheVariants.{Request}
 use Rattle.mmtel_message.specs.declared.values.Mode.TheVariants.{Plain}
+use Rattle.mmtel_lex.specs.UriPlaces as UriPlaces
 use Rattle.mmtel_history.specs.EntryUri as EntryUri
 use Rattle.mmtel_history.specs.HistoryInfo as History
 use Rattle.mmtel_history.specs.MaskedValues as MaskedValues
@@ -39,7 +40,9 @@ use Rattle.mmtel_trust.specs.Passed as Passed
 use Rattle.mmtel_trust.specs.Mask as Mask
 use Rattle.mmtel_directory.specs.Directory as Directory
 use Rattle.mmtel_cli.specs.Forms as Forms
-use Rattle.mmtel_leg.specs.Lines as HeaderLines
+use Rattle.mmtel_message.specs.Message as Messages
+use Rattle.mmtel_message.specs.Replies as Replies
+use Rattle.mmtel_message.specs.Responses as Responses
 use Rattle.mmtel_cli.specs.Run as Run
 use Rattle.mmtel_script.specs.Script as Script
 use Rattle.mmtel_directory.specs.declared.directories.Directory.{Directory}
@@ -49,7 +52,7 @@ use Rattle.mmtel_cli.specs.Due.{due_of_directory, due_of_events}
 use Rattle.mmtel_script.specs.Listing.{listing_of}
 use Rattle.mmtel_cli.specs.Run.{Unbuilt, Came, gives, digest_read, offers_of}
 use Rattle.mmtel_script.specs.Script.{events_of}
-use Rattle.mmtel_cli.specs.declared.due.Due.TheVariants.{Line as BadLine, File, Listing}
+use Rattle.mmtel_cli.specs.declared.reports.Report.TheVariants.{Line as BadLine, File, Listing}
 use Rattle.mmtel_outside.specs.declared.events.Event.TheVariants.{Datagram}
 use Rattle.mmtel_cli_rows.specs.Rows.{server, configuration, token, peer, at_port, script, invite, bob, private, of_erin, of_frank, tried, attempted, unbuilt, listed, listed_after, due_for, RestrictedInvite, AnotherCaller, MasksAlike, HidesHistory, FewerHops, ComeOutOtherwise, AreRefused}
 use Rattle.mmtel_cli_rows.proofs.Stages.{one_part, Stages, reads_by_stages}
@@ -196,7 +199,7 @@ unfolding Classes.in_class Numbers.within Numbers.number_of Scanning.parted Scri
 events_erin = refl
 
 listed_erin : listed of_erin ≡ tried (codes "Erin") (codes "erin") ++ attempted (codes "67")
-unfolding Fmt.digits Classes.in_class Numbers.within Numbers.number_of Scanning.run Scanning.after_run Scanning.parted Scanning.closes Scanning.trimmed Reading.token_at Reading.text_at Reading.value_at Reading.param_at Reading.params_at Reading.all_params_at Reading.user_at Reading.host_at Reading.port_number Reading.port_at Reading.headers_of Reading.headers_at Reading.sip_of Reading.scheme_of Reading.uri_of Reading.angle_of Reading.bare_of Reading.words_of Reading.quoted_of Reading.name_addr_of Fields.via_at Values.parts Kinds.kind_of Passed.is_shown Forms.after_form Forms.is_via_from Forms.is_sip_uri Forms.is_sip_name Forms.is_untagged Forms.is_first_form HeaderLines.line Run.target_of Run.offers_of
+unfolding Fmt.digits Classes.in_class Numbers.within Numbers.number_of Scanning.run Scanning.after_run Scanning.parted Scanning.closes Scanning.trimmed Reading.token_at Reading.text_at Reading.value_at Reading.param_at Reading.params_at Reading.all_params_at Reading.user_at Reading.host_at Reading.port_number Reading.port_at Reading.headers_of Reading.headers_at Reading.sip_of Reading.scheme_of Reading.uri_of Reading.angle_of Reading.bare_of Reading.words_of Reading.quoted_of Reading.name_addr_of Fields.via_at Values.parts Kinds.kind_of Passed.is_shown Forms.after_form Forms.is_via_from Forms.is_sip_uri Forms.is_sip_name Forms.is_untagged Forms.is_first_form Messages.line Replies.reply_with Responses.response Responses.heard_lines Responses.added_lines Responses.via_lines Responses.party_lines Responses.call_lines Responses.route_lines Responses.contact_lines Responses.own_lines Run.target_of Run.offers_of
 listed_erin = refl
 
 -- ---- of frank
@@ -263,7 +266,7 @@ unfolding Classes.in_class Numbers.within Numbers.number_of Scanning.parted Scri
 events_frank = refl
 
 listed_frank : listed of_frank ≡ tried (codes "Frank") (codes "frank") ++ attempted (codes "67")
-unfolding Fmt.digits Classes.in_class Numbers.within Numbers.number_of Scanning.run Scanning.after_run Scanning.parted Scanning.closes Scanning.trimmed Reading.token_at Reading.text_at Reading.value_at Reading.param_at Reading.params_at Reading.all_params_at Reading.user_at Reading.host_at Reading.port_number Reading.port_at Reading.headers_of Reading.headers_at Reading.sip_of Reading.scheme_of Reading.uri_of Reading.angle_of Reading.bare_of Reading.words_of Reading.quoted_of Reading.name_addr_of Fields.via_at Values.parts Kinds.kind_of Passed.is_shown Forms.after_form Forms.is_via_from Forms.is_sip_uri Forms.is_sip_name Forms.is_untagged Forms.is_first_form HeaderLines.line Run.target_of Run.offers_of
+unfolding Fmt.digits Classes.in_class Numbers.within Numbers.number_of Scanning.run Scanning.after_run Scanning.parted Scanning.closes Scanning.trimmed Reading.token_at Reading.text_at Reading.value_at Reading.param_at Reading.params_at Reading.all_params_at Reading.user_at Reading.host_at Reading.port_number Reading.port_at Reading.headers_of Reading.headers_at Reading.sip_of Reading.scheme_of Reading.uri_of Reading.angle_of Reading.bare_of Reading.words_of Reading.quoted_of Reading.name_addr_of Fields.via_at Values.parts Kinds.kind_of Passed.is_shown Forms.after_form Forms.is_via_from Forms.is_sip_uri Forms.is_sip_name Forms.is_untagged Forms.is_first_form Messages.line Replies.reply_with Responses.response Responses.heard_lines Responses.added_lines Responses.via_lines Responses.party_lines Responses.call_lines Responses.route_lines Responses.contact_lines Responses.own_lines Run.target_of Run.offers_of
 listed_frank = refl
 
 -- ---- the rows
@@ -287,31 +290,31 @@ unfolding Classes.in_class Numbers.within Numbers.number_of Scanning.run Scannin
 masks_alike = refl
 
 pub hides_history : HidesHistory
-unfolding Fmt.digits Scanning.closes Mask.masked_line Kinds.kind_of Mask.hidden Mask.hidden_value Mask.served_value MaskedValues.masked_value_text MaskedValues.is_marked_value History.entry_of Entries.is_dotted History.shown_uri History.entry_text EntryUri.user_part EntryUri.host_part EntryUri.cause_number EntryUri.cause_of EntryUri.hides EntryUri.is_marked EntryUri.with_cause Numbers.number_of Numbers.within Values.parts Values.parting Reading.name_addr_of Reading.words_of Reading.quoted_of Reading.angle_of Reading.bare_of Reading.all_params_at Reading.params_at Reading.param_at Reading.token_at Reading.value_at Reading.text_at Reading.user_at Reading.host_at Reading.port_number Reading.port_at Reading.headers_of Reading.headers_at Reading.sip_of Reading.scheme_of Reading.number_at Reading.tel_of Reading.uri_of Classes.in_class Scanning.run Scanning.after_run Scanning.trimmed Scanning.parted
+unfolding Fmt.digits Scanning.closes Mask.masked_line Kinds.kind_of Mask.hidden Mask.hidden_value Mask.served_value MaskedValues.masked_value_text MaskedValues.is_marked_value History.entry_of Entries.is_dotted History.shown_uri History.entry_text UriPlaces.user_part UriPlaces.host_part EntryUri.cause_number EntryUri.cause_of EntryUri.hides EntryUri.is_marked EntryUri.with_cause Numbers.number_of Numbers.within Values.parts Values.parting Reading.name_addr_of Reading.words_of Reading.quoted_of Reading.angle_of Reading.bare_of Reading.all_params_at Reading.params_at Reading.param_at Reading.token_at Reading.value_at Reading.text_at Reading.user_at Reading.host_at Reading.port_number Reading.port_at Reading.headers_of Reading.headers_at Reading.sip_of Reading.scheme_of Reading.number_at Reading.tel_of Reading.uri_of Classes.in_class Scanning.run Scanning.after_run Scanning.trimmed Scanning.parted
 hides_history = refl
 
 pub fewer_hops : FewerHops
-unfolding Fmt.digits Classes.in_class Numbers.within Numbers.number_of Scanning.run Scanning.after_run Scanning.parted Scanning.closes Scanning.trimmed Reading.token_at Reading.text_at Reading.value_at Reading.param_at Reading.params_at Reading.all_params_at Reading.user_at Reading.host_at Reading.port_number Reading.port_at Reading.headers_of Reading.headers_at Reading.sip_of Reading.scheme_of Reading.uri_of Reading.angle_of Reading.bare_of Reading.words_of Reading.quoted_of Reading.name_addr_of Fields.via_at Values.parts Kinds.kind_of Passed.is_shown Forms.after_form Forms.is_via_from Forms.is_sip_uri Forms.is_sip_name Forms.is_untagged Forms.is_first_form HeaderLines.line Run.target_of Run.offers_of
+unfolding Fmt.digits Classes.in_class Numbers.within Numbers.number_of Scanning.run Scanning.after_run Scanning.parted Scanning.closes Scanning.trimmed Reading.token_at Reading.text_at Reading.value_at Reading.param_at Reading.params_at Reading.all_params_at Reading.user_at Reading.host_at Reading.port_number Reading.port_at Reading.headers_of Reading.headers_at Reading.sip_of Reading.scheme_of Reading.uri_of Reading.angle_of Reading.bare_of Reading.words_of Reading.quoted_of Reading.name_addr_of Fields.via_at Values.parts Kinds.kind_of Passed.is_shown Forms.after_form Forms.is_via_from Forms.is_sip_uri Forms.is_sip_name Forms.is_untagged Forms.is_first_form Messages.line Replies.reply_with Responses.response Responses.heard_lines Responses.added_lines Responses.via_lines Responses.party_lines Responses.call_lines Responses.route_lines Responses.contact_lines Responses.own_lines Run.target_of Run.offers_of
 fewer_hops = refl
 
 unrestricted : listed (invite bob (codes "68") (codes "Erin") (codes "erin") []) ≡ unbuilt
-unfolding Fmt.digits Classes.in_class Numbers.within Numbers.number_of Scanning.run Scanning.after_run Scanning.parted Scanning.closes Scanning.trimmed Reading.token_at Reading.text_at Reading.value_at Reading.param_at Reading.params_at Reading.all_params_at Reading.user_at Reading.host_at Reading.port_number Reading.port_at Reading.headers_of Reading.headers_at Reading.sip_of Reading.scheme_of Reading.uri_of Reading.angle_of Reading.bare_of Reading.words_of Reading.quoted_of Reading.name_addr_of Fields.via_at Values.parts Kinds.kind_of Passed.is_shown Forms.after_form Forms.is_via_from Forms.is_sip_uri Forms.is_sip_name Forms.is_untagged Forms.is_first_form HeaderLines.line Run.target_of Run.offers_of
+unfolding Fmt.digits Classes.in_class Numbers.within Numbers.number_of Scanning.run Scanning.after_run Scanning.parted Scanning.closes Scanning.trimmed Reading.token_at Reading.text_at Reading.value_at Reading.param_at Reading.params_at Reading.all_params_at Reading.user_at Reading.host_at Reading.port_number Reading.port_at Reading.headers_of Reading.headers_at Reading.sip_of Reading.scheme_of Reading.uri_of Reading.angle_of Reading.bare_of Reading.words_of Reading.quoted_of Reading.name_addr_of Fields.via_at Values.parts Kinds.kind_of Passed.is_shown Forms.after_form Forms.is_via_from Forms.is_sip_uri Forms.is_sip_name Forms.is_untagged Forms.is_first_form Messages.line Replies.reply_with Responses.response Responses.heard_lines Responses.added_lines Responses.via_lines Responses.party_lines Responses.call_lines Responses.route_lines Responses.contact_lines Responses.own_lines Run.target_of Run.offers_of
 unrestricted = refl
 
 diverted_before : listed (invite bob (codes "68") (codes "Erin") (codes "erin") ((codes "Privacy", codes "id") ∷ (codes "History-Info", codes "<sip:carol@other.example>;index=1") ∷ [])) ≡ unbuilt
-unfolding Fmt.digits Classes.in_class Numbers.within Numbers.number_of Scanning.run Scanning.after_run Scanning.parted Scanning.closes Scanning.trimmed Reading.token_at Reading.text_at Reading.value_at Reading.param_at Reading.params_at Reading.all_params_at Reading.user_at Reading.host_at Reading.port_number Reading.port_at Reading.headers_of Reading.headers_at Reading.sip_of Reading.scheme_of Reading.uri_of Reading.angle_of Reading.bare_of Reading.words_of Reading.quoted_of Reading.name_addr_of Fields.via_at Values.parts Kinds.kind_of Passed.is_shown Forms.after_form Forms.is_via_from Forms.is_sip_uri Forms.is_sip_name Forms.is_untagged Forms.is_first_form HeaderLines.line Run.target_of Run.offers_of
+unfolding Fmt.digits Classes.in_class Numbers.within Numbers.number_of Scanning.run Scanning.after_run Scanning.parted Scanning.closes Scanning.trimmed Reading.token_at Reading.text_at Reading.value_at Reading.param_at Reading.params_at Reading.all_params_at Reading.user_at Reading.host_at Reading.port_number Reading.port_at Reading.headers_of Reading.headers_at Reading.sip_of Reading.scheme_of Reading.uri_of Reading.angle_of Reading.bare_of Reading.words_of Reading.quoted_of Reading.name_addr_of Fields.via_at Values.parts Kinds.kind_of Passed.is_shown Forms.after_form Forms.is_via_from Forms.is_sip_uri Forms.is_sip_name Forms.is_untagged Forms.is_first_form Messages.line Replies.reply_with Responses.response Responses.heard_lines Responses.added_lines Responses.via_lines Responses.party_lines Responses.call_lines Responses.route_lines Responses.contact_lines Responses.own_lines Run.target_of Run.offers_of
 diverted_before = refl
 
 hopless : listed (invite bob (codes "0") (codes "Erin") (codes "erin") private) ≡ unbuilt
-unfolding Fmt.digits Classes.in_class Numbers.within Numbers.number_of Scanning.run Scanning.after_run Scanning.parted Scanning.closes Scanning.trimmed Reading.token_at Reading.text_at Reading.value_at Reading.param_at Reading.params_at Reading.all_params_at Reading.user_at Reading.host_at Reading.port_number Reading.port_at Reading.headers_of Reading.headers_at Reading.sip_of Reading.scheme_of Reading.uri_of Reading.angle_of Reading.bare_of Reading.words_of Reading.quoted_of Reading.name_addr_of Fields.via_at Values.parts Kinds.kind_of Passed.is_shown Forms.after_form Forms.is_via_from Forms.is_sip_uri Forms.is_sip_name Forms.is_untagged Forms.is_first_form HeaderLines.line Run.target_of Run.offers_of
+unfolding Fmt.digits Classes.in_class Numbers.within Numbers.number_of Scanning.run Scanning.after_run Scanning.parted Scanning.closes Scanning.trimmed Reading.token_at Reading.text_at Reading.value_at Reading.param_at Reading.params_at Reading.all_params_at Reading.user_at Reading.host_at Reading.port_number Reading.port_at Reading.headers_of Reading.headers_at Reading.sip_of Reading.scheme_of Reading.uri_of Reading.angle_of Reading.bare_of Reading.words_of Reading.quoted_of Reading.name_addr_of Fields.via_at Values.parts Kinds.kind_of Passed.is_shown Forms.after_form Forms.is_via_from Forms.is_sip_uri Forms.is_sip_name Forms.is_untagged Forms.is_first_form Messages.line Replies.reply_with Responses.response Responses.heard_lines Responses.added_lines Responses.via_lines Responses.party_lines Responses.call_lines Responses.route_lines Responses.contact_lines Responses.own_lines Run.target_of Run.offers_of
 hopless = refl
 
 unrouted : listed (invite (codes "sip:bob@nowhere.example") (codes "68") (codes "Erin") (codes "erin") private) ≡ unbuilt
-unfolding Fmt.digits Classes.in_class Numbers.within Numbers.number_of Scanning.run Scanning.after_run Scanning.parted Scanning.closes Scanning.trimmed Reading.token_at Reading.text_at Reading.value_at Reading.param_at Reading.params_at Reading.all_params_at Reading.user_at Reading.host_at Reading.port_number Reading.port_at Reading.headers_of Reading.headers_at Reading.sip_of Reading.scheme_of Reading.uri_of Reading.angle_of Reading.bare_of Reading.words_of Reading.quoted_of Reading.name_addr_of Fields.via_at Values.parts Kinds.kind_of Passed.is_shown Forms.after_form Forms.is_via_from Forms.is_sip_uri Forms.is_sip_name Forms.is_untagged Forms.is_first_form HeaderLines.line Run.target_of Run.offers_of
+unfolding Fmt.digits Classes.in_class Numbers.within Numbers.number_of Scanning.run Scanning.after_run Scanning.parted Scanning.closes Scanning.trimmed Reading.token_at Reading.text_at Reading.value_at Reading.param_at Reading.params_at Reading.all_params_at Reading.user_at Reading.host_at Reading.port_number Reading.port_at Reading.headers_of Reading.headers_at Reading.sip_of Reading.scheme_of Reading.uri_of Reading.angle_of Reading.bare_of Reading.words_of Reading.quoted_of Reading.name_addr_of Fields.via_at Values.parts Kinds.kind_of Passed.is_shown Forms.after_form Forms.is_via_from Forms.is_sip_uri Forms.is_sip_name Forms.is_untagged Forms.is_first_form Messages.line Replies.reply_with Responses.response Responses.heard_lines Responses.added_lines Responses.via_lines Responses.party_lines Responses.call_lines Responses.route_lines Responses.contact_lines Responses.own_lines Run.target_of Run.offers_of
 unrouted = refl
 
 second : listed_after (Came 0 Unbuilt ∷ []) of_erin ≡ unbuilt
-unfolding Fmt.digits Classes.in_class Numbers.within Numbers.number_of Scanning.run Scanning.after_run Scanning.parted Scanning.closes Scanning.trimmed Reading.token_at Reading.text_at Reading.value_at Reading.param_at Reading.params_at Reading.all_params_at Reading.user_at Reading.host_at Reading.port_number Reading.port_at Reading.headers_of Reading.headers_at Reading.sip_of Reading.scheme_of Reading.uri_of Reading.angle_of Reading.bare_of Reading.words_of Reading.quoted_of Reading.name_addr_of Fields.via_at Values.parts Kinds.kind_of Passed.is_shown Forms.after_form Forms.is_via_from Forms.is_sip_uri Forms.is_sip_name Forms.is_untagged Forms.is_first_form HeaderLines.line Run.target_of Run.offers_of
+unfolding Fmt.digits Classes.in_class Numbers.within Numbers.number_of Scanning.run Scanning.after_run Scanning.parted Scanning.closes Scanning.trimmed Reading.token_at Reading.text_at Reading.value_at Reading.param_at Reading.params_at Reading.all_params_at Reading.user_at Reading.host_at Reading.port_number Reading.port_at Reading.headers_of Reading.headers_at Reading.sip_of Reading.scheme_of Reading.uri_of Reading.angle_of Reading.bare_of Reading.words_of Reading.quoted_of Reading.name_addr_of Fields.via_at Values.parts Kinds.kind_of Passed.is_shown Forms.after_form Forms.is_via_from Forms.is_sip_uri Forms.is_sip_name Forms.is_untagged Forms.is_first_form Messages.line Replies.reply_with Responses.response Responses.heard_lines Responses.added_lines Responses.via_lines Responses.party_lines Responses.call_lines Responses.route_lines Responses.contact_lines Responses.own_lines Run.target_of Run.offers_of
 second = refl
 
 untrusted : listing_of (gives server token (Datagram (at_port 5072) 0 (message_text of_erin) ∷ [])) ≡ unbuilt

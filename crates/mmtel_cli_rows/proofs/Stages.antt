@@ -7,7 +7,7 @@ use Rattle.mmtel_message.specs.Headers.{header_line}
 use Rattle.mmtel_message.specs.Starts.{start_at}
 use Rattle.mmtel_message.specs.Fields.{five_at}
 use Rattle.mmtel_message.specs.Faults.{first_fault}
-use Rattle.mmtel_message.specs.Message.{Message}
+use Rattle.mmtel_message.specs.Message.{Line, Message}
 use Rattle.mmtel_message.specs.Reads.{reads, limit, most_lines, message_of}
 use Rattle.mmtel_message.specs.Texts.{message_text, start_text}
 use Rattle.mmtel_message.specs.Values.{parting, parts, is_parting, mode_after}
@@ -15,7 +15,6 @@ use Rattle.mmtel_message.specs.declared.fields.Five.{Five}
 use Rattle.mmtel_message.specs.declared.lines.Break.TheVariants.{Head}
 use Rattle.mmtel_message.specs.declared.messages.Start.{Start}
 use Rattle.mmtel_message.specs.declared.values.Mode.{Mode}
-use Rattle.mmtel_trust.specs.Privacy.{Line}
 
 unmapped : (o : Option ℕ) → option_map (λ n. n + 1) o ≡ None → o ≡ None
 unmapped None e = refl

@@ -1,20 +1,19 @@
 -- Worked rows, which compute from the definitions: a restricted INVITE towards a peer that is not trusted (RFC 3323 §4.1, RFC 3325 §7), the same INVITE of another caller, and inputs that have to come out otherwise.
 use Rattle.std.specs.Prelude.{◌≡◌, ℕ, List, [], ◌∷◌, ◌++◌, codes, true, false, Option, Some, None, Ok}
 use Rattle.mmtel_types.specs.declared.numbers.Peer.{Peer}
-use Rattle.mmtel_message.specs.Message.{Message}
+use Rattle.mmtel_message.specs.Message.{Line, Message}
 use Rattle.mmtel_message.specs.Texts.{message_text}
 use Rattle.mmtel_message.specs.declared.messages.Start.{Start}
 use Rattle.mmtel_message.specs.declared.messages.Start.TheVariants.{Request}
 use Rattle.mmtel_trust.specs.Digest.{heard}
-use Rattle.mmtel_trust.specs.Privacy.{Line}
-use Rattle.mmtel_trust.specs.declared.addrs.Addr.{Addr}
+use Rattle.mmtel_types.specs.declared.addrs.Addr.{Addr}
 use Rattle.mmtel_cli.specs.Due.{due_of}
 use Rattle.mmtel_script.specs.Listing.{listing_of}
-use Rattle.mmtel_cli.specs.Mask.{hide_said, hide_digest}
+use Rattle.mmtel_cli.specs.Mask.{mask_said, mask_digest}
 use Rattle.mmtel_cli.specs.Run.{Said, Unbuilt, Step, Came, digest_read, gives, offers_of}
 use Rattle.mmtel_directory.specs.declared.directories.Directory.{Directory}
-use Rattle.mmtel_cli.specs.declared.due.Due.{Due}
-use Rattle.mmtel_cli.specs.declared.due.Due.TheVariants.{Line as BadLine, File, Listing}
+use Rattle.mmtel_cli.specs.declared.reports.Report.{Report}
+use Rattle.mmtel_cli.specs.declared.reports.Report.TheVariants.{Line as BadLine, File, Listing}
 use Rattle.mmtel_outside.specs.declared.events.Event.TheVariants.{Datagram}
 
 -- ---- the server
@@ -34,11 +33,17 @@ server = record {
     known = record { peer = peer 1; addr = at_port 5071; trusted = true } ∷ record { peer = peer 2; addr = at_port 5072; trusted = false } ∷ [];
     routes = record { name = codes "home.example"; peer = peer 1 } ∷ record { name = codes "far.example"; peer = peer 2 } ∷ [];
   };
+  web = at_port 8080;
+  names = record { accounts = []; operator = None };
+  factory = None;
+  bound = 5;
+  mixer = record { ip = 127 ∷ 0 ∷ 0 ∷ 1 ∷ []; port = 40000 };
+  store = codes ":memory:";
 }
 
--- its configuration, with lines of kinds that are passed over
+-- its configuration
 abbrev pub configuration : List ℕ
-configuration = codes "sip 127.0.0.1:5060\nweb 127.0.0.1:8080\nhome home.example\npeer 1 127.0.0.1:5071 trusted\npeer 2 127.0.0.1:5072 untrusted\nroute home.example 1\nroute far.example 2\naccount 1 sip:alice@home.example tel:+4930111\n"
+configuration = codes "sip 127.0.0.1:5060\nweb 127.0.0.1:8080\nhome home.example\npeer 1 127.0.0.1:5071 trusted\npeer 2 127.0.0.1:5072 untrusted\nroute home.example 1\nroute far.example 2\n"
 
 abbrev pub token : List ℕ
 token = codes "0123456789abcdef"
@@ -108,7 +113,7 @@ listed m = listed_after [] m
 -- ---- the rows
 
 -- what is due where the files give this for CONFIG and that for SCRIPT
-abbrev pub due_for : Option (List ℕ) → Option (List ℕ) → Due
+abbrev pub due_for : Option (List ℕ) → Option (List ℕ) → Report
 due_for config said = due_of (Some (record { config = codes "server.cfg"; script = codes "run.script"; token = token })) config said
 
 -- erin asks for privacy, and then frank in her place: what peer 2 is sent is the same
@@ -120,7 +125,7 @@ AnotherCaller = due_for (Some configuration) (Some (script (codes "Frank") (code
 
 -- the two differ in private places alone
 abbrev pub MasksAlike : Type 0
-MasksAlike = hide_digest server (Said (peer 1) (heard true of_erin)) ≡ hide_digest server (Said (peer 1) (heard true of_frank))
+MasksAlike = mask_digest server (Said (peer 1) (heard true of_erin)) ≡ mask_digest server (Said (peer 1) (heard true of_frank))
 
 -- an INVITE that asks for no more than that its history be hidden, with an entry of this URI
 abbrev pub diverted : (uri : List ℕ) → Message Start
@@ -138,7 +143,7 @@ diverted uri = record {
 
 -- the entry is its one private place: nobody's URI stands there, with the cause, and Subject and asserted identity stay
 abbrev pub HidesHistory : Type 0
-HidesHistory = (hide_said true (heard true (diverted (codes "sip:carol@other.example;cause=302")))).lines ≡ (diverted (codes "sip:anonymous@anonymous.invalid;cause=302")).lines
+HidesHistory = (mask_said true (heard true (diverted (codes "sip:carol@other.example;cause=302")))).message.lines ≡ (diverted (codes "sip:anonymous@anonymous.invalid;cause=302")).lines
 
 -- hops are no private place
 abbrev pub FewerHops : Type 0

@@ -1,26 +1,39 @@
 -- A draft that is gathered line by line gives the directory of what the lines say.
-use Rattle.std.proofs.Common.{◌≡◌, ◌==◌, Bool, true, false, is_none, cond, ℕ, suc, ◌+◌, List, [], ◌∷◌, ◌++◌, length, Option, Some, None, refl, ap, sym, ◌∙◌, arith, add-zero}
+use Rattle.std.proofs.Common.{◌≡◌, ◌==◌, Bool, true, false, is_none, cond, ℕ, suc, ◌+◌, List, [], ◌∷◌, ◌++◌, length, Option, Some, None, Result, Ok, Err, refl, ap, sym, subst, ◌∙◌, arith, add-zero}
 use Rattle.std.specs.List.{flat_map}
 use Rattle.std.proofs.lemmas.Bool.Decides.{nat_tests}
 use Rattle.std.proofs.lemmas.List.{length-append, append-nil}
 use Rattle.std.proofs.lemmas.Grind.{flat_map-append}
 use Rattle.mmtel_scan.specs.Chain.{◌>>=◌}
-use Rattle.mmtel_trust.specs.Peers.{Peers}
-use Rattle.mmtel_trust.specs.declared.addrs.Addr.{Addr}
+use Rattle.mmtel_types.specs.declared.addrs.Addr.{Addr}
 use Rattle.mmtel_directory.specs.declared.config_lines.Line.{Line}
 use Rattle.mmtel_directory.specs.declared.config_lines.Line.TheVariants as line
-use Rattle.mmtel_directory.specs.declared.directories.Draft.{Draft}
+use Rattle.mmtel_directory.specs.declared.drafts.Draft.{Draft}
 use Rattle.mmtel_directory.specs.Lines.{lines_of, and_then, said_by}
-use Rattle.mmtel_directory.specs.Directory.{line_of, next_said, stands, directory_by, directory_from, directory_of, table_of, sip_in, home_in, route_in}
-use Rattle.mmtel_directory.specs.Drafts.{drafted, step, takes, with_line, finished_by, empty_draft}
-
-abbrev first_of : {A : Type 0} → List A → Option A
-first_of [] = None
-first_of (x ∷ xs) = Some x
+use Rattle.mmtel_directory.specs.Directory.{line_of, next_said, stands, first_of, first_said, directory_by, directory_from, directory_of, table_of}
+use Rattle.mmtel_directory.specs.Directory.{sip_in, web_in, home_in, route_in, account_in, identities_in, operator_in, factory_in, bound_in, mixer_in, store_in}
+use Rattle.mmtel_directory.specs.Directory.{Answers}
+use Rattle.mmtel_directory.specs.Drafts.{Reads, drafted, step, takes, with_line, finished, finished_by, empty_draft}
+use Rattle.mmtel_directory.specs.declared.directories.Directory.{Directory}
+use Rattle.mmtel_directory.specs.declared.directories.DirectoryFault.{DirectoryFault}
+use Rattle.mmtel_directory.specs.declared.directories.DirectoryFault.TheVariants as fault
 
 -- the draft of lines that say so much
 abbrev draft_of : List Line → Draft
-draft_of said = record { sip = first_of (flat_map sip_in said); home = first_of (flat_map home_in said); peers = table_of said; routes = length (flat_map route_in said) }
+draft_of said = record {
+  sip = first_said sip_in said;
+  web = first_said web_in said;
+  home = first_said home_in said;
+  peers = table_of said;
+  routes = length (flat_map route_in said);
+  accounts = flat_map identities_in said;
+  account_lines = length (flat_map account_in said);
+  operator = first_said operator_in said;
+  factory = first_said factory_in said;
+  bound = first_said bound_in said;
+  mixer = first_said mixer_in said;
+  store = first_said store_in said;
+}
 
 -- ---- one line more
 
@@ -34,10 +47,16 @@ none_first (x ∷ xs) = sym (grind (arith, nat_tests))
 takes_is : (said : List Line) (l : Line) → takes (draft_of said) l ≡ stands said l
 takes_is said line.Remark = refl
 takes_is said (line.Sip addr) = none_first (flat_map sip_in said)
+takes_is said (line.Web addr) = none_first (flat_map web_in said)
 takes_is said (line.Home name) = none_first (flat_map home_in said)
 takes_is said (line.Peer peer) = refl
 takes_is said (line.Route route) = refl
-takes_is said line.Further = refl
+takes_is said (line.Account account uris) = refl
+takes_is said (line.Operator uri) = none_first (flat_map operator_in said)
+takes_is said (line.Factory uri) = none_first (flat_map factory_in said)
+takes_is said (line.Bound n) = none_first (flat_map bound_in said)
+takes_is said (line.Mixer mixer) = none_first (flat_map mixer_in said)
+takes_is said (line.Store name) = none_first (flat_map store_in said)
 
 alone_first : {A : Type 0} (xs : List A) (x : A) → (length xs == 0) ≡ true → Some x ≡ first_of (xs ++ x ∷ [])
 alone_first [] x empty = refl
@@ -46,17 +65,23 @@ alone_first (y ∷ xs) x empty = absurd (grind (arith, nat_tests, empty))
 with_line_is : (said : List Line) (l : Line) → stands said l ≡ true → with_line (draft_of said) l ≡ draft_of (said ++ l ∷ [])
 with_line_is said line.Remark ok = simp (one_more, append-nil)
 with_line_is said (line.Sip addr) ok = simp (one_more, append-nil, alone_first (flat_map sip_in said) addr ok)
+with_line_is said (line.Web addr) ok = simp (one_more, append-nil, alone_first (flat_map web_in said) addr ok)
 with_line_is said (line.Home name) ok = simp (one_more, append-nil, alone_first (flat_map home_in said) name ok)
 with_line_is said (line.Peer peer) ok = simp (one_more, append-nil)
 with_line_is said (line.Route route) ok = simp (one_more, append-nil, length-append)
-with_line_is said line.Further ok = simp (one_more, append-nil)
+with_line_is said (line.Account account uris) ok = simp (one_more, append-nil, length-append)
+with_line_is said (line.Operator uri) ok = simp (one_more, append-nil, alone_first (flat_map operator_in said) uri ok)
+with_line_is said (line.Factory uri) ok = simp (one_more, append-nil, alone_first (flat_map factory_in said) uri ok)
+with_line_is said (line.Bound n) ok = simp (one_more, append-nil, alone_first (flat_map bound_in said) n ok)
+with_line_is said (line.Mixer mixer) ok = simp (one_more, append-nil, alone_first (flat_map mixer_in said) mixer ok)
+with_line_is said (line.Store name) ok = simp (one_more, append-nil, alone_first (flat_map store_in said) name ok)
 
 -- ---- the end
 
-finished_is : (last : ℕ) (sips : List Addr) (homes : List (List ℕ)) (peers : Peers) → finished_by last (first_of sips) (first_of homes) peers ≡ directory_by last sips homes peers
-finished_is last [] homes peers = refl
-finished_is last (sip ∷ sips) [] peers = refl
-finished_is last (sip ∷ sips) (home ∷ homes) peers = refl
+finished_is : (last : ℕ) (sip : Option Addr) (home : Option (List ℕ)) (said : List Line) → finished_by last sip home (draft_of said) ≡ directory_by last sip home said
+finished_is last None home said = refl
+finished_is last (Some sip) None said = refl
+finished_is last (Some sip) (Some home) said = refl
 
 -- ---- all lines
 
@@ -76,7 +101,7 @@ over_form number said (Some l) texts all = rw (takes_is said l) (over_line numbe
 
 goes : (number : ℕ) (said : List Line) (texts : List (List ℕ)) → Goes number said texts
 unfolding step
-goes number said [] = rw add-zero (finished_is number (flat_map sip_in said) (flat_map home_in said) (table_of said))
+goes number said [] = rw add-zero (finished_is number (first_said sip_in said) (first_said home_in said) said)
 goes number said (text ∷ texts) =
     let same : number + suc (length texts) ≡ number + 1 + length texts = omega arith in
     rw same (over_form number said (line_of text) texts (λ more. goes (number + 1) more texts))
@@ -87,3 +112,11 @@ unfolding directory_of
 drafted_is text =
     let same : length (lines_of text) + 1 ≡ 1 + length (lines_of text) = omega arith in
     rw same (goes 1 [] (lines_of text))
+
+-- what comes of a text whose lines were read
+pub answers_fault : (text : List ℕ) (e : DirectoryFault) (after : Draft) → Reads (Err e) empty_draft (lines_of text) after → Answers (Err e) (directory_of text)
+answers_fault text (fault.BadLine n) after is = sym (drafted_is text) ∙ is
+answers_fault text fault.NoMemory after is = tt
+
+pub answers_finished : (text : List ℕ) (last : ℕ) (after : Draft) (r : Result Directory DirectoryFault) → Reads (Ok last) empty_draft (lines_of text) after → Answers r (finished last after) → Answers r (directory_of text)
+answers_finished text last after r is answer = subst (λ (due : Result Directory ℕ). Answers r due) (sym is ∙ drafted_is text) answer

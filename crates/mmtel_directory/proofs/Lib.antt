@@ -1,5 +1,2 @@
-pub mod Alike
 pub mod DraftLaws
 pub mod LineLaws
-pub mod Numerals
-pub mod WholeLaws

@@ -1,24 +1,32 @@
 -- Configurations: a format of this project's own. A text of lines, each of one kind, whose words one space parts.
-use Rattle.std.specs.Prelude.{ℕ, Bool, true, false, nat_lt, nat_le, not, ◌&&◌, ◌||◌, ◌==◌, ◌+◌, if◌then◌else◌, List, [], ◌∷◌, length, codes, Option, Some, None, Result, Ok, Err, ◌≡◌}
-use Rattle.std.specs.List.{flat_map, list_all}
+use Rattle.std.specs.Prelude.{ℕ, Bool, true, false, nat_lt, nat_le, not, ◌&&◌, ◌||◌, ◌==◌, ◌+◌, if◌then◌else◌, ◌≡◌}
+use Rattle.std.specs.Prelude.{List, [], ◌∷◌, ◌++◌, length, map, codes, Option, Some, None, unwrap_or, Result, Ok, Err}
+use Rattle.std.specs.List.{flat_map, list_all, list_any}
 use Rattle.std.specs.Str.{bytes_eq}
 use Rattle.mmtel_scan.specs.Chain.{◌>>=◌}
 use Rattle.mmtel_scan.specs.Classes.{in_class}
+use Rattle.mmtel_scan.specs.Numbers.{plain_number}
 use Rattle.mmtel_scan.specs.Scanning.{parted}
 use Rattle.mmtel_scan.specs.declared.classes.Class.TheVariants.{Host}
+use Rattle.mmtel_lex.specs.Reading.{Refusal, uri_of}
+use Rattle.mmtel_lex.specs.declared.values.Uri.{Uri}
+use Rattle.mmtel_sdp.specs.declared.values.Mixer.{Mixer}
+use Rattle.mmtel_types.specs.declared.addrs.Addr.{Addr}
+use Rattle.mmtel_types.specs.declared.numbers.Account.{Account}
 use Rattle.mmtel_types.specs.declared.numbers.Peer.{Peer}
-use Rattle.mmtel_trust.specs.declared.addrs.Addr.{Addr}
+use Rattle.mmtel_trust.specs.Accounts.{has_identity}
+use Rattle.mmtel_trust.specs.declared.accounts.AccountIdentity.{AccountIdentity}
 use Rattle.mmtel_trust.specs.declared.parties.KnownPeer.{KnownPeer}
 use Rattle.mmtel_trust.specs.declared.parties.Route.{Route}
 use Rattle.mmtel_trust.specs.Peers.{Peers, has_number, has_addr, has_name, is_prefix}
 use Rattle.mmtel_directory.specs.declared.directories.Directory.{Directory}
 use Rattle.mmtel_directory.specs.declared.directories.DirectoryFault.{DirectoryFault}
 use Rattle.mmtel_directory.specs.declared.directories.DirectoryFault.TheVariants.{BadLine, NoMemory}
-use Rattle.mmtel_directory.specs.declared.config_lines.Kind.{Kind}
-use Rattle.mmtel_directory.specs.declared.config_lines.Kind.TheVariants as kind
+use Rattle.mmtel_directory.specs.declared.config_lines.LineKind.{LineKind}
+use Rattle.mmtel_directory.specs.declared.config_lines.LineKind.TheVariants as kind
 use Rattle.mmtel_directory.specs.declared.config_lines.Line.{Line}
 use Rattle.mmtel_directory.specs.declared.config_lines.Line.TheVariants as line
-use Rattle.mmtel_directory.specs.Lines.{lines_of, is_remark, plain_number, number_from, said_by}
+use Rattle.mmtel_directory.specs.Lines.{lines_of, words_of, is_remark, number_from, said_by}
 
 -- ---- addresses
 
@@ -42,21 +50,24 @@ addr_of s = do
   port ← number_from 1 65535 x.1
   Some (record { ip = ip; port = port })
 
--- ---- the lines that are read, by their first word
+-- ---- the kinds of lines, by their first word
 
--- a kind of line that this server passes over unread so far
-abbrev pub is_further : List ℕ → Bool
-is_further word =
-    bytes_eq word (codes "web") || bytes_eq word (codes "account") || bytes_eq word (codes "operator") || bytes_eq word (codes "factory") || bytes_eq word (codes "bound") || bytes_eq word (codes "mixer") || bytes_eq word (codes "store")
-
-abbrev pub kind_of : List ℕ → Option Kind
+abbrev pub kind_of : List ℕ → Option LineKind
 kind_of word =
     if bytes_eq word (codes "sip") then Some kind.Sip
+    else if bytes_eq word (codes "web") then Some kind.Web
     else if bytes_eq word (codes "home") then Some kind.Home
     else if bytes_eq word (codes "peer") then Some kind.Peer
     else if bytes_eq word (codes "route") then Some kind.Route
-    else if is_further word then Some kind.Further
+    else if bytes_eq word (codes "account") then Some kind.Account
+    else if bytes_eq word (codes "operator") then Some kind.Operator
+    else if bytes_eq word (codes "factory") then Some kind.Factory
+    else if bytes_eq word (codes "bound") then Some kind.Bound
+    else if bytes_eq word (codes "mixer") then Some kind.Mixer
+    else if bytes_eq word (codes "store") then Some kind.Store
     else None
+
+-- ---- the forms of lines, by what stands behind their first word
 
 -- a host: letters, digits, `-` and `.`, 1 to 255 of them
 abbrev pub is_host : List ℕ → Bool
@@ -75,11 +86,49 @@ peer_of s = do
   n ← number_from 1 1024 s
   Some (record { 0 = n })
 
+-- the number of an account: 1 to 4294967295
+abbrev pub account_number : List ℕ → Option Account
+account_number s = do
+  n ← number_from 1 4294967295 s
+  Some (record { 0 = n })
+
+-- the URI that was read
+abbrev pub readable : Result Uri Refusal → Option Uri
+readable (Ok uri) = Some uri
+readable (Err refusal) = None
+
+-- the URIs that the words are
+abbrev pub uris_of : List (List ℕ) → Option (List Uri)
+uris_of [] = Some []
+uris_of (word ∷ words) = do
+  uri ← readable (uri_of word)
+  more ← uris_of words
+  Some (uri ∷ more)
+
+-- the identities of an account: 1 to 8 words, each a URI
+abbrev pub identities_of : List ℕ → Option (List Uri)
+identities_of s = do
+  uris ← uris_of (words_of s)
+  if nat_le (length uris) 8 then Some uris else None
+
+-- a name of one byte or more, in which no space stands
+abbrev pub is_one_word : List ℕ → Bool
+is_one_word s = list_all (λ b. not (b == 32)) s
+
+abbrev pub is_store_name : List ℕ → Bool
+is_store_name s = nat_le 1 (length s) && is_one_word s
+
 -- `sip ADDR`
 abbrev pub sip_line : List ℕ → Option Line
 sip_line s = do
   addr ← addr_of s
   Some (line.Sip addr)
+
+-- `web ADDR`
+abbrev pub web_line : List ℕ → Option Line
+web_line s = do
+  addr ← addr_of s
+  Some (line.Web addr)
 
 -- `home HOST`
 abbrev pub home_line : List ℕ → Option Line
@@ -107,81 +156,167 @@ route_line s = do
   words ← route_words s
   Some (line.Route (record { name = words.0; peer = words.1 }))
 
+-- `account N` and its identities
+abbrev pub account_words : List ℕ → Option (Account × List ℕ)
+account_words s = do
+  n ← parted 32 s
+  account ← account_number n.0
+  Some (account, n.1)
+
+abbrev pub account_line : List ℕ → Option Line
+account_line s = do
+  words ← account_words s
+  uris ← identities_of words.1
+  Some (line.Account words.0 uris)
+
+-- `operator URI`
+abbrev pub operator_line : List ℕ → Option Line
+operator_line s = do
+  uri ← readable (uri_of s)
+  Some (line.Operator uri)
+
+-- `factory URI`
+abbrev pub factory_line : List ℕ → Option Line
+factory_line s = do
+  uri ← readable (uri_of s)
+  Some (line.Factory uri)
+
+-- `bound N`, 0 to 16
+abbrev pub bound_line : List ℕ → Option Line
+bound_line s = do
+  n ← plain_number 16 s
+  Some (line.Bound n)
+
+-- `mixer IP PORT`
+abbrev pub mixer_line : List ℕ → Option Line
+mixer_line s = do
+  x ← parted 32 s
+  ip ← ip_of x.0
+  port ← number_from 1 65535 x.1
+  Some (line.Mixer (record { ip = ip; port = port }))
+
+-- `store NAME`
+abbrev pub store_line : List ℕ → Option Line
+store_line s = if is_store_name s then Some (line.Store s) else None
+
 -- a line of this kind, by what stands behind its first word
-abbrev pub line_of_kind : Kind → List ℕ → Option Line
+abbrev pub line_of_kind : LineKind → List ℕ → Option Line
 line_of_kind kind.Sip s = sip_line s
+line_of_kind kind.Web s = web_line s
 line_of_kind kind.Home s = home_line s
 line_of_kind kind.Peer s = peer_line s
 line_of_kind kind.Route s = route_line s
-line_of_kind kind.Further s = Some line.Further
+line_of_kind kind.Account s = account_line s
+line_of_kind kind.Operator s = operator_line s
+line_of_kind kind.Factory s = factory_line s
+line_of_kind kind.Bound s = bound_line s
+line_of_kind kind.Mixer s = mixer_line s
+line_of_kind kind.Store s = store_line s
 
--- a line of one word alone, by its kind
-abbrev pub bare_line : Kind → Option Line
-bare_line kind.Sip = None
-bare_line kind.Home = None
-bare_line kind.Peer = None
-bare_line kind.Route = None
-bare_line kind.Further = Some line.Further
-
-abbrev pub line_of_words : List ℕ → Option (List ℕ × List ℕ) → Option Line
-line_of_words s None = do
-  kind ← kind_of s
-  bare_line kind
-line_of_words s (Some words) = do
+-- the kind of a line of two words or more, and what stands behind the first
+abbrev pub kind_and_rest : List ℕ → Option (LineKind × List ℕ)
+kind_and_rest s = do
+  words ← parted 32 s
   kind ← kind_of words.0
-  line_of_kind kind words.1
+  Some (kind, words.1)
 
--- what a line says, where it is of a form that is read
+abbrev pub line_of_words : List ℕ → Option Line
+line_of_words s = do
+  x ← kind_and_rest s
+  line_of_kind x.0 x.1
+
+-- what a line says, where it is of a form of the grammar
 unfoldable pub line_of : List ℕ → Option Line
-line_of s = if is_remark s then Some line.Remark else line_of_words s (parted 32 s)
+line_of s = if is_remark s then Some line.Remark else line_of_words s
 
--- ---- configurations
+-- ---- what lines say of each
 
--- what a line says of each
 abbrev pub sip_in : Line → List Addr
-sip_in line.Remark = []
 sip_in (line.Sip addr) = addr ∷ []
-sip_in (line.Home name) = []
-sip_in (line.Peer peer) = []
-sip_in (line.Route route) = []
-sip_in line.Further = []
+sip_in _ = []
+
+abbrev pub web_in : Line → List Addr
+web_in (line.Web addr) = addr ∷ []
+web_in _ = []
 
 abbrev pub home_in : Line → List (List ℕ)
-home_in line.Remark = []
-home_in (line.Sip addr) = []
 home_in (line.Home name) = name ∷ []
-home_in (line.Peer peer) = []
-home_in (line.Route route) = []
-home_in line.Further = []
+home_in _ = []
 
 abbrev pub peer_in : Line → List KnownPeer
-peer_in line.Remark = []
-peer_in (line.Sip addr) = []
-peer_in (line.Home name) = []
 peer_in (line.Peer peer) = peer ∷ []
-peer_in (line.Route route) = []
-peer_in line.Further = []
+peer_in _ = []
 
 abbrev pub route_in : Line → List Route
-route_in line.Remark = []
-route_in (line.Sip addr) = []
-route_in (line.Home name) = []
-route_in (line.Peer peer) = []
 route_in (line.Route route) = route ∷ []
-route_in line.Further = []
+route_in _ = []
+
+abbrev pub account_in : Line → List Account
+account_in (line.Account account uris) = account ∷ []
+account_in _ = []
+
+-- the identities of an account, with its number
+abbrev pub entries_of : Account → List Uri → List AccountIdentity
+entries_of account uris = map (λ uri. record { account = account; uri = uri }) uris
+
+abbrev pub identities_in : Line → List AccountIdentity
+identities_in (line.Account account uris) = entries_of account uris
+identities_in _ = []
+
+abbrev pub operator_in : Line → List Uri
+operator_in (line.Operator uri) = uri ∷ []
+operator_in _ = []
+
+abbrev pub factory_in : Line → List Uri
+factory_in (line.Factory uri) = uri ∷ []
+factory_in _ = []
+
+abbrev pub bound_in : Line → List ℕ
+bound_in (line.Bound n) = n ∷ []
+bound_in _ = []
+
+abbrev pub mixer_in : Line → List Mixer
+mixer_in (line.Mixer mixer) = mixer ∷ []
+mixer_in _ = []
+
+abbrev pub store_in : Line → List (List ℕ)
+store_in (line.Store name) = name ∷ []
+store_in _ = []
 
 -- the peers and routes that lines name, in their order
 abbrev pub table_of : List Line → Peers
 table_of said = record { known = flat_map peer_in said; routes = flat_map route_in said }
 
--- whether a line may stand right behind these: `sip` and `home` once, a peer of a new number and a new address, a route of a new name to a peer that is named above, and of routes 4,096
+-- ---- which line may stand behind which
+
+-- no line says it yet
+abbrev pub is_unsaid : {A : Type 0} → (Line → List A) → List Line → Bool
+is_unsaid part said = length (flat_map part said) == 0
+
+-- there is such an account: it has an identity
+abbrev pub is_account : List AccountIdentity → Account → Bool
+is_account identities account = list_any (λ identity. identity.account.0 == account.0) identities
+
+-- each of the further identities is the same as none before it
+abbrev pub are_new : List AccountIdentity → List AccountIdentity → Bool
+are_new identities [] = true
+are_new identities (one ∷ more) = not (has_identity one.uri identities) && are_new (identities ++ one ∷ []) more
+
+-- whether a line may stand right behind these: a peer of a new number and a new address; a route of a new name to a peer that is named above, and of routes 4,096;
+-- an account of a new number and of identities that stand nowhere else, and of accounts 10,000; and each other kind once
 abbrev pub stands : List Line → Line → Bool
 stands said line.Remark = true
-stands said (line.Sip addr) = length (flat_map sip_in said) == 0
-stands said (line.Home name) = length (flat_map home_in said) == 0
+stands said (line.Sip addr) = is_unsaid sip_in said
+stands said (line.Web addr) = is_unsaid web_in said
+stands said (line.Home name) = is_unsaid home_in said
 stands said (line.Peer peer) = not (has_number peer.peer (flat_map peer_in said)) && not (has_addr peer.addr (flat_map peer_in said))
 stands said (line.Route route) = nat_lt (length (flat_map route_in said)) 4096 && not (has_name route.name (flat_map route_in said)) && has_number route.peer (flat_map peer_in said)
-stands said line.Further = true
+stands said (line.Account account uris) = nat_lt (length (flat_map account_in said)) 10000 && not (is_account (flat_map identities_in said) account) && are_new (flat_map identities_in said) (entries_of account uris)
+stands said (line.Operator uri) = is_unsaid operator_in said
+stands said (line.Factory uri) = is_unsaid factory_in said
+stands said (line.Bound n) = is_unsaid bound_in said
+stands said (line.Mixer mixer) = is_unsaid mixer_in said
+stands said (line.Store name) = is_unsaid store_in said
 
 -- what the next line says, where it breaks nothing
 abbrev pub next_said : List Line → List ℕ → Option Line
@@ -189,14 +324,51 @@ next_said said text = do
   line ← line_of text
   if stands said line then Some line else None
 
--- the directory of lines that say so much, `last` being the number behind that of the last: `sip` and `home` have to be there
-abbrev pub directory_by : ℕ → List Addr → List (List ℕ) → Peers → Result Directory ℕ
-directory_by last [] homes peers = Err last
-directory_by last (sip ∷ sips) [] peers = Err last
-directory_by last (sip ∷ sips) (home ∷ homes) peers = Ok (record { sip = sip; home = home; peers = peers })
+-- ---- configurations
 
+-- what counts where no line says it
+abbrev pub usual_web : Addr
+usual_web = record { ip = 127 ∷ 0 ∷ 0 ∷ 1 ∷ []; port = 8080 }
+
+abbrev pub usual_bound : ℕ
+usual_bound = 5
+
+abbrev pub usual_mixer : Mixer
+usual_mixer = record { ip = 127 ∷ 0 ∷ 0 ∷ 1 ∷ []; port = 40000 }
+
+abbrev pub usual_store : List ℕ
+usual_store = codes ":memory:"
+
+abbrev pub first_of : {A : Type 0} → List A → Option A
+first_of [] = None
+first_of (x ∷ xs) = Some x
+
+-- what the lines say of it, where one does
+abbrev pub first_said : {A : Type 0} → (Line → List A) → List Line → Option A
+first_said part said = first_of (flat_map part said)
+
+-- the directory of a server with this address and this home domain
+abbrev pub directory_with : Addr → List ℕ → List Line → Directory
+directory_with sip home said = record {
+  sip = sip;
+  web = unwrap_or (first_said web_in said) usual_web;
+  home = home;
+  peers = table_of said;
+  names = record { accounts = flat_map identities_in said; operator = first_said operator_in said };
+  factory = first_said factory_in said;
+  bound = unwrap_or (first_said bound_in said) usual_bound;
+  mixer = unwrap_or (first_said mixer_in said) usual_mixer;
+  store = unwrap_or (first_said store_in said) usual_store;
+}
+
+abbrev pub directory_by : ℕ → Option Addr → Option (List ℕ) → List Line → Result Directory ℕ
+directory_by last None home said = Err last
+directory_by last (Some sip) None said = Err last
+directory_by last (Some sip) (Some home) said = Ok (directory_with sip home said)
+
+-- the directory of lines that say so much, `last` being the number behind that of the last: `sip` and `home` have to be there
 abbrev pub directory_from : ℕ → Result (List Line) ℕ → Result Directory ℕ
-directory_from last (Ok said) = directory_by last (flat_map sip_in said) (flat_map home_in said) (table_of said)
+directory_from last (Ok said) = directory_by last (first_said sip_in said) (first_said home_in said) said
 directory_from last (Err number) = Err number
 
 -- the directory of a text, or the number, from 1, of the first line that breaks the grammar: one past the last where a line is absent that has to be there

@@ -1,37 +1,62 @@
 -- How a directory is gathered line by line. What others call speaks of Directory.
-use Rattle.std.specs.Prelude.{ℕ, Bool, true, false, nat_lt, not, is_none, ◌&&◌, ◌+◌, if◌then◌else◌, List, [], ◌∷◌, Option, Some, None, Result, Ok, Err, ◌≡◌}
+use Rattle.std.specs.Prelude.{ℕ, Bool, true, false, nat_lt, not, is_none, ◌&&◌, ◌+◌, ◌++◌, if◌then◌else◌, List, [], ◌∷◌, Option, Some, None, unwrap_or, Result, Ok, Err, ◌≡◌}
 use Rattle.mmtel_scan.specs.Chain.{◌>>=◌}
 use Rattle.mmtel_trust.specs.Peers.{Peers, has_number, has_addr, has_name, with_peer, with_route}
-use Rattle.mmtel_trust.specs.declared.addrs.Addr.{Addr}
+use Rattle.mmtel_types.specs.declared.addrs.Addr.{Addr}
 use Rattle.mmtel_directory.specs.declared.config_lines.Line.{Line}
 use Rattle.mmtel_directory.specs.declared.config_lines.Line.TheVariants as line
 use Rattle.mmtel_directory.specs.declared.directories.Directory.{Directory}
 use Rattle.mmtel_directory.specs.declared.directories.DirectoryFault.{DirectoryFault}
 use Rattle.mmtel_directory.specs.declared.directories.DirectoryFault.TheVariants.{BadLine, NoMemory}
-use Rattle.mmtel_directory.specs.declared.directories.Draft.{Draft}
-use Rattle.mmtel_directory.specs.Directory.{line_of}
+use Rattle.mmtel_directory.specs.declared.drafts.Draft.{Draft}
+use Rattle.mmtel_directory.specs.Directory.{line_of, entries_of, is_account, are_new, usual_web, usual_bound, usual_mixer, usual_store}
 use Rattle.mmtel_directory.specs.Lines.{and_then}
 
 abbrev pub empty_draft : Draft
-empty_draft = record { sip = None; home = None; peers = record { known = []; routes = [] }; routes = 0 }
+empty_draft = record {
+  sip = None;
+  web = None;
+  home = None;
+  peers = record { known = []; routes = [] };
+  routes = 0;
+  accounts = [];
+  account_lines = 0;
+  operator = None;
+  factory = None;
+  bound = None;
+  mixer = None;
+  store = None;
+}
 
 -- whether the draft takes the line
 abbrev pub takes : Draft → Line → Bool
 takes draft line.Remark = true
 takes draft (line.Sip addr) = is_none draft.sip
+takes draft (line.Web addr) = is_none draft.web
 takes draft (line.Home name) = is_none draft.home
 takes draft (line.Peer peer) = not (has_number peer.peer draft.peers.known) && not (has_addr peer.addr draft.peers.known)
 takes draft (line.Route route) = nat_lt draft.routes 4096 && not (has_name route.name draft.peers.routes) && has_number route.peer draft.peers.known
-takes draft line.Further = true
+takes draft (line.Account account uris) = nat_lt draft.account_lines 10000 && not (is_account draft.accounts account) && are_new draft.accounts (entries_of account uris)
+takes draft (line.Operator uri) = is_none draft.operator
+takes draft (line.Factory uri) = is_none draft.factory
+takes draft (line.Bound n) = is_none draft.bound
+takes draft (line.Mixer mixer) = is_none draft.mixer
+takes draft (line.Store name) = is_none draft.store
 
 -- the draft with what the line says
 abbrev pub with_line : Draft → Line → Draft
 with_line draft line.Remark = draft
 with_line draft (line.Sip addr) = record draft { sip = Some addr }
+with_line draft (line.Web addr) = record draft { web = Some addr }
 with_line draft (line.Home name) = record draft { home = Some name }
 with_line draft (line.Peer peer) = record draft { peers = with_peer peer.peer peer.addr peer.trusted draft.peers }
 with_line draft (line.Route route) = record draft { peers = with_route route.name route.peer draft.peers; routes = draft.routes + 1 }
-with_line draft line.Further = draft
+with_line draft (line.Account account uris) = record draft { accounts = draft.accounts ++ entries_of account uris; account_lines = draft.account_lines + 1 }
+with_line draft (line.Operator uri) = record draft { operator = Some uri }
+with_line draft (line.Factory uri) = record draft { factory = Some uri }
+with_line draft (line.Bound n) = record draft { bound = Some n }
+with_line draft (line.Mixer mixer) = record draft { mixer = Some mixer }
+with_line draft (line.Store name) = record draft { store = Some name }
 
 -- the draft after the line, where the line breaks nothing
 unfoldable pub step : Draft → List ℕ → Option Draft
@@ -39,14 +64,28 @@ step draft text = do
   line ← line_of text
   if takes draft line then Some (with_line draft line) else None
 
-abbrev pub finished_by : ℕ → Option Addr → Option (List ℕ) → Peers → Result Directory ℕ
-finished_by last None home peers = Err last
-finished_by last (Some sip) None peers = Err last
-finished_by last (Some sip) (Some home) peers = Ok (record { sip = sip; home = home; peers = peers })
+-- the directory of a draft, of a server with this address and this home domain
+abbrev pub directory_in : Addr → List ℕ → Draft → Directory
+directory_in sip home draft = record {
+  sip = sip;
+  web = unwrap_or draft.web usual_web;
+  home = home;
+  peers = draft.peers;
+  names = record { accounts = draft.accounts; operator = draft.operator };
+  factory = draft.factory;
+  bound = unwrap_or draft.bound usual_bound;
+  mixer = unwrap_or draft.mixer usual_mixer;
+  store = unwrap_or draft.store usual_store;
+}
+
+abbrev pub finished_by : ℕ → Option Addr → Option (List ℕ) → Draft → Result Directory ℕ
+finished_by last None home draft = Err last
+finished_by last (Some sip) None draft = Err last
+finished_by last (Some sip) (Some home) draft = Ok (directory_in sip home draft)
 
 -- the directory of a whole draft
 abbrev pub finished : ℕ → Draft → Result Directory ℕ
-finished last draft = finished_by last draft.sip draft.home draft.peers
+finished last draft = finished_by last draft.sip draft.home draft
 
 -- the directory of a draft and of the lines to come
 abbrev pub drafted : ℕ → Draft → List (List ℕ) → Result Directory ℕ
@@ -59,8 +98,14 @@ Steps (Ok done) number due after = due ≡ Some after
 Steps (Err (BadLine n)) number due after = (due ≡ None) × (n ≡ number)
 Steps (Err NoMemory) number due after = Unit {0}
 
--- what came of a line of a form that is read
-abbrev pub Adds : Result (Unit {0}) DirectoryFault → ℕ → Bool → Draft → Draft → Type 0
+-- what came of lines: a draft that gives what they and the draft before give, where the last of them has the number before this one; or the number of the first line that is not taken
+abbrev pub Reads : Result ℕ DirectoryFault → Draft → List (List ℕ) → Draft → Type 0
+Reads (Ok last) before texts after = drafted 1 before texts ≡ finished last after
+Reads (Err (BadLine n)) before texts after = drafted 1 before texts ≡ Err n
+Reads (Err NoMemory) before texts after = Unit {0}
+
+-- what came of adding something: it is there where the test lets it, and else the line's number is told
+abbrev pub Adds : {A : Type 0} → Result (Unit {0}) DirectoryFault → ℕ → Bool → A → A → Type 0
 Adds (Ok done) number due next after = (due ≡ true) × (after ≡ next)
 Adds (Err (BadLine n)) number due next after = (due ≡ false) × (n ≡ number)
 Adds (Err NoMemory) number due next after = Unit {0}

@@ -1,8 +1,8 @@
 -- The lines of a text, and numbers as configurations and scripts write them: formats of this project's own.
 use Rattle.std.specs.Prelude.{ℕ, Bool, true, false, nat_lt, ◌==◌, if◌then◌else◌, List, [], ◌∷◌, ◌++◌, ◌+◌, Option, Some, None, Result, Ok, Err}
-use Rattle.std.specs.List.{onto_first}
+use Rattle.std.specs.List.{onto_first, slice_split}
 use Rattle.mmtel_scan.specs.Chain.{◌>>=◌}
-use Rattle.mmtel_scan.specs.Numbers.{number_of}
+use Rattle.mmtel_scan.specs.Numbers.{plain_number}
 
 -- the lines: an LF ends each, and the last may lack it
 abbrev pub lines_of : List ℕ → List (List ℕ)
@@ -14,17 +14,7 @@ abbrev pub is_remark : List ℕ → Bool
 is_remark [] = true
 is_remark (b ∷ s) = b == 35
 
--- a zero comes first and is not alone
-abbrev pub leads_zero : List ℕ → Bool
-leads_zero [] = false
-leads_zero (b ∷ []) = false
-leads_zero (b ∷ c ∷ s) = b == 48
-
--- the number, of at most the limit, that these decimal digits without leading zeros write
-abbrev pub plain_number : ℕ → List ℕ → Option ℕ
-plain_number limit s = if leads_zero s then None else number_of limit s
-
--- the same, and at least the least
+-- the number, of at least the least and at most the limit, that these decimal digits without leading zeros write
 abbrev pub number_from : ℕ → ℕ → List ℕ → Option ℕ
 number_from least limit s = do
   n ← plain_number limit s
@@ -39,3 +29,12 @@ and_then number None more = Err number
 abbrev pub said_by : {L : Type 0} → (List L → List ℕ → Option L) → ℕ → List L → List (List ℕ) → Result (List L) ℕ
 said_by read number said [] = Ok said
 said_by read number said (text ∷ texts) = and_then number (read said text) (λ line. said_by read (number + 1) (said ++ line ∷ []) texts)
+
+-- the words of a line, which one space parts
+unfoldable pub words_of : List ℕ → List (List ℕ)
+words_of s = slice_split (λ b. b == 32) s
+
+-- the words behind a first one, where a space follows it
+abbrev pub words_after : Option (List ℕ) → List (List ℕ)
+words_after None = []
+words_after (Some s) = words_of s

@@ -1,25 +1,36 @@
 //! The lines of a configuration, one by one.
-ghost use Rattle.std.specs.Prelude.{◌≡◌, IfOk};
+ghost use Rattle.std.specs.Prelude.{◌≡◌, IfOk, option_copied};
 ghost use Rattle.std.specs.Option.{option_map};
+ghost use Rattle.mmtel_lex.specs.Reading.{uri_of};
 ghost use Rattle.mmtel_trust.specs.Peers.{is_prefix};
-ghost use Rattle.mmtel_directory.specs.Lines.{plain_number};
-ghost use Rattle.mmtel_directory.specs.Directory.{route_words, ip_of, addr_of, is_further, kind_of, is_host, is_route_name, trust_of, peer_of, sip_line, home_line, peer_line, route_line, line_of_kind, bare_line, line_of};
+ghost use Rattle.mmtel_scan.specs.Numbers.{plain_number};
+ghost use Rattle.mmtel_directory.specs.Directory.{route_words, ip_of, addr_of, kind_of, is_host, is_route_name, trust_of, peer_of, account_number, readable, identities_of, is_one_word, is_store_name};
+ghost use Rattle.mmtel_directory.specs.Lines.{words_of};
+ghost use Rattle.mmtel_directory.specs.Directory.{uris_of, kind_and_rest, sip_line, web_line, home_line, peer_line, route_line, account_words, account_line, operator_line, factory_line, bound_line, mixer_line, store_line, line_of_kind, line_of_words, line_of};
 
-use crate::lines::{is_remark, number_from, plain_number};
-use mmtel_scan::{Class, NoMemory, Text, is_all, part};
-use mmtel_trust::{Addr, KnownPeer, Route};
-use mmtel_types::Peer;
+use crate::lines::{first_word, is_remark, number_from};
+use mmtel_lex::{Uri, UriFault, read_uri};
+use mmtel_scan::{Class, List, NoMemory, Text, is_all, part, plain_number};
+use mmtel_sdp::Mixer;
+use mmtel_trust::{KnownPeer, Route};
+use mmtel_types::limits::{ACCOUNT_IDENTITIES, DIVERSIONS_MOST};
+use mmtel_types::{Account, Addr, Peer};
 use std::alloc::Global;
 
 /// The kinds of lines, by their first words.
 #[derive(Clone, Copy)]
-pub enum Kind {
+pub enum LineKind {
     Sip,
+    Web,
     Home,
     Peer,
     Route,
-    /// A kind of the grammar that is passed over unread so far.
-    Further,
+    Account,
+    Operator,
+    Factory,
+    Bound,
+    Mixer,
+    Store,
 }
 
 /// What a line says.
@@ -27,14 +38,33 @@ pub enum Kind {
 pub enum Line {
     /// Nothing: it is empty, or begins with `#`.
     Remark,
-    /// The server's own address.
+    /// The server's own address for SIP.
     Sip(Addr),
+    /// The server's own address for HTTP.
+    Web(Addr),
     /// The home domain.
     Home(Text),
+    /// A peer.
     Peer(KnownPeer),
+    /// A route to a peer.
     Route(Route),
-    /// Something that is passed over unread so far.
-    Further,
+    /// An account and its identities.
+    Account {
+        /// Its number.
+        account: Account,
+        /// The URIs by which it is named.
+        identities: List<Uri>,
+    },
+    /// The identity of the operator.
+    Operator(Uri),
+    /// The URI at which rooms are made.
+    Factory(Uri),
+    /// The bound on the diversions of a call.
+    Bound(u16),
+    /// Where the mixer of rooms takes media.
+    Mixer(Mixer),
+    /// The name of the store.
+    Store(Text),
 }
 
 fn octet(bytes: &[u8]) -> Option<u8>
@@ -65,31 +95,31 @@ fn read_addr(bytes: &[u8]) -> Option<Addr>
     })
 }
 
-fn is_further(word: &[u8]) -> bool
-    ensures { result ≡ is_further word.now }
-{
-    word == b"web".as_slice()
-        || word == b"account".as_slice()
-        || word == b"operator".as_slice()
-        || word == b"factory".as_slice()
-        || word == b"bound".as_slice()
-        || word == b"mixer".as_slice()
-        || word == b"store".as_slice()
-}
-
-fn kind_of(word: &[u8]) -> Option<Kind>
+fn kind_of(word: &[u8]) -> Option<LineKind>
     ensures { result ≡ kind_of word.now }
 {
     if word == b"sip".as_slice() {
-        Some(Kind::Sip)
+        Some(LineKind::Sip)
+    } else if word == b"web".as_slice() {
+        Some(LineKind::Web)
     } else if word == b"home".as_slice() {
-        Some(Kind::Home)
+        Some(LineKind::Home)
     } else if word == b"peer".as_slice() {
-        Some(Kind::Peer)
+        Some(LineKind::Peer)
     } else if word == b"route".as_slice() {
-        Some(Kind::Route)
-    } else if is_further(word) {
-        Some(Kind::Further)
+        Some(LineKind::Route)
+    } else if word == b"account".as_slice() {
+        Some(LineKind::Account)
+    } else if word == b"operator".as_slice() {
+        Some(LineKind::Operator)
+    } else if word == b"factory".as_slice() {
+        Some(LineKind::Factory)
+    } else if word == b"bound".as_slice() {
+        Some(LineKind::Bound)
+    } else if word == b"mixer".as_slice() {
+        Some(LineKind::Mixer)
+    } else if word == b"store".as_slice() {
+        Some(LineKind::Store)
     } else {
         None
     }
@@ -142,6 +172,12 @@ fn sip_line(rest: &[u8]) -> Option<Line>
     Some(Line::Sip(read_addr(rest)?))
 }
 
+fn web_line(rest: &[u8]) -> Option<Line>
+    ensures { result ≡ web_line rest.now }
+{
+    Some(Line::Web(read_addr(rest)?))
+}
+
 fn home_line(alloc: Global, rest: &[u8]) -> Result<Option<Line>, NoMemory>
     ensures { IfOk result (λ said. said ≡ home_line rest.now) }
 {
@@ -191,28 +227,169 @@ fn route_line(alloc: Global, rest: &[u8]) -> Result<Option<Line>, NoMemory>
     }
 }
 
-fn line_of_kind(alloc: Global, kind: Kind, rest: &[u8]) -> Result<Option<Line>, NoMemory>
+/// The number of an account: 1 to 4294967295.
+fn account_number(digits: &[u8]) -> Option<Account>
+    ensures { result ≡ account_number digits.now }
+{
+    let number = number_from(1, 4_294_967_295, digits)?;
+    Some(Account(number as u32))
+}
+
+/// The URI that the bytes are; None where they are none of the schemes `sip` and `tel`.
+///
+/// # Errors
+///
+/// Want of memory alone.
+pub fn readable_uri(alloc: Global, bytes: &[u8]) -> Result<Option<Uri>, NoMemory>
+    ensures uri { IfOk result (λ uri. uri ≡ readable (uri_of bytes.now)) }
+{
+    match read_uri(alloc, bytes) {
+        Ok(uri) => Ok(Some(uri)),
+        Err(UriFault::NoMemory) => Err(NoMemory),
+        Err(UriFault::Malformed { .. } | UriFault::Scheme) => Ok(None),
+    }
+}
+
+/// The URIs that the words are, each of them.
+fn read_uris(alloc: Global, words: &[u8]) -> Result<Option<List<Uri>>, NoMemory>
+    ensures { IfOk result (λ uris. uris ≡ uris_of (words_of words.now)) }
+{
+    let mut uris = List::new();
+    let mut rest = Some(words);
+    'words: while let Some(bytes) = rest {
+        let (word, more) = first_word(bytes);
+        match readable_uri(alloc, word)? {
+            None => return Ok(None),
+            Some(uri) => uris.push(alloc, uri)?,
+        }
+        rest = more;
+    }
+    Ok(Some(uris))
+}
+
+fn read_identities(alloc: Global, words: &[u8]) -> Result<Option<List<Uri>>, NoMemory>
+    ensures { IfOk result (λ uris. uris ≡ identities_of words.now) }
+{
+    match read_uris(alloc, words)? {
+        None => Ok(None),
+        Some(uris) => {
+            if uris.items().len() <= ACCOUNT_IDENTITIES {
+                Ok(Some(uris))
+            } else {
+                Ok(None)
+            }
+        }
+    }
+}
+
+/// The number of an account, and the words behind it.
+fn account_words(rest: &[u8]) -> Option<(Account, &[u8])>
+    ensures { option_map (λ x. (x.0, x.1.now)) result ≡ account_words rest.now }
+{
+    let (number, words) = part(b' ', rest)?;
+    Some((account_number(number)?, words))
+}
+
+fn account_line(alloc: Global, rest: &[u8]) -> Result<Option<Line>, NoMemory>
+    ensures { IfOk result (λ said. said ≡ account_line rest.now) }
+{
+    match account_words(rest) {
+        None => Ok(None),
+        Some((account, words)) => match read_identities(alloc, words)? {
+            None => Ok(None),
+            Some(identities) => Ok(Some(Line::Account {
+                account,
+                identities,
+            })),
+        },
+    }
+}
+
+fn operator_line(alloc: Global, rest: &[u8]) -> Result<Option<Line>, NoMemory>
+    ensures { IfOk result (λ said. said ≡ operator_line rest.now) }
+{
+    match readable_uri(alloc, rest)? {
+        None => Ok(None),
+        Some(uri) => Ok(Some(Line::Operator(uri))),
+    }
+}
+
+fn factory_line(alloc: Global, rest: &[u8]) -> Result<Option<Line>, NoMemory>
+    ensures { IfOk result (λ said. said ≡ factory_line rest.now) }
+{
+    match readable_uri(alloc, rest)? {
+        None => Ok(None),
+        Some(uri) => Ok(Some(Line::Factory(uri))),
+    }
+}
+
+fn bound_line(rest: &[u8]) -> Option<Line>
+    ensures { result ≡ bound_line rest.now }
+{
+    let number = plain_number(u64::from(DIVERSIONS_MOST), rest)?;
+    Some(Line::Bound(number as u16))
+}
+
+fn mixer_line(rest: &[u8]) -> Option<Line>
+    ensures { result ≡ mixer_line rest.now }
+{
+    let (ip, port) = part(b' ', rest)?;
+    let ip = read_ip(ip)?;
+    let port = number_from(1, 65535, port)?;
+    Some(Line::Mixer(Mixer {
+        ip,
+        port: port as u16,
+    }))
+}
+
+fn is_one_word(bytes: &[u8]) -> bool
+    ensures { result ≡ is_one_word bytes.now }
+{
+    bytes.iter().all(|byte| *byte != b' ')
+}
+
+fn is_store_name(bytes: &[u8]) -> bool
+    ensures { result ≡ is_store_name bytes.now }
+{
+    1 <= bytes.len() && is_one_word(bytes)
+}
+
+fn store_line(alloc: Global, rest: &[u8]) -> Result<Option<Line>, NoMemory>
+    ensures { IfOk result (λ said. said ≡ store_line rest.now) }
+{
+    if !is_store_name(rest) {
+        return Ok(None);
+    }
+    Ok(Some(Line::Store(Text::of(alloc, rest)?)))
+}
+
+fn line_of_kind(alloc: Global, kind: LineKind, rest: &[u8]) -> Result<Option<Line>, NoMemory>
     ensures { IfOk result (λ said. said ≡ line_of_kind kind rest.now) }
 {
     match kind {
-        Kind::Sip => Ok(sip_line(rest)),
-        Kind::Home => home_line(alloc, rest),
-        Kind::Peer => Ok(peer_line(rest)),
-        Kind::Route => route_line(alloc, rest),
-        Kind::Further => Ok(Some(Line::Further)),
+        LineKind::Sip => Ok(sip_line(rest)),
+        LineKind::Web => Ok(web_line(rest)),
+        LineKind::Home => home_line(alloc, rest),
+        LineKind::Peer => Ok(peer_line(rest)),
+        LineKind::Route => route_line(alloc, rest),
+        LineKind::Account => account_line(alloc, rest),
+        LineKind::Operator => operator_line(alloc, rest),
+        LineKind::Factory => factory_line(alloc, rest),
+        LineKind::Bound => Ok(bound_line(rest)),
+        LineKind::Mixer => Ok(mixer_line(rest)),
+        LineKind::Store => store_line(alloc, rest),
     }
 }
 
-fn bare_line(kind: Kind) -> Option<Line>
-    ensures { result ≡ bare_line kind }
+/// The kind of a line, and what stands behind its first word.
+fn kind_and_rest(text: &[u8]) -> Option<(LineKind, &[u8])>
+    ensures { option_map (λ x. (x.0, x.1.now)) result ≡ kind_and_rest text.now }
 {
-    match kind {
-        Kind::Further => Some(Line::Further),
-        Kind::Sip | Kind::Home | Kind::Peer | Kind::Route => None,
-    }
+    let (word, rest) = part(b' ', text)?;
+    Some((kind_of(word)?, rest))
 }
 
-/// What a line says; None where it is of no form that is read.
+/// What a line says; None where it is of no form of the grammar.
 #[tactic(auto, unfolding(crate::specs::Directory::line_of))]
 pub fn read_line(alloc: Global, text: &[u8]) -> Result<Option<Line>, NoMemory>
     ensures { IfOk result (λ said. said ≡ line_of text.now) }
@@ -220,14 +397,8 @@ pub fn read_line(alloc: Global, text: &[u8]) -> Result<Option<Line>, NoMemory>
     if is_remark(text) {
         return Ok(Some(Line::Remark));
     }
-    match part(b' ', text) {
-        None => match kind_of(text) {
-            None => Ok(None),
-            Some(kind) => Ok(bare_line(kind)),
-        },
-        Some((word, rest)) => match kind_of(word) {
-            None => Ok(None),
-            Some(kind) => line_of_kind(alloc, kind, rest),
-        },
+    match kind_and_rest(text) {
+        None => Ok(None),
+        Some((kind, rest)) => line_of_kind(alloc, kind, rest),
     }
 }

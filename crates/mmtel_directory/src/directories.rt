@@ -1,28 +1,49 @@
 //! Configurations.
-ghost use Rattle.std.specs.Prelude.{◌≡◌, ◌+◌, [], List, Ok, Some, None, length, map};
-ghost use Rattle.mmtel_directory.specs.Configuration.{IsConfiguration, Setting, line_in};
-ghost use Rattle.mmtel_directory.specs.Directory.{Answers, directory_from, directory_of};
+ghost use Rattle.std.specs.Prelude.{◌≡◌};
+ghost use Rattle.mmtel_directory.specs.Directory.{Answers, directory_of};
+ghost use Rattle.mmtel_directory.specs.Drafts.{Reads};
 ghost use Rattle.mmtel_directory.specs.Lines.{lines_of};
-ghost use Rattle.mmtel_directory.specs.Drafts.{Adds, Steps, empty_draft, finished, step, takes, with_line};
-ghost use Rattle.mmtel_directory.specs.declared.config_lines.Line.TheVariants as said;
 ghost use Rattle.mmtel_directory.specs.declared.directories.DirectoryFault.TheVariants as fault;
 
-use crate::config_lines::{Line, read_line};
+use crate::drafts::Draft;
 use crate::lines::next_line;
+use mmtel_lex::Uri;
 use mmtel_scan::{NoMemory, Text};
-use mmtel_trust::{Addr, KnownPeer, PeerTable, Route, TableFault};
-use mmtel_types::limits::ROUTES;
+use mmtel_sdp::Mixer;
+use mmtel_trust::{Accounts, PeerTable};
+use mmtel_types::Addr;
 use std::alloc::Global;
+
+/// Who may ask for what by HTTP.
+#[derive(Drop)]
+pub struct WebDirectory {
+    /// The accounts: each may ask for its own record. Calls are decided by the same table.
+    pub accounts: Accounts,
+    /// The operator, who may ask for the charging rows; where there is none, nobody may.
+    pub operator: Option<Uri>,
+}
 
 /// What a configuration says of the server and of those it speaks with.
 #[derive(Drop)]
 pub struct Directory {
     /// The server's own address for SIP.
     pub sip: Addr,
+    /// The server's own address for HTTP.
+    pub web: Addr,
     /// The home domain.
     pub home: Text,
     /// The peers, and the routes to them.
     pub peers: PeerTable,
+    /// The accounts and the operator.
+    pub names: WebDirectory,
+    /// The URI at which rooms are made; where there is none, no room is made.
+    pub factory: Option<Uri>,
+    /// The bound on the diversions of a call: 0 to 16.
+    pub bound: u16,
+    /// Where the mixer of rooms takes media.
+    pub mixer: Mixer,
+    /// The name of the store, to which the keeper is bound.
+    pub store: Text,
 }
 
 /// Why a text is no configuration.
@@ -45,127 +66,10 @@ impl From<NoMemory> for DirectoryFault {
     }
 }
 
-/// What the lines so far say.
-#[derive(Drop)]
-pub struct Draft {
-    sip: Option<Addr>,
-    home: Option<Text>,
-    peers: PeerTable,
-    routes: usize,
-}
-
-impl Draft {
-    fn new() -> Draft
-        ensures { result ≡ empty_draft }
-    {
-        Draft {
-            sip: None,
-            home: None,
-            peers: PeerTable::new(),
-            routes: 0,
-        }
-    }
-
-    fn add_sip(&mut self, number: u64, addr: Addr) -> Result<(), DirectoryFault>
-        ensures { Adds result number (takes self.old (said.Sip addr)) (with_line self.old (said.Sip addr)) self.new }
-    {
-        if self.sip.is_some() {
-            return Err(DirectoryFault::BadLine { line: number });
-        }
-        self.sip = Some(addr);
-        Ok(())
-    }
-
-    fn add_home(&mut self, number: u64, name: Text) -> Result<(), DirectoryFault>
-        ensures { Adds result number (takes self.old (said.Home name)) (with_line self.old (said.Home name)) self.new }
-    {
-        if self.home.is_some() {
-            return Err(DirectoryFault::BadLine { line: number });
-        }
-        self.home = Some(name);
-        Ok(())
-    }
-
-    fn add_peer(
-        &mut self,
-        alloc: Global,
-        number: u64,
-        peer: KnownPeer,
-    ) -> Result<(), DirectoryFault>
-        ensures { Adds result number (takes self.old (said.Peer peer)) (with_line self.old (said.Peer peer)) self.new }
-    {
-        match self
-            .peers
-            .add_peer(alloc, peer.peer, peer.addr, peer.trusted)
-        {
-            Ok(()) => Ok(()),
-            Err(TableFault::NoMemory) => Err(DirectoryFault::NoMemory),
-            Err(TableFault::Taken | TableFault::NoPeer) => Err(DirectoryFault::BadLine {
-                line: number,
-            }),
-        }
-    }
-
-    fn add_route(&mut self, alloc: Global, number: u64, route: Route) -> Result<(), DirectoryFault>
-        ensures { Adds result number (takes self.old (said.Route route)) (with_line self.old (said.Route route)) self.new }
-    {
-        if self.routes >= ROUTES {
-            return Err(DirectoryFault::BadLine { line: number });
-        }
-        match self.peers.add_route(alloc, route.name, route.peer) {
-            Ok(()) => {
-                self.routes += 1;
-                Ok(())
-            }
-            Err(TableFault::NoMemory) => Err(DirectoryFault::NoMemory),
-            Err(TableFault::Taken | TableFault::NoPeer) => Err(DirectoryFault::BadLine {
-                line: number,
-            }),
-        }
-    }
-
-    fn add(&mut self, alloc: Global, number: u64, line: Line) -> Result<(), DirectoryFault>
-        ensures { Adds result number (takes self.old line) (with_line self.old line) self.new }
-    {
-        match line {
-            Line::Remark | Line::Further => Ok(()),
-            Line::Sip(addr) => self.add_sip(number, addr),
-            Line::Home(name) => self.add_home(number, name),
-            Line::Peer(peer) => self.add_peer(alloc, number, peer),
-            Line::Route(route) => self.add_route(alloc, number, route),
-        }
-    }
-
-    /// Reads the line of this number, and adds what it says.
-    #[tactic(auto, unfolding(crate::specs::Drafts::step))]
-    fn read(&mut self, alloc: Global, number: u64, text: &[u8]) -> Result<(), DirectoryFault>
-        ensures { Steps result number (step self.old text.now) self.new }
-    {
-        match read_line(alloc, text)? {
-            None => Err(DirectoryFault::BadLine { line: number }),
-            Some(line) => self.add(alloc, number, line),
-        }
-    }
-
-    /// The directory, where `last` is the number behind that of the last line.
-    fn finish(self, last: u64) -> Result<Directory, DirectoryFault>
-        ensures { Answers result (finished last self) }
-    {
-        match (self.sip, self.home) {
-            (Some(sip), Some(home)) => Ok(Directory {
-                sip,
-                home,
-                peers: self.peers,
-            }),
-            _ => Err(DirectoryFault::BadLine { line: last }),
-        }
-    }
-}
-
-fn read_lines(alloc: Global, bytes: &[u8]) -> Result<Directory, DirectoryFault>
-    ensures { Answers result (directory_of bytes.now) }
+/// Adds what each line of a text says to the draft; the number behind that of the last line.
+fn read_lines(alloc: Global, draft: &mut Draft, bytes: &[u8]) -> Result<u64, DirectoryFault>
+    ensures { Reads result draft.old (lines_of bytes.now) draft.new }
 {
-    let mut draft = Draft::new();
     let mut number: u64 = 1;
     let mut rest = bytes;
     'lines: while let Some((line, more)) = next_line(rest) {
@@ -173,20 +77,35 @@ fn read_lines(alloc: Global, bytes: &[u8]) -> Result<Directory, DirectoryFault>
         number += 1;
         rest = more;
     }
-    draft.finish(number)
+    Ok(number)
 }
 
 /// Reads a configuration.
 ///
-/// Each line ends with LF, which the last may lack; one that is empty or begins with `#` says nothing. The words of a line are parted by one space, and numbers are decimal without leading zeros. `sip ADDR` and `home HOST` have to be there; `peer N ADDR trusted` or `peer N ADDR untrusted`, `N` of 1 to 1,024, and `route NAME N` may stand any number of times, up to 4,096 routes. `ADDR` is `a.b.c.d:port`, and a `NAME` is a host, `+` and digits, or `*`. Numbers and addresses of peers differ, so do names of routes without case, and the peer of a route is named above it. Lines of the kinds `web`, `account`, `operator`, `factory`, `bound`, `mixer` and `store` are passed over unread so far.
+/// Each line ends with LF, which the last may lack; one that is empty or begins with `#` says nothing. One space parts the words of a line, and numbers are decimal without leading zeros. `ADDR` is `a.b.c.d:port`, the port of 1 to 65535.
+///
+/// - `sip ADDR` and `home HOST` have to be there.
+/// - `web ADDR`; without it 127.0.0.1:8080.
+/// - `peer N ADDR trusted` or `peer N ADDR untrusted`, `N` of 1 to 1,024; numbers and addresses differ.
+/// - `route NAME N`, up to 4,096 of them: the name is a host, `+` and digits, or `*`, names differ without case, and the peer is named above.
+/// - `account N URI ..`, 1 to 8 URIs, up to 10,000 such lines: `N` of 1 to 4,294,967,295, numbers differ, and so do the identities of all accounts.
+/// - `operator URI`; without it nobody may read the charging rows.
+/// - `factory URI`; without it no room is made.
+/// - `bound N`, 0 to 16; without it 5.
+/// - `mixer IP PORT`; without it 127.0.0.1 and 40000.
+/// - `store NAME`, a name of any bytes but spaces; without it `:memory:`.
+///
+/// Each line but peers, routes and accounts stands at most once.
 ///
 /// # Errors
 ///
 /// `BadLine` exactly with the first line that breaks this, or with one past the last where `sip` or `home` is absent; else want of memory alone.
 pub fn read_directory(alloc: Global, bytes: &[u8]) -> Result<Directory, DirectoryFault>
     ensures exact { Answers result (directory_of bytes.now) }
-    // A text of the whole grammar is read, as what its lines of the kinds that are read say.
-    ensures whole { (said : List Setting) → IsConfiguration bytes.now said → Answers result (directory_from (length (lines_of bytes.now) + 1) (Ok (map line_in said))) }
 {
-    read_lines(alloc, bytes)
+    let mut draft = Draft::new();
+    match read_lines(alloc, &mut draft, bytes) {
+        Ok(last) => draft.finish(alloc, last),
+        Err(fault) => Err(fault),
+    }
 }

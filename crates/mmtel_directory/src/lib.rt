@@ -3,8 +3,10 @@
 
 mod config_lines;
 mod directories;
+mod drafts;
 mod lines;
 
-pub use config_lines::read_peer;
-pub use directories::{Directory, DirectoryFault, read_directory};
-pub use lines::{next_line, plain_number};
+pub use config_lines::{read_peer, readable_uri};
+pub use directories::{Directory, DirectoryFault, WebDirectory, read_directory};
+pub use drafts::is_account;
+pub use lines::next_line;

@@ -1,8 +1,8 @@
 //! The lines of a text, and numbers as configurations and scripts write them.
-ghost use Rattle.std.specs.Prelude.{◌≡◌, ◌<◌, ◌≤◌, ◌∷◌, [], ℕ, decimal, length, Some, MatchOption, IfSome};
-ghost use Rattle.mmtel_directory.specs.Lines.{lines_of, is_remark, leads_zero, plain_number, number_from};
+ghost use Rattle.std.specs.Prelude.{◌≡◌, ◌<◌, ◌≤◌, ◌∷◌, [], length, MatchOption, IfSome, option_copied};
+ghost use Rattle.mmtel_directory.specs.Lines.{lines_of, words_of, words_after, is_remark, number_from};
 
-use mmtel_scan::{number_up_to, part};
+use mmtel_scan::{part, plain_number};
 
 /// The first line, without the LF that ends it, and what follows; None where there is no line.
 pub fn next_line(bytes: &[u8]) -> Option<(&[u8], &[u8])>
@@ -18,6 +18,17 @@ pub fn next_line(bytes: &[u8]) -> Option<(&[u8], &[u8])>
     }
 }
 
+/// The first word, and what follows the space behind it; None where there is no space.
+pub fn first_word(bytes: &[u8]) -> (&[u8], Option<&[u8]>)
+    ensures words { words_of bytes.now ≡ result.0.now ∷ words_after (option_copied result.1) }
+    ensures shorter { IfSome result.1 (λ more. length more.now < length bytes.now) }
+{
+    match part(b' ', bytes) {
+        Some((word, more)) => (word, Some(more)),
+        None => (bytes, None),
+    }
+}
+
 /// Whether a line says nothing: it is empty, or begins with `#`.
 pub fn is_remark(line: &[u8]) -> bool
     ensures { result ≡ is_remark line.now }
@@ -28,30 +39,7 @@ pub fn is_remark(line: &[u8]) -> bool
     }
 }
 
-fn leads_zero(digits: &[u8]) -> bool
-    ensures { result ≡ leads_zero digits.now }
-{
-    match digits {
-        [first, _, ..] => *first == b'0',
-        _ => false,
-    }
-}
-
-/// The number, of at most the limit, that the decimal digits write; None where they lead with a zero or are no such digits.
-pub fn plain_number(limit: u64, digits: &[u8]) -> Option<u64>
-    ensures value { result ≡ plain_number limit digits.now }
-    ensures at_most { IfSome result (λ n. n ≤ limit) }
-    // The digits of each such number, as it is printed, are read, and no others.
-    ensures spelled { IfSome result (λ n. digits.now ≡ decimal n) }
-    ensures reads { (n : ℕ) → n ≤ limit → digits.now ≡ decimal n → result ≡ Some n }
-{
-    if leads_zero(digits) {
-        return None;
-    }
-    number_up_to(limit, digits)
-}
-
-/// The same, where the number is also at least the least.
+/// The number, of at least the least and at most the limit, that the decimal digits write; None where they lead with a zero, are no such digits, or write another number.
 pub fn number_from(least: u64, limit: u64, digits: &[u8]) -> Option<u64>
     ensures value { result ≡ number_from least limit digits.now }
     ensures at_most { IfSome result (λ n. n ≤ limit) }

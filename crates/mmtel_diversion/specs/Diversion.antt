@@ -9,7 +9,7 @@ use Rattle.mmtel_sheet_values.specs.declared.values.EventWord.TheVariants.{Busy,
 use Rattle.mmtel_sheet_values.specs.declared.values.Forward.{Forward}
 use Rattle.mmtel_sheet_values.specs.declared.values.Rule.{Rule}
 use Rattle.mmtel_sheet_values.specs.declared.values.Sheet.{Sheet}
-use Rattle.mmtel_sheet_values.specs.declared.values.Who.{Who}
+use Rattle.mmtel_rules.specs.Circumstances.{Circumstances}
 use Rattle.mmtel_rules.specs.Rules.{first_that_holds}
 use Rattle.mmtel_rules.specs.declared.values.When.{When}
 use Rattle.mmtel_diversion.specs.declared.choosing.Diversion.{Diversion}
@@ -42,14 +42,14 @@ abbrev pub diversion_by : ℕ → Rule → Option Chosen
 diversion_by place rule = option_map (λ forward. record { rule = place; forward = forward; cause = cause_of rule.condition.event }) (forward_of rule.action)
 
 -- what the first rule that holds asks for
-abbrev pub diversion_among : (asks : Who → Bool) → (restricted : Bool) → (media : List (List ℕ)) → (now : ℕ) → When → List Rule → Option Chosen
-diversion_among asks restricted media now when rules =
-    option_and_then (λ place. option_and_then (diversion_by place) (slice_get rules place)) (first_that_holds asks restricted media now when rules)
+abbrev pub diversion_among : Circumstances → When → List Rule → Option Chosen
+diversion_among k when rules =
+    option_and_then (λ place. option_and_then (diversion_by place) (slice_get rules place)) (first_that_holds k when rules)
 
 -- the diversion of the moment; none where diversion is not active
-abbrev pub diversion_of : (asks : Who → Bool) → (restricted : Bool) → (media : List (List ℕ)) → (now : ℕ) → When → Sheet → Option Chosen
-diversion_of asks restricted media now when sheet =
-    option_and_then (λ part. diversion_among asks restricted media now when part.rules) sheet.diversion
+abbrev pub diversion_of : Circumstances → When → Sheet → Option Chosen
+diversion_of k when sheet =
+    option_and_then (λ part. diversion_among k when part.rules) sheet.diversion
 
 -- the record allows the user's device to divert a call
 abbrev pub allows_deflection : Option DiversionPart → Bool

@@ -1,7 +1,7 @@
 //! The diversion that a record asks for.
 ghost use Rattle.std.specs.Prelude.{◌≡◌};
 ghost use Rattle.std.specs.Option.{option_map};
-ghost use Rattle.mmtel_rules.specs.Identities.{identity_holds};
+ghost use Rattle.mmtel_rules.specs.Circumstances.{known};
 ghost use Rattle.mmtel_diversion.specs.Diversion.{cause_of, deflection_of, diversion_by, diversion_of, shown};
 
 use mmtel_rules::{Facts, When, first};
@@ -47,7 +47,7 @@ fn diversion_by(place: usize, rule: &Rule) -> Option<Diversion<'_>>
 
 /// The diversion that the record asks for at this moment: that of the first of its rules that holds (TS 24.604 §4.5.2.6 and §4.9.1). None where diversion is not active or no rule holds, and where the first that holds forwards nowhere, which no rule of a record that was read does. It takes no memory.
 pub fn choose<'a>(s: &'a Sheet, f: &Facts, when: When) -> Option<Diversion<'a>>
-    ensures exact { let facts = f.entry.now in option_map shown result ≡ diversion_of (identity_holds facts.caller.now) facts.restricted facts.media.now facts.now when s.now }
+    ensures exact { let facts = f.entry.now in option_map shown result ≡ diversion_of (known facts) when s.now }
 {
     let part = s.diversion.as_ref()?;
     let rules = part.rules.items();

@@ -17,34 +17,18 @@ use Rattle.mmtel_scan.specs.Numbers.{Writes}
 use Rattle.mmtel_scan.specs.declared.classes.Class.TheVariants.{Digit}
 use Rattle.mmtel_scan.specs.Scanning.{parted, IsFree}
 use Rattle.mmtel_scan.proofs.NumberLaws.{number_again}
-use Rattle.mmtel_scan.proofs.Runs.{and_true, parted_again, parted_free, parted_none, parted_takes}
-use Rattle.mmtel_history.specs.EntryUri.{parts, front_from, back_from, behind, user_part, host_part, front_part, uri_params, header_parts, is_cause, cause_in, cause_number, cause_of, causes_in, has_cause, is_marked, headers_from, plain, with_front, cause_text, without_cause, with_cause}
-use Rattle.mmtel_history.proofs.PartLaws.{free_parts}
+use Rattle.mmtel_scan.proofs.Numerals.{decimal_writes}
+use Rattle.mmtel_scan.proofs.Runs.{and_true, class_free, parted_again, parted_free, parted_front, parted_none, parted_takes}
+use Rattle.mmtel_lex.proofs.UriPlaceLaws.{whole_uri, host_free, new_host, new_user, free_parts, parts_filled, parts_more, drop_one}
+use Rattle.mmtel_lex.specs.UriPlaces.{parts, front_from, back_from, behind, user_part, host_part, front_part, uri_params, header_parts}
+use Rattle.mmtel_history.specs.EntryUri.{is_cause, cause_in, cause_number, cause_of, causes_in, has_cause, is_marked, headers_from, plain, with_front, cause_text, without_cause, with_cause}
 use Rattle.mmtel_history.proofs.FrontLaws.{none_left, plain_all, plain_params, plain_none}
-use Rattle.mmtel_history.proofs.UriLaws.{whole_uri, host_free, new_host, new_user, parted_front, parts_filled, parts_more, drop_one, same_mark}
+use Rattle.mmtel_history.proofs.UriLaws.{same_mark}
 
 -- ---- digits
 
-digit_not : (b c : ℕ) → in_class Digit b ≡ false → in_class Digit c ≡ true → not (c == b) ≡ true
-unfolding in_class
-digit_not b c out is = grind (arith, nat_tests)
-
-digits_free : (b : ℕ) (ds : List ℕ) → in_class Digit b ≡ false → IsAll Digit ds → IsFree b ds
-digits_free b [] out each = refl
-digits_free b (c ∷ ds) out each =
-    let both = and_true (in_class Digit c) (list_all (in_class Digit) ds) each in
-    rw (digit_not b c out both.0, digits_free b ds out both.1) refl
-
-digit_by : (c : ℕ) → digit_value c < 10 → in_class Digit c ≡ true
-unfolding in_class
-digit_by c lt = grind (arith, nat_tests)
-
-digits_by : (ds : List ℕ) → AllDigits 10 ds → IsAll Digit ds
-digits_by [] all = refl
-digits_by (c ∷ ds) all = rw (digit_by c all.0, digits_by ds all.1) refl
-
 pub decimal_digits : (n : ℕ) → n < 65536 → IsAll Digit (decimal n)
-decimal_digits n lt = digits_by (decimal n) (decimal_is_IsNumeral n (omega arith)).0.1
+decimal_digits n lt = (decimal_writes n (omega arith)).digits.each
 
 three : (l n : ℕ) → n < 10 ^ l → 100 ≤ n → l ≤ 3 → l ≡ 3
 three zero n lt low le = absurd (omega arith)
@@ -63,7 +47,7 @@ number_law n low high =
     let bound : digits_value 10 (decimal n) < 10 ^ length (decimal n) = digits_value-lt 10 (decimal n) numeral.0.1 in
     let within : n < 10 ^ length (decimal n) = rw numeral.1 at bound in
     let len : length (decimal n) ≡ 3 = three (length (decimal n)) n within low short in
-    let writes : Writes (decimal n) n = record { digits = record { filled = omega (arith, len); each = digits_by (decimal n) numeral.0.1 }; worth = numeral.1 } in
+    let writes = decimal_writes n (omega arith) in
     rw (len, number_again 699 (decimal n) n writes high, not_under n 100 low) refl
 
 -- ---- the cause's place
@@ -194,10 +178,10 @@ abbrev caused : ℕ → List ℕ → List ℕ
 caused n u = plain (front_part u) ++ cause_text (Some n)
 
 cause_free : (n : ℕ) → n < 65536 → IsFree 63 (cause_text (Some n))
-cause_free n lt = free_both 63 (codes ";cause=") (decimal n) refl (digits_free 63 (decimal n) question (decimal_digits n lt))
+cause_free n lt = free_both 63 (codes ";cause=") (decimal n) refl (class_free Digit 63 question (decimal n) (decimal_digits n lt))
 
 cause_clear : (n : ℕ) → n < 65536 → IsFree 64 (cause_text (Some n))
-cause_clear n lt = free_both 64 (codes ";cause=") (decimal n) refl (digits_free 64 (decimal n) at_sign (decimal_digits n lt))
+cause_clear n lt = free_both 64 (codes ";cause=") (decimal n) refl (class_free Digit 64 at_sign (decimal n) (decimal_digits n lt))
 
 cause_rebuilt : (n : ℕ) (u : List ℕ) → n < 65536 → Rebuilt (caused n u) u
 cause_rebuilt n u lt =
@@ -234,7 +218,7 @@ found ps d none =
 
 params_with : (a d : List ℕ) → IsAll Digit d → drop 1 (parts 59 (a ++ (codes ";cause=" ++ d))) ≡ drop 1 (parts 59 a) ++ param d ∷ []
 params_with a d each =
-    let one : parts 59 (param d) ≡ param d ∷ [] = free_parts 59 (param d) (free_both 59 (codes "cause=") d refl (digits_free 59 d semicolon each)) in
+    let one : parts 59 (param d) ≡ param d ∷ [] = free_parts 59 (param d) (free_both 59 (codes "cause=") d refl (class_free Digit 59 semicolon d each)) in
     ap (λ (l : List (List ℕ)). drop 1 l) (parts_more 59 a (param d)) ∙ drop_one (parts 59 a) (parts 59 (param d)) (parts_filled 59 a) ∙ ap (λ (l : List (List ℕ)). drop 1 (parts 59 a) ++ l) one
 
 -- the parameters but the causes, and then the cause

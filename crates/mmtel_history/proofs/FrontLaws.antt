@@ -7,9 +7,9 @@ use Rattle.std.proofs.lemmas.List.{append-nil}
 use Rattle.std.proofs.lemmas.List.Folds.{list_all-append}
 use Rattle.std.proofs.lemmas.List.Splits.{join_with_byte-slice_split}
 use Rattle.mmtel_scan.proofs.Runs.{and_true}
-use Rattle.mmtel_history.specs.EntryUri.{parts, is_cause, but_causes, plain}
-use Rattle.mmtel_history.proofs.PartLaws.{free_parts}
-use Rattle.mmtel_history.proofs.UriLaws.{parts_filled, parts_more}
+use Rattle.mmtel_lex.proofs.UriPlaceLaws.{free_parts, parts_filled, parts_more}
+use Rattle.mmtel_lex.specs.UriPlaces.{parts}
+use Rattle.mmtel_history.specs.EntryUri.{is_cause, but_causes, plain}
 
 abbrev pub free : ℕ → List ℕ → Bool
 free b s = list_all (λ y. not (y == b)) s

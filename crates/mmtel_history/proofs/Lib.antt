@@ -7,8 +7,9 @@ pub mod ListLaws
 pub mod MaskedValueLaws
 pub mod Marks
 pub mod PartLaws
-pub mod Places
 pub mod ReadableLaws
+pub mod ToldLaws
 pub mod UriLaws
 pub mod ValueLaws
 pub mod ValuesLoop
+pub mod WrittenLaws

@@ -1,5 +1,5 @@
 -- What marks, diversions and masking keep.
-use Rattle.std.proofs.Common.{◌≡◌, Bool, true, false, cond, ◌||◌, ℕ, zero, suc, ◌+◌, ◌-◌, List, [], ◌∷◌, ◌++◌, length, Option, Some, None, refl, sym, ap, ◌∙◌, inl, inr, arith}
+use Rattle.std.proofs.Common.{◌≡◌, Bool, true, false, cond, ◌||◌, ℕ, zero, suc, ◌+◌, ◌-◌, ◌≤◌, List, [], ◌∷◌, ◌++◌, length, Option, Some, None, refl, sym, ap, ◌∙◌, inl, inr, arith}
 use Rattle.std.specs.Prelude.{map, is_some, slice_get}
 use Rattle.std.specs.Option.{option_map, option_map_or}
 use Rattle.std.proofs.Math.Bool.{or-true}
@@ -38,12 +38,12 @@ tells e = is_some e.cause
 counted_cons : (e : Entry) (h : List Entry) → diversions_in (e ∷ h) ≡ cond (tells e) 1 0 + diversions_in h
 counted_cons e h = sum_by-cons (λ x. cond (tells x) 1 0) e h
 
-marked_counts : (h : List Entry) (n : ℕ) → diversions_in (marked_at n h) ≡ diversions_in h
+pub marked_counts : (h : List Entry) (n : ℕ) → diversions_in (marked_at n h) ≡ diversions_in h
 marked_counts [] n = refl
 marked_counts (e ∷ h) zero = counted_cons (hidden_entry e) h ∙ sym (counted_cons e h)
 marked_counts (e ∷ h) (suc n) = counted_cons e (marked_at n h) ∙ ap (λ (m : ℕ). cond (tells e) 1 0 + m) (marked_counts h n) ∙ sym (counted_cons e h)
 
-hidden_counts : (hide : Bool) (h : List Entry) (n : ℕ) → diversions_in (hidden_if hide n h) ≡ diversions_in h
+pub hidden_counts : (hide : Bool) (h : List Entry) (n : ℕ) → diversions_in (hidden_if hide n h) ≡ diversions_in h
 hidden_counts true h n = marked_counts h n
 hidden_counts false h n = refl
 
@@ -78,6 +78,20 @@ after_counts h from [] is = omega arith
 after_counts h from (d ∷ ds) is =
     let more = after_counts (appended h from d.target d.cause d.hide_last) from ds (λ t. not_both _ (appended_filled h from d.target d.cause d.hide_last) t) in
     omega (arith, more, appended_counts h from d.target d.cause d.hide_last is)
+
+first_counts : (from : List ℕ) (d : Diversion) → diversions_in (appended [] from d.target d.cause d.hide_last) ≡ diversions_in (started from []) + 1
+unfolding appended
+first_counts from d = target_counts (started from []) d.target d.cause d.hide_last
+
+-- what the list tells is never fewer than what is counted
+pub after_most : (h : List Entry) (from : List ℕ) (ds : List Diversion) → diversions_in h + length ds ≤ diversions_in (after h from ds)
+after_most [] from [] = omega arith
+after_most [] from (d ∷ ds) =
+    let first : diversions_in (appended [] from d.target d.cause d.hide_last) ≡ diversions_in (started from []) + 1 = first_counts from d in
+    let more = after_counts (appended [] from d.target d.cause d.hide_last) from ds (λ t. not_both _ (appended_filled [] from d.target d.cause d.hide_last) t) in
+    let none : diversions_in [] ≡ 0 = refl in
+    omega (arith, first, more, none)
+after_most (e ∷ h) from ds = omega (arith, after_counts (e ∷ h) from ds (λ t. not_both false refl t))
 
 -- ---- masks
 
@@ -144,6 +158,10 @@ hides_alike : (all hide : Bool) (h : List Entry) (n : ℕ) → masked_list all (
 hides_alike all true h n = marks_alike all h n
 hides_alike all false h n = sym (masked_once all h)
 
+-- lists that are masked alike are masked alike after a mark
+pub hides_same : (all hide : Bool) (n : ℕ) (h g : List Entry) → masked_list all h ≡ masked_list all g → masked_list all (hidden_if hide n h) ≡ masked_list all (hidden_if hide n g)
+hides_same all hide n h g same = hides_alike all hide h n ∙ ap (λ (l : List Entry). masked_list all (hidden_if hide n l)) same ∙ sym (hides_alike all hide g n)
+
 pub length-masked : (all : Bool) (h : List Entry) → length (masked_list all h) ≡ length h
 length-masked all [] = refl
 length-masked all (e ∷ h) = ap (λ (n : ℕ). suc n) (length-masked all h)
@@ -154,6 +172,21 @@ index_entry all e =
       | inl y ↦ rw y refl
       | inr n ↦ rw n refl
     ]
+
+cause_entry : (all : Bool) (e : Entry) → (masked_entry all e).cause ≡ e.cause
+cause_entry all e =
+    elim (cases_Bool (all || e.hidden)) [
+      | inl y ↦ rw y refl
+      | inr n ↦ rw n refl
+    ]
+
+pub masked_counts : (all : Bool) (h : List Entry) → diversions_in (masked_list all h) ≡ diversions_in h
+masked_counts all [] = refl
+masked_counts all (e ∷ h) =
+    counted_cons (masked_entry all e) (masked_list all h)
+    ∙ ap (λ (c : Option ℕ). cond (is_some c) 1 0 + diversions_in (masked_list all h)) (cause_entry all e)
+    ∙ ap (λ (m : ℕ). cond (tells e) 1 0 + m) (masked_counts all h)
+    ∙ sym (counted_cons e h)
 
 index_by : (all : Bool) (o : Option Entry) → option_map_or (λ e. e.index) (option_map (masked_entry all) o) [] ≡ option_map_or (λ e. e.index) o []
 index_by all None = refl
@@ -175,7 +208,7 @@ target_alike all h target cause hide =
 abbrev appended_from : List ℕ → List ℕ → ℕ → Bool → List Entry → List Entry
 appended_from from target cause hide h = appended h from target cause hide
 
-appended_masked : (all : Bool) (h : List Entry) (from target : List ℕ) (cause : ℕ) (hide : Bool) → masked_list all (appended h from target cause hide) ≡ masked_list all (appended (masked_list all h) from target cause hide)
+pub appended_masked : (all : Bool) (h : List Entry) (from target : List ℕ) (cause : ℕ) (hide : Bool) → masked_list all (appended h from target cause hide) ≡ masked_list all (appended (masked_list all h) from target cause hide)
 unfolding appended
 appended_masked all [] from target cause hide = refl
 appended_masked all (e ∷ h) from target cause hide = target_alike all (e ∷ h) target cause hide

@@ -25,7 +25,7 @@ length-marked [] n = refl
 length-marked (x ∷ h) zero = refl
 length-marked (x ∷ h) (suc n) = ap (λ (l : ℕ). suc l) (length-marked h n)
 
-length-hidden : (hide : Bool) (n : ℕ) (h : List Entry) → length (hidden_if hide n h) ≡ length h
+pub length-hidden : (hide : Bool) (n : ℕ) (h : List Entry) → length (hidden_if hide n h) ≡ length h
 length-hidden true n h = length-marked h n
 length-hidden false n h = refl
 

@@ -1,52 +1,11 @@
--- A text in parts: the first part and the parts of what follows it.
-use Rattle.std.proofs.Common.{◌≡◌, ◌==◌, true, false, not, ℕ, zero, suc, ◌+◌, ◌≤◌, ◌<◌, List, [], ◌∷◌, ◌++◌, length, take, drop, get_or, Option, Some, None, refl, sym, ap, subst, ◌∙◌, arith, inl, inr, nat_lt, min, append_assoc, add-one, drop-cons}
-use Rattle.std.specs.Prelude.{IfSome, MatchOption}
-use Rattle.std.specs.Option.{option_map}
-use Rattle.std.specs.List.{list_all, prefix_len, onto_first}
+-- A text in parts at escaped semicolons: the first part and the parts of what follows it.
+use Rattle.std.proofs.Common.{◌≡◌, true, false, ℕ, zero, suc, ◌+◌, ◌≤◌, ◌<◌, List, [], ◌∷◌, ◌++◌, length, take, drop, get_or, refl, sym, ap, subst, ◌∙◌, arith, inl, inr, nat_lt, min, append_assoc, add-one, drop-cons}
+use Rattle.std.specs.List.{onto_first}
 use Rattle.std.proofs.lemmas.Bool.{cases_Bool, ltb-true}
-use Rattle.std.proofs.lemmas.List.{length-drop, drop_all, append-nil, take_all}
-use Rattle.std.proofs.lemmas.List.Splits.{slice_split_first}
+use Rattle.std.proofs.lemmas.List.{drop_all, append-nil, take_all}
 use Rattle.std.proofs.Math.Seq.{take-suc}
-use Rattle.mmtel_scan.specs.Scanning.{parted, IsFree}
-use Rattle.mmtel_scan.proofs.Runs.{and_true, parted_none}
-use Rattle.mmtel_scan.proofs.ChainLaws.{some_is}
-use Rattle.mmtel_history.specs.EntryUri.{parts, begins_escape, escaped_from, escaped_parts}
-
-pub free_parts : (b : ℕ) (s : List ℕ) → IsFree b s → parts b s ≡ s ∷ []
-free_parts b [] free = refl
-free_parts b (x ∷ s) free =
-    let both = and_true (not (x == b)) (list_all (λ y. not (y == b)) s) free in
-    elim (cases_Bool (x == b)) [
-      | inl y ↦ absurd (let t : not (x == b) ≡ true = both.0 in cc)
-      | inr n ↦ rw (n, free_parts b s both.1) refl
-    ]
-
-record Parts (b : ℕ) (s : List ℕ) (x : List ℕ × List ℕ) : Type 0 where
-  split : parts b s ≡ x.0 ∷ parts b x.1
-  shorter : length x.1 < length s
-
-some_parts : (b : ℕ) (s : List ℕ) (x : List ℕ × List ℕ) → parted b s ≡ Some x → Parts b s x
-unfolding parted
-some_parts b s x e =
-    let n : ℕ = prefix_len (λ y. not (y == b)) s in
-    elim (cases_Bool (nat_lt (prefix_len (λ y. not (y == b)) s) (length s))) [
-      | inl y ↦
-          let lt : prefix_len (λ y. not (y == b)) s < length s = ltb-true _ _ y in
-          let whole : parts b s ≡ take (prefix_len (λ y. not (y == b)) s) s ∷ parts b (drop (prefix_len (λ y. not (y == b)) s + 1) s) = slice_split_first (λ y. y == b) s 0 lt in
-          let less : length (drop (prefix_len (λ y. not (y == b)) s + 1) s) < length s = omega (arith, length-drop (prefix_len (λ y. not (y == b)) s + 1) s) in
-          subst (λ (z : List ℕ × List ℕ). Parts b s z) (some_is _ x (rw y at e)) (record { split = whole; shorter = less })
-      | inr m ↦ absurd (let f = rw m at e in cc)
-    ]
-
-pub first_by : {A : Type 0} (b : ℕ) (s : List ℕ) (r : Option A) (f : A → List ℕ × List ℕ) → option_map f r ≡ parted b s → MatchOption r (parts b s ≡ s ∷ []) (λ x. parts b s ≡ (f x).0 ∷ parts b (f x).1)
-first_by b s None f e = free_parts b s (parted_none b s (sym e))
-first_by b s (Some x) f e = (some_parts b s (f x) (sym e)).split
-
-pub shorter_by : {A : Type 0} (b : ℕ) (s : List ℕ) (r : Option A) (f : A → List ℕ × List ℕ) → option_map f r ≡ parted b s → IfSome r (λ x. length (f x).1 < length s)
-shorter_by b s None f e = tt
-shorter_by b s (Some x) f e = (some_parts b s (f x) (sym e)).shorter
-
--- ---- escaped semicolons
+use Rattle.mmtel_lex.proofs.UriPlaceLaws.{Filled, filled_first}
+use Rattle.mmtel_history.specs.EntryUri.{begins_escape, escaped_from, escaped_parts}
 
 abbrev pub onto_front : List ℕ → List (List ℕ) → List (List ℕ)
 onto_front a [] = a ∷ []
@@ -62,13 +21,6 @@ onto_first_front x (p ∷ ps) = refl
 onto_twice : (a : List ℕ) (x : ℕ) (ps : List (List ℕ)) → onto_front a (onto_first x ps) ≡ onto_front (a ++ x ∷ []) ps
 onto_twice a x [] = refl
 onto_twice a x (p ∷ ps) = ap (λ (l : List ℕ). l ∷ ps) (sym (append_assoc a (x ∷ []) p))
-
-abbrev Filled : List (List ℕ) → Type 0
-Filled ps = (p : List ℕ) × (rest : List (List ℕ)) × (ps ≡ p ∷ rest)
-
-filled_first : (x : ℕ) (ps : List (List ℕ)) → Filled (onto_first x ps)
-filled_first x [] = (x ∷ [], [], refl)
-filled_first x (p ∷ ps) = (x ∷ p, ps, refl)
 
 filled : (n : ℕ) (s : List ℕ) → Filled (escaped_from n s)
 filled zero [] = ([], [], refl)

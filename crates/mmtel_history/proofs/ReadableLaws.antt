@@ -20,13 +20,14 @@ use Rattle.mmtel_lex.specs.Reading.{name_addr_of}
 use Rattle.mmtel_lex.specs.declared.values.NameAddr.{NameAddr}
 use Rattle.mmtel_lex.proofs.NameAddrLaws.{name_addr_takes}
 use Rattle.mmtel_message.specs.Entries.{is_dotted, is_indexed}
-use Rattle.mmtel_history.specs.EntryUri.{front_from, user_part, host_part, front_part, uri_params, is_cause, cause_in, cause_number, from_hundred, cause_of, hides, is_marked, headers_from, plain, with_front, cause_text, with_cause}
+use Rattle.mmtel_lex.specs.UriPlaces.{front_from, user_part, host_part, front_part, uri_params}
+use Rattle.mmtel_history.specs.EntryUri.{is_cause, cause_in, cause_number, from_hundred, cause_of, hides, is_marked, headers_from, plain, with_front, cause_text, with_cause}
 use Rattle.mmtel_history.specs.HistoryInfo.{index_of, but_index, entry_with, entry_in, entry_of, entries_of, anonymous, masked_uri, masked_list, hidden_entry, marked_at, hidden_if, started, last_index, target_entry, with_target, appended, IsReadable, AreReadable, IsUriText, IsTarget}
 use Rattle.mmtel_history.specs.declared.entries.Entry.{Entry}
 use Rattle.mmtel_history.proofs.CauseLaws.{cause_law, cause_keeps_mark, decimal_digits}
 use Rattle.mmtel_history.proofs.FrontLaws.{plain_all}
 use Rattle.mmtel_history.proofs.IndexLaws.{dotted_more, index_dotted, others_readable}
-use Rattle.mmtel_history.proofs.UriLaws.{whole_uri}
+use Rattle.mmtel_lex.proofs.UriPlaceLaws.{whole_uri}
 
 -- ---- what was read
 
@@ -82,7 +83,7 @@ marked_readable [] n are = tt
 marked_readable (e ∷ h) zero are = (hidden_readable e are.0, are.1)
 marked_readable (e ∷ h) (suc n) are = (are.0, marked_readable h n are.1)
 
-hidden_if_readable : (hide : Bool) (h : List Entry) (n : ℕ) → AreReadable h → AreReadable (hidden_if hide n h)
+pub hidden_if_readable : (hide : Bool) (h : List Entry) (n : ℕ) → AreReadable h → AreReadable (hidden_if hide n h)
 hidden_if_readable true h n are = marked_readable h n are
 hidden_if_readable false h n are = are
 

@@ -1,5 +1,5 @@
--- The list of History-Info entries: how a value is read and written, and what a diversion, a mark and masking do to the list (RFC 7044 §5, §9 and §10.1; RFC 3323 §4.2).
-use Rattle.std.specs.Prelude.{◌≡◌, ◌≤◌, ℕ, zero, suc, Bool, true, false, ◌||◌, ◌-◌, if◌then◌else◌, nat_lt, List, [], ◌∷◌, ◌++◌, length, take, map, position, slice_get, Option, Some, None, is_some, is_none, option_to_list, Result, Ok, Err, codes, count_by}
+-- The list of History-Info entries: how a value is read and written; what a diversion, a mark and masking do to the list (RFC 7044 §5, §9 and §10.1; RFC 3323 §4.2); and what a 181 tells of it and counts against the bound on diversions (TS 24.604 §4.5.2.6).
+use Rattle.std.specs.Prelude.{◌≡◌, ◌≤◌, ℕ, zero, suc, Bool, true, false, ◌||◌, ◌+◌, ◌-◌, if◌then◌else◌, nat_lt, List, [], ◌∷◌, ◌++◌, length, take, map, position, slice_get, Option, Some, None, is_some, is_none, option_to_list, Result, Ok, Err, codes, count_by}
 use Rattle.std.specs.List.{flat_map}
 use Rattle.std.specs.Option.{option_map_or, unwrap_or}
 use Rattle.std.specs.Str.{str_eq_ignore_ascii_case}
@@ -112,9 +112,21 @@ with_target h target cause hide_last = hidden_if hide_last (length h - 1) h ++ t
 unfoldable pub appended : List Entry → List ℕ → List ℕ → ℕ → Bool → List Entry
 appended h from target cause hide_last = with_target (started from h) target cause hide_last
 
+-- the list as the 181 about its last diversion tells it: the diverting entry, which is the last but one, and the target's, the last, are hidden too where so wished; in a list of one entry both are that one (TS 24.604 §4.5.2.6)
+abbrev pub told_to_caller : Bool → Bool → List Entry → List Entry
+told_to_caller hide_diverting hide_target h = hidden_if hide_target (length h - 1) (hidden_if hide_diverting (length h - 2) h)
+
+-- ---- counts
+
 -- the entries with a cause
 abbrev pub diversions_in : List Entry → ℕ
 diversions_in h = count_by (λ e. is_some e.cause) h
+
+-- the diversions of a call so far, as they count against the bound: those that the received list tells, and those that were made since
+abbrev pub diversions_so_far : List Entry → ℕ → ℕ
+diversions_so_far received made = diversions_in received + made
+
+-- ---- masks
 
 -- nobody's URI: it stands for a URI that is not shown (RFC 3323 §4.1.1.3)
 abbrev pub anonymous : List ℕ
@@ -162,6 +174,10 @@ written e = record e { uri = shown_uri e }
 -- an entry but for its mark
 abbrev pub unmarked : Entry → Entry
 unmarked e = record e { hidden = false }
+
+-- an entry that is hidden, where it was not already, if this says so
+abbrev pub also_hidden : Bool → Entry → Entry
+also_hidden hide e = record e { hidden = hide || e.hidden }
 
 -- an entry but for its URI and its mark, where it is hidden or all are
 abbrev pub seen_entry : Bool → Entry → Entry

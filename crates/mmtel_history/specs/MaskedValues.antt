@@ -1,5 +1,5 @@
 -- A received value of History-Info as somebody may see it who is not to know its URI (RFC 3323 §4.2, RFC 7044 §10.1).
-use Rattle.std.specs.Prelude.{ℕ, Bool, true, false, List, Option, Some, None}
+use Rattle.std.specs.Prelude.{ℕ, Bool, true, false, ◌||◌, if◌then◌else◌, List, Option, Some, None}
 use Rattle.mmtel_history.specs.HistoryInfo.{entry_of, entry_text, masked_entry}
 use Rattle.mmtel_history.specs.declared.entries.Entry.{Entry}
 
@@ -18,3 +18,7 @@ is_hidden (Some e) = e.hidden
 -- an entry that asks to be hidden
 unfoldable pub is_marked_value : List ℕ → Bool
 is_marked_value value = is_hidden (entry_of value)
+
+-- the value as it may be seen: masked where it asks to be hidden, or where all are
+abbrev pub seen_value : Bool → List ℕ → List ℕ
+seen_value all value = if all || is_marked_value value then masked_value_text value else value

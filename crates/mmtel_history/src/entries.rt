@@ -29,6 +29,28 @@ pub struct Entry {
     pub rest: Text,
 }
 
+impl Entry {
+    /// A copy of the entry.
+    ///
+    /// # Errors
+    ///
+    /// Want of memory alone.
+    pub fn copied(&self, alloc: Global) -> Result<Entry, NoMemory>
+        ensures same { IfOk result (λ e. e ≡ self.now) }
+    {
+        let uri = Text::of(alloc, self.uri.bytes())?;
+        let index = Text::of(alloc, self.index.bytes())?;
+        let rest = Text::of(alloc, self.rest.bytes())?;
+        Ok(Entry {
+            uri,
+            index,
+            cause: self.cause,
+            hidden: self.hidden,
+            rest,
+        })
+    }
+}
+
 /// Whether the parameter is an index.
 fn is_index(param: &Param) -> bool
     ensures { result ≡ is_index param.now }
@@ -183,18 +205,10 @@ fn masked_uri(alloc: Global, cause: Option<u16>) -> Result<Text, NoMemory>
 pub fn masked_entry(alloc: Global, entry: &Entry, all: bool) -> Result<Entry, NoMemory>
     ensures { IfOk result (λ e. e ≡ masked_entry all entry.now) }
 {
-    let index = Text::of(alloc, entry.index.bytes())?;
-    let rest = Text::of(alloc, entry.rest.bytes())?;
-    let uri = if all || entry.hidden {
-        masked_uri(alloc, entry.cause)?
-    } else {
-        Text::of(alloc, entry.uri.bytes())?
-    };
-    Ok(Entry {
-        uri,
-        index,
-        cause: entry.cause,
-        hidden: false,
-        rest,
-    })
+    let mut masked = entry.copied(alloc)?;
+    if all || entry.hidden {
+        masked.uri = masked_uri(alloc, entry.cause)?;
+        masked.hidden = false;
+    }
+    Ok(masked)
 }

@@ -1,6 +1,6 @@
 //! The list of entries.
 ghost use Rattle.std.specs.Prelude.{if◌then◌else◌, ℕ, List, Bool, true, None, map, slice_set, ◌≡◌, ◌+◌, ◌++◌, ◌∷◌, ◌≤◌, ◌<◌, [], length, IfOk, IfErr, OnOk, OnErr, take};
-ghost use Rattle.mmtel_history.specs.HistoryInfo.{IsReading, reading, marked_at, hidden_if, last_index, with_target, appended, after, Diversion, diversions_in, is_empty, masked_list, seen_entry, unmarked, AreReadable, IsUriText, IsTarget};
+ghost use Rattle.mmtel_history.specs.HistoryInfo.{IsReading, reading, marked_at, hidden_if, last_index, with_target, appended, told_to_caller, after, Diversion, diversions_in, diversions_so_far, is_empty, masked_list, seen_entry, unmarked, also_hidden, AreReadable, IsUriText, IsTarget};
 ghost use Rattle.mmtel_history.specs.EntryUri.{cause_of};
 ghost use Rattle.mmtel_history.specs.declared.entries.Entry.{Entry};
 
@@ -148,6 +148,29 @@ fn count_causes(entries: &[Entry]) -> u16
     entries.iter().filter(|entry| entry.cause.is_some()).count() as u16
 }
 
+/// Hides the entries that a 181 is not to tell: the last but one, and the last.
+fn hide_told(entries: &mut Vec<Entry>, hide_diverting: bool, hide_target: bool)
+    ensures { entries.new.items ≡ told_to_caller hide_diverting hide_target entries.old.items }
+{
+    let len = entries.len();
+    if len == 0 {
+        return;
+    }
+    hide_if(entries, hide_diverting, len.saturating_sub(2));
+    hide_if(entries, hide_target, len - 1);
+}
+
+/// Copies of the entries.
+fn copied_entries(alloc: Global, entries: &[Entry]) -> Result<Vec<Entry>, NoMemory>
+    ensures { IfOk result (λ v. v.items ≡ entries.now) }
+{
+    let mut out = Vec::new(alloc);
+    for entry in entries {
+        out.push(entry.copied(alloc)?)?;
+    }
+    Ok(out)
+}
+
 /// The entries, masked.
 fn masked_entries(alloc: Global, entries: &[Entry], all: bool) -> Result<Vec<Entry>, NoMemory>
     ensures { IfOk result (λ v. v.items ≡ masked_list all entries.now) }
@@ -160,6 +183,27 @@ fn masked_entries(alloc: Global, entries: &[Entry], all: bool) -> Result<Vec<Ent
 }
 
 impl History {
+    /// The list of no entries. It takes no memory.
+    pub fn new(alloc: Global) -> History
+        ensures { result ≡ [] }
+    {
+        History {
+            entries: Vec::new(alloc),
+        }
+    }
+
+    /// A copy of the list.
+    ///
+    /// # Errors
+    ///
+    /// Want of memory alone.
+    pub fn copied(&self, alloc: Global) -> Result<History, NoMemory>
+        ensures same { IfOk result (λ h. h ≡ self.now) }
+    {
+        let entries = copied_entries(alloc, self.entries.as_slice())?;
+        Ok(History { entries })
+    }
+
     /// The entries, in order.
     pub fn entries(&self) -> &[Entry]
         ensures items { result.now ≡ self.now }
@@ -179,7 +223,11 @@ impl History {
         ensures keeps { map unmarked self.new ≡ map unmarked self.old }
         // A second mark changes nothing.
         ensures once { marked_at place self.new ≡ self.new }
+        // No diversion more is counted.
+        ensures counts { diversions_in self.new ≡ diversions_in self.old }
         ensures readable { AreReadable self.old → AreReadable self.new }
+        // Lists that are masked alike are masked alike after a mark.
+        ensures masks_alike { (all : Bool) (other : List Entry) → masked_list all other ≡ masked_list all self.old → masked_list all self.new ≡ masked_list all (marked_at place other) }
     {
         self.entries[place].hidden = true;
     }
@@ -221,12 +269,37 @@ impl History {
         )
     }
 
+    /// The list as the 181 about its last diversion tells it to the caller: a list of its own, in which the entry of the user who diverted, the last but one, is hidden too if `hide_diverting` says so, and the target's, the last, if `hide_target` does (TS 24.604 §4.5.2.6). Such marks are of that one 181, and this list has none of them.
+    ///
+    /// # Errors
+    ///
+    /// Want of memory alone.
+    pub fn told_to_caller(
+        &self,
+        alloc: Global,
+        hide_diverting: bool,
+        hide_target: bool,
+    ) -> Result<History, NoMemory>
+        ensures told { IfOk result (λ h. h ≡ told_to_caller hide_diverting hide_target self.now) }
+        // Of the other entries nothing changes.
+        ensures places { (front : List Entry) (diverting target : Entry) → self.now ≡ front ++ diverting ∷ target ∷ [] → IfOk result (λ h. h ≡ front ++ also_hidden hide_diverting diverting ∷ also_hidden hide_target target ∷ []) }
+        ensures keeps { IfOk result (λ h. map unmarked h ≡ map unmarked self.now) }
+        ensures counts { IfOk result (λ h. diversions_in h ≡ diversions_in self.now) }
+        ensures readable { AreReadable self.now → IfOk result (λ h. AreReadable h) }
+        // Lists that are masked alike tell alike what is masked.
+        ensures masks_alike { (all : Bool) (other : List Entry) → masked_list all other ≡ masked_list all self.now → IfOk result (λ h. masked_list all h ≡ masked_list all (told_to_caller hide_diverting hide_target other)) }
+    {
+        let mut entries = copied_entries(alloc, self.entries.as_slice())?;
+        hide_told(&mut entries, hide_diverting, hide_target);
+        Ok(History { entries })
+    }
+
     /// How many entries tell a diversion: those with a cause.
     pub fn diversions(&self) -> u16
         ensures counted { result ≡ diversions_in self.now }
         ensures most { result ≤ length self.now }
         // After k diversions it is k more, where a first URI has no cause of its own.
-        ensures each { (h : List Entry) (from : List ℕ) (ds : List Diversion) → (is_empty h ≡ true → cause_of from ≡ None) → self.now ≡ after h from ds → result ≡ diversions_in h + length ds }
+        ensures each { (h : List Entry) (from : List ℕ) (ds : List Diversion) → (is_empty h ≡ true → cause_of from ≡ None) → self.now ≡ after h from ds → result ≡ diversions_so_far h (length ds) }
     {
         count_causes(self.entries.as_slice())
     }
@@ -244,6 +317,7 @@ impl History {
         // Each cause is kept, and each index.
         ensures causes { IfOk result (λ h. map (λ e. e.cause) h ≡ map (λ e. e.cause) self.now) }
         ensures indices { IfOk result (λ h. map (λ e. e.index) h ≡ map (λ e. e.index) self.now) }
+        ensures counts { IfOk result (λ h. diversions_in h ≡ diversions_in self.now) }
         // Masked once is masked.
         ensures once { IfOk result (λ h. masked_list all h ≡ h) }
         ensures readable { AreReadable self.now → IfOk result (λ h. AreReadable h) }

@@ -1,28 +1,13 @@
 //! What an entry's URI says: its cause, and whether it asks to be hidden.
 ghost use Rattle.std.specs.Prelude.{◌≡◌, ◌∷◌, [], ◌++◌, ◌≤◌, ◌<◌, not, length, take, drop, filter, IfOk, IfSome, OnOk, Some, false};
-ghost use Rattle.std.specs.List.{list_any, find, flat_map};
-ghost use Rattle.std.specs.Option.{option_copied};
-ghost use Rattle.mmtel_history.specs.EntryUri.{parts, before, front_part, uri_params, header_parts, user_part, host_part, cause_number, is_cause, cause_of, causes_in, escaped_parts, is_history, hides, is_marked, has_headers, has_cause, mark_text, marked_uri, plain, with_front, cause_text, without_cause, with_cause};
+ghost use Rattle.std.specs.List.{list_any, flat_map};
+ghost use Rattle.mmtel_lex.specs.UriPlaces.{parts, front_part};
+ghost use Rattle.mmtel_history.specs.EntryUri.{cause_number, is_cause, cause_of, causes_in, escaped_parts, is_history, hides, is_marked, has_headers, has_cause, mark_text, marked_uri, plain, with_front, cause_text, without_cause, with_cause};
 
-use crate::parts::{cut, first_escaped, first_part, is_named};
+use crate::parts::first_escaped;
+use mmtel_lex::{cut, first_part, is_named, split_user, uri_param};
 use mmtel_scan::{NoMemory, Text, number_up_to, part};
 use std::alloc::Global;
-
-/// The URI cut behind its last `@`, where it has one.
-#[tactic(auto, unfolding(crate::specs::EntryUri::user_part, crate::specs::EntryUri::host_part))]
-fn split_user(uri: &[u8]) -> (&[u8], &[u8])
-    ensures user { result.0.now ≡ user_part uri.now }
-    ensures host { result.1.now ≡ host_part uri.now }
-{
-    let mut at = uri.len();
-    'back: while at > 0 {
-        if uri[at - 1] == b'@' {
-            break;
-        }
-        at -= 1;
-    }
-    uri.split_at(at)
-}
 
 /// The number of three digits from 100 to 699.
 #[tactic(auto, unfolding(crate::specs::EntryUri::cause_number))]
@@ -44,40 +29,17 @@ fn cause_number(digits: &[u8]) -> Option<u16>
     }
 }
 
-/// The first of the parts that is a cause.
-fn find_cause(bytes: &[u8]) -> Option<&[u8]>
-    ensures { option_copied result ≡ find is_cause (parts 59 bytes.now) }
-{
-    let mut rest = bytes;
-    'parts: while let Some((front, tail)) = first_part(b';', rest) {
-        if is_named(b"cause", front) {
-            return Some(front);
-        }
-        rest = tail;
-    }
-    if is_named(b"cause", rest) {
-        Some(rest)
-    } else {
-        None
-    }
-}
-
 /// The cause of the diversion that led to the URI (RFC 4458 §2).
 #[tactic(auto, unfolding(crate::specs::EntryUri::cause_of))]
 pub fn cause_of(uri: &[u8]) -> Option<u16>
     ensures { result ≡ cause_of uri.now }
 {
-    let (_, host) = split_user(uri);
-    let (front, _) = cut(b'?', host);
-    match first_part(b';', front) {
+    match uri_param(uri, b"cause") {
         None => None,
-        Some((_, params)) => match find_cause(params) {
-            None => None,
-            Some(param) => {
-                let (_, digits) = cut(b'=', param);
-                cause_number(digits)
-            }
-        },
+        Some(param) => {
+            let (_, digits) = cut(b'=', param);
+            cause_number(digits)
+        }
     }
 }
 

@@ -8,7 +8,8 @@ use Rattle.mmtel_scan.specs.Classes.{in_class}
 use Rattle.mmtel_scan.specs.declared.classes.Class.TheVariants.{Digit}
 use Rattle.mmtel_scan.specs.Scanning.{after_text}
 use Rattle.mmtel_types.specs.declared.numbers.Account.{Account}
-use Rattle.mmtel_http.specs.Places.{has_slash, leads_zero, numbered, path_place, place_of, route_of, sheet_route}
+use Rattle.mmtel_scan.specs.Numbers.{leads_zero}
+use Rattle.mmtel_http.specs.Places.{has_slash, numbered, path_place, place_of, route_of, sheet_route}
 use Rattle.mmtel_http.specs.declared.places.Place.TheVariants as place
 use Rattle.mmtel_http.specs.declared.routes.Route.TheVariants as route
 

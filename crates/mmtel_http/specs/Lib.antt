@@ -1,5 +1,8 @@
+-- What public clauses cite, which a user of the crate has to believe.
 pub mod Heads
 pub mod Requests
 pub mod Seen
 pub mod Replies
 pub mod Places
+
+-- What private functions alone cite: nothing.

@@ -6,7 +6,7 @@ use Rattle.std.specs.Option.{option_map}
 use Rattle.std.specs.Str.{bytes_eq, is_utf8}
 use Rattle.mmtel_scan.specs.Classes.{in_class}
 use Rattle.mmtel_scan.specs.declared.classes.Class.TheVariants.{Digit}
-use Rattle.mmtel_scan.specs.Numbers.{number_of}
+use Rattle.mmtel_scan.specs.Numbers.{leads_zero, number_of}
 use Rattle.mmtel_scan.specs.Scanning.{after_text}
 use Rattle.mmtel_types.specs.declared.numbers.Account.{Account}
 use Rattle.mmtel_http.specs.declared.places.Place.{Place}
@@ -15,12 +15,6 @@ use Rattle.mmtel_http.specs.declared.places.Method.{Method}
 use Rattle.mmtel_http.specs.declared.places.Method.TheVariants as method
 use Rattle.mmtel_http.specs.declared.routes.Route.{Route}
 use Rattle.mmtel_http.specs.declared.routes.Route.TheVariants as route
-
--- a zero in front of other digits
-abbrev pub leads_zero : List ℕ → Bool
-leads_zero [] = false
-leads_zero (b ∷ []) = false
-leads_zero (b ∷ c ∷ s) = b == 48
 
 -- a number in decimal, without zeros in front
 abbrev pub is_decimal : List ℕ → Bool

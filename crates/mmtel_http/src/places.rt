@@ -1,11 +1,11 @@
 //! What a request names.
 ghost use Rattle.std.specs.Prelude.{◌≡◌, IfOk, codes};
 ghost use Rattle.mmtel_scan.specs.Scanning.{after_text};
-ghost use Rattle.mmtel_http.specs.Places.{account_of, leads_zero, is_decimal, numbered, path_place, place_of, method_of, route_of};
+ghost use Rattle.mmtel_http.specs.Places.{account_of, is_decimal, numbered, path_place, place_of, method_of, route_of};
 
 use crate::routes::{Route, route_of};
 use http::method::MethodError;
-use mmtel_scan::{Class, NoMemory, is_all, number_up_to, skip_text};
+use mmtel_scan::{Class, NoMemory, is_all, leads_zero, number_up_to, skip_text};
 use mmtel_types::Account;
 use std::alloc::Global;
 
@@ -31,15 +31,6 @@ pub enum Method {
     Delete,
     /// Something else.
     Other,
-}
-
-fn leads_zero(digits: &[u8]) -> bool
-    ensures { result ≡ leads_zero digits.now }
-{
-    match digits {
-        [first, _, ..] => *first == b'0',
-        _ => false,
-    }
 }
 
 fn is_decimal(digits: &[u8]) -> bool

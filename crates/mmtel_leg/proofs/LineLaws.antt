@@ -1,11 +1,9 @@
 -- What is found by a name among the lines of a request: Route values do not hide it.
 use Rattle.std.proofs.Common.{ℕ, ◌≡◌, false, List, [], ◌∷◌, ◌++◌, Some, append_assoc, codes, decimal, map, refl}
 use Rattle.std.specs.Str.{str_eq_ignore_ascii_case}
-use Rattle.mmtel_message.specs.Message.{first_value}
-use Rattle.mmtel_trust.specs.Privacy.{Line}
-use Rattle.mmtel_trust.specs.declared.addrs.Addr.{Addr}
+use Rattle.mmtel_message.specs.Message.{Line, first_value, line}
+use Rattle.mmtel_types.specs.declared.addrs.Addr.{Addr}
 use Rattle.mmtel_leg.specs.Requests.{Given, content_lines, cseq_text, dialog_lines, numbered, route_line, routing_lines, to_text}
-use Rattle.mmtel_leg.specs.Lines.{line}
 use Rattle.mmtel_leg.specs.declared.dialogues.Dialogue.{Dialogue}
 
 behind_routes : (name : List ℕ) (routes : List (List ℕ)) (ls : List Line) → str_eq_ignore_ascii_case (codes "Route") name ≡ false → first_value name (map route_line routes ++ ls) ≡ first_value name ls

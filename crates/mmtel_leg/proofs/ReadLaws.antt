@@ -1,41 +1,27 @@
 -- CSeq that is written is read again (RFC 3261 §20.16).
-use Rattle.std.proofs.Common.{◌∙◌, ◌≡◌, ◌^◌, ◌<◌, ℕ, true, false, List, [], ◌∷◌, Option, Some, None, append-nil, ap, arith, decimal, refl, sym}
+use Rattle.std.proofs.Common.{◌∙◌, ◌≡◌, ◌^◌, ◌<◌, ℕ, List, [], ◌∷◌, Option, Some, None, append-nil, ap, arith, decimal, refl, sym}
 use Rattle.std.specs.List.{list_all}
-use Rattle.std.specs.Char.{digit_value}
 use Rattle.std.specs.Option.{option_map}
-use Rattle.std.specs.Str.Parse.{AllDigits, digits_value}
-use Rattle.std.proofs.lemmas.Bool.Decides.{nat_tests}
-use Rattle.std.proofs.lemmas.Fmt.{decimal_is_IsNumeral}
+use Rattle.std.specs.Str.Parse.{digits_value}
 use Rattle.mmtel_scan.specs.Chain.{◌>>=◌}
 use Rattle.mmtel_scan.specs.Classes.{IsAll, Stops, in_class}
-use Rattle.mmtel_scan.specs.Numbers.{Writes, number_of}
+use Rattle.mmtel_scan.specs.Numbers.{number_of}
 use Rattle.mmtel_scan.specs.Scanning.{after_run, run}
 use Rattle.mmtel_scan.specs.declared.classes.Class.TheVariants.{Blank, Digit, Token}
 use Rattle.mmtel_scan.proofs.ChainLaws.{bind_some, some_is}
 use Rattle.mmtel_scan.proofs.NumberLaws.{number_again, number_takes}
+use Rattle.mmtel_scan.proofs.Numerals.{decimal_writes}
 use Rattle.mmtel_scan.proofs.Runs.{after_run_again, and_true, run_again}
 use Rattle.mmtel_lex.specs.Grammar.{IsToken}
 use Rattle.mmtel_lex.specs.Reading.{token_at}
 use Rattle.mmtel_lex.proofs.ParamLaws.{token_again}
 use Rattle.mmtel_message.specs.Fields.{after_blanks, cseq_at, if_end}
 use Rattle.mmtel_message.specs.declared.fields.CSeq.{CSeq}
+use Rattle.mmtel_message.proofs.ViaLaws.{behind_blank, token_dark}
 use Rattle.mmtel_leg.specs.Dialogues.{number_at}
 use Rattle.mmtel_leg.specs.Requests.{cseq_text}
 
 -- ---- digits
-
-digit_by : (c : ℕ) → digit_value c < 10 → in_class Digit c ≡ true
-unfolding in_class
-digit_by c lt = grind (arith, nat_tests)
-
-digits_by : (ds : List ℕ) → AllDigits 10 ds → IsAll Digit ds
-digits_by [] all = refl
-digits_by (c ∷ ds) all = rw (digit_by c all.0, digits_by ds all.1) refl
-
-pub decimal_writes : (n : ℕ) → n < 2 ^ 64 → Writes (decimal n) n
-decimal_writes n small =
-    let numeral = decimal_is_IsNumeral n small in
-    record { digits = record { filled = numeral.0.0; each = digits_by (decimal n) numeral.0.1 }; worth = numeral.1 }
 
 blank_stops : (method : List ℕ) → Stops Digit (32 ∷ method)
 unfolding in_class
@@ -49,23 +35,9 @@ digits_after n method small = after_run_again Digit (decimal n) (32 ∷ method) 
 
 -- ---- the method behind a blank
 
-token_no_blank : (b : ℕ) → in_class Token b ≡ true → in_class Blank b ≡ false
-unfolding in_class
-token_no_blank b e = grind (arith, nat_tests)
-
-pub token_stops : (method : List ℕ) → IsAll Token method → Stops Blank method
+token_stops : (method : List ℕ) → IsAll Token method → Stops Blank method
 token_stops [] each = tt
-token_stops (b ∷ s) each = token_no_blank b (and_true (in_class Token b) (list_all (in_class Token) s) each).0
-
-one_blank : IsAll Blank (32 ∷ [])
-unfolding in_class
-one_blank = refl
-
-behind_blank : (method : List ℕ) → IsToken method → after_blanks (32 ∷ method) ≡ Some method
-behind_blank method token =
-    let ran : run Blank (32 ∷ method) ≡ 32 ∷ [] = run_again Blank (32 ∷ []) method one_blank (token_stops method token.each) in
-    let rest : after_run Blank (32 ∷ method) ≡ method = after_run_again Blank (32 ∷ []) method one_blank (token_stops method token.each) in
-    rw (ran, rest) refl
+token_stops (b ∷ s) each = token_dark b (and_true (in_class Token b) (list_all (in_class Token) s) each).0
 
 whole_token : (method : List ℕ) → IsToken method → token_at method ≡ Some (method, [])
 whole_token method token = ap token_at (sym (append-nil method)) ∙ token_again method [] token tt
@@ -76,7 +48,7 @@ pub cseq_again : (n : ℕ) (method : List ℕ) → n < 2 ^ 31 → IsToken method
 unfolding cseq_at
 cseq_again n method small token =
     let fits : n < 2 ^ 64 = omega arith in
-    rw (digits_run n method fits, digits_after n method fits, number_again 2147483647 (decimal n) n (decimal_writes n fits) (omega arith), behind_blank method token, whole_token method token) refl
+    rw (digits_run n method fits, digits_after n method fits, number_again 2147483647 (decimal n) n (decimal_writes n fits) (omega arith), behind_blank method (token_stops method token.each), whole_token method token) refl
 
 -- a number that is read is the one that was written
 

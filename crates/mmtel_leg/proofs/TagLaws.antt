@@ -1,108 +1,39 @@
 -- A tag that is put behind a From or To value is the one that is read of it (RFC 3261 §19.3), and the names of a dialog stay.
-use Rattle.std.proofs.Common.{◌∙◌, ◌≡◌, ◌⊎◌, inl, inr, ◌||◌, Bool, true, false, not, ℕ, List, [], ◌∷◌, ◌++◌, Option, Some, None, Result, Ok, Err, IfSome, append-nil, append_assoc, ap, arith, codes, cond, length, refl, sym, subst}
+use Rattle.std.proofs.Common.{◌∙◌, ◌≡◌, ◌⊎◌, inl, inr, Bool, true, false, ℕ, List, [], ◌∷◌, ◌++◌, Option, Some, None, Result, Ok, Err, IfSome, ap, arith, codes, cond, length, refl, subst}
 use Rattle.std.proofs.lemmas.List.{length-append}
-use Rattle.std.specs.List.{list_any}
 use Rattle.std.specs.Option.{unwrap_or}
 use Rattle.mmtel_scan.specs.Chain.{◌>>=◌}
-use Rattle.mmtel_scan.specs.Classes.{Stops, in_class}
-use Rattle.mmtel_scan.specs.declared.classes.Class.TheVariants.{Blank}
-use Rattle.mmtel_lex.specs.Grammar.{AreParams, IsNameAddr, IsToken, IsValue, param_text, params_text}
+use Rattle.mmtel_lex.specs.Grammar.{AreParams, IsNameAddr, IsValue, params_text}
+use Rattle.mmtel_lex.specs.Params.{param_value}
 use Rattle.mmtel_lex.specs.Reading.{name_addr_of}
 use Rattle.mmtel_lex.specs.declared.values.NameAddr.{NameAddr}
 use Rattle.mmtel_lex.specs.declared.values.Param.{Param}
-use Rattle.mmtel_lex.proofs.NameAddrLaws.{name_addr_again, name_addr_takes}
+use Rattle.mmtel_lex.proofs.NameAddrLaws.{name_addr_takes}
 use Rattle.mmtel_charging.specs.Meters.{Noted}
 use Rattle.mmtel_types.specs.declared.numbers.Peer.{Peer}
 use Rattle.mmtel_types.specs.declared.sides.Side.{Side}
 use Rattle.mmtel_types.specs.declared.sides.Side.TheVariants.{Callee}
-use Rattle.mmtel_lex.specs.Params.{param_value}
-use Rattle.mmtel_message.specs.Message.{Message, first_value}
+use Rattle.mmtel_message.specs.Message.{Line, Message, first_value}
+use Rattle.mmtel_message.specs.Responses.{IsUntagged, is_tag, tagged}
 use Rattle.mmtel_message.specs.declared.messages.Start.{Start}
+use Rattle.mmtel_message.proofs.TagLaws.{found_behind, none_found, tagged_reads}
 use Rattle.mmtel_trust.specs.Digest.{tag_of}
-use Rattle.mmtel_trust.specs.Privacy.{Line}
 use Rattle.mmtel_leg.specs.Deeds.{Deed, after, after_answer, after_deed}
 use Rattle.mmtel_leg.specs.Deeds.Deed.{Meets, Asks, Hears, Swaps}
-use Rattle.mmtel_leg.specs.Dialogues.{after_hearing, after_request, hears, met, started, tagged, taken}
+use Rattle.mmtel_leg.specs.Dialogues.{after_hearing, after_request, hears, met, started, taken}
 use Rattle.mmtel_leg.specs.Legs.{Leg}
-use Rattle.mmtel_leg.specs.Remotes.{field, is_tag, is_untagged, tag_in}
+use Rattle.mmtel_leg.specs.Remotes.{field, tag_in}
 use Rattle.mmtel_leg.specs.Requests.{Given, numbered, to_text}
 use Rattle.mmtel_leg.specs.declared.dialogues.Dialogue.{Dialogue}
 use Rattle.mmtel_leg.specs.declared.dialogues.DialogueFault.{DialogueFault}
 use Rattle.mmtel_leg.specs.declared.remotes.Remote.{Remote}
 use Rattle.mmtel_leg.proofs.LineLaws as lines
 
--- ---- a value with one more parameter
+-- ---- a tag that is put behind a value
 
-abbrev tag_param : List ℕ → Param
-tag_param tag = record { name = codes "tag"; value = Some tag }
-
-abbrev more : NameAddr → List ℕ → NameAddr
-more n tag = record n { params = n.params ++ tag_param tag ∷ [] }
-
-tag_token : IsToken (codes "tag")
-unfolding in_class
-tag_token = record { filled = omega arith; each = refl }
-
-are_more : (ps : List Param) (tag : List ℕ) → AreParams ps → IsValue tag → AreParams (ps ++ tag_param tag ∷ [])
-are_more [] tag are is = (record { name = tag_token; value = is }, tt)
-are_more (p ∷ ps) tag are is = (are.0, are_more ps tag are.1 is)
-
-more_text : (ps : List Param) (tag : List ℕ) → params_text (ps ++ tag_param tag ∷ []) ≡ params_text ps ++ (codes ";tag=" ++ tag)
-more_text [] tag = append-nil (codes ";tag=" ++ tag)
-more_text (p ∷ ps) tag = ap (λ (l : List ℕ). param_text p ++ l) (more_text ps tag) ∙ sym (append_assoc (param_text p) (params_text ps) (codes ";tag=" ++ tag))
-
-stops_more : (s tag : List ℕ) → Stops Blank s → Stops Blank (tagged s tag)
-unfolding in_class
-stops_more [] tag stops = refl
-stops_more (b ∷ s) tag stops = stops
-
-bare_more : (uri : List ℕ) (ps : List Param) (tag : List ℕ) → tagged (uri ++ params_text ps) tag ≡ uri ++ params_text (ps ++ tag_param tag ∷ [])
-bare_more uri ps tag = append_assoc uri (params_text ps) (codes ";tag=" ++ tag) ∙ ap (λ (l : List ℕ). uri ++ l) (sym (more_text ps tag))
-
-angled_more : (display gap uri : List ℕ) (ps : List Param) (tag : List ℕ) → tagged (display ++ (gap ++ (60 ∷ (uri ++ 62 ∷ params_text ps)))) tag ≡ display ++ (gap ++ (60 ∷ (uri ++ 62 ∷ params_text (ps ++ tag_param tag ∷ []))))
-angled_more display gap uri ps tag =
-    let new : List ℕ = codes ";tag=" ++ tag in
-    let inner : (uri ++ 62 ∷ params_text ps) ++ new ≡ uri ++ 62 ∷ params_text (ps ++ tag_param tag ∷ []) = append_assoc uri (62 ∷ params_text ps) new ∙ ap (λ (l : List ℕ). uri ++ 62 ∷ l) (sym (more_text ps tag)) in
-    append_assoc display (gap ++ (60 ∷ (uri ++ 62 ∷ params_text ps))) new
-    ∙ ap (λ (l : List ℕ). display ++ l) (append_assoc gap (60 ∷ (uri ++ 62 ∷ params_text ps)) new ∙ ap (λ (l : List ℕ). gap ++ 60 ∷ l) inner)
-
-name_more : (s : List ℕ) (n : NameAddr) (tag : List ℕ) → IsNameAddr s n → IsValue tag → IsNameAddr (tagged s tag) (more n tag)
-name_more s n tag (inl is) value = inl (record {
-  gap = is.gap;
-  whole = ap (λ (l : List ℕ). tagged l tag) is.whole ∙ angled_more n.display is.gap n.uri n.params tag;
-  starts = stops_more s tag is.starts;
-  display_in = is.display_in;
-  gap_in = is.gap_in;
-  uri_in = is.uri_in;
-  params_in = are_more n.params tag is.params_in value;
-})
-name_more s n tag (inr is) value = inr (record {
-  whole = ap (λ (l : List ℕ). tagged l tag) is.whole ∙ bare_more n.uri n.params tag;
-  no_display = is.no_display;
-  uri_in = is.uri_in;
-  params_in = are_more n.params tag is.params_in value;
-})
-
-pub tagged_reads : (value : List ℕ) (n : NameAddr) (tag : List ℕ) → name_addr_of value ≡ Some n → IsValue tag → name_addr_of (tagged value tag) ≡ Some (record n { params = n.params ++ record { name = codes "tag"; value = Some tag } ∷ [] })
-tagged_reads value n tag e is = name_addr_again (tagged value tag) (more n tag) (name_more value n tag (name_addr_takes value n e) is)
-
-neither : (a b : Bool) → not (a || b) ≡ true → (a ≡ false) × (not b ≡ true)
-neither true b e = absurd cc
-neither false b e = (refl, e)
-
-found_behind : (ps : List Param) (tag : List ℕ) → not (list_any is_tag ps) ≡ true → param_value (codes "tag") (ps ++ tag_param tag ∷ []) ≡ Some tag
-found_behind [] tag none = refl
-found_behind (p ∷ ps) tag none =
-    let both = neither (is_tag p) (list_any is_tag ps) none in
-    rw (both.0, found_behind ps tag both.1) refl
-
-tag_by : (s : List ℕ) (o : Option NameAddr) (tag : List ℕ) → name_addr_of s ≡ o → is_untagged o ≡ true → IsValue tag → tag_of (Some (tagged s tag)) ≡ Some tag
-tag_by s None tag e untagged value = absurd cc
-tag_by s (Some n) tag e untagged value =
+tag_again : (s tag : List ℕ) (n : NameAddr) → name_addr_of s ≡ Some n → IsUntagged n → IsValue tag → tag_of (Some (tagged s tag)) ≡ Some tag
+tag_again s tag n e untagged value =
     ap (λ (o : Option NameAddr). o >>= λ m. param_value (codes "tag") m.params) (tagged_reads s n tag e value) ∙ found_behind n.params tag untagged
-
-tag_again : (s tag : List ℕ) → is_untagged (name_addr_of s) ≡ true → IsValue tag → tag_of (Some (tagged s tag)) ≡ Some tag
-tag_again s tag untagged value = tag_by s (name_addr_of s) tag refl untagged value
 
 -- ---- tags that are read
 
@@ -187,11 +118,11 @@ from_reads d number method given value e = reads (codes "From") (numbered d numb
 to_reads : (d : Dialogue) (number : ℕ) (method : List ℕ) (given : Given) (value : List ℕ) → to_text d.side d.remote d.remote_tag ≡ value → tag_in (codes "To") (numbered d number method given).lines ≡ unwrap_or (tag_of (Some value)) []
 to_reads d number method given value e = reads (codes "To") (numbered d number method given).lines value (lines.to d number method given ∙ ap (λ (l : List ℕ). Some l) e)
 
-pub caller_from : (peer : Peer) (invite : Message Start) (tag : List ℕ) (meter : Option Noted) (deeds : List Deed) (number : ℕ) (method : List ℕ) (given : Given) → is_untagged (name_addr_of (field (codes "To") invite.lines)) ≡ true → IsValue tag → tag_in (codes "From") (numbered (after (record { dialogue = taken peer invite.lines tag; meter = meter }) deeds).dialogue number method given).lines ≡ tag
-caller_from peer invite tag meter deeds number method given untagged value =
+pub caller_from : (peer : Peer) (invite : Message Start) (tag : List ℕ) (meter : Option Noted) (deeds : List Deed) (number : ℕ) (method : List ℕ) (given : Given) (n : NameAddr) → name_addr_of (field (codes "To") invite.lines) ≡ Some n → IsUntagged n → IsValue tag → tag_in (codes "From") (numbered (after (record { dialogue = taken peer invite.lines tag; meter = meter }) deeds).dialogue number method given).lines ≡ tag
+caller_from peer invite tag meter deeds number method given n e untagged value =
     let leg : Leg = record { dialogue = taken peer invite.lines tag; meter = meter } in
     from_reads (after leg deeds).dialogue number method given (tagged (field (codes "To") invite.lines) tag) (local_stays leg deeds)
-    ∙ ap (λ (o : Option (List ℕ)). unwrap_or o []) (tag_again (field (codes "To") invite.lines) tag untagged value)
+    ∙ ap (λ (o : Option (List ℕ)). unwrap_or o []) (tag_again (field (codes "To") invite.lines) tag n e untagged value)
 
 pub caller_to : (peer : Peer) (invite : Message Start) (tag : List ℕ) (meter : Option Noted) (deeds : List Deed) (number : ℕ) (method : List ℕ) (given : Given) → tag_in (codes "To") (numbered (after (record { dialogue = taken peer invite.lines tag; meter = meter }) deeds).dialogue number method given).lines ≡ tag_in (codes "From") invite.lines
 caller_to peer invite tag meter deeds number method given =
@@ -206,26 +137,19 @@ callee_from peer invite meter deeds number method given =
     from_reads (after leg deeds).dialogue number method given (field (codes "From") invite.lines) (local_stays leg deeds) ∙ kept_field (codes "From") invite.lines
 
 -- behind a callee's To comes its tag, where it gave one
-without_tag : (ps : List Param) → not (list_any is_tag ps) ≡ true → param_value (codes "tag") ps ≡ None
-without_tag [] none = refl
-without_tag (p ∷ ps) none =
-    let both = neither (is_tag p) (list_any is_tag ps) none in
-    rw (both.0, without_tag ps both.1) refl
+no_tag : (s : List ℕ) (n : NameAddr) → name_addr_of s ≡ Some n → IsUntagged n → tag_of (Some s) ≡ None
+no_tag s n e untagged = ap (λ (o : Option NameAddr). o >>= λ m. param_value (codes "tag") m.params) e ∙ none_found n.params untagged
 
-no_tag_by : (s : List ℕ) (o : Option NameAddr) → name_addr_of s ≡ o → is_untagged o ≡ true → tag_of (Some s) ≡ None
-no_tag_by s None e untagged = absurd cc
-no_tag_by s (Some n) e untagged = ap (λ (o : Option NameAddr). o >>= λ m. param_value (codes "tag") m.params) e ∙ without_tag n.params untagged
+read_tag : (value tag : List ℕ) (n : NameAddr) → name_addr_of value ≡ Some n → IsUntagged n → (tag ≡ []) ⊎ IsValue tag → unwrap_or (tag_of (Some (to_text Callee value tag))) [] ≡ tag
+read_tag value [] n e untagged is = ap (λ (o : Option (List ℕ)). unwrap_or o []) (no_tag value n e untagged)
+read_tag value (b ∷ tag) n e untagged (inl none) = absurd cc
+read_tag value (b ∷ tag) n e untagged (inr is) = ap (λ (o : Option (List ℕ)). unwrap_or o []) (tag_again value (b ∷ tag) n e untagged is)
 
-read_tag : (value tag : List ℕ) → is_untagged (name_addr_of value) ≡ true → (tag ≡ []) ⊎ IsValue tag → unwrap_or (tag_of (Some (to_text Callee value tag))) [] ≡ tag
-read_tag value [] untagged is = ap (λ (o : Option (List ℕ)). unwrap_or o []) (no_tag_by value (name_addr_of value) refl untagged)
-read_tag value (b ∷ tag) untagged (inl none) = absurd cc
-read_tag value (b ∷ tag) untagged (inr is) = ap (λ (o : Option (List ℕ)). unwrap_or o []) (tag_again value (b ∷ tag) untagged is)
-
-pub callee_to : (peer : Peer) (invite : Message Start) (meter : Option Noted) (deeds : List Deed) (number : ℕ) (method : List ℕ) (given : Given) → is_untagged (name_addr_of (field (codes "To") invite.lines)) ≡ true → ((after (record { dialogue = started peer invite; meter = meter }) deeds).dialogue.remote_tag ≡ []) ⊎ IsValue (after (record { dialogue = started peer invite; meter = meter }) deeds).dialogue.remote_tag → tag_in (codes "To") (numbered (after (record { dialogue = started peer invite; meter = meter }) deeds).dialogue number method given).lines ≡ (after (record { dialogue = started peer invite; meter = meter }) deeds).dialogue.remote_tag
-callee_to peer invite meter deeds number method given untagged is =
+pub callee_to : (peer : Peer) (invite : Message Start) (meter : Option Noted) (deeds : List Deed) (number : ℕ) (method : List ℕ) (given : Given) (n : NameAddr) → name_addr_of (field (codes "To") invite.lines) ≡ Some n → IsUntagged n → ((after (record { dialogue = started peer invite; meter = meter }) deeds).dialogue.remote_tag ≡ []) ⊎ IsValue (after (record { dialogue = started peer invite; meter = meter }) deeds).dialogue.remote_tag → tag_in (codes "To") (numbered (after (record { dialogue = started peer invite; meter = meter }) deeds).dialogue number method given).lines ≡ (after (record { dialogue = started peer invite; meter = meter }) deeds).dialogue.remote_tag
+callee_to peer invite meter deeds number method given n e untagged is =
     let leg : Leg = record { dialogue = started peer invite; meter = meter } in
     let d : Dialogue = (after leg deeds).dialogue in
     let value : List ℕ = field (codes "To") invite.lines in
     let to : to_text d.side d.remote d.remote_tag ≡ to_text Callee value d.remote_tag =
     ap (λ (side : Side). to_text side d.remote d.remote_tag) (side_stays leg deeds) ∙ ap (λ (l : List ℕ). to_text Callee l d.remote_tag) (remote_stays leg deeds) in
-    to_reads d number method given (to_text Callee value d.remote_tag) to ∙ read_tag value d.remote_tag untagged is
+    to_reads d number method given (to_text Callee value d.remote_tag) to ∙ read_tag value d.remote_tag n e untagged is

@@ -1,20 +1,20 @@
 -- What a leg knows of its dialog (RFC 3261 §12): its names, the way to the other side, and its numbers; how it begins (§12.1), what it takes of the other side, and which requests it hears (§12.2.2, §14.2).
-use Rattle.std.specs.Prelude.{ℕ, nat_lt, Bool, true, false, if◌then◌else◌, List, [], ◌∷◌, ◌++◌, Option, Some, None, Result, Ok, Err, codes}
+use Rattle.std.specs.Prelude.{ℕ, nat_lt, Bool, true, false, if◌then◌else◌, List, [], ◌∷◌, Option, Some, None, Result, Ok, Err, codes}
 use Rattle.std.specs.Option.{option_map, unwrap_or}
 use Rattle.std.specs.Str.{bytes_eq}
 use Rattle.mmtel_scan.specs.Chain.{◌>>=◌}
 use Rattle.mmtel_scan.specs.Numbers.{next_number}
 use Rattle.mmtel_message.specs.Faults.{is_method}
 use Rattle.mmtel_message.specs.Fields.{cseq_at}
-use Rattle.mmtel_message.specs.Message.{Message, first_value}
+use Rattle.mmtel_message.specs.Message.{Line, Message, first_value}
+use Rattle.mmtel_message.specs.Responses.{tagged}
 use Rattle.mmtel_message.specs.declared.fields.CSeq.{CSeq}
 use Rattle.mmtel_message.specs.declared.messages.Start.{Start}
 use Rattle.mmtel_message.specs.declared.messages.Start.TheVariants.{Request, Status}
-use Rattle.mmtel_trust.specs.Privacy.{Line}
 use Rattle.mmtel_types.specs.declared.numbers.Peer.{Peer}
 use Rattle.mmtel_types.specs.declared.sides.Side.{Side}
 use Rattle.mmtel_types.specs.declared.sides.Side.TheVariants.{Caller, Callee}
-use Rattle.mmtel_leg.specs.Remotes.{field, tag_in}
+use Rattle.mmtel_leg.specs.Remotes.{field, remote_of, tag_in}
 use Rattle.mmtel_leg.specs.declared.dialogues.Dialogue.{Dialogue}
 use Rattle.mmtel_leg.specs.declared.dialogues.DialogueFault.{DialogueFault}
 use Rattle.mmtel_leg.specs.declared.dialogues.DialogueFault.TheVariants.{OldCSeq, Pending, Unfinished}
@@ -33,10 +33,6 @@ unfoldable pub number_in : List Line → Option ℕ
 number_in ls = first_value (codes "CSeq") ls >>= number_at
 
 -- ---- how a dialog begins
-
--- a From or To value with a tag behind it
-abbrev pub tagged : List ℕ → List ℕ → List ℕ
-tagged value tag = value ++ (codes ";tag=" ++ tag)
 
 -- the Request-URI
 abbrev pub request_uri : Start → List ℕ
@@ -97,6 +93,10 @@ met d r = record d {
   target = said_or r.target d.target;
   routes = if names_itself d.side r.tag then r.routes else d.routes;
 }
+
+-- the dialog of an INVITE that came, with what the caller says of itself in it (§12.1.1)
+abbrev pub opened : Peer → List Line → List ℕ → Dialogue
+opened peer ls tag = met (taken peer ls tag) (remote_of Caller ls)
 
 -- ---- what is heard in a dialog
 

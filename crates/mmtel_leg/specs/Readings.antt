@@ -1,33 +1,18 @@
 -- What is read of what is built in a dialog: its five fields (RFC 3261 §8.1.1); and the dialogs of which laws speak, from their beginning on.
-use Rattle.std.specs.Prelude.{◌≡◌, ◌<◌, ℕ, false, Option, Some, List, [], ◌∷◌, ◌++◌, codes, get_or, map}
+use Rattle.std.specs.Prelude.{ℕ, Option, Some, List, [], ◌∷◌, ◌++◌, codes}
 use Rattle.mmtel_lex.specs.declared.values.NameAddr.{NameAddr}
 use Rattle.mmtel_charging.specs.Meters.{Noted}
 use Rattle.mmtel_types.specs.declared.numbers.Peer.{Peer}
-use Rattle.mmtel_message.specs.Message.{Message, has_line}
+use Rattle.mmtel_message.specs.Message.{Message}
 use Rattle.mmtel_message.specs.declared.messages.Start.{Start}
 use Rattle.mmtel_message.specs.declared.fields.Five.{Five}
 use Rattle.mmtel_message.specs.declared.fields.Via.{Via}
-use Rattle.mmtel_trust.specs.declared.addrs.Addr.{Addr}
-use Rattle.mmtel_trust.specs.declared.showing.Line as showing
-use Rattle.mmtel_leg.specs.Addresses.{addr_text, ip_text}
+use Rattle.mmtel_types.specs.declared.addrs.Addr.{Addr}
+use Rattle.mmtel_message.specs.Addresses.{addr_text, ip_text}
 use Rattle.mmtel_leg.specs.Deeds.{Deed, after}
 use Rattle.mmtel_leg.specs.Dialogues.{started, taken}
-use Rattle.mmtel_leg.specs.Lines.{pair_of}
 use Rattle.mmtel_leg.specs.Requests.{Given}
 use Rattle.mmtel_leg.specs.declared.dialogues.Dialogue.{Dialogue}
-
--- an address that can be written: four bytes, and a port that is not 0
-pub record IsAddr (sip : Addr) : Type 0 where
-  pub bytes : (i : ℕ) → get_or sip.ip i 0 < 256
-  pub port : 0 < sip.port
-  pub fits : sip.port < 65536
-
--- the lines that are shown bring no second one of those that the dialog writes
-pub record BringsNone (shown : List showing.Line) : Type 0 where
-  pub from : has_line (codes "From") (map pair_of shown) ≡ false
-  pub to : has_line (codes "To") (map pair_of shown) ≡ false
-  pub call_id : has_line (codes "Call-ID") (map pair_of shown) ≡ false
-  pub cseq : has_line (codes "CSeq") (map pair_of shown) ≡ false
 
 -- the server's Via as it is read (§20.42)
 abbrev pub via_of : Addr → List ℕ → Via

@@ -1,15 +1,11 @@
 -- What the other side of a dialog says of itself where the dialog begins: its tag, the URI of its Contact, and the way to it (RFC 3261 §12.1.1 for a caller, who sent the INVITE, and §12.1.2 for a callee, who answered it).
-use Rattle.std.specs.Prelude.{ℕ, Bool, false, not, List, [], ◌∷◌, Option, Some, None, codes, reverse}
-use Rattle.std.specs.List.{list_any}
+use Rattle.std.specs.Prelude.{ℕ, List, [], ◌∷◌, Option, Some, None, codes, reverse}
 use Rattle.std.specs.Option.{unwrap_or}
-use Rattle.std.specs.Str.{str_eq_ignore_ascii_case}
 use Rattle.mmtel_lex.specs.Reading.{name_addr_of}
 use Rattle.mmtel_lex.specs.declared.values.NameAddr.{NameAddr}
-use Rattle.mmtel_lex.specs.declared.values.Param.{Param}
-use Rattle.mmtel_message.specs.Message.{first_value, values_named}
+use Rattle.mmtel_message.specs.Message.{Line, first_value, values_named}
 use Rattle.mmtel_message.specs.declared.values.Mode.TheVariants.{Plain}
 use Rattle.mmtel_trust.specs.Digest.{tag_of}
-use Rattle.mmtel_trust.specs.Privacy.{Line}
 use Rattle.mmtel_types.specs.declared.sides.Side.{Side}
 use Rattle.mmtel_types.specs.declared.sides.Side.TheVariants.{Caller, Callee}
 use Rattle.mmtel_leg.specs.declared.remotes.Remote.{Remote}
@@ -21,14 +17,6 @@ field name ls = unwrap_or (first_value name ls) []
 -- the tag of the first line of the name, or no bytes
 unfoldable pub tag_in : List ℕ → List Line → List ℕ
 tag_in name ls = unwrap_or (tag_of (first_value name ls)) []
-
-abbrev pub is_tag : Param → Bool
-is_tag p = str_eq_ignore_ascii_case p.name (codes "tag")
-
--- the name-addr can be read and has no parameter of the name tag, not even one without a value
-abbrev pub is_untagged : Option NameAddr → Bool
-is_untagged None = false
-is_untagged (Some name) = not (list_any is_tag name.params)
 
 -- where a side is named: who sent the INVITE in From, who answered it in To
 abbrev pub field_of : Side → List ℕ

@@ -1,20 +1,16 @@
 -- The requests of a dialog (RFC 3261 §12.2.1.1 and §8.1.1): each line, in its order.
 use Rattle.std.specs.Prelude.{ℕ, Bool, not, ◌&&◌, ◌||◌, if◌then◌else◌, List, [], ◌∷◌, ◌++◌, codes, decimal, length, map}
-use Rattle.std.specs.List.{list_any}
 use Rattle.std.specs.Option.{unwrap_or}
-use Rattle.std.specs.Str.{bytes_eq, str_eq_ignore_ascii_case}
-use Rattle.mmtel_message.specs.Message.{Message}
+use Rattle.std.specs.Str.{bytes_eq}
+use Rattle.mmtel_message.specs.Message.{Line, Message, has_line, line}
+use Rattle.mmtel_message.specs.Responses.{tagged}
 use Rattle.mmtel_message.specs.declared.messages.Start.{Start}
 use Rattle.mmtel_message.specs.declared.messages.Start.TheVariants.{Request}
-use Rattle.mmtel_trust.specs.Privacy.{Line}
-use Rattle.mmtel_trust.specs.declared.addrs.Addr.{Addr}
-use Rattle.mmtel_trust.specs.declared.showing.Line as showing
+use Rattle.mmtel_types.specs.declared.addrs.Addr.{Addr}
 use Rattle.mmtel_types.specs.declared.sides.Side.{Side}
 use Rattle.mmtel_types.specs.declared.sides.Side.TheVariants.{Caller, Callee}
-use Rattle.mmtel_leg.specs.Addresses.{contact_text, via_text}
+use Rattle.mmtel_message.specs.Addresses.{contact_text, via_text}
 use Rattle.mmtel_scan.specs.Numbers.{next_number}
-use Rattle.mmtel_leg.specs.Dialogues.{tagged}
-use Rattle.mmtel_leg.specs.Lines.{line, pair_of}
 use Rattle.mmtel_leg.specs.declared.dialogues.Dialogue.{Dialogue}
 
 -- what a request has that its dialog does not know: the server's address, the hops that are left, the branch behind its cookie, the lines that are passed on, and the body
@@ -22,7 +18,7 @@ pub record Given : Type 0 where
   pub sip : Addr
   pub hops : ℕ
   pub branch : List ℕ
-  pub shown : List showing.Line
+  pub shown : List Line
   pub body : List ℕ
 
 -- ---- the lines
@@ -44,12 +40,9 @@ cseq_text number method = decimal number ++ 32 ∷ method
 abbrev pub is_contacting : List ℕ → Bool
 is_contacting method = bytes_eq method (codes "INVITE") || bytes_eq method (codes "NOTIFY")
 
-abbrev pub is_contact : showing.Line → Bool
-is_contact l = str_eq_ignore_ascii_case l.name (codes "Contact")
-
 -- Contact of such a request, unless the lines that are shown bring one of their own, as those of a conference room do
-abbrev pub contact_lines : List ℕ → Addr → List showing.Line → List Line
-contact_lines method sip shown = if is_contacting method && not (list_any is_contact shown) then line (codes "Contact") (contact_text sip) else []
+abbrev pub contact_lines : List ℕ → Addr → List Line → List Line
+contact_lines method sip shown = if is_contacting method && not (has_line (codes "Contact") shown) then line (codes "Contact") (contact_text sip) else []
 
 -- where the request goes: Via, the route set, and the hops that are left
 abbrev pub routing_lines : List (List ℕ) → Addr → ℕ → List ℕ → List Line
@@ -67,10 +60,10 @@ dialog_lines d number method =
     line (codes "CSeq") (cseq_text number method)))
 
 -- what it brings
-abbrev pub content_lines : List ℕ → Addr → List showing.Line → List ℕ → List Line
+abbrev pub content_lines : List ℕ → Addr → List Line → List ℕ → List Line
 content_lines method sip shown body =
     contact_lines method sip shown ++
-    (map pair_of shown ++
+    (shown ++
     line (codes "Content-Length") (decimal (length body)))
 
 abbrev pub request_lines : Dialogue → ℕ → List ℕ → Given → List Line

@@ -1,11 +1,11 @@
 //! What a leg of either side knows of its dialog (RFC 3261 §12).
 ghost use Rattle.std.specs.Prelude.{◌≡◌, ◌++◌, IfOk, OnErr, OnOk, codes, if◌then◌else◌};
-ghost use Rattle.mmtel_leg.specs.Dialogues.{after_hearing, hears, last_after, met, names_itself, said_or, started, tagged, taken, unless_busy, unless_old};
+ghost use Rattle.mmtel_leg.specs.Dialogues.{after_hearing, hears, last_after, met, names_itself, opened, said_or, started, taken, unless_busy, unless_old};
 
 use crate::fields::{field, number_in, request_uri, tag_in};
 use crate::remotes::Remote;
-use mmtel_message::{Msg, is_method};
-use mmtel_scan::{List, NoMemory, Text};
+use mmtel_message::{Msg, is_method, tagged};
+use mmtel_scan::{List, NoMemory, Text, texts_copied};
 use mmtel_types::{Peer, Side};
 use std::alloc::Global;
 
@@ -137,28 +137,6 @@ fn names_itself(side: Side, tag: &[u8]) -> bool
     }
 }
 
-/// A From or To value with a tag behind it.
-pub fn tagged(alloc: Global, value: Text, tag: &[u8]) -> Result<Text, NoMemory>
-    ensures { IfOk result (λ t. t ≡ tagged value tag.now) }
-{
-    let mut out = value;
-    out.push(alloc, b";tag=")?;
-    out.push(alloc, tag)?;
-    Ok(out)
-}
-
-/// The same texts.
-fn texts_copied(alloc: Global, texts: &[Text]) -> Result<List<Text>, NoMemory>
-    ensures { IfOk result (λ copy. copy ≡ texts.now) }
-{
-    let mut copy = List::new();
-    for text in texts {
-        let text = Text::of(alloc, text.bytes())?;
-        copy.push(alloc, text)?;
-    }
-    Ok(copy)
-}
-
 impl Dialogue {
     /// The same dialog.
     ///
@@ -168,12 +146,12 @@ impl Dialogue {
     pub fn copied(&self, alloc: Global) -> Result<Dialogue, NoMemory>
         ensures copy { IfOk result (λ d. d ≡ self.now) }
     {
-        let call_id = Text::of(alloc, self.call_id.bytes())?;
-        let local = Text::of(alloc, self.local.bytes())?;
-        let remote = Text::of(alloc, self.remote.bytes())?;
-        let local_tag = Text::of(alloc, self.local_tag.bytes())?;
-        let remote_tag = Text::of(alloc, self.remote_tag.bytes())?;
-        let target = Text::of(alloc, self.target.bytes())?;
+        let call_id = self.call_id.copied(alloc)?;
+        let local = self.local.copied(alloc)?;
+        let remote = self.remote.copied(alloc)?;
+        let local_tag = self.local_tag.copied(alloc)?;
+        let remote_tag = self.remote_tag.copied(alloc)?;
+        let target = self.target.copied(alloc)?;
         let routes = texts_copied(alloc, self.routes.items())?;
         Ok(Dialogue {
             side: self.side,
@@ -223,6 +201,19 @@ impl Dialogue {
             last: number_in(lines),
             invited: None,
         })
+    }
+
+    /// The dialog of an INVITE that came from the peer, where the server answers with this tag, with what the caller says of itself in it (RFC 3261 §12.1.1).
+    ///
+    /// # Errors
+    ///
+    /// Want of memory alone.
+    pub fn opened(alloc: Global, peer: Peer, invite: &Msg, tag: Text) -> Result<Dialogue, NoMemory>
+        ensures opened { IfOk result (λ d. d ≡ opened peer invite.now.lines tag) }
+    {
+        let caller = Remote::read(alloc, invite, Side::Caller)?;
+        let dialogue = Dialogue::of_caller(alloc, peer, invite, tag)?;
+        Ok(dialogue.meet(caller))
     }
 
     /// The dialog of an INVITE that the server sends to the peer (RFC 3261 §12.1.2).

@@ -6,7 +6,7 @@ ghost use Rattle.mmtel_leg.specs.Remotes.{field, tag_in};
 ghost use Rattle.mmtel_leg.specs.Dialogues.{number_at, number_in, request_uri};
 
 use mmtel_lex::{LexFault, read_name_addr};
-use mmtel_message::{Start, first_of, param_value};
+use mmtel_message::{Line, Start, first_of, param_value};
 use mmtel_scan::{Class, NoMemory, Text, number_up_to, split_run};
 use std::alloc::Global;
 
@@ -19,7 +19,7 @@ fn copied(alloc: Global, value: Option<&[u8]>) -> Result<Text, NoMemory>
 
 /// The value of the first line of the name, or no bytes.
 #[tactic(auto, unfolding(crate::specs::Remotes::field))]
-pub fn field(alloc: Global, name: &[u8], lines: &[(Text, Text)]) -> Result<Text, NoMemory>
+pub fn field(alloc: Global, name: &[u8], lines: &[Line]) -> Result<Text, NoMemory>
     ensures { IfOk result (λ t. t ≡ field name.now lines.now) }
 {
     copied(alloc, first_of(lines, name))
@@ -41,7 +41,7 @@ fn tag_of(alloc: Global, value: Option<&[u8]>) -> Result<Text, NoMemory>
 
 /// The tag of the first line of the name, or no bytes.
 #[tactic(auto, unfolding(crate::specs::Remotes::tag_in))]
-pub fn tag_in(alloc: Global, name: &[u8], lines: &[(Text, Text)]) -> Result<Text, NoMemory>
+pub fn tag_in(alloc: Global, name: &[u8], lines: &[Line]) -> Result<Text, NoMemory>
     ensures { IfOk result (λ t. t ≡ tag_in name.now lines.now) }
 {
     tag_of(alloc, first_of(lines, name))
@@ -74,7 +74,7 @@ fn number_at(bytes: &[u8]) -> Option<u32>
 
 /// The number in CSeq, where that can be read.
 #[tactic(auto, unfolding(crate::specs::Dialogues::number_in))]
-pub fn number_in(lines: &[(Text, Text)]) -> Option<u32>
+pub fn number_in(lines: &[Line]) -> Option<u32>
     ensures { result ≡ number_in lines.now }
 {
     match first_of(lines, b"CSeq") {

@@ -8,18 +8,20 @@ ghost use Rattle.mmtel_lex.specs.Grammar.{IsToken, IsValue};
 ghost use Rattle.mmtel_lex.specs.Reading.{name_addr_of};
 ghost use Rattle.mmtel_lex.specs.declared.values.NameAddr.{NameAddr};
 ghost use Rattle.mmtel_message.specs.Fields.{five_at};
+ghost use Rattle.mmtel_message.specs.Responses.{AreOthers, IsUntagged, tagged};
+ghost use Rattle.mmtel_message.specs.Vias.{IsSource};
 ghost use Rattle.mmtel_charging.specs.Meters.{Noted};
 ghost use Rattle.mmtel_types.specs.declared.numbers.Peer.{Peer};
 ghost use Rattle.mmtel_leg.specs.Deeds.Deed.{Asks, Hears, Meets};
 ghost use Rattle.mmtel_leg.specs.declared.remotes.Remote.{Remote};
-ghost use Rattle.mmtel_leg.specs.Dialogues.{hears, number_in, tagged};
-ghost use Rattle.mmtel_leg.specs.Remotes.{field, is_untagged, tag_in};
+ghost use Rattle.mmtel_leg.specs.Dialogues.{hears, number_in};
+ghost use Rattle.mmtel_leg.specs.Remotes.{field, tag_in};
 ghost use Rattle.mmtel_leg.specs.declared.dialogues.DialogueFault.{DialogueFault};
 ghost use Rattle.mmtel_leg.specs.declared.dialogues.InFlight.{InFlight};
 ghost use Rattle.mmtel_leg.specs.Deeds.{Deed, HasNumber, HaveOneNumber, HearsEach, IsCountedFrom, IsNotBelow, ReadsAs, after, after_deed, given_back, is_later, is_not_invite, put_in, requests};
 ghost use Rattle.mmtel_leg.specs.Legs.{Leg};
 ghost use Rattle.mmtel_leg.specs.Requests.{Given, ack_of, cseq_text, numbered, request_of, to_text};
-ghost use Rattle.mmtel_leg.specs.Readings.{BringsNone, IsAddr, callee_after, caller_after, five_of};
+ghost use Rattle.mmtel_leg.specs.Readings.{callee_after, caller_after, five_of};
 ghost use Rattle.mmtel_leg.specs.declared.dialogues.Dialogue.{Dialogue};
 
 /// Whatever is done with a leg, the numbers of its requests rise by one from the last that it had when it began, as long as numbers of 64 bits reach.
@@ -42,17 +44,17 @@ pub fn numbers_read_back()
 
 /// The tags by which the other side finds its dialog (RFC 3261 §12): From of what is built in a dialog is read with the server's tag and To with the other side's, whatever was done since the dialog began, and whether it is a request or an ACK.
 pub fn tags_read_back()
-    ensures caller_from { (peer : Peer) (invite : Message Start) (tag : List ℕ) (meter : Option Noted) (deeds : List Deed) (number : ℕ) (method : List ℕ) (given : Given) → is_untagged (name_addr_of (field (codes "To") invite.lines)) ≡ true → IsValue tag → tag_in (codes "From") (numbered (caller_after peer invite tag meter deeds) number method given).lines ≡ tag }
+    ensures caller_from { (peer : Peer) (invite : Message Start) (tag : List ℕ) (meter : Option Noted) (deeds : List Deed) (number : ℕ) (method : List ℕ) (given : Given) (to : NameAddr) → name_addr_of (field (codes "To") invite.lines) ≡ Some to → IsUntagged to → IsValue tag → tag_in (codes "From") (numbered (caller_after peer invite tag meter deeds) number method given).lines ≡ tag }
     ensures caller_to { (peer : Peer) (invite : Message Start) (tag : List ℕ) (meter : Option Noted) (deeds : List Deed) (number : ℕ) (method : List ℕ) (given : Given) → tag_in (codes "To") (numbered (caller_after peer invite tag meter deeds) number method given).lines ≡ tag_in (codes "From") invite.lines }
     ensures callee_from { (peer : Peer) (invite : Message Start) (meter : Option Noted) (deeds : List Deed) (number : ℕ) (method : List ℕ) (given : Given) → tag_in (codes "From") (numbered (callee_after peer invite meter deeds) number method given).lines ≡ tag_in (codes "From") invite.lines }
-    ensures callee_to { (peer : Peer) (invite : Message Start) (meter : Option Noted) (deeds : List Deed) (number : ℕ) (method : List ℕ) (given : Given) → is_untagged (name_addr_of (field (codes "To") invite.lines)) ≡ true → ((callee_after peer invite meter deeds).remote_tag ≡ []) ⊎ IsValue (callee_after peer invite meter deeds).remote_tag → tag_in (codes "To") (numbered (callee_after peer invite meter deeds) number method given).lines ≡ (callee_after peer invite meter deeds).remote_tag }
+    ensures callee_to { (peer : Peer) (invite : Message Start) (meter : Option Noted) (deeds : List Deed) (number : ℕ) (method : List ℕ) (given : Given) (to : NameAddr) → name_addr_of (field (codes "To") invite.lines) ≡ Some to → IsUntagged to → ((callee_after peer invite meter deeds).remote_tag ≡ []) ⊎ IsValue (callee_after peer invite meter deeds).remote_tag → tag_in (codes "To") (numbered (callee_after peer invite meter deeds) number method given).lines ≡ (callee_after peer invite meter deeds).remote_tag }
     ensures tagged { (value : List ℕ) (n : NameAddr) (tag : List ℕ) → name_addr_of value ≡ Some n → IsValue tag → name_addr_of (tagged value tag) ≡ Some (record n { params = n.params ++ record { name = codes "tag"; value = Some tag } ∷ [] }) }
     ensures values { (name : List ℕ) (m : Message Start) → (tag_in name m.lines ≡ []) ⊎ IsValue (tag_in name m.lines) }
 {}
 
-/// What is built in a dialog has the five fields that each message has (RFC 3261 §8.1.1), and they are read as what the dialog and its caller say. It is so where From and To of the dialog are name-addrs and its Call-ID is not empty, the number is one of RFC 3261, method and branch are tokens, the server's address can be written, and the lines to be shown bring no second line of the dialog's.
+/// What is built in a dialog has the five fields that each message has (RFC 3261 §8.1.1), and they are read as what the dialog and its caller say. It is so where From and To of the dialog are name-addrs and its Call-ID is not empty, the number is one of RFC 3261, method and branch are tokens, the server's address is one that is sent and its port not 0, and the lines to be shown bring no second line of the dialog's.
 pub fn five_fields_read_back()
-    ensures read { (d : Dialogue) (number : ℕ) (method : List ℕ) (given : Given) (from to : NameAddr) → name_addr_of d.local ≡ Some from → name_addr_of (to_text d.side d.remote d.remote_tag) ≡ Some to → 0 < length d.call_id → number < 2 ^ 31 → IsToken method → IsToken given.branch → IsAddr given.sip → BringsNone given.shown → five_at (numbered d number method given).lines ≡ Some (five_of d number method given from to) }
+    ensures read { (d : Dialogue) (number : ℕ) (method : List ℕ) (given : Given) (from to : NameAddr) → name_addr_of d.local ≡ Some from → name_addr_of (to_text d.side d.remote d.remote_tag) ≡ Some to → 0 < length d.call_id → number < 2 ^ 31 → IsToken method → IsToken given.branch → IsSource given.sip → 0 < given.sip.port → AreOthers given.shown → five_at (numbered d number method given).lines ≡ Some (five_of d number method given from to) }
 {}
 
 /// A dialog on the other side that has heard no higher number than the leg's last hears each request of the leg, one after another: none is out of order.

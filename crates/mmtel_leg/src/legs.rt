@@ -1,17 +1,17 @@
 //! Legs: one side of a call, which must be spent.
 ghost use Rattle.std.specs.Prelude.{◌≡◌, IfErr, IfOk, OnErr, OnOk};
-ghost use Rattle.mmtel_leg.specs.Dialogues.{after_hearing, after_request, hears, met, started, taken};
+ghost use Rattle.mmtel_leg.specs.Dialogues.{after_hearing, after_request, hears, met, opened, started, taken};
 ghost use Rattle.mmtel_leg.specs.Legs.{with_dialogue};
+ghost use Rattle.mmtel_leg.specs.Releases.{released_leg};
 ghost use Rattle.mmtel_leg.specs.Requests.{ack_of, request_of};
 
 use crate::dialogues::{Dialogue, DialogueFault, InFlight};
 use crate::remotes::Remote;
 use crate::requests::Parts;
 use mmtel_charging::Meter;
-use mmtel_message::Msg;
+use mmtel_message::{Line, Msg};
 use mmtel_scan::{List, NoMemory, Text};
-use mmtel_trust::{Addr, Line};
-use mmtel_types::Peer;
+use mmtel_types::{Addr, Peer};
 use std::alloc::Global;
 use std::marker::{Model, PhantomData};
 use std::mem;
@@ -67,6 +67,28 @@ pub enum Released {
     Caller(CallerLeg<Standing>),
     /// A callee's.
     Callee(CalleeLeg<Standing>),
+}
+
+impl Released {
+    /// Its dialog.
+    pub fn dialogue(&self) -> &Dialogue
+        ensures dialogue { result.now ≡ (released_leg self.now).dialogue }
+    {
+        match self {
+            Released::Caller(leg) => leg.dialogue(),
+            Released::Callee(leg) => leg.dialogue(),
+        }
+    }
+
+    /// Ends the leg.
+    pub fn leave(self) -> Ended
+        ensures ended { result ≡ record { meter = (released_leg self).meter } }
+    {
+        match self {
+            Released::Caller(leg) => leg.leave(),
+            Released::Callee(leg) => leg.leave(),
+        }
+    }
 }
 
 impl<P, S> LegOf<P, S> {
@@ -169,6 +191,34 @@ impl LegOf<OfCaller, Asked> {
         ensures handed_back { IfErr result (λ refused. refused.0 ≡ meter) }
     {
         match Dialogue::of_caller(alloc, peer, invite, local) {
+            Ok(dialogue) => Ok(LegOf {
+                dialogue,
+                meter,
+                party: PhantomData,
+                state: PhantomData,
+            }),
+            Err(error) => Err((meter, error)),
+        }
+    }
+}
+
+impl LegOf<OfCaller, Standing> {
+    /// The leg of a caller whose INVITE came from the peer, where the server answers with this tag: it stands from the opening on, since the INVITE says all that the caller says of itself (RFC 3261 §12.1.1).
+    ///
+    /// # Errors
+    ///
+    /// Want of memory alone; the meter is handed back.
+    pub fn open(
+        alloc: Global,
+        peer: Peer,
+        invite: &Msg,
+        local: Text,
+        meter: Option<Meter>,
+    ) -> Result<CallerLeg<Standing>, (Option<Meter>, NoMemory)>
+        ensures leg { IfOk result (λ leg. leg ≡ record { dialogue = opened peer invite.now.lines local; meter = meter }) }
+        ensures handed_back { IfErr result (λ refused. refused.0 ≡ meter) }
+    {
+        match Dialogue::opened(alloc, peer, invite, local) {
             Ok(dialogue) => Ok(LegOf {
                 dialogue,
                 meter,

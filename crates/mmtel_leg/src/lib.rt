@@ -1,16 +1,13 @@
 //! Typed legs: one side of a call as a value that must be spent, with what it knows of its dialog (RFC 3261 §12), the requests that the server makes in it, and the meter that runs for it.
 #![tactic(auto)]
 
-mod addresses;
 mod dialogues;
 mod fields;
 mod laws;
 mod legs;
-mod lines;
 mod remotes;
 mod requests;
 
-pub use addresses::{addr_text, contact_text, ip_text, via_text};
 pub use dialogues::{Dialogue, DialogueFault, InFlight};
 pub use fields::request_uri;
 pub use laws::{
@@ -21,6 +18,5 @@ pub use laws::{
 pub use legs::{
     Asked, CalleeLeg, CallerLeg, Early, Ended, LegOf, OfCallee, OfCaller, Released, Standing,
 };
-pub use lines::{add_bytes, add_decimal, add_line, add_number, add_passed};
 pub use remotes::Remote;
 pub use requests::{Parts, numbered};

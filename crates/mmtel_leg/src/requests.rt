@@ -1,19 +1,18 @@
 //! The requests that the server makes in a dialog (RFC 3261 §12.2.1.1).
 ghost use Rattle.std.specs.Prelude.{◌≡◌, ◌++◌, IfOk, OnErr, OnOk, codes, decimal, map};
-ghost use Rattle.std.specs.List.{list_any};
 ghost use Rattle.std.specs.Option.{unwrap_or};
-ghost use Rattle.mmtel_leg.specs.Addresses.{contact_text, via_text};
+ghost use Rattle.mmtel_message.specs.Addresses.{contact_text, via_text};
+ghost use Rattle.mmtel_message.specs.Message.{line};
 ghost use Rattle.mmtel_leg.specs.Dialogues.{after_request};
-ghost use Rattle.mmtel_leg.specs.Lines.{line, pair_of};
-ghost use Rattle.mmtel_leg.specs.Requests.{ack_of, contact_lines, content_lines, cseq_text, dialog_lines, is_contact, is_contacting, numbered, request_of, route_line, routing_lines, to_text};
+ghost use Rattle.mmtel_leg.specs.Requests.{ack_of, contact_lines, content_lines, cseq_text, dialog_lines, is_contacting, numbered, request_of, route_line, routing_lines, to_text};
 
-use crate::addresses::{contact_text, via_text};
-use crate::dialogues::{Dialogue, tagged};
-use crate::lines::{add_bytes, add_decimal, add_line, add_number, add_passed};
-use mmtel_message::{Msg, Start};
-use mmtel_scan::{List, NoMemory, Text};
-use mmtel_trust::{Addr, Line};
-use mmtel_types::Side;
+use crate::dialogues::Dialogue;
+use mmtel_message::{
+    Line, Msg, Start, add_bytes, add_decimal, add_line, add_passed, contact_text, has_line, tagged,
+    via_text,
+};
+use mmtel_scan::{List, NoMemory, Text, add_number};
+use mmtel_types::{Addr, Side};
 use std::alloc::Global;
 use std::marker::Model;
 
@@ -62,7 +61,7 @@ impl<'a> Parts<'a> {
 }
 
 /// Adds Route, one value a line.
-fn add_routes(alloc: Global, out: &mut List<(Text, Text)>, routes: &[Text]) -> Result<(), NoMemory>
+fn add_routes(alloc: Global, out: &mut List<Line>, routes: &[Text]) -> Result<(), NoMemory>
     ensures { OnOk result (out.new ≡ out.old ++ map route_line routes.now) }
 {
     for route in routes {
@@ -73,19 +72,14 @@ fn add_routes(alloc: Global, out: &mut List<(Text, Text)>, routes: &[Text]) -> R
     Ok(())
 }
 
-fn add_via(
-    alloc: Global,
-    out: &mut List<(Text, Text)>,
-    sip: Addr,
-    branch: &[u8],
-) -> Result<(), NoMemory>
+fn add_via(alloc: Global, out: &mut List<Line>, sip: Addr, branch: &[u8]) -> Result<(), NoMemory>
     ensures { OnOk result (out.new ≡ out.old ++ line (codes "Via") (via_text sip branch.now)) }
 {
     let via = via_text(alloc, sip, branch)?;
     add_line(alloc, out, b"Via", via)
 }
 
-fn add_hops(alloc: Global, out: &mut List<(Text, Text)>, hops: u8) -> Result<(), NoMemory>
+fn add_hops(alloc: Global, out: &mut List<Line>, hops: u8) -> Result<(), NoMemory>
     ensures { OnOk result (out.new ≡ out.old ++ line (codes "Max-Forwards") (decimal hops)) }
 {
     add_decimal(alloc, out, b"Max-Forwards", u64::from(hops))
@@ -94,7 +88,7 @@ fn add_hops(alloc: Global, out: &mut List<(Text, Text)>, hops: u8) -> Result<(),
 /// Adds where the request goes.
 fn add_routing(
     alloc: Global,
-    out: &mut List<(Text, Text)>,
+    out: &mut List<Line>,
     routes: &[Text],
     sip: Addr,
     hops: u8,
@@ -136,7 +130,7 @@ fn cseq_text(alloc: Global, number: u64, method: &[u8]) -> Result<Text, NoMemory
 /// Adds whose request it is, and which.
 fn add_dialog(
     alloc: Global,
-    out: &mut List<(Text, Text)>,
+    out: &mut List<Line>,
     dialogue: &Dialogue,
     number: u64,
     method: &[u8],
@@ -162,29 +156,17 @@ fn is_contacting(method: &[u8]) -> bool
     method == b"INVITE".as_slice() || method == b"NOTIFY".as_slice()
 }
 
-fn is_contact(line: &Line) -> bool
-    ensures { result ≡ is_contact line.now }
-{
-    line.name.bytes().eq_ignore_ascii_case(b"Contact")
-}
-
-fn has_contact(shown: &[Line]) -> bool
-    ensures { result ≡ list_any is_contact shown.now }
-{
-    shown.iter().any(|line| is_contact(line))
-}
-
 /// Adds Contact, where the server writes it.
 fn add_contact(
     alloc: Global,
-    out: &mut List<(Text, Text)>,
+    out: &mut List<Line>,
     method: &[u8],
     sip: Addr,
     shown: &[Line],
 ) -> Result<(), NoMemory>
     ensures { OnOk result (out.new ≡ out.old ++ contact_lines method.now sip shown.now) }
 {
-    if is_contacting(method) && !has_contact(shown) {
+    if is_contacting(method) && !has_line(b"Contact", shown) {
         let contact = contact_text(alloc, sip)?;
         return add_line(alloc, out, b"Contact", contact);
     }
@@ -194,7 +176,7 @@ fn add_contact(
 /// Adds what the request brings.
 fn add_content(
     alloc: Global,
-    out: &mut List<(Text, Text)>,
+    out: &mut List<Line>,
     method: &[u8],
     sip: Addr,
     shown: &[Line],

@@ -4,10 +4,12 @@ pub mod NameAddrLaws
 pub mod ParamLaws
 pub mod ParamValues
 pub mod ParamsLoop
+pub mod PercentLaws
 pub mod PhoneLaws
 pub mod PrintLaws
 pub mod SameIdentityLaws
 pub mod SipLaws
 pub mod UriContract
 pub mod UriLaws
+pub mod UriPlaceLaws
 pub mod Visible

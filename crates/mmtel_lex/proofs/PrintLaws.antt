@@ -1,15 +1,13 @@
 -- The text of a URI spells it, and so does that of a name-addr.
-use Rattle.std.proofs.Common.{◌≡◌, ◌⊎◌, ◌==◌, not, true, false, inl, inr, sym, subst, append_assoc, ℕ, ◌<◌, List, [], ◌∷◌, ◌++◌, Option, Some, None, Result, Ok, Err, refl, arith}
+use Rattle.std.proofs.Common.{◌≡◌, ◌⊎◌, ◌==◌, not, true, false, inl, inr, sym, subst, append_assoc, ℕ, List, [], ◌∷◌, ◌++◌, Option, Some, None, Result, Ok, Err, refl, arith}
 use Rattle.std.specs.Prelude.{IfOk, codes, decimal}
-use Rattle.std.specs.Char.{digit_value}
-use Rattle.std.specs.Str.Parse.{AllDigits}
-use Rattle.std.proofs.lemmas.Fmt.{decimal_is_IsNumeral}
 use Rattle.std.proofs.lemmas.Bool.Decides.{nat_tests}
 use Rattle.mmtel_scan.specs.Classes.{in_class}
 use Rattle.mmtel_scan.specs.Classes.{IsAll, IsOneOrMore, Stops}
 use Rattle.mmtel_lex.specs.Grammar.{IsPort, IsSip, IsTel, IsUri, IsSchemeName, port_text, user_text, uri_text, params_text, headers_text, AreParams, IsQuoted, IsWords, IsAngled, IsNameAddr, name_addr_text}
 use Rattle.mmtel_scan.specs.Scanning.{IsFree}
-use Rattle.mmtel_scan.proofs.Runs.{and_true, wider}
+use Rattle.mmtel_scan.proofs.Numerals.{decimal_writes}
+use Rattle.mmtel_scan.proofs.Runs.{and_true, class_free, wider}
 use Rattle.mmtel_scan.proofs.Trims.{all_append}
 use Rattle.mmtel_scan.specs.declared.classes.Class.{Class}
 use Rattle.std.specs.List.{list_all}
@@ -22,29 +20,10 @@ use Rattle.mmtel_lex.specs.declared.values.Param.{Param}
 use Rattle.mmtel_lex.specs.declared.values.Uri.{Uri}
 use Rattle.mmtel_lex.specs.declared.values.Uri.TheVariants.{Sip, Tel}
 
-digit_by : (c : ℕ) → digit_value c < 10 → in_class Digit c ≡ true
-unfolding in_class
-digit_by c lt = grind (arith, nat_tests)
-
-digits_by : (ds : List ℕ) → AllDigits 10 ds → IsAll Digit ds
-digits_by [] all = refl
-digits_by (c ∷ ds) all = rw (digit_by c all.0, digits_by ds all.1) refl
-
 port_by : (text : List ℕ) (p : Option ℕ) → IsPort text p → IsPort (port_text p) p
 port_by text None is = refl
 port_by text (Some n) is =
-    let numeral = decimal_is_IsNumeral n (omega (arith, is.2.high)) in
-    (decimal n, refl, record { writes = record { digits = record { filled = numeral.0.0; each = digits_by (decimal n) numeral.0.1 }; worth = numeral.1 }; low = is.2.low; high = is.2.high })
-
-digit_not_at : (b : ℕ) → in_class Digit b ≡ true → not (b == 64) ≡ true
-unfolding in_class
-digit_not_at b e = grind (arith, nat_tests)
-
-digits_free : (ds : List ℕ) → IsAll Digit ds → IsFree 64 ds
-digits_free [] each = refl
-digits_free (b ∷ ds) each =
-    let both = and_true (in_class Digit b) (list_all (in_class Digit) ds) each in
-    rw (digit_not_at b both.0, digits_free ds both.1) refl
+    (decimal n, refl, record { writes = decimal_writes n (omega (arith, is.2.high)); low = is.2.low; high = is.2.high })
 
 free_parts : (a b : List ℕ) → IsFree 64 (a ++ b) → IsFree 64 a × IsFree 64 b
 free_parts a b free = and_true (list_all (λ x. not (x == 64)) a) (list_all (λ x. not (x == 64)) b) (rw list_all-append at free)
@@ -53,9 +32,9 @@ free_both : (a b : List ℕ) → IsFree 64 a → IsFree 64 b → IsFree 64 (a ++
 free_both a b x y = rw (list_all-append, x, y) refl
 
 port_free : (text : List ℕ) (p : Option ℕ) → IsPort text p → IsFree 64 (port_text p)
-unfolding port_by
+unfolding in_class port_by
 port_free text None is = refl
-port_free text (Some n) is = digits_free (decimal n) (port_by text (Some n) is).2.writes.digits.each
+port_free text (Some n) is = class_free Digit 64 refl (decimal n) (port_by text (Some n) is).2.writes.digits.each
 
 -- the port may be spelled otherwise
 lone_by : (host text : List ℕ) (p : Option ℕ) (r : List ℕ) → IsPort text p → IsFree 64 (host ++ (text ++ r)) → IsFree 64 (host ++ (port_text p ++ r))

@@ -1,10 +1,13 @@
 //! Laws of the definitions that the readers' contracts cite: each is the contract of a function that does nothing.
-ghost use Rattle.std.specs.Prelude.{◌≡◌, ◌↔◌, ℕ, List, Option, true};
+ghost use Rattle.std.specs.Prelude.{◌≡◌, ◌==◌, ◌+◌, ◌*◌, ◌∷◌, ◌↔◌, ℕ, List, Option, Some, false, true};
+ghost use Rattle.std.specs.Option.{option_map};
 ghost use Rattle.std.specs.Str.{str_to_ascii_lowercase};
 ghost use Rattle.mmtel_scan.specs.Classes.{IsAll};
 ghost use Rattle.mmtel_scan.specs.declared.classes.Class.TheVariants.{UriByte};
+ghost use Rattle.mmtel_scan.specs.Scanning.{IsFree};
 ghost use Rattle.mmtel_lex.specs.Grammar.{IsParams, IsUri, uri_text, IsForeign, IsNameAddr};
 ghost use Rattle.mmtel_lex.specs.Identity.{reduced, has_user_phone, IsSameIdentity};
+ghost use Rattle.mmtel_lex.specs.Percent.{hex_value, percent_decoded};
 ghost use Rattle.mmtel_lex.specs.SameIdentity.{is_same_identity};
 ghost use Rattle.mmtel_lex.specs.declared.values.NameAddr.{NameAddr};
 ghost use Rattle.mmtel_lex.specs.declared.values.Param.{Param};
@@ -57,4 +60,11 @@ pub fn tel_identity_is_number()
 /// Between a sip and a tel URI only the user of the sip URI counts, whether its first parameter `user` says `phone`, and the digits of the tel URI.
 pub fn phone_identity_is_user_and_number()
     ensures same { (user : Option (List ℕ)) (host host2 number number2 : List ℕ) (port port2 : Option ℕ) (params params2 tel_params tel_params2 : List Param) (headers headers2 : List ℕ) → has_user_phone params ≡ has_user_phone params2 → reduced number ≡ reduced number2 → IsSameIdentity (Sip user host port params headers) (Tel number tel_params) ↔ IsSameIdentity (Sip user host2 port2 params2 headers2) (Tel number2 tel_params2) }
+{}
+
+/// A byte that is no `%` stands for itself, and an escaped byte for the byte that its digits write; so a text without `%` stands for itself.
+pub fn escapes_stand_for_their_byte()
+    ensures plain { (s : List ℕ) → IsFree 37 s → percent_decoded s ≡ Some s }
+    ensures other { (b : ℕ) (s : List ℕ) → (b == 37) ≡ false → percent_decoded (b ∷ s) ≡ option_map (λ t. b ∷ t) (percent_decoded s) }
+    ensures escaped { (a b high low : ℕ) (s : List ℕ) → hex_value a ≡ Some high → hex_value b ≡ Some low → percent_decoded (37 ∷ a ∷ b ∷ s) ≡ option_map (λ t. (high * 16 + low) ∷ t) (percent_decoded s) }
 {}

@@ -1,4 +1,4 @@
-//! The grammars of SIP's parts: parameters, URIs and name-addrs (RFC 3261 §19.1, §20.10 and §25.1, RFC 3966 §3), and which URIs are of one identity.
+//! The grammars of SIP's parts: parameters, URIs and name-addrs (RFC 3261 §19.1, §20.10 and §25.1, RFC 3966 §3); which URIs are of one identity; where the parts of any URI stand, and its escaped bytes (RFC 3986 §2.1).
 #![tactic(auto)]
 
 mod faults;
@@ -6,7 +6,9 @@ mod identity;
 pub mod laws;
 mod name_addrs;
 pub mod params;
+mod percent;
 mod printing;
+mod uri_places;
 pub mod uris;
 mod values;
 
@@ -15,6 +17,8 @@ pub use identity::{domain, same_identity};
 pub use mmtel_scan::{List, NoMemory, Text};
 pub use name_addrs::read_name_addr;
 pub use params::{param_value, read_params};
+pub use percent::percent_decoded;
 pub use printing::{add_params, print_name_addr, print_uri};
+pub use uri_places::{cut, find_named, first_part, is_named, split_user, uri_header, uri_param};
 pub use uris::read_uri;
 pub use values::{NameAddr, Param, Params, Uri};

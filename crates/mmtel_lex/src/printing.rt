@@ -1,5 +1,5 @@
 //! URIs and name-addrs as text.
-ghost use Rattle.std.specs.Prelude.{◌≡◌, ◌++◌, ◌∷◌, [], List, ℕ, OnOk, IfOk, decimal};
+ghost use Rattle.std.specs.Prelude.{◌≡◌, ◌++◌, ◌∷◌, [], List, ℕ, OnErr, OnOk, IfOk, decimal};
 ghost use Rattle.mmtel_lex.specs.Grammar.{value_text, param_text, params_text, user_text, headers_text, port_text, uri_text, IsUri, display_text, name_addr_text, IsNameAddr};
 
 use crate::values::{NameAddr, Param, Uri};
@@ -26,18 +26,28 @@ fn add_param(alloc: Global, out: &mut Text, param: &Param) -> Result<(), NoMemor
     add_value(alloc, out, &param.value)
 }
 
+/// The text of parameters, each behind its `;`.
+fn params_text(alloc: Global, params: &[Param]) -> Result<Text, NoMemory>
+    ensures { IfOk result (λ t. t ≡ params_text params.now) }
+{
+    let mut out = Text::new();
+    for param in params {
+        add_param(alloc, &mut out, param)?;
+    }
+    Ok(out)
+}
+
 /// Writes the text of parameters, each behind its `;`, behind the text.
 ///
 /// # Errors
 ///
-/// Want of memory alone; what was added by then stays.
+/// Want of memory alone; the text is then as before.
 pub fn add_params(alloc: Global, out: &mut Text, params: &[Param]) -> Result<(), NoMemory>
     ensures text { OnOk result (out.new ≡ out.old ++ params_text params.now) }
+    ensures refused { OnErr result (out.new ≡ out.old) }
 {
-    for param in params {
-        add_param(alloc, out, param)?;
-    }
-    Ok(())
+    let text = params_text(alloc, params)?;
+    out.push(alloc, text.bytes())
 }
 
 fn add_user(alloc: Global, out: &mut Text, user: &Option<Text>) -> Result<(), NoMemory>

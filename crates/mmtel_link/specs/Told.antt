@@ -3,7 +3,7 @@ use Rattle.std.specs.Prelude.{◌≡◌, ◌+◌, ℕ, Bool, true, false, List, 
 use Rattle.std.specs.declared.option.Option.{Option}
 use Rattle.std.specs.declared.result.Result.{Result}
 use Rattle.mmtel_types.specs.declared.numbers.Failed.{Failed}
-use Rattle.mmtel_trust.specs.declared.addrs.Addr.{Addr}
+use Rattle.mmtel_types.specs.declared.addrs.Addr.{Addr}
 use Rattle.mmtel_scan.specs.Numbers.{next_number}
 use Rattle.mmtel_outside.specs.Counts.{fails_by_number}
 use Rattle.mmtel_outside.specs.declared.events.Event.{Event}

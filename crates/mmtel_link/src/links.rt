@@ -5,8 +5,7 @@ ghost use Rattle.mmtel_link.specs.Causes.{HasSendCause};
 ghost use Rattle.mmtel_link.specs.Told.{Ear, Given, LinkCalls, NextTold, ReadTold, GivesTold, IsCall, IsBind, IsGiving, with_offer, with_reply};
 
 use mmtel_scan::{NoMemory, Text};
-use mmtel_trust::Addr;
-use mmtel_types::{Failed, Moment};
+use mmtel_types::{Addr, Failed, Moment};
 use std::alloc::Global;
 
 /// Why something was not sent.

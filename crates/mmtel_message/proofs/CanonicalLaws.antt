@@ -145,7 +145,7 @@ named_kept X p a start five room B (h ∷ hs) plain e =
       | inr n ↦ cut ∙ rw (named_other X p a B h n, n, more) refl
     ]
 
-abbrev head_value : List Line → Option (List ℕ)
+abbrev pub head_value : List Line → Option (List ℕ)
 head_value [] = None
 head_value (l ∷ ls) = Some l.1
 
@@ -157,13 +157,13 @@ first_named X (l ∷ ls) =
       | inr n ↦ rw n (first_named X ls)
     ]
 
-count_named : (X : List ℕ) (ls : List Line) → count_by (λ l. is_line X l) ls ≡ length (named X ls)
+pub count_named : (X : List ℕ) (ls : List Line) → count_by (λ l. is_line X l) ls ≡ length (named X ls)
 count_named X ls = sym (length-filter (λ (l : Line). is_line X l) ls)
 
-abbrev only_of : List Line → Option (List ℕ)
+abbrev pub only_of : List Line → Option (List ℕ)
 only_of ls = if length ls == 1 then head_value ls else None
 
-only_named : (X : List ℕ) (ls : List Line) → only_value X ls ≡ only_of (named X ls)
+pub only_named : (X : List ℕ) (ls : List Line) → only_value X ls ≡ only_of (named X ls)
 only_named X ls = rw (count_named X ls, first_named X ls) refl
 
 pub only_kept : (X : List ℕ) (ls hs : List Line) → named X ls ≡ named X hs → only_value X ls ≡ only_value X hs
@@ -225,7 +225,7 @@ length_kept p a start five room hs e =
 abbrev once : Bool → Bool → List ℕ → List (List ℕ)
 once before there text = if before then [] else if there then text ∷ [] else []
 
-texts_over : (X : List ℕ) (N R : List Line) → line_texts X (N ++ R) ≡ line_texts X N ++ line_texts X R
+pub texts_over : (X : List ℕ) (N R : List Line) → line_texts X (N ++ R) ≡ line_texts X N ++ line_texts X R
 texts_over X N R = ap (λ (x : List Line). map (λ (l : Line). l.1) x) (filter-append (λ (l : Line). is_line X l) N R) ∙ map-append (λ (l : Line). l.1) (named X N) (named X R)
 
 -- a name whose first line has this text, and further ones nothing
@@ -351,7 +351,7 @@ abbrev FitsBehind : ℕ → Bool → List Line → Type 0
 FitsBehind less true hs = Unit {0}
 FitsBehind less false hs = Fits less (first_value (codes "Content-Length") hs)
 
-or_true : (b : Bool) → (b || true) ≡ true
+pub or_true : (b : Bool) → (b || true) ≡ true
 or_true true = refl
 or_true false = refl
 

@@ -4,19 +4,16 @@ use Rattle.std.proofs.lemmas.Bool.{cases_Bool}
 use Rattle.std.proofs.lemmas.List.{drop_all}
 use Rattle.std.specs.Prelude.{position}
 use Rattle.std.proofs.lemmas.Grind.{take-set_at}
-use Rattle.std.specs.List.{position_or_len}
 use Rattle.std.specs.Option.{option_map}
 use Rattle.std.proofs.lemmas.Bool.Decides.{nat_tests}
+use Rattle.mmtel_scan.proofs.Positions.{position_yes, position_no}
 use Rattle.mmtel_message.proofs.LineLaws.{mapped, unmapped, same_some}
-use Rattle.mmtel_message.specs.Message.{is_line, first_value, replaced, dropped}
+use Rattle.mmtel_message.specs.Message.{Line, is_line, first_value, replaced, dropped}
 use Rattle.mmtel_message.specs.Faults.{line_fault, fault_from}
 use Rattle.mmtel_message.specs.Entries.{dotted_step, is_dotted}
 use Rattle.mmtel_message.specs.Expansion.{lines_for, expanded_from}
 use Rattle.mmtel_message.specs.declared.fields.Five.{Five}
 use Rattle.mmtel_message.specs.declared.messages.Start.{Start}
-
-abbrev pub Line : Type 0
-Line = List ℕ × List ℕ
 
 pub first_over : (name : List ℕ) (ls : List Line) (i : ℕ) (x : Line) (whole : Option (List ℕ)) → i < length ls → x ≡ get_or ls i x → is_line name x ≡ false → whole ≡ first_value name (drop i ls) → whole ≡ first_value name (drop (i + 1) ls)
 first_over name ls i x whole lt at_i e so_far =
@@ -62,23 +59,6 @@ unfolding fault_from
 fault_none start five room ls i whole e so_far = rw (drop_all i ls (omega arith)) at so_far
 
 -- ---- the first line of a name
-
-pub position_yes : {X : Type 0} (p : X → Bool) (x : X) (xs : List X) → p x ≡ true → position p (x ∷ xs) ≡ Some 0
-position_yes p x xs e =
-    let low : nat_lt 0 (suc (length xs)) ≡ true = grind (arith, nat_tests) in
-    rw (e, low) refl
-
-pub position_no : {X : Type 0} (p : X → Bool) (x : X) (xs : List X) → p x ≡ false → position p (x ∷ xs) ≡ option_map (λ n. n + 1) (position p xs)
-position_no p x xs e =
-    let a : ℕ = position_or_len p xs in
-    elim (cases_Bool (nat_lt a (length xs))) [
-      | inl y ↦
-          let low : nat_lt (1 + a) (suc (length xs)) ≡ true = grind (arith, nat_tests, y) in
-          rw (e, low, y) (ap (λ (n : ℕ). Some n) (omega arith))
-      | inr no_such ↦
-          let high : nat_lt (1 + a) (suc (length xs)) ≡ false = grind (arith, nat_tests, no_such) in
-          rw (e, high, no_such) refl
-    ]
 
 pub set_none : (name value : List ℕ) (ls : List Line) → position (λ l. is_line name l) ls ≡ None → replaced name value ls ≡ ls ++ (name, value) ∷ []
 set_none name value [] e = refl
@@ -126,9 +106,6 @@ there name (l ∷ ls) n e =
           let p = mapped (position (λ m. is_line name m) ls) n (rw (position_no (λ m. is_line name m) l ls other) at e) in
           omega (arith, there name ls p.0 p.1, p.2)
     ]
-
-pub three : (o a b x : List Line) → ((o ++ a) ++ b) ++ x ≡ o ++ (a ++ (b ++ x))
-three o a b x = append_assoc (o ++ a) b x ∙ append_assoc o a (b ++ x)
 
 -- ---- numbers with dots
 

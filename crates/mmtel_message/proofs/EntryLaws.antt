@@ -1,14 +1,15 @@
 -- The History-Info of a message that was read: each value is an entry, and there are at most 32.
-use Rattle.std.proofs.Common.{◌≡◌, true, false, ℕ, ◌+◌, ◌≤◌, List, [], ◌∷◌, ◌++◌, length, Ok, refl, subst, ◌∙◌, inl, inr, arith, append-nil, append_assoc, codes, nat_lt}
+use Rattle.std.proofs.Common.{◌≡◌, ◌&&◌, not, true, false, ℕ, ◌+◌, ◌≤◌, List, [], ◌∷◌, ◌++◌, length, Some, Ok, refl, subst, ◌∙◌, inl, inr, arith, append-nil, append_assoc, codes, nat_lt}
 use Rattle.std.proofs.lemmas.Bool.{cases_Bool}
 use Rattle.std.proofs.lemmas.Bool.Decides.{nat_tests}
 use Rattle.std.proofs.lemmas.List.{length-append}
 use Rattle.std.proofs.lemmas.List.Folds.{list_all-append}
 use Rattle.std.specs.Str.{str_to_ascii_lowercase}
-use Rattle.mmtel_message.specs.Message.{Message, is_line, values_named}
+use Rattle.mmtel_message.specs.Message.{Message, is_line, has_line, values_named}
 use Rattle.mmtel_message.specs.Values.{values_of}
 use Rattle.mmtel_message.specs.Entries.{is_entry, are_entries}
-use Rattle.mmtel_message.specs.Faults.{line_fault, fault_from}
+use Rattle.mmtel_message.specs.Faults.{is_method, start_fault, line_fault, fault_from}
+use Rattle.mmtel_message.specs.Fields.{five_at}
 use Rattle.mmtel_message.specs.Reads.{reads}
 use Rattle.mmtel_message.specs.declared.values.Mode.TheVariants.{Plain}
 use Rattle.mmtel_message.specs.declared.fields.Five.{Five}
@@ -51,16 +52,20 @@ few_from start five room B (h ∷ hs) le e =
     let same : (B ++ h ∷ []) ++ hs ≡ B ++ h ∷ hs = append_assoc B (h ∷ []) hs in
     subst (λ (x : List Line). length (histories x) ≤ 32) same (few_from start five room (B ++ h ∷ []) hs (few_more start five room B h le e.0) e.1)
 
-record IsClean (m : Message Start) : Type 0 where
-  five : Five
-  clean : Clean m.start five (length m.body) [] m.lines
+-- what is known of a message that was read: its five fields, and that nothing is wrong with its lines and its start line
+pub record IsClean (m : Message Start) : Type 0 where
+  pub five : Five
+  pub found : five_at m.lines ≡ Some five
+  pub clean : Clean m.start five (length m.body) [] m.lines
+  pub target : start_fault m.start ≡ false
+  pub contact : (is_method (codes "INVITE") m.start && not (has_line (codes "Contact") m.lines)) ≡ false
 
-clean_read : (s : List ℕ) (m : Message Start) → reads s ≡ Ok m → IsClean m
+pub clean_read : (s : List ℕ) (m : Message Start) → reads s ≡ Ok m → IsClean m
 clean_read s m e =
     let is = (canonical s m e).sound in
     let f = fault_parts m.start is.five (length m.body) m.lines is.faultless in
     let o = absent_parts m.start m.lines (fault_from m.start is.five (length m.body) [] m.lines) f.1 in
-    record { five = is.five; clean = clean_from m.start is.five (length m.body) [] m.lines o.0 }
+    record { five = is.five; found = is.five_in; clean = clean_from m.start is.five (length m.body) [] m.lines o.0; target = f.0; contact = o.1 }
 
 pub read_entries : (s : List ℕ) (m : Message Start) → reads s ≡ Ok m → are_entries (values_named Plain (codes "History-Info") m.lines) ≡ true
 read_entries s m e = let c = clean_read s m e in entries_from m.start c.five (length m.body) [] m.lines c.clean

@@ -59,7 +59,7 @@ digits_again (a ∷ b ∷ c ∷ []) n len each e le =
     subst (λ (m : ℕ). decimal m ≡ a ∷ b ∷ c ∷ []) whole (three_digits a b c x y z (omega arith))
 digits_again (a ∷ b ∷ c ∷ d ∷ s) n len each e le = absurd (omega arith)
 
-not_below : (n : ℕ) → nat_lt n 100 ≡ false → 100 ≤ n
+pub not_below : (n : ℕ) → nat_lt n 100 ≡ false → 100 ≤ n
 not_below n e = grind (arith, nat_tests)
 
 len_three : (n : ℕ) → (n == 3) ≡ true → n ≡ 3

@@ -127,7 +127,7 @@ abbrev pub ends : Mode → List ℕ → Mode
 ends m [] = m
 ends m (b ∷ s) = ends (mode_after m b) s
 
-ends_more : (m : Mode) (a b : List ℕ) → ends m (a ++ b) ≡ ends (ends m a) b
+pub ends_more : (m : Mode) (a b : List ℕ) → ends m (a ++ b) ≡ ends (ends m a) b
 ends_more m [] b = refl
 ends_more m (x ∷ a) b = ends_more (mode_after m x) a b
 

@@ -1,15 +1,21 @@
+-- What the public clauses cite; `Vias` ends with words of private functions alone.
 pub mod Lines
 pub mod Names
 pub mod Headers
 pub mod Values
 pub mod Message
+pub mod Addresses
 pub mod Texts
 pub mod Starts
 pub mod Fields
 pub mod Entries
 pub mod Faults
 pub mod Expansion
+pub mod Vias
+pub mod Phrases
+pub mod Responses
 pub mod Replies
 pub mod Reads
 pub mod Canonical
 pub mod Datagram
+pub mod Promises

@@ -1,16 +1,17 @@
 //! The header lines of a canonical text (RFC 3261 §7.3.1).
-ghost use Rattle.std.specs.Prelude.{◌≡◌, ◌∷◌, [], ◌++◌, IfOk, OnOk, map};
+ghost use Rattle.std.specs.Prelude.{◌≡◌, [], ◌++◌, IfOk, OnOk, map};
 ghost use Rattle.mmtel_message.specs.Values.{base};
 ghost use Rattle.mmtel_message.specs.Expansion.{is_listed, merged_text, privacy_text, allow_text, at_first, lines_for, expanded_from, expanded};
 
-use crate::messages::{has_line, is_line, line_texts};
+use crate::building::add_bytes;
+use crate::messages::{Line, has_line, is_line, line_texts};
 use crate::values::{Mode, joined_by, values_in};
 use mmtel_lex::{List, NoMemory, Text};
 use mmtel_scan::{Class, trim};
 use std::alloc::Global;
 
 /// Whether the values of the line stand one a line.
-fn is_listed(line: &(Text, Text)) -> bool
+fn is_listed(line: &Line) -> bool
     ensures { result ≡ is_listed line.now }
 {
     if is_line(line, b"Via") {
@@ -37,31 +38,17 @@ fn is_listed(line: &(Text, Text)) -> bool
     is_line(line, b"Require")
 }
 
-/// Adds a line.
-pub fn add_line(
-    alloc: Global,
-    out: &mut List<(Text, Text)>,
-    name: &[u8],
-    value: &[u8],
-) -> Result<(), NoMemory>
-    ensures { OnOk result (out.new ≡ out.old ++ (name.now, value.now) ∷ []) }
-{
-    let name = Text::of(alloc, name)?;
-    let value = Text::of(alloc, value)?;
-    out.push(alloc, (name, value))?;
-    Ok(())
-}
-
+#[tactic(auto, unfolding(crate::specs::Message::line))]
 fn add_values(
     alloc: Global,
-    out: &mut List<(Text, Text)>,
+    out: &mut List<Line>,
     name: &[u8],
     values: &[Text],
 ) -> Result<(), NoMemory>
     ensures { OnOk result (out.new ≡ out.old ++ map (λ v. (name.now, v)) values.now) }
 {
     for value in values {
-        add_line(alloc, out, name, value.bytes())?;
+        add_bytes(alloc, out, name, value.bytes())?;
     }
     Ok(())
 }
@@ -83,43 +70,45 @@ fn merged_text(
     Text::of(alloc, trim(Class::Blank, joined.bytes()))
 }
 
-fn privacy_text(alloc: Global, lines: &[(Text, Text)]) -> Result<Text, NoMemory>
+fn privacy_text(alloc: Global, lines: &[Line]) -> Result<Text, NoMemory>
     ensures { IfOk result (λ t. t ≡ privacy_text lines.now) }
 {
     let texts = line_texts(alloc, lines, b"Privacy")?;
     merged_text(alloc, Mode::Words, b";", b";", texts.items())
 }
 
-fn allow_text(alloc: Global, lines: &[(Text, Text)]) -> Result<Text, NoMemory>
+fn allow_text(alloc: Global, lines: &[Line]) -> Result<Text, NoMemory>
     ensures { IfOk result (λ t. t ≡ allow_text lines.now) }
 {
     let texts = line_texts(alloc, lines, b"Allow")?;
     merged_text(alloc, Mode::Plain, b",", b", ", texts.items())
 }
 
+#[tactic(auto, unfolding(crate::specs::Message::line))]
 fn add_at_first(
     alloc: Global,
-    out: &mut List<(Text, Text)>,
+    out: &mut List<Line>,
     name: &[u8],
     text: &[u8],
-    before: &[(Text, Text)],
-    line: &(Text, Text),
+    before: &[Line],
+    line: &Line,
 ) -> Result<(), NoMemory>
     ensures { OnOk result (out.new ≡ out.old ++ at_first name.now text.now before.now line.now) }
 {
     if has_line(name, before) {
         return Ok(());
     }
-    add_line(alloc, out, line.0.bytes(), text)
+    add_bytes(alloc, out, line.0.bytes(), text)
 }
 
+#[tactic(auto, unfolding(crate::specs::Message::line))]
 fn add_lines_for(
     alloc: Global,
-    out: &mut List<(Text, Text)>,
+    out: &mut List<Line>,
     privacy: &[u8],
     allow: &[u8],
-    before: &[(Text, Text)],
-    line: &(Text, Text),
+    before: &[Line],
+    line: &Line,
 ) -> Result<(), NoMemory>
     ensures { OnOk result (out.new ≡ out.old ++ lines_for privacy.now allow.now before.now line.now) }
 {
@@ -137,15 +126,15 @@ fn add_lines_for(
         let values = values_in(alloc, Mode::Plain, line.1.bytes())?;
         return add_values(alloc, out, name, values.items());
     }
-    add_line(alloc, out, name, line.1.bytes())
+    add_bytes(alloc, out, name, line.1.bytes())
 }
 
 fn expanded_with(
     alloc: Global,
     privacy: &[u8],
     allow: &[u8],
-    lines: &[(Text, Text)],
-) -> Result<List<(Text, Text)>, NoMemory>
+    lines: &[Line],
+) -> Result<List<Line>, NoMemory>
     ensures { IfOk result (λ ls. ls ≡ expanded_from privacy.now allow.now [] lines.now) }
 {
     let mut out = List::new();
@@ -156,7 +145,7 @@ fn expanded_with(
 }
 
 /// The lines of the canonical text of a message with these lines.
-pub fn expanded(alloc: Global, lines: &[(Text, Text)]) -> Result<List<(Text, Text)>, NoMemory>
+pub fn expanded(alloc: Global, lines: &[Line]) -> Result<List<Line>, NoMemory>
     ensures { IfOk result (λ ls. ls ≡ expanded lines.now) }
 {
     let privacy = privacy_text(alloc, lines)?;

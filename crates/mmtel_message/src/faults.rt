@@ -12,7 +12,7 @@ ghost use Rattle.mmtel_message.specs.Values.{values_of, values_in};
 
 use crate::entries::are_entries;
 use crate::fields::Five;
-use crate::messages::{Start, has_line, is_line, values_named};
+use crate::messages::{Line, Start, has_line, is_line, values_named};
 use crate::values::{Mode, values_in};
 use mmtel_lex::{LexFault, NoMemory, Text, UriFault, param_value, read_name_addr, read_uri};
 use mmtel_scan::{Class, is_all, number_up_to, skip_text};
@@ -123,7 +123,7 @@ fn is_cookie(value: Option<&[u8]>) -> bool
     }
 }
 
-fn via_fault(start: &Start, five: &Five, before: &[(Text, Text)]) -> bool
+fn via_fault(start: &Start, five: &Five, before: &[Line]) -> bool
     ensures { result ≡ (is_request start.now && not (has_line (codes "Via") before.now) && not (is_cookie (param_value (codes "branch") five.now.via.params))) }
 {
     if !is_request(start) {
@@ -160,7 +160,7 @@ fn is_over(earlier: usize, more: usize) -> bool
     earlier > 32 || more > 32 - earlier
 }
 
-fn history_fault(alloc: Global, before: &[(Text, Text)], value: &[u8]) -> Result<bool, NoMemory>
+fn history_fault(alloc: Global, before: &[Line], value: &[u8]) -> Result<bool, NoMemory>
     ensures { IfOk result (λ b. b ≡ (not (are_entries (values_of value.now)) || nat_lt 32 (length (values_named Plain (codes "History-Info") before.now) + length (values_of value.now)))) }
 {
     let values = values_in(alloc, Mode::Plain, value)?;
@@ -197,11 +197,7 @@ fn privacy_fault(alloc: Global, value: &[u8]) -> Result<bool, NoMemory>
 }
 
 /// What is wrong with a line by the rules of the extensions.
-fn extension_fault(
-    alloc: Global,
-    before: &[(Text, Text)],
-    line: &(Text, Text),
-) -> Result<bool, NoMemory>
+fn extension_fault(alloc: Global, before: &[Line], line: &Line) -> Result<bool, NoMemory>
     ensures { IfOk result (λ b. b ≡ by_name (extension_rows before.now line.now.1) line.now) }
 {
     let value = line.1.bytes();
@@ -231,8 +227,8 @@ fn line_fault(
     start: &Start,
     five: &Five,
     room: u64,
-    before: &[(Text, Text)],
-    line: &(Text, Text),
+    before: &[Line],
+    line: &Line,
 ) -> Result<bool, NoMemory>
     ensures { IfOk result (λ b. b ≡ line_fault start.now five.now room before.now line.now) }
 {
@@ -275,7 +271,7 @@ fn lines_fault(
     start: &Start,
     five: &Five,
     room: u64,
-    lines: &[(Text, Text)],
+    lines: &[Line],
 ) -> Result<Option<usize>, NoMemory>
     ensures { IfOk result (λ at. at ≡ fault_from start.now five.now room [] lines.now) }
 {
@@ -287,7 +283,7 @@ fn lines_fault(
     Ok(None)
 }
 
-fn or_absent(start: &Start, lines: &[(Text, Text)], found: Option<usize>) -> Option<usize>
+fn or_absent(start: &Start, lines: &[Line], found: Option<usize>) -> Option<usize>
     ensures { result ≡ or_absent start.now lines.now found }
 {
     match found {
@@ -308,7 +304,7 @@ pub fn first_fault(
     start: &Start,
     five: &Five,
     room: u64,
-    lines: &[(Text, Text)],
+    lines: &[Line],
 ) -> Result<Option<usize>, NoMemory>
     ensures { IfOk result (λ at. at ≡ first_fault start.now five.now room lines.now) }
 {

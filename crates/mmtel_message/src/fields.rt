@@ -5,7 +5,7 @@ ghost use Rattle.mmtel_lex.specs.Reading.{Gives};
 ghost use Rattle.mmtel_message.specs.Message.{is_line};
 ghost use Rattle.mmtel_message.specs.Fields.{only_value, first_part, via_by, via_at, cseq_at, via_in, party_in, parties_in, call_in, five_at, after_blanks, before_rest, if_end, filled};
 
-use crate::messages::{first_of, is_line};
+use crate::messages::{Line, first_of, is_line};
 use crate::values::{Mode, next_part};
 use mmtel_lex::params::{params_front, token};
 use mmtel_lex::uris::{host, port};
@@ -44,14 +44,14 @@ pub struct Five {
     pub cseq: CSeq,
 }
 
-fn count(lines: &[(Text, Text)], name: &[u8]) -> usize
+fn count(lines: &[Line], name: &[u8]) -> usize
     ensures { result ≡ count_by (λ l. is_line name.now l) lines.now }
 {
     lines.iter().filter(|line| is_line(line, name)).count()
 }
 
 /// The value of the only line of the name.
-fn only<'a>(lines: &'a [(Text, Text)], name: &[u8]) -> Result<&'a [u8], LexFault>
+fn only<'a>(lines: &'a [Line], name: &[u8]) -> Result<&'a [u8], LexFault>
     ensures { Gives (λ x. x.now) result (only_value name.now lines.now) }
 {
     if count(lines, name) != 1 {
@@ -174,7 +174,7 @@ pub fn read_cseq(alloc: Global, bytes: &[u8]) -> Result<CSeq, LexFault>
 }
 
 /// Reads the first Via value.
-fn via_in(alloc: Global, lines: &[(Text, Text)]) -> Result<Via, LexFault>
+fn via_in(alloc: Global, lines: &[Line]) -> Result<Via, LexFault>
     ensures { Gives (λ x. x) result (via_in lines.now) }
 {
     match first_of(lines, b"Via") {
@@ -184,7 +184,7 @@ fn via_in(alloc: Global, lines: &[(Text, Text)]) -> Result<Via, LexFault>
 }
 
 /// Reads the only line of the name as a name-addr.
-fn party_in(alloc: Global, lines: &[(Text, Text)], name: &[u8]) -> Result<NameAddr, LexFault>
+fn party_in(alloc: Global, lines: &[Line], name: &[u8]) -> Result<NameAddr, LexFault>
     ensures { Gives (λ x. x) result (party_in name.now lines.now) }
 {
     let value = only(lines, name)?;
@@ -193,7 +193,7 @@ fn party_in(alloc: Global, lines: &[(Text, Text)], name: &[u8]) -> Result<NameAd
 
 /// Reads From and To.
 #[tactic(auto, unfolding(crate::specs::Fields::parties_in))]
-fn parties_in(alloc: Global, lines: &[(Text, Text)]) -> Result<(NameAddr, NameAddr), LexFault>
+fn parties_in(alloc: Global, lines: &[Line]) -> Result<(NameAddr, NameAddr), LexFault>
     ensures { Gives (λ x. x) result (parties_in lines.now) }
 {
     let from = party_in(alloc, lines, b"From")?;
@@ -203,7 +203,7 @@ fn parties_in(alloc: Global, lines: &[(Text, Text)]) -> Result<(NameAddr, NameAd
 
 /// Reads Call-ID and CSeq.
 #[tactic(auto, unfolding(crate::specs::Fields::call_in))]
-fn call_in(alloc: Global, lines: &[(Text, Text)]) -> Result<(Text, CSeq), LexFault>
+fn call_in(alloc: Global, lines: &[Line]) -> Result<(Text, CSeq), LexFault>
     ensures { Gives (λ x. x) result (call_in lines.now) }
 {
     let value = only(lines, b"Call-ID")?;
@@ -219,7 +219,7 @@ fn call_in(alloc: Global, lines: &[(Text, Text)]) -> Result<(Text, CSeq), LexFau
 ///
 /// `Malformed` where one of them cannot be read, or where one but Via is not there exactly once; and want of memory.
 #[tactic(auto, unfolding(crate::specs::Fields::five_at))]
-pub fn read_five(alloc: Global, lines: &[(Text, Text)]) -> Result<Five, LexFault>
+pub fn read_five(alloc: Global, lines: &[Line]) -> Result<Five, LexFault>
     ensures exact { Gives (λ x. x) result (five_at lines.now) }
 {
     let via = via_in(alloc, lines)?;

@@ -3,13 +3,11 @@ ghost use Rattle.std.specs.Prelude.{◌≡◌, IfOk, map};
 ghost use Rattle.std.specs.List.{list_all};
 ghost use Rattle.mmtel_message.specs.Headers.{header_at, header_line, is_value_byte};
 
+use crate::messages::Line;
 use crate::names::long_name;
 use mmtel_lex::{List, NoMemory, Text};
 use mmtel_scan::{Class, skip_byte, split_run, trim};
 use std::alloc::Global;
-
-/// A header line: its name and its value.
-pub type Header = (Text, Text);
 
 fn is_value_byte(byte: u8) -> bool
     ensures { result ≡ is_value_byte byte }
@@ -26,7 +24,7 @@ pub fn is_value(value: &[u8]) -> bool
 
 /// Reads a header line; None where it is none.
 #[tactic(auto, unfolding(crate::specs::Headers::header_at))]
-fn header(alloc: Global, line: &[u8]) -> Result<Option<Header>, NoMemory>
+fn header(alloc: Global, line: &[u8]) -> Result<Option<Line>, NoMemory>
     ensures { IfOk result (λ h. h ≡ header_at line.now) }
 {
     let (name, rest) = split_run(Class::Token, line);
@@ -50,7 +48,7 @@ fn header(alloc: Global, line: &[u8]) -> Result<Option<Header>, NoMemory>
 }
 
 /// Reads a header line, or gives one without a name.
-fn header_line(alloc: Global, line: &[u8]) -> Result<Header, NoMemory>
+fn header_line(alloc: Global, line: &[u8]) -> Result<Line, NoMemory>
     ensures { IfOk result (λ h. h ≡ header_line line.now) }
 {
     match header(alloc, line)? {
@@ -60,7 +58,7 @@ fn header_line(alloc: Global, line: &[u8]) -> Result<Header, NoMemory>
 }
 
 /// Reads header lines; a line that is none has no name.
-pub fn headers(alloc: Global, lines: &[Text]) -> Result<List<Header>, NoMemory>
+pub fn headers(alloc: Global, lines: &[Text]) -> Result<List<Line>, NoMemory>
     ensures { IfOk result (λ hs. hs ≡ map header_line lines.now) }
 {
     let mut headers = List::new();

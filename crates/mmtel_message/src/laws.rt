@@ -1,23 +1,36 @@
 //! Laws of reading: each is the contract of a function that does nothing.
-ghost use Rattle.std.specs.Prelude.{◌≡◌, ◌≢◌, ◌≤◌, ◌<◌, ◌⊎◌, true, false, ℕ, List, ◌∷◌, ◌++◌, Some, Ok, length, codes, map};
+ghost use Rattle.std.specs.Prelude.{◌≡◌, ◌≢◌, ◌≤◌, ◌<◌, ◌⊎◌, Bool, true, false, ℕ, List, [], ◌∷◌, ◌++◌, Some, Ok, length, codes, map};
 ghost use Rattle.std.specs.List.{list_all};
 ghost use Rattle.std.specs.Str.{bytes_eq, str_to_ascii_lowercase};
 ghost use Rattle.mmtel_scan.specs.Classes.{IsAll};
+ghost use Rattle.mmtel_scan.specs.Numbers.{number_of};
 ghost use Rattle.mmtel_scan.specs.Scanning.{trimmed};
 ghost use Rattle.mmtel_scan.specs.declared.classes.Class.TheVariants.{Blank};
 ghost use Rattle.mmtel_lex.specs.Grammar.{IsToken};
+ghost use Rattle.mmtel_lex.specs.Params.{param_value};
+ghost use Rattle.mmtel_lex.specs.Reading.{name_addr_of, uri_of};
+ghost use Rattle.mmtel_lex.specs.declared.values.NameAddr.{NameAddr};
 ghost use Rattle.mmtel_message.specs.Datagram.{datagram, text_of, IsWhole, AreApart, AreWhole, AreUnfolded};
 ghost use Rattle.mmtel_message.specs.Entries.{are_entries};
-ghost use Rattle.mmtel_message.specs.Fields.{only_value, five_at};
+ghost use Rattle.mmtel_message.specs.Fields.{only_value, first_part, via_at, cseq_at, five_at};
+ghost use Rattle.mmtel_message.specs.Faults.{is_method, is_request, is_malformed, are_readable, is_one_readable, are_words};
 ghost use Rattle.mmtel_message.specs.Headers.{header_line};
 ghost use Rattle.mmtel_message.specs.Lines.{starts_blank, split};
-ghost use Rattle.mmtel_message.specs.Message.{Message, named, first_value, values_named, replaced, dropped};
+ghost use Rattle.mmtel_message.specs.Message.{Line, Message, named, first_value, line_texts, values_named, replaced, dropped};
 ghost use Rattle.mmtel_message.specs.Names.{compact_forms, more_compact_forms, long_name};
+ghost use Rattle.mmtel_message.specs.Promises.{IsOnly, StandsOneALine, HasTag, HasCookie, HasContact, is_hops, are_cases};
 ghost use Rattle.mmtel_message.specs.Reads.{reads, after_start};
+ghost use Rattle.mmtel_message.specs.Replies.{bare, reply_with};
+ghost use Rattle.mmtel_message.specs.Responses.{AreLinesWith, BringsNone, IsSendable, IsUntagged, Reply, SaysNoWay, completed_lines, five_answered, response, tag_due, to_answered, to_line};
 ghost use Rattle.mmtel_message.specs.Starts.{start_at};
+ghost use Rattle.mmtel_types.specs.declared.addrs.Addr.{Addr};
+ghost use Rattle.mmtel_message.specs.Vias.{IsSource, completed, completed_via};
+ghost use Rattle.mmtel_message.specs.declared.fields.Five.{Five};
+ghost use Rattle.mmtel_message.specs.declared.fields.Via.{Via};
 ghost use Rattle.mmtel_message.specs.declared.messages.Start.{Start};
+ghost use Rattle.mmtel_message.specs.declared.messages.Start.TheVariants.{Request, Status};
 ghost use Rattle.mmtel_message.specs.declared.values.Mode.{Mode};
-ghost use Rattle.mmtel_message.specs.declared.values.Mode.TheVariants.{Plain};
+ghost use Rattle.mmtel_message.specs.declared.values.Mode.TheVariants.{Plain, Words};
 
 /// A datagram of lines of which none continues another is read of its lines: of the start line, of what each header line says, and of the body.
 pub fn lines_decide()
@@ -75,4 +88,114 @@ pub fn other_values_stay()
 pub fn lines_are_the_whole()
     ensures whole { (s : List ℕ) → text_of (split s) ≡ s }
     ensures apart { (s : List ℕ) → AreApart (split s) }
+{}
+
+/// Where the five fields stand of lines that have them (RFC 3261 §8.1.1): each but Via on the only line of its name.
+pub fn fields_stand_on_lines()
+    ensures from { (ls : List (List ℕ × List ℕ)) (five : Five) → five_at ls ≡ Some five → (v : List ℕ) × IsOnly (codes "From") ls v × (name_addr_of v ≡ Some five.from) }
+    ensures to { (ls : List (List ℕ × List ℕ)) (five : Five) → five_at ls ≡ Some five → (v : List ℕ) × IsOnly (codes "To") ls v × (name_addr_of v ≡ Some five.to) }
+    ensures call_id { (ls : List (List ℕ × List ℕ)) (five : Five) → five_at ls ≡ Some five → IsOnly (codes "Call-ID") ls five.call_id × (0 < length five.call_id) }
+    ensures cseq { (ls : List (List ℕ × List ℕ)) (five : Five) → five_at ls ≡ Some five → (v : List ℕ) × IsOnly (codes "CSeq") ls v × (cseq_at v ≡ Some five.cseq) }
+{}
+
+/// The five fields of a message that was read are there (RFC 3261 §8.1.1), and its first Via value is the text of its first Via line.
+pub fn fields_are_read()
+    ensures five { (b : List ℕ) (m : Message Start) → reads b ≡ Ok m → (five : Five) × (five_at m.lines ≡ Some five) }
+    ensures via { (b : List ℕ) (m : Message Start) (five : Five) → reads b ≡ Ok m → five_at m.lines ≡ Some five → (v : List ℕ) × (first_value (codes "Via") m.lines ≡ Some v) × (via_at v ≡ Some five.via) }
+{}
+
+/// A request that was read: CSeq says its method (RFC 3261 §8.1.1.5), From has a tag (§8.1.1.3),
+/// the first Via branch begins with the cookie (§8.1.1.7), and the Request-URI is of the grammar or of another scheme (§8.2.2.1).
+pub fn requests_are_sound()
+    ensures method { (b : List ℕ) (m : Message Start) (five : Five) (method uri : List ℕ) → reads b ≡ Ok m → m.start ≡ Request method uri → five_at m.lines ≡ Some five → five.cseq.method ≡ method }
+    ensures tag { (b : List ℕ) (m : Message Start) (five : Five) → reads b ≡ Ok m → is_request m.start ≡ true → five_at m.lines ≡ Some five → HasTag five.from }
+    ensures branch { (b : List ℕ) (m : Message Start) (five : Five) → reads b ≡ Ok m → is_request m.start ≡ true → five_at m.lines ≡ Some five → HasCookie five.via }
+    ensures target { (b : List ℕ) (m : Message Start) (method uri : List ℕ) → reads b ≡ Ok m → m.start ≡ Request method uri → is_malformed (uri_of uri) ≡ false }
+{}
+
+/// Max-Forwards of a request that was read is a number up to 255, and is there once at most (RFC 3261 §20.22).
+pub fn hops_are_numbers()
+    ensures number { (b : List ℕ) (m : Message Start) → reads b ≡ Ok m → is_request m.start ≡ true → list_all is_hops (line_texts (codes "Max-Forwards") m.lines) ≡ true }
+    ensures once { (b : List ℕ) (m : Message Start) → reads b ≡ Ok m → is_request m.start ≡ true → length (named (codes "Max-Forwards") m.lines) ≤ 1 }
+{}
+
+/// An INVITE that was read has one Contact value, which is a name-addr and the text of the first Contact line (RFC 3261 §8.1.1.8).
+pub fn an_invite_has_one_contact()
+    ensures one { (b : List ℕ) (m : Message Start) → reads b ≡ Ok m → is_method (codes "INVITE") m.start ≡ true → is_one_readable (values_named Plain (codes "Contact") m.lines) ≡ true }
+    ensures first { (b : List ℕ) (m : Message Start) → reads b ≡ Ok m → is_method (codes "INVITE") m.start ≡ true → HasContact m.lines }
+{}
+
+/// Addresses in a message that was read, a request or a response, are name-addrs:
+/// the values of Route and Record-Route (RFC 3261 §20.34, §20.30), of P-Asserted-Identity (RFC 3325 §9.1),
+/// of P-Served-User, with a session case that is originating or terminating (RFC 5502 §6), and of Refer-To (RFC 3515 §2.1).
+pub fn addresses_are_readable()
+    ensures route { (b : List ℕ) (m : Message Start) → reads b ≡ Ok m → are_readable (values_named Plain (codes "Route") m.lines) ≡ true }
+    ensures record_route { (b : List ℕ) (m : Message Start) → reads b ≡ Ok m → are_readable (values_named Plain (codes "Record-Route") m.lines) ≡ true }
+    ensures asserted { (b : List ℕ) (m : Message Start) → reads b ≡ Ok m → are_readable (values_named Plain (codes "P-Asserted-Identity") m.lines) ≡ true }
+    ensures served { (b : List ℕ) (m : Message Start) → reads b ≡ Ok m → are_cases (line_texts (codes "P-Served-User") m.lines) ≡ true }
+    ensures refer { (b : List ℕ) (m : Message Start) → reads b ≡ Ok m → are_readable (line_texts (codes "Refer-To") m.lines) ≡ true }
+{}
+
+/// The words of Privacy in a message that was read are tokens (RFC 3323 §4.2).
+pub fn privacy_has_words()
+    ensures words { (b : List ℕ) (m : Message Start) → reads b ≡ Ok m → are_words (values_named Words (codes "Privacy") m.lines) ≡ true }
+{}
+
+/// The values of a listed name in a message that was read stand one a line.
+pub fn listed_values_stand_alone()
+    ensures via { (b : List ℕ) (m : Message Start) → reads b ≡ Ok m → StandsOneALine (codes "Via") m.lines }
+    ensures route { (b : List ℕ) (m : Message Start) → reads b ≡ Ok m → StandsOneALine (codes "Route") m.lines }
+    ensures record_route { (b : List ℕ) (m : Message Start) → reads b ≡ Ok m → StandsOneALine (codes "Record-Route") m.lines }
+    ensures contact { (b : List ℕ) (m : Message Start) → reads b ≡ Ok m → StandsOneALine (codes "Contact") m.lines }
+    ensures asserted { (b : List ℕ) (m : Message Start) → reads b ≡ Ok m → StandsOneALine (codes "P-Asserted-Identity") m.lines }
+    ensures history { (b : List ℕ) (m : Message Start) → reads b ≡ Ok m → StandsOneALine (codes "History-Info") m.lines }
+    ensures supported { (b : List ℕ) (m : Message Start) → reads b ≡ Ok m → StandsOneALine (codes "Supported") m.lines }
+    ensures require { (b : List ℕ) (m : Message Start) → reads b ≡ Ok m → StandsOneALine (codes "Require") m.lines }
+{}
+
+/// A response that was read has a code of 100 to 699 (RFC 3261 §7.2).
+pub fn codes_are_in_range()
+    ensures code { (b : List ℕ) (m : Message Start) (code : ℕ) (phrase : List ℕ) → reads b ≡ Ok m → m.start ≡ Status code phrase → (100 ≤ code) × (code ≤ 699) }
+{}
+
+/// Content-Length of a message that was read is the length of its body, where it is there (RFC 3261 §20.14).
+pub fn bodies_are_as_long_as_said()
+    ensures length { (b : List ℕ) (m : Message Start) (v : List ℕ) → reads b ≡ Ok m → first_value (codes "Content-Length") m.lines ≡ Some v → number_of (length m.body) v ≡ Some (length m.body) }
+{}
+
+/// What holds of the text of each line of a name holds of the first.
+pub fn the_first_is_one_of_them()
+    ensures text { (p : List ℕ → Bool) (name v : List ℕ) (ls : List (List ℕ × List ℕ)) → list_all p (line_texts name ls) ≡ true → first_value name ls ≡ Some v → p v ≡ true }
+{}
+
+/// A Via value that is completed is one Via value, which is read as that Via with the port and the address that the request came from (RFC 3261 §18.2.1, RFC 3581 §4).
+/// Its branch and its sent-by stay, so that the response belongs to the same transaction (RFC 3261 §17.1.3).
+pub fn completed_vias_name_their_transaction()
+    ensures read { (source : Addr) (value : List ℕ) (via : Via) → IsSource source → via_at value ≡ Some via → via_at (completed source value) ≡ Some (completed_via source via) }
+    ensures one { (source : Addr) (value : List ℕ) (via : Via) → IsSource source → via_at value ≡ Some via → first_part (completed source value) ≡ completed source value }
+    ensures branch { (source : Addr) (via : Via) → param_value (codes "branch") (completed_via source via).params ≡ param_value (codes "branch") via.params }
+    ensures sent_by { (source : Addr) (via : Via) → (completed_via source via).sent_by ≡ via.sent_by }
+{}
+
+/// A response has the Via lines of its request, the first completed where a source is given, and From, Call-ID and CSeq as received (RFC 3261 §8.2.6.2); To has the server's tag where it had none.
+pub fn responses_repeat_their_requests()
+    ensures via { (start : Start) (ls : List Line) (r : Reply) → BringsNone r → named (codes "Via") (response start ls r).lines ≡ completed_lines r.source (named (codes "Via") ls) }
+    ensures from { (start : Start) (ls : List Line) (r : Reply) → BringsNone r → named (codes "From") (response start ls r).lines ≡ named (codes "From") ls }
+    ensures to { (start : Start) (ls : List Line) (r : Reply) → BringsNone r → named (codes "To") (response start ls r).lines ≡ map (to_line (tag_due r.code r.tag)) (named (codes "To") ls) }
+    ensures call_id { (start : Start) (ls : List Line) (r : Reply) → BringsNone r → named (codes "Call-ID") (response start ls r).lines ≡ named (codes "Call-ID") ls }
+    ensures cseq { (start : Start) (ls : List Line) (r : Reply) → BringsNone r → named (codes "CSeq") (response start ls r).lines ≡ named (codes "CSeq") ls }
+{}
+
+/// The five fields of a response are read (RFC 3261 §8.1.1): those of its request, Via completed and To with the tag, which is read back where the request had none, and the request's where it had one.
+pub fn responses_have_the_fields()
+    ensures five { (start : Start) (ls : List Line) (r : Reply) (five : Five) → IsSendable r → AreLinesWith five ls → five_at (response start ls r).lines ≡ Some (five_answered r five) }
+    ensures tag { (b : ℕ) (tag : List ℕ) (n : NameAddr) → IsUntagged n → param_value (codes "tag") (to_answered (b ∷ tag) n).params ≡ Some (b ∷ tag) }
+    ensures kept { (tag : List ℕ) (n : NameAddr) (given : List ℕ) → param_value (codes "tag") n.params ≡ Some given → to_answered tag n ≡ n }
+{}
+
+/// A response that says no way to the server is the same of the request and of a reply's own lines: so the reply that a fault of reading carries is completed from itself. From 300 on a response says none.
+pub fn replies_can_be_completed()
+    ensures completed { (a b : Start) (code : ℕ) (phrase : List ℕ) (ls : List Line) (r : Reply) → SaysNoWay r.code a → SaysNoWay r.code b → response a (reply_with code phrase ls).lines r ≡ response b ls r }
+    ensures bare { (start : Start) (code : ℕ) (phrase : List ℕ) (ls : List Line) → SaysNoWay code start → response start ls (bare code phrase) ≡ reply_with code phrase ls }
+    ensures late { (code : ℕ) (start : Start) → 300 ≤ code → SaysNoWay code start }
 {}

@@ -1,6 +1,8 @@
-//! SIP messages: reading bytes as a message, editing it, and its canonical text (RFC 3261 §7, §20 and §25.1).
+//! SIP messages: reading bytes as a message, editing it, building its lines, and its canonical text (RFC 3261 §7, §20 and §25.1).
 #![tactic(auto)]
 
+mod addresses;
+mod building;
 mod entries;
 mod expansion;
 mod faults;
@@ -10,18 +12,26 @@ pub mod laws;
 mod lines;
 mod messages;
 mod names;
+mod phrases;
 mod printing;
 mod reading;
 mod replies;
+mod responses;
 mod starts;
 mod values;
+mod vias;
 
+pub use addresses::{addr_text, contact_text, ip_text, via_text};
+pub use building::{add_bytes, add_decimal, add_line, add_named, add_passed};
 pub use entries::is_place;
 pub use faults::{is_method, is_readable, is_request};
 pub use fields::{CSeq, Five, Via, read_cseq, read_five, read_via};
-pub use messages::{Msg, Start, first_of, has_line, is_line, line_texts, values_named};
+pub use messages::{Line, Msg, Start, first_of, has_line, is_line, line_texts, values_named};
 pub use mmtel_lex::param_value;
 pub use names::long_name;
+pub use phrases::phrase_of;
 pub use reading::{ReadFault, read};
 pub use replies::reply_with;
+pub use responses::{Reply, response, tagged};
 pub use values::{Mode, joined_by, next_part, values_in};
+pub use vias::completed;

@@ -19,13 +19,16 @@ pub enum Start {
     Status { code: u16, phrase: Text },
 }
 
+/// A header line: its name and its value (RFC 3261 §7.3).
+pub type Line = (Text, Text);
+
 /// A message (RFC 3261 §7): its start line, its header lines in order, and its body.
 ///
 /// A message that `read` gave has names in full and one value of a listed name a line; edits keep the names that they are given.
 #[derive(Drop)]
 pub struct Msg {
     start: Start,
-    lines: List<(Text, Text)>,
+    lines: List<Line>,
     body: Text,
 }
 
@@ -39,20 +42,20 @@ impl Model for Msg {
 }
 
 /// Whether the line has the name.
-pub fn is_line(line: &(Text, Text), name: &[u8]) -> bool
+pub fn is_line(line: &Line, name: &[u8]) -> bool
     ensures { result ≡ is_line name.now line.now }
 {
     line.0.bytes().eq_ignore_ascii_case(name)
 }
 
-fn place_of(lines: &[(Text, Text)], name: &[u8]) -> Option<usize>
+fn place_of(lines: &[Line], name: &[u8]) -> Option<usize>
     ensures { result ≡ position (is_line name.now) lines.now }
 {
     lines.iter().position(|line| is_line(line, name))
 }
 
 /// The value of the first line of the name.
-pub fn first_of<'a>(lines: &'a [(Text, Text)], name: &[u8]) -> Option<&'a [u8]>
+pub fn first_of<'a>(lines: &'a [Line], name: &[u8]) -> Option<&'a [u8]>
     ensures { option_copied result ≡ first_value name.now lines.now }
 {
     for line in lines {
@@ -63,7 +66,7 @@ pub fn first_of<'a>(lines: &'a [(Text, Text)], name: &[u8]) -> Option<&'a [u8]>
     None
 }
 
-fn drop_named(lines: &mut List<(Text, Text)>, from: usize, name: &[u8])
+fn drop_named(lines: &mut List<Line>, from: usize, name: &[u8])
     requires { from ≤ length lines.old }
     ensures { lines.new ≡ take from lines.old ++ dropped name.now (drop from lines.old) }
 {
@@ -77,22 +80,12 @@ fn drop_named(lines: &mut List<(Text, Text)>, from: usize, name: &[u8])
     }
 }
 
-fn add_all(alloc: Global, out: &mut List<Text>, values: &[Text]) -> Result<(), NoMemory>
-    ensures { OnOk result (out.new ≡ out.old ++ values.now) }
-{
-    for value in values {
-        let value = Text::of(alloc, value.bytes())?;
-        out.push(alloc, value)?;
-    }
-    Ok(())
-}
-
 fn add_line_values(
     alloc: Global,
     out: &mut List<Text>,
     mode: Mode,
     name: &[u8],
-    line: &(Text, Text),
+    line: &Line,
 ) -> Result<(), NoMemory>
     requires { base mode ≡ mode }
     ensures { OnOk result (out.new ≡ out.old ++ line_values mode name.now line.now) }
@@ -101,14 +94,15 @@ fn add_line_values(
         return Ok(());
     }
     let values = values_in(alloc, mode, line.1.bytes())?;
-    add_all(alloc, out, values.items())
+    out.extend(alloc, values)?;
+    Ok(())
 }
 
 /// The values of the lines of the name, in order: parted as the mode says.
 pub fn values_named(
     alloc: Global,
     mode: Mode,
-    lines: &[(Text, Text)],
+    lines: &[Line],
     name: &[u8],
 ) -> Result<List<Text>, NoMemory>
     requires { base mode ≡ mode }
@@ -122,11 +116,7 @@ pub fn values_named(
 }
 
 /// The texts of the lines of the name, in order.
-pub fn line_texts(
-    alloc: Global,
-    lines: &[(Text, Text)],
-    name: &[u8],
-) -> Result<List<Text>, NoMemory>
+pub fn line_texts(alloc: Global, lines: &[Line], name: &[u8]) -> Result<List<Text>, NoMemory>
     ensures { IfOk result (λ vs. vs ≡ line_texts name.now lines.now) }
 {
     let mut out = List::new();
@@ -140,18 +130,13 @@ pub fn line_texts(
 }
 
 /// Whether there is a line of the name.
-pub fn has_line(name: &[u8], lines: &[(Text, Text)]) -> bool
+pub fn has_line(name: &[u8], lines: &[Line]) -> bool
     ensures { result ≡ has_line name.now lines.now }
 {
     lines.iter().any(|line| is_line(line, name))
 }
 
-fn set_line(
-    alloc: Global,
-    lines: &mut List<(Text, Text)>,
-    name: &[u8],
-    value: Text,
-) -> Result<(), NoMemory>
+fn set_line(alloc: Global, lines: &mut List<Line>, name: &[u8], value: Text) -> Result<(), NoMemory>
     ensures ok { OnOk result (lines.new ≡ replaced name.now value lines.old) }
     ensures err { OnErr result (lines.new ≡ lines.old) }
 {
@@ -182,7 +167,7 @@ impl Msg {
     }
 
     /// A message of these parts, taken as they are.
-    pub fn of(start: Start, lines: List<(Text, Text)>, body: Text) -> Msg
+    pub fn of(start: Start, lines: List<Line>, body: Text) -> Msg
         ensures { result ≡ record { start = start; lines = lines; body = body } }
     {
         Msg { start, lines, body }
@@ -203,7 +188,7 @@ impl Msg {
     }
 
     /// The header lines.
-    pub fn lines(&self) -> &[(Text, Text)]
+    pub fn lines(&self) -> &[Line]
         ensures { result.now ≡ self.now.lines }
     {
         self.lines.items()

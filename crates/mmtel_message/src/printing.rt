@@ -1,19 +1,13 @@
 //! The canonical text.
-ghost use Rattle.std.specs.Prelude.{◌≡◌, ◌++◌, OnOk, IfOk, Ok, decimal};
+ghost use Rattle.std.specs.Prelude.{◌≡◌, ◌++◌, OnOk, IfOk, Ok};
 ghost use Rattle.mmtel_message.specs.Canonical.{IsCanonical, IsWithinLimits};
 ghost use Rattle.mmtel_message.specs.Reads.{reads};
 ghost use Rattle.mmtel_message.specs.Texts.{start_text, line_text, lines_text, message_text};
 
-use crate::messages::{Msg, Start};
+use crate::messages::{Line, Msg, Start};
 use mmtel_lex::{NoMemory, Text};
+use mmtel_scan::add_number;
 use std::alloc::Global;
-
-fn add_number(alloc: Global, out: &mut Text, number: u16) -> Result<(), NoMemory>
-    ensures { OnOk result (out.new ≡ out.old ++ decimal number) }
-{
-    let digits = number.to_string(alloc)?;
-    out.push(alloc, digits.as_bytes())
-}
 
 fn add_start(alloc: Global, out: &mut Text, start: &Start) -> Result<(), NoMemory>
     ensures { OnOk result (out.new ≡ out.old ++ start_text start.now) }
@@ -27,14 +21,14 @@ fn add_start(alloc: Global, out: &mut Text, start: &Start) -> Result<(), NoMemor
         }
         Start::Status { code, phrase } => {
             out.push(alloc, b"SIP/2.0 ")?;
-            add_number(alloc, out, *code)?;
+            add_number(alloc, out, u64::from(*code))?;
             out.push(alloc, b" ")?;
             out.push(alloc, phrase.bytes())
         }
     }
 }
 
-fn add_line(alloc: Global, out: &mut Text, line: &(Text, Text)) -> Result<(), NoMemory>
+fn add_line(alloc: Global, out: &mut Text, line: &Line) -> Result<(), NoMemory>
     ensures { OnOk result (out.new ≡ out.old ++ line_text line.now) }
 {
     out.push(alloc, line.0.bytes())?;
@@ -43,7 +37,7 @@ fn add_line(alloc: Global, out: &mut Text, line: &(Text, Text)) -> Result<(), No
     out.push(alloc, b"\r\n")
 }
 
-fn add_lines(alloc: Global, out: &mut Text, lines: &[(Text, Text)]) -> Result<(), NoMemory>
+fn add_lines(alloc: Global, out: &mut Text, lines: &[Line]) -> Result<(), NoMemory>
     ensures { OnOk result (out.new ≡ out.old ++ lines_text lines.now) }
 {
     for line in lines {

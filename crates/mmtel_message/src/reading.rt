@@ -11,7 +11,7 @@ use crate::faults::first_fault;
 use crate::fields::{Five, read_five};
 use crate::headers::headers;
 use crate::lines::{Break, lines, place, whole_end};
-use crate::messages::{Msg, Start, first_of};
+use crate::messages::{Line, Msg, Start, first_of};
 use crate::replies::reply_to;
 use crate::starts::start;
 use mmtel_lex::{LexFault, NoMemory, Text};
@@ -41,7 +41,7 @@ impl From<NoMemory> for ReadFault {
 }
 
 /// The body: as many bytes behind the head as Content-Length says, or all.
-fn body_of<'a>(lines: &[(Text, Text)], rest: &'a [u8]) -> &'a [u8]
+fn body_of<'a>(lines: &[Line], rest: &'a [u8]) -> &'a [u8]
     ensures { result.now ≡ body_of lines.now rest.now }
 {
     match first_of(lines, b"Content-Length") {
@@ -53,7 +53,7 @@ fn body_of<'a>(lines: &[(Text, Text)], rest: &'a [u8]) -> &'a [u8]
     }
 }
 
-fn too_many(alloc: Global, start: &Start, lines: &[(Text, Text)]) -> Result<Msg, ReadFault>
+fn too_many(alloc: Global, start: &Start, lines: &[Line]) -> Result<Msg, ReadFault>
     ensures { Reads result (Err (fault.TooMany (reply_to start.now 513 (codes "Message Too Large") lines.now))) }
 {
     let reply = reply_to(alloc, start, 513, b"Message Too Large", lines)?;
@@ -63,7 +63,7 @@ fn too_many(alloc: Global, start: &Start, lines: &[(Text, Text)]) -> Result<Msg,
 fn after_faults(
     alloc: Global,
     start: Start,
-    lines: &[(Text, Text)],
+    lines: &[Line],
     rest: &[u8],
     at: Option<usize>,
 ) -> Result<Msg, ReadFault>
@@ -85,7 +85,7 @@ fn after_faults(
 fn of_five(
     alloc: Global,
     start: Start,
-    lines: &[(Text, Text)],
+    lines: &[Line],
     rest: &[u8],
     five: &Five,
 ) -> Result<Msg, ReadFault>
@@ -98,12 +98,7 @@ fn of_five(
     after_faults(alloc, start, lines, rest, at)
 }
 
-fn read_lines(
-    alloc: Global,
-    start: Start,
-    lines: &[(Text, Text)],
-    rest: &[u8],
-) -> Result<Msg, ReadFault>
+fn read_lines(alloc: Global, start: Start, lines: &[Line], rest: &[u8]) -> Result<Msg, ReadFault>
     ensures { Reads result (after_head (message_head (Some start) lines.now) rest.now) }
 {
     match read_five(alloc, lines) {
@@ -131,7 +126,7 @@ fn read_head(alloc: Global, head: &[u8], rest: &[u8]) -> Result<Msg, ReadFault>
 }
 
 /// Whether the five fields can be read.
-fn has_five(alloc: Global, lines: &[(Text, Text)]) -> Result<bool, NoMemory>
+fn has_five(alloc: Global, lines: &[Line]) -> Result<bool, NoMemory>
     ensures { IfOk result (λ b. b ≡ is_some (five_at lines.now)) }
 {
     match read_five(alloc, lines) {
@@ -142,11 +137,7 @@ fn has_five(alloc: Global, lines: &[(Text, Text)]) -> Result<bool, NoMemory>
 }
 
 /// The reply to what is too large and has this start line and these header lines.
-fn large_of_start(
-    alloc: Global,
-    start: &Start,
-    lines: &[(Text, Text)],
-) -> Result<Option<Msg>, NoMemory>
+fn large_of_start(alloc: Global, start: &Start, lines: &[Line]) -> Result<Option<Msg>, NoMemory>
     ensures { IfOk result (λ m. m ≡ large_of (message_head (Some start.now) lines.now)) }
 {
     if has_five(alloc, lines)? {

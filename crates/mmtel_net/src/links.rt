@@ -4,8 +4,7 @@ ghost use Rattle.mmtel_net.specs.Counts.{net_taking, net_giving};
 
 use crate::edges::Edge;
 use mmtel_link::{Arrival, Link, SendFault};
-use mmtel_trust::Addr;
-use mmtel_types::Failed;
+use mmtel_types::{Addr, Failed};
 use std::alloc::Global;
 
 /// A link over UDP and TCP. It says that nothing came where nothing did for 50 ms, and never that it is closed.

@@ -3,8 +3,7 @@ ghost use Rattle.std.specs.Prelude.{◌≤◌, length, IfOk, IfSome};
 
 use libc::net::{POLLIN, SO_RCVBUF, SOL_SOCKET, poll, setsockopt};
 use libc::types::pollfd;
-use mmtel_trust::Addr;
-use mmtel_types::Moment;
+use mmtel_types::{Addr, Moment};
 use std::io;
 use std::io::ErrorKind;
 use std::net::{Ipv4Addr, SocketAddr, TcpListener, TcpStream, UdpSocket};

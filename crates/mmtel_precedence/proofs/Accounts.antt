@@ -4,18 +4,20 @@ use Rattle.std.specs.Prelude.{Option, Some, None, unwrap_or, nat_lt}
 use Rattle.std.specs.Option.{option_map, option_map_or}
 use Rattle.mmtel_lex.specs.declared.values.Uri.{Uri}
 use Rattle.mmtel_sheet_values.specs.Sheets.{empty_sheet}
+use Rattle.mmtel_rules.specs.Circumstances.{Circumstances}
 use Rattle.mmtel_rules.specs.declared.values.When.{When}
 use Rattle.mmtel_diversion.specs.Diversion.{deflection_of}
-use Rattle.mmtel_precedence.specs.Services.{Circumstances, Account, Due, Says, Nothing, Refuses, Diverts, first_said, due_on, bars_outgoing, services_on_arrival}
+use Rattle.mmtel_precedence.specs.Services.{AccountState, DueDiversion, Says, Nothing, Refuses, Diverts, first_said, due_on, bars_outgoing, services_on_arrival}
 use Rattle.mmtel_precedence.specs.Calls.{Call}
-use Rattle.mmtel_precedence.specs.Targets.{is_waiting, due_at, deflected_to, deflection_at, is_refused, of_target, new_target}
+use Rattle.mmtel_targets.specs.Targets.{new_target}
+use Rattle.mmtel_precedence.specs.Targets.{is_waiting, due_at, deflected_to, deflection_at, is_refused, of_target}
 
 -- the account with an empty record
-abbrev pub nobody : Account
+abbrev pub nobody : AccountState
 nobody = record { sheet = empty_sheet; registered = true; live = 0 }
 
 -- the services of the account that is served; none where no account is
-abbrev pub account_says : Circumstances → Option Account → List Says
+abbrev pub account_says : Circumstances → Option AccountState → List Says
 account_says c served = option_map_or (services_on_arrival c) served []
 
 -- what was said first, then what is said later
@@ -30,22 +32,22 @@ first_said-append (Nothing ∷ says) later = first_said-append says later
 first_said-append (Refuses cause ∷ says) later = refl
 first_said-append (Diverts due ∷ says) later = refl
 
-pub first_said-account : (c : Circumstances) (served : Option Account) (later : List Says) → first_said (account_says c served ++ later) ≡ then_said (first_said (services_on_arrival c (unwrap_or served nobody))) (first_said later)
+pub first_said-account : (c : Circumstances) (served : Option AccountState) (later : List Says) → first_said (account_says c served ++ later) ≡ then_said (first_said (services_on_arrival c (unwrap_or served nobody))) (first_said later)
 first_said-account c None later = refl
 first_said-account c (Some account) later = first_said-append (services_on_arrival c account) later
 
-pub is_waiting-account : (served : Option Account) → is_waiting served ≡ nat_lt 0 (unwrap_or served nobody).live
+pub is_waiting-account : (served : Option AccountState) → is_waiting served ≡ nat_lt 0 (unwrap_or served nobody).live
 is_waiting-account None = refl
 is_waiting-account (Some account) = refl
 
-pub due_at-account : (c : Circumstances) (when : When) (served : Option Account) → due_at c when served ≡ due_on c when (unwrap_or served nobody).sheet
+pub due_at-account : (c : Circumstances) (when : When) (served : Option AccountState) → due_at c when served ≡ due_on c when (unwrap_or served nobody).sheet
 due_at-account c when None = refl
 due_at-account c when (Some account) = refl
 
-pub deflection_at-account : (served : Option Account) (target : Uri) (rang : Bool) → deflection_at served target rang ≡ option_map (deflected_to target) (deflection_of (unwrap_or served nobody).sheet rang)
+pub deflection_at-account : (served : Option AccountState) (target : Uri) (rang : Bool) → deflection_at served target rang ≡ option_map (deflected_to target) (deflection_of (unwrap_or served nobody).sheet rang)
 deflection_at-account None target rang = refl
 deflection_at-account (Some account) target rang = refl
 
-pub is_refused-account : (call : Call) (served : Option Account) (now : ℕ) (due : Due) → is_refused call served now due ≡ bars_outgoing (of_target call now (new_target call.home due.forward.target)) (unwrap_or served nobody).sheet
+pub is_refused-account : (call : Call) (served : Option AccountState) (now : ℕ) (due : DueDiversion) → is_refused call served now due ≡ bars_outgoing (of_target call now (new_target call.home due.forward.target)) (unwrap_or served nobody).sheet
 is_refused-account call None now due = refl
 is_refused-account call (Some account) now due = refl

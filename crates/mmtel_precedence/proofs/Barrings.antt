@@ -6,24 +6,24 @@ use Rattle.mmtel_types.specs.declared.causes.Cause.TheVariants as causes
 use Rattle.mmtel_sheet_values.specs.declared.values.BarPart.{BarPart}
 use Rattle.mmtel_sheet_values.specs.declared.values.Rule.{Rule}
 use Rattle.mmtel_sheet_values.specs.declared.values.Sheet.{Sheet}
-use Rattle.mmtel_sheet_values.specs.declared.values.Who.{Who}
+use Rattle.mmtel_rules.specs.Circumstances.{Circumstances}
 use Rattle.mmtel_rules.specs.Rules.{barred_by, is_barred}
 use Rattle.mmtel_barring.specs.Barring.{incoming_refusal, is_anonymous_refused, outgoing_bar, rules_of}
 use Rattle.mmtel_barring.specs.declared.bars.Refusal.TheVariants as refusals
-use Rattle.mmtel_precedence.specs.Services.{Circumstances, Account, Says, refuses_if, first_said, said_by, bars_outgoing, services_after_barring, services_on_arrival}
+use Rattle.mmtel_precedence.specs.Services.{AccountState, Says, refuses_if, first_said, said_by, bars_outgoing, services_after_barring, services_on_arrival}
 
 -- the law of barring: a call is barred where some rule holds and none that holds lets it through
 abbrev pub IsBarredLaw : Type 0
-IsBarredLaw = (asks : Who → Bool) (restricted : Bool) (media : List (List ℕ)) (now : ℕ) (rules : List Rule) → is_some (barred_by asks restricted media now rules) ≡ is_barred asks restricted media now rules
+IsBarredLaw = (c : Circumstances) (rules : List Rule) → is_some (barred_by c rules) ≡ is_barred c rules
 
 is_some-option_map : {A B : Type 0} (f : A → B) (o : Option A) → is_some (option_map f o) ≡ is_some o
 is_some-option_map f None = refl
 is_some-option_map f (Some x) = refl
 
 -- outgoing barring answers a rule exactly where it bars
-is_some-outgoing_bar : IsBarredLaw → (asks : Who → Bool) (restricted : Bool) (media : List (List ℕ)) (now : ℕ) (part : Option BarPart) → is_some (outgoing_bar asks restricted media now part) ≡ is_barred asks restricted media now (rules_of part)
-is_some-outgoing_bar law asks restricted media now None = refl
-is_some-outgoing_bar law asks restricted media now (Some part) = is_some-option_map _ (barred_by asks restricted media now part.rules) ∙ law asks restricted media now part.rules
+is_some-outgoing_bar : IsBarredLaw → (c : Circumstances) (part : Option BarPart) → is_some (outgoing_bar c part) ≡ is_barred c (rules_of part)
+is_some-outgoing_bar law c None = refl
+is_some-outgoing_bar law c (Some part) = is_some-option_map _ (barred_by c part.rules) ∙ law c part.rules
 
 said_by-rule : (found : Option ℕ) (later : List Says) → said_by (option_map (λ place. refusals.Barred place) found) (first_said later) ≡ first_said (refuses_if (is_some found) causes.IncomingBarred ∷ later)
 said_by-rule None later = refl
@@ -36,18 +36,18 @@ said_by-part true found later = refl
 said_by-part false found later = said_by-rule found later
 
 -- incoming barring says what the two first services do
-said_by-incoming : IsBarredLaw → (asks : Who → Bool) (known restricted : Bool) (media : List (List ℕ)) (now : ℕ) (part : Option BarPart) (later : List Says) →
-    said_by (incoming_refusal asks known restricted media now part) (first_said later)
-    ≡ first_said (refuses_if (option_map_or (is_anonymous_refused known restricted) part false) causes.AnonymousRejected ∷ refuses_if (is_barred asks restricted media now (rules_of part)) causes.IncomingBarred ∷ later)
-said_by-incoming law asks known restricted media now None later = refl
-said_by-incoming law asks known restricted media now (Some part) later =
-    said_by-part (is_anonymous_refused known restricted part) (barred_by asks restricted media now part.rules) later
-    ∙ ap (λ b. first_said (refuses_if (is_anonymous_refused known restricted part) causes.AnonymousRejected ∷ refuses_if b causes.IncomingBarred ∷ later)) (law asks restricted media now part.rules)
+said_by-incoming : IsBarredLaw → (c : Circumstances) (part : Option BarPart) (later : List Says) →
+    said_by (incoming_refusal c part) (first_said later)
+    ≡ first_said (refuses_if (option_map_or (is_anonymous_refused c) part false) causes.AnonymousRejected ∷ refuses_if (is_barred c (rules_of part)) causes.IncomingBarred ∷ later)
+said_by-incoming law c None later = refl
+said_by-incoming law c (Some part) later =
+    said_by-part (is_anonymous_refused c part) (barred_by c part.rules) later
+    ∙ ap (λ b. first_said (refuses_if (is_anonymous_refused c part) causes.AnonymousRejected ∷ refuses_if b causes.IncomingBarred ∷ later)) (law c part.rules)
 
 -- the same of the circumstances of a call
-pub is_some-outgoing : IsBarredLaw → (c : Circumstances) (sheet : Sheet) → is_some (outgoing_bar c.asks c.restricted c.media c.now sheet.outgoing) ≡ bars_outgoing c sheet
-is_some-outgoing law c sheet = is_some-outgoing_bar law c.asks c.restricted c.media c.now sheet.outgoing
+pub is_some-outgoing : IsBarredLaw → (c : Circumstances) (sheet : Sheet) → is_some (outgoing_bar c sheet.outgoing) ≡ bars_outgoing c sheet
+is_some-outgoing law c sheet = is_some-outgoing_bar law c sheet.outgoing
 
-pub said_by-arrival : IsBarredLaw → (c : Circumstances) (account : Account) →
-    said_by (incoming_refusal c.asks c.has_identity c.restricted c.media c.now account.sheet.incoming) (first_said (services_after_barring c account)) ≡ first_said (services_on_arrival c account)
-said_by-arrival law c account = said_by-incoming law c.asks c.has_identity c.restricted c.media c.now account.sheet.incoming (services_after_barring c account)
+pub said_by-arrival : IsBarredLaw → (c : Circumstances) (account : AccountState) →
+    said_by (incoming_refusal c account.sheet.incoming) (first_said (services_after_barring c account)) ≡ first_said (services_on_arrival c account)
+said_by-arrival law c account = said_by-incoming law c account.sheet.incoming (services_after_barring c account)

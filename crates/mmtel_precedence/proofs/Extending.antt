@@ -5,10 +5,10 @@ use Rattle.std.proofs.lemmas.List.{append-nil}
 use Rattle.mmtel_types.specs.declared.causes.Cause.{Cause}
 use Rattle.mmtel_lex.specs.declared.values.Uri.{Uri}
 use Rattle.mmtel_precedence.specs.declared.endings.Ending.TheVariants as ending
-use Rattle.mmtel_precedence.specs.Services.{Account, Due}
+use Rattle.mmtel_precedence.specs.Services.{AccountState, DueDiversion}
 use Rattle.mmtel_precedence.specs.Verdicts.{Decision, Offers, Forwards, Ends, verdict_of}
 use Rattle.mmtel_precedence.specs.Calls.{End, Answer, Cancel, UserBusy, NotReachable, NoReply, Deflection, Other, Ended, Reach, Call, NotOffered, Target}
-use Rattle.mmtel_precedence.specs.Targets.{of_caller}
+use Rattle.mmtel_precedence.specs.Targets.{of_caller, reach_of}
 use Rattle.mmtel_precedence.specs.Outcome.{outcome}
 use Rattle.mmtel_precedence.specs.Moves.{Kept, Phase, Reaching, Ringing, Over, moves, account_at, with_target, due_by, gone_on, divert_where, offer_unless, reached, ended_by, on_end, on_reaching, result_in, outcome_so_far, at_first, moves_enough}
 use Rattle.mmtel_precedence.specs.Extension.{is_settled, BeginsWith, with_later, one_by_one, LaterEndingsExtend}
@@ -17,21 +17,21 @@ use Rattle.mmtel_precedence.proofs.Settling.{moves_give_outcome}
 
 -- ---- one move, with later endings or without
 
-later-gone_on : (refusal : Option Cause) (kept : Kept) (target : Uri) (due : Due) (later : List Ended) → gone_on refusal (with_later kept later) target due ≡ with_later (gone_on refusal kept target due) later
+later-gone_on : (refusal : Option Cause) (kept : Kept) (target : Uri) (due : DueDiversion) (later : List Ended) → gone_on refusal (with_later kept later) target due ≡ with_later (gone_on refusal kept target due) later
 later-gone_on None kept target due later = refl
 later-gone_on (Some refusal) kept target due later = refl
 
-later-divert_where : (call : Call) (kept : Kept) (account : Account) (now : ℕ) (due : Option Due) (later : List Ended) → divert_where call (with_later kept later) account now due ≡ with_later (divert_where call kept account now due) later
+later-divert_where : (call : Call) (kept : Kept) (account : AccountState) (now : ℕ) (due : Option DueDiversion) (later : List Ended) → divert_where call (with_later kept later) account now due ≡ with_later (divert_where call kept account now due) later
 later-divert_where call kept account now None later = refl
 later-divert_where call kept account now (Some due) later = later-gone_on _ kept _ due later
 
-later-offer : (unknown no_peer : Bool) (account : Account) (waiting : Bool) (kept : Kept) (uri : Uri) (by : Option Due) (later : List Ended) →
+later-offer : (unknown no_peer : Bool) (account : AccountState) (waiting : Bool) (kept : Kept) (uri : Uri) (by : Option DueDiversion) (later : List Ended) →
     offer_unless unknown no_peer account waiting (with_later kept later) uri by ≡ with_later (offer_unless unknown no_peer account waiting kept uri by) later
 later-offer true no_peer account waiting kept uri by later = refl
 later-offer false true account waiting kept uri by later = refl
 later-offer false false account waiting kept uri by later = refl
 
-later-reached : (call : Call) (reach : Reach) (account : Account) (decision : Decision) (kept : Kept) (uri : Uri) (by : Option Due) (later : List Ended) →
+later-reached : (call : Call) (reach : Reach) (account : AccountState) (decision : Decision) (kept : Kept) (uri : Uri) (by : Option DueDiversion) (later : List Ended) →
     reached call reach account decision (with_later kept later) uri by ≡ with_later (reached call reach account decision kept uri by) later
 later-reached call reach account (Offers waiting) kept uri by later = later-offer reach.is_unknown reach.has_no_peer account waiting kept uri by later
 later-reached call reach account (Forwards forward why) kept uri by later = later-divert_where call (with_target kept uri by NotOffered) account reach.at (due_by forward None why) later
@@ -41,16 +41,16 @@ later-reached call reach account (Ends why) kept uri by later = refl
 abbrev at_arrival : Call → Reach → Decision
 at_arrival call reach = verdict_of (of_caller call reach.at) (account_at reach) ending.Arrived
 
-later-reaching : (call : Call) (reach : Reach) (kept : Kept) (uri : Uri) (by : Option Due) (later : List Ended) → on_reaching call reach uri by (with_later kept later) ≡ with_later (on_reaching call reach uri by kept) later
+later-reaching : (call : Call) (reach : Reach) (kept : Kept) (uri : Uri) (by : Option DueDiversion) (later : List Ended) → on_reaching call reach uri by (with_later kept later) ≡ with_later (on_reaching call reach uri by kept) later
 later-reaching call reach kept uri by later = later-reached call reach (account_at reach) (at_arrival call reach) kept uri by later
 
-later-ended : (call : Call) (account : Account) (now : ℕ) (deflected : Option Uri) (decision : Decision) (kept : Kept) (later : List Ended) →
+later-ended : (call : Call) (account : AccountState) (now : ℕ) (deflected : Option Uri) (decision : Decision) (kept : Kept) (later : List Ended) →
     ended_by call account now deflected decision (with_later kept later) ≡ with_later (ended_by call account now deflected decision kept) later
 later-ended call account now deflected (Offers waiting) kept later = refl
 later-ended call account now deflected (Forwards forward why) kept later = later-divert_where call kept account now (due_by forward deflected why) later
 later-ended call account now deflected (Ends why) kept later = refl
 
-later-end : (call : Call) (account : Account) (now : ℕ) (how : End) (kept : Kept) (later : List Ended) → on_end call account now how (with_later kept later) ≡ with_later (on_end call account now how kept) later
+later-end : (call : Call) (account : AccountState) (now : ℕ) (how : End) (kept : Kept) (later : List Ended) → on_end call account now how (with_later kept later) ≡ with_later (on_end call account now how kept) later
 later-end call account now Answer kept later = refl
 later-end call account now Cancel kept later = refl
 later-end call account now (UserBusy code) kept later = later-ended call account now None _ kept later
@@ -79,8 +79,8 @@ unfolding moves
 goes_on zero call done targets phase endings later = goes_on-still call 0 (kept_at done targets phase endings) later refl
 goes_on (suc n) call done targets (Reaching uri by) endings later =
     let kept = kept_at done targets (Reaching uri by) endings in
-    let moved = on_reaching call (call.reach done) uri by kept in
-    goes_on-moved call n kept moved later refl (λ m. ap (moves m call) (later-reaching call (call.reach done) kept uri by later)) (goes_on n call moved.done moved.targets moved.phase moved.endings later)
+    let moved = on_reaching call (reach_of call done uri by) uri by kept in
+    goes_on-moved call n kept moved later refl (λ m. ap (moves m call) (later-reaching call (reach_of call done uri by) kept uri by later)) (goes_on n call moved.done moved.targets moved.phase moved.endings later)
 goes_on (suc n) call done targets (Ringing account) [] later = goes_on-still call (suc n) _ later (moves-ringing (suc n) call done targets account)
 goes_on (suc n) call done targets (Ringing account) (ended ∷ endings) later =
     let moved = on_end call account ended.at ended.how (kept_at done targets (Ringing account) endings) in
@@ -106,20 +106,20 @@ of_the_whole call sooner later n m enough =
 
 -- ---- targets that were reached stay
 
-targets-gone_on : (refusal : Option Cause) (kept : Kept) (target : Uri) (due : Due) → (gone_on refusal kept target due).targets ≡ kept.targets
+targets-gone_on : (refusal : Option Cause) (kept : Kept) (target : Uri) (due : DueDiversion) → (gone_on refusal kept target due).targets ≡ kept.targets
 targets-gone_on None kept target due = refl
 targets-gone_on (Some refusal) kept target due = refl
 
-targets-divert_where : (call : Call) (kept : Kept) (account : Account) (now : ℕ) (due : Option Due) → (divert_where call kept account now due).targets ≡ kept.targets
+targets-divert_where : (call : Call) (kept : Kept) (account : AccountState) (now : ℕ) (due : Option DueDiversion) → (divert_where call kept account now due).targets ≡ kept.targets
 targets-divert_where call kept account now None = refl
 targets-divert_where call kept account now (Some due) = targets-gone_on _ kept _ due
 
-targets-ended : (call : Call) (account : Account) (now : ℕ) (deflected : Option Uri) (decision : Decision) (kept : Kept) → (ended_by call account now deflected decision kept).targets ≡ kept.targets
+targets-ended : (call : Call) (account : AccountState) (now : ℕ) (deflected : Option Uri) (decision : Decision) (kept : Kept) → (ended_by call account now deflected decision kept).targets ≡ kept.targets
 targets-ended call account now deflected (Offers waiting) kept = refl
 targets-ended call account now deflected (Forwards forward why) kept = targets-divert_where call kept account now (due_by forward deflected why)
 targets-ended call account now deflected (Ends why) kept = refl
 
-targets-end : (call : Call) (account : Account) (now : ℕ) (how : End) (kept : Kept) → (on_end call account now how kept).targets ≡ kept.targets
+targets-end : (call : Call) (account : AccountState) (now : ℕ) (how : End) (kept : Kept) → (on_end call account now how kept).targets ≡ kept.targets
 targets-end call account now Answer kept = refl
 targets-end call account now Cancel kept = refl
 targets-end call account now (UserBusy code) kept = targets-ended call account now None _ kept
@@ -132,17 +132,17 @@ targets-end call account now (Other code) kept = refl
 abbrev OneMore : List Target → Kept → Type 0
 OneMore targets kept = (target : Target) × (kept.targets ≡ targets ++ target ∷ [])
 
-more-offer : (unknown no_peer : Bool) (account : Account) (waiting : Bool) (kept : Kept) (uri : Uri) (by : Option Due) → OneMore kept.targets (offer_unless unknown no_peer account waiting kept uri by)
+more-offer : (unknown no_peer : Bool) (account : AccountState) (waiting : Bool) (kept : Kept) (uri : Uri) (by : Option DueDiversion) → OneMore kept.targets (offer_unless unknown no_peer account waiting kept uri by)
 more-offer true no_peer account waiting kept uri by = (_, refl)
 more-offer false true account waiting kept uri by = (_, refl)
 more-offer false false account waiting kept uri by = (_, refl)
 
-more-reached : (call : Call) (reach : Reach) (account : Account) (decision : Decision) (kept : Kept) (uri : Uri) (by : Option Due) → OneMore kept.targets (reached call reach account decision kept uri by)
+more-reached : (call : Call) (reach : Reach) (account : AccountState) (decision : Decision) (kept : Kept) (uri : Uri) (by : Option DueDiversion) → OneMore kept.targets (reached call reach account decision kept uri by)
 more-reached call reach account (Offers waiting) kept uri by = more-offer reach.is_unknown reach.has_no_peer account waiting kept uri by
 more-reached call reach account (Forwards forward why) kept uri by = (_, targets-divert_where call (with_target kept uri by NotOffered) account reach.at (due_by forward None why))
 more-reached call reach account (Ends why) kept uri by = (_, refl)
 
-more-reaching : (call : Call) (reach : Reach) (kept : Kept) (uri : Uri) (by : Option Due) → OneMore kept.targets (on_reaching call reach uri by kept)
+more-reaching : (call : Call) (reach : Reach) (kept : Kept) (uri : Uri) (by : Option DueDiversion) → OneMore kept.targets (on_reaching call reach uri by kept)
 more-reaching call reach kept uri by = more-reached call reach (account_at reach) (at_arrival call reach) kept uri by
 
 abbrev Grows : List Target → Kept → Type 0
@@ -156,8 +156,8 @@ unfolding moves
 grows zero call done targets phase endings = ([], sym (append-nil targets))
 grows (suc n) call done targets (Reaching uri by) endings =
     let kept = kept_at done targets (Reaching uri by) endings in
-    let moved = on_reaching call (call.reach done) uri by kept in
-    let (target, noted) = more-reaching call (call.reach done) kept uri by in
+    let moved = on_reaching call (reach_of call done uri by) uri by kept in
+    let (target, noted) = more-reaching call (reach_of call done uri by) kept uri by in
     let (more, same) = grows n call moved.done moved.targets moved.phase moved.endings in
     (target ∷ more, same ∙ ap (λ ts. ts ++ more) noted ∙ append_assoc targets (target ∷ []) more)
 grows (suc n) call done targets (Ringing account) [] = grows-still targets _ _ (moves-ringing (suc n) call done targets account) refl

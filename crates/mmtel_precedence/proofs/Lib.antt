@@ -9,3 +9,4 @@ mod Locality
 mod Moving
 mod Nexts
 mod Settling
+mod Turning

@@ -5,16 +5,18 @@ use Rattle.std.specs.Option.{option_map_or}
 use Rattle.mmtel_types.specs.declared.causes.Cause.{Cause}
 use Rattle.mmtel_types.specs.declared.causes.Cause.TheVariants as causes
 use Rattle.mmtel_lex.specs.declared.values.Uri.{Uri}
-use Rattle.mmtel_precedence.specs.Services.{Account, Due, Says, Nothing, Refuses, Diverts}
-use Rattle.mmtel_precedence.specs.Calls.{refused_at_once, End, Answer, Cancel, UserBusy, NotReachable, NoReply, Deflection, Other, Ended, Reach, Call, Target, Final, Outcome, last_reached, then_reached, refusal_at_opening}
-use Rattle.mmtel_precedence.specs.Targets.{Next, Rests, IsDue, said_on_arrival, next_on, next_at, next_after, target_at, new_target, offer_by}
+use Rattle.mmtel_precedence.specs.Services.{AccountState, DueDiversion, Says, Nothing, Refuses, Diverts}
+use Rattle.mmtel_precedence.specs.Calls.{refused_at_once, End, Answer, Cancel, UserBusy, NotReachable, NoReply, Deflection, Other, Ended, Standing, Reach, Call, standing_after, Target, Final, Outcome, last_reached, then_reached}
+use Rattle.mmtel_precedence.specs.Opening.{refusal_at_opening}
+use Rattle.mmtel_targets.specs.Targets.{new_target}
+use Rattle.mmtel_precedence.specs.Targets.{Next, Rests, IsDue, reach_in, said_on_arrival, next_on, next_at, next_after, target_at, offer_by}
 use Rattle.mmtel_precedence.specs.Outcome.{outcome_from, outcome}
-use Rattle.mmtel_precedence.specs.Laws.{where_targets, OnlyReachedTargetsCount}
+use Rattle.mmtel_precedence.specs.Laws.{where_later, OnlyReachedTargetsCount}
 use Rattle.mmtel_precedence.proofs.Nexts.{from_next}
 
 -- ---- at one target
 
-next_on-where : (other : ℕ → Reach) (call : Call) (served : Option Account) (now : ℕ) (how : End) (later : List Ended) → next_on (where_targets other call) served now how later ≡ next_on call served now how later
+next_on-where : (other : ℕ → Standing) (call : Call) (served : Option AccountState) (now : ℕ) (how : End) (later : List Ended) → next_on (where_later other call) served now how later ≡ next_on call served now how later
 next_on-where other call served now Answer later = refl
 next_on-where other call served now Cancel later = refl
 next_on-where other call served now (UserBusy code) later = refl
@@ -23,77 +25,95 @@ next_on-where other call served now NoReply later = refl
 next_on-where other call served now (Deflection target rang) later = refl
 next_on-where other call served now (Other code) later = refl
 
-next_at-where : (other : ℕ → Reach) (says : Says) (call : Call) (reach : Reach) (endings : List Ended) → next_at says (where_targets other call) reach endings ≡ next_at says call reach endings
+next_at-where : (other : ℕ → Standing) (says : Says) (call : Call) (reach : Reach) (endings : List Ended) → next_at says (where_later other call) reach endings ≡ next_at says call reach endings
 next_at-where other Nothing call reach [] = refl
 next_at-where other Nothing call reach (ended ∷ later) = next_on-where other call reach.served ended.at ended.how later
 next_at-where other (Refuses cause) call reach endings = refl
 next_at-where other (Diverts due) call reach endings = refl
 
-next-same : (other : ℕ → Reach) (call : Call) (k : ℕ) (endings : List Ended) → call.reach k ≡ other k → next_after (where_targets other call) k endings ≡ next_after call k endings
-next-same other call k endings e =
-    next_at-where other (said_on_arrival call (other k)) call (other k) endings
-    ∙ ap (λ (reach : Reach). next_at (said_on_arrival call reach) call reach endings) (sym e)
+-- things stand the same when the call reaches the target after k diversions
+abbrev StandsSame : (ℕ → Standing) → Call → ℕ → Type 0
+StandsSame other call k = standing_after call k ≡ standing_after (where_later other call) k
 
-target-same : (other : ℕ → Reach) (call : Call) (k : ℕ) (uri : Uri) (by : Option Due) → call.reach k ≡ other k → target_at (where_targets other call) k uri by ≡ target_at call k uri by
-target-same other call k uri by e = ap (λ (reach : Reach). record { uri = uri; by = by; offer = offer_by (said_on_arrival call reach) reach.served }) (sym e)
+-- what is next, and what is said of the target, by how things stand
+abbrev next_in : Call → Uri → Option DueDiversion → List Ended → Standing → Next
+next_in call uri by endings standing = next_at (said_on_arrival call (reach_in standing call uri by)) call (reach_in standing call uri by) endings
+
+abbrev target_in : Call → Uri → Option DueDiversion → Standing → Target
+target_in call uri by standing = record { uri = uri; by = by; offer = offer_by (said_on_arrival call (reach_in standing call uri by)) (reach_in standing call uri by).served }
+
+next-same : (other : ℕ → Standing) (call : Call) (k : ℕ) (uri : Uri) (by : Option DueDiversion) (endings : List Ended) → StandsSame other call k → next_after (where_later other call) k uri by endings ≡ next_after call k uri by endings
+next-same other call k uri by endings e =
+    let reach = reach_in (standing_after (where_later other call) k) call uri by in
+    next_at-where other (said_on_arrival call reach) call reach endings
+    ∙ ap (next_in call uri by endings) (sym e)
+
+target-same : (other : ℕ → Standing) (call : Call) (k : ℕ) (uri : Uri) (by : Option DueDiversion) → StandsSame other call k → target_at (where_later other call) k uri by ≡ target_at call k uri by
+target-same other call k uri by e = ap (target_in call uri by) (sym e)
 
 -- ---- from one target on
 
 -- the targets stand the same that the call reaches from here on
-abbrev Agrees : (ℕ → Reach) → Call → ℕ → Outcome → Type 0
-Agrees other call k outcome = (j : ℕ) → j < length outcome.targets → call.reach (k + j) ≡ other (k + j)
+abbrev Agrees : (ℕ → Standing) → Call → ℕ → Outcome → Type 0
+Agrees other call k outcome = (j : ℕ) → j < length outcome.targets → StandsSame other call (k + j)
 
 -- there is one target at least
-reaches-from_next : (target : Target) (onward : Due → List Ended → Outcome) → ((due : Due) (later : List Ended) → 0 < length (onward due later).targets) → (next : Next) → 0 < length (from_next target onward next).targets
+reaches-from_next : (target : Target) (onward : DueDiversion → List Ended → Outcome) → ((due : DueDiversion) (later : List Ended) → 0 < length (onward due later).targets) → (next : Next) → 0 < length (from_next target onward next).targets
 reaches-from_next target onward h (Rests result) = omega arith
 reaches-from_next target onward h (IsDue due later) = h due later
 
-reaches-one : (call : Call) (left k : ℕ) (uri : Uri) (by : Option Due) (endings : List Ended) → 0 < length (outcome_from call left k uri by endings).targets
+reaches-one : (call : Call) (left k : ℕ) (uri : Uri) (by : Option DueDiversion) (endings : List Ended) → 0 < length (outcome_from call left k uri by endings).targets
 unfolding outcome_from
-reaches-one call zero k uri by endings = reaches-from_next (target_at call k uri by) _ (λ due later. omega arith) (next_after call k endings)
-reaches-one call (suc left) k uri by endings = reaches-from_next (target_at call k uri by) _ (λ due later. omega arith) (next_after call k endings)
+reaches-one call zero k uri by endings = reaches-from_next (target_at call k uri by) _ (λ due later. omega arith) (next_after call k uri by endings)
+reaches-one call (suc left) k uri by endings = reaches-from_next (target_at call k uri by) _ (λ due later. omega arith) (next_after call k uri by endings)
 
-agrees-here : (other : ℕ → Reach) (call : Call) (left k : ℕ) (uri : Uri) (by : Option Due) (endings : List Ended) → Agrees other call k (outcome_from call left k uri by endings) → call.reach k ≡ other k
+agrees-here : (other : ℕ → Standing) (call : Call) (left k : ℕ) (uri : Uri) (by : Option DueDiversion) (endings : List Ended) → Agrees other call k (outcome_from call left k uri by endings) → StandsSame other call k
 agrees-here other call left k uri by endings h =
     let e : k ≡ k + 0 = omega arith in
-    ap call.reach e ∙ h 0 (reaches-one call left k uri by endings) ∙ ap other (sym e)
+    ap (standing_after call) e ∙ h 0 (reaches-one call left k uri by endings) ∙ ap (standing_after (where_later other call)) (sym e)
 
-agrees-after : (other : ℕ → Reach) (call : Call) (k : ℕ) (target : Target) (outcome : Outcome) → Agrees other call k (then_reached target outcome) → Agrees other call (k + 1) outcome
+agrees-after : (other : ℕ → Standing) (call : Call) (k : ℕ) (target : Target) (outcome : Outcome) → Agrees other call k (then_reached target outcome) → Agrees other call (k + 1) outcome
 agrees-after other call k target outcome h j less =
     let e : k + 1 + j ≡ k + suc j = omega arith in
-    ap call.reach e ∙ h (suc j) (omega arith) ∙ ap other (sym e)
+    ap (standing_after call) e ∙ h (suc j) (omega arith) ∙ ap (standing_after (where_later other call)) (sym e)
 
 -- what comes of each diversion is the same where its targets stand the same
-after-same : (other : ℕ → Reach) (call : Call) (k : ℕ) (target : Target) (onward onward2 : Due → List Ended → Outcome) →
-    ((due : Due) (later : List Ended) → Agrees other call (k + 1) (onward due later) → onward2 due later ≡ onward due later) →
+after-same : (other : ℕ → Standing) (call : Call) (k : ℕ) (target : Target) (onward onward2 : DueDiversion → List Ended → Outcome) →
+    ((due : DueDiversion) (later : List Ended) → Agrees other call (k + 1) (onward due later) → onward2 due later ≡ onward due later) →
     (next : Next) → Agrees other call k (from_next target (λ due later. then_reached target (onward due later)) next) →
     from_next target (λ due later. then_reached target (onward2 due later)) next ≡ from_next target (λ due later. then_reached target (onward due later)) next
 after-same other call k target onward onward2 same (Rests result) h = refl
 after-same other call k target onward onward2 same (IsDue due later) h = ap (then_reached target) (same due later (agrees-after other call k target (onward due later) h))
 
-outcome_from-same : (other : ℕ → Reach) (call : Call) (left k : ℕ) (uri : Uri) (by : Option Due) (endings : List Ended) → Agrees other call k (outcome_from call left k uri by endings) →
-    outcome_from (where_targets other call) left k uri by endings ≡ outcome_from call left k uri by endings
+outcome_from-same : (other : ℕ → Standing) (call : Call) (left k : ℕ) (uri : Uri) (by : Option DueDiversion) (endings : List Ended) → Agrees other call k (outcome_from call left k uri by endings) →
+    outcome_from (where_later other call) left k uri by endings ≡ outcome_from call left k uri by endings
 unfolding outcome_from
 outcome_from-same other call zero k uri by endings h =
     let here = agrees-here other call 0 k uri by endings h in
-    ap (λ target. from_next target (λ due later. last_reached target (Final (causes.TooManyDiversions (due.cause == 486)))) (next_after (where_targets other call) k endings)) (target-same other call k uri by here)
-    ∙ ap (λ next. from_next (target_at call k uri by) (λ due later. last_reached (target_at call k uri by) (Final (causes.TooManyDiversions (due.cause == 486)))) next) (next-same other call k endings here)
+    ap (λ target. from_next target (λ due later. last_reached target (Final (causes.TooManyDiversions (due.cause == 486)))) (next_after (where_later other call) k uri by endings)) (target-same other call k uri by here)
+    ∙ ap (λ next. from_next (target_at call k uri by) (λ due later. last_reached (target_at call k uri by) (Final (causes.TooManyDiversions (due.cause == 486)))) next) (next-same other call k uri by endings here)
 outcome_from-same other call (suc left) k uri by endings h =
     let here = agrees-here other call (suc left) k uri by endings h in
-    let onward2 : Due → List Ended → Outcome = λ due later. outcome_from (where_targets other call) left (k + 1) (new_target call.home due.forward.target) (Some due) later in
-    ap (λ target. from_next target (λ due later. then_reached target (onward2 due later)) (next_after (where_targets other call) k endings)) (target-same other call k uri by here)
-    ∙ ap (λ next. from_next (target_at call k uri by) (λ due later. then_reached (target_at call k uri by) (onward2 due later)) next) (next-same other call k endings here)
+    let onward2 : DueDiversion → List Ended → Outcome = λ due later. outcome_from (where_later other call) left (k + 1) (new_target call.home due.forward.target) (Some due) later in
+    ap (λ target. from_next target (λ due later. then_reached target (onward2 due later)) (next_after (where_later other call) k uri by endings)) (target-same other call k uri by here)
+    ∙ ap (λ next. from_next (target_at call k uri by) (λ due later. then_reached (target_at call k uri by) (onward2 due later)) next) (next-same other call k uri by endings here)
     ∙ after-same other call k (target_at call k uri by) (λ due later. outcome_from call left (k + 1) (new_target call.home due.forward.target) (Some due) later) onward2
-    (λ due later. outcome_from-same other call left (k + 1) (new_target call.home due.forward.target) (Some due) later) (next_after call k endings) h
+    (λ due later. outcome_from-same other call left (k + 1) (new_target call.home due.forward.target) (Some due) later) (next_after call k uri by endings) h
 
 -- by what the opening refuses
-opened-same : (other : ℕ → Reach) (call : Call) (endings : List Ended) (refusal : Option Cause) →
+opened-same : (other : ℕ → Standing) (call : Call) (endings : List Ended) (refusal : Option Cause) →
     (let from = outcome_from call (call.bound - call.received) 0 call.first None endings in
-    let from2 = outcome_from (where_targets other call) (call.bound - call.received) 0 call.first None endings in
+    let from2 = outcome_from (where_later other call) (call.bound - call.received) 0 call.first None endings in
     Agrees other call 0 (option_map_or refused_at_once refusal from) → option_map_or refused_at_once refusal from2 ≡ option_map_or refused_at_once refusal from)
 opened-same other call endings None h = outcome_from-same other call (call.bound - call.received) 0 call.first None endings h
 opened-same other call endings (Some cause) h = refl
 
+-- at each target that is reached, the first one too
+agrees-first : (other : ℕ → Standing) (call : Call) (outcome : Outcome) → ((k : ℕ) → suc k < length outcome.targets → call.later k ≡ other k) → (j : ℕ) → j < length outcome.targets → StandsSame other call j
+agrees-first other call outcome h zero less = refl
+agrees-first other call outcome h (suc k) less = h k less
+
 pub only_reached_targets_count : OnlyReachedTargetsCount
 only_reached_targets_count call endings other h =
-    opened-same other call endings (refusal_at_opening call) (λ j less. let e : 0 + j ≡ j = omega arith in ap call.reach e ∙ h j less ∙ ap other (sym e))
+    let same = agrees-first other call (outcome call endings) h in
+    opened-same other call endings (refusal_at_opening call) (λ j less. let e : 0 + j ≡ j = omega arith in ap (standing_after call) e ∙ same j less ∙ ap (standing_after (where_later other call)) (sym e))

@@ -1,6 +1,6 @@
 -- Moves of a call that goes no further.
 use Rattle.std.proofs.Common.{◌≡◌, ℕ, zero, suc, List, [], refl}
-use Rattle.mmtel_precedence.specs.Services.{Account}
+use Rattle.mmtel_precedence.specs.Services.{AccountState}
 use Rattle.mmtel_precedence.specs.Calls.{Ended, Call, Target, Result}
 use Rattle.mmtel_precedence.specs.Moves.{Kept, Phase, Ringing, Over, moves, move_in}
 
@@ -14,7 +14,7 @@ moves-over zero call done targets result endings = refl
 moves-over (suc n) call done targets result endings = moves-over n call done targets result endings
 
 -- what rings goes on to ring while nothing comes
-pub moves-ringing : (n : ℕ) (call : Call) (done : ℕ) (targets : List Target) (account : Account) → moves n call (kept_at done targets (Ringing account) []) ≡ kept_at done targets (Ringing account) []
+pub moves-ringing : (n : ℕ) (call : Call) (done : ℕ) (targets : List Target) (account : AccountState) → moves n call (kept_at done targets (Ringing account) []) ≡ kept_at done targets (Ringing account) []
 unfolding moves
 moves-ringing zero call done targets account = refl
 moves-ringing (suc n) call done targets account = moves-ringing n call done targets account

@@ -9,10 +9,12 @@ use Rattle.mmtel_lex.specs.declared.values.Uri.{Uri}
 use Rattle.mmtel_rules.specs.declared.values.When.TheVariants as event
 use Rattle.mmtel_diversion.specs.Bound.{is_within}
 use Rattle.mmtel_diversion.specs.Diversion.{deflection_of}
-use Rattle.mmtel_precedence.specs.Services.{Account, Due, Says, Nothing, Refuses, Diverts, refuses_if, first_said, due_on, bars_outgoing, services_on_arrival}
+use Rattle.mmtel_precedence.specs.Services.{AccountState, DueDiversion, Says, Nothing, Refuses, Diverts, refuses_if, first_said, due_on, bars_outgoing, services_on_arrival}
 use Rattle.mmtel_precedence.specs.Verdicts.{decision_by, forwards_or, deflects_or}
-use Rattle.mmtel_precedence.specs.Calls.{refused_at_once, End, Answer, Cancel, UserBusy, NotReachable, NoReply, Deflection, Other, Ended, Reach, Call, NotOffered, Offered, Target, Result, Answered, Final, Outcome, last_reached, then_reached, refusal_at_opening}
-use Rattle.mmtel_precedence.specs.Targets.{Rests, diverted, IsDue, of_caller, of_target, new_target, offer_by, deflected_to, diverted_or, next_on, next_at, next_after, is_waiting, target_at}
+use Rattle.mmtel_precedence.specs.Calls.{refused_at_once, End, Answer, Cancel, UserBusy, NotReachable, NoReply, Deflection, Other, Ended, Reach, Call, NotOffered, Offered, Target, Result, Answered, Final, Outcome, last_reached, then_reached}
+use Rattle.mmtel_precedence.specs.Opening.{refusal_at_opening}
+use Rattle.mmtel_targets.specs.Targets.{new_target}
+use Rattle.mmtel_precedence.specs.Targets.{Rests, diverted, IsDue, reach_of, of_caller, of_target, offer_by, deflected_to, diverted_or, next_on, next_at, next_after, is_waiting, target_at}
 use Rattle.mmtel_precedence.specs.Outcome.{outcome_from}
 use Rattle.mmtel_precedence.specs.Moves.{Kept, Phase, Reaching, Ringing, Over, moves, gone_on, divert, ended_by, on_end, offer_unless, reached, outcome_so_far, first_phase, moves_enough, MovesGiveTheOutcome}
 use Rattle.mmtel_precedence.proofs.Accounts.{nobody, then_said, first_said-account, is_waiting-account, due_at-account, deflection_at-account, is_refused-account}
@@ -29,7 +31,7 @@ Settles n call kept targets outcome = outcome_so_far (moves n call kept) ≡ beh
 
 -- what comes of a diversion that is due at a target and that outgoing barring lets pass
 abbrev pub Onward : Type 0
-Onward = Target → Due → List Ended → Outcome
+Onward = Target → DueDiversion → List Ended → Outcome
 
 -- the bound's answer
 abbrev pub by_bound : Call → ℕ → ℕ → Option Cause
@@ -38,7 +40,7 @@ by_bound call k cause = if is_within call.received k call.bound then None else S
 -- going on by the bound settles to it, after k diversions and with this many moves
 abbrev pub GoesOn : Call → ℕ → ℕ → Onward → Type 0
 GoesOn call k least onward =
-    (n : ℕ) (target : Target) (due : Due) (targets : List Target) (phase : Phase) (later : List Ended) → least ≤ n →
+    (n : ℕ) (target : Target) (due : DueDiversion) (targets : List Target) (phase : Phase) (later : List Ended) → least ≤ n →
     Settles n call (gone_on (by_bound call k due.cause) (kept_at k (targets ++ target ∷ []) phase later) (new_target call.home due.forward.target) due) targets (onward target due later)
 
 -- an end is settled
@@ -48,7 +50,7 @@ settles-over n call k targets target result later = ap outcome_so_far (moves-ove
 
 -- a diversion that is due: outgoing barring, then the bound
 settles-diversion : (call : Call) (k least : ℕ) (onward : Onward) → GoesOn call k least onward →
-    (n : ℕ) (bars : Bool) (target : Target) (due : Due) (targets : List Target) (phase : Phase) (later : List Ended) → least ≤ n →
+    (n : ℕ) (bars : Bool) (target : Target) (due : DueDiversion) (targets : List Target) (phase : Phase) (later : List Ended) → least ≤ n →
     Settles n call (gone_on (if bars then Some causes.OutgoingBarred else by_bound call k due.cause) (kept_at k (targets ++ target ∷ []) phase later) (new_target call.home due.forward.target) due) targets
     (from_next target (onward target) (if bars then Rests (Final causes.OutgoingBarred) else IsDue due later))
 settles-diversion call k least onward goes n true target due targets phase later enough = settles-over n call k targets target (Final causes.OutgoingBarred) later
@@ -56,7 +58,7 @@ settles-diversion call k least onward goes n false target due targets phase late
 
 -- the same, by the account that is served
 settles-due : (call : Call) (k least : ℕ) (onward : Onward) → GoesOn call k least onward →
-    (n : ℕ) (served : Option Account) (now : ℕ) (target : Target) (due : Due) (targets : List Target) (phase : Phase) (later : List Ended) → least ≤ n →
+    (n : ℕ) (served : Option AccountState) (now : ℕ) (target : Target) (due : DueDiversion) (targets : List Target) (phase : Phase) (later : List Ended) → least ≤ n →
     Settles n call (divert call (kept_at k (targets ++ target ∷ []) phase later) (unwrap_or served nobody) now due) targets
     (from_next target (onward target) (diverted call served now due later))
 settles-due call k least onward goes n served now target due targets phase later enough =
@@ -65,7 +67,7 @@ settles-due call k least onward goes n served now target due targets phase later
 
 -- an ending for which rules may ask a diversion
 settles-rules : (call : Call) (k least : ℕ) (onward : Onward) → GoesOn call k least onward →
-    (n : ℕ) (served : Option Account) (now : ℕ) (due : Option Due) (cause : Cause) (target : Target) (targets : List Target) (phase : Phase) (later : List Ended) → least ≤ n →
+    (n : ℕ) (served : Option AccountState) (now : ℕ) (due : Option DueDiversion) (cause : Cause) (target : Target) (targets : List Target) (phase : Phase) (later : List Ended) → least ≤ n →
     Settles n call (ended_by call (unwrap_or served nobody) now None (forwards_or due cause) (kept_at k (targets ++ target ∷ []) phase later)) targets
     (from_next target (onward target) (diverted_or call served now due cause later))
 settles-rules call k least onward goes n served now None cause target targets phase later enough = settles-over n call k targets target (Final cause) later
@@ -73,7 +75,7 @@ settles-rules call k least onward goes n served now (Some due) cause target targ
 
 -- an ending by deflection
 settles-deflection : (call : Call) (k least : ℕ) (onward : Onward) → GoesOn call k least onward →
-    (n : ℕ) (served : Option Account) (now : ℕ) (uri : Uri) (cause : Option ℕ) (target : Target) (targets : List Target) (phase : Phase) (later : List Ended) → least ≤ n →
+    (n : ℕ) (served : Option AccountState) (now : ℕ) (uri : Uri) (cause : Option ℕ) (target : Target) (targets : List Target) (phase : Phase) (later : List Ended) → least ≤ n →
     Settles n call (ended_by call (unwrap_or served nobody) now (Some uri) (deflects_or cause) (kept_at k (targets ++ target ∷ []) phase later)) targets
     (from_next target (onward target) (diverted_or call served now (option_map (deflected_to uri) cause) (causes.Relayed 480) later))
 settles-deflection call k least onward goes n served now uri None target targets phase later enough = settles-over n call k targets target (Final (causes.Relayed 480)) later
@@ -81,7 +83,7 @@ settles-deflection call k least onward goes n served now uri (Some cause) target
 
 -- the ending of an attempt
 settles-end : (call : Call) (k least : ℕ) (onward : Onward) → GoesOn call k least onward →
-    (n : ℕ) (served : Option Account) (now : ℕ) (how : End) (target : Target) (targets : List Target) (phase : Phase) (later : List Ended) → least ≤ n →
+    (n : ℕ) (served : Option AccountState) (now : ℕ) (how : End) (target : Target) (targets : List Target) (phase : Phase) (later : List Ended) → least ≤ n →
     Settles n call (on_end call (unwrap_or served nobody) now how (kept_at k (targets ++ target ∷ []) phase later)) targets
     (from_next target (onward target) (next_on call served now how later))
 settles-end call k least onward goes n served now Answer target targets phase later enough = settles-over n call k targets target Answered later
@@ -111,7 +113,7 @@ settles-offer call k least onward goes n reach target targets (ended ∷ later) 
     ∙ settles-end call k least onward goes n reach.served ended.at ended.how target targets (Ringing (unwrap_or reach.served nobody)) later enough
 
 -- a target
-abbrev target_by : Says → Option Account → Uri → Option Due → Target
+abbrev target_by : Says → Option AccountState → Uri → Option DueDiversion → Target
 target_by says served uri by = record { uri = uri; by = by; offer = offer_by says served }
 
 -- what is said of any target, whoever is served
@@ -120,7 +122,7 @@ said_of_any unknown no_peer = first_said (refuses_if unknown causes.NoAccount �
 
 -- a target that no service refused
 settles-unrefused : (call : Call) (k least : ℕ) (onward : Onward) → GoesOn call k least onward →
-    (n : ℕ) (unknown no_peer : Bool) (reach : Reach) (uri : Uri) (by : Option Due) (targets : List Target) (phase : Phase) (endings : List Ended) → least ≤ n →
+    (n : ℕ) (unknown no_peer : Bool) (reach : Reach) (uri : Uri) (by : Option DueDiversion) (targets : List Target) (phase : Phase) (endings : List Ended) → least ≤ n →
     Settles (suc n) call (offer_unless unknown no_peer (unwrap_or reach.served nobody) (is_waiting reach.served) (kept_at k targets phase endings) uri by) targets
     (from_next (target_by (said_of_any unknown no_peer) reach.served uri by) (onward (target_by (said_of_any unknown no_peer) reach.served uri by)) (next_at (said_of_any unknown no_peer) call reach endings))
 settles-unrefused call k least onward goes n true no_peer reach uri by targets phase endings enough =
@@ -132,7 +134,7 @@ settles-unrefused call k least onward goes n false false reach uri by targets ph
 
 -- a target, by what the services said
 settles-said : (call : Call) (k least : ℕ) (onward : Onward) → GoesOn call k least onward →
-    (n : ℕ) (says : Says) (reach : Reach) (uri : Uri) (by : Option Due) (targets : List Target) (phase : Phase) (endings : List Ended) → least ≤ n →
+    (n : ℕ) (says : Says) (reach : Reach) (uri : Uri) (by : Option DueDiversion) (targets : List Target) (phase : Phase) (endings : List Ended) → least ≤ n →
     (let said = then_said says (said_of_any reach.is_unknown reach.has_no_peer) in
     Settles (suc n) call (reached call reach (unwrap_or reach.served nobody) (decision_by says (unwrap_or reach.served nobody).live) (kept_at k targets phase endings) uri by) targets
     (from_next (target_by said reach.served uri by) (onward (target_by said reach.served uri by)) (next_at said call reach endings)))
@@ -146,19 +148,19 @@ settles-said call k least onward goes n (Diverts due) reach uri by targets phase
 
 -- reaching the target after k diversions
 settles-reaching : (call : Call) (k least : ℕ) (onward : Onward) → GoesOn call k least onward →
-    (n : ℕ) (uri : Uri) (by : Option Due) (targets : List Target) (endings : List Ended) → least ≤ n →
+    (n : ℕ) (uri : Uri) (by : Option DueDiversion) (targets : List Target) (endings : List Ended) → least ≤ n →
     Settles (suc (suc n)) call (kept_at k targets (Reaching uri by) endings) targets
-    (from_next (target_at call k uri by) (onward (target_at call k uri by)) (next_after call k endings))
+    (from_next (target_at call k uri by) (onward (target_at call k uri by)) (next_after call k uri by endings))
 settles-reaching call k least onward goes n uri by targets endings enough =
     ap outcome_so_far (moves-suc (suc n) call (kept_at k targets (Reaching uri by) endings))
-    ∙ settles-said call k least onward goes n (first_said (services_on_arrival (of_caller call (call.reach k).at) (unwrap_or (call.reach k).served nobody))) (call.reach k) uri by targets (Reaching uri by) endings enough
-    ∙ ap (λ said. behind targets (from_next (target_by said (call.reach k).served uri by) (onward (target_by said (call.reach k).served uri by)) (next_at said call (call.reach k) endings)))
-    (sym (first_said-account (of_caller call (call.reach k).at) (call.reach k).served (refuses_if (call.reach k).is_unknown causes.NoAccount ∷ refuses_if (call.reach k).has_no_peer causes.NoRoute ∷ [])))
+    ∙ settles-said call k least onward goes n (first_said (services_on_arrival (of_caller call (reach_of call k uri by).at) (unwrap_or (reach_of call k uri by).served nobody))) (reach_of call k uri by) uri by targets (Reaching uri by) endings enough
+    ∙ ap (λ said. behind targets (from_next (target_by said (reach_of call k uri by).served uri by) (onward (target_by said (reach_of call k uri by).served uri by)) (next_at said call (reach_of call k uri by) endings)))
+    (sym (first_said-account (of_caller call (reach_of call k uri by).at) (reach_of call k uri by).served (refuses_if (reach_of call k uri by).is_unknown causes.NoAccount ∷ refuses_if (reach_of call k uri by).has_no_peer causes.NoRoute ∷ [])))
 
 -- the moves from the target after k diversions come to the outcome from there
 abbrev pub SettlesFrom : Call → ℕ → Type 0
 SettlesFrom call left =
-    (k n : ℕ) (uri : Uri) (by : Option Due) (targets : List Target) (endings : List Ended) → left ≡ call.bound - (call.received + k) → 2 * (left + 1) ≤ n →
+    (k n : ℕ) (uri : Uri) (by : Option DueDiversion) (targets : List Target) (endings : List Ended) → left ≡ call.bound - (call.received + k) → 2 * (left + 1) ≤ n →
     Settles n call (kept_at k targets (Reaching uri by) endings) targets (outcome_from call left k uri by endings)
 
 is_within-at : (a b : ℕ) → b ≤ a → nat_lt a b ≡ false

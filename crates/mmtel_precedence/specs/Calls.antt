@@ -1,10 +1,19 @@
 -- What is told of a call, and what is said of it (TS 24.604 §4.5.2.6, TS 24.611 §4.5.2, TS 24.615 §4.5.5).
-use Rattle.std.specs.Prelude.{ℕ, Bool, if◌then◌else◌, List, [], ◌∷◌, Option, Some, None}
+use Rattle.std.specs.Prelude.{ℕ, zero, suc, Bool, List, [], ◌∷◌, Option, unwrap_or}
+use Rattle.std.specs.Option.{option_map}
 use Rattle.mmtel_types.specs.declared.causes.Cause.{Cause}
-use Rattle.mmtel_types.specs.declared.causes.Cause.TheVariants as causes
+use Rattle.mmtel_types.specs.declared.numbers.Account.{Account}
+use Rattle.mmtel_types.specs.declared.privacy.PrivacySet.{PrivacySet}
 use Rattle.mmtel_lex.specs.declared.values.Uri.{Uri}
+use Rattle.mmtel_sheet_values.specs.Sheets.{empty_sheet}
+use Rattle.mmtel_sheet_values.specs.View.{is_registered as is_in_table}
+use Rattle.mmtel_sheet_values.specs.declared.values.Sheet.{Sheet}
 use Rattle.mmtel_sheet_values.specs.declared.values.Who.{Who}
-use Rattle.mmtel_precedence.specs.Services.{Account, Due}
+use Rattle.mmtel_identity.specs.Restriction.{is_caller_restricted}
+use Rattle.mmtel_targets.specs.Served.{is_registered}
+use Rattle.mmtel_targets.specs.declared.served.RegistrationState.{RegistrationState}
+use Rattle.mmtel_targets.specs.declared.served.Served.{Served}
+use Rattle.mmtel_precedence.specs.Services.{AccountState, DueDiversion}
 
 -- ---- what is told
 
@@ -30,42 +39,75 @@ pub record Ended : Type 0 where
   pub at : ℕ
   pub how : End
 
+-- how things stood when the call reached a target: the moment; and, by the numbers of accounts, the records in force and the ends of registrations,
+-- and the calls that are not over: one for each that is the account's own, this call too, and one for each that is offered to it, this call never
+pub record Standing : Type 0 where
+  pub at : ℕ
+  pub sheets : ℕ → Option Sheet
+  pub ends : ℕ → Option ℕ
+  pub live : ℕ → ℕ
+
+-- a call
+pub record Call : Type 0 where
+  -- the words of its Privacy (RFC 3323); whom the server serves in it (the session cases of RFC 5502), and the registration of its target that was told, if one was
+  pub privacy : PrivacySet
+  pub served : Served
+  pub registration : Option RegistrationState
+  -- of the caller: whether the identity part of a condition is true of it, and whether it has an identity at all
+  pub asks : Who → Bool
+  pub has_identity : Bool
+  -- the kinds of media that it offers
+  pub media : List (List ℕ)
+  -- the diversions that its History-Info told when it came in, and the bound
+  pub received : ℕ
+  pub bound : ℕ
+  -- the home domain, the accounts by their identities, and whether a peer leads to a target
+  pub home : List ℕ
+  pub account_of : Uri → Option Account
+  pub leads : Uri → Bool
+  -- its first target
+  pub first : Uri
+  -- how things stood when it opened, which is when it reached its first target; and when it reached the target of its next diversion after so many others
+  pub opening : Standing
+  pub later : ℕ → Standing
+
+-- ---- what follows from it
+
+-- how things stood when it reached a target after k diversions
+abbrev pub standing_after : Call → (k : ℕ) → Standing
+standing_after call zero = call.opening
+standing_after call (suc k) = call.later k
+
+-- the record of an account; an account that has none is as one whose record is empty
+abbrev pub sheet_at : Standing → Account → Sheet
+sheet_at standing account = unwrap_or (standing.sheets account.0) empty_sheet
+
+-- the record of the account that is served as the caller, if one is, as it stood at the opening
+abbrev pub origin_sheet : Call → Option Sheet
+origin_sheet call = option_map (sheet_at call.opening) call.served.origin
+
+-- the caller hides who it is (OIR, TS 24.607 §4.5.2)
+abbrev pub caller_hides : Call → Bool
+caller_hides call = is_caller_restricted call.privacy (origin_sheet call)
+
+-- the account is registered: as was told, or else until its registration ends
+abbrev pub is_registered_at : Standing → (told : Option RegistrationState) → Account → Bool
+is_registered_at standing told account = is_registered told (is_in_table (standing.ends account.0) standing.at)
+
+-- the account as it stood then
+abbrev pub account_in : Standing → (told : Option RegistrationState) → Account → AccountState
+account_in standing told account = record { sheet = sheet_at standing account; registered = is_registered_at standing told account; live = standing.live account.0 }
+
 -- a target as it stood when the call reached it
 pub record Reach : Type 0 where
   -- the moment
   pub at : ℕ
   -- the account that is served there
-  pub served : Option Account
+  pub served : Option AccountState
   -- it is of the home domain and no account's, and no telephone number that a diversion brought there
   pub is_unknown : Bool
   -- no peer leads to it
   pub has_no_peer : Bool
-
--- a call
-pub record Call : Type 0 where
-  -- what refuses it at its opening: it asks for critical privacy for its session; it is served for an identity of no account; the outgoing barring of the account that calls
-  pub is_critical : Bool
-  pub is_of_no_account : Bool
-  pub is_barred : Bool
-  -- the caller, and what it offers
-  pub asks : Who → Bool
-  pub has_identity : Bool
-  pub restricted : Bool
-  pub media : List (List ℕ)
-  -- the diversions that its History-Info told when it came in, and the bound
-  pub received : ℕ
-  pub bound : ℕ
-  -- the home domain
-  pub home : List ℕ
-  -- its first target
-  pub first : Uri
-  -- the target that it reaches after so many diversions
-  pub reach : ℕ → Reach
-
--- what refuses the call at its opening, in this order
-abbrev pub refusal_at_opening : Call → Option Cause
-refusal_at_opening call =
-    if call.is_critical then Some causes.Critical else if call.is_of_no_account then Some causes.NoAccount else if call.is_barred then Some causes.OutgoingBarred else None
 
 -- ---- what is said of it
 
@@ -77,7 +119,7 @@ pub data Offer : Type 0 where
 -- a target that the call reached, the diversion that led there, with its forward and its cause, and whether it was offered
 pub record Target : Type 0 where
   pub uri : Uri
-  pub by : Option Due
+  pub by : Option DueDiversion
   pub offer : Offer
 
 pub data Result : Type 0 where

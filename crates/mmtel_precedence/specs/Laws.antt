@@ -9,29 +9,33 @@ use Rattle.mmtel_sheet_values.specs.declared.values.Rule.{Rule}
 use Rattle.mmtel_sheet_values.specs.declared.values.Sheet.{Sheet}
 use Rattle.mmtel_sheet_values.specs.declared.values.Who.{Who}
 use Rattle.mmtel_rules.specs.Alike.{AnswerAlike, identity_parts}
+use Rattle.mmtel_rules.specs.Circumstances.{Circumstances, asked}
 use Rattle.mmtel_rules.specs.Identities.{identity_holds, has_identity}
 use Rattle.mmtel_rules.specs.declared.values.Identities2.{Identities2}
 use Rattle.mmtel_barring.specs.Barring.{rules_of}
 use Rattle.mmtel_precedence.specs.declared.endings.Ending.{Ending}
 use Rattle.mmtel_precedence.specs.declared.endings.Ending.TheVariants as ending
-use Rattle.mmtel_precedence.specs.Services.{Circumstances, Account, Due, rejects_anonymous, bars_incoming}
+use Rattle.mmtel_precedence.specs.Services.{AccountState, DueDiversion, rejects_anonymous, bars_incoming}
 use Rattle.mmtel_precedence.specs.Verdicts.{Ends, Forwards, verdict_of}
-use Rattle.mmtel_precedence.specs.Calls.{Reach, Call, Ended, Target, NotOffered, Final, Outcome, last_reached, refusal_at_opening}
-use Rattle.mmtel_precedence.specs.Targets.{Next, Rests, IsDue, new_target, next_after, of_caller}
+use Rattle.mmtel_precedence.specs.Calls.{Standing, Call, Ended, Target, NotOffered, Final, Outcome, last_reached}
+use Rattle.mmtel_precedence.specs.Opening.{refusal_at_opening}
+use Rattle.mmtel_targets.specs.Targets.{new_target}
+use Rattle.mmtel_precedence.specs.Targets.{Next, Rests, IsDue, next_after, of_caller, reach_of}
 use Rattle.mmtel_precedence.specs.Outcome.{outcome_from, outcome}
 
 -- ---- barring comes before diversion, and anonymous communication rejection before both: whatever the other rules of the account, its registration and its live calls are
 
 pub record BarringComesFirst : Type 0 where
   -- of the decision
-  pub anonymous : (c : Circumstances) (account : Account) → rejects_anonymous c account.sheet ≡ true → verdict_of c account ending.Arrived ≡ Ends causes.AnonymousRejected
-  pub barred : (c : Circumstances) (account : Account) → rejects_anonymous c account.sheet ≡ false → bars_incoming c account.sheet ≡ true → verdict_of c account ending.Arrived ≡ Ends causes.IncomingBarred
+  pub anonymous : (c : Circumstances) (account : AccountState) → rejects_anonymous c account.sheet ≡ true → verdict_of c account ending.Arrived ≡ Ends causes.AnonymousRejected
+  pub barred : (c : Circumstances) (account : AccountState) → rejects_anonymous c account.sheet ≡ false → bars_incoming c account.sheet ≡ true → verdict_of c account ending.Arrived ≡ Ends causes.IncomingBarred
   -- and of the outcome at each target: it is the last one, and the call is not offered to it
-  pub anonymous_at : (call : Call) (left k : ℕ) (uri : Uri) (by : Option Due) (endings : List Ended) (account : Account) →
-      (call.reach k).served ≡ Some account → rejects_anonymous (of_caller call (call.reach k).at) account.sheet ≡ true →
+  pub anonymous_at : (call : Call) (left k : ℕ) (uri : Uri) (by : Option DueDiversion) (endings : List Ended) (account : AccountState) →
+      (reach_of call k uri by).served ≡ Some account → rejects_anonymous (of_caller call (reach_of call k uri by).at) account.sheet ≡ true →
       outcome_from call left k uri by endings ≡ last_reached (record { uri = uri; by = by; offer = NotOffered }) (Final causes.AnonymousRejected)
-  pub barred_at : (call : Call) (left k : ℕ) (uri : Uri) (by : Option Due) (endings : List Ended) (account : Account) →
-      (call.reach k).served ≡ Some account → rejects_anonymous (of_caller call (call.reach k).at) account.sheet ≡ false → bars_incoming (of_caller call (call.reach k).at) account.sheet ≡ true →
+  pub barred_at : (call : Call) (left k : ℕ) (uri : Uri) (by : Option DueDiversion) (endings : List Ended) (account : AccountState) →
+      (reach_of call k uri by).served ≡ Some account → rejects_anonymous (of_caller call (reach_of call k uri by).at) account.sheet ≡ false →
+      bars_incoming (of_caller call (reach_of call k uri by).at) account.sheet ≡ true →
       outcome_from call left k uri by endings ≡ last_reached (record { uri = uri; by = by; offer = NotOffered }) (Final causes.IncomingBarred)
 
 -- ---- the bound
@@ -50,21 +54,22 @@ StaysWithinBound = (call : Call) (endings : List Ended) → call.received + dive
 
 -- a diversion that is due and that outgoing barring lets pass, and the endings that come after it
 pub record Passed : Type 0 where
-  pub due : Due
+  pub due : DueDiversion
   pub later : List Ended
 
 abbrev pub passed_by : Next → Option Passed
 passed_by (Rests result) = None
 passed_by (IsDue due later) = Some (record { due = due; later = later })
 
--- what is due after j more diversions, beginning where k were made, if there were no bound
-unfoldable pub passed_from : Call → (j : ℕ) → (k : ℕ) → List Ended → Option Passed
-passed_from call zero k endings = passed_by (next_after call k endings)
-passed_from call (suc j) k endings = option_and_then (λ passed. passed_from call j (k + 1) passed.later) (passed_by (next_after call k endings))
+-- what is due after j more diversions, beginning at the target that is reached after k, if there were no bound
+unfoldable pub passed_from : Call → (j : ℕ) → (k : ℕ) → Uri → Option DueDiversion → List Ended → Option Passed
+passed_from call zero k uri by endings = passed_by (next_after call k uri by endings)
+passed_from call (suc j) k uri by endings =
+    option_and_then (λ passed. passed_from call j (k + 1) (new_target call.home passed.due.forward.target) (Some passed.due) passed.later) (passed_by (next_after call k uri by endings))
 
 -- what is due after so many diversions
 abbrev pub passed_after : Call → ℕ → List Ended → Option Passed
-passed_after call j endings = passed_from call j 0 endings
+passed_after call j endings = passed_from call j 0 call.first None endings
 
 -- a call that its opening does not refuse
 abbrev pub IsOpened : Call → Type 0
@@ -97,35 +102,32 @@ called_by caller call = record call { asks = identity_holds caller; has_identity
 abbrev pub AlikeCallersFareAlike : Type 0
 AlikeCallersFareAlike = (one other : Identities2) (call : Call) (endings : List Ended) →
     has_identity one ≡ has_identity other →
-    ((k : ℕ) (account : Account) → (call.reach k).served ≡ Some account → AnswerAlikeTo account.sheet (identity_holds one) (identity_holds other)) →
+    ((k : ℕ) (uri : Uri) (by : Option DueDiversion) (account : AccountState) →
+    (reach_of call k uri by).served ≡ Some account → AnswerAlikeTo account.sheet (identity_holds one) (identity_holds other)) →
     outcome (called_by one call) endings ≡ outcome (called_by other call) endings
-
--- the same circumstances, with these answers of the other party
-abbrev pub asked : Circumstances → (Who → Bool) → Circumstances
-asked c asks = record c { asks = asks }
 
 -- of a caller a verdict rests on whether it has an identity, whether it hides it, and the answers to the rules that the account asks of its callers; and on nothing else
 abbrev pub VerdictsSeeAnswersAlone : Type 0
-VerdictsSeeAnswersAlone = (asks asks2 : Who → Bool) (c : Circumstances) (account : Account) (how : Ending) →
+VerdictsSeeAnswersAlone = (asks asks2 : Who → Bool) (c : Circumstances) (account : AccountState) (how : Ending) →
     AnswerAlikeTo account.sheet asks asks2 →
     verdict_of (asked c asks) account how ≡ verdict_of (asked c asks2) account how
 
 -- ---- only targets that are reached count
 
--- the same call, whose targets stand so when it reaches them
-abbrev pub where_targets : (ℕ → Reach) → Call → Call
-where_targets reach call = record call { reach = reach }
+-- the same call, which finds things so at the targets of its diversions
+abbrev pub where_later : (ℕ → Standing) → Call → Call
+where_later other call = record call { later = other }
 
--- the outcome is the same wherever the targets that the call reaches stand the same: what else it might have found, at targets that it does not come to, is nothing to it
+-- the outcome is the same wherever things stand the same at the targets that the call reaches: what else it might have found, at targets that it does not come to, is nothing to it
 abbrev pub OnlyReachedTargetsCount : Type 0
-OnlyReachedTargetsCount = (call : Call) (endings : List Ended) (other : ℕ → Reach) →
-    ((k : ℕ) → k < length (outcome call endings).targets → call.reach k ≡ other k) →
-    outcome (where_targets other call) endings ≡ outcome call endings
+OnlyReachedTargetsCount = (call : Call) (endings : List Ended) (other : ℕ → Standing) →
+    ((k : ℕ) → suc k < length (outcome call endings).targets → call.later k ≡ other k) →
+    outcome (where_later other call) endings ≡ outcome call endings
 
 -- ---- the diversion that led to a target
 
 -- where the call comes by it; without one, to its first target
-abbrev pub led_to : Call → Option Due → Uri
+abbrev pub led_to : Call → Option DueDiversion → Uri
 led_to call None = call.first
 led_to call (Some due) = new_target call.home due.forward.target
 
@@ -140,5 +142,5 @@ pub record DiversionsHaveForwards : Type 0 where
   -- only the first target is reached without one
   pub later : (call : Call) (endings : List Ended) → AllByRecursion (λ (target : Target). IsSome target.by) (after_first (outcome call endings).targets)
   -- the decision to divert a call that arrives has its forward, and only that on a deflection has none
-  pub on_arrival : (c : Circumstances) (account : Account) (forward : Option Forward) (cause : ℕ) → verdict_of c account ending.Arrived ≡ Forwards forward cause → IsSome forward
-  pub without : (c : Circumstances) (account : Account) (how : Ending) (cause : ℕ) → verdict_of c account how ≡ Forwards None cause → (alerted : Bool) × (how ≡ ending.Deflected alerted)
+  pub on_arrival : (c : Circumstances) (account : AccountState) (forward : Option Forward) (cause : ℕ) → verdict_of c account ending.Arrived ≡ Forwards forward cause → IsSome forward
+  pub without : (c : Circumstances) (account : AccountState) (how : Ending) (cause : ℕ) → verdict_of c account how ≡ Forwards None cause → (alerted : Bool) × (how ≡ ending.Deflected alerted)

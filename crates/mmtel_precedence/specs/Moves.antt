@@ -7,18 +7,20 @@ use Rattle.mmtel_lex.specs.declared.values.Uri.{Uri}
 use Rattle.mmtel_sheet_values.specs.declared.values.Forward.{Forward}
 use Rattle.mmtel_sheet_values.specs.Sheets.{empty_sheet}
 use Rattle.mmtel_precedence.specs.declared.endings.Ending.TheVariants as ending
-use Rattle.mmtel_precedence.specs.Services.{Account, Due}
+use Rattle.mmtel_precedence.specs.Services.{AccountState, DueDiversion}
 use Rattle.mmtel_precedence.specs.Verdicts.{Decision, Offers, Forwards, Ends, verdict_of, go_on_of}
-use Rattle.mmtel_precedence.specs.Calls.{End, Answer, Cancel, UserBusy, NotReachable, NoReply, Deflection, Other, Ended, Reach, Call, Offer, NotOffered, Offered, Target, Result, Pending, Answered, Final, Outcome, refusal_at_opening}
-use Rattle.mmtel_precedence.specs.Targets.{of_caller, of_target, new_target, deflected_to}
+use Rattle.mmtel_precedence.specs.Calls.{End, Answer, Cancel, UserBusy, NotReachable, NoReply, Deflection, Other, Ended, Reach, Call, Offer, NotOffered, Offered, Target, Result, Pending, Answered, Final, Outcome}
+use Rattle.mmtel_precedence.specs.Opening.{refusal_at_opening}
+use Rattle.mmtel_targets.specs.Targets.{new_target}
+use Rattle.mmtel_precedence.specs.Targets.{of_caller, of_target, deflected_to, reach_of}
 use Rattle.mmtel_precedence.specs.Outcome.{outcome}
 
 -- where the call stands
 pub data Phase : Type 0 where
   -- at a target, to which it is not offered yet
-  Reaching : (uri : Uri) → (by : Option Due) → Phase
+  Reaching : (uri : Uri) → (by : Option DueDiversion) → Phase
   -- offered to its target, under the account that was read then
-  Ringing : (account : Account) → Phase
+  Ringing : (account : AccountState) → Phase
   Over : (result : Result) → Phase
 
 -- what is kept of the call, and the endings that are still to come
@@ -29,59 +31,59 @@ pub record Kept : Type 0 where
   pub endings : List Ended
 
 -- the account to which the services are asked: without one, that of an empty record, registered and in no call
-abbrev pub account_at : Reach → Account
+abbrev pub account_at : Reach → AccountState
 account_at reach = unwrap_or reach.served (record { sheet = empty_sheet; registered = true; live = 0 })
 
 -- a target is noted
-abbrev pub with_target : Kept → Uri → Option Due → Offer → Kept
+abbrev pub with_target : Kept → Uri → Option DueDiversion → Offer → Kept
 with_target kept uri by offer = record kept { targets = kept.targets ++ record { uri = uri; by = by; offer = offer } ∷ [] }
 
 abbrev pub at_phase : Kept → Phase → Kept
 at_phase kept phase = record kept { phase = phase }
 
 -- one more diversion was made, to this target
-abbrev pub diverted : Kept → Uri → Due → Kept
+abbrev pub diverted : Kept → Uri → DueDiversion → Kept
 diverted kept target due = record kept { done = kept.done + 1; phase = Reaching target (Some due) }
 
-abbrev pub gone_on : Option Cause → Kept → Uri → Due → Kept
+abbrev pub gone_on : Option Cause → Kept → Uri → DueDiversion → Kept
 gone_on None kept target due = diverted kept target due
 gone_on (Some refusal) kept target due = at_phase kept (Over (Final refusal))
 
 -- a diversion that is due, by this account, at this moment
-abbrev pub divert : Call → Kept → Account → (now : ℕ) → Due → Kept
+abbrev pub divert : Call → Kept → AccountState → (now : ℕ) → DueDiversion → Kept
 divert call kept account now due =
     gone_on (go_on_of (of_target call now (new_target call.home due.forward.target)) account.sheet call.received kept.done call.bound due.cause) kept (new_target call.home due.forward.target) due
 
 -- the diversion of a decision: by the rule's forward, or else to where the device deflects
-abbrev pub due_by : Option Forward → Option Uri → (cause : ℕ) → Option Due
+abbrev pub due_by : Option Forward → Option Uri → (cause : ℕ) → Option DueDiversion
 due_by None deflected cause = option_map (λ target. deflected_to target cause) deflected
 due_by (Some forward) deflected cause = Some (record { forward = forward; cause = cause })
 
-abbrev pub divert_where : Call → Kept → Account → (now : ℕ) → Option Due → Kept
+abbrev pub divert_where : Call → Kept → AccountState → (now : ℕ) → Option DueDiversion → Kept
 divert_where call kept account now None = kept
 divert_where call kept account now (Some due) = divert call kept account now due
 
 -- a target that no service refused: it may still be nobody's, or out of reach
-abbrev pub offer_unless : (unknown no_peer : Bool) → Account → (waiting : Bool) → Kept → Uri → Option Due → Kept
+abbrev pub offer_unless : (unknown no_peer : Bool) → AccountState → (waiting : Bool) → Kept → Uri → Option DueDiversion → Kept
 offer_unless unknown no_peer account waiting kept uri by =
     if unknown then at_phase (with_target kept uri by NotOffered) (Over (Final causes.NoAccount))
     else if no_peer then at_phase (with_target kept uri by NotOffered) (Over (Final causes.NoRoute))
     else at_phase (with_target kept uri by (Offered waiting)) (Ringing account)
 
 -- the verdict at a target that the call reached
-abbrev pub reached : Call → Reach → Account → Decision → Kept → Uri → Option Due → Kept
+abbrev pub reached : Call → Reach → AccountState → Decision → Kept → Uri → Option DueDiversion → Kept
 reached call reach account (Offers waiting) kept uri by = offer_unless reach.is_unknown reach.has_no_peer account waiting kept uri by
 reached call reach account (Forwards forward why) kept uri by = divert_where call (with_target kept uri by NotOffered) account reach.at (due_by forward None why)
 reached call reach account (Ends why) kept uri by = at_phase (with_target kept uri by NotOffered) (Over (Final why))
 
 -- the verdict on an attempt that ended
-abbrev pub ended_by : Call → Account → (now : ℕ) → Option Uri → Decision → Kept → Kept
+abbrev pub ended_by : Call → AccountState → (now : ℕ) → Option Uri → Decision → Kept → Kept
 ended_by call account now deflected (Offers waiting) kept = kept
 ended_by call account now deflected (Forwards forward why) kept = divert_where call kept account now (due_by forward deflected why)
 ended_by call account now deflected (Ends why) kept = at_phase kept (Over (Final why))
 
 -- an attempt ended: an answer and a caller that gives up end the call, and of all else a verdict is asked
-abbrev pub on_end : Call → Account → (now : ℕ) → End → Kept → Kept
+abbrev pub on_end : Call → AccountState → (now : ℕ) → End → Kept → Kept
 on_end call account now Answer kept = at_phase kept (Over Answered)
 on_end call account now Cancel kept = at_phase kept (Over (Final causes.Cancelled))
 on_end call account now (UserBusy code) kept = ended_by call account now None (verdict_of (of_caller call now) account (ending.UserBusy code)) kept
@@ -91,18 +93,18 @@ on_end call account now (Deflection target rang) kept = ended_by call account no
 on_end call account now (Other code) kept = ended_by call account now None (verdict_of (of_caller call now) account (ending.Other code)) kept
 
 -- while it rings the call waits for the next ending
-abbrev pub on_endings : Call → Account → List Ended → Kept → Kept
+abbrev pub on_endings : Call → AccountState → List Ended → Kept → Kept
 on_endings call account [] kept = kept
 on_endings call account (ended ∷ later) kept = on_end call account ended.at ended.how (record kept { endings = later })
 
 -- a target is reached: a verdict is asked
-abbrev pub on_reaching : Call → Reach → Uri → Option Due → Kept → Kept
+abbrev pub on_reaching : Call → Reach → Uri → Option DueDiversion → Kept → Kept
 on_reaching call reach uri by kept =
     reached call reach (account_at reach) (verdict_of (of_caller call reach.at) (account_at reach) ending.Arrived) kept uri by
 
 -- one move: by what is kept
 abbrev pub move_in : Phase → Call → Kept → Kept
-move_in (Reaching uri by) call kept = on_reaching call (call.reach kept.done) uri by kept
+move_in (Reaching uri by) call kept = on_reaching call (reach_of call kept.done uri by) uri by kept
 move_in (Ringing account) call kept = on_endings call account kept.endings kept
 move_in (Over result) call kept = kept
 

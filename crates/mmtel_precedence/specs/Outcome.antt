@@ -5,19 +5,21 @@ use Rattle.std.specs.Prelude.{ℕ, zero, suc, ◌+◌, ◌-◌, ◌==◌, List, 
 use Rattle.std.specs.Option.{option_map_or}
 use Rattle.mmtel_types.specs.declared.causes.Cause.TheVariants as causes
 use Rattle.mmtel_lex.specs.declared.values.Uri.{Uri}
-use Rattle.mmtel_precedence.specs.Services.{Due}
-use Rattle.mmtel_precedence.specs.Calls.{Call, Ended, Final, Outcome, refusal_at_opening, refused_at_once, last_reached, then_reached}
-use Rattle.mmtel_precedence.specs.Targets.{Rests, IsDue, new_target, next_after, target_at}
+use Rattle.mmtel_precedence.specs.Services.{DueDiversion}
+use Rattle.mmtel_precedence.specs.Calls.{Call, Ended, Final, Outcome, refused_at_once, last_reached, then_reached}
+use Rattle.mmtel_precedence.specs.Opening.{refusal_at_opening}
+use Rattle.mmtel_targets.specs.Targets.{new_target}
+use Rattle.mmtel_precedence.specs.Targets.{Rests, IsDue, next_after, target_at}
 
 -- From the target that the call reaches after k diversions, where so many more are left below the bound: it rests there, or a diversion is due. Where none is left, that diversion refuses the call, as busy where it is for a busy user (RFC 4458 §2); else it leads to the next target, in the same step.
-unfoldable pub outcome_from : Call → (left : ℕ) → (k : ℕ) → Uri → Option Due → List Ended → Outcome
+unfoldable pub outcome_from : Call → (left : ℕ) → (k : ℕ) → Uri → Option DueDiversion → List Ended → Outcome
 outcome_from call zero k uri by endings =
-    elim (next_after call k endings) [
+    elim (next_after call k uri by endings) [
       | Rests result ↦ last_reached (target_at call k uri by) result
       | IsDue due later ↦ last_reached (target_at call k uri by) (Final (causes.TooManyDiversions (due.cause == 486)))
     ]
 outcome_from call (suc left) k uri by endings =
-    elim (next_after call k endings) [
+    elim (next_after call k uri by endings) [
       | Rests result ↦ last_reached (target_at call k uri by) result
       | IsDue due later ↦ then_reached (target_at call k uri by) (outcome_from call left (k + 1) (new_target call.home due.forward.target) (Some due) later)
     ]

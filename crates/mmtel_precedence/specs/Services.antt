@@ -5,7 +5,7 @@ use Rattle.mmtel_types.specs.declared.causes.Cause.{Cause}
 use Rattle.mmtel_types.specs.declared.causes.Cause.TheVariants.{IncomingBarred, AnonymousRejected, NotRegistered, NetworkBusy}
 use Rattle.mmtel_sheet_values.specs.declared.values.Forward.{Forward}
 use Rattle.mmtel_sheet_values.specs.declared.values.Sheet.{Sheet}
-use Rattle.mmtel_sheet_values.specs.declared.values.Who.{Who}
+use Rattle.mmtel_rules.specs.Circumstances.{Circumstances}
 use Rattle.mmtel_rules.specs.declared.values.When.{When}
 use Rattle.mmtel_rules.specs.declared.values.When.TheVariants.{Arrival, Busy}
 use Rattle.mmtel_diversion.specs.Diversion.{Chosen, diversion_of}
@@ -15,26 +15,14 @@ use Rattle.mmtel_barring.specs.Barring.{is_anonymous_refused, rules_of}
 use Rattle.mmtel_barring.specs.declared.bars.Refusal.{Refusal}
 use Rattle.mmtel_barring.specs.declared.bars.Refusal.TheVariants as refusals
 
--- what is known of a call when a service is asked
-pub record Circumstances : Type 0 where
-  -- of the other party: whether the identity part of a condition is true of it, and whether it has an identity at all
-  pub asks : Who → Bool
-  pub has_identity : Bool
-  -- the caller hides who it is
-  pub restricted : Bool
-  -- the kinds of media that are offered
-  pub media : List (List ℕ)
-  -- the moment
-  pub now : ℕ
-
 -- an account as it stands: its record, whether it is registered, and how many calls it has that are not over, as caller or as called party, without the attempt that is to be made
-pub record Account : Type 0 where
+pub record AccountState : Type 0 where
   pub sheet : Sheet
   pub registered : Bool
   pub live : ℕ
 
 -- a diversion that is due: where to, who is told what, and why
-pub record Due : Type 0 where
+pub record DueDiversion : Type 0 where
   pub forward : Forward
   pub cause : ℕ
 
@@ -42,12 +30,12 @@ pub record Due : Type 0 where
 pub data Says : Type 0 where
   Nothing : Says
   Refuses : (cause : Cause) → Says
-  Diverts : (due : Due) → Says
+  Diverts : (due : DueDiversion) → Says
 
 abbrev pub refuses_if : Bool → Cause → Says
 refuses_if applies cause = if applies then Refuses cause else Nothing
 
-abbrev pub diverts_by : Option Due → Says
+abbrev pub diverts_by : Option DueDiversion → Says
 diverts_by None = Nothing
 diverts_by (Some due) = Diverts due
 
@@ -59,37 +47,37 @@ first_said (Refuses cause ∷ later) = Refuses cause
 first_said (Diverts due ∷ later) = Diverts due
 
 -- the diversion that the account's record asks for
-abbrev pub due_of : Chosen → Due
+abbrev pub due_of : Chosen → DueDiversion
 due_of chosen = record { forward = chosen.forward; cause = chosen.cause }
 
-abbrev pub due_on : Circumstances → When → Sheet → Option Due
-due_on c when sheet = option_map due_of (diversion_of c.asks c.restricted c.media c.now when sheet)
+abbrev pub due_on : Circumstances → When → Sheet → Option DueDiversion
+due_on c when sheet = option_map due_of (diversion_of c when sheet)
 
 -- callers that hide who they are are refused (anonymous communication rejection, TS 24.611 §4.5.2)
 abbrev pub rejects_anonymous : Circumstances → Sheet → Bool
-rejects_anonymous c sheet = option_map_or (is_anonymous_refused c.has_identity c.restricted) sheet.incoming false
+rejects_anonymous c sheet = option_map_or (is_anonymous_refused c) sheet.incoming false
 
 -- incoming communication barring refuses the caller
 abbrev pub bars_incoming : Circumstances → Sheet → Bool
-bars_incoming c sheet = is_barred c.asks c.restricted c.media c.now (rules_of sheet.incoming)
+bars_incoming c sheet = is_barred c (rules_of sheet.incoming)
 
 -- outgoing communication barring refuses the target, which is the other party then
 abbrev pub bars_outgoing : Circumstances → Sheet → Bool
-bars_outgoing c sheet = is_barred c.asks c.restricted c.media c.now (rules_of sheet.outgoing)
+bars_outgoing c sheet = is_barred c (rules_of sheet.outgoing)
 
 -- ---- the services of an account that a call reaches, in their precedence, each list by the next
 
 -- by the number of its calls: its diversion of a busy user, and network determined user busy
-abbrev pub services_of_capacity : Circumstances → Account → List Says
+abbrev pub services_of_capacity : Circumstances → AccountState → List Says
 services_of_capacity c account =
     diverts_by (if is_busy account.live account.sheet then due_on c Busy account.sheet else None) ∷ refuses_if (is_busy account.live account.sheet) NetworkBusy ∷ []
 
 -- before them, by its diversion on arrival, and its registration
-abbrev pub services_after_barring : Circumstances → Account → List Says
+abbrev pub services_after_barring : Circumstances → AccountState → List Says
 services_after_barring c account = diverts_by (due_on c (Arrival account.registered) account.sheet) ∷ refuses_if (not account.registered) NotRegistered ∷ services_of_capacity c account
 
 -- and before all, by its barring of incoming calls
-abbrev pub services_on_arrival : Circumstances → Account → List Says
+abbrev pub services_on_arrival : Circumstances → AccountState → List Says
 services_on_arrival c account = refuses_if (rejects_anonymous c account.sheet) AnonymousRejected ∷ refuses_if (bars_incoming c account.sheet) IncomingBarred ∷ services_after_barring c account
 
 -- ---- what private calls cite

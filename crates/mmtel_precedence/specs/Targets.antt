@@ -1,25 +1,66 @@
 -- What comes of a call at one target: what the services of the account that is served there say when it is reached, and of the ending of its attempt (TS 24.604 §4.5.2.6, TS 24.611 §4.5.2, TS 24.615 §4.5.5).
-use Rattle.std.specs.Prelude.{ℕ, ◌==◌, Bool, true, false, nat_lt, if◌then◌else◌, List, [], ◌∷◌, ◌++◌, Option, Some, None, option_and_then, codes}
-use Rattle.std.specs.Option.{option_map, option_map_or}
+use Rattle.std.specs.Prelude.{ℕ, Bool, true, false, not, nat_lt, if◌then◌else◌, List, [], ◌∷◌, ◌++◌, Option, Some, None, option_and_then}
+use Rattle.std.specs.Option.{option_map, option_map_or, option_or}
 use Rattle.mmtel_types.specs.declared.causes.Cause.{Cause}
 use Rattle.mmtel_types.specs.declared.causes.Cause.TheVariants as causes
-use Rattle.mmtel_lex.specs.Identity.{reduced}
+use Rattle.mmtel_types.specs.declared.numbers.Account.{Account}
 use Rattle.mmtel_lex.specs.declared.values.Uri.{Uri}
 use Rattle.mmtel_lex.specs.declared.values.Uri.TheVariants.{Sip, Tel}
-use Rattle.mmtel_lex.specs.declared.values.Param.{Param}
+use Rattle.mmtel_targets.specs.Served.{diverted_served}
+use Rattle.mmtel_targets.specs.Targets.{is_global_number, is_unknown, new_target}
+use Rattle.mmtel_targets.specs.declared.served.RegistrationState.{RegistrationState}
+use Rattle.mmtel_rules.specs.Circumstances.{Circumstances}
 use Rattle.mmtel_rules.specs.Identities.{identity_holds}
 use Rattle.mmtel_rules.specs.declared.values.When.{When}
 use Rattle.mmtel_rules.specs.declared.values.When.TheVariants as event
 use Rattle.mmtel_rules.specs.declared.values.Identities2.{Identities2}
 use Rattle.mmtel_diversion.specs.Diversion.{deflection_of}
-use Rattle.mmtel_precedence.specs.Services.{Circumstances, Account, Due, Says, Nothing, Refuses, Diverts, refuses_if, first_said, due_on, bars_outgoing, services_on_arrival}
-use Rattle.mmtel_precedence.specs.Calls.{End, Answer, Cancel, UserBusy, NotReachable, NoReply, Deflection, Other, Ended, Reach, Call, Offer, NotOffered, Offered, Target, Result, Pending, Answered, Final}
+use Rattle.mmtel_precedence.specs.Services.{AccountState, DueDiversion, Says, Nothing, Refuses, Diverts, refuses_if, first_said, due_on, bars_outgoing, services_on_arrival}
+use Rattle.mmtel_precedence.specs.Calls.{End, Answer, Cancel, UserBusy, NotReachable, NoReply, Deflection, Other, Ended, Standing, Reach, Call}
+use Rattle.mmtel_precedence.specs.Calls.{standing_after, caller_hides, account_in, Offer, NotOffered, Offered, Target, Result, Pending, Answered, Final}
 
 -- ---- reaching it
 
+-- the account that is served at a target: at the first one that of the call; at a later one that of the target where both session cases are served,
+-- else none, since the call comes back through the core
+abbrev pub served_at : Call → Option DueDiversion → Uri → Option Account
+served_at call None uri = call.served.target
+served_at call (Some due) uri = diverted_served call.served (call.account_of uri)
+
+-- the registration that was told is that of the first target
+abbrev pub told_at : Call → Option DueDiversion → Option RegistrationState
+told_at call None = call.registration
+told_at call (Some due) = None
+
+-- whose the target is: the account that is served for it, or else that which has it
+abbrev pub account_for : Call → Option DueDiversion → Uri → Option Account
+account_for call by uri = option_or (served_at call by uri) (call.account_of uri)
+
+-- the diversion was to a telephone number, which is diverted to in the home domain
+abbrev pub is_by_number : Option DueDiversion → Bool
+is_by_number None = false
+is_by_number (Some due) = is_global_number due.forward.target
+
+-- of the home domain, and no account's; a telephone number that a diversion brought there need be no account's
+abbrev pub is_nobodys : Call → Option DueDiversion → Uri → Bool
+is_nobodys call by uri = is_unknown call.home (account_for call by uri) (record { uri = uri; of_number = is_by_number by })
+
+-- the target, by how things stand
+abbrev pub reach_in : Standing → Call → Uri → Option DueDiversion → Reach
+reach_in standing call uri by = record {
+  at = standing.at;
+  served = option_map (account_in standing (told_at call by)) (served_at call by uri);
+  is_unknown = is_nobodys call by uri;
+  has_no_peer = not (call.leads uri);
+}
+
+-- the target that is reached after k diversions, the last of which led to it, by how things stood then
+abbrev pub reach_of : Call → (k : ℕ) → Uri → Option DueDiversion → Reach
+reach_of call k uri by = reach_in (standing_after call k) call uri by
+
 -- what is known of the call at a moment, where its caller is the other party
 abbrev pub of_caller : Call → ℕ → Circumstances
-of_caller call now = record { asks = call.asks; has_identity = call.has_identity; restricted = call.restricted; media = call.media; now = now }
+of_caller call now = record { asks = call.asks; has_identity = call.has_identity; restricted = caller_hides call; media = call.media; now = now }
 
 -- what the services of the account that is served there say, in their precedence; then, whoever is served: a target of the home domain that is no account's is refused, and one to which no peer leads
 abbrev pub said_on_arrival : Call → Reach → Says
@@ -27,33 +68,20 @@ said_on_arrival call reach =
     first_said (option_map_or (services_on_arrival (of_caller call reach.at)) reach.served [] ++ refuses_if reach.is_unknown causes.NoAccount ∷ refuses_if reach.has_no_peer causes.NoRoute ∷ [])
 
 -- the user has another call already
-abbrev pub is_waiting : Option Account → Bool
-is_waiting served = option_map_or (λ (account : Account). nat_lt 0 account.live) served false
+abbrev pub is_waiting : Option AccountState → Bool
+is_waiting served = option_map_or (λ (account : AccountState). nat_lt 0 account.live) served false
 
 -- the call is offered where nothing was said
-abbrev pub offer_by : Says → Option Account → Offer
+abbrev pub offer_by : Says → Option AccountState → Offer
 offer_by Nothing served = Offered (is_waiting served)
 offer_by (Refuses cause) served = NotOffered
 offer_by (Diverts due) served = NotOffered
 
 -- the target that is reached after k diversions
-abbrev pub target_at : Call → (k : ℕ) → Uri → Option Due → Target
-target_at call k uri by = record { uri = uri; by = by; offer = offer_by (said_on_arrival call (call.reach k)) (call.reach k).served }
+abbrev pub target_at : Call → (k : ℕ) → Uri → Option DueDiversion → Target
+target_at call k uri by = record { uri = uri; by = by; offer = offer_by (said_on_arrival call (reach_of call k uri by)) (reach_of call k uri by).served }
 
 -- ---- a diversion
-
--- a telephone number is diverted to in the home domain (RFC 3261 §19.1.6)
-abbrev pub phone_at : List ℕ → List ℕ → Uri
-phone_at number home = Sip (Some number) home None (record { name = codes "user"; value = Some (codes "phone") } ∷ []) []
-
-abbrev pub tel_target : List ℕ → List ℕ → List Param → Uri
-tel_target [] home params = Tel [] params
-tel_target (b ∷ rest) home params = if b == 43 then phone_at (reduced (b ∷ rest)) home else Tel (b ∷ rest) params
-
--- the new target of a diversion to this URI
-abbrev pub new_target : List ℕ → Uri → Uri
-new_target home (Sip user host port params headers) = Sip user host port params headers
-new_target home (Tel number params) = tel_target number home params
 
 -- the URI as the only identity of a party
 abbrev pub party_of : Uri → Identities2
@@ -62,42 +90,42 @@ party_of (Tel number params) = record { sip = None; tel = Some (Tel number param
 
 -- what is known of the call at a moment, where this target is the other party
 abbrev pub of_target : Call → ℕ → Uri → Circumstances
-of_target call now target = record { asks = identity_holds (party_of target); has_identity = true; restricted = call.restricted; media = call.media; now = now }
+of_target call now target = record { asks = identity_holds (party_of target); has_identity = true; restricted = caller_hides call; media = call.media; now = now }
 
 -- the outgoing barring of the account that diverts refuses the new target
-abbrev pub is_refused : Call → Option Account → (now : ℕ) → Due → Bool
-is_refused call served now due = option_map_or (λ (account : Account). bars_outgoing (of_target call now (new_target call.home due.forward.target)) account.sheet) served false
+abbrev pub is_refused : Call → Option AccountState → (now : ℕ) → DueDiversion → Bool
+is_refused call served now due = option_map_or (λ (account : AccountState). bars_outgoing (of_target call now (new_target call.home due.forward.target)) account.sheet) served false
 
 -- the diversion by the rules of the account for what happened; none where no account is served
-abbrev pub due_at : Circumstances → When → Option Account → Option Due
-due_at c when served = option_and_then (λ (account : Account). due_on c when account.sheet) served
+abbrev pub due_at : Circumstances → When → Option AccountState → Option DueDiversion
+due_at c when served = option_and_then (λ (account : AccountState). due_on c when account.sheet) served
 
 -- a deflection goes to the target of the response, and hides nothing
-abbrev pub deflected_to : Uri → ℕ → Due
+abbrev pub deflected_to : Uri → ℕ → DueDiversion
 deflected_to target cause = record { forward = record { target = target; notify_caller = true; reveal_to_caller = true; reveal_served_to_caller = true; reveal_to_target = true }; cause = cause }
 
 -- the deflection, where the account that is served allows it
-abbrev pub deflection_at : Option Account → Uri → (rang : Bool) → Option Due
-deflection_at served target rang = option_and_then (λ (account : Account). option_map (deflected_to target) (deflection_of account.sheet rang)) served
+abbrev pub deflection_at : Option AccountState → Uri → (rang : Bool) → Option DueDiversion
+deflection_at served target rang = option_and_then (λ (account : AccountState). option_map (deflected_to target) (deflection_of account.sheet rang)) served
 
 -- ---- what is next
 
 -- the call goes no further; or a diversion is due that outgoing barring lets pass, and so many endings are still to come
 pub data Next : Type 0 where
   Rests : (result : Result) → Next
-  IsDue : (due : Due) → (later : List Ended) → Next
+  IsDue : (due : DueDiversion) → (later : List Ended) → Next
 
 -- a diversion by the account that is served, at this moment, unless outgoing barring refuses it
-abbrev pub diverted : Call → Option Account → (now : ℕ) → Due → List Ended → Next
+abbrev pub diverted : Call → Option AccountState → (now : ℕ) → DueDiversion → List Ended → Next
 diverted call served now due later = if is_refused call served now due then Rests (Final causes.OutgoingBarred) else IsDue due later
 
 -- a diversion where one is due, else the cause
-abbrev pub diverted_or : Call → Option Account → (now : ℕ) → Option Due → Cause → List Ended → Next
+abbrev pub diverted_or : Call → Option AccountState → (now : ℕ) → Option DueDiversion → Cause → List Ended → Next
 diverted_or call served now None cause later = Rests (Final cause)
 diverted_or call served now (Some due) cause later = diverted call served now due later
 
 -- an attempt ended: the account's rules for its ending come first, then its cause
-abbrev pub next_on : Call → Option Account → (now : ℕ) → End → List Ended → Next
+abbrev pub next_on : Call → Option AccountState → (now : ℕ) → End → List Ended → Next
 next_on call served now Answer later = Rests Answered
 next_on call served now Cancel later = Rests (Final causes.Cancelled)
 next_on call served now (UserBusy code) later = diverted_or call served now (due_at (of_caller call now) event.Busy served) (causes.Relayed code) later
@@ -114,5 +142,5 @@ next_at (Refuses cause) call reach endings = Rests (Final cause)
 next_at (Diverts due) call reach endings = diverted call reach.served reach.at due endings
 
 -- at the target that is reached after k diversions
-abbrev pub next_after : Call → (k : ℕ) → List Ended → Next
-next_after call k endings = next_at (said_on_arrival call (call.reach k)) call (call.reach k) endings
+abbrev pub next_after : Call → (k : ℕ) → Uri → Option DueDiversion → List Ended → Next
+next_after call k uri by endings = next_at (said_on_arrival call (reach_of call k uri by)) call (reach_of call k uri by) endings

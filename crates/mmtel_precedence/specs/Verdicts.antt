@@ -4,6 +4,7 @@ use Rattle.mmtel_types.specs.declared.causes.Cause.{Cause}
 use Rattle.mmtel_types.specs.declared.causes.Cause.TheVariants as causes
 use Rattle.mmtel_sheet_values.specs.declared.values.Forward.{Forward}
 use Rattle.mmtel_sheet_values.specs.declared.values.Sheet.{Sheet}
+use Rattle.mmtel_rules.specs.Circumstances.{Circumstances}
 use Rattle.mmtel_rules.specs.declared.values.When.TheVariants as event
 use Rattle.mmtel_diversion.specs.Bound.{is_within}
 use Rattle.mmtel_diversion.specs.Diversion.{deflection_of}
@@ -11,7 +12,7 @@ use Rattle.mmtel_precedence.specs.declared.endings.Ending.{Ending}
 use Rattle.mmtel_precedence.specs.declared.endings.Ending.TheVariants.{Arrived, UserBusy, NotReachable, NoReply, Deflected, Other}
 use Rattle.mmtel_precedence.specs.declared.verdicts.Verdict.{Verdict}
 use Rattle.mmtel_precedence.specs.declared.verdicts.Verdict.TheVariants as verdicts
-use Rattle.mmtel_precedence.specs.Services.{Circumstances, Account, Due, Says, Nothing, Refuses, Diverts, first_said, due_on, bars_outgoing, services_on_arrival}
+use Rattle.mmtel_precedence.specs.Services.{AccountState, DueDiversion, Says, Nothing, Refuses, Diverts, first_said, due_on, bars_outgoing, services_on_arrival}
 
 -- what is done with the call
 pub data Decision : Type 0 where
@@ -36,7 +37,7 @@ decision_by (Refuses cause) live = Ends cause
 decision_by (Diverts due) live = Forwards (Some due.forward) due.cause
 
 -- the diversion that the rules ask for, else the cause
-abbrev pub forwards_or : Option Due → Cause → Decision
+abbrev pub forwards_or : Option DueDiversion → Cause → Decision
 forwards_or None cause = Ends cause
 forwards_or (Some due) cause = Forwards (Some due.forward) due.cause
 
@@ -46,7 +47,7 @@ deflects_or None = Ends (causes.Relayed 480)
 deflects_or (Some cause) = Forwards None cause
 
 -- the decision
-abbrev pub verdict_of : Circumstances → Account → Ending → Decision
+abbrev pub verdict_of : Circumstances → AccountState → Ending → Decision
 verdict_of c account Arrived = decision_by (first_said (services_on_arrival c account)) account.live
 verdict_of c account (UserBusy code) = forwards_or (due_on c event.Busy account.sheet) (causes.Relayed code)
 verdict_of c account (NotReachable code) = forwards_or (due_on c event.NotReachable account.sheet) (causes.Unreachable code)

@@ -1,12 +1,14 @@
 //! One decision at a time.
 ghost use Rattle.std.specs.Prelude.{◌≡◌, Some};
+ghost use Rattle.mmtel_rules.specs.Circumstances.{known};
 ghost use Rattle.mmtel_rules.specs.declared.values.When.{When};
 ghost use Rattle.mmtel_diversion.specs.Diversion.{deflection_of, shown as shown_diversion};
-ghost use Rattle.mmtel_precedence.specs.Known.{known, standing};
+ghost use Rattle.mmtel_precedence.specs.Told.{standing, told_account};
 ghost use Rattle.mmtel_precedence.specs.Services.{bars_outgoing, due_on, first_said, said_by, services_of_capacity, services_on_arrival, services_after_barring};
 ghost use Rattle.mmtel_precedence.specs.Verdicts.{Forwards, shown, decision_by, deflects_or, forwards_or, go_on_of, verdict_of};
 
 use crate::endings::{CallFacts, Ending};
+use crate::reaches::ServedAccount;
 use crate::verdicts::Verdict;
 use mmtel_barring::{Refusal, incoming, outgoing};
 use mmtel_diversion::{Diversion, choose, deflect, within};
@@ -27,10 +29,10 @@ fn by_rule(diversion: Diversion<'_>) -> Verdict<'_>
 }
 
 /// The diversion that the account's rules ask for at this moment, else the refusal for this cause.
-fn divert_or<'a>(c: &CallFacts, s: &'a Sheet, when: When, cause: Cause) -> Verdict<'a>
-    ensures { let facts = c.entry.now.facts in shown result ≡ forwards_or (due_on (known facts) when s.now) cause }
+fn divert_or<'a>(f: &Facts, s: &'a Sheet, when: When, cause: Cause) -> Verdict<'a>
+    ensures { let facts = f.entry.now in shown result ≡ forwards_or (due_on (known facts) when s.now) cause }
 {
-    match choose(s, &c.facts, when) {
+    match choose(s, f, when) {
         Some(diversion) => by_rule(diversion),
         None => Verdict::Refuse(cause),
     }
@@ -50,48 +52,60 @@ fn deflect_or_refuse<'a>(s: &'a Sheet, alerted: bool) -> Verdict<'a>
 }
 
 /// What is decided of a call that reaches a registered account which its rules for an arrival do not divert: by the calls that the account has.
-fn by_capacity<'a>(c: &CallFacts, s: &'a Sheet) -> Verdict<'a>
-    ensures { let call = c.entry.now in shown result ≡ decision_by (first_said (services_of_capacity (known call.facts) (standing call s.now))) call.live }
+fn by_capacity<'a>(f: &Facts, a: &ServedAccount<'a>) -> Verdict<'a>
+    ensures { let facts = f.entry.now in let account = told_account a.entry.now in shown result ≡ decision_by (first_said (services_of_capacity (known facts) account)) account.live }
 {
-    if is_busy(c.live, s) {
-        return divert_or(c, s, When::Busy, Cause::NetworkBusy);
+    if is_busy(a.live, a.sheet) {
+        return divert_or(f, a.sheet, When::Busy, Cause::NetworkBusy);
     }
     Verdict::Offer {
-        waiting: c.live >= 1,
+        waiting: a.live >= 1,
     }
 }
 
 /// What is decided of a call that reaches an account which does not refuse its caller.
-fn on_arrival<'a>(c: &CallFacts, s: &'a Sheet) -> Verdict<'a>
-    ensures { let call = c.entry.now in shown result ≡ decision_by (first_said (services_after_barring (known call.facts) (standing call s.now))) call.live }
+fn on_arrival<'a>(f: &Facts, a: &ServedAccount<'a>) -> Verdict<'a>
+    ensures { let facts = f.entry.now in let account = told_account a.entry.now in shown result ≡ decision_by (first_said (services_after_barring (known facts) account)) account.live }
 {
     let when = When::Arrival {
-        registered: c.registered,
+        registered: a.registered,
     };
-    match choose(s, &c.facts, when) {
+    match choose(a.sheet, f, when) {
         Some(diversion) => by_rule(diversion),
-        None if !c.registered => Verdict::Refuse(Cause::NotRegistered),
-        None => by_capacity(c, s),
+        None if !a.registered => Verdict::Refuse(Cause::NotRegistered),
+        None => by_capacity(f, a),
     }
 }
 
 /// What services say of a refusal of the account's barring of incoming calls, or of none.
-fn by_refusal<'a>(refusal: Option<Refusal>, c: &CallFacts, s: &'a Sheet) -> Verdict<'a>
-    ensures { let call = c.entry.now in shown result ≡ decision_by (said_by refusal (first_said (services_after_barring (known call.facts) (standing call s.now)))) call.live }
+fn by_refusal<'a>(refusal: Option<Refusal>, f: &Facts, a: &ServedAccount<'a>) -> Verdict<'a>
+    ensures { let facts = f.entry.now in let account = told_account a.entry.now in
+        shown result ≡ decision_by (said_by refusal (first_said (services_after_barring (known facts) account))) account.live }
 {
     match refusal {
         Some(Refusal::Anonymous) => Verdict::Refuse(Cause::AnonymousRejected),
         Some(Refusal::Barred { .. }) => Verdict::Refuse(Cause::IncomingBarred),
-        None => on_arrival(c, s),
+        None => on_arrival(f, a),
     }
 }
 
 /// What is decided of a call that reaches an account.
-fn arrived<'a>(c: &CallFacts, s: &'a Sheet) -> Verdict<'a>
-    ensures { let call = c.entry.now in shown result ≡ decision_by (first_said (services_on_arrival (known call.facts) (standing call s.now))) call.live }
+pub fn arrived<'a>(f: &Facts, a: &ServedAccount<'a>) -> Verdict<'a>
+    ensures { let facts = f.entry.now in let account = told_account a.entry.now in shown result ≡ decision_by (first_said (services_on_arrival (known facts) account)) account.live }
 {
     barred_where_no_rule_allows();
-    by_refusal(incoming(s, &c.facts), c, s)
+    by_refusal(incoming(a.sheet, f), f, a)
+}
+
+/// The account whose services are asked, with its record.
+fn account_of<'a>(c: &CallFacts, s: &'a Sheet) -> ServedAccount<'a>
+    ensures { told_account result ≡ standing c.entry.now s.now }
+{
+    ServedAccount {
+        sheet: s,
+        registered: c.registered,
+        live: c.live,
+    }
 }
 
 /// What the services of the account decide of a call that comes to it, or of an attempt that ended there: it is offered, as waiting or not; diverted, by a rule or by deflection; or refused.
@@ -101,19 +115,19 @@ pub fn verdict<'a>(c: &CallFacts, s: &'a Sheet, e: Ending) -> Verdict<'a>
     ensures exact { let call = c.entry.now in shown result ≡ verdict_of (known call.facts) (standing call s.now) e }
 {
     match e {
-        Ending::Arrived => arrived(c, s),
-        Ending::UserBusy(code) => divert_or(c, s, When::Busy, Cause::Relayed(code)),
+        Ending::Arrived => arrived(&c.facts, &account_of(c, s)),
+        Ending::UserBusy(code) => divert_or(&c.facts, s, When::Busy, Cause::Relayed(code)),
         Ending::NotReachable(code) => {
-            divert_or(c, s, When::NotReachable, Cause::Unreachable(code))
+            divert_or(&c.facts, s, When::NotReachable, Cause::Unreachable(code))
         }
-        Ending::NoReply => divert_or(c, s, When::NoAnswer, Cause::NoReply),
+        Ending::NoReply => divert_or(&c.facts, s, When::NoAnswer, Cause::NoReply),
         Ending::Deflected { alerted } => deflect_or_refuse(s, alerted),
         Ending::Other(code) => Verdict::Refuse(Cause::Relayed(code)),
     }
 }
 
 /// Whether the account bars its own calls to the party that the facts name.
-fn bars_outgoing(s: &Sheet, f: &Facts) -> bool
+pub fn bars_outgoing(s: &Sheet, f: &Facts) -> bool
     ensures { let facts = f.entry.now in result ≡ bars_outgoing (known facts) s.now }
 {
     barred_where_no_rule_allows();

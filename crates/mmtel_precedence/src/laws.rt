@@ -2,6 +2,7 @@
 ghost use Rattle.mmtel_precedence.specs.Extension.{LaterEndingsExtend};
 ghost use Rattle.mmtel_precedence.specs.Laws.{AlikeCallersFareAlike, BarringComesFirst, DiversionsHaveForwards, IsBoundExact, OnlyReachedTargetsCount, StaysWithinBound, VerdictsSeeAnswersAlone};
 ghost use Rattle.mmtel_precedence.specs.Moves.{MovesGiveTheOutcome};
+ghost use Rattle.mmtel_precedence.specs.Turns.{EndingsAreMoves, TurnsAreMoves, TurnsGiveTheOutcome};
 
 use mmtel_rules::laws::{
     barred_where_no_rule_allows, barring_sees_answers_alone, first_sees_answers_alone,
@@ -12,12 +13,28 @@ pub fn moves_give_the_outcome()
     ensures law { MovesGiveTheOutcome }
 {}
 
+/// The turn at a target is the move there: what `turn_at` says, and `go_on` of a diversion that is due, are all that decides it.
+pub fn turns_are_moves()
+    ensures law { TurnsAreMoves }
+{}
+
+/// The turn after an attempt is the move on its end: what `turn_on` says, and `go_on` of a diversion that is due, are all that decides it.
+pub fn endings_are_moves()
+    ensures law { EndingsAreMoves }
+{}
+
+/// However the attempts of a call end, and however things stand at the targets that it reaches:
+/// a call that takes its turns one by one, by `turn_at`, `turn_on` and `go_on` over what is kept of it, comes to exactly its Outcome.
+pub fn turns_give_the_outcome()
+    ensures law { TurnsGiveTheOutcome }
+{}
+
 /// Endings that come later extend an outcome: what they give begins with what was before them, and is the same where that was settled. The moves of a call go on from where it rang, so that those that are made over some endings and then over later ones, or after each ending as it comes, come to the Outcome of all of them.
 pub fn later_endings_extend()
     ensures law { LaterEndingsExtend }
 {}
 
-/// Only the targets that a call reaches count: its Outcome is the same wherever those stand the same.
+/// Only the targets that a call reaches count: its Outcome is the same wherever things stand the same when it reaches those.
 pub fn only_reached_targets_count()
     ensures law { OnlyReachedTargetsCount }
 {}

@@ -3,11 +3,20 @@
 //! What a whole call does is the definition Outcome of `specs/`; a law says that these decisions, taken one by one, come to it. No call takes memory, so a decision never fails.
 #![tactic(auto)]
 
+mod attempts;
 mod deciding;
 mod endings;
 pub mod laws;
+mod openings;
+mod reaches;
+mod turns;
 mod verdicts;
 
+pub use attempts::{AttemptEnd, AttemptEvent, end_by, rings};
 pub use deciding::{go_on, verdict};
 pub use endings::{CallFacts, Ending};
+pub use mmtel_targets::Served;
+pub use openings::refused_at_opening;
+pub use reaches::{Reached, ServedAccount, party_of};
+pub use turns::{AfterEnding, Onward, Turn, turn_at, turn_on};
 pub use verdicts::Verdict;

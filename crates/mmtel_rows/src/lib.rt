@@ -6,8 +6,6 @@
 #[cfg(test)]
 mod devices;
 #[cfg(test)]
-mod formats;
-#[cfg(test)]
 mod openings;
 #[cfg(test)]
 mod runs;

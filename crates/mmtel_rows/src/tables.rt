@@ -1,6 +1,6 @@
 //! Tables of rows: one text each, a row a line.
 
-use mmtel_scan::{NoMemory, Text, part};
+use mmtel_scan::part;
 use std::alloc::Global;
 
 /// What a table is about.
@@ -28,22 +28,4 @@ pub fn wrong_row<T: Table>(alloc: Global, about: &T, table: &[u8]) -> usize {
 /// What stands before the first `|`, and what follows it.
 pub fn cut(row: &[u8]) -> (&[u8], &[u8]) {
     part(b'|', row).unwrap_or((row, b""))
-}
-
-/// The text of lines that end with `;`, which the last may lack; at most a dozen.
-pub fn lines(alloc: Global, row: &[u8]) -> Result<Text, NoMemory> {
-    let mut text = Text::new();
-    let mut rest = row;
-    for _ in 0..12 {
-        match part(b';', rest) {
-            None => break,
-            Some((line, later)) => {
-                text.push(alloc, line)?;
-                text.push(alloc, b"\n")?;
-                rest = later;
-            }
-        }
-    }
-    text.push(alloc, rest)?;
-    Ok(text)
 }

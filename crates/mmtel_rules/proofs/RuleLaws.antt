@@ -12,6 +12,7 @@ use Rattle.mmtel_sheet_values.specs.declared.values.Condition.{Condition}
 use Rattle.mmtel_sheet_values.specs.declared.values.Rule.{Rule}
 use Rattle.mmtel_sheet_values.specs.declared.values.Who.{Who}
 use Rattle.mmtel_sheet_values.specs.declared.values.Window.{Window}
+use Rattle.mmtel_rules.specs.Circumstances.{Circumstances}
 use Rattle.mmtel_rules.specs.Conditions.{condition_holds, window_holds, event_holds, who_holds, anonymous_holds, media_holds}
 use Rattle.mmtel_rules.specs.Identities.{has_identity, identity_holds, names, many_holds}
 use Rattle.mmtel_rules.specs.Rules.{allows, arrival, barred_by, first_that_holds, is_barred, is_let_through, IsLeast, lets_through, rule_holds}
@@ -59,14 +60,14 @@ last_false true true false d e h = refl
 last_false true false c d e h = refl
 last_false false b c d e h = refl
 
-module _ (asks : Who → Bool) (restricted : Bool) (media : List (List ℕ)) (now : ℕ) (when : When) (c : Condition) where
-  pub outside_window : window_holds now c.window ≡ false → condition_holds asks restricted media now when c ≡ false
+module _ (k : Circumstances) (when : When) (c : Condition) where
+  pub outside_window : window_holds k.now c.window ≡ false → condition_holds k when c ≡ false
   unfolding condition_holds
-  outside_window e = third_false (who_holds asks c.identity) (anonymous_holds restricted c.anonymous) (window_holds now c.window) (media_holds media c.media && event_holds when c.event) e
+  outside_window e = third_false (who_holds k.asks c.identity) (anonymous_holds k.restricted c.anonymous) (window_holds k.now c.window) (media_holds k.media c.media && event_holds when c.event) e
 
-  pub no_event : event_holds when c.event ≡ false → condition_holds asks restricted media now when c ≡ false
+  pub no_event : event_holds when c.event ≡ false → condition_holds k when c ≡ false
   unfolding condition_holds
-  no_event e = last_false (who_holds asks c.identity) (anonymous_holds restricted c.anonymous) (window_holds now c.window) (media_holds media c.media) (event_holds when c.event) e
+  no_event e = last_false (who_holds k.asks c.identity) (anonymous_holds k.restricted c.anonymous) (window_holds k.now c.window) (media_holds k.media c.media) (event_holds when c.event) e
 
 -- ---- windows
 
@@ -102,24 +103,24 @@ least_unless : (P : ℕ → Type 0) (b : Bool) (found : Option ℕ) → IfSome f
 least_unless P true found h = tt
 least_unless P false found h = h
 
-module _ (asks : Who → Bool) (restricted : Bool) (media : List (List ℕ)) (now : ℕ) where
-  pub is_some-barred_by : (rules : List Rule) → is_some (barred_by asks restricted media now rules) ≡ is_barred asks restricted media now rules
+module _ (k : Circumstances) where
+  pub is_some-barred_by : (rules : List Rule) → is_some (barred_by k rules) ≡ is_barred k rules
   is_some-barred_by rules =
-      some_unless (list_any (lets_through asks restricted media now) rules) (first_that_holds asks restricted media now arrival rules)
-      ∙ ap (λ b. b && not (list_any (lets_through asks restricted media now) rules)) (is_some-position (rule_holds asks restricted media now arrival) rules)
+      some_unless (list_any (lets_through k) rules) (first_that_holds k arrival rules)
+      ∙ ap (λ b. b && not (list_any (lets_through k) rules)) (is_some-position (rule_holds k arrival) rules)
 
-  pub barred_is_least : (rules : List Rule) → IfSome (barred_by asks restricted media now rules) (IsLeast (rule_holds asks restricted media now arrival) rules)
+  pub barred_is_least : (rules : List Rule) → IfSome (barred_by k rules) (IsLeast (rule_holds k arrival) rules)
   barred_is_least rules =
-      least_unless (IsLeast (rule_holds asks restricted media now arrival) rules) (is_let_through asks restricted media now rules) (first_that_holds asks restricted media now arrival rules) (position_is_least (rule_holds asks restricted media now arrival) rules)
+      least_unless (IsLeast (rule_holds k arrival) rules) (is_let_through k rules) (first_that_holds k arrival rules) (position_is_least (rule_holds k arrival) rules)
 
-  pub is_barred-permutation : (rules other : List Rule) → IsPermutation rules other → is_barred asks restricted media now rules ≡ is_barred asks restricted media now other
+  pub is_barred-permutation : (rules other : List Rule) → IsPermutation rules other → is_barred k rules ≡ is_barred k other
   is_barred-permutation rules other p =
-      rw (list_any-IsPermutation (rule_holds asks restricted media now arrival) rules other p, list_any-IsPermutation (lets_through asks restricted media now) rules other p) refl
+      rw (list_any-IsPermutation (rule_holds k arrival) rules other p, list_any-IsPermutation (lets_through k) rules other p) refl
 
-  pub barred_permutation : (rules other : List Rule) → IsPermutation rules other → is_some (barred_by asks restricted media now rules) ≡ is_some (barred_by asks restricted media now other)
+  pub barred_permutation : (rules other : List Rule) → IsPermutation rules other → is_some (barred_by k rules) ≡ is_some (barred_by k other)
   barred_permutation rules other p = is_some-barred_by rules ∙ is_barred-permutation rules other p ∙ sym (is_some-barred_by other)
 
-  pub let_through : (front back : List Rule) (r : Rule) → allows r.action ≡ true → rule_holds asks restricted media now arrival r ≡ true → barred_by asks restricted media now (front ++ r ∷ back) ≡ None
+  pub let_through : (front back : List Rule) (r : Rule) → allows r.action ≡ true → rule_holds k arrival r ≡ true → barred_by k (front ++ r ∷ back) ≡ None
   let_through front back r allowed held =
-      let through : lets_through asks restricted media now r ≡ true = rw (allowed, held) refl in
-      rw (list_any_within (lets_through asks restricted media now) front back r through) refl
+      let through : lets_through k r ≡ true = rw (allowed, held) refl in
+      rw (list_any_within (lets_through k) front back r through) refl

@@ -1,6 +1,6 @@
 -- When a condition holds: each part of it that is there does (RFC 4745 §6, TS 24.604 §4.9.1).
 --
--- Of the identities of the other party only the answers count, `asks`, one for each identity part of a condition. The other facts are whether the caller is restricted, the kinds of media that are offered, and the moment.
+-- Of the identities of the other party only the answers count, `asks`, one for each identity part of a condition.
 use Rattle.std.specs.Prelude.{ℕ, pos, int_lt, int_le, Bool, true, false, not, ◌&&◌, ◌||◌, List, Option, Some, None}
 use Rattle.std.specs.List.{list_any}
 use Rattle.std.specs.Option.{option_map_or}
@@ -10,6 +10,7 @@ use Rattle.mmtel_sheet_values.specs.declared.values.EventWord.{EventWord}
 use Rattle.mmtel_sheet_values.specs.declared.values.EventWord.TheVariants as Event
 use Rattle.mmtel_sheet_values.specs.declared.values.Who.{Who}
 use Rattle.mmtel_sheet_values.specs.declared.values.Window.{Window}
+use Rattle.mmtel_rules.specs.Circumstances.{Circumstances}
 use Rattle.mmtel_rules.specs.declared.values.When.{When}
 use Rattle.mmtel_rules.specs.declared.values.When.TheVariants.{Arrival, Busy, NoAnswer, NotReachable}
 
@@ -69,6 +70,6 @@ event_holds when None = is_arrival when
 event_holds when (Some event) = is_event event when
 
 -- each part that is there holds
-unfoldable pub condition_holds : (asks : Who → Bool) → (restricted : Bool) → (media : List (List ℕ)) → (now : ℕ) → When → Condition → Bool
-condition_holds asks restricted media now when c =
-    who_holds asks c.identity && (anonymous_holds restricted c.anonymous && (window_holds now c.window && (media_holds media c.media && event_holds when c.event)))
+unfoldable pub condition_holds : Circumstances → When → Condition → Bool
+condition_holds k when c =
+    who_holds k.asks c.identity && (anonymous_holds k.restricted c.anonymous && (window_holds k.now c.window && (media_holds k.media c.media && event_holds when c.event)))

@@ -4,17 +4,17 @@ use Rattle.std.specs.List.{list_any}
 use Rattle.mmtel_sheet_values.specs.declared.values.Action.{Action}
 use Rattle.mmtel_sheet_values.specs.declared.values.Action.TheVariants.{Forward, Allow}
 use Rattle.mmtel_sheet_values.specs.declared.values.Rule.{Rule}
-use Rattle.mmtel_sheet_values.specs.declared.values.Who.{Who}
+use Rattle.mmtel_rules.specs.Circumstances.{Circumstances}
 use Rattle.mmtel_rules.specs.Conditions.{condition_holds}
 use Rattle.mmtel_rules.specs.declared.values.When.{When}
 use Rattle.mmtel_rules.specs.declared.values.When.TheVariants.{Arrival}
 
-abbrev pub rule_holds : (asks : Who → Bool) → (restricted : Bool) → (media : List (List ℕ)) → (now : ℕ) → When → Rule → Bool
-rule_holds asks restricted media now when r = condition_holds asks restricted media now when r.condition
+abbrev pub rule_holds : Circumstances → When → Rule → Bool
+rule_holds k when r = condition_holds k when r.condition
 
 -- the least place whose rule holds
-abbrev pub first_that_holds : (asks : Who → Bool) → (restricted : Bool) → (media : List (List ℕ)) → (now : ℕ) → When → List Rule → Option ℕ
-first_that_holds asks restricted media now when rules = position (rule_holds asks restricted media now when) rules
+abbrev pub first_that_holds : Circumstances → When → List Rule → Option ℕ
+first_that_holds k when rules = position (rule_holds k when) rules
 
 -- the rule lets calls through; one that diverts them does not
 abbrev pub allows : Action → Bool
@@ -26,22 +26,22 @@ abbrev pub arrival : When
 arrival = Arrival true
 
 -- the rule holds on arrival and lets the call through
-abbrev pub lets_through : (asks : Who → Bool) → (restricted : Bool) → (media : List (List ℕ)) → (now : ℕ) → Rule → Bool
-lets_through asks restricted media now r = allows r.action && rule_holds asks restricted media now arrival r
+abbrev pub lets_through : Circumstances → Rule → Bool
+lets_through k r = allows r.action && rule_holds k arrival r
 
 -- one of the rules does
-abbrev pub is_let_through : (asks : Who → Bool) → (restricted : Bool) → (media : List (List ℕ)) → (now : ℕ) → List Rule → Bool
-is_let_through asks restricted media now rules = list_any (lets_through asks restricted media now) rules
+abbrev pub is_let_through : Circumstances → List Rule → Bool
+is_let_through k rules = list_any (lets_through k) rules
 
 -- the least place whose rule holds on arrival, where no rule that holds there lets the call through
-abbrev pub barred_by : (asks : Who → Bool) → (restricted : Bool) → (media : List (List ℕ)) → (now : ℕ) → List Rule → Option ℕ
-barred_by asks restricted media now rules =
-    if is_let_through asks restricted media now rules then None else first_that_holds asks restricted media now arrival rules
+abbrev pub barred_by : Circumstances → List Rule → Option ℕ
+barred_by k rules =
+    if is_let_through k rules then None else first_that_holds k arrival rules
 
 -- the call is barred: some rule holds on arrival, and none that holds there lets it through
-abbrev pub is_barred : (asks : Who → Bool) → (restricted : Bool) → (media : List (List ℕ)) → (now : ℕ) → List Rule → Bool
-is_barred asks restricted media now rules =
-    list_any (rule_holds asks restricted media now arrival) rules && not (is_let_through asks restricted media now rules)
+abbrev pub is_barred : Circumstances → List Rule → Bool
+is_barred k rules =
+    list_any (rule_holds k arrival) rules && not (is_let_through k rules)
 
 -- the place is the least whose rule passes the test
 pub record IsLeast (test : Rule → Bool) (rules : List Rule) (place : ℕ) : Type 0 where

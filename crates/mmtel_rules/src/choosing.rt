@@ -1,6 +1,6 @@
 //! Which rule of a list decides.
 ghost use Rattle.std.specs.Prelude.{◌≡◌};
-ghost use Rattle.mmtel_rules.specs.Identities.{identity_holds};
+ghost use Rattle.mmtel_rules.specs.Circumstances.{known};
 ghost use Rattle.mmtel_rules.specs.Rules.{allows, barred_by, first_that_holds, is_let_through, lets_through};
 
 use crate::conditions::holds;
@@ -9,7 +9,7 @@ use mmtel_sheet_values::{Action, Rule};
 
 /// The least index of a rule that holds; None exactly where none does. It takes no memory.
 pub fn first(rules: &[Rule], f: &Facts, when: When) -> Option<usize>
-    ensures exact { let facts = f.entry.now in result ≡ first_that_holds (identity_holds facts.caller.now) facts.restricted facts.media.now facts.now when rules.now }
+    ensures exact { let facts = f.entry.now in result ≡ first_that_holds (known facts) when rules.now }
 {
     rules
         .iter()
@@ -28,21 +28,21 @@ fn allows(rule: &Rule) -> bool
 
 /// Whether the rule holds as the call arrives at a registered user, and lets it through.
 fn lets_through(rule: &Rule, f: &Facts) -> bool
-    ensures { let facts = f.entry.now in result ≡ lets_through (identity_holds facts.caller.now) facts.restricted facts.media.now facts.now rule.now }
+    ensures { let facts = f.entry.now in result ≡ lets_through (known facts) rule.now }
 {
     allows(rule) && holds(&rule.condition, f, When::Arrival { registered: true })
 }
 
 /// Whether one of the rules lets the call through.
 fn is_let_through(rules: &[Rule], f: &Facts) -> bool
-    ensures { let facts = f.entry.now in result ≡ is_let_through (identity_holds facts.caller.now) facts.restricted facts.media.now facts.now rules.now }
+    ensures { let facts = f.entry.now in result ≡ is_let_through (known facts) rules.now }
 {
     rules.iter().any(|rule| lets_through(rule, f))
 }
 
 /// The least index of a rule that holds as the call arrives at a registered user, where no rule that holds then allows the call; None exactly where none holds or one of them allows it (TS 24.611 §4.9.1 and RFC 4745 §10). It takes no memory.
 pub fn all_bar(rules: &[Rule], f: &Facts) -> Option<usize>
-    ensures exact { let facts = f.entry.now in result ≡ barred_by (identity_holds facts.caller.now) facts.restricted facts.media.now facts.now rules.now }
+    ensures exact { let facts = f.entry.now in result ≡ barred_by (known facts) rules.now }
 {
     if is_let_through(rules, f) {
         return None;

@@ -1,7 +1,7 @@
 //! When a condition holds.
 ghost use Rattle.std.specs.Prelude.{◌≡◌};
 ghost use Rattle.mmtel_rules.specs.Conditions.{condition_holds, event_holds, is_event, is_offered, is_one_offered, media_holds, window_holds};
-ghost use Rattle.mmtel_rules.specs.Identities.{identity_holds};
+ghost use Rattle.mmtel_rules.specs.Circumstances.{known};
 
 use crate::identities::identity_holds;
 use crate::values::{Facts, When};
@@ -71,7 +71,7 @@ fn event_holds(event: Option<EventWord>, when: When) -> bool
 /// Whether the condition holds: each part of it that is there does (RFC 4745 §6, TS 24.604 §4.9.1). It takes no memory.
 #[tactic(auto, unfolding(crate::specs::Conditions::condition_holds))]
 pub fn holds(c: &Condition, f: &Facts, when: When) -> bool
-    ensures exact { let facts = f.entry.now in result ≡ condition_holds (identity_holds facts.caller.now) facts.restricted facts.media.now facts.now when c.now }
+    ensures exact { let facts = f.entry.now in result ≡ condition_holds (known facts) when c.now }
 {
     let asked = match &c.identity {
         None => true,

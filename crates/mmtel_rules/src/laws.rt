@@ -3,6 +3,7 @@ ghost use Rattle.std.specs.Prelude.{◌≡◌, ◌⊎◌, ℕ, pos, ◌≤ℤ◌
 ghost use Rattle.std.specs.List.{list_any};
 ghost use Rattle.std.specs.List.Sorted.{IsPermutation};
 ghost use Rattle.mmtel_rules.specs.Alike.{AnswerAlike, identity_parts};
+ghost use Rattle.mmtel_rules.specs.Circumstances.{Circumstances, asked};
 ghost use Rattle.mmtel_rules.specs.Conditions.{condition_holds};
 ghost use Rattle.mmtel_rules.specs.Identities.{has_identity, identity_holds};
 ghost use Rattle.mmtel_rules.specs.Rules.{allows, arrival, barred_by, first_that_holds, is_barred, IsLeast, rule_holds};
@@ -16,17 +17,17 @@ ghost use Rattle.mmtel_sheet_values.specs.declared.values.Window.{Window};
 
 /// A condition holds for both of two callers, or for neither, where they answer its identity part alike.
 pub fn condition_sees_answers_alone()
-    ensures same { (asks asks2 : Who → Bool) (restricted : Bool) (media : List (List ℕ)) (now : ℕ) (when : When) (c : Condition) → AnswerAlike asks asks2 (option_to_list c.identity) → condition_holds asks restricted media now when c ≡ condition_holds asks2 restricted media now when c }
+    ensures same { (asks asks2 : Who → Bool) (k : Circumstances) (when : When) (c : Condition) → AnswerAlike asks asks2 (option_to_list c.identity) → condition_holds (asked k asks) when c ≡ condition_holds (asked k asks2) when c }
 {}
 
 /// The same rule is the first that holds for two callers that answer the identity parts of the rules alike.
 pub fn first_sees_answers_alone()
-    ensures same { (asks asks2 : Who → Bool) (restricted : Bool) (media : List (List ℕ)) (now : ℕ) (when : When) (rules : List Rule) → AnswerAlike asks asks2 (identity_parts rules) → first_that_holds asks restricted media now when rules ≡ first_that_holds asks2 restricted media now when rules }
+    ensures same { (asks asks2 : Who → Bool) (k : Circumstances) (when : When) (rules : List Rule) → AnswerAlike asks asks2 (identity_parts rules) → first_that_holds (asked k asks) when rules ≡ first_that_holds (asked k asks2) when rules }
 {}
 
 /// The same rule bars two callers, or none does, that answer the identity parts of the rules alike.
 pub fn barring_sees_answers_alone()
-    ensures same { (asks asks2 : Who → Bool) (restricted : Bool) (media : List (List ℕ)) (now : ℕ) (rules : List Rule) → AnswerAlike asks asks2 (identity_parts rules) → barred_by asks restricted media now rules ≡ barred_by asks2 restricted media now rules }
+    ensures same { (asks asks2 : Who → Bool) (k : Circumstances) (rules : List Rule) → AnswerAlike asks asks2 (identity_parts rules) → barred_by (asked k asks) rules ≡ barred_by (asked k asks2) rules }
 {}
 
 /// A party without an identity answers no to each identity part.
@@ -36,33 +37,33 @@ pub fn nobody_is_meant()
 
 /// The rule that is found holds, and none before it does; none is found exactly where none holds.
 pub fn least_rule_is_found()
-    ensures least { (asks : Who → Bool) (restricted : Bool) (media : List (List ℕ)) (now : ℕ) (when : When) (rules : List Rule) → IfSome (first_that_holds asks restricted media now when rules) (IsLeast (rule_holds asks restricted media now when) rules) }
-    ensures some { (asks : Who → Bool) (restricted : Bool) (media : List (List ℕ)) (now : ℕ) (when : When) (rules : List Rule) → is_some (first_that_holds asks restricted media now when rules) ≡ list_any (rule_holds asks restricted media now when) rules }
+    ensures least { (k : Circumstances) (when : When) (rules : List Rule) → IfSome (first_that_holds k when rules) (IsLeast (rule_holds k when) rules) }
+    ensures some { (k : Circumstances) (when : When) (rules : List Rule) → is_some (first_that_holds k when rules) ≡ list_any (rule_holds k when) rules }
 {}
 
 /// A call is barred exactly where some rule holds as it arrives, and none that holds then lets it through; the rule that is named is the least that holds.
 pub fn barred_where_no_rule_allows()
-    ensures barred { (asks : Who → Bool) (restricted : Bool) (media : List (List ℕ)) (now : ℕ) (rules : List Rule) → is_some (barred_by asks restricted media now rules) ≡ is_barred asks restricted media now rules }
-    ensures least { (asks : Who → Bool) (restricted : Bool) (media : List (List ℕ)) (now : ℕ) (rules : List Rule) → IfSome (barred_by asks restricted media now rules) (IsLeast (rule_holds asks restricted media now arrival) rules) }
+    ensures barred { (k : Circumstances) (rules : List Rule) → is_some (barred_by k rules) ≡ is_barred k rules }
+    ensures least { (k : Circumstances) (rules : List Rule) → IfSome (barred_by k rules) (IsLeast (rule_holds k arrival) rules) }
 {}
 
 /// A rule that holds as the call arrives and allows it lets it through, wherever it stands among the rules.
 pub fn allowing_rule_wins()
-    ensures through { (asks : Who → Bool) (restricted : Bool) (media : List (List ℕ)) (now : ℕ) (front back : List Rule) (r : Rule) → allows r.action ≡ true → rule_holds asks restricted media now arrival r ≡ true → barred_by asks restricted media now (front ++ r ∷ back) ≡ None }
+    ensures through { (k : Circumstances) (front back : List Rule) (r : Rule) → allows r.action ≡ true → rule_holds k arrival r ≡ true → barred_by k (front ++ r ∷ back) ≡ None }
 {}
 
 /// Whether a call is barred does not depend on the order of the rules.
 pub fn order_of_rules_bars_alike()
-    ensures same { (asks : Who → Bool) (restricted : Bool) (media : List (List ℕ)) (now : ℕ) (rules other : List Rule) → IsPermutation rules other → is_some (barred_by asks restricted media now rules) ≡ is_some (barred_by asks restricted media now other) }
+    ensures same { (k : Circumstances) (rules other : List Rule) → IsPermutation rules other → is_some (barred_by k rules) ≡ is_some (barred_by k other) }
 {}
 
 /// A condition holds at no moment outside its window: none at its end or past it, and none before its beginning.
 pub fn window_is_kept()
-    ensures passed { (asks : Who → Bool) (restricted : Bool) (media : List (List ℕ)) (now : ℕ) (when : When) (c : Condition) (w : Window) → c.window ≡ Some w → w.until ≤ℤ pos now → condition_holds asks restricted media now when c ≡ false }
-    ensures to_come { (asks : Who → Bool) (restricted : Bool) (media : List (List ℕ)) (now : ℕ) (when : When) (c : Condition) (w : Window) → c.window ≡ Some w → pos now <ℤ w.from → condition_holds asks restricted media now when c ≡ false }
+    ensures passed { (k : Circumstances) (when : When) (c : Condition) (w : Window) → c.window ≡ Some w → w.until ≤ℤ pos k.now → condition_holds k when c ≡ false }
+    ensures to_come { (k : Circumstances) (when : When) (c : Condition) (w : Window) → c.window ≡ Some w → pos k.now <ℤ w.from → condition_holds k when c ≡ false }
 {}
 
 /// A condition on users who are not registered never bars a call, whoever makes it.
 pub fn not_registered_bars_nobody()
-    ensures never { (asks : Who → Bool) (restricted : Bool) (media : List (List ℕ)) (now : ℕ) (c : Condition) → c.event ≡ Some NotRegistered → condition_holds asks restricted media now arrival c ≡ false }
+    ensures never { (k : Circumstances) (c : Condition) → c.event ≡ Some NotRegistered → condition_holds k arrival c ≡ false }
 {}

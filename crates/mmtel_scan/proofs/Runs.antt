@@ -162,3 +162,35 @@ all_front k [] b each = refl
 all_front k (c ∷ a) b each =
     let both = and_true (in_class k c) (list_all (in_class k) (a ++ b)) each in
     rw (both.0, all_front k a b both.1) refl
+
+-- a front passes that ends before the first that does not
+pub prefix_each : {A : Type 0} (p : A → Bool) (r : List A) → list_all p (take (prefix_len p r) r) ≡ true
+prefix_each p [] = refl
+prefix_each p (c ∷ r) =
+    let one : 1 + prefix_len p r ≡ suc (prefix_len p r) = omega arith in
+    elim (cases_Bool (p c)) [
+      | inl y ↦ rw (y, one, y) (prefix_each p r)
+      | inr n ↦ rw n refl
+    ]
+
+-- what stands before the first such byte has none
+pub parted_front : (b : ℕ) (s : List ℕ) (x : List ℕ × List ℕ) → parted b s ≡ Some x → IsFree b x.0
+unfolding parted
+parted_front b s x e =
+    elim (cases_Bool (nat_lt (prefix_len (λ y. not (y == b)) s) (length s))) [
+      | inl y ↦ subst (λ (z : List ℕ × List ℕ). IsFree b z.0) (done_is _ x (rw y at e)) (prefix_each (λ y. not (y == b)) s)
+      | inr m ↦ absurd (let f = rw m at e in cc)
+    ]
+
+-- a text of a class has none of a byte that is not of it
+pub class_free : (k : Class) (b : ℕ) → in_class k b ≡ false → (s : List ℕ) → IsAll k s → IsFree b s
+class_free k b out [] each = refl
+class_free k b out (c ∷ s) each =
+    let both = and_true (in_class k c) (list_all (in_class k) s) each in
+    elim (cases_Bool (c == b)) [
+      | inl y ↦
+          let same : c ≡ b = grind (arith, nat_tests, y) in
+          let here : in_class k b ≡ true = subst (λ (x : ℕ). in_class k x ≡ true) same both.0 in
+          absurd cc
+      | inr n ↦ rw (n, class_free k b out s both.1) refl
+    ]

@@ -1,5 +1,5 @@
--- Numbers in decimal digits, which may begin with zeros (RFC 3261 §25.1: 1*DIGIT).
-use Rattle.std.specs.Prelude.{◌≡◌, Option, Some, None, ◌==◌, if◌then◌else◌, ℕ, nat_lt, ◌+◌, ◌-◌, ◌^◌, min, List, ◌∷◌, ◌++◌, length, decimal}
+-- Numbers in decimal digits: those of SIP may begin with zeros (RFC 3261 §25.1: 1*DIGIT), those of this project's own formats may not.
+use Rattle.std.specs.Prelude.{◌≡◌, Bool, false, [], Option, Some, None, ◌==◌, if◌then◌else◌, ℕ, nat_lt, ◌+◌, ◌-◌, ◌^◌, min, List, ◌∷◌, ◌++◌, length, decimal}
 use Rattle.std.specs.List.{list_all}
 use Rattle.std.specs.Str.Parse.{digits_value}
 use Rattle.mmtel_scan.specs.Classes.{in_class, IsOneOrMore}
@@ -17,6 +17,16 @@ number_of limit s = if length s == 0 then None else if list_all (in_class Digit)
 pub record Writes (s : List ℕ) (n : ℕ) : Type 0 where
   pub digits : IsOneOrMore Digit s
   pub worth : digits_value 10 s ≡ n
+
+-- a zero comes first and is not alone
+abbrev pub leads_zero : List ℕ → Bool
+leads_zero [] = false
+leads_zero (b ∷ []) = false
+leads_zero (b ∷ c ∷ s) = b == 48
+
+-- the number, of at most the limit, that these decimal digits without leading zeros write
+abbrev pub plain_number : ℕ → List ℕ → Option ℕ
+plain_number limit s = if leads_zero s then None else number_of limit s
 
 -- the value of a tag, branch or Call-ID that is made of a token and a number: the token, a '-' and the number (RFC 3261 §19.3, §8.1.1.7, §8.1.1.4)
 abbrev pub token_text : List ℕ → ℕ → List ℕ

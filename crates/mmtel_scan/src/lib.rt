@@ -11,6 +11,6 @@ mod texts;
 pub use classes::{Class, is_all};
 pub use lists::List;
 pub use memory::NoMemory;
-pub use numbers::{number_up_to, token_text};
+pub use numbers::{add_number, leads_zero, number_up_to, plain_number, token_text};
 pub use scanning::{closing, part, skip_byte, skip_text, split_run, trim, trim_end};
-pub use texts::Text;
+pub use texts::{Text, texts_copied};

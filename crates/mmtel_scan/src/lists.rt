@@ -131,6 +131,50 @@ impl<T> List<T> {
         }
     }
 
+    /// Takes the first item off; None exactly where there is none.
+    pub fn pop_first(&mut self) -> Option<T>
+        ensures items { self.old ≡ option_to_list result ++ self.new }
+        ensures empty { IsNone result ↔ (self.old ≡ []) }
+    {
+        if self.items().is_empty() {
+            return None;
+        }
+        Some(self.remove(0))
+    }
+
+    /// Moves the items of another list to the end, in order.
+    ///
+    /// # Errors
+    ///
+    /// Want of memory alone; the other list is handed back, and this one is as before.
+    pub fn extend(&mut self, alloc: Global, other: List<T>) -> Result<(), (List<T>, NoMemory)>
+        ensures ok { OnOk result (self.new ≡ self.old ++ other) }
+        ensures err { OnErr result (self.new ≡ self.old) }
+        ensures handed_back { IfErr result (λ refused. refused.0 ≡ other) }
+    {
+        let List { kept: more } = other;
+        let mut more = match more {
+            Some(more) => more,
+            None => return Ok(()),
+        };
+        let mut kept = match self.kept.take() {
+            Some(kept) => kept,
+            None => Vec::new(alloc),
+        };
+        let moved = match kept.append(&mut more) {
+            Ok(()) => {
+                more.destroy_empty();
+                Ok(())
+            }
+            Err(_) => Err((List { kept: Some(more) }, NoMemory)),
+        };
+        match self.kept.replace(kept) {
+            Some(_) => unreachable!(),
+            None => {}
+        }
+        moved
+    }
+
     /// Gives up a list that is empty, whatever its items are.
     pub fn destroy_empty(self)
         requires { self ≡ [] }

@@ -1,8 +1,8 @@
 //! Numbers in decimal digits.
-ghost use Rattle.std.specs.Prelude.{◌≡◌, ◌≤◌, IfOk, IfSome};
+ghost use Rattle.std.specs.Prelude.{◌≡◌, ◌≤◌, ◌++◌, ℕ, IfOk, IfSome, OnErr, OnOk, Some, decimal};
 ghost use Rattle.mmtel_scan.specs.Classes.{IsAll};
 ghost use Rattle.mmtel_scan.specs.declared.classes.Class.TheVariants.{Digit};
-ghost use Rattle.mmtel_scan.specs.Numbers.{within, number_of, token_text};
+ghost use Rattle.mmtel_scan.specs.Numbers.{leads_zero, number_of, plain_number, token_text, within};
 
 use crate::classes::{Class, is_all};
 use crate::memory::NoMemory;
@@ -41,6 +41,43 @@ pub fn number_up_to(limit: u64, bytes: &[u8]) -> Option<u64>
         return None;
     }
     worth_up_to(limit, bytes)
+}
+
+/// Whether a zero comes first and is not alone.
+pub fn leads_zero(digits: &[u8]) -> bool
+    ensures test { result ≡ leads_zero digits.now }
+{
+    match digits {
+        [first, _, ..] => *first == b'0',
+        _ => false,
+    }
+}
+
+/// The number, of at most the limit, that the decimal digits write; None where they lead with a zero or are no such digits.
+pub fn plain_number(limit: u64, digits: &[u8]) -> Option<u64>
+    ensures value { result ≡ plain_number limit digits.now }
+    ensures at_most { IfSome result (λ n. n ≤ limit) }
+    // The digits of each such number, as it is printed, are read, and no others.
+    ensures spelled { IfSome result (λ n. digits.now ≡ decimal n) }
+    ensures reads { (n : ℕ) → n ≤ limit → digits.now ≡ decimal n → result ≡ Some n }
+{
+    if leads_zero(digits) {
+        return None;
+    }
+    number_up_to(limit, digits)
+}
+
+/// Adds the decimal digits of a number, without leading zeros.
+///
+/// # Errors
+///
+/// Want of memory alone; the text is then as before.
+pub fn add_number(alloc: Global, out: &mut Text, number: u64) -> Result<(), NoMemory>
+    ensures added { OnOk result (out.new ≡ out.old ++ decimal number) }
+    ensures refused { OnErr result (out.new ≡ out.old) }
+{
+    let digits = number.to_string(alloc)?;
+    out.push(alloc, digits.as_bytes())
 }
 
 /// The value of a tag, branch or Call-ID that a token and a number make: `TOKEN-n` (RFC 3261 §19.3, §8.1.1.7, §8.1.1.4).

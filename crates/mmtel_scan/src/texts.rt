@@ -1,6 +1,7 @@
 //! Texts: lists of bytes.
 ghost use Rattle.std.specs.Prelude.{◌≡◌, List, [], ◌++◌, IfOk, OnOk, OnErr, ℕ};
 
+use crate::lists::List;
 use crate::memory::NoMemory;
 use std::alloc::Global;
 use std::marker::Model;
@@ -71,4 +72,31 @@ impl Text {
             None => &[],
         }
     }
+
+    /// The same text.
+    ///
+    /// # Errors
+    ///
+    /// Want of memory alone.
+    pub fn copied(&self, alloc: Global) -> Result<Text, NoMemory>
+        ensures copy { IfOk result (λ text. text ≡ self.now) }
+    {
+        Text::of(alloc, self.bytes())
+    }
+}
+
+/// The same texts, in order.
+///
+/// # Errors
+///
+/// Want of memory alone.
+pub fn texts_copied(alloc: Global, texts: &[Text]) -> Result<List<Text>, NoMemory>
+    ensures copy { IfOk result (λ list. list ≡ texts.now) }
+{
+    let mut copy = List::new();
+    for text in texts {
+        let text = text.copied(alloc)?;
+        copy.push(alloc, text)?;
+    }
+    Ok(copy)
 }

@@ -1,4 +1,4 @@
+pub mod HexLaws
 pub mod Pieces
 pub mod ReadBackLaws
 pub mod TellingLaws
-pub mod WholeLaws

@@ -7,15 +7,15 @@ use Rattle.std.proofs.lemmas.List.{take-append-drop}
 use Rattle.std.proofs.lemmas.Bool.{cases_Bool}
 use Rattle.std.proofs.lemmas.Bool.Decides.{nat_tests}
 use Rattle.std.proofs.lemmas.Slice.Eq.{bytes_eq-Decides}
-use Rattle.mmtel_scan.specs.Chain.{◌>>=◌}
-use Rattle.mmtel_scan.specs.Scanning.{parted, IsFree}
+use Rattle.mmtel_scan.specs.Scanning.{IsFree}
 use Rattle.mmtel_scan.proofs.ChainLaws.{guard_some}
-use Rattle.mmtel_scan.proofs.Runs.{and_true, parted_takes}
+use Rattle.mmtel_scan.proofs.Runs.{and_true}
 use Rattle.mmtel_trust.specs.declared.parties.KnownPeer.{KnownPeer}
 use Rattle.mmtel_directory.specs.Lines.{lines_of}
 use Rattle.mmtel_script.specs.Listing.{cut, pieces_of, before_crlf, is_plain, hex_digit, hex_pair, hex_line, line_before, piece_line, data_lines}
-use Rattle.mmtel_script.specs.Script.{begins, event_line, line_of}
-use Rattle.mmtel_script.specs.ScriptGrammar.{Form, piece, hex_value, hex_bytes, form_of}
+use Rattle.mmtel_script.specs.Script.{hex_value, hex_bytes, line_of}
+use Rattle.mmtel_script.specs.declared.script_lines.ScriptLine.{ScriptLine}
+use Rattle.mmtel_script.specs.declared.script_lines.ScriptLine.TheVariants.{Data}
 use Rattle.mmtel_script.specs.ReadBack.{AreBytes, ReadsBack}
 use Rattle.mmtel_directory.proofs.LineLaws.{lines_at}
 
@@ -118,37 +118,13 @@ plain_free (b ∷ s) all =
     let other : not (b == 10) ≡ true = grind (arith, nat_tests) in
     rw (other, plain_free s both.1) refl
 
--- ---- a line that does not begin with `a` begins no event
-
-front_is : (b : ℕ) (s f r : List ℕ) → (b == 97) ≡ false → b ∷ s ≡ f ++ 32 ∷ r → bytes_eq f (codes "at") ≡ false
-front_is b s [] r other whole = refl
-front_is b s (c ∷ f) r other whole =
-    let same : c ≡ b = cc in
-    rw (same, other) refl
-
-after_other : (known : List KnownPeer) (test : Bool) (m : List ℕ) (p : Option (List ℕ × List ℕ)) → test ≡ false → (p >>= λ x. cond (test && bytes_eq x.0 (codes "peer")) (begins known m x.1) None) ≡ None
-after_other known test m None off = refl
-after_other known true m (Some x) off = absurd cc
-after_other known false m (Some x) off = refl
-
-behind_other : (known : List KnownPeer) (test : Bool) (m : Option (List ℕ × List ℕ)) → test ≡ false → (m >>= λ x. parted 32 x.1 >>= λ p. cond (test && bytes_eq p.0 (codes "peer")) (begins known x.0 p.1) None) ≡ None
-behind_other known test None off = refl
-behind_other known test (Some x) off = after_other known test x.0 (parted 32 x.1) off
-
-no_event_by : (known : List KnownPeer) (b : ℕ) (s : List ℕ) (a : Option (List ℕ × List ℕ)) → (b == 97) ≡ false → parted 32 (b ∷ s) ≡ a → (a >>= λ x. parted 32 x.1 >>= λ m. parted 32 m.1 >>= λ p. cond (bytes_eq x.0 (codes "at") && bytes_eq p.0 (codes "peer")) (begins known m.0 p.1) None) ≡ None
-no_event_by known b s None other e = refl
-no_event_by known b s (Some x) other e = behind_other known (bytes_eq x.0 (codes "at")) (parted 32 x.1) (front_is b s x.0 x.1 other (parted_takes 32 (b ∷ s) x e))
-
-no_event : (known : List KnownPeer) (b : ℕ) (s : List ℕ) → (b == 97) ≡ false → event_line known (b ∷ s) ≡ None
-no_event known b s other = no_event_by known b s (parted 32 (b ∷ s)) other refl
-
 -- ---- the line of a piece
 
 record Lists (known : List KnownPeer) (p text : List ℕ) : Type 0 where
   line : List ℕ
   whole : text ≡ line ++ 10 ∷ []
   free : IsFree 10 line
-  form : form_of known line ≡ Some (piece p)
+  form : line_of known line ≡ Some (Data p)
 
 by_digits : (known : List KnownPeer) (p : List ℕ) → AreBytes p → Lists known p (hex_line p)
 unfolding line_of
@@ -156,7 +132,7 @@ by_digits known p all = record {
   line = 120 ∷ flat_map hex_pair p;
   whole = refl;
   free = digits_free p;
-  form = rw (no_event known 120 (flat_map hex_pair p) refl, decoded p all) refl;
+  form = rw (decoded p all) refl;
 }
 
 ended : (known : List KnownPeer) (p bytes : List ℕ) → list_all is_plain bytes ≡ true → bytes ++ codes "\r\n" ≡ p → Lists known p (codes "|" ++ bytes ++ codes "\n")
@@ -165,7 +141,7 @@ ended known p bytes plain e = record {
   line = 124 ∷ bytes;
   whole = refl;
   free = plain_free bytes plain;
-  form = ap (λ (q : List ℕ). Some (piece q)) e;
+  form = ap (λ (q : List ℕ). Some (Data q)) e;
 }
 
 open_ended : (known : List KnownPeer) (p : List ℕ) → list_all is_plain p ≡ true → Lists known p (codes "+" ++ p ++ codes "\n")
@@ -174,7 +150,7 @@ open_ended known p plain = record {
   line = 43 ∷ p;
   whole = refl;
   free = plain_free p plain;
-  form = rw (no_event known 43 p refl) refl;
+  form = refl;
 }
 
 before_whole : (p bytes : List ℕ) → before_crlf p ≡ Some bytes → bytes ++ codes "\r\n" ≡ p
@@ -198,17 +174,17 @@ lists_by known p None all e =
 
 -- ---- all pieces
 
-abbrev forms_of : List KnownPeer → List (List ℕ) → List (Option Form)
-forms_of known lines = map (λ line. form_of known line) lines
+abbrev forms_of : List KnownPeer → List (List ℕ) → List (Option ScriptLine)
+forms_of known lines = map (λ line. line_of known line) lines
 
-listed : (known : List KnownPeer) (ps : List (List ℕ)) → AreAllBytes ps → forms_of known (lines_of (flat_map piece_line ps)) ≡ map (λ p. Some (piece p)) ps
+listed : (known : List KnownPeer) (ps : List (List ℕ)) → AreAllBytes ps → forms_of known (lines_of (flat_map piece_line ps)) ≡ map (λ p. Some (Data p)) ps
 listed known [] all = refl
 listed known (p ∷ ps) all =
     let both = and_true (list_all is_byte p) (list_all (λ q. list_all is_byte q) ps) all in
     let first = lists_by known p (before_crlf p) both.0 refl in
     let rest : List ℕ = flat_map piece_line ps in
     let lines : lines_of (piece_line p ++ rest) ≡ first.line ∷ lines_of rest = ap (λ (t : List ℕ). lines_of (t ++ rest)) first.whole ∙ ap lines_of (append_assoc first.line (10 ∷ []) rest) ∙ lines_at first.line rest first.free in
-    ap (forms_of known) lines ∙ ap (λ (f : Option Form). f ∷ forms_of known (lines_of rest)) first.form ∙ ap (λ (fs : List (Option Form)). Some (piece p) ∷ fs) (listed known ps both.1)
+    ap (forms_of known) lines ∙ ap (λ (f : Option ScriptLine). f ∷ forms_of known (lines_of rest)) first.form ∙ ap (λ (fs : List (Option ScriptLine)). Some (Data p) ∷ fs) (listed known ps both.1)
 
 pub reads_back : (known : List KnownPeer) (bytes : List ℕ) → AreBytes bytes → ReadsBack known bytes
 reads_back known bytes all = record {
@@ -219,16 +195,16 @@ reads_back known bytes all = record {
 
 -- ---- and so tells bytes apart
 
-same_pieces : (ps qs : List (List ℕ)) → map (λ p. Some (piece p)) ps ≡ map (λ p. Some (piece p)) qs → ps ≡ qs
+same_pieces : (ps qs : List (List ℕ)) → map (λ p. Some (Data p)) ps ≡ map (λ p. Some (Data p)) qs → ps ≡ qs
 same_pieces [] [] e = refl
 same_pieces [] (q ∷ qs) e = absurd cc
 same_pieces (p ∷ ps) [] e = absurd cc
 same_pieces (p ∷ ps) (q ∷ qs) e =
-    let tails : map (λ r. Some (piece r)) ps ≡ map (λ r. Some (piece r)) qs = cc in
+    let tails : map (λ r. Some (Data r)) ps ≡ map (λ r. Some (Data r)) qs = cc in
     let more : ps ≡ qs = same_pieces ps qs tails in
     cc
 
 pub told_apart : (a b : List ℕ) → AreBytes a → AreBytes b → data_lines a ≡ data_lines b → a ≡ b
 told_apart a b all others e =
-    let forms : map (λ p. Some (piece p)) (pieces_of a) ≡ map (λ p. Some (piece p)) (pieces_of b) = sym (listed [] (pieces_of a) (pieces_bytes false a all)) ∙ ap (λ (t : List ℕ). forms_of [] (lines_of t)) e ∙ listed [] (pieces_of b) (pieces_bytes false b others) in
+    let forms : map (λ p. Some (Data p)) (pieces_of a) ≡ map (λ p. Some (Data p)) (pieces_of b) = sym (listed [] (pieces_of a) (pieces_bytes false a all)) ∙ ap (λ (t : List ℕ). forms_of [] (lines_of t)) e ∙ listed [] (pieces_of b) (pieces_bytes false b others) in
     sym (joined false a) ∙ ap (λ (ps : List (List ℕ)). flat_map (λ p. p) ps) (same_pieces (pieces_of a) (pieces_of b) forms) ∙ joined false b

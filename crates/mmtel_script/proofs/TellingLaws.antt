@@ -1,85 +1,95 @@
 -- What is told line by line is the events that the lines say.
-use Rattle.std.proofs.Common.{◌≡◌, ◌||◌, Bool, true, false, cond, ℕ, ◌+◌, List, [], ◌∷◌, ◌++◌, Option, Some, None, Ok, refl, ap, sym, ◌∙◌, append_assoc}
-use Rattle.std.specs.List.{list_any}
+use Rattle.std.proofs.Common.{◌≡◌, Bool, true, false, cond, ℕ, ◌+◌, List, [], ◌∷◌, ◌++◌, Option, Some, None, Result, Ok, Err, refl, ap, sym, subst, ◌∙◌, append_assoc}
 use Rattle.std.proofs.lemmas.List.{append-nil}
-use Rattle.std.proofs.lemmas.List.Folds.{list_any-append}
 use Rattle.mmtel_scan.specs.Chain.{◌>>=◌}
 use Rattle.mmtel_trust.specs.declared.parties.KnownPeer.{KnownPeer}
 use Rattle.mmtel_outside.specs.declared.events.Event.{Event}
-use Rattle.mmtel_outside.specs.declared.events.Event.TheVariants.{Datagram}
+use Rattle.mmtel_outside.specs.declared.events.Event.TheVariants.{Datagram, Web, Quiet}
 use Rattle.mmtel_script.specs.declared.script_lines.ScriptLine.{ScriptLine}
 use Rattle.mmtel_script.specs.declared.script_lines.ScriptLine.TheVariants.{Remark, Begins, Data}
-use Rattle.mmtel_script.specs.declared.scripts.Opened.{Opened}
-use Rattle.mmtel_script.specs.declared.scripts.Telling.{Telling}
+use Rattle.mmtel_script.specs.declared.scripts.ScriptFault.{ScriptFault}
+use Rattle.mmtel_script.specs.declared.scripts.ScriptFault.TheVariants as fault
+use Rattle.mmtel_script.specs.declared.tellings.Telling.{Telling}
 use Rattle.mmtel_directory.specs.Lines.{lines_of, and_then, said_by}
-use Rattle.mmtel_script.specs.Script.{line_of, is_event, stands, next_said, data_of, events_in, events_from, events_of}
-use Rattle.mmtel_script.specs.Tellings.{nothing_told, event_of, closed, all_told, with_line, telling}
+use Rattle.mmtel_script.specs.Script.{Answers, line_of, holds_bytes, takes_bytes, stands, next_said, data_of, with_bytes, events_in, events_from, events_of}
+use Rattle.mmtel_script.specs.Tellings.{Reads, nothing_told, closed, all_told, with_line, telling}
 
 -- ---- what is told, and lines that follow
 
-abbrev with_open : Option Opened → List ScriptLine → List Event
-with_open None more = events_in more
-with_open (Some o) more = Datagram o.from o.at (o.bytes ++ data_of more) ∷ events_in more
+abbrev with_last : Option Event → List ScriptLine → List Event
+with_last None more = events_in more
+with_last (Some event) more = with_bytes event (data_of more) ∷ events_in more
 
 -- the events that are told, when these lines follow
 abbrev with_more : Telling → List ScriptLine → List Event
-with_more told more = told.events ++ with_open told.opened more
+with_more told more = told.events ++ with_last told.last more
 
-abbrev is_open : Option Opened → Bool
+abbrev is_open : Option Event → Bool
 is_open None = false
-is_open (Some o) = true
+is_open (Some event) = holds_bytes event
 
 -- what is told is what these lines say
 record Tells (told : Telling) (said : List ScriptLine) : Type 0 where
-  open_event : is_open told.opened ≡ list_any is_event said
+  open_event : is_open told.last ≡ takes_bytes false said
   same : (more : List ScriptLine) → with_more told more ≡ events_in (said ++ more)
 
-ends : (events : List Event) (opened : Option Opened) → events ++ with_open opened [] ≡ closed events opened
-ends events None = append-nil events
-ends events (Some o) = ap (λ (b : List ℕ). events ++ Datagram o.from o.at b ∷ []) (append-nil o.bytes)
+-- ---- events and their bytes
 
-starts : (events : List Event) (opened : Option Opened) (more : List Event) (event : Event) (from : _) (at : ℕ) (lines : List ScriptLine) → event ∷ more ≡ events_in (Begins from at ∷ lines) → closed events opened ++ event ∷ more ≡ events ++ with_open opened (Begins from at ∷ lines)
-starts events None more event from at lines e = ap (λ (l : List Event). events ++ l) e
-starts events (Some o) more event from at lines e =
-    rw (append_assoc, append-nil o.bytes) (ap (λ (l : List Event). events ++ event_of o ∷ l) e)
+with_nothing : (event : Event) → with_bytes event [] ≡ event
+with_nothing (Datagram from at bytes) = ap (λ (b : List ℕ). Datagram from at b) (append-nil bytes)
+with_nothing (Web at bytes) = ap (λ (b : List ℕ). Web at b) (append-nil bytes)
+with_nothing (Quiet at) = refl
+
+with_twice : (event : Event) (a b : List ℕ) → with_bytes (with_bytes event a) b ≡ with_bytes event (a ++ b)
+with_twice (Datagram from at bytes) a b = ap (λ (t : List ℕ). Datagram from at t) (append_assoc bytes a b)
+with_twice (Web at bytes) a b = ap (λ (t : List ℕ). Web at t) (append_assoc bytes a b)
+with_twice (Quiet at) a b = refl
+
+holds_still : (event : Event) (bytes : List ℕ) → holds_bytes (with_bytes event bytes) ≡ holds_bytes event
+holds_still (Datagram from at told) bytes = refl
+holds_still (Web at told) bytes = refl
+holds_still (Quiet at) bytes = refl
+
+ends : (events : List Event) (last : Option Event) → events ++ with_last last [] ≡ closed events last
+ends events None = append-nil events
+ends events (Some event) = ap (λ (e : Event). events ++ e ∷ []) (with_nothing event)
+
+starts : (events : List Event) (last : Option Event) (event : Event) (lines : List ScriptLine) → closed events last ++ events_in (Begins event ∷ lines) ≡ events ++ with_last last (Begins event ∷ lines)
+starts events None event lines = refl
+starts events (Some before) event lines =
+    append_assoc events (before ∷ []) (events_in (Begins event ∷ lines)) ∙ ap (λ (e : Event). events ++ e ∷ events_in (Begins event ∷ lines)) (sym (with_nothing before))
 
 -- ---- one line more
 
 said_more : (said : List ScriptLine) (l : ScriptLine) (more : List ScriptLine) → (said ++ l ∷ []) ++ more ≡ said ++ l ∷ more
 said_more said l more = append_assoc said (l ∷ []) more
 
-or_false : (b : Bool) → (b || false) ≡ b
-or_false true = refl
-or_false false = refl
+takes_more : (above : Bool) (said more : List ScriptLine) → takes_bytes above (said ++ more) ≡ takes_bytes (takes_bytes above said) more
+takes_more above [] more = refl
+takes_more above (Remark ∷ said) more = takes_more above said more
+takes_more above (Begins event ∷ said) more = takes_more (holds_bytes event) said more
+takes_more above (Data bytes ∷ said) more = takes_more above said more
 
-or_true : (b : Bool) → (b || true) ≡ true
-or_true true = refl
-or_true false = refl
-
--- an event is there still
-kept : (said : List ScriptLine) (l : ScriptLine) → is_event l ≡ false → list_any is_event said ≡ list_any is_event (said ++ l ∷ [])
-kept said l none = sym (list_any-append is_event said (l ∷ []) ∙ rw none (or_false (list_any is_event said)))
-
-unmoved : (opened : Option Opened) (more : List ScriptLine) → with_open opened more ≡ with_open opened (Remark ∷ more)
+unmoved : (last : Option Event) (more : List ScriptLine) → with_last last more ≡ with_last last (Remark ∷ more)
 unmoved None more = refl
-unmoved (Some o) more = refl
+unmoved (Some event) more = refl
 
 remark : (told : Telling) (said : List ScriptLine) → Tells told said → Tells told (said ++ Remark ∷ [])
 remark told said is = record {
-  open_event = is.open_event ∙ kept said Remark refl;
-  same = λ more. ap (λ (l : List Event). told.events ++ l) (unmoved told.opened more) ∙ is.same (Remark ∷ more) ∙ ap events_in (sym (said_more said Remark more));
+  open_event = is.open_event ∙ sym (takes_more false said (Remark ∷ []));
+  same = λ more. ap (λ (l : List Event). told.events ++ l) (unmoved told.last more) ∙ is.same (Remark ∷ more) ∙ ap events_in (sym (said_more said Remark more));
 }
 
-begun : (told : Telling) (said : List ScriptLine) (from : _) (at : ℕ) → Tells told said → Tells (record { events = all_told told; opened = Some (record { from = from; at = at; bytes = [] }) }) (said ++ Begins from at ∷ [])
-begun told said from at is = record {
-  open_event = sym (list_any-append is_event said (Begins from at ∷ []) ∙ or_true (list_any is_event said));
-  same = λ more. starts told.events told.opened (events_in more) (Datagram from at (data_of more)) from at more refl ∙ is.same (Begins from at ∷ more) ∙ ap events_in (sym (said_more said (Begins from at) more));
+begun : (told : Telling) (said : List ScriptLine) (event : Event) → Tells told said → Tells (record { events = all_told told; last = Some event }) (said ++ Begins event ∷ [])
+begun told said event is = record {
+  open_event = sym (takes_more false said (Begins event ∷ []));
+  same = λ more. starts told.events told.last event more ∙ is.same (Begins event ∷ more) ∙ ap events_in (sym (said_more said (Begins event) more));
 }
 
-data_added : (events : List Event) (o : Opened) (said : List ScriptLine) (bytes : List ℕ) → Tells (record { events = events; opened = Some o }) said → Tells (record { events = events; opened = Some (record o { bytes = o.bytes ++ bytes }) }) (said ++ Data bytes ∷ [])
-data_added events o said bytes is = record {
-  open_event = is.open_event ∙ kept said (Data bytes) refl;
-  same = λ more. ap (λ (b : List ℕ). events ++ Datagram o.from o.at b ∷ events_in more) (append_assoc o.bytes bytes (data_of more)) ∙ is.same (Data bytes ∷ more) ∙ ap events_in (sym (said_more said (Data bytes) more));
+data_added : (events : List Event) (event : Event) (said : List ScriptLine) (bytes : List ℕ) → Tells (record { events = events; last = Some event }) said → Tells (record { events = events; last = Some (with_bytes event bytes) }) (said ++ Data bytes ∷ [])
+data_added events event said bytes is = record {
+  open_event = holds_still event bytes ∙ is.open_event ∙ sym (takes_more false said (Data bytes ∷ []));
+  same = λ more. ap (λ (e : Event). events ++ e ∷ events_in more) (with_twice event bytes (data_of more)) ∙ is.same (Data bytes ∷ more) ∙ ap events_in (sym (said_more said (Data bytes) more));
 }
 
 -- ---- all lines
@@ -92,14 +102,16 @@ abbrev Same : List KnownPeer → ℕ → List (List ℕ) → Telling → List Sc
 Same known number texts told said l =
     and_then number (with_line told l) (λ next. telling known (number + 1) next texts) ≡ events_from (and_then number (cond (stands said l) (Some l) None) (λ next. said_by (next_said known) (number + 1) (said ++ next ∷ []) texts))
 
-over_data : (known : List KnownPeer) (number : ℕ) (texts : List (List ℕ)) (events : List Event) (opened : Option Opened) (said : List ScriptLine) (bytes : List ℕ) → Tells (record { events = events; opened = opened }) said → Goes known (number + 1) texts → Same known number texts (record { events = events; opened = opened }) said (Data bytes)
+over_data : (known : List KnownPeer) (number : ℕ) (texts : List (List ℕ)) (events : List Event) (last : Option Event) (said : List ScriptLine) (bytes : List ℕ) → Tells (record { events = events; last = last }) said → Goes known (number + 1) texts → Same known number texts (record { events = events; last = last }) said (Data bytes)
 over_data known number texts events None said bytes is goes = rw (sym is.open_event) refl
-over_data known number texts events (Some o) said bytes is goes = rw (sym is.open_event) (goes _ (said ++ Data bytes ∷ []) (data_added events o said bytes is))
+over_data known number texts events (Some (Datagram from at before)) said bytes is goes = rw (sym is.open_event) (goes _ (said ++ Data bytes ∷ []) (data_added events (Datagram from at before) said bytes is))
+over_data known number texts events (Some (Web at before)) said bytes is goes = rw (sym is.open_event) (goes _ (said ++ Data bytes ∷ []) (data_added events (Web at before) said bytes is))
+over_data known number texts events (Some (Quiet at)) said bytes is goes = rw (sym is.open_event) refl
 
 over_line : (known : List KnownPeer) (number : ℕ) (texts : List (List ℕ)) (told : Telling) (said : List ScriptLine) (l : ScriptLine) → Tells told said → Goes known (number + 1) texts → Same known number texts told said l
 over_line known number texts told said Remark is goes = goes told (said ++ Remark ∷ []) (remark told said is)
-over_line known number texts told said (Begins from at) is goes = goes _ (said ++ Begins from at ∷ []) (begun told said from at is)
-over_line known number texts told said (Data bytes) is goes = over_data known number texts told.events told.opened said bytes is goes
+over_line known number texts told said (Begins event) is goes = goes _ (said ++ Begins event ∷ []) (begun told said event is)
+over_line known number texts told said (Data bytes) is goes = over_data known number texts told.events told.last said bytes is goes
 
 over_form : (known : List KnownPeer) (number : ℕ) (texts : List (List ℕ)) (told : Telling) (said : List ScriptLine) (read : Option ScriptLine) → Tells told said → Goes known (number + 1) texts →
     and_then number (read >>= λ l. with_line told l) (λ next. telling known (number + 1) next texts) ≡ events_from (and_then number (read >>= λ l. cond (stands said l) (Some l) None) (λ next. said_by (next_said known) (number + 1) (said ++ next ∷ []) texts))
@@ -108,7 +120,7 @@ over_form known number texts told said (Some l) is goes = over_line known number
 
 goes : (known : List KnownPeer) (number : ℕ) (texts : List (List ℕ)) → Goes known number texts
 goes known number [] told said is =
-    ap (λ (events : List Event). Ok events) (sym (ends told.events told.opened) ∙ is.same [] ∙ ap events_in (append-nil said))
+    ap (λ (events : List Event). Ok events) (sym (ends told.events told.last) ∙ is.same [] ∙ ap events_in (append-nil said))
 goes known number (text ∷ texts) told said is = over_form known number texts told said (line_of known text) is (λ t s i. goes known (number + 1) texts t s i)
 
 tells_nothing : Tells nothing_told []
@@ -118,3 +130,11 @@ tells_nothing = record { open_event = refl; same = λ more. refl }
 pub telling_is : (known : List KnownPeer) (text : List ℕ) → telling known 1 nothing_told (lines_of text) ≡ events_of known text
 unfolding events_of
 telling_is known text = goes known 1 (lines_of text) nothing_told [] tells_nothing
+
+-- what comes of a text whose lines were read
+pub answers_fault : (known : List KnownPeer) (text : List ℕ) (e : ScriptFault) (after : Telling) → Reads known (Err e) nothing_told (lines_of text) after → Answers (Err e) (events_of known text)
+answers_fault known text (fault.BadLine n) after is = sym (telling_is known text) ∙ is
+answers_fault known text fault.NoMemory after is = tt
+
+pub answers_finished : (known : List KnownPeer) (text : List ℕ) (after : Telling) (r : Result (List Event) ScriptFault) → telling known 1 nothing_told (lines_of text) ≡ Ok (all_told after) → Answers r (Ok (all_told after)) → Answers r (events_of known text)
+answers_finished known text after r is answer = subst (λ (due : Result (List Event) ℕ). Answers r due) (sym is ∙ telling_is known text) answer

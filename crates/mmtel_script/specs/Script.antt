@@ -1,56 +1,119 @@
--- Scripts: a format of this project's own. A text of lines: each event begins with a line that says when it comes and from which peer, and its bytes follow in data lines.
-use Rattle.std.specs.Prelude.{ℕ, Bool, true, false, ◌&&◌, ◌==◌, if◌then◌else◌, List, [], ◌∷◌, ◌++◌, codes, Option, Some, None, Result, Ok, Err, ◌≡◌}
-use Rattle.std.specs.List.{list_any}
+-- Scripts: a format of this project's own. A text of lines: each event begins with a line that says when it comes and what it is, and the bytes of a datagram or of a web request follow in data lines.
+use Rattle.std.specs.Prelude.{ℕ, Bool, true, false, nat_le, ◌&&◌, ◌==◌, ◌+◌, ◌-◌, ◌*◌, if◌then◌else◌, List, [], ◌∷◌, ◌++◌, codes, Option, Some, None, Result, Ok, Err, ◌≡◌}
 use Rattle.std.specs.Str.{bytes_eq}
 use Rattle.mmtel_scan.specs.Chain.{◌>>=◌}
+use Rattle.mmtel_scan.specs.Numbers.{plain_number}
 use Rattle.mmtel_scan.specs.Scanning.{parted}
 use Rattle.mmtel_types.specs.Moments.{last_moment}
 use Rattle.mmtel_trust.specs.declared.parties.KnownPeer.{KnownPeer}
 use Rattle.mmtel_trust.specs.Peers as peers
 use Rattle.mmtel_outside.specs.declared.events.Event.{Event}
-use Rattle.mmtel_outside.specs.declared.events.Event.TheVariants.{Datagram}
+use Rattle.mmtel_outside.specs.declared.events.Event.TheVariants.{Datagram, Web, Quiet}
+use Rattle.mmtel_directory.specs.Directory.{peer_of}
+use Rattle.mmtel_directory.specs.Lines.{lines_of, said_by}
 use Rattle.mmtel_script.specs.declared.scripts.ScriptFault.{ScriptFault}
 use Rattle.mmtel_script.specs.declared.scripts.ScriptFault.TheVariants.{BadLine, NoMemory}
 use Rattle.mmtel_script.specs.declared.script_lines.ScriptLine.{ScriptLine}
 use Rattle.mmtel_script.specs.declared.script_lines.ScriptLine.TheVariants.{Remark, Begins, Data}
-use Rattle.mmtel_directory.specs.Directory.{peer_of}
-use Rattle.mmtel_directory.specs.Lines.{lines_of, plain_number, said_by}
 
--- ---- the lines that are read
+-- ---- bytes in hexadecimal digits
 
--- `M` and `N` of `at M peer N`: a moment, and a peer of the configuration, whose number stands for its address
-abbrev pub begins : List KnownPeer → List ℕ → List ℕ → Option ScriptLine
-begins known moment number = do
-  at ← plain_number last_moment moment
-  peer ← peer_of number
+-- a digit of a hexadecimal number, in lower case
+abbrev pub hex_value : ℕ → Option ℕ
+hex_value b = if nat_le 48 b && nat_le b 57 then Some (b - 48) else if nat_le 97 b && nat_le b 102 then Some (b - 87) else None
+
+-- the byte that two digits write
+abbrev pub hex_byte : ℕ → ℕ → Option ℕ
+hex_byte high low = do
+  h ← hex_value high
+  l ← hex_value low
+  Some (h * 16 + l)
+
+-- the byte that the first two digits write, and what follows them
+abbrev pub leading_byte : List ℕ → Option (ℕ × List ℕ)
+leading_byte [] = None
+leading_byte (high ∷ []) = None
+leading_byte (high ∷ low ∷ s) = do
+  byte ← hex_byte high low
+  Some (byte, s)
+
+-- a byte before others
+abbrev pub with_first : ℕ → Option (List ℕ) → Option (List ℕ)
+with_first byte bytes = do
+  more ← bytes
+  Some (byte ∷ more)
+
+-- the bytes that pairs of digits write
+abbrev pub hex_bytes : List ℕ → Option (List ℕ)
+hex_bytes [] = Some []
+hex_bytes (high ∷ []) = None
+hex_bytes (high ∷ low ∷ s) = do
+  byte ← hex_byte high low
+  with_first byte (hex_bytes s)
+
+-- ---- lines
+
+-- `peer N`, a peer of the configuration, whose number stands for its address
+abbrev pub datagram_from : List KnownPeer → ℕ → List ℕ → Option Event
+datagram_from known at s = do
+  p ← parted 32 s
+  peer ← peer_of p.1
   from ← peers.addr_of peer known
-  Some (Begins from at)
+  if bytes_eq p.0 (codes "peer") then Some (Datagram from at []) else None
 
--- `at M peer N`
-abbrev pub event_line : List KnownPeer → List ℕ → Option ScriptLine
+-- `web`, `quiet` or `peer N`, behind the moment; the event has no bytes yet
+abbrev pub event_at : List KnownPeer → ℕ → List ℕ → Option Event
+event_at known at s = if bytes_eq s (codes "web") then Some (Web at []) else if bytes_eq s (codes "quiet") then Some (Quiet at) else datagram_from known at s
+
+-- `at M peer N`, `at M web` or `at M quiet`
+abbrev pub event_line : List KnownPeer → List ℕ → Option Event
 event_line known s = do
   a ← parted 32 s
   m ← parted 32 a.1
-  p ← parted 32 m.1
-  if bytes_eq a.0 (codes "at") && bytes_eq p.0 (codes "peer") then begins known m.0 p.1 else None
+  at ← plain_number last_moment m.0
+  if bytes_eq a.0 (codes "at") then event_at known at m.1 else None
 
--- what a line says, where it is of a form that is read: nothing, the beginning of an event, or `|` and bytes, which stand for these bytes and CRLF
+-- `x` and pairs of digits
+abbrev pub digits_line : List ℕ → Option ScriptLine
+digits_line s = do
+  bytes ← hex_bytes s
+  Some (Data bytes)
+
+abbrev pub beginning : List KnownPeer → List ℕ → Option ScriptLine
+beginning known s = do
+  event ← event_line known s
+  Some (Begins event)
+
+-- what a line says, where it is of a form of the grammar: nothing; bytes: `|` and bytes, which stand for these bytes and CRLF, `+` and bytes, or `x` and digits; or the beginning of an event
 unfoldable pub line_of : List KnownPeer → List ℕ → Option ScriptLine
 line_of known [] = Some Remark
-line_of known (b ∷ s) = if b == 35 then Some Remark else if b == 124 then Some (Data (s ++ codes "\r\n")) else event_line known (b ∷ s)
+line_of known (b ∷ s) =
+    if b == 35 then Some Remark
+    else if b == 124 then Some (Data (s ++ codes "\r\n"))
+    else if b == 43 then Some (Data s)
+    else if b == 120 then digits_line s
+    else beginning known (b ∷ s)
 
 -- ---- scripts
 
-abbrev pub is_event : ScriptLine → Bool
-is_event Remark = false
-is_event (Begins from at) = true
-is_event (Data bytes) = false
+-- whether the event has bytes
+abbrev pub holds_bytes : Event → Bool
+holds_bytes (Datagram from at bytes) = true
+holds_bytes (Web at bytes) = true
+holds_bytes (Quiet at) = false
 
--- whether a line may stand right behind these: data stands behind the beginning of an event
+-- whether the last event of these lines has bytes, and where they begin none, whether the one above them has
+abbrev pub takes_bytes : Bool → List ScriptLine → Bool
+takes_bytes above [] = above
+takes_bytes above (Remark ∷ lines) = takes_bytes above lines
+takes_bytes above (Begins event ∷ lines) = takes_bytes (holds_bytes event) lines
+takes_bytes above (Data bytes ∷ lines) = takes_bytes above lines
+
+-- whether a line may stand right behind these: data stands behind an event that has bytes
 abbrev pub stands : List ScriptLine → ScriptLine → Bool
 stands said Remark = true
-stands said (Begins from at) = true
-stands said (Data bytes) = list_any is_event said
+stands said (Begins event) = true
+stands said (Data bytes) = takes_bytes false said
 
 -- what the next line says, where it breaks nothing
 abbrev pub next_said : List KnownPeer → List ScriptLine → List ℕ → Option ScriptLine
@@ -62,14 +125,20 @@ next_said known said text = do
 abbrev pub data_of : List ScriptLine → List ℕ
 data_of [] = []
 data_of (Remark ∷ lines) = data_of lines
-data_of (Begins from at ∷ lines) = []
+data_of (Begins event ∷ lines) = []
 data_of (Data bytes ∷ lines) = bytes ++ data_of lines
+
+-- the event with further bytes, where it has bytes
+abbrev pub with_bytes : Event → List ℕ → Event
+with_bytes (Datagram from at bytes) more = Datagram from at (bytes ++ more)
+with_bytes (Web at bytes) more = Web at (bytes ++ more)
+with_bytes (Quiet at) more = Quiet at
 
 -- the events that begin in these lines
 abbrev pub events_in : List ScriptLine → List Event
 events_in [] = []
 events_in (Remark ∷ lines) = events_in lines
-events_in (Begins from at ∷ lines) = Datagram from at (data_of lines) ∷ events_in lines
+events_in (Begins event ∷ lines) = with_bytes event (data_of lines) ∷ events_in lines
 events_in (Data bytes ∷ lines) = events_in lines
 
 abbrev pub events_from : Result (List ScriptLine) ℕ → Result (List Event) ℕ

@@ -3,40 +3,38 @@ use Rattle.std.specs.Prelude.{ℕ, ◌+◌, List, [], ◌∷◌, ◌++◌, Optio
 use Rattle.mmtel_scan.specs.Chain.{◌>>=◌}
 use Rattle.mmtel_trust.specs.declared.parties.KnownPeer.{KnownPeer}
 use Rattle.mmtel_outside.specs.declared.events.Event.{Event}
-use Rattle.mmtel_outside.specs.declared.events.Event.TheVariants.{Datagram}
+use Rattle.mmtel_outside.specs.declared.events.Event.TheVariants.{Datagram, Web, Quiet}
 use Rattle.mmtel_script.specs.declared.script_lines.ScriptLine.{ScriptLine}
 use Rattle.mmtel_script.specs.declared.script_lines.ScriptLine.TheVariants.{Remark, Begins, Data}
 use Rattle.mmtel_script.specs.declared.scripts.ScriptFault.{ScriptFault}
 use Rattle.mmtel_script.specs.declared.scripts.ScriptFault.TheVariants.{BadLine, NoMemory}
-use Rattle.mmtel_script.specs.declared.scripts.Opened.{Opened}
-use Rattle.mmtel_script.specs.declared.scripts.Telling.{Telling}
+use Rattle.mmtel_script.specs.declared.tellings.Telling.{Telling}
 use Rattle.mmtel_script.specs.Script.{line_of}
 use Rattle.mmtel_directory.specs.Lines.{and_then}
 
 abbrev pub nothing_told : Telling
-nothing_told = record { events = []; opened = None }
+nothing_told = record { events = []; last = None }
 
-abbrev pub event_of : Opened → Event
-event_of o = Datagram o.from o.at o.bytes
-
--- the events, the open one with them
-abbrev pub closed : List Event → Option Opened → List Event
+-- the events, the last one with them
+abbrev pub closed : List Event → Option Event → List Event
 closed events None = events
-closed events (Some o) = events ++ event_of o ∷ []
+closed events (Some last) = events ++ last ∷ []
 
 abbrev pub all_told : Telling → List Event
-all_told told = closed told.events told.opened
+all_told told = closed told.events told.last
 
--- more bytes of the open event, where there is one
-abbrev pub with_data : List Event → Option Opened → List ℕ → Option Telling
+-- more bytes of the last event, where there is one that has bytes
+abbrev pub with_data : List Event → Option Event → List ℕ → Option Telling
 with_data events None bytes = None
-with_data events (Some o) bytes = Some (record { events = events; opened = Some (record o { bytes = o.bytes ++ bytes }) })
+with_data events (Some (Datagram from at before)) bytes = Some (record { events = events; last = Some (Datagram from at (before ++ bytes)) })
+with_data events (Some (Web at before)) bytes = Some (record { events = events; last = Some (Web at (before ++ bytes)) })
+with_data events (Some (Quiet at)) bytes = None
 
 -- what is told with the line, where it is taken
 abbrev pub with_line : Telling → ScriptLine → Option Telling
 with_line told Remark = Some told
-with_line told (Begins from at) = Some (record { events = all_told told; opened = Some (record { from = from; at = at; bytes = [] }) })
-with_line told (Data bytes) = with_data told.events told.opened bytes
+with_line told (Begins event) = Some (record { events = all_told told; last = Some event })
+with_line told (Data bytes) = with_data told.events told.last bytes
 
 abbrev pub step : List KnownPeer → Telling → List ℕ → Option Telling
 step known told text = do
@@ -53,3 +51,9 @@ abbrev pub Steps : Result (Unit {0}) ScriptFault → ℕ → Option Telling → 
 Steps (Ok done) number due after = due ≡ Some after
 Steps (Err (BadLine n)) number due after = (due ≡ None) × (n ≡ number)
 Steps (Err NoMemory) number due after = Unit {0}
+
+-- what came of lines: what they and the telling before tell; or the number of the first line that is not taken
+abbrev pub Reads : List KnownPeer → Result (Unit {0}) ScriptFault → Telling → List (List ℕ) → Telling → Type 0
+Reads known (Ok done) before texts after = telling known 1 before texts ≡ Ok (all_told after)
+Reads known (Err (BadLine n)) before texts after = telling known 1 before texts ≡ Err n
+Reads known (Err NoMemory) before texts after = Unit {0}

@@ -4,6 +4,7 @@
 mod listings;
 mod script_lines;
 mod scripts;
+mod tellings;
 
 pub use listings::{listed_bytes_read_back, listing};
 pub use scripts::{ScriptFault, ScriptLink};

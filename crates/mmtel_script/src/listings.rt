@@ -6,9 +6,8 @@ ghost use Rattle.mmtel_script.specs.Listing.{before_crlf, is_plain, hex_digit, h
 ghost use Rattle.mmtel_script.specs.ReadBack.{AreBytes, ReadsBack};
 ghost use Rattle.mmtel_trust.specs.declared.parties.KnownPeer.{KnownPeer};
 
-use mmtel_leg::add_number;
 use mmtel_outside::Offer;
-use mmtel_scan::{List, NoMemory, Text};
+use mmtel_scan::{List, NoMemory, Text, add_number};
 use mmtel_types::Peer;
 use std::alloc::Global;
 
@@ -162,7 +161,7 @@ pub fn listing(alloc: Global, offers: &List<Offer>) -> Result<Text, NoMemory>
     Ok(out)
 }
 
-/// A law, and no code: the lines that list bytes are data lines of the whole grammar of scripts that give these bytes, so no two lists of bytes are listed alike.
+/// A law, and no code: the lines that list bytes are data lines of scripts that give these bytes, so no two lists of bytes are listed alike.
 pub fn listed_bytes_read_back()
     ensures reads_back { (known : List KnownPeer) (bytes : List ℕ) → AreBytes bytes → ReadsBack known bytes }
     ensures told_apart { (a b : List ℕ) → AreBytes a → AreBytes b → data_lines a ≡ data_lines b → a ≡ b }

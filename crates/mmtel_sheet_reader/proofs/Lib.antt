@@ -11,4 +11,5 @@ pub mod ReadMoments
 pub mod ReadRules
 pub mod ReadTables
 pub mod Sounds
+pub mod Told
 pub mod UriTexts

@@ -1,6 +1,7 @@
 //! Reading a record.
 ghost use Rattle.std.specs.Prelude.{IfOk};
 ghost use Rattle.mmtel_sheet_grammar.specs.Printable.{IsPrintable};
+ghost use Rattle.mmtel_sheet_grammar.specs.Texts.{sheet_read, TellsRead};
 ghost use Rattle.mmtel_sheet_grammar.specs.Walk.{IsRead};
 
 use crate::tables::sheet;
@@ -13,9 +14,11 @@ use std::alloc::Global;
 /// # Errors
 ///
 /// `NotToml` exactly where the bytes are not UTF-8 or no TOML. Else the first fault of the walk over the document, which takes tables in byte order of their names, keys in byte order, rules and items in their order: `Unknown` where a key is nowhere listed, `Wrong` where its value is not of the key's type, range or text or where its partner is absent, `Many` where an array is too long. `NoMemory` where memory ran out.
-#[tactic(auto, using(crate::proofs::Documents::documented, crate::proofs::ReadTables::answered))]
+#[tactic(auto, using(crate::proofs::Documents::documented, crate::proofs::Told::told, crate::proofs::Told::told_nothing, crate::proofs::ReadTables::answered))]
 pub fn read_sheet(alloc: Global, bytes: &[u8]) -> Result<Sheet, SheetFault>
     ensures exact { IsRead bytes.now result }
+    // The same as one function of the bytes, but for the place of what is no TOML.
+    ensures total { TellsRead (sheet_read bytes.now) result }
     // The sheet can be printed.
     ensures printable { IfOk result IsPrintable }
 {

@@ -394,21 +394,7 @@ pub fn sheet(alloc: Global, table: &Table) -> Result<Sheet, SheetFault>
     ensures exact { Answers (sheet_of (table_view table.now)) result }
     ensures sound { IfOk result (λ _. IsSoundTable (table_view table.now)) }
 {
-    let off = Restriction {
-        active: false,
-        permanent: false,
-        by_default: false,
-    };
-    let mut sheet = Sheet {
-        diversion: None,
-        incoming: None,
-        outgoing: None,
-        oip: true,
-        oir: off,
-        tip: true,
-        tir: off,
-        waiting: None,
-    };
+    let mut sheet = Sheet::empty();
     'members: for (key, value) in table.iter() {
         read_name(alloc, &mut sheet, key.as_str(), value)?;
     }

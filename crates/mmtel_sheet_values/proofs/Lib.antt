@@ -1,1 +1,3 @@
-mod Maps
+mod Alone
+mod Entries
+mod Tables

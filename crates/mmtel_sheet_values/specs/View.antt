@@ -1,29 +1,39 @@
--- Which record is in force for each account, and which registrations end when.
+-- Which record is in force for each account, for which there is room, and which registrations end when.
 use Rattle.std.specs.Prelude.{ℕ, Bool, true, nat_lt, Option, Some, None}
 use Rattle.std.specs.Ordering.{nat_cmp}
 use Rattle.std.specs.FinMap as map
+use Rattle.std.specs.FinSet as set
 use Rattle.mmtel_sheet_values.specs.declared.values.Sheet.{Sheet}
 
--- by the numbers of accounts: an account that has no sheet here never said anything, and a registration that is not here has no end
+-- by the numbers of accounts: an account that has no sheet here never said anything, a sheet of an account with room is replaced without memory, and a registration that is not here has no end
 pub record InForce : Type 0 where
   pub sheets : map.FinMap nat_cmp Sheet
+  pub room : set.FinSet nat_cmp
   pub ends : map.FinMap nat_cmp ℕ
 
--- no account has a sheet, and no registration an end
+-- no account has a sheet or room for one, and no registration an end
 abbrev pub nothing_in_force : InForce
-nothing_in_force = record { sheets = map.empty; ends = map.empty }
+nothing_in_force = record { sheets = map.empty; room = set.empty; ends = map.empty }
 
 -- the sheet of the account
 abbrev pub sheet_in : InForce → ℕ → Option Sheet
 sheet_in v a = map.get v.sheets a
 
+-- there is room for a sheet of the account
+abbrev pub has_room : InForce → ℕ → Bool
+has_room v a = set.contains v.room a
+
 -- the moment at which the account's registration ends
 abbrev pub end_in : InForce → ℕ → Option ℕ
 end_in v a = map.get v.ends a
 
--- this sheet in the place of the account's
+-- this sheet in the place of the account's, and room for the next
 abbrev pub with_sheet : InForce → ℕ → Sheet → InForce
-with_sheet v a s = record v { sheets = map.insert v.sheets a s }
+with_sheet v a s = record v { sheets = map.insert v.sheets a s; room = set.insert v.room a }
+
+-- room for a sheet of the account, and all else the same
+abbrev pub with_room : InForce → ℕ → InForce
+with_room v a = record v { room = set.insert v.room a }
 
 -- the registration of the account ends at this moment, or has no end
 abbrev pub with_end : InForce → ℕ → Option ℕ → InForce

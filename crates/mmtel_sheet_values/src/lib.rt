@@ -3,9 +3,13 @@
 //! How a record is written is the matter of the crates above: this one knows no text.
 #![tactic(auto)]
 
+pub mod laws;
+mod shared;
+mod sheets;
 mod values;
 mod view;
 
+pub use shared::SharedSheet;
 pub use values::{
     Action, BarPart, Condition, DiversionPart, EventWord, Forward, Restriction, Rule, Sheet, Who,
     Window,

@@ -1,8 +1,9 @@
 //! The sheets that are in force, and the registrations.
-ghost use Rattle.std.specs.Prelude.{◌≡◌, None, OnOk, OnErr, IsOk};
+ghost use Rattle.std.specs.Prelude.{◌≡◌, None, OnOk, OnErr, IfOk, IfSome, IsOk, IsTrue};
 ghost use Rattle.std.specs.Option.{option_copied};
-ghost use Rattle.mmtel_sheet_values.specs.View.{nothing_in_force, sheet_in, end_in, with_sheet, with_end, is_registered};
+ghost use Rattle.mmtel_sheet_values.specs.View.{nothing_in_force, sheet_in, end_in, has_room, with_sheet, with_room, with_end, is_registered};
 
+use crate::shared::SharedSheet;
 use crate::values::Sheet;
 use mmtel_lex::NoMemory;
 use mmtel_types::{Account, Moment};
@@ -10,10 +11,11 @@ use std::alloc::Global;
 use std::collections::BTreeMap;
 use std::marker::Model;
 
-/// The sheet of each account that has one, and the moment at which each registration ends that has an end.
+/// The sheet of each account that has one, the accounts for whose sheet there is room, and the moment at which each registration ends that has an end.
 #[derive(Drop)]
 pub struct SheetView {
-    sheets: BTreeMap<u32, Sheet>,
+    alloc: Global,
+    places: BTreeMap<u32, Option<SharedSheet>>,
     ends: BTreeMap<u32, Moment>,
 }
 
@@ -22,15 +24,17 @@ impl Model for SheetView {
     ghost use Rattle.std.specs.Coded.{code_by, coded×, coded_ℕ};
     ghost use Rattle.std.specs.Ordering.{nat_cmp};
     ghost use Rattle.std.specs.FinMap as map;
+    ghost use Rattle.std.specs.FinSet as set;
     ghost use Rattle.mmtel_sheet_values.specs.contracts.values.Sheet as row;
     ghost use Rattle.mmtel_sheet_values.specs.declared.values.Sheet.{Sheet};
+    ghost use Rattle.mmtel_sheet_values.specs.Places.{sheets_of, accounts_of};
     ghost use Rattle.mmtel_sheet_values.specs.View.{InForce};
 
     ghost Value = { InForce };
 
-    ghost coded = { code_by (map.FinMap nat_cmp Sheet × map.FinMap nat_cmp ℕ) (coded× (map.code coded_ℕ row.the_row.coded) (map.code coded_ℕ coded_ℕ)) (λ v. (v.sheets, v.ends)) (λ p. record { sheets = p.0; ends = p.1 }) (λ _. refl) };
+    ghost coded = { code_by (map.FinMap nat_cmp Sheet × (set.FinSet nat_cmp × map.FinMap nat_cmp ℕ)) (coded× (map.code coded_ℕ row.the_row.coded) (coded× (set.code coded_ℕ) (map.code coded_ℕ coded_ℕ))) (λ v. (v.sheets, (v.room, v.ends))) (λ p. record { sheets = p.0; room = p.1.0; ends = p.1.1 }) (λ _. refl) };
 
-    ghost view = { λ v. record { sheets = map.from_entries v.sheets.entries; ends = map.from_entries v.ends.entries } };
+    ghost view = { λ v. record { sheets = sheets_of v.places.entries; room = accounts_of v.places.entries; ends = map.from_entries v.ends.entries } };
 }
 
 impl SheetView {
@@ -39,30 +43,90 @@ impl SheetView {
         ensures empty { result ≡ nothing_in_force }
     {
         SheetView {
-            sheets: BTreeMap::new(alloc),
+            alloc,
+            places: BTreeMap::new(alloc),
             ends: BTreeMap::new(alloc),
         }
     }
 
-    /// Puts a sheet in the place of the account's. In the place of a sheet that is there it takes no memory.
+    /// Puts a sheet in the place of the account's.
+    ///
+    /// # Errors
+    ///
+    /// Want of memory alone; the view is then as before. Where a sheet has to be put without fail, `reserve` makes room and `replace` puts it.
+    pub fn put(&mut self, a: Account, s: Sheet) -> Result<(), NoMemory>
+        ensures ok { OnOk result (self.new ≡ with_sheet self.old a.0 s) }
+        ensures err { OnErr result (self.new ≡ self.old) }
+    {
+        let sheet = SharedSheet::of(self.alloc, s)?;
+        drop(self.places.insert(a.0, Some(sheet))?);
+        Ok(())
+    }
+
+    /// Makes room for a sheet of the account, so that a `replace` takes no memory. No account's sheet changes, and no registration.
     ///
     /// # Errors
     ///
     /// Want of memory alone; the view is then as before.
-    pub fn put(&mut self, a: Account, s: Sheet) -> Result<(), NoMemory>
-        ensures ok { OnOk result (self.new ≡ with_sheet self.old a.0 s) }
+    pub fn reserve(&mut self, a: Account) -> Result<(), NoMemory>
+        ensures ok { OnOk result (self.new ≡ with_room self.old a.0) }
+        ensures room { OnOk result (IsTrue (has_room self.new a.0)) }
         ensures err { OnErr result (self.new ≡ self.old) }
-        ensures replaces { OnErr result (sheet_in self.old a.0 ≡ None) }
     {
-        self.sheets.insert(a.0, s)?;
+        if self.places.contains_key(&a.0) {
+            return Ok(());
+        }
+        drop(self.places.insert(a.0, None)?);
         Ok(())
+    }
+
+    /// Puts a sheet in the place of the account's, and answers the one that was there. It takes no memory: `reserve` made room, or the account has a sheet.
+    pub fn replace(&mut self, a: Account, s: SharedSheet) -> Option<SharedSheet>
+        requires { IsTrue (has_room self.old a.0) }
+        ensures put { self.new ≡ with_sheet self.old a.0 s }
+        ensures before { result ≡ sheet_in self.old a.0 }
+    {
+        match self.places.insert(a.0, Some(s)) {
+            Ok(before) => before.flatten(),
+            Err(_) => unreachable!(),
+        }
+    }
+
+    /// What is in the account's place.
+    fn in_place(&self, a: Account) -> Option<&SharedSheet>
+        ensures its { option_copied result ≡ sheet_in self.now a.0 }
+        ensures room { IfSome result (λ _. IsTrue (has_room self.now a.0)) }
+    {
+        match self.places.get(&a.0) {
+            Some(place) => place.as_ref(),
+            None => None,
+        }
     }
 
     /// The sheet of the account; None where it has none, which means the sheet of an empty record. It takes no memory.
     pub fn sheet(&self, a: Account) -> Option<&Sheet>
         ensures exact { option_copied result ≡ sheet_in self.now a.0 }
+        // The account has a sheet, so a `replace` takes no memory.
+        ensures room { IfSome result (λ _. IsTrue (has_room self.now a.0)) }
     {
-        self.sheets.get(&a.0)
+        match self.in_place(a) {
+            Some(shared) => Some(shared.sheet()),
+            None => None,
+        }
+    }
+
+    /// The same sheet to be kept: it stays as it is, whatever is put in its place. Nothing is copied.
+    ///
+    /// # Errors
+    ///
+    /// Want of memory alone.
+    pub fn shared(&self, a: Account) -> Result<Option<SharedSheet>, NoMemory>
+        ensures exact { IfOk result (λ shared. shared ≡ sheet_in self.now a.0) }
+    {
+        match self.in_place(a) {
+            Some(shared) => Ok(Some(shared.shared()?)),
+            None => Ok(None),
+        }
     }
 
     /// Sets the moment at which the registration of the account ends; None where it has no end, which takes no memory.

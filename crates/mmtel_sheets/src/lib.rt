@@ -12,7 +12,7 @@ mod values;
 pub use mmtel_sheet_grammar::SheetFault;
 pub use mmtel_sheet_reader::read_sheet;
 pub use mmtel_sheet_values::{
-    Action, BarPart, Condition, DiversionPart, EventWord, Forward, Restriction, Rule, Sheet,
-    SheetView, Who, Window,
+    Action, BarPart, Condition, DiversionPart, EventWord, Forward, Restriction, Rule, SharedSheet,
+    Sheet, SheetView, Who, Window,
 };
 pub use printing::print_sheet;

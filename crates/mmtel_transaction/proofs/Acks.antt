@@ -53,16 +53,16 @@ acked_if j true true full o x m q = acked_ack j o q
 acked_if j true false full o x m q = absurd (acked_request j full o q)
 acked_if j false a full o x m q = absurd (acked_response j m x q)
 
-acked_is : (h : List Done) (m : Head) (j : ℕ) → part.Acked j ≡ part_of m (live h) → (e : Entry) × Has e (live h) × (e.is_refused ≡ true) × (j ≡ e.key)
+pub acked_is : (h : List Done) (m : Head) (j : ℕ) → part.Acked j ≡ part_of m (live h) → (e : Entry) × Has e (live h) × (e.is_refused ≡ true) × (j ≡ e.key)
 acked_is h m j q =
     let w = acked_if j m.is_request (is_ack m) (is_full (live h)) (find (is_server_of m) (live h)) (find (is_client_of m) (live h)) m q in
     (w.0, (found_in (is_server_of m) w.0 (live h) w.1).0, w.2, w.3)
 
 -- what is acknowledged is final and not sent again, and what is refused is final
-record IsSound (e : Entry) : Type 0 where
-  acked : e.is_acked ≡ true → resend_at e ≡ None
-  done : e.is_acked ≡ true → (e.done == 0) ≡ false
-  refused : e.is_refused ≡ true → (e.done == 0) ≡ false
+pub record IsSound (e : Entry) : Type 0 where
+  pub acked : e.is_acked ≡ true → resend_at e ≡ None
+  pub done : e.is_acked ≡ true → (e.done == 0) ≡ false
+  pub refused : e.is_refused ≡ true → (e.done == 0) ≡ false
 
 sound_if : (b : Bool) (e x : Entry) → (b ≡ true → IsSound e) → (b ≡ false → IsSound x) → IsSound (cond b e x)
 sound_if true e x s t = s refl
@@ -74,7 +74,7 @@ refusal_done status q = ne_eqb status 0 (λ e. absurd (omega (arith, e, leb-true
 success_done : (status : ℕ) → is_2xx status ≡ true → (status == 0) ≡ false
 success_done status q = ne_eqb status 0 (λ e. absurd (omega (arith, e, leb-true 200 status (and_parts (nat_le 200 status) (nat_lt status 300) q).0)))
 
-final_done : (status : ℕ) → is_provisional status ≡ false → (status == 0) ≡ false
+pub final_done : (status : ℕ) → is_provisional status ≡ false → (status == 0) ≡ false
 final_done status q = ne_eqb status 0 (λ e. absurd (omega (arith, e, ltb-false status 200 q)))
 
 module _ (e : Entry) (s : IsSound e) where
@@ -180,7 +180,7 @@ sound_news s i k (DidReply j m now) e f = absurd f
 sound_news s i k (DidAck j m) e f = absurd f
 sound_news s i k (DidFire j) e f = absurd f
 
-sound : (h : List Done) → IsRun h → (e : Entry) → Has e (live h) → IsSound e
+pub sound : (h : List Done) → IsRun h → (e : Entry) → Has e (live h) → IsSound e
 sound [] r e g = absurd g
 sound (c ∷ h) r e g = elim (has_more_back c h e g) [
   | inl w ↦ sound_same e (change (step_of h) (offers h) c w.0) w.2 (sound_more h w.0 w.1 (sound h (run_before c h r) w.0 w.1) c r)

@@ -19,7 +19,7 @@ use Rattle.mmtel_transaction.proofs.Lists.{keeps_change}
 use Rattle.mmtel_transaction.proofs.Having.{Has, finds, has_live, has_more_back, of_key, same_entry}
 use Rattle.mmtel_transaction.proofs.Order.{is_next}
 
-none_of : (o : Option Entry) → ((e : Entry) → o ≡ Some e → ⊥) → o ≡ None
+pub none_of : (o : Option Entry) → ((e : Entry) → o ≡ Some e → ⊥) → o ≡ None
 none_of None f = refl
 none_of (Some e) f = absurd (f e refl)
 
@@ -34,7 +34,7 @@ heard_key s k p m now (part.Acked j) e f = absurd f
 heard_key s k p m now part.AckOf2xx e f = absurd f
 heard_key s k p m now part.Stray e f = absurd f
 
-news_key : (s i k : ℕ) (c : Done) (e : Entry) → Has e (opens s i k c) → e.key ≡ k
+pub news_key : (s i k : ℕ) (c : Done) (e : Entry) → Has e (opens s i k c) → e.key ≡ k
 news_key s i k (DidBegin n) e f = absurd f
 news_key s i k (DidHear p m now t) e f = heard_key s k p m now t e f
 news_key s i k (DidAsk p m now) e (inl q) = ap (λ (x : Entry). x.key) q
@@ -43,11 +43,11 @@ news_key s i k (DidReply j m now) e f = absurd f
 news_key s i k (DidAck j m) e f = absurd f
 news_key s i k (DidFire j) e f = absurd f
 
-more_opened : (h g : List Done) → length (opened h) ≤ length (opened (g ++ h))
+pub more_opened : (h g : List Done) → length (opened h) ≤ length (opened (g ++ h))
 more_opened h [] = omega arith
 more_opened h (c ∷ g) = omega (arith, more_opened h g, length-append (opened (g ++ h)) (opens (step_of (g ++ h)) (offers (g ++ h)) (length (opened (g ++ h))) c))
 
-still_ended : (c : Done) (h : List Done) (key : ℕ) → key < length (opened h) → by_key key (live h) ≡ None → by_key key (live (c ∷ h)) ≡ None
+pub still_ended : (c : Done) (h : List Done) (key : ℕ) → key < length (opened h) → by_key key (live h) ≡ None → by_key key (live (c ∷ h)) ≡ None
 still_ended c h key l n = none_of (by_key key (live (c ∷ h))) (λ e q.
     let v = of_key (c ∷ h) key e q in
     elim (has_more_back c h e v.0) [

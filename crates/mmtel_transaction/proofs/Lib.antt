@@ -12,3 +12,13 @@ mod Repeats
 mod Acks
 mod Silence
 mod Ends
+mod Texts
+mod OfPeers
+mod Belongs
+mod AcksOwn
+mod Settle
+mod Later
+mod Arming
+mod Among
+mod Acknowledged
+mod HeadLines

@@ -25,7 +25,7 @@ Climbs [] = Unit {0}
 Climbs (d ∷ []) = d < 32000
 Climbs (d ∷ e ∷ ds) = (d < e) × Climbs (e ∷ ds)
 
-counted_at : (start : ℕ) (o : Option ℕ) (a : ℕ) → option_map (λ d. start + d) o ≡ Some a → (d : ℕ) × (o ≡ Some d) × (start + d ≡ a)
+pub counted_at : (start : ℕ) (o : Option ℕ) (a : ℕ) → option_map (λ d. start + d) o ≡ Some a → (d : ℕ) × (o ≡ Some d) × (start + d ≡ a)
 counted_at start None a q = absurd (none-some a q)
 counted_at start (Some d) a q = (d, refl, same_Some (start + d) a q)
 
@@ -37,7 +37,7 @@ climbs (d ∷ e ∷ ds) zero start a b c q r = let x = same_Some (start + d) a q
 climbs (d ∷ e ∷ ds) (suc k) start a b c q r = climbs (e ∷ ds) k start a b c.1 q r
 
 -- the slow moments are cut at an end
-before_end : (end at a : ℕ) → if_before end at ≡ Some a → (at ≡ a) × (a < end)
+pub before_end : (end at a : ℕ) → if_before end at ≡ Some a → (at ≡ a) × (a < end)
 before_end end at a q = either (nat_lt at end) refl q
   where
     either : (t : Bool) → nat_lt at end ≡ t → cond t (Some at) None ≡ Some a → (at ≡ a) × (a < end)
@@ -63,7 +63,7 @@ is_later End start opened k a b q r = absurd (none-some a q)
 is_later plan.Acked start opened k a b q r = absurd (none-some a q)
 
 -- a transaction that fired and is still live waits for a later moment
-fired_later : (s a b : ℕ) (e : Entry) → deadline e ≡ Some a → is_live (fired s e) ≡ true → deadline (fired s e) ≡ Some b → a < b
+pub fired_later : (s a b : ℕ) (e : Entry) → deadline e ≡ Some a → is_live (fired s e) ≡ true → deadline (fired s e) ≡ Some b → a < b
 fired_later s a b e q l r = either (resend_at e) refl q l r
   where
     either : (o : Option ℕ) → resend_at e ≡ o → option_or o (last_by e.plan e.start e.at) ≡ Some a → is_live (cond (is_some o) (record e { shots = e.shots + 1; step = s }) (record e { is_over = true })) ≡ true → deadline (cond (is_some o) (record e { shots = e.shots + 1; step = s }) (record e { is_over = true })) ≡ Some b → a < b
@@ -74,10 +74,10 @@ fired_later s a b e q l r = either (resend_at e) refl q l r
 abbrev pub before : ℕ → ℕ → ℕ → ℕ → ℕ → ℕ → Bool
 before a s o b t u = nat_lt a b || ((a == b) && (nat_lt s t || ((s == t) && nat_lt o u)))
 
-not_less : (a s o b t u : ℕ) → before a s o b t u ≡ false → b ≤ a
+pub not_less : (a s o b t u : ℕ) → before a s o b t u ≡ false → b ≤ a
 not_less a s o b t u q = ltb-false a b (or_parts (nat_lt a b) ((a == b) && (nat_lt s t || ((s == t) && nat_lt o u))) q).0
 
-not_same : (a s o b t u : ℕ) → before a s o b t u ≡ false → a ≡ b → (t ≤ s) × (s ≡ t → u ≤ o)
+pub not_same : (a s o b t u : ℕ) → before a s o b t u ≡ false → a ≡ b → (t ≤ s) × (s ≡ t → u ≤ o)
 not_same a s o b t u q e =
     let w = (or_parts (nat_lt a b) ((a == b) && (nat_lt s t || ((s == t) && nat_lt o u))) q).1 in
     let v : (nat_lt s t || ((s == t) && nat_lt o u)) ≡ false = ap (λ x. x && (nat_lt s t || ((s == t) && nat_lt o u))) (sym (eq-eqb a b e)) ∙ w in
@@ -179,7 +179,7 @@ none_more now x es a e None f p ih d l (inl g) = none-some (record { at = a; ent
 none_more now x es a e None f p ih d l (inr g) = ih (sooner_rest (next_due now es) p) g
 none_more now x es a e (Some y) f p ih d l g = sooner_there y (next_due now es) p
 
-none_due : (now : ℕ) (es : List Entry) (a : ℕ) (e : Entry) → next_due now es ≡ None → deadline e ≡ Some a → a ≤ now → Has e es → ⊥
+pub none_due : (now : ℕ) (es : List Entry) (a : ℕ) (e : Entry) → next_due now es ≡ None → deadline e ≡ Some a → a ≤ now → Has e es → ⊥
 none_due now [] a e q d l h = h
 none_due now (x ∷ es) a e q d l h = none_more now x es a e (due_one now x (deadline x)) refl q (λ p g. none_due now es a e p d l g) d l h
 

@@ -76,7 +76,7 @@ response_answer j m (Some e) q = (e, refl, either (is_invite e.asked && e.is_ref
     either true q = absurd cc
     either false q = cc
 
-answer_if : (j : ℕ) (r a full : Bool) (o x : Option Entry) (m : Head) → part.Answer j ≡ cond r (cond a (part_ack o) (part_request full o)) (part_response m x) → (e : Entry) × (x ≡ Some e) × (j ≡ e.key)
+pub answer_if : (j : ℕ) (r a full : Bool) (o x : Option Entry) (m : Head) → part.Answer j ≡ cond r (cond a (part_ack o) (part_request full o)) (part_response m x) → (e : Entry) × (x ≡ Some e) × (j ≡ e.key)
 answer_if j true true full o x m q = absurd (ack_no_answer j o q)
 answer_if j true false full o x m q = absurd (request_no_answer j full o q)
 answer_if j false a full o x m q = response_answer j m x q
@@ -84,7 +84,7 @@ answer_if j false a full o x m q = response_answer j m x q
 client_of : (m : Head) (e : Entry) → is_client_of m e ≡ true → e.is_server ≡ false
 client_of m e q = not-true e.is_server (and_parts (not e.is_server) (bytes_eq e.asked.branch m.branch) (and_parts (not e.is_server && bytes_eq e.asked.branch m.branch) (bytes_eq e.asked.method m.method) q).0).0
 
-no_answer : (h : List Done) (m : Head) (j : ℕ) (e : Entry) → part.Answer j ≡ part_of m (live h) → Has e (live h) → e.is_server ≡ true → e.key ≡ j → ⊥
+pub no_answer : (h : List Done) (m : Head) (j : ℕ) (e : Entry) → part.Answer j ≡ part_of m (live h) → Has e (live h) → e.is_server ≡ true → e.key ≡ j → ⊥
 no_answer h m j e q g s k =
     let w = answer_if j m.is_request (is_ack m) (is_full (live h)) (find (is_server_of m) (live h)) (find (is_client_of m) (live h)) m q in
     let v = found_in (is_client_of m) w.0 (live h) w.1 in

@@ -16,7 +16,7 @@ use Rattle.mmtel_transaction.specs.Changes.{fired, asked_first}
 use Rattle.mmtel_transaction.specs.Calls.{Done, DidAsk, DidFire, is_live, live, offers, opened, step_of}
 use Rattle.mmtel_transaction.specs.Answers.{Next, next_due, due_one, sooner, says_due, fires, text_again, tkey}
 use Rattle.mmtel_transaction.specs.Table.{settle}
-use Rattle.mmtel_transaction.specs.Laws.{IsGivenUpAfter, again, dues}
+use Rattle.mmtel_transaction.specs.Laws.{IsGivenUpAfter, said_in_turn, sent_again}
 use Rattle.mmtel_transaction.specs.declared.entries.Plan.{Plan}
 use Rattle.mmtel_transaction.specs.declared.entries.Plan.TheVariants.{Invite, Other}
 use Rattle.mmtel_transaction.specs.declared.entries.Entry.{Entry}
@@ -33,13 +33,13 @@ settle_gone : (e x : Entry) (f : Entry → Entry) → f e ≡ x → is_live x �
 settle_gone e x f q l = rw (eq-eqb e.key e.key refl, q, l) refl
 
 -- one transaction alone, whose deadline is due
-pub dues_one : (n now at : ℕ) (h : List Done) (e : Entry) → live h ≡ e ∷ [] → deadline e ≡ Some at → nat_le at now ≡ true → dues (suc n) now h ≡ says_due (Some (record { at = at; entry = e })) ∷ dues n now (DidFire e.key ∷ h)
-unfolding dues
-dues_one n now at h e l d p = ap (λ o. says_due o ∷ dues n now (fires h o)) (ap (next_due now) l ∙ only now at e d p)
+pub dues_one : (n now at : ℕ) (h : List Done) (e : Entry) → live h ≡ e ∷ [] → deadline e ≡ Some at → nat_le at now ≡ true → said_in_turn (suc n) now h ≡ says_due (Some (record { at = at; entry = e })) ∷ said_in_turn n now (DidFire e.key ∷ h)
+unfolding said_in_turn
+dues_one n now at h e l d p = ap (λ o. says_due o ∷ said_in_turn n now (fires h o)) (ap (next_due now) l ∙ only now at e d p)
 
 -- nothing is left
-dues_last : (now : ℕ) (h : List Done) → live h ≡ [] → dues 1 now h ≡ due.Nothing ∷ []
-unfolding dues
+dues_last : (now : ℕ) (h : List Done) → live h ≡ [] → said_in_turn 1 now h ≡ due.Nothing ∷ []
+unfolding said_in_turn
 dues_last now h l = ap (λ es. says_due (next_due now es) ∷ []) l
 
 fired_live : (h : List Done) (e : Entry) → live h ≡ e ∷ [] → live (DidFire e.key ∷ h) ≡ settle e.key (fired (step_of h)) (e ∷ [])
@@ -85,16 +85,16 @@ module _ (step i key : ℕ) (p : Peer) (m : Message Start) (t now : ℕ) (plan :
   first_of : (k : ℕ) (ds : List ℕ) → ((j : ℕ) → slice_get moments (k + j) ≡ slice_get ds j) → slice_get moments k ≡ slice_get ds 0
   first_of k ds q = ap (slice_get moments) (let a : k ≡ k + 0 = omega arith in a) ∙ q 0
 
-  pub rest : (k : ℕ) (ds : List ℕ) (h : List Done) → step_of h ≡ step → live h ≡ waiting step i key p m t plan k ∷ [] → ((j : ℕ) → slice_get moments (k + j) ≡ slice_get ds j) → AreWithin ds → dues (length ds + 2) now h ≡ map (again p m t) ds ++ due.Silent (tkey key) (head_of m).branch (head_of m).method (t + 32000) ∷ due.Nothing ∷ []
+  pub rest : (k : ℕ) (ds : List ℕ) (h : List Done) → step_of h ≡ step → live h ≡ waiting step i key p m t plan k ∷ [] → ((j : ℕ) → slice_get moments (k + j) ≡ slice_get ds j) → AreWithin ds → said_in_turn (length ds + 2) now h ≡ map (sent_again p m t) ds ++ due.Silent (tkey key) (head_of m).branch (head_of m).method (t + 32000) ∷ due.Nothing ∷ []
   rest k [] h s e q w =
       dues_one 1 now (t + 32000) h (waiting step i key p m t plan k) e (due_then k None (first_of k [] q)) (past t 32000 now l (omega arith))
-      ∙ (ap (λ x. x ∷ dues 1 now (DidFire key ∷ h)) (says_silent (record { at = t + 32000; entry = waiting step i key p m t plan k }) (resend k None (first_of k [] q)) g)
+      ∙ (ap (λ x. x ∷ said_in_turn 1 now (DidFire key ∷ h)) (says_silent (record { at = t + 32000; entry = waiting step i key p m t plan k }) (resend k None (first_of k [] q)) g)
       ∙ ap (λ xs. due.Silent (tkey key) (head_of m).branch (head_of m).method (t + 32000) ∷ xs) (dues_last now (DidFire key ∷ h) (live_none h (waiting step i key p m t plan k) (record (waiting step i key p m t plan k) { is_over = true }) e (fired_over (step_of h) (waiting step i key p m t plan k) (resend k None (first_of k [] q))) refl)))
   rest k (d ∷ ds) h s e q w =
-      ap (λ n. dues n now h) (let a : length (d ∷ ds) + 2 ≡ suc (length ds + 2) = omega arith in a)
+      ap (λ n. said_in_turn n now h) (let a : length (d ∷ ds) + 2 ≡ suc (length ds + 2) = omega arith in a)
       ∙ (dues_one (length ds + 2) now (t + d) h (waiting step i key p m t plan k) e (due_then k (Some d) (first_of k (d ∷ ds) q)) (past t d now l w.0)
-      ∙ (ap (λ x. x ∷ dues (length ds + 2) now (DidFire key ∷ h)) (says_again (record { at = t + d; entry = waiting step i key p m t plan k }) (t + d) (resend k (Some d) (first_of k (d ∷ ds) q)))
-      ∙ ap (λ xs. again p m t d ∷ xs) (rest (k + 1) ds (DidFire key ∷ h) s
+      ∙ (ap (λ x. x ∷ said_in_turn (length ds + 2) now (DidFire key ∷ h)) (says_again (record { at = t + d; entry = waiting step i key p m t plan k }) (t + d) (resend k (Some d) (first_of k (d ∷ ds) q)))
+      ∙ ap (λ xs. sent_again p m t d ∷ xs) (rest (k + 1) ds (DidFire key ∷ h) s
       (live_one h (waiting step i key p m t plan k) (waiting step i key p m t plan (k + 1)) e (fired_again (step_of h) (t + d) (waiting step i key p m t plan k) (resend k (Some d) (first_of k (d ∷ ds) q)) ∙ ap (λ x. let e : Entry = record (waiting step i key p m t plan (k + 1)) { step = x } in e) s) refl)
       (λ j. ap (slice_get moments) (let a : (k + 1) + j ≡ k + suc j = omega arith in a) ∙ q (suc j))
       w.1)))

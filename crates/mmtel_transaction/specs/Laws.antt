@@ -22,17 +22,17 @@ use Rattle.mmtel_transaction.specs.declared.words.Due.TheVariants as due
 use Rattle.mmtel_transaction.specs.declared.words.Heard.TheVariants as heard
 
 -- what so many calls of `due` say in turn, where nothing else is called between them
-unfoldable pub dues : ℕ → ℕ → List Done → List Due
-dues zero now h = []
-dues (suc n) now h = says_due (next_due now (live h)) ∷ dues n now (fires h (next_due now (live h)))
+unfoldable pub said_in_turn : ℕ → ℕ → List Done → List Due
+said_in_turn zero now h = []
+said_in_turn (suc n) now h = says_due (next_due now (live h)) ∷ said_in_turn n now (fires h (next_due now (live h)))
 
 -- what is said of a request that was asked at t, sent again so long after
-abbrev pub again : Peer → Message Start → ℕ → ℕ → Due
-again p m t d = due.Again p (t + d) (message_text m)
+abbrev pub sent_again : Peer → Message Start → ℕ → ℕ → Due
+sent_again p m t d = due.Again p (t + d) (message_text m)
 
 -- a request that is asked at t where no transaction is live, and that nobody answers, is sent again at these moments after t, then given up, and then nothing is due
 abbrev pub IsGivenUpAfter : List ℕ → Peer → Message Start → ℕ → Type 0
-IsGivenUpAfter moments p m t = (h : List Done) (now : ℕ) → live h ≡ [] → t + 32000 ≤ now → dues (length moments + 2) now (DidAsk p m t ∷ h) ≡ map (again p m t) moments ++ due.Silent (tkey (length (opened h))) (head_of m).branch (head_of m).method (t + 32000) ∷ due.Nothing ∷ []
+IsGivenUpAfter moments p m t = (h : List Done) (now : ℕ) → live h ≡ [] → t + 32000 ≤ now → said_in_turn (length moments + 2) now (DidAsk p m t ∷ h) ≡ map (sent_again p m t) moments ++ due.Silent (tkey (length (opened h))) (head_of m).branch (head_of m).method (t + 32000) ∷ due.Nothing ∷ []
 
 -- so it is with every INVITE (Timers A and B), and with every other request (Timers E and F)
 abbrev pub InvitesAreGivenUp : Type 0

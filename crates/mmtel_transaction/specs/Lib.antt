@@ -8,5 +8,11 @@ pub mod Runs
 pub mod Stands
 pub mod Tokens
 pub mod Laws
+pub mod Belonging
+pub mod Alike
+pub mod OnePeer
+pub mod Waiting
+pub mod Settling
+pub mod HeadsRead
 -- What private functions cite.
 pub mod Table

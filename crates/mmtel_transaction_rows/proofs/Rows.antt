@@ -12,15 +12,15 @@ use Rattle.mmtel_scan.specs.Classes.{in_class}
 use Rattle.mmtel_scan.specs.Numbers.{number_of, within}
 use Rattle.mmtel_scan.specs.Scanning.{after_run, closes, parted, run, trimmed}
 use Rattle.mmtel_transaction.specs.Heads.{head_of}
-use Rattle.mmtel_transaction.specs.Laws.{dues}
+use Rattle.mmtel_transaction.specs.Laws.{said_in_turn}
 use Rattle.mmtel_transaction_rows.specs.Rows.{EndsAfterTheAck, RepeatedInvite, SecondSilence, Silence, acknowledged, callers_side, first_invite, peer, refused, repeat_of, ringing}
 
 pub silence : Silence
-unfolding parting parts headers_at headers_of number_at scheme_of sip_of tel_of uri_of user_at head_of five_at via_at parties_in call_in cseq_at token_at text_at value_at param_at params_at all_params_at params_of host_at port_number port_at angle_of bare_of words_of quoted_of name_addr_of in_class number_of within run after_run parted closes trimmed dues
+unfolding parting parts headers_at headers_of number_at scheme_of sip_of tel_of uri_of user_at head_of five_at via_at parties_in call_in cseq_at token_at text_at value_at param_at params_at all_params_at params_of host_at port_number port_at angle_of bare_of words_of quoted_of name_addr_of in_class number_of within run after_run parted closes trimmed said_in_turn
 silence = refl
 
 pub second_silence : SecondSilence
-unfolding parting parts headers_at headers_of number_at scheme_of sip_of tel_of uri_of user_at head_of five_at via_at parties_in call_in cseq_at token_at text_at value_at param_at params_at all_params_at params_of host_at port_number port_at angle_of bare_of words_of quoted_of name_addr_of in_class number_of within run after_run parted closes trimmed dues
+unfolding parting parts headers_at headers_of number_at scheme_of sip_of tel_of uri_of user_at head_of five_at via_at parties_in call_in cseq_at token_at text_at value_at param_at params_at all_params_at params_of host_at port_number port_at angle_of bare_of words_of quoted_of name_addr_of in_class number_of within run after_run parted closes trimmed said_in_turn
 second_silence = refl
 
 opens : hear_says [] (peer 1) first_invite ≡ Some (heard.Fresh (tkey 0) first_invite)

@@ -7,7 +7,7 @@ use Rattle.mmtel_message.specs.declared.messages.Start.{Start}
 use Rattle.mmtel_message.specs.declared.messages.Start.TheVariants.{Request, Status}
 use Rattle.mmtel_transaction.specs.Calls.{Done, DidAck, DidAsk, DidFire, DidHear, DidReply, live}
 use Rattle.mmtel_transaction.specs.Answers.{hear_says, next_due, says_due, tkey}
-use Rattle.mmtel_transaction.specs.Laws.{again, dues}
+use Rattle.mmtel_transaction.specs.Laws.{said_in_turn, sent_again}
 use Rattle.mmtel_transaction.specs.declared.parts.Part.TheVariants as part
 use Rattle.mmtel_transaction.specs.declared.words.Due.TheVariants as due
 use Rattle.mmtel_transaction.specs.declared.words.Heard.{Heard}
@@ -34,11 +34,11 @@ abbrev pub second_invite : Message Start
 second_invite = request (codes "INVITE") (codes "b")
 
 abbrev pub Silence : Type 0
-Silence = dues 8 40000 (DidAsk (peer 1) first_invite 0 ∷ []) ≡ again (peer 1) first_invite 0 500 ∷ again (peer 1) first_invite 0 1500 ∷ again (peer 1) first_invite 0 3500 ∷ again (peer 1) first_invite 0 7500 ∷ again (peer 1) first_invite 0 15500 ∷ again (peer 1) first_invite 0 31500 ∷ due.Silent (tkey 0) (codes "a") (codes "INVITE") 32000 ∷ due.Nothing ∷ []
+Silence = said_in_turn 8 40000 (DidAsk (peer 1) first_invite 0 ∷ []) ≡ sent_again (peer 1) first_invite 0 500 ∷ sent_again (peer 1) first_invite 0 1500 ∷ sent_again (peer 1) first_invite 0 3500 ∷ sent_again (peer 1) first_invite 0 7500 ∷ sent_again (peer 1) first_invite 0 15500 ∷ sent_again (peer 1) first_invite 0 31500 ∷ due.Silent (tkey 0) (codes "a") (codes "INVITE") 32000 ∷ due.Nothing ∷ []
 
 -- and another one that is sent to peer 2 then
 abbrev pub SecondSilence : Type 0
-SecondSilence = dues 5 40000 (DidAsk (peer 2) second_invite 32000 ∷ []) ≡ again (peer 2) second_invite 32000 500 ∷ again (peer 2) second_invite 32000 1500 ∷ again (peer 2) second_invite 32000 3500 ∷ again (peer 2) second_invite 32000 7500 ∷ due.Nothing ∷ []
+SecondSilence = said_in_turn 5 40000 (DidAsk (peer 2) second_invite 32000 ∷ []) ≡ sent_again (peer 2) second_invite 32000 500 ∷ sent_again (peer 2) second_invite 32000 1500 ∷ sent_again (peer 2) second_invite 32000 3500 ∷ sent_again (peer 2) second_invite 32000 7500 ∷ due.Nothing ∷ []
 
 -- a repeated INVITE and its final: the INVITE of peer 1, which is passed on to peer 2
 abbrev pub invite_heard : List Done

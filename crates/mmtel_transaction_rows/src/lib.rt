@@ -3,4 +3,4 @@
 
 mod laws;
 
-pub use laws::rows_compute;
+pub use laws::{deadlines_compute, rows_compute};

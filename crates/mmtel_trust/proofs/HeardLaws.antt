@@ -1,121 +1,217 @@
--- What was heard of a masked message, and what is decided of its caller.
-use Rattle.std.proofs.Common.{◌≡◌, ◌⊎◌, ℕ, List, refl, ap, ◌∙◌, Bool, true, false, codes, ◌&&◌, inl, inr, Option, None, cond}
+-- What is heard of a masked message: each field that is never private is that of the message, and the others are hidden.
+use Rattle.std.proofs.Common.{◌≡◌, ◌++◌, ◌∷◌, [], ℕ, List, refl, sym, ap, ◌∙◌, Bool, true, false, ◌||◌, codes, Option, Some, None, cond, map}
+use Rattle.std.specs.Prelude.{option_to_list}
+use Rattle.std.specs.Option.{option_map}
+use Rattle.mmtel_lex.specs.Reading.{name_addr_of}
+use Rattle.mmtel_history.specs.HistoryInfo as History
+use Rattle.mmtel_history.specs.HistoryInfo.{entry_of, masked_entry, masked_list, masked_uri}
+use Rattle.mmtel_history.specs.MaskedValues.{is_hidden, is_marked_value, masked_value_text}
+use Rattle.mmtel_history.specs.declared.entries.Entry.{Entry}
+use Rattle.mmtel_history.proofs.ListLaws.{masked_once}
+use Rattle.mmtel_history.proofs.MaskedValueLaws.{masked_entry_of}
 use Rattle.mmtel_message.specs.Faults.{is_request}
-use Rattle.mmtel_message.specs.Message.{Message, first_value}
+use Rattle.mmtel_message.specs.Message.{Line, Message, first_value, line_texts}
 use Rattle.mmtel_message.specs.declared.messages.Start.{Start}
-use Rattle.mmtel_message.specs.declared.values.Mode.TheVariants.{Plain}
+use Rattle.mmtel_trust.specs.Digest.{HeardMessage, heard, history_in, if_redirect, if_request, served_by, tag_of, uri_bytes}
 use Rattle.mmtel_trust.specs.Kinds.{kind_of}
-use Rattle.mmtel_trust.specs.Mask.{Places, only, joined, is_kept, masked, masked_lines}
-use Rattle.mmtel_trust.specs.Passed.{passed, attempt_from}
-use Rattle.mmtel_trust.specs.Privacy.{Line}
-use Rattle.mmtel_trust.specs.Digest.{Tests, account_told, somebody_told, is_somebody, Heard, if_request, heard, caller_account, served_account, is_known, Restriction, is_opening, is_private, opening_if, private_entries, places_of, tests_if, hide}
-use Rattle.mmtel_trust.specs.declared.accounts.AccountIdentity.{AccountIdentity}
-use Rattle.mmtel_types.specs.declared.numbers.Account.{Account}
-use Rattle.mmtel_trust.specs.declared.identities.Identities.{Identities}
-use Rattle.mmtel_trust.specs.declared.showing.Facing.{Facing}
-use Rattle.mmtel_trust.proofs.Masked.{passed-masked, lines_again}
-use Rattle.mmtel_trust.proofs.Kept.{first-masked, values-masked, wants-masked, from_tag-masked, to_tag-masked, terminates-masked, passed-entries, from-entries, asserted-entries, origin-entries}
+use Rattle.mmtel_trust.specs.Mask.{Entries, NoEntries, MarkedEntries, AllEntries, Places, hidden_entries, hidden_uri, hide_if, is_kept, masked, masked_entries, masked_lines, masked_value, places_in, redirects, serve_if}
+use Rattle.mmtel_trust.specs.MaskedMessages.{hide, public_part}
+use Rattle.mmtel_trust.proofs.ByName.{texts-changed, texts-masked}
+use Rattle.mmtel_trust.proofs.Kept.{changed, first-masked, from_tag-masked, to_tag-masked, to_value, wants-masked}
+use Rattle.mmtel_trust.proofs.Masked.{hidden_uris, lines_again, served_told}
 
--- ---- the fields are those of the masked message
+-- ---- names whose lines stay, whatever is private
 
-via_kept : (p : Places) → is_kept p (kind_of (codes "Via")) ≡ true
+pub via_kept : (p : Places) → is_kept p (kind_of (codes "Via")) ≡ true
 unfolding kind_of
 via_kept p = refl
 
-call_id_kept : (p : Places) → is_kept p (kind_of (codes "Call-ID")) ≡ true
+pub call_id_kept : (p : Places) → is_kept p (kind_of (codes "Call-ID")) ≡ true
 unfolding kind_of
 call_id_kept p = refl
 
-cseq_kept : (p : Places) → is_kept p (kind_of (codes "CSeq")) ≡ true
+pub cseq_kept : (p : Places) → is_kept p (kind_of (codes "CSeq")) ≡ true
 unfolding kind_of
 cseq_kept p = refl
 
-hops_kept : (p : Places) → is_kept p (kind_of (codes "Max-Forwards")) ≡ true
+pub hops_kept : (p : Places) → is_kept p (kind_of (codes "Max-Forwards")) ≡ true
 unfolding kind_of
 hops_kept p = refl
 
-route_kept : (p : Places) → is_kept p (kind_of (codes "Route")) ≡ true
+pub route_kept : (p : Places) → is_kept p (kind_of (codes "Route")) ≡ true
 unfolding kind_of
 route_kept p = refl
 
-to_kept : (p : Places) → p.to ≡ false → is_kept p (kind_of (codes "To")) ≡ true
+pub way_kept : (p : Places) → is_kept p (kind_of (codes "Record-Route")) ≡ true
 unfolding kind_of
-to_kept p e = rw e refl
+way_kept p = refl
 
--- To of a request is not private, where these are private places of it
-pub to-masked : (p : Places) (start : Start) (ls : List Line) → (p.to ≡ false) ⊎ (is_request start ≡ false) → if_request start (first_value (codes "To") (masked_lines p ls)) ≡ if_request start (first_value (codes "To") ls)
-to-masked p start ls (inl e) = ap (λ v. if_request start v) (first-masked p (codes "To") ls (to_kept p e))
-to-masked p start ls (inr e) = rw e refl
+pub require_kept : (p : Places) → is_kept p (kind_of (codes "Require")) ≡ true
+unfolding kind_of
+require_kept p = refl
 
-pub heard-masked : (p : Places) (trusted : Bool) (m : Message Start) → (p.to ≡ false) ⊎ (is_request m.start ≡ false) → heard trusted (masked p m) ≡ record (heard trusted m) { lines = masked_lines p m.lines }
-heard-masked p trusted m to =
+pub supported_kept : (p : Places) → is_kept p (kind_of (codes "Supported")) ≡ true
+unfolding kind_of
+supported_kept p = refl
+
+pub expires_kept : (p : Places) → is_kept p (kind_of (codes "Expires")) ≡ true
+unfolding kind_of
+expires_kept p = refl
+
+pub refer_to_kept : (p : Places) → is_kept p (kind_of (codes "Refer-To")) ≡ true
+unfolding kind_of
+refer_to_kept p = refl
+
+pub event_kept : (p : Places) → is_kept p (kind_of (codes "Event")) ≡ true
+unfolding kind_of
+event_kept p = refl
+
+-- ---- To of a request
+
+to_if : (request private : Bool) (v : Option (List ℕ)) → cond request (option_map (hide_if (cond request false private)) v) None ≡ cond request v None
+to_if true private None = refl
+to_if true private (Some s) = refl
+to_if false private v = refl
+
+to-masked : (p : Places) (start : Start) (ls : List Line) → if_request start (first_value (codes "To") (masked_lines (places_in start p) ls)) ≡ if_request start (first_value (codes "To") ls)
+to-masked p start ls =
+    ap (λ (v : Option (List ℕ)). if_request start v) (changed (places_in start p) (codes "To") (hide_if (places_in start p).to) ls (to_value (places_in start p)))
+    ∙ to_if (is_request start) p.to (first_value (codes "To") ls)
+
+-- ---- P-Served-User
+
+served_value_at : (p : Places) (v : List ℕ) → masked_value p (kind_of (codes "P-Served-User")) v ≡ Some (serve_if p.served v)
+unfolding kind_of
+served_value_at p v = refl
+
+served_hidden : (b : Bool) (v : Option (List ℕ)) → served_by (option_map (serve_if b) v) ≡ served_by v
+served_hidden b None = refl
+served_hidden true (Some s) = served_told s
+served_hidden false (Some s) = refl
+
+served-masked : (p : Places) (ls : List Line) → served_by (first_value (codes "P-Served-User") (masked_lines p ls)) ≡ served_by (first_value (codes "P-Served-User") ls)
+served-masked p ls = ap served_by (changed p (codes "P-Served-User") (serve_if p.served) ls (served_value_at p)) ∙ served_hidden p.served (first_value (codes "P-Served-User") ls)
+
+-- ---- Contact of a 3xx
+
+contact_value : (p : Places) (v : List ℕ) → masked_value p (kind_of (codes "Contact")) v ≡ Some (hide_if p.contact v)
+unfolding kind_of
+contact_value p v = refl
+
+uri_hidden : (b : Bool) (v : Option (List ℕ)) → uri_bytes (option_map (hide_if b) v) ≡ hidden_uri b (uri_bytes v)
+uri_hidden true None = refl
+uri_hidden false None = refl
+uri_hidden true (Some s) = hidden_uris s
+uri_hidden false (Some s) = refl
+
+none_hidden : (b : Bool) → None ≡ hidden_uri b None
+none_hidden true = refl
+none_hidden false = refl
+
+redirect_if : (b redirect contact : Bool) (v : Option (List ℕ)) → cond b (uri_bytes (option_map (hide_if (cond b redirect contact)) v)) None ≡ hidden_uri redirect (cond b (uri_bytes v) None)
+redirect_if true redirect contact v = uri_hidden redirect v
+redirect_if false redirect contact v = none_hidden redirect
+
+redirect-masked : (p : Places) (start : Start) (ls : List Line) → if_redirect start (uri_bytes (first_value (codes "Contact") (masked_lines (places_in start p) ls))) ≡ hidden_uri p.redirect (if_redirect start (uri_bytes (first_value (codes "Contact") ls)))
+redirect-masked p start ls =
+    ap (λ (v : Option (List ℕ)). if_redirect start (uri_bytes v)) (changed (places_in start p) (codes "Contact") (hide_if (places_in start p).contact) ls (contact_value (places_in start p)))
+    ∙ redirect_if (redirects start) p.redirect p.contact (first_value (codes "Contact") ls)
+
+-- ---- History-Info
+
+history_value : (p : Places) (v : List ℕ) → masked_value p (kind_of (codes "History-Info")) v ≡ Some (masked_entries p.history v)
+unfolding kind_of
+history_value p v = refl
+
+hidden_as : (b : Bool) (e : Entry) → b ≡ true → record e { uri = masked_uri e.cause; hidden = false } ≡ cond b (record e { uri = masked_uri e.cause; hidden = false }) e
+hidden_as true e is = refl
+hidden_as false e is = absurd cc
+
+shown_as : (b : Bool) (e : Entry) → b ≡ false → e ≡ cond b (record e { uri = masked_uri e.cause; hidden = false }) e
+shown_as true e is = absurd cc
+shown_as false e is = refl
+
+hidden_by : (o : Option Entry) → is_hidden o ≡ true → option_map (masked_entry true) o ≡ option_map (masked_entry false) o
+hidden_by None is = refl
+hidden_by (Some e) is = ap (λ (x : Entry). Some x) (hidden_as e.hidden e is)
+
+shown_by : (o : Option Entry) → is_hidden o ≡ false → o ≡ option_map (masked_entry false) o
+shown_by None is = refl
+shown_by (Some e) is = ap (λ (x : Entry). Some x) (shown_as e.hidden e is)
+
+marked_if : (b : Bool) (v : List ℕ) → is_marked_value v ≡ b → entry_of (masked_entries MarkedEntries v) ≡ option_map (masked_entry false) (entry_of v)
+unfolding is_marked_value
+marked_if true v e = rw e (masked_entry_of v ∙ hidden_by (entry_of v) e)
+marked_if false v e = rw e (shown_by (entry_of v) e)
+
+one_more : (all : Bool) (o : Option Entry) (h : List Entry) → option_to_list (option_map (masked_entry all) o) ++ masked_list all h ≡ masked_list all (option_to_list o ++ h)
+one_more all None h = refl
+one_more all (Some e) h = refl
+
+-- entries of values of which each is masked
+each_masked : (all : Bool) (f : List ℕ → List ℕ) → ((v : List ℕ) → entry_of (f v) ≡ option_map (masked_entry all) (entry_of v)) → (vs : List (List ℕ)) → History.entries_of (map f vs) ≡ masked_list all (History.entries_of vs)
+each_masked all f law [] = refl
+each_masked all f law (v ∷ vs) =
+    ap (λ (h : List Entry). option_to_list (entry_of (f v)) ++ h) (each_masked all f law vs)
+    ∙ (ap (λ (o : Option Entry). option_to_list o ++ masked_list all (History.entries_of vs)) (law v)
+    ∙ one_more all (entry_of v) (History.entries_of vs))
+
+none_masked : (vs : List (List ℕ)) → History.entries_of (map (masked_entries NoEntries) vs) ≡ History.entries_of vs
+none_masked [] = refl
+none_masked (v ∷ vs) = ap (λ (h : List Entry). option_to_list (entry_of v) ++ h) (none_masked vs)
+
+entries_masked : (es : Entries) (vs : List (List ℕ)) → History.entries_of (map (masked_entries es) vs) ≡ hidden_entries es (History.entries_of vs)
+entries_masked NoEntries vs = none_masked vs
+entries_masked MarkedEntries vs = each_masked false (masked_entries MarkedEntries) (λ v. marked_if (is_marked_value v) v refl) vs
+entries_masked AllEntries vs = each_masked true (masked_entries AllEntries) masked_entry_of vs
+
+history-masked : (p : Places) (ls : List Line) → history_in (masked_lines p ls) ≡ hidden_entries p.history (history_in ls)
+history-masked p ls = ap (λ (vs : List (List ℕ)). History.entries_of vs) (texts-changed p (codes "History-Info") (masked_entries p.history) (history_value p) ls) ∙ entries_masked p.history (line_texts (codes "History-Info") ls)
+
+-- ---- the whole
+
+pub heard-masked : (p : Places) (trusted : Bool) (m : Message Start) → heard trusted (masked p m) ≡ hide p (heard trusted m)
+heard-masked p trusted m =
+    let q : Places = places_in m.start p in
     rw (
-      to-masked p m.start m.lines to,
-      from_tag-masked p m.lines,
-      to_tag-masked p m.lines,
-      first-masked p (codes "Via") m.lines (via_kept p),
-      first-masked p (codes "Call-ID") m.lines (call_id_kept p),
-      first-masked p (codes "CSeq") m.lines (cseq_kept p),
-      first-masked p (codes "Max-Forwards") m.lines (hops_kept p),
-      values-masked p Plain (codes "Route") m.lines (route_kept p),
-      terminates-masked p m.lines,
-      wants-masked p m.lines,
+      texts-masked q (codes "Via") m.lines (via_kept q),
+      from_tag-masked q m.lines,
+      to_tag-masked q m.lines,
+      first-masked q (codes "Call-ID") m.lines (call_id_kept q),
+      first-masked q (codes "CSeq") m.lines (cseq_kept q),
+      first-masked q (codes "Max-Forwards") m.lines (hops_kept q),
+      to-masked p m.start m.lines,
+      texts-masked q (codes "Route") m.lines (route_kept q),
+      texts-masked q (codes "Record-Route") m.lines (way_kept q),
+      texts-masked q (codes "Require") m.lines (require_kept q),
+      texts-masked q (codes "Supported") m.lines (supported_kept q),
+      first-masked q (codes "Expires") m.lines (expires_kept q),
+      served-masked q m.lines,
+      texts-masked q (codes "Refer-To") m.lines (refer_to_kept q),
+      first-masked q (codes "Event") m.lines (event_kept q),
+      wants-masked q m.lines,
+      history-masked q m.lines,
+      redirect-masked p m.start m.lines,
     ) refl
 
--- ---- the caller of a masked opening
+pub public-masked : (p : Places) (trusted : Bool) (m : Message Start) → public_part (heard trusted (masked p m)) ≡ public_part (heard trusted m)
+public-masked p trusted m = ap public_part (heard-masked p trusted m)
 
--- the private places, where it is known whether the caller is restricted
-abbrev places_if : Bool → Heard → Places
-places_if b d = joined (opening_if b) (only (private_entries d))
-
--- the digest, hidden by these
-abbrev hidden_if : Bool → List AccountIdentity → Heard → Heard
-hidden_if b accounts d = record d { lines = masked_lines (places_if b d) d.lines; tests = tests_if b accounts d }
-
-account_if : (b : Bool) (accounts : List AccountIdentity) (d : Heard) → caller_account accounts (hidden_if b accounts d) ≡ caller_account accounts d
-account_if true accounts d = refl
-account_if false accounts d = ap (λ (a : Option Account). account_told a d.tests) (origin-entries (private_entries d) accounts d.trusted d.lines)
-
-pub account-hidden : (restricts : Restriction) (accounts : List AccountIdentity) (d : Heard) → caller_account accounts (hide restricts accounts d) ≡ caller_account accounts d
-account-hidden restricts accounts d = account_if (is_private restricts accounts d) accounts d
-
-known_if : (b : Bool) (accounts : List AccountIdentity) (d : Heard) → is_known (hidden_if b accounts d) ≡ is_known d
-known_if true accounts d = refl
-known_if false accounts d = ap (λ (i : Identities). somebody_told (is_somebody i) d.tests) (asserted-entries (private_entries d) d.trusted d.lines)
-
-pub known-hidden : (restricts : Restriction) (accounts : List AccountIdentity) (d : Heard) → is_known (hide restricts accounts d) ≡ is_known d
-known-hidden restricts accounts d = known_if (is_private restricts accounts d) accounts d
-
-pub served-hidden : (restricts : Restriction) (accounts : List AccountIdentity) (d : Heard) → served_account accounts (hide restricts accounts d) ≡ served_account accounts d
-served-hidden restricts accounts d = ap (λ (a : Option Account). cond (d.trusted && d.terminates) None a) (account-hidden restricts accounts d)
-
-pub private-hidden : (restricts : Restriction) (accounts : List AccountIdentity) (d : Heard) → is_private restricts accounts (hide restricts accounts d) ≡ is_private restricts accounts d
-private-hidden restricts accounts d = ap (λ (a : Option Account). is_opening d && restricts d.wants a) (served-hidden restricts accounts d)
+-- messages that are equal without private places, whatever these are
+pub public_alike : (p q : Places) (trusted : Bool) (m n : Message Start) → masked p m ≡ masked q n → public_part (heard trusted m) ≡ public_part (heard trusted n)
+public_alike p q trusted m n e = sym (public-masked p trusted m) ∙ (ap (λ (x : Message Start). public_part (heard trusted x)) e ∙ public-masked q trusted n)
 
 -- ---- hiding twice
 
-tests_twice : (b : Bool) (accounts : List AccountIdentity) (d : Heard) → tests_if b accounts (hidden_if b accounts d) ≡ tests_if b accounts d
-tests_twice true accounts d = refl
-tests_twice false accounts d = refl
+entries_twice : (es : Entries) (h : List Entry) → hidden_entries es (hidden_entries es h) ≡ hidden_entries es h
+entries_twice NoEntries h = refl
+entries_twice MarkedEntries h = masked_once false h
+entries_twice AllEntries h = masked_once true h
 
-pub hide_again : (restricts : Restriction) (accounts : List AccountIdentity) (d : Heard) → hide restricts accounts (hide restricts accounts d) ≡ hide restricts accounts d
-hide_again restricts accounts d =
-    ap (λ (b : Bool). record d { lines = masked_lines (places_if b d) (hide restricts accounts d).lines; tests = tests_if b accounts (hide restricts accounts d) }) (private-hidden restricts accounts d)
-    ∙ (ap (λ (ls : List Line). record d { lines = ls; tests = tests_if (is_private restricts accounts d) accounts (hide restricts accounts d) }) (lines_again (places_of restricts accounts d) d.lines)
-    ∙ ap (λ (t : Tests). record d { lines = (hide restricts accounts d).lines; tests = t }) (tests_twice (is_private restricts accounts d) accounts d))
+uri_twice : (b : Bool) (u : Option (List ℕ)) → hidden_uri b (hidden_uri b u) ≡ hidden_uri b u
+uri_twice true None = refl
+uri_twice true (Some u) = refl
+uri_twice false u = refl
 
--- ---- what is shown of a masked message
-
-pub shown-hidden : (restricts : Restriction) (accounts : List AccountIdentity) (f : Facing) (history : List Line) (d : Heard) → f.restricted ≡ true → passed f false history (hide restricts accounts d).lines ≡ passed f false history d.lines
-shown-hidden restricts accounts f history d r = passed-masked (places_of restricts accounts d) f history d.lines r
-
-pub others-hidden : (restricts : Restriction) (accounts : List AccountIdentity) (f : Facing) (to_trusted : Bool) (history : List Line) (d : Heard) → is_private restricts accounts d ≡ false → passed f to_trusted history (hide restricts accounts d).lines ≡ passed f to_trusted history d.lines
-others-hidden restricts accounts f to_trusted history d e =
-    ap (λ (b : Bool). passed f to_trusted history (masked_lines (places_if b d) d.lines)) e ∙ passed-entries (private_entries d) f to_trusted history d.lines
-
-from_if : (b restricted : Bool) (tag : List ℕ) (d : Heard) → (b ≡ true → restricted ≡ true) → attempt_from restricted tag (masked_lines (places_if b d) d.lines) ≡ attempt_from restricted tag d.lines
-from_if true restricted tag d e = rw (e refl) refl
-from_if false restricted tag d e = from-entries (private_entries d) restricted tag d.lines
-
-pub from-hidden : (restricts : Restriction) (accounts : List AccountIdentity) (restricted : Bool) (tag : List ℕ) (d : Heard) → (is_private restricts accounts d ≡ true → restricted ≡ true) → attempt_from restricted tag (hide restricts accounts d).lines ≡ attempt_from restricted tag d.lines
-from-hidden restricts accounts restricted tag d e = from_if (is_private restricts accounts d) restricted tag d e
+pub hide_again : (p : Places) (m : HeardMessage) → hide p (hide p m) ≡ hide p m
+hide_again p m = rw (entries_twice p.history m.history, uri_twice p.redirect m.redirect, lines_again (places_in m.start p) m.lines) refl

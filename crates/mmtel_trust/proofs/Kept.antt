@@ -10,22 +10,21 @@ use Rattle.mmtel_lex.specs.Reading.{name_addr_of}
 use Rattle.mmtel_lex.specs.declared.values.NameAddr.{NameAddr}
 use Rattle.mmtel_lex.specs.declared.values.Param.{Param}
 use Rattle.mmtel_lex.specs.Params.{param_value}
-use Rattle.mmtel_message.specs.Message.{Message, is_line, first_value, named, line_values, values_named}
-use Rattle.mmtel_message.specs.declared.messages.Start.{Start}
+use Rattle.mmtel_message.specs.Message.{Line, first_value, is_line, line_values, named, values_named}
 use Rattle.mmtel_message.specs.declared.values.Mode.{Mode}
 use Rattle.mmtel_message.specs.declared.values.Mode.TheVariants.{Words, Plain}
 use Rattle.mmtel_trust.specs.Kinds.{kind_of}
-use Rattle.mmtel_trust.specs.Privacy.{Line, words, wants}
-use Rattle.mmtel_trust.specs.Mask.{Entries, NoEntries, MarkedEntries, AllEntries, only, masked, are_public, is_kept, is_session, hidden_value, served_value, Places, hide_if, serve_if, unless_gone, masked_entries, masked_value, with_name, masked_line, masked_lines}
+use Rattle.mmtel_trust.specs.Privacy.{words, wants}
+use Rattle.mmtel_trust.specs.Mask.{Entries, NoEntries, MarkedEntries, AllEntries, only, are_public, is_kept, hidden_value, Places, hide_if, serve_if, unless_gone, masked_entries, masked_value, with_name, masked_line, masked_lines}
 use Rattle.mmtel_trust.specs.Asserted.{asserted}
-use Rattle.mmtel_trust.specs.Digest.{tag_of, is_terminating, terminates_by, origin_account}
+use Rattle.mmtel_trust.specs.Digest.{tag_of, origin_account}
 use Rattle.mmtel_trust.specs.Passed.{is_shown, passed, attempt_from}
 use Rattle.mmtel_trust.specs.declared.accounts.AccountIdentity.{AccountIdentity}
 use Rattle.mmtel_trust.specs.declared.showing.Facing.{Facing}
-use Rattle.mmtel_trust.specs.declared.kinds.Kind.{Kind}
-use Rattle.mmtel_trust.specs.declared.kinds.Kind.TheVariants.{From, To, Contact, Asserted, Served, Privacy, History, Options, Passed, Personal, Trusted, Other}
+use Rattle.mmtel_trust.specs.declared.kinds.HeaderKind.{HeaderKind}
+use Rattle.mmtel_trust.specs.declared.kinds.HeaderKind.TheVariants.{From, To, Contact, Asserted, Served, Privacy, History, Options, Passed, Personal, Trusted, Other}
 use Rattle.mmtel_trust.proofs.Absorbed.{filtered}
-use Rattle.mmtel_trust.proofs.Masked.{hidden_params, served_params}
+use Rattle.mmtel_trust.proofs.Masked.{hidden_params}
 
 -- ---- names that are equal without case are of one kind
 
@@ -50,7 +49,7 @@ public_entries NoEntries v e = refl
 public_entries MarkedEntries v e = absurd cc
 public_entries AllEntries v e = absurd cc
 
-kept_value : (p : Places) (k : Kind) (v : List ℕ) → is_kept p k ≡ true → masked_value p k v ≡ Some v
+kept_value : (p : Places) (k : HeaderKind) (v : List ℕ) → is_kept p k ≡ true → masked_value p k v ≡ Some v
 kept_value p From v e = ap (λ w. Some w) (hide_not p.from v e)
 kept_value p To v e = ap (λ w. Some w) (hide_not p.to v e)
 kept_value p Contact v e = ap (λ w. Some w) (hide_not p.contact v e)
@@ -140,11 +139,11 @@ pub changed : (p : Places) (name : List ℕ) (f : List ℕ → List ℕ) (ls : L
 changed p name f [] k = refl
 changed p name f (l ∷ ls) k = changed_if (is_line name l) p name f l ls k refl (changed p name f ls k)
 
-from_value : (p : Places) (v : List ℕ) → masked_value p (kind_of (codes "From")) v ≡ Some (hide_if p.from v)
+pub from_value : (p : Places) (v : List ℕ) → masked_value p (kind_of (codes "From")) v ≡ Some (hide_if p.from v)
 unfolding kind_of
 from_value p v = refl
 
-to_value : (p : Places) (v : List ℕ) → masked_value p (kind_of (codes "To")) v ≡ Some (hide_if p.to v)
+pub to_value : (p : Places) (v : List ℕ) → masked_value p (kind_of (codes "To")) v ≡ Some (hide_if p.to v)
 unfolding kind_of
 to_value p v = refl
 
@@ -152,7 +151,7 @@ tag_by : (r : Option NameAddr) → (r >>= λ n. param_value (codes "tag") n.para
 tag_by None = refl
 tag_by (Some n) = refl
 
-tag_hidden : (b : Bool) (v : Option (List ℕ)) → tag_of (option_map (hide_if b) v) ≡ tag_of v
+pub tag_hidden : (b : Bool) (v : Option (List ℕ)) → tag_of (option_map (hide_if b) v) ≡ tag_of v
 tag_hidden b None = refl
 tag_hidden true (Some s) = tag_by (name_addr_of (hidden_value s)) ∙ (ap (λ r. r >>= λ ps. param_value (codes "tag") ps) (hidden_params s) ∙ sym (tag_by (name_addr_of s)))
 tag_hidden false (Some s) = refl
@@ -177,7 +176,7 @@ served_kept : (es : Entries) → is_kept (only es) (kind_of (codes "P-Served-Use
 unfolding kind_of
 served_kept es = refl
 
-shown_kind : (es : Entries) (f : Facing) (to_trusted : Bool) (k : Kind) (l : Line) → kind_of l.0 ≡ k → filter (is_shown f to_trusted) (with_name l.0 (masked_value (only es) k l.1)) ≡ filter (is_shown f to_trusted) (l ∷ [])
+shown_kind : (es : Entries) (f : Facing) (to_trusted : Bool) (k : HeaderKind) (l : Line) → kind_of l.0 ≡ k → filter (is_shown f to_trusted) (with_name l.0 (masked_value (only es) k l.1)) ≡ filter (is_shown f to_trusted) (l ∷ [])
 unfolding is_shown
 shown_kind es f to_trusted From l e = refl
 shown_kind es f to_trusted To l e = refl
@@ -206,9 +205,9 @@ passed-entries es f to_trusted history ls =
       filtered (masked_line (only es)) (is_shown f to_trusted) (shown_alone es f to_trusted) ls,
     ) refl
 
-pub passed_alike-entries : (es : Entries) (f : Facing) (to_trusted : Bool) (history : List Line) (m n : Message Start) → masked (only es) m ≡ masked (only es) n → passed f to_trusted history m.lines ≡ passed f to_trusted history n.lines
-passed_alike-entries es f to_trusted history m n e =
-    sym (passed-entries es f to_trusted history m.lines) ∙ (ap (λ (x : Message Start). passed f to_trusted history x.lines) e ∙ passed-entries es f to_trusted history n.lines)
+pub passed_alike-entries : (es other : Entries) (f : Facing) (to_trusted : Bool) (history ls ms : List Line) → masked_lines (only es) ls ≡ masked_lines (only other) ms → passed f to_trusted history ls ≡ passed f to_trusted history ms
+passed_alike-entries es other f to_trusted history ls ms e =
+    sym (passed-entries es f to_trusted history ls) ∙ (ap (λ (xs : List Line). passed f to_trusted history xs) e ∙ passed-entries other f to_trusted history ms)
 
 pub from-entries : (es : Entries) (restricted : Bool) (tag : List ℕ) (ls : List Line) → attempt_from restricted tag (masked_lines (only es) ls) ≡ attempt_from restricted tag ls
 from-entries es restricted tag ls = rw (first-masked (only es) (codes "From") ls (from_kept es)) refl
@@ -219,25 +218,3 @@ asserted-entries es trusted ls = rw (values-masked (only es) Plain (codes "P-Ass
 
 pub origin-entries : (es : Entries) (accounts : List AccountIdentity) (trusted : Bool) (ls : List Line) → origin_account accounts trusted (masked_lines (only es) ls) ≡ origin_account accounts trusted ls
 origin-entries es accounts trusted ls = rw (asserted-entries es trusted ls, first-masked (only es) (codes "P-Served-User") ls (served_kept es)) refl
-
--- ---- the session case of P-Served-User
-
-served_value_at : (p : Places) (v : List ℕ) → masked_value p (kind_of (codes "P-Served-User")) v ≡ Some (serve_if p.served v)
-unfolding kind_of
-served_value_at p v = refl
-
-abbrev session_of : Option (List Param) → Bool
-session_of None = false
-session_of (Some ps) = is_session (codes "term") ps
-
-session_by : (r : Option NameAddr) → is_terminating r ≡ session_of (option_map (λ n. n.params) r)
-session_by None = refl
-session_by (Some n) = refl
-
-terminates_value : (b : Bool) (v : Option (List ℕ)) → terminates_by (option_map (serve_if b) v) ≡ terminates_by v
-terminates_value b None = refl
-terminates_value true (Some s) = session_by (name_addr_of (served_value s)) ∙ (ap session_of (served_params s) ∙ sym (session_by (name_addr_of s)))
-terminates_value false (Some s) = refl
-
-pub terminates-masked : (p : Places) (ls : List Line) → terminates_by (first_value (codes "P-Served-User") (masked_lines p ls)) ≡ terminates_by (first_value (codes "P-Served-User") ls)
-terminates-masked p ls = ap terminates_by (changed p (codes "P-Served-User") (serve_if p.served) ls (served_value_at p)) ∙ terminates_value p.served (first_value (codes "P-Served-User") ls)

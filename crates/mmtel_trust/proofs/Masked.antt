@@ -12,17 +12,18 @@ use Rattle.mmtel_scan.specs.declared.classes.Class.TheVariants.{UriByte}
 use Rattle.mmtel_lex.specs.declared.values.Param.{Param}
 use Rattle.mmtel_lex.specs.declared.values.NameAddr.{NameAddr}
 use Rattle.mmtel_lex.proofs.NameAddrLaws.{name_addr_again, name_addr_takes}
-use Rattle.mmtel_message.specs.Message.{Message}
+use Rattle.mmtel_message.specs.Message.{Line, Message}
 use Rattle.mmtel_message.specs.declared.messages.Start.{Start}
 use Rattle.mmtel_history.specs.HistoryInfo.{anonymous}
 use Rattle.mmtel_history.specs.MaskedValues.{is_marked_value}
 use Rattle.mmtel_history.proofs.MaskedValueLaws.{masked_value_once, masked_value_shown}
+use Rattle.mmtel_trust.specs.Digest.{served_in}
 use Rattle.mmtel_trust.specs.Kinds.{kind_of}
-use Rattle.mmtel_trust.specs.Passed.{Line, is_shown, asserted_lines, passed}
-use Rattle.mmtel_trust.specs.Mask.{Entries, NoEntries, MarkedEntries, AllEntries, hidden, hidden_value, is_orig, served_value, Places, hide_if, serve_if, unless_gone, masked_entries, masked_value, with_name, masked_line, masked_lines, masked}
+use Rattle.mmtel_trust.specs.Passed.{is_shown, asserted_lines, passed}
+use Rattle.mmtel_trust.specs.Mask.{Entries, NoEntries, MarkedEntries, AllEntries, hidden, hidden_value, is_orig, served_value, Places, places_in, hide_if, serve_if, unless_gone, masked_entries, masked_value, with_name, masked_line, masked_lines, masked}
 use Rattle.mmtel_trust.specs.declared.showing.Facing.{Facing}
-use Rattle.mmtel_trust.specs.declared.kinds.Kind.{Kind}
-use Rattle.mmtel_trust.specs.declared.kinds.Kind.TheVariants.{From, To, Contact, Asserted, Served, Privacy, History, Options, Passed, Personal, Trusted, Other}
+use Rattle.mmtel_trust.specs.declared.kinds.HeaderKind.{HeaderKind}
+use Rattle.mmtel_trust.specs.declared.kinds.HeaderKind.TheVariants.{From, To, Contact, Asserted, Served, Privacy, History, Options, Passed, Personal, Trusted, Other}
 use Rattle.mmtel_trust.proofs.Absorbed.{absorbed, filtered}
 
 -- ---- values
@@ -62,6 +63,15 @@ params_by v (Some n) e = rw (e, hidden_reads n.params (read_params v n e)) refl
 pub hidden_params : (v : List ℕ) → option_map (λ n. n.params) (name_addr_of (hidden_value v)) ≡ option_map (λ n. n.params) (name_addr_of v)
 hidden_params v = params_by v (name_addr_of v) refl
 
+uri_by : (v : List ℕ) (o : Option NameAddr) → name_addr_of v ≡ o → option_map (λ n. n.uri) (name_addr_of (hidden_value v)) ≡ option_map (λ u. anonymous) (option_map (λ n. n.uri) o)
+unfolding hidden_value
+uri_by v None e = rw (e, e) refl
+uri_by v (Some n) e = rw (e, hidden_reads n.params (read_params v n e)) refl
+
+-- nobody's URI stands in the place of the URI
+pub hidden_uris : (v : List ℕ) → option_map (λ n. n.uri) (name_addr_of (hidden_value v)) ≡ option_map (λ u. anonymous) (option_map (λ n. n.uri) (name_addr_of v))
+hidden_uris v = uri_by v (name_addr_of v) refl
+
 served_if : (b : Bool) (v : List ℕ) (n : NameAddr) → name_addr_of v ≡ Some n → is_orig n.params ≡ b → served_value (served_value v) ≡ served_value v
 unfolding served_value
 served_if true v n e o = rw (e, o, hidden_reads n.params (read_params v n e), o) refl
@@ -78,18 +88,18 @@ served_by v (Some n) e = served_if (is_orig n.params) v n e refl
 pub served_once : (v : List ℕ) → served_value (served_value v) ≡ served_value v
 served_once v = served_by v (name_addr_of v) refl
 
-served_params_if : (b : Bool) (v : List ℕ) (n : NameAddr) → name_addr_of v ≡ Some n → is_orig n.params ≡ b → option_map (λ n. n.params) (name_addr_of (served_value v)) ≡ Some n.params
+told_if : (b : Bool) (v : List ℕ) (n : NameAddr) → name_addr_of v ≡ Some n → is_orig n.params ≡ b → served_in (name_addr_of (served_value v)) ≡ served_in (Some n)
 unfolding served_value
-served_params_if true v n e o = rw (e, o, hidden_reads n.params (read_params v n e)) refl
-served_params_if false v n e o = rw (e, o, e) refl
+told_if true v n e o = rw (e, o, hidden_reads n.params (read_params v n e), o) refl
+told_if false v n e o = rw (e, o, e, o) refl
 
-served_params_by : (v : List ℕ) (r : Option NameAddr) → name_addr_of v ≡ r → option_map (λ n. n.params) (name_addr_of (served_value v)) ≡ option_map (λ n. n.params) r
-served_params_by v None e = ap (λ (w : List ℕ). option_map (λ n. n.params) (name_addr_of w)) (unserved v e) ∙ ap (λ (r : Option NameAddr). option_map (λ n. n.params) r) e
-served_params_by v (Some n) e = served_params_if (is_orig n.params) v n e refl
+told_by : (v : List ℕ) (r : Option NameAddr) → name_addr_of v ≡ r → served_in (name_addr_of (served_value v)) ≡ served_in r
+told_by v None e = ap (λ (w : List ℕ). served_in (name_addr_of w)) (unserved v e) ∙ ap served_in e
+told_by v (Some n) e = told_if (is_orig n.params) v n e refl
 
--- the parameters of a P-Served-User stay
-pub served_params : (v : List ℕ) → option_map (λ n. n.params) (name_addr_of (served_value v)) ≡ option_map (λ n. n.params) (name_addr_of v)
-served_params v = served_params_by v (name_addr_of v) refl
+-- what a P-Served-User says that is not private stays
+pub served_told : (v : List ℕ) → served_in (name_addr_of (served_value v)) ≡ served_in (name_addr_of v)
+served_told v = told_by v (name_addr_of v) refl
 
 -- ---- entries of History-Info
 
@@ -116,14 +126,14 @@ abbrev pub then_by : (List ℕ → Option (List ℕ)) → Option (List ℕ) → 
 then_by f None = None
 then_by f (Some v) = f v
 
-abbrev pub again : Places → Kind → Option (List ℕ) → Option (List ℕ)
+abbrev pub again : Places → HeaderKind → Option (List ℕ) → Option (List ℕ)
 again p k o = then_by (masked_value p k) o
 
 gone_once : (b : Bool) (v : List ℕ) → then_by (unless_gone b) (unless_gone b v) ≡ unless_gone b v
 gone_once true v = refl
 gone_once false v = refl
 
-kind_once : (p : Places) (k : Kind) (v : List ℕ) → again p k (masked_value p k v) ≡ masked_value p k v
+kind_once : (p : Places) (k : HeaderKind) (v : List ℕ) → again p k (masked_value p k v) ≡ masked_value p k v
 kind_once p From v = ap (λ w. Some w) (hide_once p.from v)
 kind_once p To v = ap (λ w. Some w) (hide_once p.to v)
 kind_once p Contact v = ap (λ w. Some w) (hide_once p.contact v)
@@ -146,8 +156,11 @@ line_once : (p : Places) (l : Line) → flat_map (masked_line p) (masked_line p 
 unfolding masked_line
 line_once p l = name_once p l.0 (masked_value p (kind_of l.0) l.1) ∙ ap (with_name l.0) (kind_once p (kind_of l.0) l.1)
 
+pub lines_again : (p : Places) (ls : List Line) → masked_lines p (masked_lines p ls) ≡ masked_lines p ls
+lines_again p ls = absorbed (masked_line p) (masked_line p) (line_once p) ls
+
 pub masked_again : (p : Places) (m : Message Start) → masked p (masked p m) ≡ masked p m
-masked_again p m = ap (λ ls. record m { lines = ls }) (absorbed (masked_line p) (masked_line p) (line_once p) m.lines)
+masked_again p m = ap (λ ls. record m { lines = ls }) (lines_again (places_in m.start p) m.lines)
 
 -- ---- what is shown
 
@@ -155,7 +168,7 @@ gone_shown : (f : Facing) (b : Bool) (l : Line) → is_shown f false l ≡ false
 gone_shown f true l e = rw e refl
 gone_shown f false l e = refl
 
-shown_as : (p : Places) (f : Facing) → f.restricted ≡ true → (k : Kind) (l : Line) → kind_of l.0 ≡ k → filter (is_shown f false) (with_name l.0 (masked_value p k l.1)) ≡ filter (is_shown f false) (l ∷ [])
+shown_as : (p : Places) (f : Facing) → f.restricted ≡ true → (k : HeaderKind) (l : Line) → kind_of l.0 ≡ k → filter (is_shown f false) (with_name l.0 (masked_value p k l.1)) ≡ filter (is_shown f false) (l ∷ [])
 unfolding is_shown
 shown_as p f r From l e = rw e refl
 shown_as p f r To l e = rw e refl
@@ -185,8 +198,6 @@ none_asserted f ls r = none_if f.from_trusted f.present f.restricted _ r
 pub passed-masked : (p : Places) (f : Facing) (history ls : List Line) → f.restricted ≡ true → passed f false history (masked_lines p ls) ≡ passed f false history ls
 passed-masked p f history ls r = rw (none_asserted f (masked_lines p ls) r, none_asserted f ls r, filtered (masked_line p) (is_shown f false) (shown_line p f r) ls) refl
 
-pub passed_alike : (p : Places) (f : Facing) (history : List Line) (m n : Message Start) → f.restricted ≡ true → masked p m ≡ masked p n → passed f false history m.lines ≡ passed f false history n.lines
-passed_alike p f history m n r e = sym (passed-masked p f history m.lines r) ∙ (ap (λ x. passed f false history x.lines) e ∙ passed-masked p f history n.lines r)
-
-pub lines_again : (p : Places) (ls : List Line) → masked_lines p (masked_lines p ls) ≡ masked_lines p ls
-lines_again p ls = absorbed (masked_line p) (masked_line p) (line_once p) ls
+-- lines that are equal without private places, whatever these are
+pub passed_alike : (p q : Places) (f : Facing) (history ls ms : List Line) → f.restricted ≡ true → masked_lines p ls ≡ masked_lines q ms → passed f false history ls ≡ passed f false history ms
+passed_alike p q f history ls ms r e = sym (passed-masked p f history ls r) ∙ (ap (λ (xs : List Line). passed f false history xs) e ∙ passed-masked q f history ms r)

@@ -12,10 +12,10 @@ use Rattle.mmtel_types.specs.declared.numbers.Peer.{Peer}
 use Rattle.mmtel_lex.specs.declared.values.Uri.{Uri}
 use Rattle.mmtel_lex.specs.declared.values.Uri.TheVariants.{Sip, Tel}
 use Rattle.mmtel_lex.specs.Identity.{reduced}
-use Rattle.mmtel_trust.specs.declared.addrs.Addr.{Addr}
+use Rattle.mmtel_types.specs.declared.addrs.Addr.{Addr}
 use Rattle.mmtel_trust.specs.declared.parties.KnownPeer.{KnownPeer}
 use Rattle.mmtel_trust.specs.declared.parties.Route.{Route}
-use Rattle.mmtel_trust.specs.Addrs.{is_same_addr}
+use Rattle.mmtel_types.specs.Addrs.{is_same_addr}
 use Rattle.mmtel_trust.specs.Peers.{is_number, is_at, has_number, has_addr, peer_at, addr_of, are_apart, leads, longer, longest, is_route, own_route, or_route, route_of}
 
 -- ---- equal numbers and addresses

@@ -1,7 +1,7 @@
 -- Words that ';' parts.
 use Rattle.std.proofs.Common.{◌≡◌, ℕ, suc, ◌+◌, ◌<◌, List, [], ◌∷◌, ◌++◌, refl, sym, ap, ◌∙◌, Bool, true, false, not, Option, Some, None, take, drop, cond, length, arith, nat_lt, inl, inr, codes, append_assoc}
 use Rattle.std.specs.Prelude.{◌==◌, ◌||◌, position, filter}
-use Rattle.std.specs.List.{list_any, flat_map, position_or_len}
+use Rattle.std.specs.List.{list_any, flat_map}
 use Rattle.std.specs.Option.{option_map}
 use Rattle.std.specs.Str.{str_eq_ignore_ascii_case}
 use Rattle.std.proofs.lemmas.Bool.{cases_Bool}
@@ -10,31 +10,16 @@ use Rattle.std.proofs.lemmas.List.{length-append}
 use Rattle.std.proofs.lemmas.List.Folds.{list_any-append}
 use Rattle.mmtel_scan.specs.Scanning as Scanning
 use Rattle.mmtel_scan.specs.Scanning.{parted}
+use Rattle.mmtel_scan.proofs.Positions.{position_yes, position_no}
 use Rattle.mmtel_scan.proofs.Runs.{parted_takes}
 use Rattle.mmtel_message.specs.Values as Values
 use Rattle.mmtel_message.specs.Values.{parts, put_byte, joined_by}
 use Rattle.mmtel_message.specs.declared.values.Mode.TheVariants.{Words}
-use Rattle.mmtel_trust.specs.Privacy.{Line, words, has_word, restricted_words, restricted_text}
+use Rattle.mmtel_message.specs.Message.{Line}
+use Rattle.mmtel_trust.specs.Privacy.{words, has_word, restricted_words, restricted_text}
 use Rattle.mmtel_trust.specs.Written.{kept_word}
 
 -- ---- the first ';'
-
-position_yes : (p : ℕ → Bool) (x : ℕ) (xs : List ℕ) → p x ≡ true → position p (x ∷ xs) ≡ Some 0
-position_yes p x xs e =
-    let low : nat_lt 0 (suc (length xs)) ≡ true = grind (arith, nat_tests) in
-    rw (e, low) refl
-
-position_no : (p : ℕ → Bool) (x : ℕ) (xs : List ℕ) → p x ≡ false → position p (x ∷ xs) ≡ option_map (λ n. n + 1) (position p xs)
-position_no p x xs e =
-    let a : ℕ = position_or_len p xs in
-    elim (cases_Bool (nat_lt a (length xs))) [
-      | inl y ↦
-          let low : nat_lt (1 + a) (suc (length xs)) ≡ true = grind (arith, nat_tests, y) in
-          rw (e, low, y) (ap (λ (n : ℕ). Some n) (omega arith))
-      | inr no_such ↦
-          let high : nat_lt (1 + a) (suc (length xs)) ≡ false = grind (arith, nat_tests, no_such) in
-          rw (e, high, no_such) refl
-    ]
 
 abbrev pub Parted : Type 0
 Parted = List ℕ × List ℕ

@@ -1,5 +1,5 @@
 -- A message with all kinds of lines: what is left of it without its private places, and what it shows to both sorts of peer.
-use Rattle.std.proofs.Common.{◌≡◌, ◌==◌, List, [], ◌∷◌, refl, Bool, true, false, ◌||◌, codes, Option, Some, None}
+use Rattle.std.proofs.Common.{◌≡◌, ◌==◌, ℕ, List, [], ◌∷◌, refl, Bool, true, false, ◌||◌, codes, Option, Some, None}
 use Rattle.std.specs.Fmt as Fmt
 use Rattle.mmtel_scan.specs.Classes as Classes
 use Rattle.mmtel_scan.specs.Numbers as Numbers
@@ -7,21 +7,24 @@ use Rattle.mmtel_scan.specs.Scanning as Scanning
 use Rattle.mmtel_lex.specs.Reading as Reading
 use Rattle.mmtel_lex.specs.SameIdentity as SameIdentity
 use Rattle.mmtel_lex.specs.declared.values.Uri.TheVariants.{Sip}
-use Rattle.mmtel_message.specs.Message.{Message}
+use Rattle.mmtel_message.specs.Message.{Line, Message}
 use Rattle.mmtel_message.specs.Entries as Entries
 use Rattle.mmtel_message.specs.Values as Values
 use Rattle.mmtel_message.specs.declared.messages.Start.{Start}
-use Rattle.mmtel_message.specs.declared.messages.Start.TheVariants.{Request}
+use Rattle.mmtel_message.specs.declared.messages.Start.TheVariants.{Request, Status}
+use Rattle.mmtel_lex.specs.UriPlaces as UriPlaces
 use Rattle.mmtel_history.specs.EntryUri as EntryUri
 use Rattle.mmtel_history.specs.HistoryInfo as History
+use Rattle.mmtel_history.specs.declared.entries.Entry.{Entry}
 use Rattle.mmtel_history.specs.MaskedValues.{is_marked_value, masked_value_text}
 use Rattle.mmtel_types.specs.declared.numbers.Account.{Account}
-use Rattle.mmtel_trust.specs.Digest.{Answers, Restriction, heard, hide}
+use Rattle.mmtel_types.specs.declared.privacy.PrivacySet.{PrivacySet}
+use Rattle.mmtel_trust.specs.Digest.{HeardMessage, NoCase, Originating, ServedUser, Terminating, heard}
+use Rattle.mmtel_trust.specs.MaskedMessages.{Answers, Restriction, hide, mask}
 use Rattle.mmtel_trust.specs.declared.accounts.AccountIdentity.{AccountIdentity}
 use Rattle.mmtel_trust.specs.Kinds.{kind_of}
-use Rattle.mmtel_trust.specs.Privacy.{Line}
 use Rattle.mmtel_trust.specs.Passed.{passed, is_shown}
-use Rattle.mmtel_trust.specs.Mask.{opening, masked_lines, masked_line, hidden, hidden_value, served_value}
+use Rattle.mmtel_trust.specs.Mask.{MarkedEntries, Places, answered, answering, only, opening, masked_lines, masked_line, hidden, hidden_value, served_value}
 
 abbrev lines : List Line
 lines =
@@ -50,13 +53,13 @@ worked_mask : masked_lines opening lines ≡
 unfolding Scanning.closes masked_line kind_of hidden hidden_value served_value Reading.name_addr_of Reading.words_of Reading.quoted_of Reading.angle_of Reading.bare_of Reading.all_params_at Reading.params_at Reading.param_at Reading.token_at Reading.value_at Reading.text_at Classes.in_class Scanning.run Scanning.after_run Scanning.trimmed Scanning.parted
 worked_mask = refl
 
-worked_untrusted : passed (record { from_trusted = true; restricted = true; present = true }) false [] lines ≡
+worked_untrusted : passed (record { from_trusted = true; restricted = true; present = true; mask_all = false }) false [] lines ≡
     (codes "Supported", codes "histinfo") ∷
     (codes "Accept", codes "application/sdp") ∷ []
 unfolding is_shown kind_of
 worked_untrusted = refl
 
-worked_trusted : passed (record { from_trusted = true; restricted = true; present = true }) true [] lines ≡
+worked_trusted : passed (record { from_trusted = true; restricted = true; present = true; mask_all = false }) true [] lines ≡
     (codes "P-Asserted-Identity", codes "<sip:bob@home>") ∷
     (codes "Privacy", codes "user;id") ∷
     (codes "Supported", codes "histinfo") ∷
@@ -66,7 +69,7 @@ unfolding is_shown kind_of Values.parts Scanning.trimmed Scanning.after_run Clas
 worked_trusted = refl
 
 -- an unrestricted message of a peer that is not trusted shows no identity that it asserts
-worked_disbelieved : passed (record { from_trusted = false; restricted = false; present = true }) true [] lines ≡
+worked_disbelieved : passed (record { from_trusted = false; restricted = false; present = true; mask_all = false }) true [] lines ≡
     (codes "Privacy", codes "none;user") ∷
     (codes "subject", codes "me") ∷
     (codes "Supported", codes "histinfo") ∷
@@ -107,43 +110,46 @@ by_id wants account = wants.id
 
 -- the lines of the message without its private places, where it comes from a trusted peer or not
 abbrev left : Bool → List Line → List Line
-left trusted more = (hide restricts accounts (heard trusted (invite more))).lines
+left trusted more = (mask restricts accounts (heard trusted (invite more))).message.lines
 
 -- without a P-Served-User, and with one of the originating case, her record restricts
 worked_permanent : left true [] ≡
     (codes "From", codes "<sip:anonymous@anonymous.invalid>;tag=7") ∷
     (codes "To", codes "<sip:bob@far.example>") ∷ []
-unfolding Fmt.digits SameIdentity.is_same_identity Scanning.closes masked_line kind_of hidden hidden_value served_value masked_value_text is_marked_value History.entry_of Entries.is_dotted History.shown_uri History.entry_text EntryUri.user_part EntryUri.host_part EntryUri.cause_number EntryUri.cause_of EntryUri.hides EntryUri.is_marked EntryUri.with_cause Numbers.number_of Numbers.within Values.parts Values.parting Reading.name_addr_of Reading.words_of Reading.quoted_of Reading.angle_of Reading.bare_of Reading.all_params_at Reading.params_at Reading.param_at Reading.token_at Reading.value_at Reading.text_at Reading.user_at Reading.host_at Reading.port_number Reading.port_at Reading.headers_of Reading.headers_at Reading.sip_of Reading.scheme_of Reading.number_at Reading.tel_of Reading.uri_of Classes.in_class Scanning.run Scanning.after_run Scanning.trimmed Scanning.parted
+unfolding Fmt.digits SameIdentity.is_same_identity Scanning.closes masked_line kind_of hidden hidden_value served_value masked_value_text is_marked_value History.entry_of Entries.is_dotted History.shown_uri History.entry_text UriPlaces.user_part UriPlaces.host_part EntryUri.cause_number EntryUri.cause_of EntryUri.hides EntryUri.is_marked EntryUri.with_cause Numbers.number_of Numbers.within Values.parts Values.parting Reading.name_addr_of Reading.words_of Reading.quoted_of Reading.angle_of Reading.bare_of Reading.all_params_at Reading.params_at Reading.param_at Reading.token_at Reading.value_at Reading.text_at Reading.user_at Reading.host_at Reading.port_number Reading.port_at Reading.headers_of Reading.headers_at Reading.sip_of Reading.scheme_of Reading.number_at Reading.tel_of Reading.uri_of Classes.in_class Scanning.run Scanning.after_run Scanning.trimmed Scanning.parted
 worked_permanent = refl
 
 worked_served : left true ((codes "P-Served-User", codes "<sip:a@h>;sescase=orig") ∷ []) ≡
     (codes "From", codes "<sip:anonymous@anonymous.invalid>;tag=7") ∷
     (codes "To", codes "<sip:bob@far.example>") ∷
     (codes "P-Served-User", codes "<sip:anonymous@anonymous.invalid>;sescase=orig") ∷ []
-unfolding Fmt.digits SameIdentity.is_same_identity Scanning.closes masked_line kind_of hidden hidden_value served_value masked_value_text is_marked_value History.entry_of Entries.is_dotted History.shown_uri History.entry_text EntryUri.user_part EntryUri.host_part EntryUri.cause_number EntryUri.cause_of EntryUri.hides EntryUri.is_marked EntryUri.with_cause Numbers.number_of Numbers.within Values.parts Values.parting Reading.name_addr_of Reading.words_of Reading.quoted_of Reading.angle_of Reading.bare_of Reading.all_params_at Reading.params_at Reading.param_at Reading.token_at Reading.value_at Reading.text_at Reading.user_at Reading.host_at Reading.port_number Reading.port_at Reading.headers_of Reading.headers_at Reading.sip_of Reading.scheme_of Reading.number_at Reading.tel_of Reading.uri_of Classes.in_class Scanning.run Scanning.after_run Scanning.trimmed Scanning.parted
+unfolding Fmt.digits SameIdentity.is_same_identity Scanning.closes masked_line kind_of hidden hidden_value served_value masked_value_text is_marked_value History.entry_of Entries.is_dotted History.shown_uri History.entry_text UriPlaces.user_part UriPlaces.host_part EntryUri.cause_number EntryUri.cause_of EntryUri.hides EntryUri.is_marked EntryUri.with_cause Numbers.number_of Numbers.within Values.parts Values.parting Reading.name_addr_of Reading.words_of Reading.quoted_of Reading.angle_of Reading.bare_of Reading.all_params_at Reading.params_at Reading.param_at Reading.token_at Reading.value_at Reading.text_at Reading.user_at Reading.host_at Reading.port_number Reading.port_at Reading.headers_of Reading.headers_at Reading.sip_of Reading.scheme_of Reading.number_at Reading.tel_of Reading.uri_of Classes.in_class Scanning.run Scanning.after_run Scanning.trimmed Scanning.parted
 worked_served = refl
 
 -- where the terminating user is served, her record is not asked; of two lines the first counts, and of two parameters
 worked_terminating : left true ((codes "P-Served-User", codes "<sip:bob@home.example>;sescase=term;sescase=orig") ∷ (codes "P-Served-User", codes "<sip:a@h>;sescase=orig") ∷ []) ≡
     (invite ((codes "P-Served-User", codes "<sip:bob@home.example>;sescase=term;sescase=orig") ∷ (codes "P-Served-User", codes "<sip:a@h>;sescase=orig") ∷ [])).lines
-unfolding Fmt.digits SameIdentity.is_same_identity Scanning.closes masked_line kind_of hidden hidden_value served_value masked_value_text is_marked_value History.entry_of Entries.is_dotted History.shown_uri History.entry_text EntryUri.user_part EntryUri.host_part EntryUri.cause_number EntryUri.cause_of EntryUri.hides EntryUri.is_marked EntryUri.with_cause Numbers.number_of Numbers.within Values.parts Values.parting Reading.name_addr_of Reading.words_of Reading.quoted_of Reading.angle_of Reading.bare_of Reading.all_params_at Reading.params_at Reading.param_at Reading.token_at Reading.value_at Reading.text_at Reading.user_at Reading.host_at Reading.port_number Reading.port_at Reading.headers_of Reading.headers_at Reading.sip_of Reading.scheme_of Reading.number_at Reading.tel_of Reading.uri_of Classes.in_class Scanning.run Scanning.after_run Scanning.trimmed Scanning.parted
+unfolding Fmt.digits SameIdentity.is_same_identity Scanning.closes masked_line kind_of hidden hidden_value served_value masked_value_text is_marked_value History.entry_of Entries.is_dotted History.shown_uri History.entry_text UriPlaces.user_part UriPlaces.host_part EntryUri.cause_number EntryUri.cause_of EntryUri.hides EntryUri.is_marked EntryUri.with_cause Numbers.number_of Numbers.within Values.parts Values.parting Reading.name_addr_of Reading.words_of Reading.quoted_of Reading.angle_of Reading.bare_of Reading.all_params_at Reading.params_at Reading.param_at Reading.token_at Reading.value_at Reading.text_at Reading.user_at Reading.host_at Reading.port_number Reading.port_at Reading.headers_of Reading.headers_at Reading.sip_of Reading.scheme_of Reading.number_at Reading.tel_of Reading.uri_of Classes.in_class Scanning.run Scanning.after_run Scanning.trimmed Scanning.parted
 worked_terminating = refl
 
 -- but a word of Privacy restricts her still, and the account that stands beside is hers
-worked_asked : (hide restricts accounts (heard true (invite ((codes "P-Served-User", codes "<sip:bob@home.example>;sescase=term") ∷ (codes "Privacy", codes "id") ∷ [])))).tests ≡ Answers (Some alice) true
-unfolding Fmt.digits SameIdentity.is_same_identity Scanning.closes masked_line kind_of hidden hidden_value served_value masked_value_text is_marked_value History.entry_of Entries.is_dotted History.shown_uri History.entry_text EntryUri.user_part EntryUri.host_part EntryUri.cause_number EntryUri.cause_of EntryUri.hides EntryUri.is_marked EntryUri.with_cause Numbers.number_of Numbers.within Values.parts Values.parting Reading.name_addr_of Reading.words_of Reading.quoted_of Reading.angle_of Reading.bare_of Reading.all_params_at Reading.params_at Reading.param_at Reading.token_at Reading.value_at Reading.text_at Reading.user_at Reading.host_at Reading.port_number Reading.port_at Reading.headers_of Reading.headers_at Reading.sip_of Reading.scheme_of Reading.number_at Reading.tel_of Reading.uri_of Classes.in_class Scanning.run Scanning.after_run Scanning.trimmed Scanning.parted
+abbrev asked_of_alice : Option Answers
+asked_of_alice = Some (record { account = Some alice; somebody = true })
+
+worked_asked : (mask restricts accounts (heard true (invite ((codes "P-Served-User", codes "<sip:bob@home.example>;sescase=term") ∷ (codes "Privacy", codes "id") ∷ [])))).answers ≡ asked_of_alice
+unfolding Fmt.digits SameIdentity.is_same_identity Scanning.closes masked_line kind_of hidden hidden_value served_value masked_value_text is_marked_value History.entry_of Entries.is_dotted History.shown_uri History.entry_text UriPlaces.user_part UriPlaces.host_part EntryUri.cause_number EntryUri.cause_of EntryUri.hides EntryUri.is_marked EntryUri.with_cause Numbers.number_of Numbers.within Values.parts Values.parting Reading.name_addr_of Reading.words_of Reading.quoted_of Reading.angle_of Reading.bare_of Reading.all_params_at Reading.params_at Reading.param_at Reading.token_at Reading.value_at Reading.text_at Reading.user_at Reading.host_at Reading.port_number Reading.port_at Reading.headers_of Reading.headers_at Reading.sip_of Reading.scheme_of Reading.number_at Reading.tel_of Reading.uri_of Classes.in_class Scanning.run Scanning.after_run Scanning.trimmed Scanning.parted
 worked_asked = refl
 
 -- of a peer that is not trusted nothing is believed, and nothing is private
 worked_stranger : left false ((codes "Privacy", codes "id;history") ∷ (codes "History-Info", codes "<sip:carol@home.example;cause=486>;index=1") ∷ []) ≡
     (invite ((codes "Privacy", codes "id;history") ∷ (codes "History-Info", codes "<sip:carol@home.example;cause=486>;index=1") ∷ [])).lines
-unfolding Fmt.digits SameIdentity.is_same_identity Scanning.closes masked_line kind_of hidden hidden_value served_value masked_value_text is_marked_value History.entry_of Entries.is_dotted History.shown_uri History.entry_text EntryUri.user_part EntryUri.host_part EntryUri.cause_number EntryUri.cause_of EntryUri.hides EntryUri.is_marked EntryUri.with_cause Numbers.number_of Numbers.within Values.parts Values.parting Reading.name_addr_of Reading.words_of Reading.quoted_of Reading.angle_of Reading.bare_of Reading.all_params_at Reading.params_at Reading.param_at Reading.token_at Reading.value_at Reading.text_at Reading.user_at Reading.host_at Reading.port_number Reading.port_at Reading.headers_of Reading.headers_at Reading.sip_of Reading.scheme_of Reading.number_at Reading.tel_of Reading.uri_of Classes.in_class Scanning.run Scanning.after_run Scanning.trimmed Scanning.parted
+unfolding Fmt.digits SameIdentity.is_same_identity Scanning.closes masked_line kind_of hidden hidden_value served_value masked_value_text is_marked_value History.entry_of Entries.is_dotted History.shown_uri History.entry_text UriPlaces.user_part UriPlaces.host_part EntryUri.cause_number EntryUri.cause_of EntryUri.hides EntryUri.is_marked EntryUri.with_cause Numbers.number_of Numbers.within Values.parts Values.parting Reading.name_addr_of Reading.words_of Reading.quoted_of Reading.angle_of Reading.bare_of Reading.all_params_at Reading.params_at Reading.param_at Reading.token_at Reading.value_at Reading.text_at Reading.user_at Reading.host_at Reading.port_number Reading.port_at Reading.headers_of Reading.headers_at Reading.sip_of Reading.scheme_of Reading.number_at Reading.tel_of Reading.uri_of Classes.in_class Scanning.run Scanning.after_run Scanning.trimmed Scanning.parted
 worked_stranger = refl
 
 -- an unrestricted INVITE that asks that its history be hidden: the entries are private, and nothing else
-worked_history : (hide by_id [] (heard true (invite ((codes "Privacy", codes "history") ∷ (codes "History-Info", codes "\"Carol\" <sip:carol@home.example;cause=486>;index=1.1;np=1") ∷ [])))).lines ≡
+worked_history : (mask by_id [] (heard true (invite ((codes "Privacy", codes "history") ∷ (codes "History-Info", codes "\"Carol\" <sip:carol@home.example;cause=486>;index=1.1;np=1") ∷ [])))).message.lines ≡
     (invite ((codes "Privacy", codes "history") ∷ (codes "History-Info", codes "<sip:anonymous@anonymous.invalid;cause=486>;index=1.1;np=1") ∷ [])).lines
-unfolding Fmt.digits SameIdentity.is_same_identity Scanning.closes masked_line kind_of hidden hidden_value served_value masked_value_text is_marked_value History.entry_of Entries.is_dotted History.shown_uri History.entry_text EntryUri.user_part EntryUri.host_part EntryUri.cause_number EntryUri.cause_of EntryUri.hides EntryUri.is_marked EntryUri.with_cause Numbers.number_of Numbers.within Values.parts Values.parting Reading.name_addr_of Reading.words_of Reading.quoted_of Reading.angle_of Reading.bare_of Reading.all_params_at Reading.params_at Reading.param_at Reading.token_at Reading.value_at Reading.text_at Reading.user_at Reading.host_at Reading.port_number Reading.port_at Reading.headers_of Reading.headers_at Reading.sip_of Reading.scheme_of Reading.number_at Reading.tel_of Reading.uri_of Classes.in_class Scanning.run Scanning.after_run Scanning.trimmed Scanning.parted
+unfolding Fmt.digits SameIdentity.is_same_identity Scanning.closes masked_line kind_of hidden hidden_value served_value masked_value_text is_marked_value History.entry_of Entries.is_dotted History.shown_uri History.entry_text UriPlaces.user_part UriPlaces.host_part EntryUri.cause_number EntryUri.cause_of EntryUri.hides EntryUri.is_marked EntryUri.with_cause Numbers.number_of Numbers.within Values.parts Values.parting Reading.name_addr_of Reading.words_of Reading.quoted_of Reading.angle_of Reading.bare_of Reading.all_params_at Reading.params_at Reading.param_at Reading.token_at Reading.value_at Reading.text_at Reading.user_at Reading.host_at Reading.port_number Reading.port_at Reading.headers_of Reading.headers_at Reading.sip_of Reading.scheme_of Reading.number_at Reading.tel_of Reading.uri_of Classes.in_class Scanning.run Scanning.after_run Scanning.trimmed Scanning.parted
 worked_history = refl
 
 -- without that word only the marked one of two entries is; in a restricted opening too
@@ -152,5 +158,147 @@ worked_marked : left true ((codes "History-Info", codes "<sip:carol@home.example
     (codes "To", codes "<sip:bob@far.example>") ∷
     (codes "History-Info", codes "<sip:anonymous@anonymous.invalid>;index=1") ∷
     (codes "History-Info", codes "<sip:dave@home.example;cause=302>;index=1.1") ∷ []
-unfolding Fmt.digits SameIdentity.is_same_identity Scanning.closes masked_line kind_of hidden hidden_value served_value masked_value_text is_marked_value History.entry_of Entries.is_dotted History.shown_uri History.entry_text EntryUri.user_part EntryUri.host_part EntryUri.cause_number EntryUri.cause_of EntryUri.hides EntryUri.is_marked EntryUri.with_cause Numbers.number_of Numbers.within Values.parts Values.parting Reading.name_addr_of Reading.words_of Reading.quoted_of Reading.angle_of Reading.bare_of Reading.all_params_at Reading.params_at Reading.param_at Reading.token_at Reading.value_at Reading.text_at Reading.user_at Reading.host_at Reading.port_number Reading.port_at Reading.headers_of Reading.headers_at Reading.sip_of Reading.scheme_of Reading.number_at Reading.tel_of Reading.uri_of Classes.in_class Scanning.run Scanning.after_run Scanning.trimmed Scanning.parted
+unfolding Fmt.digits SameIdentity.is_same_identity Scanning.closes masked_line kind_of hidden hidden_value served_value masked_value_text is_marked_value History.entry_of Entries.is_dotted History.shown_uri History.entry_text UriPlaces.user_part UriPlaces.host_part EntryUri.cause_number EntryUri.cause_of EntryUri.hides EntryUri.is_marked EntryUri.with_cause Numbers.number_of Numbers.within Values.parts Values.parting Reading.name_addr_of Reading.words_of Reading.quoted_of Reading.angle_of Reading.bare_of Reading.all_params_at Reading.params_at Reading.param_at Reading.token_at Reading.value_at Reading.text_at Reading.user_at Reading.host_at Reading.port_number Reading.port_at Reading.headers_of Reading.headers_at Reading.sip_of Reading.scheme_of Reading.number_at Reading.tel_of Reading.uri_of Classes.in_class Scanning.run Scanning.after_run Scanning.trimmed Scanning.parted
 worked_marked = refl
+
+-- ---- each part of a message that is heard
+
+-- a request with these lines alone
+abbrev of_lines : List Line → HeardMessage
+of_lines ls = heard true (record { start = Request (codes "REGISTER") (codes "sip:home.example"); lines = ls; body = codes "v=0" })
+
+abbrev a_user : ServedUser
+a_user = record { session_case = Terminating; regstate = Some (codes "reg"); user = Some (codes "sip:bob@home.example") }
+
+abbrev by_id_alone : PrivacySet
+by_id_alone = record { header = false; session = false; user = false; none = false; critical = false; id = true; history = false }
+
+abbrev dave : Entry
+dave = record { uri = codes "sip:dave@home.example;cause=486"; index = codes "1.1"; cause = Some 486; hidden = false; rest = [] }
+
+-- the whole, and what stands as it is written
+record OfWhole : Type 0 where
+  trusted : (of_lines []).trusted ≡ true
+  start : (of_lines []).start ≡ Request (codes "REGISTER") (codes "sip:home.example")
+  body : (of_lines []).body ≡ codes "v=0"
+  lines : (of_lines ((codes "Subject", codes "me") ∷ [])).lines ≡ (codes "Subject", codes "me") ∷ []
+  call_id : (of_lines ((codes "Call-ID", codes "c1") ∷ [])).call_id ≡ Some (codes "c1")
+  cseq : (of_lines ((codes "CSeq", codes "7 REGISTER") ∷ [])).cseq ≡ Some (codes "7 REGISTER")
+  to : (of_lines ((codes "To", codes "<sip:b@h>") ∷ [])).to ≡ Some (codes "<sip:b@h>")
+  refer_to : (of_lines ((codes "Refer-To", codes "<sip:c@h>") ∷ [])).refer_to ≡ codes "<sip:c@h>" ∷ []
+  event : (of_lines ((codes "Event", codes "refer") ∷ [])).event ≡ Some (codes "refer")
+
+worked_whole : OfWhole
+worked_whole = record { trusted = refl; start = refl; body = refl; lines = refl; call_id = refl; cseq = refl; to = refl; refer_to = refl; event = refl }
+
+-- tags
+record OfTags : Type 0 where
+  from_tag : (of_lines ((codes "From", codes "\"A\" <sip:a@h>;tag=a") ∷ [])).from_tag ≡ Some (codes "a")
+  to_tag : (of_lines ((codes "To", codes "<sip:b@h>;tag=b") ∷ [])).to_tag ≡ Some (codes "b")
+  untagged : (of_lines ((codes "To", codes "<sip:b@h>") ∷ [])).to_tag ≡ None
+
+worked_tags : OfTags
+unfolding Reading.name_addr_of Reading.words_of Reading.quoted_of Reading.angle_of Reading.bare_of Reading.all_params_at Reading.params_at Reading.param_at Reading.token_at Reading.value_at Reading.text_at Classes.in_class Scanning.closes Scanning.run Scanning.after_run Scanning.trimmed Scanning.parted
+worked_tags = record { from_tag = refl; to_tag = refl; untagged = refl }
+
+-- the way of a message
+record OfWay : Type 0 where
+  vias : (of_lines ((codes "Via", codes "SIP/2.0/UDP a;branch=z9hG4bK1") ∷ (codes "Via", codes "SIP/2.0/UDP b;branch=z9hG4bK2") ∷ [])).vias ≡ codes "SIP/2.0/UDP a;branch=z9hG4bK1" ∷ codes "SIP/2.0/UDP b;branch=z9hG4bK2" ∷ []
+  routes : (of_lines ((codes "Route", codes "<sip:a;lr>") ∷ (codes "Record-Route", codes "<sip:b;lr>") ∷ [])).routes ≡ codes "<sip:a;lr>" ∷ []
+  ways : (of_lines ((codes "Route", codes "<sip:a;lr>") ∷ (codes "Record-Route", codes "<sip:b;lr>") ∷ [])).ways ≡ codes "<sip:b;lr>" ∷ []
+
+worked_way : OfWay
+worked_way = record { vias = refl; routes = refl; ways = refl }
+
+-- extensions, and the words of Privacy
+record OfExtensions : Type 0 where
+  required : (of_lines ((codes "Require", codes "histinfo") ∷ (codes "Supported", codes "timer") ∷ [])).required ≡ codes "histinfo" ∷ []
+  supported : (of_lines ((codes "Require", codes "histinfo") ∷ (codes "Supported", codes "timer") ∷ [])).supported ≡ codes "timer" ∷ []
+  wants : (of_lines ((codes "Privacy", codes "id") ∷ [])).wants ≡ by_id_alone
+
+worked_extensions : OfExtensions
+unfolding Values.parts Scanning.trimmed Scanning.after_run Classes.in_class
+worked_extensions = record { required = refl; supported = refl; wants = refl }
+
+-- the terminating user
+record OfUser : Type 0 where
+  served : (of_lines ((codes "P-Served-User", codes "<sip:bob@home.example>;sescase=term;regstate=reg") ∷ [])).served ≡ a_user
+
+worked_user : OfUser
+unfolding Reading.name_addr_of Reading.words_of Reading.quoted_of Reading.angle_of Reading.bare_of Reading.all_params_at Reading.params_at Reading.param_at Reading.token_at Reading.value_at Reading.text_at Classes.in_class Scanning.closes Scanning.run Scanning.after_run Scanning.trimmed Scanning.parted
+worked_user = record { served = refl }
+
+worked_history_read : (of_lines ((codes "History-Info", codes "<sip:dave@home.example;cause=486>;index=1.1") ∷ [])).history ≡ dave ∷ []
+unfolding Fmt.digits SameIdentity.is_same_identity Scanning.closes masked_line kind_of hidden hidden_value served_value masked_value_text is_marked_value History.entry_of Entries.is_dotted History.shown_uri History.entry_text UriPlaces.user_part UriPlaces.host_part EntryUri.cause_number EntryUri.cause_of EntryUri.hides EntryUri.is_marked EntryUri.with_cause Numbers.number_of Numbers.within Values.parts Values.parting Reading.name_addr_of Reading.words_of Reading.quoted_of Reading.angle_of Reading.bare_of Reading.all_params_at Reading.params_at Reading.param_at Reading.token_at Reading.value_at Reading.text_at Reading.user_at Reading.host_at Reading.port_number Reading.port_at Reading.headers_of Reading.headers_at Reading.sip_of Reading.scheme_of Reading.number_at Reading.tel_of Reading.uri_of Classes.in_class Scanning.run Scanning.after_run Scanning.trimmed Scanning.parted
+worked_history_read = refl
+
+-- numbers that are too great are none; one may have zeros before it
+record OfNumbers : Type 0 where
+  most : (of_lines ((codes "Max-Forwards", codes "255") ∷ [])).hops ≡ Some 255
+  hops : (of_lines ((codes "Max-Forwards", codes "256") ∷ [])).hops ≡ None
+  expires : (of_lines ((codes "Expires", codes "4294967295") ∷ [])).expires ≡ Some 4294967295
+  later : (of_lines ((codes "Expires", codes "4294967296") ∷ [])).expires ≡ None
+  padded : (of_lines ((codes "Expires", codes "0060") ∷ [])).expires ≡ Some 60
+  no_number : (of_lines ((codes "Expires", codes "soon") ∷ [])).expires ≡ None
+
+worked_numbers : OfNumbers
+unfolding Numbers.number_of Numbers.within Classes.in_class
+worked_numbers = record { most = refl; hops = refl; expires = refl; later = refl; padded = refl; no_number = refl }
+
+-- the originating user is nobody in what is never private, and of two users the first counts
+abbrev origin_served : HeardMessage
+origin_served = of_lines ((codes "P-Served-User", codes "<sip:alice@home.example>;sescase=orig;regstate=unreg") ∷ (codes "P-Served-User", codes "<sip:bob@home.example>;sescase=term") ∷ [])
+
+record OfServed : Type 0 where
+  origin : origin_served.served.session_case ≡ Originating
+  state : origin_served.served.regstate ≡ Some (codes "unreg")
+  user : origin_served.served.user ≡ None
+  nobody : (of_lines []).served.session_case ≡ NoCase
+
+worked_served_user : OfServed
+unfolding Reading.name_addr_of Reading.words_of Reading.quoted_of Reading.angle_of Reading.bare_of Reading.all_params_at Reading.params_at Reading.param_at Reading.token_at Reading.value_at Reading.text_at Classes.in_class Scanning.closes Scanning.run Scanning.after_run Scanning.trimmed Scanning.parted
+worked_served_user = record { origin = refl; state = refl; user = refl; nobody = refl }
+
+-- ---- a response that redirects
+
+-- of a callee, or of the caller where it answers a later INVITE
+abbrev answer : ℕ → Message Start
+answer code = record {
+  start = Status code (codes "Moved Temporarily");
+  lines =
+      (codes "From", codes "<sip:bob@far.example>;tag=b") ∷
+      (codes "To", codes "\"Alice\" <sip:a@h>;tag=7") ∷
+      (codes "Contact", codes "<sip:phone@h>") ∷ [];
+  body = [];
+}
+
+abbrev redirected : Places → ℕ → HeardMessage
+redirected p code = hide p (heard true (answer code))
+
+-- where it redirects to is private on the caller's side, and for everybody on the callee's; a 200 redirects nowhere
+record OfRedirects : Type 0 where
+  heard_of : (heard true (answer 302)).redirect ≡ Some (codes "sip:phone@h")
+  of_caller : (redirected answering 302).redirect ≡ Some (codes "sip:anonymous@anonymous.invalid")
+  line_of_caller : (redirected answering 302).lines ≡
+      (codes "From", codes "<sip:bob@far.example>;tag=b") ∷
+      (codes "To", codes "<sip:anonymous@anonymous.invalid>;tag=7") ∷
+      (codes "Contact", codes "<sip:anonymous@anonymous.invalid>") ∷ []
+  of_callee : (redirected answered 302).redirect ≡ Some (codes "sip:phone@h")
+  line_of_callee : (redirected answered 302).lines ≡ (answer 302).lines
+  accepted : (heard true (answer 200)).redirect ≡ None
+  accepted_line : (redirected answered 200).lines ≡
+      (codes "From", codes "<sip:bob@far.example>;tag=b") ∷
+      (codes "To", codes "\"Alice\" <sip:a@h>;tag=7") ∷
+      (codes "Contact", codes "<sip:anonymous@anonymous.invalid>") ∷ []
+
+worked_redirects : OfRedirects
+unfolding Fmt.digits SameIdentity.is_same_identity Scanning.closes masked_line kind_of hidden hidden_value served_value masked_value_text is_marked_value History.entry_of Entries.is_dotted History.shown_uri History.entry_text UriPlaces.user_part UriPlaces.host_part EntryUri.cause_number EntryUri.cause_of EntryUri.hides EntryUri.is_marked EntryUri.with_cause Numbers.number_of Numbers.within Values.parts Values.parting Reading.name_addr_of Reading.words_of Reading.quoted_of Reading.angle_of Reading.bare_of Reading.all_params_at Reading.params_at Reading.param_at Reading.token_at Reading.value_at Reading.text_at Reading.user_at Reading.host_at Reading.port_number Reading.port_at Reading.headers_of Reading.headers_at Reading.sip_of Reading.scheme_of Reading.number_at Reading.tel_of Reading.uri_of Classes.in_class Scanning.run Scanning.after_run Scanning.trimmed Scanning.parted
+worked_redirects = record { heard_of = refl; of_caller = refl; line_of_caller = refl; of_callee = refl; line_of_callee = refl; accepted = refl; accepted_line = refl }
+
+-- ---- entries that are hidden as they are read
+
+worked_entries : (hide (only MarkedEntries) (of_lines ((codes "History-Info", codes "<sip:carol@h?Privacy=history>;index=1") ∷ (codes "History-Info", codes "<sip:dave@h;cause=302>;index=1.1") ∷ []))).history ≡
+    record { uri = codes "sip:anonymous@anonymous.invalid"; index = codes "1"; cause = None; hidden = false; rest = [] } ∷
+    record { uri = codes "sip:dave@h;cause=302"; index = codes "1.1"; cause = Some 302; hidden = false; rest = [] } ∷ []
+unfolding Fmt.digits SameIdentity.is_same_identity Scanning.closes masked_line kind_of hidden hidden_value served_value masked_value_text is_marked_value History.entry_of Entries.is_dotted History.shown_uri History.entry_text UriPlaces.user_part UriPlaces.host_part EntryUri.cause_number EntryUri.cause_of EntryUri.hides EntryUri.is_marked EntryUri.with_cause Numbers.number_of Numbers.within Values.parts Values.parting Reading.name_addr_of Reading.words_of Reading.quoted_of Reading.angle_of Reading.bare_of Reading.all_params_at Reading.params_at Reading.param_at Reading.token_at Reading.value_at Reading.text_at Reading.user_at Reading.host_at Reading.port_number Reading.port_at Reading.headers_of Reading.headers_at Reading.sip_of Reading.scheme_of Reading.number_at Reading.tel_of Reading.uri_of Classes.in_class Scanning.run Scanning.after_run Scanning.trimmed Scanning.parted
+worked_entries = refl

@@ -5,9 +5,8 @@ use Rattle.mmtel_scan.specs.Chain.{◌>>=◌}
 use Rattle.mmtel_lex.specs.Reading.{name_addr_of, uri_of, Refusal}
 use Rattle.mmtel_lex.specs.declared.values.Uri.{Uri}
 use Rattle.mmtel_lex.specs.declared.values.Uri.TheVariants.{Sip, Tel}
-use Rattle.mmtel_message.specs.Message.{values_named}
+use Rattle.mmtel_message.specs.Message.{Line, values_named}
 use Rattle.mmtel_message.specs.declared.values.Mode.TheVariants.{Plain}
-use Rattle.mmtel_trust.specs.Privacy.{Line}
 use Rattle.mmtel_trust.specs.declared.identities.Identities.{Identities}
 use Rattle.mmtel_trust.specs.declared.identities.Scheme.{Scheme}
 use Rattle.mmtel_trust.specs.declared.identities.Scheme.TheVariants as scheme

@@ -1,99 +1,153 @@
--- What is read of a message that was heard: a field for each part that the rules of a run read, and the lines, which hold all that may be private. A masked digest is a digest too: in it only the lines and the tests differ, so that whatever reads the other fields sees no difference.
+-- What is read of a message that was heard: a field for each part that rules read and that is never private; and behind these what masking changes by the role of the message: the entries of its History-Info, where it redirects to, and its lines, which hold all that may be private. Whatever reads the other fields sees no difference between a message and the masked one. Each line of a listed name has one value, as the reader leaves them (RFC 3261 §7.3.1).
 --
--- What is decided from a private place is asked by one of two words, which look at the tests first: the account of the caller, and whether the caller has an identity.
-use Rattle.std.specs.Prelude.{ℕ, Bool, false, ◌&&◌, ◌||◌, Option, Some, None, is_some, is_none, List, codes, if◌then◌else◌}
+-- What is decided of a private place is asked here too: the account of the caller, and whether the caller has an identity.
+use Rattle.std.specs.Prelude.{ℕ, Bool, true, false, ◌&&◌, ◌||◌, Option, Some, None, is_some, List, codes, if◌then◌else◌}
+use Rattle.std.specs.Option.{option_map}
 use Rattle.mmtel_scan.specs.Chain.{◌>>=◌}
 use Rattle.mmtel_scan.specs.Numbers.{number_of}
 use Rattle.mmtel_lex.specs.Reading.{name_addr_of, uri_of}
 use Rattle.mmtel_lex.specs.declared.values.NameAddr.{NameAddr}
-use Rattle.mmtel_message.specs.Faults.{is_method, is_request}
+use Rattle.mmtel_lex.specs.declared.values.Param.{Param}
 use Rattle.mmtel_lex.specs.Params.{param_value}
-use Rattle.mmtel_message.specs.Message.{Message, first_value, values_named}
+use Rattle.mmtel_history.specs.HistoryInfo as History
+use Rattle.mmtel_history.specs.declared.entries.Entry.{Entry}
+use Rattle.mmtel_message.specs.Faults.{is_request}
+use Rattle.mmtel_message.specs.Message.{Line, Message, first_value, line_texts}
 use Rattle.mmtel_message.specs.declared.messages.Start.{Start}
-use Rattle.mmtel_message.specs.declared.values.Mode.TheVariants.{Plain}
 use Rattle.mmtel_types.specs.declared.numbers.Account.{Account}
 use Rattle.mmtel_types.specs.declared.privacy.PrivacySet.{PrivacySet}
 use Rattle.mmtel_trust.specs.Accounts.{account_of}
 use Rattle.mmtel_trust.specs.Asserted.{asserted, or_no_uri}
-use Rattle.mmtel_trust.specs.Mask.{Entries, NoEntries, Places, only, opening, entries_of, joined, is_session, is_orig, masked_lines}
-use Rattle.mmtel_trust.specs.Privacy.{Line, wants}
+use Rattle.mmtel_trust.specs.Mask.{is_orig, is_session, redirects}
+use Rattle.mmtel_trust.specs.Privacy.{wants}
 use Rattle.mmtel_trust.specs.declared.accounts.AccountIdentity.{AccountIdentity}
 use Rattle.mmtel_trust.specs.declared.identities.Identities.{Identities}
 
--- ---- what is asked of the caller
+-- ---- who is served (RFC 5502 §4)
 
--- either it is to be asked of the lines, or here are the answers
-pub data Tests : Type 0 where
-  Ask : Tests
-  Answers : (account : Option Account) → (somebody : Bool) → Tests
+-- the session case: as whom a user is served
+pub data SessionCase : Type 0 where
+  NoCase : SessionCase
+  Originating : SessionCase
+  Terminating : SessionCase
 
-abbrev pub account_told : Option Account → Tests → Option Account
-account_told said Ask = said
-account_told said (Answers account somebody) = account
+-- what a P-Served-User says that is not private
+pub record ServedUser : Type 0 where
+  pub session_case : SessionCase
+  -- the value of `regstate`
+  pub regstate : Option (List ℕ)
+  -- the URI of the terminating user. The originating one is the caller
+  pub user : Option (List ℕ)
 
-abbrev pub somebody_told : Bool → Tests → Bool
-somebody_told said Ask = said
-somebody_told said (Answers account somebody) = somebody
+abbrev pub case_of : List Param → SessionCase
+case_of ps = if is_orig ps then Originating else if is_session (codes "term") ps then Terminating else NoCase
 
--- ---- the digest
+abbrev pub user_if : SessionCase → List ℕ → Option (List ℕ)
+user_if NoCase uri = None
+user_if Originating uri = None
+user_if Terminating uri = Some uri
 
-pub record Heard : Type 0 where
+abbrev pub served_in : Option NameAddr → ServedUser
+served_in None = record { session_case = NoCase; regstate = None; user = None }
+served_in (Some n) = record { session_case = case_of n.params; regstate = param_value (codes "regstate") n.params; user = user_if (case_of n.params) n.uri }
+
+-- what a P-Served-User value says, if there is one
+abbrev pub served_by : Option (List ℕ) → ServedUser
+served_by v = served_in (v >>= name_addr_of)
+
+abbrev pub is_terminating : SessionCase → Bool
+is_terminating NoCase = false
+is_terminating Originating = false
+is_terminating Terminating = true
+
+-- ---- what is heard
+
+pub record HeardMessage : Type 0 where
   -- from a trusted peer
   pub trusted : Bool
   pub start : Start
-  -- the first Via value, and the tags of From and To
-  pub via : Option (List ℕ)
+  -- the Via values, and the tags of From and To (RFC 3261 §20.42, §19.3)
+  pub vias : List (List ℕ)
   pub from_tag : Option (List ℕ)
   pub to_tag : Option (List ℕ)
   pub call_id : Option (List ℕ)
   pub cseq : Option (List ℕ)
-  -- Max-Forwards, where it is a number up to 255
+  -- Max-Forwards, where it is a number up to 255 (§20.22)
   pub hops : Option ℕ
   -- To of a request
   pub to : Option (List ℕ)
+  -- the Route and the Record-Route values (§20.34, §20.30)
   pub routes : List (List ℕ)
-  -- the first P-Served-User is of the terminating case: nobody is served as the caller
-  pub terminates : Bool
+  pub ways : List (List ℕ)
+  -- the values of Require and of Supported (§20.32, §20.37)
+  pub required : List (List ℕ)
+  pub supported : List (List ℕ)
+  -- Expires, where it is a number up to 4294967295 (§20.19)
+  pub expires : Option ℕ
+  -- the first P-Served-User
+  pub served : ServedUser
+  -- the Refer-To values (RFC 3515 §2.1), and Event (RFC 6665 §8.2.1)
+  pub refer_to : List (List ℕ)
+  pub event : Option (List ℕ)
+  -- here is the place of what else will be read that is not private: RSeq and RAck (RFC 3262 §7), Session-Expires and Min-SE (RFC 4028 §4, §5)
   -- the words of Privacy
   pub wants : PrivacySet
   pub body : List ℕ
+  -- what masking changes by the role of the message: the entries of History-Info (RFC 7044 §5)
+  pub history : List Entry
+  -- of a 3xx: the URI of its first Contact, where that can be read
+  pub redirect : Option (List ℕ)
+  -- all lines, as received
   pub lines : List Line
-  pub tests : Tests
 
 -- the tag of a From or To value (RFC 3261 §19.3)
 abbrev pub tag_of : Option (List ℕ) → Option (List ℕ)
 tag_of v = v >>= λ s. name_addr_of s >>= λ n. param_value (codes "tag") n.params
 
-abbrev pub is_terminating : Option NameAddr → Bool
-is_terminating None = false
-is_terminating (Some n) = is_session (codes "term") n.params
-
--- a P-Served-User value of the terminating case (RFC 5502 §4)
-abbrev pub terminates_by : Option (List ℕ) → Bool
-terminates_by v = is_terminating (v >>= name_addr_of)
-
 abbrev pub if_request : Start → Option (List ℕ) → Option (List ℕ)
 if_request start v = if is_request start then v else None
 
+-- the URI of a name-addr value, if there is one
+abbrev pub uri_bytes : Option (List ℕ) → Option (List ℕ)
+uri_bytes v = option_map (λ n. n.uri) (v >>= name_addr_of)
+
+abbrev pub if_redirect : Start → Option (List ℕ) → Option (List ℕ)
+if_redirect start v = if redirects start then v else None
+
+-- the entries of History-Info, a line each
+abbrev pub history_in : List Line → List Entry
+history_in ls = History.entries_of (line_texts (codes "History-Info") ls)
+
 -- what is heard, where the message comes from a trusted peer or not
-abbrev pub heard : Bool → Message Start → Heard
+abbrev pub heard : Bool → Message Start → HeardMessage
 heard trusted m = record {
   trusted = trusted;
   start = m.start;
-  via = first_value (codes "Via") m.lines;
+  vias = line_texts (codes "Via") m.lines;
   from_tag = tag_of (first_value (codes "From") m.lines);
   to_tag = tag_of (first_value (codes "To") m.lines);
   call_id = first_value (codes "Call-ID") m.lines;
   cseq = first_value (codes "CSeq") m.lines;
   hops = first_value (codes "Max-Forwards") m.lines >>= number_of 255;
   to = if_request m.start (first_value (codes "To") m.lines);
-  routes = values_named Plain (codes "Route") m.lines;
-  terminates = terminates_by (first_value (codes "P-Served-User") m.lines);
+  routes = line_texts (codes "Route") m.lines;
+  ways = line_texts (codes "Record-Route") m.lines;
+  required = line_texts (codes "Require") m.lines;
+  supported = line_texts (codes "Supported") m.lines;
+  expires = first_value (codes "Expires") m.lines >>= number_of 4294967295;
+  served = served_by (first_value (codes "P-Served-User") m.lines);
+  refer_to = line_texts (codes "Refer-To") m.lines;
+  event = first_value (codes "Event") m.lines;
   wants = wants m.lines;
   body = m.body;
+  history = history_in m.lines;
+  redirect = if_redirect m.start (uri_bytes (first_value (codes "Contact") m.lines));
   lines = m.lines;
-  tests = Ask;
 }
+
+-- the terminating user is served: nobody is served as the caller
+abbrev pub terminates : HeardMessage → Bool
+terminates m = is_terminating m.served.session_case
 
 -- ---- the caller
 
@@ -117,47 +171,13 @@ abbrev pub is_somebody : Identities → Bool
 is_somebody i = is_some i.sip || is_some i.tel
 
 -- the account of the caller
-abbrev pub caller_account : List AccountIdentity → Heard → Option Account
-caller_account accounts d = account_told (origin_account accounts d.trusted d.lines) d.tests
+abbrev pub caller_account : List AccountIdentity → HeardMessage → Option Account
+caller_account accounts m = origin_account accounts m.trusted m.lines
 
 -- the account whose record restricts the caller: that of the caller, and none where a trusted peer says that the terminating user is served (RFC 5502 §4)
-abbrev pub served_account : List AccountIdentity → Heard → Option Account
-served_account accounts d = if d.trusted && d.terminates then None else caller_account accounts d
+abbrev pub served_account : List AccountIdentity → HeardMessage → Option Account
+served_account accounts m = if m.trusted && terminates m then None else caller_account accounts m
 
 -- the caller has an identity
-abbrev pub is_known : Heard → Bool
-is_known d = somebody_told (is_somebody (asserted d.trusted d.lines)) d.tests
-
--- ---- masking
-
--- which callers are restricted: by the words of Privacy and the account that is served (TS 24.607 §4.5.2)
-abbrev pub Restriction : Type 0
-Restriction = PrivacySet → Option Account → Bool
-
--- an INVITE without To tag from a trusted peer
-abbrev pub is_opening : Heard → Bool
-is_opening d = d.trusted && (is_method (codes "INVITE") d.start && is_none d.to_tag)
-
--- it opens a call whose caller is restricted
-abbrev pub is_private : Restriction → List AccountIdentity → Heard → Bool
-is_private restricts accounts d = is_opening d && restricts d.wants (served_account accounts d)
-
--- the private places of an opening, where the caller is restricted
-abbrev pub opening_if : Bool → Places
-opening_if b = if b then opening else only NoEntries
-
--- the private entries of History-Info: any request of a trusted peer may have some
-abbrev pub private_entries : Heard → Entries
-private_entries d = if d.trusted && is_request d.start then entries_of d.wants else NoEntries
-
--- all private places of what was heard
-abbrev pub places_of : Restriction → List AccountIdentity → Heard → Places
-places_of restricts accounts d = joined (opening_if (is_private restricts accounts d)) (only (private_entries d))
-
--- where the caller's identity is private, the answers stand beside the lines
-abbrev pub tests_if : Bool → List AccountIdentity → Heard → Tests
-tests_if b accounts d = if b then Answers (caller_account accounts d) (is_known d) else d.tests
-
--- the digest without its private places. The conditions stand in the two fields, so that each other field is seen through
-abbrev pub hide : Restriction → List AccountIdentity → Heard → Heard
-hide restricts accounts d = record d { lines = masked_lines (places_of restricts accounts d) d.lines; tests = tests_if (is_private restricts accounts d) accounts d }
+abbrev pub is_known : HeardMessage → Bool
+is_known m = is_somebody (asserted m.trusted m.lines)

@@ -1,8 +1,8 @@
 -- Header names by what becomes of their lines where a message is relayed: the header table of the server. Names are compared without case (RFC 3261 §7.3.1).
 use Rattle.std.specs.Prelude.{ℕ, Bool, false, List, [], ◌∷◌, ◌++◌, codes, if◌then◌else◌, ◌||◌}
 use Rattle.std.specs.Str.{str_eq_ignore_ascii_case}
-use Rattle.mmtel_trust.specs.declared.kinds.Kind.{Kind}
-use Rattle.mmtel_trust.specs.declared.kinds.Kind.TheVariants.{From, To, Contact, Asserted, Served, Privacy, History, Options, Passed, Personal, Trusted, Other}
+use Rattle.mmtel_trust.specs.declared.kinds.HeaderKind.{HeaderKind}
+use Rattle.mmtel_trust.specs.declared.kinds.HeaderKind.TheVariants.{From, To, Contact, Asserted, Served, Privacy, History, Options, Passed, Personal, Trusted, Other}
 
 -- lines that tell who somebody is (RFC 3323 §4.1.1)
 abbrev pub personal_names : List (List ℕ)
@@ -22,7 +22,7 @@ further_names = codes "Content-Type" ∷ codes "MIME-Version" ∷ codes "Priorit
 
 -- a row of the table: a kind, and the names of it
 pub record Row : Type 0 where
-  pub kind : Kind
+  pub kind : HeaderKind
   pub names : List (List ℕ)
 
 -- the table: names that stand alone
@@ -51,9 +51,16 @@ is_among [] n = false
 is_among (name ∷ names) n = str_eq_ignore_ascii_case n name || is_among names n
 
 -- the kind of the first row with the name; Other where none has it
-abbrev pub kind_in : List Row → List ℕ → Kind
+abbrev pub kind_in : List Row → List ℕ → HeaderKind
 kind_in [] n = Other
 kind_in (row ∷ more) n = if is_among row.names n then row.kind else kind_in more n
 
-unfoldable pub kind_of : List ℕ → Kind
+unfoldable pub kind_of : List ℕ → HeaderKind
 kind_of n = kind_in (single_rows ++ group_rows) n
+
+-- the names of the lines that the server writes of its own (RFC 3261 §20)
+abbrev pub own_names : List (List ℕ)
+own_names = codes "Via" ∷ codes "Route" ∷ codes "Record-Route" ∷ codes "Max-Forwards" ∷ codes "From" ∷ codes "To" ∷ codes "Call-ID" ∷ codes "CSeq" ∷ codes "Contact" ∷ codes "Content-Length" ∷ []
+
+abbrev pub is_own : List ℕ → Bool
+is_own n = is_among own_names n

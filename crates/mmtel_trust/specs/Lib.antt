@@ -1,15 +1,14 @@
 -- What public clauses cite, the laws among them.
 pub mod Accounts
-pub mod Addrs
 pub mod Asserted
 pub mod Digest
 pub mod Faults
 pub mod Kinds
 pub mod Mask
+pub mod MaskedMessages
 pub mod Members
 pub mod Passed
 pub mod Peers
 pub mod Privacy
-pub mod Shown
 -- What private functions cite.
 pub mod Written

@@ -1,21 +1,24 @@
 -- What of a message is private, and the message without it (RFC 3323 §4.1, RFC 3325 §7, RFC 7044 §10.1). In a private place nobody's URI stands for whoever would be named there; what is masked is compared, and never offered to anybody.
-use Rattle.std.specs.Prelude.{ℕ, Bool, true, false, not, ◌||◌, Option, Some, None, List, [], ◌∷◌, codes, if◌then◌else◌}
+use Rattle.std.specs.Prelude.{ℕ, nat_le, Bool, true, false, not, ◌&&◌, ◌||◌, Option, Some, None, List, [], ◌∷◌, codes, if◌then◌else◌}
 use Rattle.std.specs.List.{flat_map}
+use Rattle.std.specs.Option.{option_map}
 use Rattle.std.specs.Str.{bytes_eq}
 use Rattle.mmtel_lex.specs.Grammar.{name_addr_text}
 use Rattle.mmtel_lex.specs.Reading.{name_addr_of}
 use Rattle.mmtel_lex.specs.declared.values.Param.{Param}
 use Rattle.mmtel_lex.specs.declared.values.NameAddr.{NameAddr}
 use Rattle.mmtel_lex.specs.Params.{param_value}
-use Rattle.mmtel_message.specs.Message.{Message}
+use Rattle.mmtel_message.specs.Faults.{is_request}
+use Rattle.mmtel_message.specs.Message.{Line, Message}
 use Rattle.mmtel_message.specs.declared.messages.Start.{Start}
-use Rattle.mmtel_history.specs.HistoryInfo.{anonymous}
+use Rattle.mmtel_message.specs.declared.messages.Start.TheVariants.{Request, Status}
+use Rattle.mmtel_history.specs.HistoryInfo.{anonymous, masked_list}
 use Rattle.mmtel_history.specs.MaskedValues.{is_marked_value, masked_value_text}
+use Rattle.mmtel_history.specs.declared.entries.Entry.{Entry}
 use Rattle.mmtel_types.specs.declared.privacy.PrivacySet.{PrivacySet}
 use Rattle.mmtel_trust.specs.Kinds.{kind_of}
-use Rattle.mmtel_trust.specs.Privacy.{Line}
-use Rattle.mmtel_trust.specs.declared.kinds.Kind.{Kind}
-use Rattle.mmtel_trust.specs.declared.kinds.Kind.TheVariants.{From, To, Contact, Asserted, Served, Privacy, History, Options, Passed, Personal, Trusted, Other}
+use Rattle.mmtel_trust.specs.declared.kinds.HeaderKind.{HeaderKind}
+use Rattle.mmtel_trust.specs.declared.kinds.HeaderKind.TheVariants.{From, To, Contact, Asserted, Served, Privacy, History, Options, Passed, Personal, Trusted, Other}
 
 -- ---- values
 
@@ -61,10 +64,12 @@ pub data Entries : Type 0 where
 
 -- which places of a message are private
 pub record Places : Type 0 where
-  -- display and URI of these
+  -- display and URI of From, and of To where the message is a response
   pub from : Bool
   pub to : Bool
+  -- those of Contact, where the message does not redirect, and where it does: there Contact tells where to call
   pub contact : Bool
+  pub redirect : Bool
   -- those of a P-Served-User of the originating case
   pub served : Bool
   -- the P-Asserted-Identity lines, which go
@@ -76,7 +81,7 @@ pub record Places : Type 0 where
 
 -- no place but these entries
 abbrev pub only : Entries → Places
-only private = record { from = false; to = false; contact = false; served = false; asserted = false; personal = false; history = private }
+only private = record { from = false; to = false; contact = false; redirect = false; served = false; asserted = false; personal = false; history = private }
 
 -- of an INVITE that opens a restricted call
 abbrev pub opening : Places
@@ -87,14 +92,14 @@ abbrev pub asking : Places
 asking = record (only NoEntries) { from = true; contact = true; asserted = true; personal = true }
 
 abbrev pub answering : Places
-answering = record (only NoEntries) { to = true; contact = true; asserted = true; personal = true }
+answering = record (only NoEntries) { to = true; contact = true; redirect = true; asserted = true; personal = true }
 
--- of a request of a restricted callee, and of a response, whose Contact tells where to call where it redirects
+-- of a request of a restricted callee, and of a response: where it redirects to is for everybody
 abbrev pub called : Places
 called = record (only NoEntries) { from = true; contact = true; asserted = true; personal = true }
 
-abbrev pub answered : Bool → Places
-answered redirects = record (only NoEntries) { contact = not redirects; asserted = true; personal = true }
+abbrev pub answered : Places
+answered = record (only NoEntries) { contact = true; asserted = true; personal = true }
 
 -- of any request, by the words of its Privacy: each entry where one of them is `history`, else the marked ones
 abbrev pub entries_of : PrivacySet → Entries
@@ -117,6 +122,7 @@ joined p q = record {
   from = p.from || q.from;
   to = p.to || q.to;
   contact = p.contact || q.contact;
+  redirect = p.redirect || q.redirect;
   served = p.served || q.served;
   asserted = p.asserted || q.asserted;
   personal = p.personal || q.personal;
@@ -141,7 +147,7 @@ masked_entries MarkedEntries v = if is_marked_value v then masked_value_text v e
 masked_entries AllEntries v = masked_value_text v
 
 -- what is left of a value of the kind; None where the line goes
-abbrev pub masked_value : Places → Kind → List ℕ → Option (List ℕ)
+abbrev pub masked_value : Places → HeaderKind → List ℕ → Option (List ℕ)
 masked_value p From v = Some (hide_if p.from v)
 masked_value p To v = Some (hide_if p.to v)
 masked_value p Contact v = Some (hide_if p.contact v)
@@ -166,11 +172,53 @@ masked_line p l = with_name l.0 (masked_value p (kind_of l.0) l.1)
 abbrev pub masked_lines : Places → List Line → List Line
 masked_lines p ls = flat_map (masked_line p) ls
 
+-- ---- messages
+
+-- a response that redirects (RFC 3261 §21.3)
+abbrev pub redirects : Start → Bool
+redirects (Request method uri) = false
+redirects (Status code phrase) = nat_le 300 code && nat_le code 399
+
+-- the private places of the lines of a message that starts so
+abbrev pub places_in : Start → Places → Places
+places_in start p = record p { to = if is_request start then false else p.to; contact = if redirects start then p.redirect else p.contact }
+
 -- the message without its private places
 abbrev pub masked : Places → Message Start → Message Start
-masked p m = record m { lines = masked_lines p m.lines }
+masked p m = record m { lines = masked_lines (places_in m.start p) m.lines }
+
+-- ---- what is read of private places
+
+-- entries as they are read of masked lines
+abbrev pub hidden_entries : Entries → List Entry → List Entry
+hidden_entries NoEntries h = h
+hidden_entries MarkedEntries h = masked_list false h
+hidden_entries AllEntries h = masked_list true h
+
+-- a URI as it is read of a hidden value
+abbrev pub hidden_uri : Bool → Option (List ℕ) → Option (List ℕ)
+hidden_uri b u = if b then option_map (λ v. anonymous) u else u
 
 -- ---- what masking leaves alone
+
+-- the line with another value
+abbrev pub with_value : (List ℕ → List ℕ) → Line → Line
+with_value f l = (l.0, f l.1)
+
+-- lines of the kind stay, if with another value
+abbrev pub is_left : Places → HeaderKind → Bool
+is_left p From = true
+is_left p To = true
+is_left p Contact = true
+is_left p Asserted = not p.asserted
+is_left p Served = true
+is_left p Privacy = true
+is_left p History = true
+is_left p Options = true
+is_left p Passed = true
+is_left p Personal = not p.personal
+is_left p Trusted = true
+is_left p Other = true
 
 abbrev pub are_public : Entries → Bool
 are_public NoEntries = true
@@ -178,7 +226,7 @@ are_public MarkedEntries = false
 are_public AllEntries = false
 
 -- lines of the kind stay as they are
-abbrev pub is_kept : Places → Kind → Bool
+abbrev pub is_kept : Places → HeaderKind → Bool
 is_kept p From = not p.from
 is_kept p To = not p.to
 is_kept p Contact = not p.contact

@@ -1,17 +1,19 @@
 -- The lines of a message that are passed on where it is relayed: the header table of the server (RFC 3325 §5 and §7, RFC 3323 §5.1, RFC 7044 §7), and the From of a message that the server makes of it (RFC 3323 §4.1.1.3).
-use Rattle.std.specs.Prelude.{Option, Some, None, ℕ, Bool, true, false, not, List, [], ◌∷◌, ◌++◌, codes, if◌then◌else◌, ◌||◌, ◌&&◌, filter}
+use Rattle.std.specs.Prelude.{Option, Some, None, ℕ, Bool, true, false, not, List, [], ◌∷◌, ◌++◌, codes, if◌then◌else◌, ◌||◌, ◌&&◌, ◌==◌, filter, map}
 use Rattle.std.specs.Str.{bytes_eq}
 use Rattle.mmtel_lex.specs.Grammar.{name_addr_text}
 use Rattle.mmtel_lex.specs.Reading.{name_addr_of}
 use Rattle.mmtel_lex.specs.declared.values.NameAddr.{NameAddr}
-use Rattle.mmtel_message.specs.Message.{first_value, named}
-use Rattle.mmtel_history.specs.HistoryInfo.{anonymous}
+use Rattle.mmtel_message.specs.Message.{Line, first_value, named}
+use Rattle.mmtel_message.specs.declared.messages.Start.{Start}
+use Rattle.mmtel_message.specs.declared.messages.Start.TheVariants.{Request, Status}
+use Rattle.mmtel_history.specs.HistoryInfo.{anonymous, entry_text, masked_list}
+use Rattle.mmtel_history.specs.declared.entries.Entry.{Entry}
 use Rattle.mmtel_trust.specs.Kinds.{kind_of}
 use Rattle.mmtel_trust.specs.Privacy.{restricted_text}
-pub use Rattle.mmtel_trust.specs.Privacy.{Line}
 use Rattle.mmtel_trust.specs.declared.showing.Facing.{Facing}
-use Rattle.mmtel_trust.specs.declared.kinds.Kind.{Kind}
-use Rattle.mmtel_trust.specs.declared.kinds.Kind.TheVariants.{From, To, Contact, Asserted, Served, Privacy, History, Options, Passed, Personal, Trusted, Other}
+use Rattle.mmtel_trust.specs.declared.kinds.HeaderKind.{HeaderKind}
+use Rattle.mmtel_trust.specs.declared.kinds.HeaderKind.TheVariants.{From, To, Contact, Asserted, Served, Privacy, History, Options, Passed, Personal, Trusted, Other}
 
 -- the identities that a trusted peer asserts, to whom they may be shown
 abbrev pub asserted_lines : Facing → Bool → List Line → List Line
@@ -22,7 +24,7 @@ abbrev pub privacy_lines : Facing → Bool → List Line → List Line
 privacy_lines f to_trusted ls = if not to_trusted then [] else if f.restricted then (codes "Privacy", restricted_text ls) ∷ [] else named (codes "Privacy") ls
 
 -- whether a line of the kind, with this value, is among the other lines that are passed
-abbrev pub passes : Facing → Bool → Kind → List ℕ → Bool
+abbrev pub passes : Facing → Bool → HeaderKind → List ℕ → Bool
 passes f to_trusted From v = false
 passes f to_trusted To v = false
 passes f to_trusted Contact v = false
@@ -45,6 +47,28 @@ other_lines f to_trusted ls = filter (is_shown f to_trusted) ls
 -- the passed lines, where these are the lines of the call's History-Info: the asserted identities, Privacy, History-Info, and then the others in received order
 abbrev pub passed : Facing → Bool → List Line → List Line → List Line
 passed f to_trusted history ls = asserted_lines f to_trusted ls ++ (privacy_lines f to_trusted ls ++ (history ++ other_lines f to_trusted ls))
+
+-- ---- History-Info
+
+-- a line of History-Info, with an entry as it is written (RFC 7044 §5)
+abbrev pub history_line : Entry → Line
+history_line e = (codes "History-Info", entry_text e)
+
+-- the lines of a call's list: towards a trusted peer as it is, and masked towards any other, the hidden entries or all (RFC 7044 §10.1)
+abbrev pub history_lines : Bool → Bool → List Entry → List Line
+history_lines mask_all to_trusted h = map history_line (if to_trusted then h else masked_list mask_all h)
+
+-- the messages that carry the list: INVITE and 181, and no other
+abbrev pub has_history_row : Start → Bool
+has_history_row (Request method uri) = bytes_eq method (codes "INVITE")
+has_history_row (Status code phrase) = code == 181
+
+abbrev pub history_row : Facing → Bool → List Entry → Start → List Line
+history_row f to_trusted h start = if has_history_row start then history_lines f.mask_all to_trusted h else []
+
+-- the passed lines of a message of a call with this list: by its start line, and of its lines
+abbrev pub shown_lines : Facing → Bool → List Entry → Start → List Line → List Line
+shown_lines f to_trusted h start ls = passed f to_trusted (history_row f to_trusted h start) ls
 
 -- ---- From
 

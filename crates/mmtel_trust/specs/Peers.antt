@@ -11,10 +11,10 @@ use Rattle.mmtel_scan.specs.declared.classes.Class.TheVariants.{Digit}
 use Rattle.mmtel_lex.specs.Identity.{reduced}
 use Rattle.mmtel_lex.specs.declared.values.Uri.{Uri}
 use Rattle.mmtel_lex.specs.declared.values.Uri.TheVariants.{Sip, Tel}
-use Rattle.mmtel_trust.specs.Addrs.{is_same_addr}
+use Rattle.mmtel_types.specs.Addrs.{is_same_addr}
 use Rattle.mmtel_trust.specs.declared.faults.TableFault.{TableFault}
 use Rattle.mmtel_trust.specs.declared.faults.TableFault.TheVariants.{Taken, NoPeer}
-use Rattle.mmtel_trust.specs.declared.addrs.Addr.{Addr}
+use Rattle.mmtel_types.specs.declared.addrs.Addr.{Addr}
 use Rattle.mmtel_trust.specs.declared.parties.KnownPeer.{KnownPeer}
 use Rattle.mmtel_trust.specs.declared.parties.Route.{Route}
 

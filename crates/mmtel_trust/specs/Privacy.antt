@@ -2,14 +2,10 @@
 use Rattle.std.specs.Prelude.{ℕ, Bool, not, List, [], ◌∷◌, ◌++◌, codes, if◌then◌else◌, filter}
 use Rattle.std.specs.List.{list_any}
 use Rattle.std.specs.Str.{str_eq_ignore_ascii_case}
-use Rattle.mmtel_message.specs.Message.{values_named}
+use Rattle.mmtel_message.specs.Message.{Line, values_named}
 use Rattle.mmtel_message.specs.Values.{joined_by}
 use Rattle.mmtel_message.specs.declared.values.Mode.TheVariants.{Words}
 use Rattle.mmtel_types.specs.declared.privacy.PrivacySet.{PrivacySet}
-
--- a header line: its name and its value
-abbrev pub Line : Type 0
-Line = List ℕ × List ℕ
 
 -- the words of all Privacy lines, as received
 abbrev pub words : List Line → List (List ℕ)

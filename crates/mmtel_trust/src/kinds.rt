@@ -6,7 +6,7 @@ use crate::texts::is;
 
 /// What becomes of a line where its message is relayed.
 #[derive(Clone, Copy, Debug, PartialEq, Eq)]
-pub enum Kind {
+pub enum HeaderKind {
     /// From: the server writes its own.
     From,
     /// To: the server writes its own.
@@ -80,52 +80,52 @@ fn is_further(name: &[u8]) -> bool
 }
 
 /// The kind of a name that several names have.
-fn grouped(name: &[u8]) -> Kind
+fn grouped(name: &[u8]) -> HeaderKind
     ensures { result ≡ kind_in group_rows name.now }
 {
     if is(name, b"Supported") || is(name, b"Require") {
-        return Kind::Options;
+        return HeaderKind::Options;
     }
     if is_personal(name) {
-        return Kind::Personal;
+        return HeaderKind::Personal;
     }
     if is_trusted(name) {
-        return Kind::Trusted;
+        return HeaderKind::Trusted;
     }
     if is_content(name) {
-        return Kind::Passed;
+        return HeaderKind::Passed;
     }
     if is_further(name) {
-        return Kind::Passed;
+        return HeaderKind::Passed;
     }
-    Kind::Other
+    HeaderKind::Other
 }
 
 /// What becomes of the lines of this name, which is compared without case.
 #[tactic(auto, unfolding(crate::specs::Kinds::kind_of))]
-pub fn kind_of(name: &[u8]) -> Kind
+pub fn kind_of(name: &[u8]) -> HeaderKind
     ensures table { result ≡ kind_of name.now }
 {
     if is(name, b"From") {
-        return Kind::From;
+        return HeaderKind::From;
     }
     if is(name, b"To") {
-        return Kind::To;
+        return HeaderKind::To;
     }
     if is(name, b"Contact") {
-        return Kind::Contact;
+        return HeaderKind::Contact;
     }
     if is(name, b"P-Asserted-Identity") {
-        return Kind::Asserted;
+        return HeaderKind::Asserted;
     }
     if is(name, b"P-Served-User") {
-        return Kind::Served;
+        return HeaderKind::Served;
     }
     if is(name, b"Privacy") {
-        return Kind::Privacy;
+        return HeaderKind::Privacy;
     }
     if is(name, b"History-Info") {
-        return Kind::History;
+        return HeaderKind::History;
     }
     grouped(name)
 }

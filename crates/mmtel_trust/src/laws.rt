@@ -1,16 +1,18 @@
 //! Laws of the definitions that contracts cite: each is the contract of a function that does nothing.
-ghost use Rattle.std.specs.Prelude.{◌≡◌, ◌++◌, ◌↔◌, ◌≤◌, ◌⊎◌, true, false, List, ℕ, Bool, Some, None, length, filter, codes};
-ghost use Rattle.mmtel_message.specs.Faults.{is_request};
-ghost use Rattle.mmtel_message.specs.Message.{Message, first_value, named, values_named};
+ghost use Rattle.std.specs.Prelude.{◌≡◌, ◌++◌, ◌↔◌, ◌≤◌, true, false, List, ℕ, Bool, Option, Some, None, length, filter, map, codes};
+ghost use Rattle.std.specs.Option.{option_map};
+ghost use Rattle.mmtel_lex.specs.Reading.{name_addr_of};
+ghost use Rattle.mmtel_message.specs.Message.{Line, Message, dropped, first_value, has_line, named, values_named};
 ghost use Rattle.mmtel_message.specs.declared.messages.Start.{Start};
 ghost use Rattle.mmtel_message.specs.declared.values.Mode.{Mode};
-ghost use Rattle.mmtel_trust.specs.Digest.{Heard, Restriction, tag_of, heard, caller_account, served_account, is_known, is_private, hide};
+ghost use Rattle.mmtel_trust.specs.Digest.{HeardMessage, tag_of, heard};
 ghost use Rattle.mmtel_trust.specs.Kinds.{kind_of};
-ghost use Rattle.mmtel_trust.specs.Mask.{Entries, Places, only, is_kept, masked, masked_lines};
+ghost use Rattle.mmtel_trust.specs.Mask.{Entries, Places, hide_if, only, is_kept, is_left, masked, masked_lines, with_value};
+ghost use Rattle.mmtel_trust.specs.MaskedMessages.{DecideAlike, Restriction, hide, mask, public_part};
 ghost use Rattle.mmtel_trust.specs.Members.{IsIn};
 ghost use Rattle.mmtel_trust.specs.Passed.{passed, attempt_from};
 ghost use Rattle.mmtel_trust.specs.Peers.{begins_with, leads, longest};
-ghost use Rattle.mmtel_trust.specs.Privacy.{Line, wants};
+ghost use Rattle.mmtel_trust.specs.Privacy.{wants};
 ghost use Rattle.mmtel_trust.specs.declared.accounts.AccountIdentity.{AccountIdentity};
 ghost use Rattle.mmtel_trust.specs.declared.parties.Route.{Route};
 ghost use Rattle.mmtel_trust.specs.declared.showing.Facing.{Facing};
@@ -37,16 +39,17 @@ pub fn masked_shows_the_same()
     ensures entries_from { (es : Entries) (restricted : Bool) (tag : List ℕ) (ls : List Line) → attempt_from restricted tag (masked_lines (only es) ls) ≡ attempt_from restricted tag ls }
 {}
 
-/// Restricted messages that are equal without their private places show the same to an untrusted peer, and messages that are equal without their private entries of History-Info show the same to anybody.
+/// Lines of restricted messages that are equal without their private places, whichever these are, show the same to an untrusted peer, and lines that are equal without their private entries of History-Info show the same to anybody.
 pub fn equal_masks_show_alike()
-    ensures lines { (p : Places) (f : Facing) (history : List Line) (m n : Message Start) → f.restricted ≡ true → masked p m ≡ masked p n → passed f false history m.lines ≡ passed f false history n.lines }
-    ensures entries { (es : Entries) (f : Facing) (to_trusted : Bool) (history : List Line) (m n : Message Start) → masked (only es) m ≡ masked (only es) n → passed f to_trusted history m.lines ≡ passed f to_trusted history n.lines }
+    ensures lines { (p q : Places) (f : Facing) (history ls ms : List Line) → f.restricted ≡ true → masked_lines p ls ≡ masked_lines q ms → passed f false history ls ≡ passed f false history ms }
+    ensures entries { (es other : Entries) (f : Facing) (to_trusted : Bool) (history ls ms : List Line) → masked_lines (only es) ls ≡ masked_lines (only other) ms → passed f to_trusted history ls ≡ passed f to_trusted history ms }
 {}
 
-/// A masked message has no private places.
+/// A masked message has no private places, as it was received and as it was heard.
 pub fn masking_is_once()
     ensures message { (p : Places) (m : Message Start) → masked p (masked p m) ≡ masked p m }
     ensures lines { (p : Places) (ls : List Line) → masked_lines p (masked_lines p ls) ≡ masked_lines p ls }
+    ensures heard { (p : Places) (m : HeardMessage) → hide p (hide p m) ≡ hide p m }
 {}
 
 /// Masking leaves alone what is read of other names, the tags, the start line and the body.
@@ -61,19 +64,38 @@ pub fn masking_keeps_the_rest()
     ensures body { (p : Places) (m : Message Start) → (masked p m).body ≡ m.body }
 {}
 
-/// What is heard of a masked message is what is heard of the message, but for the lines. To is a private place of responses alone.
-pub fn masking_is_heard_in_the_lines()
-    ensures heard { (p : Places) (trusted : Bool) (m : Message Start) → (p.to ≡ false) ⊎ (is_request m.start ≡ false) → heard trusted (masked p m) ≡ record (heard trusted m) { lines = masked_lines p m.lines } }
+/// Lines that are chosen by their names alone are the same chosen before masking or after, and a name whose lines stay has lines before and after.
+pub fn masks_see_no_names()
+    ensures chosen { (p : Places) (q : Line → Bool) → ((n v w : List ℕ) → q (n, v) ≡ q (n, w)) → (ls : List Line) → filter q (masked_lines p ls) ≡ masked_lines p (filter q ls) }
+    ensures named { (p : Places) (name : List ℕ) (ls : List Line) → named name (masked_lines p ls) ≡ masked_lines p (named name ls) }
+    ensures dropped { (p : Places) (name : List ℕ) (ls : List Line) → dropped name (masked_lines p ls) ≡ masked_lines p (dropped name ls) }
+    ensures there { (p : Places) (name : List ℕ) (ls : List Line) → is_left p (kind_of name) ≡ true → has_line name (masked_lines p ls) ≡ has_line name ls }
 {}
 
-/// What is decided of the caller is decided alike when the private places are gone: its account, the account whose record restricts it, whether it has an identity, and whether it is restricted. What an untrusted peer is shown of a restricted message is the same then, and what anybody is shown of one that is not.
-pub fn hiding_decides_nothing()
-    ensures account { (restricts : Restriction) (accounts : List AccountIdentity) (d : Heard) → caller_account accounts (hide restricts accounts d) ≡ caller_account accounts d }
-    ensures served { (restricts : Restriction) (accounts : List AccountIdentity) (d : Heard) → served_account accounts (hide restricts accounts d) ≡ served_account accounts d }
-    ensures known { (restricts : Restriction) (accounts : List AccountIdentity) (d : Heard) → is_known (hide restricts accounts d) ≡ is_known d }
-    ensures private { (restricts : Restriction) (accounts : List AccountIdentity) (d : Heard) → is_private restricts accounts (hide restricts accounts d) ≡ is_private restricts accounts d }
-    ensures again { (restricts : Restriction) (accounts : List AccountIdentity) (d : Heard) → hide restricts accounts (hide restricts accounts d) ≡ hide restricts accounts d }
-    ensures shown { (restricts : Restriction) (accounts : List AccountIdentity) (f : Facing) (history : List Line) (d : Heard) → f.restricted ≡ true → passed f false history (hide restricts accounts d).lines ≡ passed f false history d.lines }
-    ensures others { (restricts : Restriction) (accounts : List AccountIdentity) (f : Facing) (to_trusted : Bool) (history : List Line) (d : Heard) → is_private restricts accounts d ≡ false → passed f to_trusted history (hide restricts accounts d).lines ≡ passed f to_trusted history d.lines }
-    ensures from { (restricts : Restriction) (accounts : List AccountIdentity) (restricted : Bool) (tag : List ℕ) (d : Heard) → (is_private restricts accounts d ≡ true → restricted ≡ true) → attempt_from restricted tag (hide restricts accounts d).lines ≡ attempt_from restricted tag d.lines }
+/// Whatever is private, the lines that tell a message's way, its transaction and its extensions stay; those of From and To stay in number and order, and each keeps its parameters, its tag among them (RFC 3261 §8.1.1, §16.6, §19.3).
+pub fn masks_leave_the_way()
+    ensures via { (p : Places) (ls : List Line) → named (codes "Via") (masked_lines p ls) ≡ named (codes "Via") ls }
+    ensures call_id { (p : Places) (ls : List Line) → named (codes "Call-ID") (masked_lines p ls) ≡ named (codes "Call-ID") ls }
+    ensures cseq { (p : Places) (ls : List Line) → named (codes "CSeq") (masked_lines p ls) ≡ named (codes "CSeq") ls }
+    ensures hops { (p : Places) (ls : List Line) → named (codes "Max-Forwards") (masked_lines p ls) ≡ named (codes "Max-Forwards") ls }
+    ensures route { (p : Places) (ls : List Line) → named (codes "Route") (masked_lines p ls) ≡ named (codes "Route") ls }
+    ensures record_route { (p : Places) (ls : List Line) → named (codes "Record-Route") (masked_lines p ls) ≡ named (codes "Record-Route") ls }
+    ensures required { (p : Places) (ls : List Line) → named (codes "Require") (masked_lines p ls) ≡ named (codes "Require") ls }
+    ensures supported { (p : Places) (ls : List Line) → named (codes "Supported") (masked_lines p ls) ≡ named (codes "Supported") ls }
+    ensures from { (p : Places) (ls : List Line) → named (codes "From") (masked_lines p ls) ≡ map (with_value (hide_if p.from)) (named (codes "From") ls) }
+    ensures to { (p : Places) (ls : List Line) → named (codes "To") (masked_lines p ls) ≡ map (with_value (hide_if p.to)) (named (codes "To") ls) }
+    ensures params { (b : Bool) (v : List ℕ) → option_map (λ n. n.params) (name_addr_of (hide_if b v)) ≡ option_map (λ n. n.params) (name_addr_of v) }
+    ensures tag { (b : Bool) (v : Option (List ℕ)) → tag_of (option_map (hide_if b) v) ≡ tag_of v }
+{}
+
+/// What is heard of a masked message is what was heard of the message, hidden: each field that is never private stays, whatever the private places are, and so messages that are equal when masked are equal in these.
+pub fn masks_leave_the_rest()
+    ensures heard { (p : Places) (trusted : Bool) (m : Message Start) → heard trusted (masked p m) ≡ hide p (heard trusted m) }
+    ensures public { (p : Places) (trusted : Bool) (m : Message Start) → public_part (heard trusted (masked p m)) ≡ public_part (heard trusted m) }
+    ensures alike { (p q : Places) (trusted : Bool) (m n : Message Start) → masked p m ≡ masked q n → public_part (heard trusted m) ≡ public_part (heard trusted n) }
+{}
+
+/// Of two messages of equal masks the same is decided, and they show the same: to an untrusted peer where the caller is restricted, and to anybody where it is not. The accounts may be other ones.
+pub fn equal_masks_decide_alike()
+    ensures alike { (restricts : Restriction) (accounts others : List AccountIdentity) (m n : HeardMessage) → mask restricts accounts m ≡ mask restricts others n → DecideAlike restricts accounts others m n }
 {}

@@ -2,7 +2,6 @@
 #![tactic(auto)]
 
 mod accounts;
-mod addrs;
 mod faults;
 mod identities;
 mod kinds;
@@ -11,18 +10,20 @@ mod parties;
 mod peers;
 mod privacy;
 mod showing;
+mod table_laws;
 mod texts;
 
 pub use accounts::{AccountIdentity, Accounts};
-pub use addrs::Addr;
 pub use faults::TableFault;
 pub use identities::{Identities, Scheme, asserted};
-pub use kinds::{Kind, kind_of};
+pub use kinds::{HeaderKind, kind_of};
 pub use laws::{
-    equal_masks_show_alike, hiding_decides_nothing, longest_prefix_leads, masked_shows_the_same,
-    masking_is_heard_in_the_lines, masking_is_once, masking_keeps_the_rest,
+    equal_masks_decide_alike, equal_masks_show_alike, longest_prefix_leads, masked_shows_the_same,
+    masking_is_once, masking_keeps_the_rest, masks_leave_the_rest, masks_leave_the_way,
+    masks_see_no_names,
 };
 pub use parties::{KnownPeer, Route};
 pub use peers::PeerTable;
 pub use privacy::wants;
-pub use showing::{Facing, Line, attempt_from, shown};
+pub use showing::{Facing, attempt_from, history_lines, shown};
+pub use table_laws::{masked_histories_show_alike, own_lines_are_not_passed};

@@ -1,8 +1,7 @@
 //! What a table of peers holds.
 
-use crate::addrs::Addr;
 use mmtel_scan::Text;
-use mmtel_types::Peer;
+use mmtel_types::{Addr, Peer};
 
 /// A peer of the configuration.
 #[derive(Clone, Copy, Debug)]

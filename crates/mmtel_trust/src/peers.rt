@@ -5,13 +5,12 @@ ghost use Rattle.mmtel_lex.specs.Identity.{is_mark, reduced};
 ghost use Rattle.mmtel_trust.specs.Faults.{Meets};
 ghost use Rattle.mmtel_trust.specs.Peers.{Peers, peer_fault, route_fault, has_number, has_addr, peer_at, addr_of, is_trusted, is_route, has_name, with_peer, with_route, begins_with, is_prefix, leads, longest, named_route, route_of};
 
-use crate::addrs::Addr;
 use crate::faults::TableFault;
 use crate::parties::{KnownPeer, Route};
 use crate::texts::is;
 use mmtel_lex::{List, Text, Uri};
 use mmtel_scan::{Class, is_all};
-use mmtel_types::Peer;
+use mmtel_types::{Addr, Peer};
 use std::alloc::Global;
 use std::marker::Model;
 

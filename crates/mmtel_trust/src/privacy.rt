@@ -11,7 +11,7 @@ ghost use Rattle.mmtel_trust.specs.Written.{kept_word};
 
 use crate::texts::is;
 use mmtel_lex::{NoMemory, Text};
-use mmtel_message::{Msg, is_line};
+use mmtel_message::{Line, Msg, is_line};
 use mmtel_scan::{Class, part, trim};
 use mmtel_types::PrivacySet;
 use std::alloc::Global;
@@ -42,7 +42,7 @@ fn value_has(value: &[u8], word: &[u8]) -> bool
     false
 }
 
-fn line_has(line: &(Text, Text), word: &[u8]) -> bool
+fn line_has(line: &Line, word: &[u8]) -> bool
     ensures { result ≡ list_any (λ v. str_eq_ignore_ascii_case v word.now) (line_values Words (codes "Privacy") line.now) }
 {
     if !is_line(line, b"Privacy") {
@@ -51,20 +51,20 @@ fn line_has(line: &(Text, Text), word: &[u8]) -> bool
     value_has(line.1.bytes(), word)
 }
 
-fn any_has(lines: &[(Text, Text)], word: &[u8]) -> bool
+fn any_has(lines: &[Line], word: &[u8]) -> bool
     ensures { result ≡ list_any (λ l. list_any (λ v. str_eq_ignore_ascii_case v word.now) (line_values Words (codes "Privacy") l)) lines.now }
 {
     lines.iter().any(|line| line_has(line, word))
 }
 
 /// Whether the word is among those of all Privacy lines.
-fn has_word(lines: &[(Text, Text)], word: &[u8]) -> bool
+fn has_word(lines: &[Line], word: &[u8]) -> bool
     ensures { result ≡ has_word word.now lines.now }
 {
     any_has(lines, word)
 }
 
-fn wants_of(lines: &[(Text, Text)]) -> PrivacySet
+fn wants_of(lines: &[Line]) -> PrivacySet
     ensures { result ≡ wants lines.now }
 {
     PrivacySet {
@@ -107,7 +107,7 @@ fn add_value(alloc: Global, out: &mut Text, value: &[u8]) -> Result<(), NoMemory
     Ok(())
 }
 
-fn add_line(alloc: Global, out: &mut Text, line: &(Text, Text)) -> Result<(), NoMemory>
+fn add_line(alloc: Global, out: &mut Text, line: &Line) -> Result<(), NoMemory>
     ensures { OnOk result (out.new ≡ out.old ++ flat_map kept_word (line_values Words (codes "Privacy") line.now)) }
 {
     if !is_line(line, b"Privacy") {
@@ -116,7 +116,7 @@ fn add_line(alloc: Global, out: &mut Text, line: &(Text, Text)) -> Result<(), No
     add_value(alloc, out, line.1.bytes())
 }
 
-fn add_words(alloc: Global, out: &mut Text, lines: &[(Text, Text)]) -> Result<(), NoMemory>
+fn add_words(alloc: Global, out: &mut Text, lines: &[Line]) -> Result<(), NoMemory>
     ensures { OnOk result (out.new ≡ out.old ++ flat_map kept_word (words lines.now)) }
 {
     for line in lines {
@@ -125,7 +125,7 @@ fn add_words(alloc: Global, out: &mut Text, lines: &[(Text, Text)]) -> Result<()
     Ok(())
 }
 
-fn add_id(alloc: Global, out: &mut Text, lines: &[(Text, Text)]) -> Result<(), NoMemory>
+fn add_id(alloc: Global, out: &mut Text, lines: &[Line]) -> Result<(), NoMemory>
     ensures { OnOk result (out.new ≡ out.old ++ (if has_word (codes "id") lines.now then [] else codes ";id")) }
 {
     if has_word(lines, b"id") {
@@ -136,7 +136,7 @@ fn add_id(alloc: Global, out: &mut Text, lines: &[(Text, Text)]) -> Result<(), N
 
 /// The words that are left, and `id`, each behind its `;`.
 #[tactic(auto, using(crate::proofs::WordLaws::behind_text))]
-fn separated(alloc: Global, lines: &[(Text, Text)]) -> Result<Text, NoMemory>
+fn separated(alloc: Global, lines: &[Line]) -> Result<Text, NoMemory>
     ensures { IfOk result (λ t. drop 1 t ≡ restricted_text lines.now) }
 {
     let mut out = Text::new();
@@ -155,7 +155,7 @@ fn without_first(alloc: Global, bytes: &[u8]) -> Result<Text, NoMemory>
 }
 
 /// What Privacy says of a restricted call towards a trusted peer: the words without `none`, and with `id`.
-pub fn restricted_text(alloc: Global, lines: &[(Text, Text)]) -> Result<Text, NoMemory>
+pub fn restricted_text(alloc: Global, lines: &[Line]) -> Result<Text, NoMemory>
     ensures { IfOk result (λ t. t ≡ restricted_text lines.now) }
 {
     let out = separated(alloc, lines)?;

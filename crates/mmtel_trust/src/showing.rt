@@ -1,15 +1,16 @@
 //! What is passed on of a message that is relayed, and the From of a message that is made of it.
-ghost use Rattle.std.specs.Prelude.{◌≡◌, ◌∷◌, ◌++◌, ◌&&◌, ◌||◌, not, None, IfOk, OnOk, if◌then◌else◌, codes, [], map};
+ghost use Rattle.std.specs.Prelude.{◌≡◌, ◌++◌, ◌&&◌, ◌||◌, not, None, IfOk, OnOk, if◌then◌else◌, codes, List, [], false, map};
 ghost use Rattle.std.specs.Option.{option_copied};
 ghost use Rattle.mmtel_message.specs.Message.{first_value, named};
-ghost use Rattle.mmtel_trust.specs.Shown.{line_of};
-ghost use Rattle.mmtel_trust.specs.Passed.{passes, is_shown, asserted_lines, privacy_lines, other_lines, passed, nobody, named_text, attempt_from, read_by};
+ghost use Rattle.mmtel_history.specs.HistoryInfo.{masked_list};
+ghost use Rattle.mmtel_history.specs.declared.entries.Entry.{Entry};
+ghost use Rattle.mmtel_trust.specs.Passed.{passes, is_shown, asserted_lines, privacy_lines, other_lines, passed, history_line, history_lines, has_history_row, history_row, shown_lines, nobody, named_text, attempt_from, read_by};
 
-use crate::kinds::{Kind, kind_of};
+use crate::kinds::{HeaderKind, kind_of};
 use crate::privacy::restricted_text;
-use mmtel_history::ANONYMOUS;
+use mmtel_history::{ANONYMOUS, Entry, History, write_entry};
 use mmtel_lex::{LexFault, List, NameAddr, NoMemory, Text, print_name_addr, read_name_addr};
-use mmtel_message::{Msg, first_of, is_line};
+use mmtel_message::{Line, Msg, Start, add_bytes, add_line, add_named, first_of};
 use std::alloc::Global;
 
 /// From whom a message came, and what of its sender may be shown.
@@ -21,40 +22,8 @@ pub struct Facing {
     pub restricted: bool,
     /// The identity of the sender is presented to the other side (TS 24.607, TS 24.608).
     pub present: bool,
-}
-
-/// A header line that is passed on.
-#[derive(Debug, Drop)]
-pub struct Line {
-    /// Its name, as received.
-    pub name: Text,
-    /// Its value.
-    pub value: Text,
-}
-
-fn add_line(alloc: Global, out: &mut List<Line>, name: &[u8], value: &[u8]) -> Result<(), NoMemory>
-    ensures { OnOk result (out.new ≡ out.old ++ line_of (name.now, value.now) ∷ []) }
-{
-    let name = Text::of(alloc, name)?;
-    let value = Text::of(alloc, value)?;
-    out.push(alloc, Line { name, value })?;
-    Ok(())
-}
-
-fn add_named(
-    alloc: Global,
-    out: &mut List<Line>,
-    name: &[u8],
-    lines: &[(Text, Text)],
-) -> Result<(), NoMemory>
-    ensures { OnOk result (out.new ≡ out.old ++ map line_of (named name.now lines.now)) }
-{
-    for line in lines {
-        if is_line(line, name) {
-            add_line(alloc, out, line.0.bytes(), line.1.bytes())?;
-        }
-    }
-    Ok(())
+    /// Untrusted peers are shown no entry of the call's History-Info as it is: the Privacy of the INVITE that opened the call has `history` (RFC 7044 §10.1).
+    pub mask_all: bool,
 }
 
 /// Whether the asserted identities are passed.
@@ -69,9 +38,9 @@ fn add_asserted(
     out: &mut List<Line>,
     f: Facing,
     to_trusted: bool,
-    lines: &[(Text, Text)],
+    lines: &[Line],
 ) -> Result<(), NoMemory>
-    ensures { OnOk result (out.new ≡ out.old ++ map line_of (asserted_lines f to_trusted lines.now)) }
+    ensures { OnOk result (out.new ≡ out.old ++ asserted_lines f to_trusted lines.now) }
 {
     if is_asserted(f, to_trusted) {
         return add_named(alloc, out, b"P-Asserted-Identity", lines);
@@ -79,93 +48,184 @@ fn add_asserted(
     Ok(())
 }
 
+#[tactic(auto, unfolding(mmtel_message::specs::Message::line))]
 fn add_privacy(
     alloc: Global,
     out: &mut List<Line>,
     f: Facing,
     to_trusted: bool,
-    lines: &[(Text, Text)],
+    lines: &[Line],
 ) -> Result<(), NoMemory>
-    ensures { OnOk result (out.new ≡ out.old ++ map line_of (privacy_lines f to_trusted lines.now)) }
+    ensures { OnOk result (out.new ≡ out.old ++ privacy_lines f to_trusted lines.now) }
 {
     if !to_trusted {
         return Ok(());
     }
     if f.restricted {
         let words = restricted_text(alloc, lines)?;
-        return add_line(alloc, out, b"Privacy", words.bytes());
+        return add_line(alloc, out, b"Privacy", words);
     }
     add_named(alloc, out, b"Privacy", lines)
 }
 
 /// Whether a line of the kind, with this value, is among the other lines that are passed.
-fn passes(f: Facing, to_trusted: bool, kind: Kind, value: &[u8]) -> bool
+fn passes(f: Facing, to_trusted: bool, kind: HeaderKind, value: &[u8]) -> bool
     ensures { result ≡ passes f to_trusted kind value.now }
 {
     match kind {
-        Kind::From => false,
-        Kind::To => false,
-        Kind::Contact => false,
-        Kind::Asserted => false,
-        Kind::Served => false,
-        Kind::Privacy => false,
-        Kind::History => false,
-        Kind::Options => value == b"histinfo".as_slice(),
-        Kind::Passed => true,
-        Kind::Personal => !f.restricted,
-        Kind::Trusted => f.from_trusted && to_trusted,
-        Kind::Other => false,
+        HeaderKind::From => false,
+        HeaderKind::To => false,
+        HeaderKind::Contact => false,
+        HeaderKind::Asserted => false,
+        HeaderKind::Served => false,
+        HeaderKind::Privacy => false,
+        HeaderKind::History => false,
+        HeaderKind::Options => value == b"histinfo".as_slice(),
+        HeaderKind::Passed => true,
+        HeaderKind::Personal => !f.restricted,
+        HeaderKind::Trusted => f.from_trusted && to_trusted,
+        HeaderKind::Other => false,
     }
 }
 
 #[tactic(auto, unfolding(crate::specs::Passed::is_shown))]
-fn is_shown(f: Facing, to_trusted: bool, line: &(Text, Text)) -> bool
+fn is_shown(f: Facing, to_trusted: bool, line: &Line) -> bool
     ensures { result ≡ is_shown f to_trusted line.now }
 {
     passes(f, to_trusted, kind_of(line.0.bytes()), line.1.bytes())
 }
 
+#[tactic(auto, unfolding(mmtel_message::specs::Message::line))]
 fn add_others(
     alloc: Global,
     out: &mut List<Line>,
     f: Facing,
     to_trusted: bool,
-    lines: &[(Text, Text)],
+    lines: &[Line],
 ) -> Result<(), NoMemory>
-    ensures { OnOk result (out.new ≡ out.old ++ map line_of (other_lines f to_trusted lines.now)) }
+    ensures { OnOk result (out.new ≡ out.old ++ other_lines f to_trusted lines.now) }
 {
     for line in lines {
         if is_shown(f, to_trusted, line) {
-            add_line(alloc, out, line.0.bytes(), line.1.bytes())?;
+            add_bytes(alloc, out, line.0.bytes(), line.1.bytes())?;
         }
+    }
+    Ok(())
+}
+
+/// Adds a line of History-Info for each entry.
+#[tactic(auto, unfolding(mmtel_message::specs::Message::line))]
+fn add_entries(alloc: Global, out: &mut List<Line>, entries: &[Entry]) -> Result<(), NoMemory>
+    ensures { OnOk result (out.new ≡ out.old ++ map history_line entries.now) }
+{
+    for entry in entries {
+        let value = write_entry(alloc, entry)?;
+        add_line(alloc, out, b"History-Info", value)?;
+    }
+    Ok(())
+}
+
+fn add_history(
+    alloc: Global,
+    out: &mut List<Line>,
+    h: &History,
+    mask_all: bool,
+    to_trusted: bool,
+) -> Result<(), NoMemory>
+    ensures { OnOk result (out.new ≡ out.old ++ history_lines mask_all to_trusted h.now) }
+{
+    if to_trusted {
+        return add_entries(alloc, out, h.entries());
+    }
+    let masked = h.masked(alloc, mask_all)?;
+    add_entries(alloc, out, masked.entries())
+}
+
+/// The lines of a call's History-Info: towards a trusted peer as the list is; towards any other masked, the hidden entries, or all where the Privacy of the INVITE that opened the call has `history`. These are the lines that a 181 of the server's own passes (RFC 7044 §5 and §10.1).
+///
+/// # Errors
+///
+/// Want of memory alone.
+pub fn history_lines(
+    alloc: Global,
+    h: &History,
+    mask_all: bool,
+    to_trusted: bool,
+) -> Result<List<Line>, NoMemory>
+    ensures lines { IfOk result (λ ls. ls ≡ history_lines mask_all to_trusted h.now) }
+    // An untrusted peer sees nothing of the list that masking takes away.
+    ensures masked { (other : List Entry) → to_trusted ≡ false → masked_list mask_all other ≡ masked_list mask_all h.now → IfOk result (λ ls. ls ≡ history_lines mask_all false other) }
+{
+    let mut out = List::new();
+    add_history(alloc, &mut out, h, mask_all, to_trusted)?;
+    Ok(out)
+}
+
+/// Whether a message with this start line carries the call's History-Info: an INVITE, or a 181.
+fn has_history_row(start: &Start) -> bool
+    ensures { result ≡ has_history_row start.now }
+{
+    match start {
+        Start::Request { method, uri: _ } => method.bytes() == b"INVITE".as_slice(),
+        Start::Status { code, phrase: _ } => *code == 181,
+    }
+}
+
+/// Adds the call's History-Info, where it belongs into a message with this start line.
+fn add_row(
+    alloc: Global,
+    out: &mut List<Line>,
+    f: Facing,
+    to_trusted: bool,
+    h: &History,
+    start: &Start,
+) -> Result<(), NoMemory>
+    ensures { OnOk result (out.new ≡ out.old ++ history_row f to_trusted h.now start.now) }
+{
+    if has_history_row(start) {
+        return add_history(alloc, out, h, f.mask_all, to_trusted);
     }
     Ok(())
 }
 
 fn shown_of(
     alloc: Global,
-    lines: &[(Text, Text)],
+    m: &Msg,
+    h: &History,
     f: Facing,
     to_trusted: bool,
 ) -> Result<List<Line>, NoMemory>
-    ensures { IfOk result (λ ls. ls ≡ map line_of (passed f to_trusted [] lines.now)) }
+    ensures { IfOk result (λ ls. ls ≡ shown_lines f to_trusted h.now m.now.start m.now.lines) }
 {
     let mut out = List::new();
-    add_asserted(alloc, &mut out, f, to_trusted, lines)?;
-    add_privacy(alloc, &mut out, f, to_trusted, lines)?;
-    add_others(alloc, &mut out, f, to_trusted, lines)?;
+    add_asserted(alloc, &mut out, f, to_trusted, m.lines())?;
+    add_privacy(alloc, &mut out, f, to_trusted, m.lines())?;
+    add_row(alloc, &mut out, f, to_trusted, h, m.start())?;
+    add_others(alloc, &mut out, f, to_trusted, m.lines())?;
     Ok(out)
 }
 
-/// The lines of a message that are passed on to a peer, which is trusted or not: the asserted identities, Privacy, and then the others in received order, as the header table says.
+/// The lines of a message that are passed on to a peer, which is trusted or not: the asserted identities, Privacy, in an INVITE or a 181 the call's History-Info, and then the others in received order, as the header table says.
 ///
 /// # Errors
 ///
 /// Want of memory alone.
-pub fn shown(alloc: Global, m: &Msg, f: &Facing, to_trusted: bool) -> Result<List<Line>, NoMemory>
-    ensures lines { IfOk result (λ ls. ls ≡ map line_of (passed f.now to_trusted [] m.now.lines)) }
+pub fn shown(
+    alloc: Global,
+    m: &Msg,
+    h: &History,
+    f: &Facing,
+    to_trusted: bool,
+) -> Result<List<Line>, NoMemory>
+    ensures lines { IfOk result (λ ls. ls ≡ shown_lines f.now to_trusted h.now m.now.start m.now.lines) }
+    // Of History-Info it has the call's list alone, whatever the message says of it: in an INVITE or a 181 its lines, and in any other message none.
+    ensures history { IfOk result (λ ls. named (codes "History-Info") ls ≡ history_row f.now to_trusted h.now m.now.start) }
+    // An untrusted peer sees nothing of the list that masking takes away.
+    ensures masked { (other : List Entry) → to_trusted ≡ false → masked_list f.now.mask_all other ≡ masked_list f.now.mask_all h.now → IfOk result (λ ls. ls ≡ shown_lines f.now false other m.now.start m.now.lines) }
+    // An empty list adds no line.
+    ensures bare { h.now ≡ [] → IfOk result (λ ls. ls ≡ passed f.now to_trusted [] m.now.lines) }
 {
-    shown_of(alloc, m.lines(), *f, to_trusted)
+    shown_of(alloc, m, h, *f, to_trusted)
 }
 
 /// Nobody, by display and URI (RFC 3323 §4.1.1.3).
@@ -216,11 +276,7 @@ fn read_by(alloc: Global, value: Option<&[u8]>) -> Result<Option<NameAddr>, NoMe
     }
 }
 
-fn from_name(
-    alloc: Global,
-    restricted: bool,
-    lines: &[(Text, Text)],
-) -> Result<Option<NameAddr>, NoMemory>
+fn from_name(alloc: Global, restricted: bool, lines: &[Line]) -> Result<Option<NameAddr>, NoMemory>
     ensures { IfOk result (λ n. n ≡ (if restricted then None else read_by (first_value (codes "From") lines.now))) }
 {
     if restricted {

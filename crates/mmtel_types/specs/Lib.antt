@@ -1,4 +1,5 @@
 -- What the public clauses cite. No private function has a clause.
+pub mod Addrs
 pub mod Causes
 pub mod Moments
 pub mod Sides

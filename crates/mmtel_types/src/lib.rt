@@ -1,6 +1,7 @@
-//! What all crates share and what takes no memory: numbers of peers, accounts, calls and rooms, the sides of a call, moments, sets of privacy words, the causes of refusals, and the limits of the server.
+//! What all crates share and what takes no memory: numbers of peers, accounts, calls and rooms, addresses, the sides of a call, moments, sets of privacy words, the causes of refusals, and the limits of the server.
 #![tactic(auto)]
 
+mod addrs;
 mod causes;
 pub mod limits;
 mod moments;
@@ -8,6 +9,7 @@ mod numbers;
 mod privacy;
 mod sides;
 
+pub use addrs::Addr;
 pub use causes::{Cause, causes_are_told_apart};
 pub use moments::Moment;
 pub use numbers::{Account, CallNo, Failed, Peer, RoomNo};

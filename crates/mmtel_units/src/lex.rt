@@ -1,14 +1,14 @@
-//! Texts, lists, parameters, URIs, name-addrs and identities.
+//! Parameters, URIs, their places and escaped bytes, name-addrs and identities.
 
 use crate::told::{Rows, Told, wrong_line};
 use mmtel_lex::params::{params_front, text, token};
 use mmtel_lex::uris::{host, port};
 use mmtel_lex::{
-    LexFault, List, NameAddr, NoMemory, Params, Text, Uri, UriFault, add_params, domain,
-    print_name_addr, print_uri, read_name_addr, read_params, read_uri, same_identity,
+    LexFault, NameAddr, NoMemory, Params, Text, Uri, UriFault, add_params, cut, domain, find_named,
+    first_part, is_named, percent_decoded, print_name_addr, print_uri, read_name_addr, read_params,
+    read_uri, same_identity, split_user, uri_header, uri_param,
 };
 use mmtel_scan::{part, token_text};
-use std::alloc::Global;
 
 fn add_param_parts(told: &mut Told, params: &Params) {
     for param in params.items() {
@@ -590,25 +590,130 @@ fn reads_fronts(rt: HostRuntime) {
     assert_eq!(rt; wrong_line(rt.alloc(), Fronts, FRONTS), None);
 }
 
-/// Adds 1, 2 and 4, and says whether memory was enough.
-fn add_three(alloc: Global, list: &mut List<u8>) -> bool {
-    for item in [1, 2, 4] {
-        if list.push(alloc, item).is_err() {
-            return false;
-        }
-    }
-    true
+/// Adds a part that was found, or `-`.
+fn add_found(told: &mut Told, name: &[u8], found: Option<&[u8]>) {
+    told.add_part(name, found.unwrap_or(b"-"));
 }
 
+/// Adds what a text of a URI stands for, or `broken`, and ends the line.
+fn add_decoded(told: &mut Told, text: &[u8]) {
+    match percent_decoded(told.alloc(), text) {
+        Ok(Some(decoded)) => told.add_part(b"decoded", decoded.bytes()),
+        Ok(None) => told.add(b" broken"),
+        Err(NoMemory) => told.fail(),
+    }
+    told.add(b"\n");
+}
+
+/// A name and a URI, which a blank parts: the URI cut behind its `@`; its parameter and its header of the name; and what stands behind the `=` of the header, decoded.
+#[derive(Drop)]
+struct Places;
+
+impl Rows for Places {
+    fn tell(&mut self, told: &mut Told, asked: &[u8]) {
+        let (name, uri) = cut(b' ', asked);
+        let (user, host) = split_user(uri);
+        let header = uri_header(uri, name);
+        let (_, value) = cut(b'=', header.unwrap_or(b""));
+        told.add_part(b"user", user);
+        told.add_part(b"host", host);
+        add_found(told, b"param", uri_param(uri, name));
+        add_found(told, b"header", header);
+        add_decoded(told, value);
+    }
+}
+
+/// URIs of RFC 3261 §19.1.3 and §19.1.4, one of RFC 3966 §3 and one of RFC 4458 §3. What stands before the `@` is the user's, and no parameter.
+const PLACES: &[u8] = br#"> SUBJECT sips:alice@atlanta.com?subject=project%20x&priority=urgent
+ user<sips:alice@> host<atlanta.com?subject=project%20x&priority=urgent> param<-> header<subject=project%20x> decoded<project x>
+> to sip:atlanta.com;method=REGISTER?to=alice%40atlanta.com
+ user<> host<sip:atlanta.com;method=REGISTER?to=alice%40atlanta.com> param<-> header<to=alice%40atlanta.com> decoded<alice@atlanta.com>
+> Method sip:atlanta.com;method=REGISTER?to=alice%40atlanta.com
+ user<> host<sip:atlanta.com;method=REGISTER?to=alice%40atlanta.com> param<method=REGISTER> header<-> decoded<>
+> day sip:alice;day=tuesday@atlanta.com
+ user<sip:alice;day=tuesday@> host<atlanta.com> param<-> header<-> decoded<>
+> transport sip:%61lice@atlanta.com;transport=TCP;transport=UDP
+ user<sip:%61lice@> host<atlanta.com;transport=TCP;transport=UDP> param<transport=TCP> header<-> decoded<>
+> phone-context tel:863-1234;phone-context=+1-914-555
+ user<> host<tel:863-1234;phone-context=+1-914-555> param<phone-context=+1-914-555> header<-> decoded<>
+> cause sip:voicemail@example.com;target=bob%40example.com;cause=486
+ user<sip:voicemail@> host<example.com;target=bob%40example.com;cause=486> param<cause=486> header<-> decoded<>
+> y sip:a@h?x=%zz&y=%4
+ user<sip:a@> host<h?x=%zz&y=%4> param<-> header<y=%4> broken
+"#;
+
 #[test]
-fn keeps_lists(rt: HostRuntime) {
-    let mut list = List::new();
-    assert!(rt; add_three(rt.alloc(), &mut list));
-    assert!(rt; list.items().len() == 3);
-    assert!(rt; list.insert(rt.alloc(), 2, 3).is_ok());
-    let first = list.replace(0, 9);
-    let second = list.remove(1);
-    let last = list.pop();
-    assert_eq!(rt; (first, second, last), (1, 2, Some(4)));
-    assert_eq!(rt; list.items(), [9, 3].as_slice());
+fn finds_places(rt: HostRuntime) {
+    assert_eq!(rt; wrong_line(rt.alloc(), Places, PLACES), None);
+}
+
+/// What a text of a URI stands for.
+#[derive(Drop)]
+struct Escapes;
+
+impl Rows for Escapes {
+    fn tell(&mut self, told: &mut Told, asked: &[u8]) {
+        add_decoded(told, asked);
+    }
+}
+
+/// Escaped bytes (RFC 3986 §2.1): digits of either case, and each `%` counts once.
+const ESCAPES: &[u8] = br#"> plain
+ decoded<plain>
+> %61lice%40h
+ decoded<alice@h>
+> %3b%3B%7e
+ decoded<;;~>
+> %2541
+ decoded<%41>
+> a%
+ broken
+> a%4
+ broken
+> a%4g
+ broken
+> %g4
+ broken
+> %%41
+ broken
+> %41%
+ broken
+"#;
+
+#[test]
+fn decodes_escapes(rt: HostRuntime) {
+    assert_eq!(rt; wrong_line(rt.alloc(), Escapes, ESCAPES), None);
+}
+
+/// A text at its first `;`, and the first of its parts that is named `x`.
+#[derive(Drop)]
+struct Parts;
+
+impl Rows for Parts {
+    fn tell(&mut self, told: &mut Told, asked: &[u8]) {
+        let (front, rest) = first_part(b';', asked).unwrap_or((asked, b"none"));
+        told.add_part(b"first", front);
+        told.add_part(b"rest", rest);
+        add_found(told, b"named", find_named(b';', b"x", asked));
+        told.add(if is_named(b"x", front) {
+            b" x\n"
+        } else {
+            b" -\n"
+        });
+    }
+}
+
+const PARTS: &[u8] = br#"> x=1;X=2
+ first<x=1> rest<X=2> named<x=1> x
+> xx;X
+ first<xx> rest<X> named<X> -
+> ;y=x
+ first<> rest<y=x> named<-> -
+> X=a=b
+ first<X=a=b> rest<none> named<X=a=b> x
+"#;
+
+#[test]
+fn parts_texts(rt: HostRuntime) {
+    assert_eq!(rt; wrong_line(rt.alloc(), Parts, PARTS), None);
 }

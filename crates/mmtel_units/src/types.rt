@@ -1,7 +1,7 @@
-//! Causes, privacy words and limits.
+//! Addresses, causes, privacy words and limits.
 
 use crate::told::Told;
-use mmtel_types::{Cause, PrivacySet, limits};
+use mmtel_types::{Addr, Cause, PrivacySet, limits};
 
 /// The cause of this number, in the order in which they are declared; those with a status or a flag stand twice.
 fn cause(number: u8) -> Cause {
@@ -81,6 +81,29 @@ fn privacy(rt: HostRuntime) {
         history: false,
     };
     assert_eq!(rt; PrivacySet::default(), none_asked);
+}
+
+/// The same address has the same four numbers and the same port.
+#[test]
+fn addresses(rt: HostRuntime) {
+    let one = Addr {
+        ip: [192, 0, 2, 1],
+        port: 5060,
+    };
+    let elsewhere = Addr {
+        ip: [192, 0, 2, 2],
+        port: 5060,
+    };
+    let other_port = Addr {
+        ip: [192, 0, 2, 1],
+        port: 5061,
+    };
+    let same = (
+        one.is_same(one),
+        one.is_same(elsewhere),
+        one.is_same(other_port),
+    );
+    assert_eq!(rt; same, (true, false, false));
 }
 
 // The limits that the documents promise. The last moment stands in a contract.

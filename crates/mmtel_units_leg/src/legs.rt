@@ -7,8 +7,7 @@ use mmtel_charging::Meter;
 use mmtel_leg::{Asked, CalleeLeg, CallerLeg, Ended, LegOf, Released, Remote, Standing};
 use mmtel_message::{Msg, read};
 use mmtel_scan::{Text, part};
-use mmtel_trust::Addr;
-use mmtel_types::{Cause, Moment, Peer, Side};
+use mmtel_types::{Addr, Cause, Moment, Peer, Side};
 
 /// The server's address.
 pub const SIP: Addr = Addr {

@@ -4,29 +4,15 @@ use crate::legs::{
     ANSWER, CAME, OFFERED, SIP, Tells, message, remote_in, tell_answered, tell_leg, tell_meter,
 };
 use crate::told::Told;
-use mmtel_leg::{
-    Asked, CalleeLeg, Dialogue, Ended, LegOf, Parts, Standing, addr_text, contact_text, numbered,
-    via_text,
-};
-use mmtel_message::Msg;
+use mmtel_leg::{Asked, CalleeLeg, Dialogue, Ended, LegOf, Parts, Standing, numbered};
+use mmtel_message::{Line, Msg, add_bytes};
 use mmtel_scan::{List, NoMemory, Text};
-use mmtel_trust::{Addr, Line};
 use mmtel_types::{Peer, Side};
-use std::alloc::Global;
-
-fn line(alloc: Global, name: &[u8], value: &[u8]) -> Result<Line, NoMemory> {
-    let name = Text::of(alloc, name)?;
-    let value = Text::of(alloc, value)?;
-    Ok(Line { name, value })
-}
 
 /// Adds a line to be shown.
 fn show(told: &mut Told, lines: &mut List<Line>, name: &[u8], value: &[u8]) {
-    let line = line(told.alloc, name, value);
-    if let Some(line) = told.noted(line) {
-        let pushed = lines.push(told.alloc, line);
-        told.noted(pushed);
-    }
+    let added = add_bytes(told.alloc, lines, name, value);
+    told.noted(added);
 }
 
 /// Tells a message, its lines ended by LF, and a line `#`.
@@ -424,26 +410,7 @@ fn tell_cancel_of_offered(told: &mut Told) {
     }
 }
 
-/// Tells a text, and a line's end.
-fn tell_text(told: &mut Told, text: Result<Text, NoMemory>) {
-    if let Some(text) = told.noted(text) {
-        told.add(text.bytes());
-        told.add(b"\n");
-    }
-}
-
-/// Tells how the server names itself.
-fn tell_addresses(told: &mut Told) {
-    let addr = Addr {
-        ip: [192, 0, 2, 255],
-        port: 65535,
-    };
-    tell_text(told, addr_text(told.alloc, addr));
-    tell_text(told, contact_text(told.alloc, SIP));
-    tell_text(told, via_text(told.alloc, SIP, b"T-4"));
-}
-
-/// What is built for a callee that is not yet in a call: the ACK of a 2xx without tag behind an early dialog, and a CANCEL; and how the server names itself.
+/// What is built for a callee that is not yet in a call: the ACK of a 2xx without tag behind an early dialog, and a CANCEL.
 ///
 /// The dialog is that of the 2xx (RFC 3261 §12.1.2, §13.2.2.4), so the ACK goes by its route set, and To has the tag that it gave, which is none. Of a CANCEL (§9.1) Request-URI, Call-ID, From, To and the number are those of the INVITE, and so is its Via.
 const BUILT: &[u8] = br##"ACK sip:e@127.0.0.1:5072 SIP/2.0
@@ -467,16 +434,12 @@ CSeq: 1 CANCEL
 Content-Length: 0
 
 #
-192.0.2.255:65535
-<sip:127.0.0.1:5060>
-SIP/2.0/UDP 127.0.0.1:5060;branch=z9hG4bKT-4
 "##;
 
 #[test]
-fn untagged_answer_cancel_and_addresses(rt: HostRuntime) {
+fn untagged_answer_and_cancel(rt: HostRuntime) {
     let mut told = Told::new(rt.alloc());
     tell_untagged(&mut told);
     tell_cancel_of_offered(&mut told);
-    tell_addresses(&mut told);
     assert_eq!(rt; told.whole(), BUILT);
 }

@@ -281,7 +281,7 @@ fn append(
 }
 
 /// One more diversion by bob.
-fn divert(
+pub fn divert(
     out: &mut Report,
     alloc: Global,
     history: &mut History,
@@ -326,6 +326,79 @@ fn tells_two_diversions(rt: HostRuntime) -> Result<(), Fail> {
         out.bytes(),
         b"<sip:bob@home.example>;index=1\n<sip:carol@home.example;cause=302>;index=1.1\n<sip:vm@far.example;cause=486>;index=1.1.1\n2".as_slice()
     );
+    Ok(())
+}
+
+/// The list as a 181 tells it, with these entries hidden.
+fn put_told(
+    out: &mut Report,
+    alloc: Global,
+    history: &History,
+    hide_diverting: bool,
+    hide_target: bool,
+) {
+    match history.told_to_caller(alloc, hide_diverting, hide_target) {
+        Ok(told) => put_history(out, alloc, &told),
+        Err(_) => out.fail(),
+    }
+}
+
+/// Copies of the list and of each entry.
+fn put_copies(out: &mut Report, alloc: Global, history: &History) {
+    match history.copied(alloc) {
+        Ok(copy) => put_history(out, alloc, &copy),
+        Err(_) => out.fail(),
+    }
+    for entry in history.entries() {
+        match entry.copied(alloc) {
+            Ok(copy) => put_parts(out, alloc, &copy),
+            Err(_) => out.fail(),
+        }
+    }
+}
+
+/// Bob diverts to carol, and she to a voice mail. The 181 of her diversion hides her and the voice mail, or one of them, and never bob; the list itself keeps none of these marks.
+#[test]
+fn tells_the_caller(rt: HostRuntime) -> Result<(), Fail> {
+    let mut out = Report::new();
+    let mut history = History::new(rt.alloc());
+    divert(
+        &mut out,
+        rt.alloc(),
+        &mut history,
+        b"sip:carol@home.example",
+        302,
+        false,
+    );
+    divert(
+        &mut out,
+        rt.alloc(),
+        &mut history,
+        b"sip:vm@far.example",
+        486,
+        false,
+    );
+    put_told(&mut out, rt.alloc(), &history, true, true);
+    put_told(&mut out, rt.alloc(), &history, true, false);
+    put_told(&mut out, rt.alloc(), &history, false, true);
+    put_copies(&mut out, rt.alloc(), &history);
+    let wanted = br#"<sip:bob@home.example>;index=1
+<sip:carol@home.example;cause=302?Privacy=history>;index=1.1
+<sip:vm@far.example;cause=486?Privacy=history>;index=1.1.1
+<sip:bob@home.example>;index=1
+<sip:carol@home.example;cause=302?Privacy=history>;index=1.1
+<sip:vm@far.example;cause=486>;index=1.1.1
+<sip:bob@home.example>;index=1
+<sip:carol@home.example;cause=302>;index=1.1
+<sip:vm@far.example;cause=486?Privacy=history>;index=1.1.1
+<sip:bob@home.example>;index=1
+<sip:carol@home.example;cause=302>;index=1.1
+<sip:vm@far.example;cause=486>;index=1.1.1
+sip:bob@home.example|1||shown|
+sip:carol@home.example;cause=302|1.1|302|shown|
+sip:vm@far.example;cause=486|1.1.1|486|shown|
+"#;
+    assert_eq!(rt; out.bytes(), wanted.as_slice());
     Ok(())
 }
 

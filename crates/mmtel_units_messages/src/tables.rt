@@ -1,6 +1,7 @@
 //! Tables of tests: a table is one text, and a row is a line or more of it. What comes of the rows is written into one text, which is compared with the one that is wanted.
 
 use mmtel_lex::{NoMemory, Text};
+use mmtel_message::Line;
 use mmtel_scan::part;
 use std::alloc::Global;
 
@@ -83,4 +84,14 @@ impl Report {
     pub fn written(&self) -> &[u8] {
         self.text.bytes()
     }
+}
+
+/// Lines, one a line, and a line `#`.
+pub fn put_lines(out: &mut Report, alloc: Global, lines: &[Line]) {
+    for line in lines {
+        out.put(alloc, line.0.bytes());
+        out.put(alloc, b": ");
+        out.put_line(alloc, line.1.bytes());
+    }
+    out.put(alloc, b"#\n");
 }

@@ -1,13 +1,12 @@
 //! Peers and routes, accounts, the words of Privacy, asserted identities and the header table.
 
 use crate::drafts::{of_lines, request};
-use crate::tables::{Report, next_line, numbered};
+use crate::tables::{Report, next_line, numbered, put_lines};
+use mmtel_history::History;
 use mmtel_lex::{NoMemory, Text, Uri, UriFault, print_uri, read_uri};
 use mmtel_message::Msg;
-use mmtel_trust::{
-    Accounts, Addr, Facing, Line, PeerTable, TableFault, asserted, attempt_from, shown, wants,
-};
-use mmtel_types::{Account, Peer, PrivacySet};
+use mmtel_trust::{Accounts, Facing, PeerTable, TableFault, asserted, attempt_from, shown, wants};
+use mmtel_types::{Account, Addr, Peer, PrivacySet};
 use std::alloc::Global;
 use std::test::Fail;
 
@@ -281,24 +280,15 @@ fn tells_identities(rt: HostRuntime) -> Result<(), Fail> {
     Ok(())
 }
 
-/// Lines, one a line, and a line `#`.
-fn put_lines(out: &mut Report, alloc: Global, lines: &[Line]) {
-    for line in lines {
-        out.put(alloc, line.name.bytes());
-        out.put(alloc, b": ");
-        out.put_line(alloc, line.value.bytes());
-    }
-    out.put(alloc, b"#\n");
-}
-
 /// The lines that are passed on, where the sender is restricted or not and the peer trusted or not.
 fn put_shown(out: &mut Report, alloc: Global, m: &Msg, restricted: bool, to_trusted: bool) {
     let facing = Facing {
         from_trusted: true,
         restricted,
         present: true,
+        mask_all: false,
     };
-    match shown(alloc, m, &facing, to_trusted) {
+    match shown(alloc, m, &History::new(alloc), &facing, to_trusted) {
         Ok(lines) => put_lines(out, alloc, lines.items()),
         Err(_) => out.fail(),
     }

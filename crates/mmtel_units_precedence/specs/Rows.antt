@@ -1,6 +1,9 @@
 -- Worked rows of Outcome, by computing it. The accounts are bob's, carol's and nobody's of home.example; vm is of far.example, without a served account. Nobody answers unless it is said.
-use Rattle.std.specs.Prelude.{◌≡◌, ℕ, Bool, true, false, List, [], ◌∷◌, Option, Some, None, codes, slice_get, unwrap_or}
+use Rattle.std.specs.Prelude.{◌≡◌, ◌==◌, ℕ, Bool, true, false, if◌then◌else◌, List, [], ◌∷◌, Option, Some, None, codes}
 use Rattle.mmtel_types.specs.declared.causes.Cause.TheVariants as causes
+use Rattle.mmtel_types.specs.declared.numbers.Account.{Account}
+use Rattle.mmtel_types.specs.declared.privacy.PrivacySet.{PrivacySet}
+use Rattle.mmtel_lex.specs.SameIdentity.{is_same_identity}
 use Rattle.mmtel_lex.specs.declared.values.Uri.{Uri}
 use Rattle.mmtel_lex.specs.declared.values.Uri.TheVariants.{Sip, Tel}
 use Rattle.mmtel_sheet_values.specs.Sheets.{empty_sheet}
@@ -10,8 +13,10 @@ use Rattle.mmtel_sheet_values.specs.declared.values.EventWord.TheVariants as eve
 use Rattle.mmtel_sheet_values.specs.declared.values.Forward.{Forward}
 use Rattle.mmtel_sheet_values.specs.declared.values.Rule.{Rule}
 use Rattle.mmtel_sheet_values.specs.declared.values.Sheet.{Sheet}
-use Rattle.mmtel_precedence.specs.Services.{Due}
-use Rattle.mmtel_precedence.specs.Calls.{Answer, UserBusy, NoReply, Deflection, Reach, Call, Offer, NotOffered, Offered, Target, Result, Pending, Answered, Final, Outcome}
+use Rattle.mmtel_targets.specs.declared.served.RegistrationState.TheVariants.{Registered, Unregistered}
+use Rattle.mmtel_targets.specs.declared.served.Served.{Served}
+use Rattle.mmtel_precedence.specs.Services.{AccountState, DueDiversion}
+use Rattle.mmtel_precedence.specs.Calls.{Answer, UserBusy, NoReply, Deflection, Standing, Call, Offer, NotOffered, Offered, Target, Result, Pending, Answered, Final, Outcome}
 use Rattle.mmtel_precedence.specs.Outcome.{outcome}
 
 -- ---- parties
@@ -24,6 +29,14 @@ bob = at_home (codes "bob")
 
 abbrev pub carol : Uri
 carol = at_home (codes "carol")
+
+-- of nobody
+abbrev pub dave : Uri
+dave = at_home (codes "dave")
+
+-- a telephone number
+abbrev pub number_at_home : Uri
+number_at_home = Sip (Some (codes "+49301234")) (codes "home.example") None (record { name = codes "user"; value = Some (codes "phone") } ∷ []) []
 
 abbrev pub vm : Uri
 vm = Sip (Some (codes "vm")) (codes "far.example") None [] []
@@ -61,46 +74,86 @@ bars_and_diverts to = record (diverts (rule None to ∷ []) false) {
   outgoing = Some (record { rules = record { condition = record { identity = Some (record { one = to ∷ []; many = None; except = [] }); anonymous = false; window = None; media = None; event = None }; action = action.Allow false } ∷ []; reject_anonymous = false });
 }
 
--- ---- targets as they stand
+-- hides in each call who it is that calls
+abbrev pub restricts_always : Sheet
+restricts_always = record empty_sheet { oir = record { active = true; permanent = true; by_default = false } }
 
-abbrev pub of_account : Sheet → (registered : Bool) → (live : ℕ) → Reach
-of_account sheet registered live = record { at = 0; served = Some (record { sheet = sheet; registered = registered; live = live }); is_unknown = false; has_no_peer = false }
+-- ---- accounts as they stand: alice's is number 1, bob's 2, carol's 3
 
-abbrev pub far : Reach
-far = record { at = 0; served = None; is_unknown = false; has_no_peer = false }
+abbrev pub of_account : Sheet → (registered : Bool) → (live : ℕ) → AccountState
+of_account sheet registered live = record { sheet = sheet; registered = registered; live = live }
 
-abbrev pub unknown : Reach
-unknown = record { at = 0; served = None; is_unknown = true; has_no_peer = false }
+-- of an empty record, registered, and in no call
+abbrev pub free : AccountState
+free = of_account empty_sheet true 0
 
-abbrev pub unroutable : Reach
-unroutable = record { at = 0; served = None; is_unknown = false; has_no_peer = true }
+abbrev pub number : ℕ → Account
+number n = record { 0 = n }
 
--- ---- calls to bob, by the targets that they reach one after the other
+abbrev pub account_of : Uri → Option Account
+account_of u = if is_same_identity bob u then Some (number 2) else if is_same_identity carol u then Some (number 3) else None
 
-abbrev pub reach_in : List Reach → ℕ → Reach
-reach_in reaches k = unwrap_or (slice_get reaches k) far
+abbrev pub one_of : (alice bob carol : AccountState) → ℕ → AccountState
+one_of a b c n = if n == 2 then b else if n == 3 then c else a
 
-abbrev pub call : (received bound : ℕ) → List Reach → Call
-call received bound reaches = record {
-  is_critical = false;
-  is_of_no_account = false;
-  is_barred = false;
+-- a registration that has no end, or one that has ended
+abbrev pub end_of : (registered : Bool) → Option ℕ
+end_of true = None
+end_of false = Some 0
+
+abbrev pub stands : (alice bob carol : AccountState) → Standing
+stands a b c = record {
+  at = 0;
+  sheets = λ n. Some (one_of a b c n).sheet;
+  ends = λ n. end_of (one_of a b c n).registered;
+  live = λ n. (one_of a b c n).live;
+}
+
+-- ---- calls to bob, of somebody without an account
+
+-- the words of Privacy: none, or one that hides
+abbrev pub words : (id session critical : Bool) → PrivacySet
+words id session critical = record { header = false; session = session; user = false; none = false; critical = critical; id = id; history = false }
+
+abbrev pub served_for : (origin target : Option Account) → (both : Bool) → Served
+served_for origin target both = record { origin = origin; target = target; both = both }
+
+-- bob and carol stand so all the time
+abbrev pub call : (received bound : ℕ) → (bob carol : AccountState) → Call
+call received bound b c = record {
+  privacy = words false false false;
+  served = served_for None (Some (number 2)) true;
+  registration = None;
   asks = λ who. false;
   has_identity = true;
-  restricted = false;
   media = codes "audio" ∷ [];
   received = received;
   bound = bound;
   home = codes "home.example";
+  account_of = account_of;
+  leads = λ u. true;
   first = bob;
-  reach = reach_in reaches;
+  opening = stands free b c;
+  later = λ k. stands free b c;
 }
 
+-- the call hides its caller
+abbrev pub hidden_call : Call → Call
+hidden_call c = record c { privacy = words true false false }
+
+-- alice calls, whose account stands so
+abbrev pub called_by_alice : AccountState → Call → Call
+called_by_alice a c = record c { served = served_for (Some (number 1)) (Some (number 2)) true; opening = stands a free free }
+
+-- the call is to a target of no account
+abbrev pub to_nobody : Uri → Call → Call
+to_nobody uri c = record c { first = uri; served = served_for None None true }
+
 -- by a diversion to here that hides nothing, for this cause
-abbrev pub by : Uri → (cause : ℕ) → Option Due
+abbrev pub by : Uri → (cause : ℕ) → Option DueDiversion
 by to cause = Some (record { forward = shown_to_all to; cause = cause })
 
-abbrev pub target : Uri → Option Due → Offer → Target
+abbrev pub target : Uri → Option DueDiversion → Offer → Target
 target uri led offer = record { uri = uri; by = led; offer = offer }
 
 abbrev pub comes_to : List Target → Result → Outcome
@@ -110,36 +163,68 @@ comes_to targets result = record { targets = targets; result = result }
 
 pub record AreOutcomes : Type 0 where
   -- anonymous rejection before diversion: of a caller with an identity that it hides; not of one that has none
-  pub anonymous_rejection : outcome (record (call 0 5 (of_account rejects_and_diverts true 0 ∷ [])) { restricted = true }) [] ≡ comes_to (target bob None NotOffered ∷ []) (Final causes.AnonymousRejected)
-  pub no_identity : outcome (record (call 0 5 (of_account rejects_and_diverts true 0 ∷ far ∷ [])) { restricted = true; has_identity = false }) [] ≡ comes_to (target bob None NotOffered ∷ target vm (by vm 302) (Offered false) ∷ []) Pending
+  pub anonymous_rejection : outcome (hidden_call (call 0 5 (of_account rejects_and_diverts true 0) free)) [] ≡ comes_to (target bob None NotOffered ∷ []) (Final causes.AnonymousRejected)
+  pub no_identity : outcome (record (hidden_call (call 0 5 (of_account rejects_and_diverts true 0) free)) { has_identity = false }) []
+      ≡ comes_to (target bob None NotOffered ∷ target vm (by vm 302) (Offered false) ∷ []) Pending
+  -- a caller is hidden by its own record too
+  pub hidden_by_record : outcome (record (call 0 5 free free) { served = served_for (Some (number 1)) (Some (number 2)) true; opening = stands (of_account restricts_always true 0) (of_account rejects_and_diverts true 0) free }) []
+      ≡ comes_to (target bob None NotOffered ∷ []) (Final causes.AnonymousRejected)
   -- two diversions: bob always to carol, who is in a call and diverts on busy
-  pub two_diversions : outcome (call 0 5 (of_account (diverts (rule None carol ∷ []) false) true 0 ∷ of_account (diverts (rule (Some event.Busy) vm ∷ []) false) true 1 ∷ far ∷ [])) (record { at = 900; how = Answer } ∷ [])
+  pub two_diversions : outcome (call 0 5 (of_account (diverts (rule None carol ∷ []) false) true 0) (of_account (diverts (rule (Some event.Busy) vm ∷ []) false) true 1)) (record { at = 900; how = Answer } ∷ [])
       ≡ comes_to (target bob None NotOffered ∷ target carol (by carol 302) NotOffered ∷ target vm (by vm 486) (Offered false) ∷ []) Answered
   -- the forward of the rule is said of the target
-  pub hidden_forward : outcome (call 0 5 (of_account (diverts (forwards None (hidden vm) ∷ []) false) true 0 ∷ far ∷ [])) [] ≡ comes_to (target bob None NotOffered ∷ target vm (Some (record { forward = hidden vm; cause = 302 })) (Offered false) ∷ []) Pending
+  pub hidden_forward : outcome (call 0 5 (of_account (diverts (forwards None (hidden vm) ∷ []) false) true 0) free) []
+      ≡ comes_to (target bob None NotOffered ∷ target vm (Some (record { forward = hidden vm; cause = 302 })) (Offered false) ∷ []) Pending
   -- received causes count against the bound: five, and busy; five, and free; four
-  pub received_busy : outcome (call 5 5 (of_account (diverts (rule (Some event.Busy) vm ∷ []) false) true 1 ∷ [])) [] ≡ comes_to (target bob None NotOffered ∷ []) (Final (causes.TooManyDiversions true))
-  pub received_free : outcome (call 5 5 (of_account (diverts (rule None vm ∷ []) false) true 0 ∷ [])) [] ≡ comes_to (target bob None NotOffered ∷ []) (Final (causes.TooManyDiversions false))
-  pub received_four : outcome (call 4 5 (of_account (diverts (rule (Some event.Busy) vm ∷ []) false) true 1 ∷ far ∷ [])) [] ≡ comes_to (target bob None NotOffered ∷ target vm (by vm 486) (Offered false) ∷ []) Pending
+  pub received_busy : outcome (call 5 5 (of_account (diverts (rule (Some event.Busy) vm ∷ []) false) true 1) free) []
+      ≡ comes_to (target bob None NotOffered ∷ []) (Final (causes.TooManyDiversions true))
+  pub received_free : outcome (call 5 5 (of_account (diverts (rule None vm ∷ []) false) true 0) free) [] ≡ comes_to (target bob None NotOffered ∷ []) (Final (causes.TooManyDiversions false))
+  pub received_four : outcome (call 4 5 (of_account (diverts (rule (Some event.Busy) vm ∷ []) false) true 1) free) []
+      ≡ comes_to (target bob None NotOffered ∷ target vm (by vm 486) (Offered false) ∷ []) Pending
   -- a bound of zero, and bob who diverts to himself
-  pub bound_zero : outcome (call 0 0 (of_account (diverts (rule None vm ∷ []) false) true 0 ∷ [])) [] ≡ comes_to (target bob None NotOffered ∷ []) (Final (causes.TooManyDiversions false))
-  pub loop : (let loops = of_account (diverts (rule None bob ∷ []) false) true 0 in
-      outcome (call 0 5 (loops ∷ loops ∷ loops ∷ loops ∷ loops ∷ loops ∷ [])) []
-      ≡ comes_to (target bob None NotOffered ∷ target bob (by bob 302) NotOffered ∷ target bob (by bob 302) NotOffered ∷ target bob (by bob 302) NotOffered ∷ target bob (by bob 302) NotOffered ∷ target bob (by bob 302) NotOffered ∷ []) (Final (causes.TooManyDiversions false)))
+  pub bound_zero : outcome (call 0 0 (of_account (diverts (rule None vm ∷ []) false) true 0) free) [] ≡ comes_to (target bob None NotOffered ∷ []) (Final (causes.TooManyDiversions false))
+  pub loop : outcome (call 0 5 (of_account (diverts (rule None bob ∷ []) false) true 0) free) []
+      ≡ comes_to (target bob None NotOffered ∷ target bob (by bob 302) NotOffered ∷ target bob (by bob 302) NotOffered ∷ target bob (by bob 302) NotOffered ∷ target bob (by bob 302) NotOffered ∷ target bob (by bob 302) NotOffered ∷ []) (Final (causes.TooManyDiversions false))
   -- outgoing barring of the account that diverts comes before the bound
-  pub barred_at_the_bound : outcome (call 5 5 (of_account (bars_and_diverts vm) true 0 ∷ [])) [] ≡ comes_to (target bob None NotOffered ∷ []) (Final causes.OutgoingBarred)
+  pub barred_at_the_bound : outcome (call 5 5 (of_account (bars_and_diverts vm) true 0) free) [] ≡ comes_to (target bob None NotOffered ∷ []) (Final causes.OutgoingBarred)
   -- deflection: before it rang, after it rang, and without leave
-  pub deflected : outcome (call 0 5 (of_account (diverts [] true) true 0 ∷ far ∷ [])) (record { at = 50; how = Deflection vm false } ∷ []) ≡ comes_to (target bob None (Offered false) ∷ target vm (by vm 480) (Offered false) ∷ []) Pending
-  pub deflected_ringing : outcome (call 0 5 (of_account (diverts [] true) true 0 ∷ far ∷ [])) (record { at = 50; how = Deflection vm true } ∷ []) ≡ comes_to (target bob None (Offered false) ∷ target vm (by vm 487) (Offered false) ∷ []) Pending
-  pub deflection_not_allowed : outcome (call 0 5 (of_account (diverts [] false) true 0 ∷ [])) (record { at = 50; how = Deflection vm true } ∷ []) ≡ comes_to (target bob None (Offered false) ∷ []) (Final (causes.Relayed 480))
-  -- registration: without a rule, with a rule for it; an identity of no account
-  pub not_registered : outcome (call 0 5 (of_account empty_sheet false 0 ∷ [])) [] ≡ comes_to (target bob None NotOffered ∷ []) (Final causes.NotRegistered)
-  pub not_registered_diverted : outcome (call 0 5 (of_account (diverts (rule (Some event.NotRegistered) vm ∷ []) false) false 0 ∷ far ∷ [])) [] ≡ comes_to (target bob None NotOffered ∷ target vm (by vm 404) (Offered false) ∷ []) Pending
-  pub no_account : outcome (call 0 5 (unknown ∷ [])) [] ≡ comes_to (target bob None NotOffered ∷ []) (Final causes.NoAccount)
-  pub no_route : outcome (call 0 5 (unroutable ∷ [])) [] ≡ comes_to (target bob None NotOffered ∷ []) (Final causes.NoRoute)
-  -- no answer, by the record as it stood when bob was reached, to a number, which is of the home domain
-  pub to_a_number : outcome (call 0 5 (of_account (diverts (rule (Some event.NoAnswer) (Tel (codes "+49-30-1234") []) ∷ []) false) true 0 ∷ [])) (record { at = 20100; how = NoReply } ∷ record { at = 20300; how = UserBusy 486 } ∷ [])
-      ≡ comes_to (target bob None (Offered false) ∷ target (Sip (Some (codes "+49301234")) (codes "home.example") None (record { name = codes "user"; value = Some (codes "phone") } ∷ []) []) (by (Tel (codes "+49-30-1234") []) 408) (Offered false) ∷ []) (Final (causes.Relayed 486))
+  pub deflected : outcome (call 0 5 (of_account (diverts [] true) true 0) free) (record { at = 50; how = Deflection vm false } ∷ [])
+      ≡ comes_to (target bob None (Offered false) ∷ target vm (by vm 480) (Offered false) ∷ []) Pending
+  pub deflected_ringing : outcome (call 0 5 (of_account (diverts [] true) true 0) free) (record { at = 50; how = Deflection vm true } ∷ [])
+      ≡ comes_to (target bob None (Offered false) ∷ target vm (by vm 487) (Offered false) ∷ []) Pending
+  pub deflection_not_allowed : outcome (call 0 5 (of_account (diverts [] false) true 0) free) (record { at = 50; how = Deflection vm true } ∷ [])
+      ≡ comes_to (target bob None (Offered false) ∷ []) (Final (causes.Relayed 480))
+  -- registration: without a rule, with a rule for it; and as it was told with the call
+  pub not_registered : outcome (call 0 5 (of_account empty_sheet false 0) free) [] ≡ comes_to (target bob None NotOffered ∷ []) (Final causes.NotRegistered)
+  pub not_registered_diverted : outcome (call 0 5 (of_account (diverts (rule (Some event.NotRegistered) vm ∷ []) false) false 0) free) []
+      ≡ comes_to (target bob None NotOffered ∷ target vm (by vm 404) (Offered false) ∷ []) Pending
+  pub told_registered : outcome (record (call 0 5 (of_account empty_sheet false 0) free) { registration = Some Registered }) [] ≡ comes_to (target bob None (Offered false) ∷ []) Pending
+  pub told_not_registered : outcome (record (call 0 5 free free) { registration = Some Unregistered }) [] ≡ comes_to (target bob None NotOffered ∷ []) (Final causes.NotRegistered)
+  pub told_of_the_first : outcome (record (call 0 5 (of_account (diverts (rule None carol ∷ []) false) true 0) (of_account empty_sheet false 0)) { registration = Some Registered }) []
+      ≡ comes_to (target bob None NotOffered ∷ target carol (by carol 302) NotOffered ∷ []) (Final causes.NotRegistered)
+  -- an identity of the home domain that is no account's, and a target to which no peer leads
+  pub no_account : outcome (to_nobody dave (call 0 5 free free)) [] ≡ comes_to (target dave None NotOffered ∷ []) (Final causes.NoAccount)
+  pub no_route : outcome (record (call 0 5 free free) { leads = λ u. false }) [] ≡ comes_to (target bob None NotOffered ∷ []) (Final causes.NoRoute)
+  -- no answer, to a number, which is of the home domain and no account's; a caller cannot call it so
+  pub to_a_number : outcome (call 0 5 (of_account (diverts (rule (Some event.NoAnswer) (Tel (codes "+49-30-1234") []) ∷ []) false) true 0) free) (record { at = 20100; how = NoReply } ∷ record { at = 20300; how = UserBusy 486 } ∷ [])
+      ≡ comes_to (target bob None (Offered false) ∷ target number_at_home (by (Tel (codes "+49-30-1234") []) 408) (Offered false) ∷ []) (Final (causes.Relayed 486))
+  pub number_of_nobody : outcome (to_nobody number_at_home (call 0 5 free free)) [] ≡ comes_to (target number_at_home None NotOffered ∷ []) (Final causes.NoAccount)
   -- waiting: offered as such below the capacity; network determined user busy at it
-  pub waits : outcome (call 0 5 (of_account (record empty_sheet { waiting = Some 2 }) true 1 ∷ [])) (record { at = 10; how = UserBusy 600 } ∷ []) ≡ comes_to (target bob None (Offered true) ∷ []) (Final (causes.Relayed 600))
-  pub network_busy : outcome (call 0 5 (of_account (record empty_sheet { waiting = Some 2 }) true 2 ∷ [])) [] ≡ comes_to (target bob None NotOffered ∷ []) (Final causes.NetworkBusy)
+  pub waits : outcome (call 0 5 (of_account (record empty_sheet { waiting = Some 2 }) true 1) free) (record { at = 10; how = UserBusy 600 } ∷ [])
+      ≡ comes_to (target bob None (Offered true) ∷ []) (Final (causes.Relayed 600))
+  pub network_busy : outcome (call 0 5 (of_account (record empty_sheet { waiting = Some 2 }) true 2) free) [] ≡ comes_to (target bob None NotOffered ∷ []) (Final causes.NetworkBusy)
+  -- the opening: privacy of the session that is critical, and that is not; a user of no account; the caller's own barring; in this order
+  pub critical : outcome (record (called_by_alice (of_account (bars_and_diverts bob) true 0) (call 0 5 free free)) { privacy = words false true true }) []
+      ≡ comes_to [] (Final causes.Critical)
+  pub not_critical : outcome (record (call 0 5 free free) { privacy = words false true false }) [] ≡ comes_to (target bob None (Offered false) ∷ []) Pending
+  pub user_of_no_account : outcome (record (call 0 5 free free) { served = served_for None None false }) [] ≡ comes_to [] (Final causes.NoAccount)
+  pub barred_at_opening : outcome (called_by_alice (of_account (bars_and_diverts bob) true 0) (call 0 5 free free)) [] ≡ comes_to [] (Final causes.OutgoingBarred)
+  pub not_barred_at_opening : outcome (called_by_alice (of_account (bars_and_diverts vm) true 0) (call 0 5 free free)) [] ≡ comes_to (target bob None (Offered false) ∷ []) Pending
+  -- one session case: served for the caller alone bob has no services; served for bob alone the next target has none
+  pub caller_alone : outcome (record (call 0 5 (of_account (diverts (rule None vm ∷ []) false) false 3) free) { served = served_for (Some (number 1)) None false }) []
+      ≡ comes_to (target bob None (Offered false) ∷ []) Pending
+  pub target_alone : outcome (record (call 0 5 (of_account (diverts (rule None carol ∷ []) false) true 0) (of_account (diverts (rule None vm ∷ []) false) true 1)) { served = served_for None (Some (number 2)) false }) []
+      ≡ comes_to (target bob None NotOffered ∷ target carol (by carol 302) (Offered false) ∷ []) Pending
+  -- the record as it stood: that of bob when he was reached, though he has another one when the attempt ends; and that of carol when she was reached
+  pub record_of_the_attempt : outcome (record (call 0 5 (of_account (diverts (rule (Some event.NoAnswer) carol ∷ []) false) true 0) free) { later = λ k. stands free free (of_account (diverts (rule None vm ∷ []) false) true 0) }) (record { at = 20100; how = NoReply } ∷ [])
+      ≡ comes_to (target bob None (Offered false) ∷ target carol (by carol 408) NotOffered ∷ target vm (by vm 302) (Offered false) ∷ []) Pending

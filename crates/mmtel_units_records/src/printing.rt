@@ -7,25 +7,10 @@ use mmtel_sheets::{
 use std::alloc::Global;
 use std::test::Fail;
 
-const ABSENT: Restriction = Restriction {
-    active: false,
-    permanent: false,
-    by_default: false,
-};
-
 /// The sheet of a record that says nothing: each part that is always there, with its default.
 #[test]
 fn prints_the_empty_sheet(rt: HostRuntime) -> Result<(), Fail> {
-    let sheet = Sheet {
-        diversion: None,
-        incoming: None,
-        outgoing: None,
-        oip: true,
-        oir: ABSENT,
-        tip: true,
-        tir: ABSENT,
-        waiting: None,
-    };
+    let sheet = Sheet::empty();
     let record = b"[originating-identity-presentation]
 active = true
 

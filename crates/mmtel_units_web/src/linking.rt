@@ -3,8 +3,7 @@
 use crate::pages::{Answers, Page, answered};
 use mmtel_link::{Arrival, Event, Link, MemoryLink, SendFault};
 use mmtel_scan::{List, Text};
-use mmtel_trust::Addr;
-use mmtel_types::Moment;
+use mmtel_types::{Addr, Moment};
 use std::alloc::Global;
 use std::test::Fail;
 

@@ -3,7 +3,7 @@
 use crate::pages::Page;
 use mmtel_link::{Arrival, Link};
 use mmtel_net::NetLink;
-use mmtel_trust::Addr;
+use mmtel_types::Addr;
 use std::alloc::Global;
 use std::io;
 use std::io::{Read, Write};

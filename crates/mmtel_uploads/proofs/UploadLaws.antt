@@ -1,36 +1,28 @@
--- What reading a record answers, as what an upload is.
-use Rattle.std.proofs.Common.{◌≡◌, ℕ, List, Option, Some, None, Result, Ok, Err, Bool, true, false, refl, sym, IsUtf8, inl, inr}
-use Rattle.std.proofs.lemmas.Bool.{cases_Bool}
-use Rattle.std.proofs.lemmas.Str.{IsUtf8-from_is_utf8, is_utf8-from_IsUtf8}
-use Rattle.std.specs.Str.{is_utf8}
-use Rattle.toml.specs.Parse.{parse_document}
-use Rattle.mmtel_sheet_grammar.specs.Answers.{Read}
-use Rattle.mmtel_sheet_grammar.specs.Walk.{Documents, IsRefused}
+-- What reading a record answers, as what an upload is, and as the sheet of a text that was kept.
+use Rattle.std.proofs.Common.{◌≡◌, ℕ, List, Ok, refl, sym, ap}
+use Rattle.mmtel_sheet_grammar.specs.Texts.{sheet_read, sheet_or_empty, kept_sheet, TellsFault}
 use Rattle.mmtel_sheet_grammar.specs.declared.faults.SheetFault.{SheetFault}
 use Rattle.mmtel_sheet_grammar.specs.declared.faults.SheetFault.TheVariants.{NotToml, Unknown, Wrong, Many, NoMemory}
+use Rattle.mmtel_sheet_values.specs.Sheets.{empty_sheet}
 use Rattle.mmtel_sheet_values.specs.declared.values.Sheet.{Sheet}
-use Rattle.mmtel_uploads.specs.declared.uploads.Upload.{Upload}
 use Rattle.mmtel_uploads.specs.declared.uploads.Upload.TheVariants.{Accepted, Refused}
 use Rattle.mmtel_uploads.specs.Uploads.{by_read, fault_text, upload_of}
 
-document : (bytes : List ℕ) (read : Read Sheet) → Documents bytes read → by_read read ≡ upload_of bytes
+pub is_accepted : (bytes : List ℕ) (s : Sheet) → sheet_read bytes ≡ Ok s → Accepted s ≡ upload_of bytes
 unfolding upload_of
-document bytes read d = rw (is_utf8-from_IsUtf8 bytes d.0, d.2, d.3) refl
+is_accepted bytes s e = sym (ap by_read e)
 
-pub is_accepted : (bytes : List ℕ) (s : Sheet) → Documents bytes (Ok s) → Accepted s ≡ upload_of bytes
-is_accepted bytes s d = document bytes (Ok s) d
-
-no_toml : (bytes : List ℕ) → (IsUtf8 bytes → parse_document bytes ≡ None) → Refused (fault_text (NotToml 0)) ≡ upload_of bytes
+pub is_refused : (bytes : List ℕ) (e : SheetFault) → TellsFault (sheet_read bytes) e → (e ≡ NoMemory → ⊥) → Refused (fault_text e) ≡ upload_of bytes
 unfolding upload_of
-no_toml bytes none =
-    elim (cases_Bool (is_utf8 bytes)) [
-      | inl y ↦ rw (y, none (IsUtf8-from_is_utf8 bytes y)) refl
-      | inr n ↦ rw n refl
-    ]
+is_refused bytes (NotToml at) told other = sym (ap by_read told)
+is_refused bytes (Unknown key) told other = sym (ap by_read told)
+is_refused bytes (Wrong key) told other = sym (ap by_read told)
+is_refused bytes (Many key limit) told other = sym (ap by_read told)
+is_refused bytes NoMemory told other = absurd (other refl)
 
-pub is_refused : (bytes : List ℕ) (e : SheetFault) → IsRefused bytes e → (e ≡ NoMemory → ⊥) → Refused (fault_text e) ≡ upload_of bytes
-is_refused bytes (NotToml at) r other = no_toml bytes r.1
-is_refused bytes (Unknown key) r other = document bytes (Err (Unknown key)) r
-is_refused bytes (Wrong key) r other = document bytes (Err (Wrong key)) r
-is_refused bytes (Many key limit) r other = document bytes (Err (Many key limit)) r
-is_refused bytes NoMemory r other = absurd (other refl)
+pub nothing_kept : (bytes : List ℕ) (e : SheetFault) → TellsFault (sheet_read bytes) e → (e ≡ NoMemory → ⊥) → empty_sheet ≡ kept_sheet bytes
+nothing_kept bytes (NotToml at) told other = sym (ap sheet_or_empty told)
+nothing_kept bytes (Unknown key) told other = sym (ap sheet_or_empty told)
+nothing_kept bytes (Wrong key) told other = sym (ap sheet_or_empty told)
+nothing_kept bytes (Many key limit) told other = sym (ap sheet_or_empty told)
+nothing_kept bytes NoMemory told other = absurd (other refl)

@@ -1,1 +1,4 @@
+-- What public clauses cite, which a user of the crate has to believe.
 pub mod Uploads
+
+-- What private functions alone cite: nothing.

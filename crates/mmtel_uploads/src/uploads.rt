@@ -1,6 +1,8 @@
 //! What an upload is.
 ghost use Rattle.std.specs.Prelude.{◌≡◌, ◌≢◌, ◌++◌, ◌∷◌, [], IfOk, OnOk, codes, decimal};
 ghost use Rattle.mmtel_uploads.specs.Uploads.{upload_of, fault_text};
+ghost use Rattle.mmtel_sheet_grammar.specs.Texts.{kept_sheet};
+ghost use Rattle.mmtel_sheet_values.specs.Sheets.{empty_sheet};
 ghost use Rattle.mmtel_sheet_grammar.specs.declared.faults.SheetFault.TheVariants as kinds;
 
 use itoa::Buffer;
@@ -73,6 +75,37 @@ pub fn upload_of(alloc: Global, bytes: &[u8]) -> Result<Upload, NoMemory>
         Err(fault) => {
             let line = fault_text(alloc, &fault)?;
             Ok(Upload::Refused(line))
+        }
+    }
+}
+
+/// The sheet of a text that has this fault: that of an account which never said anything. None where memory ran out.
+fn without_record(fault: &SheetFault) -> Result<Sheet, NoMemory>
+    ensures its { IfOk result (λ sheet. sheet ≡ empty_sheet) }
+    ensures other { IfOk result (λ _. fault.now ≢ kinds.NoMemory) }
+{
+    match fault {
+        SheetFault::NotToml { .. } => Ok(Sheet::empty()),
+        SheetFault::Unknown { .. } => Ok(Sheet::empty()),
+        SheetFault::Wrong { .. } => Ok(Sheet::empty()),
+        SheetFault::Many { .. } => Ok(Sheet::empty()),
+        SheetFault::NoMemory => Err(NoMemory),
+    }
+}
+
+/// The sheet of a text that was kept: where it is no service record, that of an account which never said anything.
+///
+/// # Errors
+///
+/// Want of memory alone.
+pub fn kept_sheet(alloc: Global, bytes: &[u8]) -> Result<Sheet, NoMemory>
+    ensures exact { IfOk result (λ sheet. sheet ≡ kept_sheet bytes.now) }
+{
+    match read_sheet(alloc, bytes) {
+        Ok(sheet) => Ok(sheet),
+        Err(fault) => {
+            let sheet = without_record(&fault)?;
+            Ok(sheet)
         }
     }
 }

@@ -15,10 +15,11 @@ use Rattle.mmtel_uploads.specs.declared.uploads.Upload.{Upload}
 use Rattle.mmtel_uploads.specs.declared.uploads.Upload.TheVariants.{Accepted, Refused}
 use Rattle.mmtel_web.specs.Agreed.{AgreeOnIdentities, AsksOf}
 use Rattle.mmtel_web.specs.Answers.{Kept, bare, by_account, by_method, by_upload, is_toml, of_sheet, reply_to, web_of, web_reply}
-use Rattle.mmtel_web.specs.Parties.{identity_of, is_account, is_own, may_ask}
+use Rattle.mmtel_web.specs.Parties.{identity_of, is_own, may_ask}
+use Rattle.mmtel_directory.specs.Directory.{is_account}
 use Rattle.mmtel_web.specs.declared.answers.Web.{Web}
 use Rattle.mmtel_web.specs.declared.answers.Web.TheVariants as web
-use Rattle.mmtel_web.specs.declared.directories.WebDirectory.{WebDirectory}
+use Rattle.mmtel_directory.specs.declared.directories.WebDirectory.{WebDirectory}
 
 -- ---- what one account is answered
 

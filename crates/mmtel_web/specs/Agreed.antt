@@ -8,7 +8,8 @@ use Rattle.mmtel_http.specs.Places.{place_of}
 use Rattle.mmtel_http.specs.Requests.{Asking}
 use Rattle.mmtel_http.specs.declared.places.Place.TheVariants.{Sheet}
 use Rattle.mmtel_sheet_texts.specs.Texts.{text_at}
-use Rattle.mmtel_web.specs.Parties.{is_account, is_own}
+use Rattle.mmtel_web.specs.Parties.{is_own}
+use Rattle.mmtel_directory.specs.Directory.{is_account}
 
 -- the tables agree on whether it is an account, and on which URIs are identities of its own
 pub record AgreeOnIdentities (account : Account) (d e : List AccountIdentity) : Type 0 where

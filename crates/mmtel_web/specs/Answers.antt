@@ -16,8 +16,9 @@ use Rattle.mmtel_http.specs.declared.places.Method.TheVariants as method
 use Rattle.mmtel_uploads.specs.Uploads.{upload_of}
 use Rattle.mmtel_uploads.specs.declared.uploads.Upload.{Upload}
 use Rattle.mmtel_uploads.specs.declared.uploads.Upload.TheVariants.{Accepted, Refused}
-use Rattle.mmtel_web.specs.Parties.{identity_of, is_account, may_ask, is_operator}
-use Rattle.mmtel_web.specs.declared.directories.WebDirectory.{WebDirectory}
+use Rattle.mmtel_web.specs.Parties.{identity_of, may_ask, is_operator}
+use Rattle.mmtel_directory.specs.Directory.{is_account}
+use Rattle.mmtel_directory.specs.declared.directories.WebDirectory.{WebDirectory}
 use Rattle.mmtel_web.specs.declared.answers.Web.{Web}
 use Rattle.mmtel_web.specs.declared.answers.Web.TheVariants as web
 

@@ -1,3 +1,6 @@
+-- What public clauses cite, which a user of the crate has to believe.
 pub mod Parties
 pub mod Answers
 pub mod Agreed
+
+-- What private functions alone cite: nothing.

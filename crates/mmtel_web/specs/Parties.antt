@@ -1,19 +1,15 @@
 -- Who asks, and who may ask what: the identities of accounts, and the operator (3GPP TS 24.109 §6, TS 24.623 §5).
-use Rattle.std.specs.Prelude.{ℕ, ◌==◌, ◌&&◌, Bool, false, List, length, Some, None, Result, Ok, Err, if◌then◌else◌}
+use Rattle.std.specs.Prelude.{ℕ, ◌==◌, ◌&&◌, Bool, false, List, length, Some, None, if◌then◌else◌}
 use Rattle.std.specs.declared.option.Option.{Option}
 use Rattle.std.specs.List.{list_any}
 use Rattle.mmtel_types.specs.declared.numbers.Account.{Account}
 use Rattle.mmtel_lex.specs.declared.values.Uri.{Uri}
-use Rattle.mmtel_lex.specs.Reading.{Refusal, uri_of}
+use Rattle.mmtel_directory.specs.Directory.{readable}
+use Rattle.mmtel_lex.specs.Reading.{uri_of}
 use Rattle.mmtel_lex.specs.SameIdentity.{is_same_identity}
 use Rattle.mmtel_scan.specs.Chain.{◌>>=◌}
 use Rattle.mmtel_scan.specs.Scanning.{after_byte, parted}
 use Rattle.mmtel_trust.specs.declared.accounts.AccountIdentity.{AccountIdentity}
-
--- what was read
-abbrev pub readable : Result Uri Refusal → Option Uri
-readable (Ok u) = Some u
-readable (Err e) = None
 
 -- what stands before the quote, where nothing stands behind it
 abbrev pub closed : List ℕ × List ℕ → Option (List ℕ)
@@ -27,10 +23,6 @@ quoted value = after_byte 34 value >>= λ rest. parted 34 rest >>= closed
 abbrev pub identity_of : Option (List ℕ) → Option Uri
 identity_of None = None
 identity_of (Some value) = quoted value >>= λ bytes. readable (uri_of bytes)
-
--- there is such an account: it has an identity
-abbrev pub is_account : List AccountIdentity → Account → Bool
-is_account identities account = list_any (λ identity. identity.account.0 == account.0) identities
 
 -- the URI is an identity of the account's own, whatever other account has one that is equal to it too
 abbrev pub is_own : List AccountIdentity → Account → Uri → Bool

@@ -11,8 +11,8 @@ ghost use Rattle.mmtel_uploads.specs.Uploads.{upload_of};
 ghost use Rattle.mmtel_web.specs.Answers.{bare, not_allowed, by_upload, is_toml, by_method, by_account, of_sheet, of_charges, by_place, web_of, reply_of};
 ghost use Rattle.mmtel_web.specs.declared.answers.Web.TheVariants as web;
 
-use crate::directories::WebDirectory;
-use crate::parties::{identity_of, is_account, is_operator, may_ask};
+use crate::parties::{identity_of, is_operator, may_ask};
+use mmtel_directory::{WebDirectory, is_account};
 use mmtel_http::{Asked, Method, Place, Request, look, method_of, place_of, reply_text};
 use mmtel_scan::{NoMemory, Text};
 use mmtel_sheet_texts::SheetTexts;

@@ -9,7 +9,7 @@ ghost use Rattle.mmtel_web.specs.Agreed.{AgreeOnIdentities, AsksOf};
 ghost use Rattle.mmtel_web.specs.Answers.{Kept, web_of, web_reply};
 ghost use Rattle.mmtel_web.specs.Parties.{identity_of, may_ask};
 ghost use Rattle.mmtel_web.specs.declared.answers.Web.TheVariants as web;
-ghost use Rattle.mmtel_web.specs.declared.directories.WebDirectory.{WebDirectory};
+ghost use Rattle.mmtel_directory.specs.declared.directories.WebDirectory.{WebDirectory};
 
 /// A law, and no code: what is done for a request for the record of an account, and what it is replied, are the same in any two directories and tables of texts that agree on that account.
 pub fn requests_see_one_account()

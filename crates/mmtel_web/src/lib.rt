@@ -2,11 +2,10 @@
 #![tactic(auto)]
 
 mod answers;
-mod directories;
 pub mod laws;
 mod parties;
 
 pub use answers::{Web, answer, reply};
-pub use directories::WebDirectory;
+pub use mmtel_directory::WebDirectory;
 pub use mmtel_http::{Whole, whole};
 pub use mmtel_sheet_texts::SheetTexts;

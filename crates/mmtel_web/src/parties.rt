@@ -1,10 +1,10 @@
 //! Who asks.
 ghost use Rattle.std.specs.Prelude.{◌≡◌, IfOk};
 ghost use Rattle.std.specs.Option.{option_copied};
-ghost use Rattle.mmtel_lex.specs.Reading.{uri_of};
-ghost use Rattle.mmtel_web.specs.Parties.{identity_of, readable, quoted, is_account, is_own, may_ask, is_operator};
+ghost use Rattle.mmtel_web.specs.Parties.{identity_of, quoted, is_own, may_ask, is_operator};
 
-use mmtel_lex::{Uri, UriFault, read_uri, same_identity};
+use mmtel_directory::readable_uri;
+use mmtel_lex::{Uri, same_identity};
 use mmtel_scan::{NoMemory, part, skip_byte};
 use mmtel_trust::AccountIdentity;
 use mmtel_types::Account;
@@ -19,17 +19,6 @@ fn quoted(value: &[u8]) -> Option<&[u8]>
     if behind.is_empty() { Some(inner) } else { None }
 }
 
-/// The URI that the bytes are.
-fn uri(alloc: Global, bytes: &[u8]) -> Result<Option<Uri>, NoMemory>
-    ensures { IfOk result (λ uri. uri ≡ readable (uri_of bytes.now)) }
-{
-    match read_uri(alloc, bytes) {
-        Ok(uri) => Ok(Some(uri)),
-        Err(UriFault::NoMemory) => Err(NoMemory),
-        Err(_) => Ok(None),
-    }
-}
-
 /// The identity that the value of the header line of the asserted identity names.
 pub fn identity_of(alloc: Global, value: Option<&[u8]>) -> Result<Option<Uri>, NoMemory>
     ensures { IfOk result (λ identity. identity ≡ identity_of (option_copied value.entry)) }
@@ -38,18 +27,9 @@ pub fn identity_of(alloc: Global, value: Option<&[u8]>) -> Result<Option<Uri>, N
         None => Ok(None),
         Some(value) => match quoted(value) {
             None => Ok(None),
-            Some(bytes) => uri(alloc, bytes),
+            Some(bytes) => readable_uri(alloc, bytes),
         },
     }
-}
-
-/// Whether there is such an account.
-pub fn is_account(identities: &[AccountIdentity], account: Account) -> bool
-    ensures { result ≡ is_account identities.now account }
-{
-    identities
-        .iter()
-        .any(|identity| identity.account.0 == account.0)
 }
 
 /// Whether the URI is an identity of the account's own.

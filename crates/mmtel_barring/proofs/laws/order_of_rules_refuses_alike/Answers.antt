@@ -3,8 +3,6 @@ use Rattle.mmtel_barring.proofs.laws.order_of_rules_refuses_alike.Goals as goal
 
 pub returns : goal.returns
 returns c = record {
-  outgoing = λ asks restricted media now rules other reject p.
-      out_in_any_order asks restricted media now rules other reject (c.order_of_rules_bars_alike.ensures.same asks restricted media now rules other p);
-  incoming = λ asks known restricted media now rules other reject p.
-      in_any_order asks restricted media now known rules other reject (c.order_of_rules_bars_alike.ensures.same asks restricted media now rules other p);
+  outgoing = λ k rules other reject p. out_in_any_order k rules other reject (c.order_of_rules_bars_alike.ensures.same k rules other p);
+  incoming = λ k rules other reject p. in_any_order k rules other reject (c.order_of_rules_bars_alike.ensures.same k rules other p);
 }

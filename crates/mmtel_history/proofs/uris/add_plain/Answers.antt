@@ -1,6 +1,6 @@
 use Rattle.std.proofs.Common.{◌∙◌, sym, ap, ◌∷◌, ◌++◌, List, ℕ, append_assoc}
 use Rattle.std.specs.List.{flat_map}
-use Rattle.mmtel_history.specs.EntryUri.{parts}
+use Rattle.mmtel_lex.specs.UriPlaces.{parts}
 use Rattle.mmtel_history.proofs.FrontLaws.{others, plain_joined}
 use Rattle.mmtel_history.proofs.Marks.{on_ok_by}
 use Rattle.mmtel_history.proofs.uris.add_plain.Goals as goal

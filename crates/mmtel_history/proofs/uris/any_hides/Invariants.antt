@@ -1,6 +1,7 @@
 use Rattle.std.proofs.Common.{◌≡◌, length}
 use Rattle.std.specs.List.{list_any}
-use Rattle.mmtel_history.specs.EntryUri.{parts, hides}
+use Rattle.mmtel_lex.specs.UriPlaces.{parts}
+use Rattle.mmtel_history.specs.EntryUri.{hides}
 use Rattle.mmtel_history.proofs.uris.any_hides.Given as goal
 
 abbrev pub invariant-parts : goal.invariant-parts

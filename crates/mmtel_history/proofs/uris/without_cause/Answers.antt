@@ -1,5 +1,6 @@
 use Rattle.std.proofs.Common.{◌≡◌, ◌∙◌, ap, List, [], ℕ, ◌++◌, false, append-nil}
-use Rattle.mmtel_history.specs.EntryUri.{front_part, has_cause, is_marked, plain, with_front, without_cause}
+use Rattle.mmtel_lex.specs.UriPlaces.{front_part}
+use Rattle.mmtel_history.specs.EntryUri.{has_cause, is_marked, plain, with_front, without_cause}
 use Rattle.mmtel_history.proofs.CauseLaws.{without_none, without_mark}
 use Rattle.mmtel_history.proofs.ReadableLaws.{if_ok_by}
 use Rattle.mmtel_history.proofs.uris.without_cause.Goals as goal

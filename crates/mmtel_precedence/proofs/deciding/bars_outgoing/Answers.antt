@@ -1,6 +1,6 @@
 use Rattle.std.proofs.Common.{ap, ◌∙◌}
 use Rattle.std.specs.Prelude.{is_some}
-use Rattle.mmtel_precedence.specs.Known.{known}
+use Rattle.mmtel_rules.specs.Circumstances.{known}
 use Rattle.mmtel_precedence.proofs.Barrings.{is_some-outgoing}
 use Rattle.mmtel_precedence.proofs.deciding.bars_outgoing.Goals as goal
 

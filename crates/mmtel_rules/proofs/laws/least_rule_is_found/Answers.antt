@@ -4,6 +4,6 @@ use Rattle.mmtel_rules.proofs.laws.least_rule_is_found.Goals as goal
 
 pub returns : goal.returns
 returns c = record {
-  least = λ asks restricted media now when rules. position_is_least (rule_holds asks restricted media now when) rules;
-  some = λ asks restricted media now when rules. is_some-position (rule_holds asks restricted media now when) rules;
+  least = λ k when rules. position_is_least (rule_holds k when) rules;
+  some = λ k when rules. is_some-position (rule_holds k when) rules;
 }

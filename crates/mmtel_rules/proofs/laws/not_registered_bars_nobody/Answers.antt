@@ -4,4 +4,4 @@ use Rattle.mmtel_rules.proofs.RuleLaws.{no_event}
 use Rattle.mmtel_rules.proofs.laws.not_registered_bars_nobody.Goals as goal
 
 pub returns : goal.returns
-returns c = record { never = λ asks restricted media now c e. no_event asks restricted media now arrival c (rw e refl) }
+returns c = record { never = λ k c e. no_event k arrival c (rw e refl) }

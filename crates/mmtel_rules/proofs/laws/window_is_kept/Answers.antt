@@ -3,6 +3,6 @@ use Rattle.mmtel_rules.proofs.laws.window_is_kept.Goals as goal
 
 pub returns : goal.returns
 returns c = record {
-  passed = λ asks restricted media now when c w e h. outside_window asks restricted media now when c (window_passed now c.window w e h);
-  to_come = λ asks restricted media now when c w e h. outside_window asks restricted media now when c (window_to_come now c.window w e h);
+  passed = λ k when c w e h. outside_window k when c (window_passed k.now c.window w e h);
+  to_come = λ k when c w e h. outside_window k when c (window_to_come k.now c.window w e h);
 }

@@ -1,12 +1,10 @@
-use Rattle.std.proofs.Common.{◌≡◌, ◌∙◌, ap}
-use Rattle.mmtel_uploads.specs.declared.uploads.Upload.TheVariants.{Refused}
 use Rattle.mmtel_uploads.proofs.UploadLaws.{is_accepted, is_refused}
 use Rattle.mmtel_uploads.proofs.uploads.upload_of.Goals as goal
 
 pub returns-in-Ok : goal.returns-in-Ok
-returns-in-Ok c = record { exact = is_accepted c.args.bytes.now c.in-Ok.sheet c.in-Ok.ensures.exact }
+returns-in-Ok c = record { exact = is_accepted c.args.bytes.now c.in-Ok.sheet c.in-Ok.ensures.total }
 
 pub returns-in_ok-line-in-Err : goal.returns-in_ok-line-in-Err
 returns-in_ok-line-in-Err c =
     rw c.in_ok-line-in-Err.ensures.line
-    (record { exact = is_refused c.args.bytes.now c.in-Err.fault c.in-Err.ensures.exact c.in_ok-line-in-Err.ensures.other })
+    (record { exact = is_refused c.args.bytes.now c.in-Err.fault c.in-Err.ensures.total c.in_ok-line-in-Err.ensures.other })

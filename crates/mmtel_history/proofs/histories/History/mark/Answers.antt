@@ -1,9 +1,9 @@
-use Rattle.std.proofs.Common.{◌≡◌, ap, subst, sym, ◌∙◌, ◌<◌, List, length}
+use Rattle.std.proofs.Common.{◌≡◌, true, ap, subst, sym, ◌∙◌, ◌<◌, List, length}
 use Rattle.std.specs.Prelude.{map}
 use Rattle.std.proofs.Math.ListN.{set}
-use Rattle.mmtel_history.specs.HistoryInfo.{hidden_entry, marked_at, unmarked, AreReadable}
+use Rattle.mmtel_history.specs.HistoryInfo.{hidden_entry, marked_at, diversions_in, masked_list, unmarked, AreReadable}
 use Rattle.mmtel_history.specs.declared.entries.Entry.{Entry}
-use Rattle.mmtel_history.proofs.ListLaws.{marked_alone, marked_keeps, marked_once}
+use Rattle.mmtel_history.proofs.ListLaws.{hides_same, marked_alone, marked_counts, marked_keeps, marked_once}
 use Rattle.mmtel_history.proofs.ReadableLaws.{marked_readable}
 use Rattle.mmtel_history.proofs.Marks.{set_marks, length-marked}
 use Rattle.mmtel_history.proofs.histories.History.mark.Goals as goal
@@ -19,5 +19,7 @@ returns c =
       alone = ap (λ (h : List Entry). map (λ e. e.hidden) h) marked ∙ marked_alone c.args.self.now c.args.place;
       keeps = ap (λ (h : List Entry). map unmarked h) marked ∙ marked_keeps c.args.self.now c.args.place;
       once = ap (λ (h : List Entry). marked_at c.args.place h) marked ∙ marked_once c.args.self.now c.args.place ∙ sym marked;
+      counts = ap (λ (h : List Entry). diversions_in h) marked ∙ marked_counts c.args.self.now c.args.place;
+      masks_alike = λ all other same. ap (λ (h : List Entry). masked_list all h) marked ∙ hides_same all true c.args.place c.args.self.now other (sym same);
       readable = λ are. subst (λ (h : List Entry). AreReadable h) (sym marked) (marked_readable c.args.self.now c.args.place are);
     }

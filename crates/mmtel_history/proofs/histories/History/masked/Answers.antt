@@ -1,8 +1,8 @@
 use Rattle.std.proofs.Common.{◌≡◌, ◌∙◌, ap, subst, sym, List, length, refl}
 use Rattle.std.specs.Prelude.{map}
-use Rattle.mmtel_history.specs.HistoryInfo.{masked_list, AreReadable}
+use Rattle.mmtel_history.specs.HistoryInfo.{diversions_in, masked_list, AreReadable}
 use Rattle.mmtel_history.specs.declared.entries.Entry.{Entry}
-use Rattle.mmtel_history.proofs.ListLaws.{length-masked, masked_alike, masked_keeps, masked_once}
+use Rattle.mmtel_history.proofs.ListLaws.{length-masked, masked_alike, masked_counts, masked_keeps, masked_once}
 use Rattle.mmtel_history.proofs.ReadableLaws.{masked_readable}
 use Rattle.mmtel_history.proofs.histories.History.masked.Goals as goal
 use Rattle.mmtel_history.proofs.histories.History.masked.Goals.{In_ok-entries}
@@ -27,3 +27,6 @@ returns-clause-readable c = λ readable. subst (λ (h : List Entry). AreReadable
 
 pub returns-clause-len : goal.returns-clause-len
 returns-clause-len c = ap (λ (h : List Entry). length h) (are c) ∙ length-masked c.args.all c.args.self.now
+
+pub returns-clause-counts : goal.returns-clause-counts
+returns-clause-counts c = ap (λ (h : List Entry). diversions_in h) (are c) ∙ masked_counts c.args.all c.args.self.now

@@ -1,6 +1,6 @@
 use Rattle.std.proofs.Common.{nat_lt, ap, sym, ◌∙◌}
 use Rattle.mmtel_sheet_values.specs.View.{end_in, is_registered}
-use Rattle.mmtel_sheet_values.proofs.Maps.{get-entries}
+use Rattle.mmtel_sheet_values.proofs.Entries.{get-entries}
 use Rattle.mmtel_sheet_values.proofs.view.SheetView.registered.Goals as goal
 
 pub returns-in-None : goal.returns-in-None

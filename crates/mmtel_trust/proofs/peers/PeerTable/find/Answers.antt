@@ -1,6 +1,6 @@
 use Rattle.std.proofs.Common.{◌≡◌, Option, Some, None, IfSome, List, refl, sym, ap, subst, ◌∙◌}
 use Rattle.mmtel_types.specs.declared.numbers.Peer.{Peer}
-use Rattle.mmtel_trust.specs.declared.addrs.Addr.{Addr}
+use Rattle.mmtel_types.specs.declared.addrs.Addr.{Addr}
 use Rattle.mmtel_trust.specs.declared.parties.KnownPeer.{KnownPeer}
 use Rattle.mmtel_trust.specs.Peers.{peer_at, addr_of}
 use Rattle.mmtel_trust.proofs.PeerLaws.{at_theirs}

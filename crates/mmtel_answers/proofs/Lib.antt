@@ -1,0 +1,3 @@
+pub mod RepeatLaws
+pub mod AnswerLaws
+pub mod HiddenCallers

@@ -1,0 +1,71 @@
+-- The INVITE of an attempt: the first request of a dialog that the server begins (RFC 3261 §8.1.1, §12.1.2), by which it relays the INVITE that opened the call (§16.6) to the first target or to one that the call was diverted to (RFC 7044 §7, RFC 4458 §2).
+use Rattle.std.specs.Prelude.{ℕ, Bool, Option, Some, None, List, [], ◌∷◌, ◌++◌, codes, if◌then◌else◌}
+use Rattle.mmtel_history.specs.EntryUri.{with_cause, without_cause}
+use Rattle.mmtel_leg.specs.Dialogues.{after_request, request_uri}
+use Rattle.mmtel_leg.specs.Requests.{numbered}
+use Rattle.mmtel_leg.specs.declared.dialogues.Dialogue.{Dialogue}
+use Rattle.mmtel_lex.specs.Grammar.{name_addr_text, uri_text}
+use Rattle.mmtel_lex.specs.declared.values.NameAddr.{NameAddr}
+use Rattle.mmtel_lex.specs.declared.values.Uri.{Uri}
+use Rattle.mmtel_message.specs.Message.{Line, Message}
+use Rattle.mmtel_message.specs.declared.messages.Start.{Start}
+use Rattle.mmtel_trust.specs.Digest.{HeardMessage}
+use Rattle.mmtel_trust.specs.Passed.{read_by}
+use Rattle.mmtel_types.specs.declared.addrs.Addr.{Addr}
+use Rattle.mmtel_types.specs.declared.numbers.Peer.{Peer}
+use Rattle.mmtel_types.specs.declared.sides.Side.TheVariants.{Callee}
+use Rattle.mmtel_answers.specs.Requests.{relaying}
+use Rattle.mmtel_answers.specs.declared.attempts.Aim.{Aim}
+
+-- ---- to whom it goes
+
+-- a display and a URI without the parameters behind them
+abbrev pub without_params : Option NameAddr → List ℕ
+without_params None = []
+without_params (Some n) = name_addr_text (record n { params = [] })
+
+-- a URI alone, in brackets
+abbrev pub bracketed : List ℕ → List ℕ
+bracketed uri = name_addr_text (record { display = []; uri = uri; params = [] })
+
+-- to the first target: Request-URI, and display and URI of To, as received
+abbrev pub first_aim : Peer → (routes : List (List ℕ)) → HeardMessage → Aim
+first_aim peer routes m = record { peer = peer; uri = request_uri m.start; to = without_params (read_by m.to); routes = routes }
+
+-- to the target of a diversion: the cause stands in the Request-URI and not in To
+abbrev pub diverted_aim : Peer → (routes : List (List ℕ)) → (target : Uri) → (cause : ℕ) → Aim
+diverted_aim peer routes target cause =
+    record { peer = peer; uri = with_cause cause (uri_text target); to = bracketed (without_cause (uri_text target)); routes = routes }
+
+-- ---- the dialog
+
+-- before its INVITE is sent
+abbrev pub calling : Aim → (call_id tag from : List ℕ) → Dialogue
+calling aim call_id tag from = record {
+  side = Callee;
+  peer = aim.peer;
+  call_id = call_id;
+  local = from;
+  remote = aim.to;
+  local_tag = tag;
+  remote_tag = [];
+  target = aim.uri;
+  routes = aim.routes;
+  own = 0;
+  last = None;
+  invited = None;
+}
+
+-- as the leg knows it, once the INVITE was sent: the Route values were for the INVITE, and the way to the callee is not known (§12.1.2)
+abbrev pub called : Dialogue → Dialogue
+called d = record (after_request d (codes "INVITE")) { routes = [] }
+
+-- ---- the INVITE
+
+-- the line by which a target is told that the call waits (TS 24.615 §4.5.5.3)
+abbrev pub alert_lines : Bool → List Line
+alert_lines waiting = if waiting then (codes "Alert-Info", codes "<urn:alert:service:call-waiting>") ∷ [] else []
+
+-- with these lines of the INVITE that opened the call
+abbrev pub invite_of : Dialogue → Addr → (branch : List ℕ) → (passed : List Line) → (waiting : Bool) → HeardMessage → Message Start
+invite_of d sip branch passed waiting m = numbered d 1 (codes "INVITE") (relaying sip branch (passed ++ alert_lines waiting) m)

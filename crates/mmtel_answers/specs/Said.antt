@@ -1,0 +1,29 @@
+-- A message as it was heard: what is read of it, from whom it came, and where that peer is reached. Whoever reads no lines of it, no entry of its History-Info and not where it redirects to sees nothing of what is private.
+use Rattle.std.specs.Prelude.{ℕ, Bool, List, []}
+use Rattle.mmtel_message.specs.Message.{Message}
+use Rattle.mmtel_message.specs.declared.messages.Start.{Start}
+use Rattle.mmtel_message.specs.declared.messages.Start.TheVariants.{Request, Status}
+use Rattle.mmtel_trust.specs.Digest.{HeardMessage, heard}
+use Rattle.mmtel_types.specs.declared.addrs.Addr.{Addr}
+use Rattle.mmtel_types.specs.declared.numbers.Peer.{Peer}
+
+pub record Said : Type 0 where
+  -- from whom it was heard, and where that peer is reached
+  pub peer : Peer
+  pub source : Addr
+  -- what is read of it
+  pub heard : HeardMessage
+
+-- what a peer said, who is trusted or not
+abbrev pub said : Peer → Addr → Bool → Message Start → Said
+said peer source trusted m = record { peer = peer; source = source; heard = heard trusted m }
+
+-- the status of a response (RFC 3261 §7.2); 0 of a request
+abbrev pub status_of : Start → ℕ
+status_of (Request method uri) = 0
+status_of (Status code phrase) = code
+
+-- its phrase; no bytes of a request
+abbrev pub phrase_in : Start → List ℕ
+phrase_in (Request method uri) = []
+phrase_in (Status code phrase) = phrase

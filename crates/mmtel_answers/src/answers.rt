@@ -1,0 +1,144 @@
+//! Responses to what was heard.
+ghost use Rattle.std.specs.Prelude.{◌≡◌, IfOk, codes};
+ghost use Rattle.mmtel_message.specs.Addresses.{contact_text};
+ghost use Rattle.mmtel_message.specs.Message.{line};
+ghost use Rattle.mmtel_answers.specs.Answers.{allowed, own_answer, relayed_answer, retry_after};
+
+use crate::hearing::{Hearing, phrase_in, status_of};
+use mmtel_message::{Line, Msg, Reply, add_bytes, contact_text, phrase_of, response};
+use mmtel_scan::{List, NoMemory};
+use mmtel_types::Addr;
+use std::alloc::Global;
+
+/// The response of the server's own to a request: its status and phrase, the tag where the request has none, Contact with this value where one is due,
+/// lines that are passed on (History-Info of a 181), lines that are named for it, and a body (RFC 3261 §8.2.6).
+///
+/// # Errors
+///
+/// Want of memory alone.
+pub fn own_answer_at(
+    alloc: Global,
+    contact: &[u8],
+    request: &Hearing,
+    tag: &[u8],
+    code: u16,
+    passed: &[Line],
+    named: &[Line],
+    body: &[u8],
+) -> Result<Msg, NoMemory>
+    ensures message { IfOk result (λ m. m ≡ own_answer contact.now request.now tag.now code passed.now named.now body.now) }
+{
+    let reply = Reply {
+        code,
+        phrase: phrase_of(code),
+        tag,
+        source: Some(request.source),
+        contact,
+        passed,
+        named,
+        body,
+    };
+    response(
+        alloc,
+        request.message.start(),
+        request.message.lines(),
+        &reply,
+    )
+}
+
+/// The response of the server's own, with its own Contact where one is due; the other words are as of `own_answer_at`.
+///
+/// # Errors
+///
+/// Want of memory alone.
+pub fn own_answer(
+    alloc: Global,
+    sip: Addr,
+    request: &Hearing,
+    tag: &[u8],
+    code: u16,
+    passed: &[Line],
+    named: &[Line],
+    body: &[u8],
+) -> Result<Msg, NoMemory>
+    ensures message { IfOk result (λ m. m ≡ own_answer (contact_text sip) request.now tag.now code passed.now named.now body.now) }
+{
+    let contact = contact_text(alloc, sip)?;
+    own_answer_at(
+        alloc,
+        contact.bytes(),
+        request,
+        tag,
+        code,
+        passed,
+        named,
+        body,
+    )
+}
+
+/// The response that relays one which was heard, with these lines of it: its status, phrase and body, and the server's Contact where one is due (RFC 3261 §16.7).
+///
+/// # Errors
+///
+/// Want of memory alone.
+pub fn relayed_answer(
+    alloc: Global,
+    sip: Addr,
+    request: &Hearing,
+    tag: &[u8],
+    passed: &[Line],
+    heard: &Hearing,
+) -> Result<Msg, NoMemory>
+    ensures message { IfOk result (λ m. m ≡ relayed_answer (contact_text sip) request.now tag.now passed.now heard.now) }
+{
+    let contact = contact_text(alloc, sip)?;
+    let reply = Reply {
+        code: status_of(heard.message.start()),
+        phrase: phrase_in(heard.message.start()),
+        tag,
+        source: Some(request.source),
+        contact: contact.bytes(),
+        passed,
+        named: &[],
+        body: heard.message.body(),
+    };
+    response(
+        alloc,
+        request.message.start(),
+        request.message.lines(),
+        &reply,
+    )
+}
+
+/// The line that says when a request may be sent again: after 5 seconds (RFC 3261 §14.2, §20.33).
+///
+/// # Errors
+///
+/// Want of memory alone.
+#[tactic(auto, unfolding(mmtel_message::specs::Message::line))]
+pub fn retry_after(alloc: Global) -> Result<List<Line>, NoMemory>
+    ensures lines { IfOk result (λ ls. ls ≡ retry_after) }
+{
+    let mut lines = List::new();
+    add_bytes(alloc, &mut lines, b"Retry-After", b"5")?;
+    Ok(lines)
+}
+
+/// The line of the methods that the server knows (RFC 3261 §20.5).
+///
+/// # Errors
+///
+/// Want of memory alone.
+#[tactic(auto, unfolding(mmtel_message::specs::Message::line))]
+pub fn allowed(alloc: Global) -> Result<List<Line>, NoMemory>
+    ensures lines { IfOk result (λ ls. ls ≡ allowed) }
+{
+    let mut lines = List::new();
+    add_bytes(
+        alloc,
+        &mut lines,
+        b"Allow",
+        b"INVITE, ACK, CANCEL, BYE, OPTIONS, REGISTER, REFER",
+    )?;
+    Ok(lines)
+}

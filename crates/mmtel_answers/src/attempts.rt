@@ -1,0 +1,236 @@
+//! The INVITE of an attempt.
+ghost use Rattle.std.specs.Prelude.{◌≡◌, ◌++◌, IfOk, OnOk};
+ghost use Rattle.std.specs.Option.{option_copied};
+ghost use Rattle.mmtel_trust.specs.Passed.{attempt_from, read_by};
+ghost use Rattle.mmtel_answers.specs.Attempts.{alert_lines, bracketed, called, calling, diverted_aim, first_aim, invite_of, without_params};
+
+use crate::hearing::Hearing;
+use crate::requests::relaying;
+use mmtel_history::{with_cause, without_cause};
+use mmtel_leg::{Dialogue, numbered, request_uri};
+use mmtel_lex::{LexFault, NameAddr, Uri, print_name_addr, print_uri, read_name_addr};
+use mmtel_message::{Line, Msg, add_bytes, add_passed, first_of, is_request};
+use mmtel_scan::{List, NoMemory, Text, texts_copied};
+use mmtel_trust::attempt_from;
+use mmtel_types::{Addr, Peer, Side};
+use std::alloc::Global;
+
+/// To whom an attempt goes.
+#[derive(Drop)]
+pub struct Aim {
+    /// The peer that its messages go to.
+    pub peer: Peer,
+    /// The Request-URI.
+    pub uri: Text,
+    /// The value of To.
+    pub to: Text,
+    /// The Route values of the INVITE, in order.
+    pub routes: List<Text>,
+}
+
+/// The To value of a request.
+fn to_value(message: &Hearing) -> Option<&[u8]>
+    ensures { option_copied result ≡ message.now.heard.to }
+{
+    if is_request(message.message.start()) {
+        return first_of(message.message.lines(), b"To");
+    }
+    None
+}
+
+/// A value as a display and a URI, without the parameters behind them.
+fn without_params(alloc: Global, value: Option<&[u8]>) -> Result<Text, NoMemory>
+    ensures { IfOk result (λ t. t ≡ without_params (read_by (option_copied value.entry))) }
+{
+    match value {
+        None => Ok(Text::new()),
+        Some(value) => match read_name_addr(alloc, value) {
+            Ok(name) => {
+                let NameAddr {
+                    display,
+                    uri,
+                    params: _,
+                } = name;
+                let alone = NameAddr {
+                    display,
+                    uri,
+                    params: List::new(),
+                };
+                print_name_addr(alloc, &alone)
+            }
+            Err(LexFault::Malformed { at: _ }) => Ok(Text::new()),
+            Err(LexFault::NoMemory) => Err(NoMemory),
+        },
+    }
+}
+
+/// To the first target of a call: Request-URI, and display and URI of To, as received in the INVITE that opened it; with these Route values.
+///
+/// # Errors
+///
+/// Want of memory alone.
+pub fn first_aim(
+    alloc: Global,
+    peer: Peer,
+    routes: &[Text],
+    opening: &Hearing,
+) -> Result<Aim, NoMemory>
+    ensures aim { IfOk result (λ aim. aim ≡ first_aim peer routes.now opening.now.heard) }
+{
+    let uri = Text::of(alloc, request_uri(opening.message.start()))?;
+    let to = without_params(alloc, to_value(opening))?;
+    let routes = texts_copied(alloc, routes)?;
+    Ok(Aim {
+        peer,
+        uri,
+        to,
+        routes,
+    })
+}
+
+/// A URI alone, in brackets.
+fn bracketed(alloc: Global, uri: Text) -> Result<Text, NoMemory>
+    ensures { IfOk result (λ t. t ≡ bracketed uri) }
+{
+    let alone = NameAddr {
+        display: Text::new(),
+        uri,
+        params: List::new(),
+    };
+    print_name_addr(alloc, &alone)
+}
+
+/// To the target of a diversion with this cause: the cause stands in the Request-URI (RFC 4458 §2), and To is the target without one; with these Route values.
+///
+/// # Errors
+///
+/// Want of memory alone.
+pub fn diverted_aim(
+    alloc: Global,
+    peer: Peer,
+    routes: &[Text],
+    target: &Uri,
+    cause: u16,
+) -> Result<Aim, NoMemory>
+    ensures aim { IfOk result (λ aim. aim ≡ diverted_aim peer routes.now target.now cause) }
+{
+    let target = print_uri(alloc, target)?;
+    let uri = with_cause(alloc, target.bytes(), cause)?;
+    let to = bracketed(alloc, without_cause(alloc, target.bytes())?)?;
+    let routes = texts_copied(alloc, routes)?;
+    Ok(Aim {
+        peer,
+        uri,
+        to,
+        routes,
+    })
+}
+
+/// The dialog of these parts, before its INVITE is sent.
+fn begun(aim: Aim, call_id: Text, tag: Text, from: Text) -> Dialogue
+    ensures { result ≡ calling aim call_id tag from }
+{
+    let Aim {
+        peer,
+        uri,
+        to,
+        routes,
+    } = aim;
+    Dialogue {
+        side: Side::Callee,
+        peer,
+        call_id,
+        local: from,
+        remote: to,
+        local_tag: tag,
+        remote_tag: Text::new(),
+        target: uri,
+        routes,
+        own: 0,
+        last: None,
+        invited: None,
+    }
+}
+
+/// The dialog of an attempt of a call, before its INVITE is sent: From is nobody's where the call is restricted, else the display and the URI of the caller as received, each with the tag (RFC 3261 §12.1.2, RFC 3323 §4.1.1.3).
+///
+/// # Errors
+///
+/// Want of memory alone.
+pub fn calling(
+    alloc: Global,
+    aim: Aim,
+    opening: &Hearing,
+    restricted: bool,
+    call_id: Text,
+    tag: Text,
+) -> Result<Dialogue, NoMemory>
+    ensures dialogue { IfOk result (λ d. d ≡ calling aim call_id tag (attempt_from restricted tag opening.now.heard.lines)) }
+{
+    let from = attempt_from(alloc, &opening.message, restricted, tag.bytes())?;
+    Ok(begun(aim, call_id, tag, from))
+}
+
+/// The dialog as the leg knows it, once the INVITE was sent (RFC 3261 §12.1.2).
+pub fn called(dialogue: Dialogue) -> Dialogue
+    ensures dialogue { result ≡ called dialogue }
+{
+    let number = dialogue.own.saturating_add(1);
+    Dialogue {
+        own: number,
+        invited: Some(number),
+        routes: List::new(),
+        ..dialogue
+    }
+}
+
+/// Adds the line by which a target is told that the call waits, where it does.
+#[tactic(auto, unfolding(mmtel_message::specs::Message::line))]
+fn add_alert(alloc: Global, lines: &mut List<Line>, waiting: bool) -> Result<(), NoMemory>
+    ensures { OnOk result (lines.new ≡ lines.old ++ alert_lines waiting) }
+{
+    if waiting {
+        return add_bytes(
+            alloc,
+            lines,
+            b"Alert-Info",
+            b"<urn:alert:service:call-waiting>",
+        );
+    }
+    Ok(())
+}
+
+fn attempt_lines(alloc: Global, passed: &[Line], waiting: bool) -> Result<List<Line>, NoMemory>
+    ensures { IfOk result (λ ls. ls ≡ passed.now ++ alert_lines waiting) }
+{
+    let mut lines = List::new();
+    add_passed(alloc, &mut lines, passed)?;
+    add_alert(alloc, &mut lines, waiting)?;
+    Ok(lines)
+}
+
+/// The INVITE of an attempt, the first request of its dialog: it relays the INVITE that opened the call with these lines of it, and tells the target where the call waits (RFC 3261 §16.6, TS 24.615 §4.5.5.3).
+///
+/// # Errors
+///
+/// Want of memory alone.
+pub fn invite(
+    alloc: Global,
+    dialogue: &Dialogue,
+    sip: Addr,
+    branch: &Text,
+    passed: &[Line],
+    waiting: bool,
+    opening: &Hearing,
+) -> Result<Msg, NoMemory>
+    ensures message { IfOk result (λ m. m ≡ invite_of dialogue.now sip branch.now passed.now waiting opening.now.heard) }
+{
+    let lines = attempt_lines(alloc, passed, waiting)?;
+    numbered(
+        alloc,
+        dialogue,
+        1,
+        b"INVITE",
+        &relaying(sip, branch, &lines, opening),
+    )
+}

@@ -1,0 +1,190 @@
+//! Requests that relay one that was heard, or none; and what repeats an INVITE.
+ghost use Rattle.std.specs.Prelude.{◌≡◌, IfOk, OnErr, OnOk};
+ghost use Rattle.mmtel_leg.specs.Dialogues.{after_request};
+ghost use Rattle.mmtel_leg.specs.Legs.{with_dialogue};
+ghost use Rattle.mmtel_leg.specs.Requests.{ack_of, request_of};
+ghost use Rattle.mmtel_answers.specs.Requests.{bare, bringing, cancel_of, final_ack_of, relaying, towards};
+
+use crate::hearing::{Hearing, hops_left};
+use mmtel_leg::{Dialogue, LegOf, Parts, Standing, numbered};
+use mmtel_message::{Line, Msg};
+use mmtel_scan::{List, NoMemory, Text};
+use mmtel_types::{Addr, Side};
+use std::alloc::Global;
+
+/// What a request has that relays none, with these named lines and this body.
+pub fn bringing<'a>(sip: Addr, branch: &'a Text, named: &'a List<Line>, body: &'a [u8]) -> Parts<'a>
+    ensures parts { result ≡ bringing sip branch.now named.now body.now }
+{
+    Parts::of(sip, 70, branch, named, body)
+}
+
+/// What a request has that relays none and brings nothing.
+pub fn bare<'a>(sip: Addr, branch: &'a Text) -> Parts<'a>
+    ensures parts { result ≡ bare sip branch.now }
+{
+    Parts {
+        sip,
+        hops: 70,
+        branch: branch.bytes(),
+        shown: &[],
+        body: b"",
+    }
+}
+
+/// What a request has that relays this one, with these lines of it: one hop less, and its body (RFC 3261 §16.6).
+pub fn relaying<'a>(
+    sip: Addr,
+    branch: &'a Text,
+    passed: &'a List<Line>,
+    message: &'a Hearing,
+) -> Parts<'a>
+    ensures parts { result ≡ relaying sip branch.now passed.now message.now.heard }
+{
+    Parts::of(
+        sip,
+        hops_left(message),
+        branch,
+        passed,
+        message.message.body(),
+    )
+}
+
+/// The next request in a leg's dialog that relays none, with these named lines and this body.
+///
+/// # Errors
+///
+/// Want of memory alone; the leg is then as before.
+pub fn own_request<P>(
+    alloc: Global,
+    leg: &mut LegOf<P, Standing>,
+    method: &[u8],
+    sip: Addr,
+    branch: &Text,
+    named: &List<Line>,
+    body: &[u8],
+) -> Result<Msg, NoMemory>
+    ensures message { IfOk result (λ m. m ≡ request_of leg.old.dialogue method.now (bringing sip branch.now named.now body.now)) }
+    ensures counted { OnOk result (leg.new ≡ with_dialogue leg.old (after_request leg.old.dialogue method.now)) }
+    ensures refused { OnErr result (leg.new ≡ leg.old) }
+{
+    leg.request(alloc, method, sip, 70, branch, named, body)
+}
+
+/// The next request in a leg's dialog that relays this one, with these lines of it (RFC 3261 §16.6).
+///
+/// # Errors
+///
+/// Want of memory alone; the leg is then as before.
+pub fn relayed_request<P>(
+    alloc: Global,
+    leg: &mut LegOf<P, Standing>,
+    method: &[u8],
+    sip: Addr,
+    branch: &Text,
+    passed: &List<Line>,
+    message: &Hearing,
+) -> Result<Msg, NoMemory>
+    ensures message { IfOk result (λ m. m ≡ request_of leg.old.dialogue method.now (relaying sip branch.now passed.now message.now.heard)) }
+    ensures counted { OnOk result (leg.new ≡ with_dialogue leg.old (after_request leg.old.dialogue method.now)) }
+    ensures refused { OnErr result (leg.new ≡ leg.old) }
+{
+    leg.request(
+        alloc,
+        method,
+        sip,
+        hops_left(message),
+        branch,
+        passed,
+        message.message.body(),
+    )
+}
+
+/// The ACK of a leg's 2xx that relays none (RFC 3261 §13.2.2.4).
+///
+/// # Errors
+///
+/// Want of memory alone.
+pub fn own_ack<P>(
+    alloc: Global,
+    leg: &LegOf<P, Standing>,
+    sip: Addr,
+    branch: &Text,
+) -> Result<Msg, NoMemory>
+    ensures message { IfOk result (λ m. m ≡ ack_of leg.now.dialogue (bare sip branch.now)) }
+{
+    leg.ack(alloc, sip, 70, branch, &List::new(), b"")
+}
+
+/// The ACK of a leg's 2xx that relays the ACK of the other side, with these lines of it.
+///
+/// # Errors
+///
+/// Want of memory alone.
+pub fn relayed_ack<P>(
+    alloc: Global,
+    leg: &LegOf<P, Standing>,
+    sip: Addr,
+    branch: &Text,
+    passed: &List<Line>,
+    message: &Hearing,
+) -> Result<Msg, NoMemory>
+    ensures message { IfOk result (λ m. m ≡ ack_of leg.now.dialogue (relaying sip branch.now passed.now message.now.heard)) }
+{
+    leg.ack(
+        alloc,
+        sip,
+        hops_left(message),
+        branch,
+        passed,
+        message.message.body(),
+    )
+}
+
+/// The CANCEL of an INVITE that was sent in this dialog with this number and this branch (RFC 3261 §9.1).
+///
+/// # Errors
+///
+/// Want of memory alone.
+pub fn cancel(
+    alloc: Global,
+    dialogue: &Dialogue,
+    number: u64,
+    sip: Addr,
+    branch: &Text,
+) -> Result<Msg, NoMemory>
+    ensures message { IfOk result (λ m. m ≡ cancel_of dialogue.now number sip branch.now) }
+{
+    numbered(alloc, dialogue, number, b"CANCEL", &bare(sip, branch))
+}
+
+/// The dialog with this To.
+fn towards(dialogue: Dialogue, to: Text) -> Dialogue
+    ensures { result ≡ towards dialogue to }
+{
+    Dialogue {
+        side: Side::Callee,
+        remote: to,
+        remote_tag: Text::new(),
+        ..dialogue
+    }
+}
+
+/// The ACK of a final from 300 of such an INVITE, with To of that final (RFC 3261 §17.1.1.3).
+///
+/// # Errors
+///
+/// Want of memory alone.
+pub fn final_ack(
+    alloc: Global,
+    dialogue: &Dialogue,
+    number: u64,
+    sip: Addr,
+    branch: &Text,
+    to: Text,
+) -> Result<Msg, NoMemory>
+    ensures message { IfOk result (λ m. m ≡ final_ack_of dialogue.now number sip branch.now to) }
+{
+    let answered = towards(dialogue.copied(alloc)?, to);
+    numbered(alloc, &answered, number, b"ACK", &bare(sip, branch))
+}

@@ -1,0 +1,26 @@
+use Rattle.mmtel_cli.proofs.Saying.{good_ones_are_listed, good_ones_succeed, no_fault_no_failure, one_is_usage, seven_rose, statuses_are_these, zero_is_listed, zero_kept}
+use Rattle.mmtel_cli.proofs.laws.statuses_say.Goals as goal
+
+pub returns-clause-good : goal.returns-clause-good
+returns-clause-good c = good_ones_are_listed
+
+pub returns-clause-succeed : goal.returns-clause-succeed
+returns-clause-succeed c = good_ones_succeed
+
+pub returns-clause-zero : goal.returns-clause-zero
+returns-clause-zero c = zero_is_listed
+
+pub returns-clause-kept : goal.returns-clause-kept
+returns-clause-kept c = zero_kept
+
+pub returns-clause-usage : goal.returns-clause-usage
+returns-clause-usage c = one_is_usage
+
+pub returns-clause-sink : goal.returns-clause-sink
+returns-clause-sink c = seven_rose
+
+pub returns-clause-known : goal.returns-clause-known
+returns-clause-known c = statuses_are_these
+
+pub returns-clause-no_fault : goal.returns-clause-no_fault
+returns-clause-no_fault c = no_fault_no_failure

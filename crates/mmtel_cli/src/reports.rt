@@ -1,0 +1,96 @@
+//! What a run is due to write, and how it writes it.
+ghost use Rattle.std.specs.Prelude.{OnOk, OnErr, decimal};
+ghost use Rattle.std.specs.Io.KnownBytes.{Appends};
+ghost use Rattle.mmtel_outside.specs.Counts.{HasCause};
+ghost use Rattle.mmtel_cli.specs.Ends.{Ends, Wrote, line_text};
+ghost use Rattle.mmtel_outside.specs.Written.{AppendsPart};
+
+use itoa::Buffer;
+use mmtel_outside::{Sink, write_all};
+use mmtel_scan::Text;
+use mmtel_types::Failed;
+
+/// What a run is due to write, each with its status.
+#[derive(Drop)]
+pub enum Report {
+    /// `usage`, status 1: the words are not of the grammar.
+    Usage,
+    /// `line N`, status 2: that line is the first that breaks the grammar of its file.
+    Line(u64),
+    /// `file`, status 5: a file could not be read.
+    File,
+    /// `memory`, status 8: memory ran out.
+    Memory,
+    /// The listing of what was offered, status 0; 7 where it is not written whole.
+    Listing(Text),
+}
+
+/// Writes a number in decimal.
+fn write_number<S: Sink>(out: &mut S, number: u64) -> Result<(), Failed>
+    ensures whole { OnOk result (Appends (S.written out.old) (S.written out.new) (decimal number)) }
+    ensures part { OnErr result (AppendsPart (S.written out.old) (S.written out.new) (decimal number)) }
+    ensures cause { HasCause (S.faults out.old) (S.faults out.new) result }
+{
+    let mut buffer = Buffer::new();
+    write_all(out, buffer.format(number).as_bytes())
+}
+
+/// Writes `line` and the number, with LF.
+fn write_line<S: Sink>(out: &mut S, line: u64) -> Result<(), Failed>
+    ensures whole { OnOk result (Appends (S.written out.old) (S.written out.new) (line_text line)) }
+    ensures part { OnErr result (AppendsPart (S.written out.old) (S.written out.new) (line_text line)) }
+    ensures cause { HasCause (S.faults out.old) (S.faults out.new) result }
+{
+    write_all(out, b"line ")?;
+    write_number(out, line)?;
+    write_all(out, b"\n")
+}
+
+/// Writes a text whose status stays where the writing fails.
+fn say<S: Sink>(out: &mut S, text: &[u8])
+    ensures wrote { Wrote text.now (S.written out.old) (S.written out.new) (S.faults out.old) (S.faults out.new) }
+{
+    let _ = write_all(out, text);
+}
+
+/// The same of a line's number.
+fn say_line<S: Sink>(out: &mut S, line: u64)
+    ensures wrote { Wrote (line_text line) (S.written out.old) (S.written out.new) (S.faults out.old) (S.faults out.new) }
+{
+    let _ = write_line(out, line);
+}
+
+/// Writes what is due, and answers the status. It takes no memory.
+pub fn write_report<S: Sink>(due: &Report, out: &mut S) -> u8
+    ensures ends { Ends due.now result (S.written out.old) (S.written out.new) (S.faults out.old) (S.faults out.new) }
+{
+    match due {
+        Report::Usage => {
+            say(out, b"usage\n");
+            1
+        }
+        Report::Line(line) => {
+            say_line(out, *line);
+            2
+        }
+        Report::File => {
+            say(out, b"file\n");
+            5
+        }
+        Report::Memory => {
+            say(out, b"memory\n");
+            8
+        }
+        Report::Listing(text) => match write_all(out, text.bytes()) {
+            Ok(()) => 0,
+            Err(Failed) => 7,
+        },
+    }
+}
+
+/// Says that memory ran out before the words could be kept, and answers the status of that.
+pub fn out_of_memory<S: Sink>(out: &mut S) -> u8
+    ensures ends { Ends Report.Memory result (S.written out.old) (S.written out.new) (S.faults out.old) (S.faults out.new) }
+{
+    write_report(&Report::Memory, out)
+}

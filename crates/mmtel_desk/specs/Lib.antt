@@ -1,0 +1,10 @@
+-- What public clauses cite.
+-- Of the calls:
+pub mod Desks
+pub mod Invitations
+pub mod Sending
+pub mod Loose
+-- Of the laws alone:
+pub mod Heads
+
+-- What private functions alone cite: nothing.

@@ -1,0 +1,17 @@
+//! What a step of a call or of a conference room brings forth: the tokens that it draws, the messages that go out, the rows that it closes; and what is still done about an INVITE that was left before it had a final answer. Calls and rooms stand on it, and neither on the other.
+#![tactic(auto)]
+
+mod desks;
+mod invitations;
+mod laws;
+mod loose;
+mod offering;
+mod repeating;
+mod sending;
+
+pub use desks::{Desk, file};
+pub use invitations::{Invitation, Loose, once_cancelled};
+pub use laws::{
+    answers_have_heads, masked_requests_have_one_head, repeats_have_heads, requests_have_heads,
+};
+pub use loose::loose_at;

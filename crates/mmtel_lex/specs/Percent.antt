@@ -1,0 +1,51 @@
+-- Escaped bytes of a URI: a '%' and two hexadecimal digits, of either case, stand for the byte that these write (RFC 3261 §19.1.2 and §25.1: escaped; RFC 3986 §2.1).
+use Rattle.std.specs.Prelude.{◌≡◌, ℕ, ◌+◌, ◌*◌, nat_lt, false, Bool, List, [], ◌∷◌, ◌++◌, Option, Some, None, if◌then◌else◌, is_some, ◌&&◌}
+use Rattle.std.specs.Char.{digit_value}
+use Rattle.std.specs.Option.{option_map}
+use Rattle.mmtel_scan.specs.Chain.{◌>>=◌}
+use Rattle.mmtel_lex.specs.UriPlaces.{parts}
+
+-- what a hexadecimal digit is worth
+abbrev pub hex_value : ℕ → Option ℕ
+hex_value b = if nat_lt (digit_value b) 16 then Some (digit_value b) else None
+
+-- what stands behind a '%' says: the byte of the two digits, and behind it what follows them
+abbrev pub unescaped : List ℕ → Option (List ℕ)
+unescaped [] = None
+unescaped (a ∷ []) = None
+unescaped (a ∷ b ∷ rest) = do
+  high ← hex_value a
+  low ← hex_value b
+  Some ((high * 16 + low) ∷ rest)
+
+-- what several say, one behind another; nothing where one of them says nothing
+abbrev pub all_unescaped : List (List ℕ) → Option (List ℕ)
+all_unescaped [] = Some []
+all_unescaped (part ∷ parts) = do
+  here ← unescaped part
+  more ← all_unescaped parts
+  Some (here ++ more)
+
+-- what stands before the first '%', as it is, and what each part behind a '%' says
+abbrev pub decoded_parts : List (List ℕ) → Option (List ℕ)
+decoded_parts [] = Some []
+decoded_parts (front ∷ parts) = option_map (λ t. front ++ t) (all_unescaped parts)
+
+-- the bytes that the text stands for; none where a '%' is not followed by two hexadecimal digits
+unfoldable pub percent_decoded : List ℕ → Option (List ℕ)
+percent_decoded s = decoded_parts (parts 37 s)
+
+-- ---- in the subject's words
+
+-- two hexadecimal digits come first
+abbrev pub begins_hex : List ℕ → Bool
+begins_hex [] = false
+begins_hex (a ∷ []) = false
+begins_hex (a ∷ b ∷ rest) = is_some (hex_value a) && is_some (hex_value b)
+
+-- a '%' that two hexadecimal digits do not follow
+pub record IsBroken (s : List ℕ) : Type 0 where
+  pub front : List ℕ
+  pub rest : List ℕ
+  pub whole : s ≡ front ++ 37 ∷ rest
+  pub digits : begins_hex rest ≡ false

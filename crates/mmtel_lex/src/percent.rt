@@ -1,0 +1,91 @@
+//! Escaped bytes of a URI (RFC 3261 §19.1.2, RFC 3986 §2.1).
+ghost use Rattle.std.specs.Prelude.{◌≡◌, ◌∷◌, ◌++◌, ◌↔◌, IfOk, None, Some, if◌then◌else◌};
+ghost use Rattle.std.specs.Option.{option_map};
+ghost use Rattle.mmtel_lex.specs.Percent.{IsBroken, all_unescaped, hex_value, percent_decoded, unescaped};
+ghost use Rattle.mmtel_lex.specs.UriPlaces.{parts};
+
+use crate::uri_places::first_part;
+use mmtel_scan::{NoMemory, Text};
+use std::alloc::Global;
+
+/// What a hexadecimal digit of either case is worth.
+fn hex_value(byte: u8) -> Option<u8>
+    ensures { result ≡ hex_value byte }
+{
+    match char::from(byte).to_digit(16) {
+        Some(worth) => Some(worth as u8),
+        None => None,
+    }
+}
+
+/// What stands behind a `%`: the byte that its two digits write, and what follows them.
+fn unescaped(part: &[u8]) -> Option<(u8, &[u8])>
+    ensures { option_map (λ x. x.0 ∷ x.1.now) result ≡ unescaped part.now }
+{
+    match part {
+        [first, second, rest @ ..] => {
+            let high = hex_value(*first)?;
+            let low = hex_value(*second)?;
+            Some((high * 16 + low, rest))
+        }
+        _ => None,
+    }
+}
+
+/// Adds what stands behind a `%`; false where it is no escape.
+fn add_unescaped(alloc: Global, out: &mut Text, part: &[u8]) -> Result<bool, NoMemory>
+    ensures { IfOk result (λ said. (if said then Some out.new else None) ≡ option_map (λ t. out.old ++ t) (unescaped part.now)) }
+{
+    match unescaped(part) {
+        None => Ok(false),
+        Some((byte, rest)) => {
+            out.push(alloc, &[byte])?;
+            out.push(alloc, rest)?;
+            Ok(true)
+        }
+    }
+}
+
+/// Adds what the parts say, each of which stands behind a `%`; false where one is no escape.
+fn add_all_unescaped(alloc: Global, out: &mut Text, bytes: &[u8]) -> Result<bool, NoMemory>
+    ensures { IfOk result (λ said. (if said then Some out.new else None) ≡ option_map (λ t. out.old ++ t) (all_unescaped (parts 37 bytes.now))) }
+{
+    let mut rest = bytes;
+    'parts: while let Some((front, tail)) = first_part(b'%', rest) {
+        if !add_unescaped(alloc, out, front)? {
+            return Ok(false);
+        }
+        rest = tail;
+    }
+    add_unescaped(alloc, out, rest)
+}
+
+#[tactic(auto, unfolding(crate::specs::Percent::percent_decoded))]
+fn decoded(alloc: Global, bytes: &[u8]) -> Result<Option<Text>, NoMemory>
+    ensures { IfOk result (λ t. t ≡ percent_decoded bytes.now) }
+{
+    match first_part(b'%', bytes) {
+        None => Ok(Some(Text::of(alloc, bytes)?)),
+        Some((front, rest)) => {
+            let mut out = Text::of(alloc, front)?;
+            if add_all_unescaped(alloc, &mut out, rest)? {
+                Ok(Some(out))
+            } else {
+                Ok(None)
+            }
+        }
+    }
+}
+
+/// The bytes that a text of a URI stands for, each escaped byte in the place of its `%` and its two hexadecimal digits; None exactly where a `%` is not followed by two such digits.
+///
+/// # Errors
+///
+/// Want of memory alone.
+pub fn percent_decoded(alloc: Global, bytes: &[u8]) -> Result<Option<Text>, NoMemory>
+    ensures text { IfOk result (λ t. t ≡ percent_decoded bytes.now) }
+    // There are none exactly where a `%` is not followed by two hexadecimal digits.
+    ensures broken { IfOk result (λ t. (t ≡ None) ↔ IsBroken bytes.now) }
+{
+    decoded(alloc, bytes)
+}

@@ -1,0 +1,5 @@
+pub mod HeadLaws
+pub mod ResponseLaws
+pub mod DialogLaws
+pub mod RequestLaws
+pub mod WorkedLaws

@@ -1,0 +1,140 @@
+-- What is asked of a peer for a masked sender.
+use Rattle.std.proofs.Common.{◌≡◌, ℕ, List, [], ◌∷◌, ◌++◌, refl, sym, ap, ◌∙◌, Bool, true, false, not, ◌&&◌, codes, cond}
+use Rattle.std.specs.Prelude.{decimal, length}
+use Rattle.mmtel_history.specs.HistoryInfo.{masked_list}
+use Rattle.mmtel_history.specs.declared.entries.Entry.{Entry}
+use Rattle.mmtel_leg.specs.Requests.{Given, contact_lines, dialog_lines, is_contacting, numbered, routing_lines}
+use Rattle.mmtel_leg.specs.declared.dialogues.Dialogue.{Dialogue}
+use Rattle.mmtel_message.specs.Addresses.{contact_text}
+use Rattle.mmtel_message.specs.Faults.{is_request}
+use Rattle.mmtel_message.specs.Message.{Line, Message, has_line, is_line, line, named}
+use Rattle.mmtel_message.specs.declared.messages.Start.{Start}
+use Rattle.mmtel_transaction.specs.Heads.{head_of}
+use Rattle.mmtel_transaction.specs.HeadsRead.{HeadsRestOnFiveNames}
+use Rattle.mmtel_trust.specs.Mask.{Entries, Places, masked, masked_lines, only, places_in, redirects}
+use Rattle.mmtel_trust.specs.Passed.{attempt_from, history_row, passed, shown_lines}
+use Rattle.mmtel_trust.specs.declared.showing.Facing.{Facing}
+use Rattle.mmtel_trust.proofs.Kept.{from-entries, passed-entries}
+use Rattle.mmtel_trust.proofs.Masked.{passed-masked}
+use Rattle.mmtel_trust.proofs.TableLaws.{own_shown, shown_alike}
+use Rattle.mmtel_masks.specs.Requests.{AttemptsAreHidden, AttemptsHaveOneHead, EntriesAreHidden, EntriesHaveNoHead, ForeignLinesHaveNoHead, RelayedAreHidden, ShownLinesHaveNoHead, attempt, bringing, called_by, showing}
+use Rattle.mmtel_masks.specs.Responses.{AreForeign}
+use Rattle.mmtel_masks.proofs.ResponseLaws.{later, same_if, unseen}
+
+-- ---- what an untrusted peer is shown
+
+-- of lines of which it is shown what it is shown of the masked ones
+shown_if : (f : Facing) (h k : List Entry) (m n : Message Start) (ls ks : List Line) → m.start ≡ n.start → ls ≡ ks
+    → ((row : List Line) → passed f false row ls ≡ passed f false row m.lines) → ((row : List Line) → passed f false row ks ≡ passed f false row n.lines)
+    → masked_list f.mask_all h ≡ masked_list f.mask_all k → shown_lines f false h m.start m.lines ≡ shown_lines f false k n.start n.lines
+shown_if f h k m n ls ks start e left right lists =
+    sym (left (history_row f false h m.start))
+    ∙ (ap (λ (l : List Line). passed f false (history_row f false h m.start) l) e
+    ∙ (right (history_row f false h m.start)
+    ∙ (ap (λ (s : Start). shown_lines f false h s n.lines) start
+    ∙ shown_alike f h k n.start n.lines lists)))
+
+restricted_alike : (p q : Places) (f : Facing) (h k : List Entry) (m n : Message Start) → f.restricted ≡ true → masked p m ≡ masked q n
+    → masked_list f.mask_all h ≡ masked_list f.mask_all k → shown_lines f false h m.start m.lines ≡ shown_lines f false k n.start n.lines
+restricted_alike p q f h k m n r e lists =
+    shown_if f h k m n (masked p m).lines (masked q n).lines (ap (λ (x : Message Start). x.start) e) (ap (λ (x : Message Start). x.lines) e)
+    (λ row. passed-masked (places_in m.start p) f row m.lines r) (λ row. passed-masked (places_in n.start q) f row n.lines r) lists
+
+-- entries are private in a request and in a response
+entries_placed : (start : Start) (es : Entries) → places_in start (only es) ≡ only es
+entries_placed start es = rw (same_if (is_request start) false, same_if (redirects start) false) refl
+
+entries_shown : (es : Entries) (f : Facing) (m : Message Start) (row : List Line) → passed f false row (masked (only es) m).lines ≡ passed f false row m.lines
+entries_shown es f m row = ap (λ (p : Places). passed f false row (masked_lines p m.lines)) (entries_placed m.start es) ∙ passed-entries es f false row m.lines
+
+entries_alike : (es other : Entries) (f : Facing) (h k : List Entry) (m n : Message Start) → masked (only es) m ≡ masked (only other) n
+    → masked_list f.mask_all h ≡ masked_list f.mask_all k → shown_lines f false h m.start m.lines ≡ shown_lines f false k n.start n.lines
+entries_alike es other f h k m n e lists =
+    shown_if f h k m n (masked (only es) m).lines (masked (only other) n).lines (ap (λ (x : Message Start). x.start) e) (ap (λ (x : Message Start). x.lines) e)
+    (entries_shown es f m) (entries_shown other f n) lists
+
+-- ---- From of an attempt
+
+restricted_from : (f : Facing) (tag : List ℕ) (m n : Message Start) → f.restricted ≡ true → attempt_from f.restricted tag m.lines ≡ attempt_from f.restricted tag n.lines
+restricted_from f tag m n r = rw r refl
+
+entries_named : (es : Entries) (restricted : Bool) (tag : List ℕ) (m : Message Start) → attempt_from restricted tag (masked (only es) m).lines ≡ attempt_from restricted tag m.lines
+entries_named es restricted tag m = ap (λ (p : Places). attempt_from restricted tag (masked_lines p m.lines)) (entries_placed m.start es) ∙ from-entries es restricted tag m.lines
+
+entries_from : (es other : Entries) (restricted : Bool) (tag : List ℕ) (m n : Message Start) → masked (only es) m ≡ masked (only other) n → attempt_from restricted tag m.lines ≡ attempt_from restricted tag n.lines
+entries_from es other restricted tag m n e = sym (entries_named es restricted tag m) ∙ (ap (λ (x : Message Start). attempt_from restricted tag x.lines) e ∙ entries_named other restricted tag n)
+
+-- ---- requests
+
+with_shown : (d : Dialogue) (number : ℕ) (method : List ℕ) (given : Given) (xs ys : List Line) → xs ≡ ys → numbered d number method (bringing xs given) ≡ numbered d number method (bringing ys given)
+with_shown d number method given xs ys e = ap (λ (l : List Line). numbered d number method (bringing l given)) e
+
+with_local : (d : Dialogue) (number : ℕ) (method : List ℕ) (given : Given) (v w : List ℕ) → v ≡ w → numbered (record d { local = v }) number method given ≡ numbered (record d { local = w }) number method given
+with_local d number method given v w e = ap (λ (x : List ℕ). numbered (record d { local = x }) number method given) e
+
+pub relayed_hidden : RelayedAreHidden
+relayed_hidden p q f h k m n d number method given r e lists =
+    with_shown d number method given (shown_lines f false h m.start m.lines) (shown_lines f false k n.start n.lines) (restricted_alike p q f h k m n r e lists)
+
+pub attempts_hidden : AttemptsAreHidden
+attempts_hidden p q f h k tag m n d number method given r e lists =
+    relayed_hidden p q f h k m n (called_by f tag m d) number method given r e lists
+    ∙ with_local d number method (showing f false k n given) (attempt_from f.restricted tag m.lines) (attempt_from f.restricted tag n.lines) (restricted_from f tag m n r)
+
+pub entries_hidden : EntriesAreHidden
+entries_hidden es other f h k tag m n d number method given e lists =
+    with_shown (called_by f tag m d) number method given (shown_lines f false h m.start m.lines) (shown_lines f false k n.start n.lines) (entries_alike es other f h k m n e lists)
+    ∙ with_local d number method (showing f false k n given) (attempt_from f.restricted tag m.lines) (attempt_from f.restricted tag n.lines) (entries_from es other f.restricted tag m n e)
+
+-- ---- heads
+
+foreign : (f : Facing) (b : Bool) (h : List Entry) (m : Message Start) → AreForeign (shown_lines f b h m.start m.lines)
+foreign f b h m name own = own_shown f b name h m.start m.lines own
+
+none_if : (b : Bool) (name : List ℕ) (l : Line) → is_line name l ≡ false → named name (cond b (l ∷ []) []) ≡ []
+none_if true name l e = rw e refl
+none_if false name l e = refl
+
+no_contact : (name method : List ℕ) (g : Given) → is_line name (codes "Contact", contact_text g.sip) ≡ false → named name (contact_lines method g.sip g.shown) ≡ []
+unfolding line
+no_contact name method g e = none_if (is_contacting method && not (has_line (codes "Contact") g.shown)) name (codes "Contact", contact_text g.sip) e
+
+shown_named : (d : Dialogue) (number : ℕ) (method : List ℕ) (given : Given) (xs ys : List Line) (name : List ℕ) → is_line name (codes "Contact", contact_text given.sip) ≡ false → named name xs ≡ [] → named name ys ≡ []
+    → named name (numbered d number method (bringing xs given)).lines ≡ named name (numbered d number method (bringing ys given)).lines
+shown_named d number method given xs ys name other x y =
+    let tail : List Line = line (codes "Content-Length") (decimal (length given.body)) in
+    let C : List Line → List Line = λ l. contact_lines method given.sip l in
+    later name (routing_lines d.routes given.sip given.hops given.branch) (dialog_lines d number method ++ (C xs ++ (xs ++ tail))) (dialog_lines d number method ++ (C ys ++ (ys ++ tail)))
+    (later name (dialog_lines d number method) (C xs ++ (xs ++ tail)) (C ys ++ (ys ++ tail))
+    (unseen name (C xs) (C ys) (xs ++ tail) (no_contact name method (bringing xs given) other) (no_contact name method (bringing ys given) other)
+    ∙ later name (C ys) (xs ++ tail) (ys ++ tail) (unseen name xs ys tail x y)))
+
+-- where heads rest on lines of five names
+module _ (five : HeadsRestOnFiveNames) where
+  pub shown_head : ForeignLinesHaveNoHead
+  shown_head d number method given xs ys x y = (five (numbered d number method (bringing xs given)) (numbered d number method (bringing ys given)) (record {
+    start = refl;
+    via = shown_named d number method given xs ys (codes "Via") refl (x (codes "Via") refl) (y (codes "Via") refl);
+    from = shown_named d number method given xs ys (codes "From") refl (x (codes "From") refl) (y (codes "From") refl);
+    to = shown_named d number method given xs ys (codes "To") refl (x (codes "To") refl) (y (codes "To") refl);
+    call_id = shown_named d number method given xs ys (codes "Call-ID") refl (x (codes "Call-ID") refl) (y (codes "Call-ID") refl);
+    cseq = shown_named d number method given xs ys (codes "CSeq") refl (x (codes "CSeq") refl) (y (codes "CSeq") refl);
+  })).1
+
+  pub shown_heads : ShownLinesHaveNoHead
+  shown_heads f g b c h k m n d number method given =
+      shown_head d number method given (shown_lines f b h m.start m.lines) (shown_lines g c k n.start n.lines) (foreign f b h m) (foreign g c k n)
+
+  -- of attempts with one From
+  attempt_heads : (f : Facing) (b c : Bool) (h k : List Entry) (tag : List ℕ) (m n : Message Start) (d : Dialogue) (number : ℕ) (method : List ℕ) (given : Given)
+      → attempt_from f.restricted tag m.lines ≡ attempt_from f.restricted tag n.lines
+      → head_of (attempt f b h tag m d number method given) ≡ head_of (attempt f c k tag n d number method given)
+  attempt_heads f b c h k tag m n d number method given e =
+      shown_heads f f b c h k m n (called_by f tag m d) number method given
+      ∙ ap (λ (x : Message Start). head_of x) (with_local d number method (showing f c k n given) (attempt_from f.restricted tag m.lines) (attempt_from f.restricted tag n.lines) e)
+
+  pub one_head : AttemptsHaveOneHead
+  one_head f b c h k tag m n d number method given r = attempt_heads f b c h k tag m n d number method given (restricted_from f tag m n r)
+
+  pub entries_head : EntriesHaveNoHead
+  entries_head es other f b c h k tag m n d number method given e = attempt_heads f b c h k tag m n d number method given (entries_from es other f.restricted tag m n e)

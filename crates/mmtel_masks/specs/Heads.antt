@@ -1,0 +1,32 @@
+-- What transactions read of a message without its private places (RFC 3261 §17.1.3, §17.2.3): whichever places are private, it is what they read of the message.
+use Rattle.std.specs.Prelude.{◌≡◌, ℕ, List}
+use Rattle.mmtel_message.specs.Message.{Line, Message}
+use Rattle.mmtel_message.specs.declared.messages.Start.{Start}
+use Rattle.mmtel_transaction.specs.Heads.{head_of}
+use Rattle.mmtel_trust.specs.Digest.{HeardMessage}
+use Rattle.mmtel_trust.specs.Mask.{Places, masked, masked_lines}
+use Rattle.mmtel_trust.specs.MaskedMessages.{hide}
+
+-- the masked message has the head of the message
+abbrev pub MessagesKeepTheirHead : Type 0
+MessagesKeepTheirHead = (p : Places) (m : Message Start) → head_of (masked p m) ≡ head_of m
+
+-- a message of these lines
+abbrev pub of_lines : Start → List Line → List ℕ → Message Start
+of_lines start ls body = record { start = start; lines = ls; body = body }
+
+-- so have lines that are masked by any places, as those of a response may be in a request, and with any body
+abbrev pub LinesKeepTheirHead : Type 0
+LinesKeepTheirHead = (p : Places) (start : Start) (ls : List Line) (body other : List ℕ) → head_of (of_lines start (masked_lines p ls) body) ≡ head_of (of_lines start ls other)
+
+-- two messages that are equal when masked, each by its own places, have one head
+abbrev pub AlikeHaveOneHead : Type 0
+AlikeHaveOneHead = (p q : Places) (m n : Message Start) → masked p m ≡ masked q n → head_of m ≡ head_of n
+
+-- the message that was heard
+abbrev pub message_of : HeardMessage → Message Start
+message_of m = of_lines m.start m.lines m.body
+
+-- and so have two that are equal when masked as they were heard
+abbrev pub HeardAlikeHaveOneHead : Type 0
+HeardAlikeHaveOneHead = (p q : Places) (m n : HeardMessage) → hide p m ≡ hide q n → head_of (message_of m) ≡ head_of (message_of n)

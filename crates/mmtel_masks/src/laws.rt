@@ -1,0 +1,67 @@
+//! Laws of masked messages: each is the contract of a function that does nothing.
+ghost use Rattle.mmtel_masks.specs.Dialogs.{AlikeDialogsDifferInRemote, AlikeSpeakersHaveOneName, ContactDecides, DialogsDifferInRemote, NumbersStay, RemotesDifferInTarget, RoutesStay, TagsStay, TargetsAreNobodys};
+ghost use Rattle.mmtel_masks.specs.Heads.{AlikeHaveOneHead, HeardAlikeHaveOneHead, LinesKeepTheirHead, MessagesKeepTheirHead};
+ghost use Rattle.mmtel_masks.specs.Requests.{AttemptsAreHidden, AttemptsHaveOneHead, EntriesAreHidden, EntriesHaveNoHead, ForeignLinesHaveNoHead, RelayedAreHidden, ShownLinesHaveNoHead};
+ghost use Rattle.mmtel_masks.specs.Responses.{AlikeResponsesAreEqual, AlikeResponsesHaveOneHead, AreMasked, RelayedHaveOneHead, SeeFromAlone};
+ghost use Rattle.mmtel_masks.specs.Worked.{HeadsOfInvites, MaskedInvites, RemotesOfInvites};
+
+use mmtel_transaction::laws::heads_rest_on_five_names;
+
+/// What transactions read of a message rests on none of its private places, whichever these are:
+/// so two messages that are equal when masked, each by its own places, have one head (RFC 3261 §17.1.3, §17.2.3).
+pub fn heads_see_no_private_place()
+    ensures messages { MessagesKeepTheirHead }
+    ensures lines { LinesKeepTheirHead }
+    ensures alike { AlikeHaveOneHead }
+    ensures heard { HeardAlikeHaveOneHead }
+{
+    heads_rest_on_five_names();
+}
+
+/// What the server answers to a masked request is what it answers to the request, masked: of the private places From alone is in it (RFC 3261 §8.2.6.2).
+/// So responses to requests that are equal when masked have one head, and are equal where From is not private.
+pub fn responses_are_masked()
+    ensures see_from { SeeFromAlone }
+    ensures masked { AreMasked }
+    ensures one_head { AlikeResponsesHaveOneHead }
+    ensures relayed { RelayedHaveOneHead }
+    ensures equal { AlikeResponsesAreEqual }
+{
+    heads_rest_on_five_names();
+}
+
+/// The names of a dialog, the way to the other side and its numbers are read of masked lines as of the lines, whatever is private;
+/// the target is nobody where Contact is private, and stays where it is not (RFC 3261 §12.1.1, §12.1.2, §12.2.1.1).
+pub fn dialogs_keep_their_names()
+    ensures tags { TagsStay }
+    ensures routes { RoutesStay }
+    ensures numbers { NumbersStay }
+    ensures remotes { RemotesDifferInTarget }
+    ensures target { ContactDecides }
+    ensures nobody { TargetsAreNobodys }
+    ensures taken { DialogsDifferInRemote }
+    ensures alike { AlikeSpeakersHaveOneName }
+    ensures taken_alike { AlikeDialogsDifferInRemote }
+{}
+
+/// What the server asks of a peer for a restricted sender:
+/// an untrusted peer gets the same request of messages that are equal when masked, and a trusted one a request of the same head.
+/// Where only entries of History-Info are private it is so of any sender (RFC 3323 §4.1, RFC 3325 §7, RFC 7044 §10.1).
+pub fn requests_hide_their_sender()
+    ensures attempts { AttemptsAreHidden }
+    ensures relayed { RelayedAreHidden }
+    ensures one_head { AttemptsHaveOneHead }
+    ensures foreign { ForeignLinesHaveNoHead }
+    ensures shown { ShownLinesHaveNoHead }
+    ensures entries { EntriesAreHidden }
+    ensures entries_head { EntriesHaveNoHead }
+{
+    heads_rest_on_five_names();
+}
+
+/// An INVITE with and without a wish for privacy computes: what is left of it when it is masked, its head, and what a leg reads of it.
+pub fn rows_compute()
+    ensures masked { MaskedInvites }
+    ensures heads { HeadsOfInvites }
+    ensures remotes { RemotesOfInvites }
+{}

@@ -1,0 +1,9 @@
+//! What the layers above the header table read and build of a message without its private places: laws alone. Two runs whose messages are equal when masked go on alike by these.
+#![tactic(auto)]
+
+mod laws;
+
+pub use laws::{
+    dialogs_keep_their_names, heads_see_no_private_place, requests_hide_their_sender,
+    responses_are_masked, rows_compute,
+};

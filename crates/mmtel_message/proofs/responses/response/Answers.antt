@@ -1,0 +1,9 @@
+use Rattle.std.proofs.Common.{refl}
+use Rattle.mmtel_message.specs.Responses.{response}
+use Rattle.mmtel_message.proofs.responses.response.Goals as goal
+
+pub returns : goal.returns
+unfolding response
+returns c = record {
+  message = rw (c.of-3.ensures, c.in_ok-add_added.ensures, c.in_ok-add_heard.ensures, c.new-out.ensures, c.tag_due.ensures, c.in_ok-phrase.ensures, c.in_ok-body.ensures, ← c.reply.view_is) refl;
+}

@@ -1,0 +1,71 @@
+//! How the server names itself in what it sends (RFC 3261 §8.1.1.7, §8.1.1.8).
+ghost use Rattle.std.specs.Prelude.{◌≡◌, IfOk};
+ghost use Rattle.mmtel_message.specs.Addresses.{addr_text, contact_text, ip_text, via_text};
+
+use mmtel_scan::{NoMemory, Text, add_number};
+use mmtel_types::Addr;
+use std::alloc::Global;
+
+/// The text of an IPv4 address, `a.b.c.d`.
+///
+/// # Errors
+///
+/// Want of memory alone.
+pub fn ip_text(alloc: Global, ip: [u8; 4]) -> Result<Text, NoMemory>
+    ensures text { IfOk result (λ t. t ≡ ip_text ip) }
+{
+    let mut out = Text::new();
+    add_number(alloc, &mut out, u64::from(ip[0]))?;
+    out.push(alloc, b".")?;
+    add_number(alloc, &mut out, u64::from(ip[1]))?;
+    out.push(alloc, b".")?;
+    add_number(alloc, &mut out, u64::from(ip[2]))?;
+    out.push(alloc, b".")?;
+    add_number(alloc, &mut out, u64::from(ip[3]))?;
+    Ok(out)
+}
+
+/// The text of an address, `a.b.c.d:port`.
+///
+/// # Errors
+///
+/// Want of memory alone.
+pub fn addr_text(alloc: Global, addr: Addr) -> Result<Text, NoMemory>
+    ensures text { IfOk result (λ t. t ≡ addr_text addr) }
+{
+    let mut out = ip_text(alloc, addr.ip)?;
+    out.push(alloc, b":")?;
+    add_number(alloc, &mut out, u64::from(addr.port))?;
+    Ok(out)
+}
+
+/// The server's Via value over UDP, with a branch behind its cookie `z9hG4bK` (RFC 3261 §8.1.1.7).
+///
+/// # Errors
+///
+/// Want of memory alone.
+pub fn via_text(alloc: Global, sip: Addr, branch: &[u8]) -> Result<Text, NoMemory>
+    ensures text { IfOk result (λ t. t ≡ via_text sip branch.now) }
+{
+    let addr = addr_text(alloc, sip)?;
+    let mut out = Text::of(alloc, b"SIP/2.0/UDP ")?;
+    out.push(alloc, addr.bytes())?;
+    out.push(alloc, b";branch=z9hG4bK")?;
+    out.push(alloc, branch)?;
+    Ok(out)
+}
+
+/// The server's Contact value, `<sip:a.b.c.d:port>` (RFC 3261 §8.1.1.8).
+///
+/// # Errors
+///
+/// Want of memory alone.
+pub fn contact_text(alloc: Global, sip: Addr) -> Result<Text, NoMemory>
+    ensures text { IfOk result (λ t. t ≡ contact_text sip) }
+{
+    let addr = addr_text(alloc, sip)?;
+    let mut out = Text::of(alloc, b"<sip:")?;
+    out.push(alloc, addr.bytes())?;
+    out.push(alloc, b">")?;
+    Ok(out)
+}

@@ -1,0 +1,123 @@
+//! The header lines of a message that the server builds, one behind another.
+ghost use Rattle.std.specs.Prelude.{◌≡◌, ◌++◌, IfOk, OnErr, OnOk, decimal};
+ghost use Rattle.mmtel_message.specs.Message.{line, named};
+
+use crate::messages::{Line, is_line};
+use mmtel_scan::{List, NoMemory, Text, add_number};
+use std::alloc::Global;
+
+/// Adds a header line.
+///
+/// # Errors
+///
+/// Want of memory alone; the list is then as before.
+#[tactic(auto, unfolding(crate::specs::Message::line))]
+pub fn add_line(
+    alloc: Global,
+    out: &mut List<Line>,
+    name: &[u8],
+    value: Text,
+) -> Result<(), NoMemory>
+    ensures added { OnOk result (out.new ≡ out.old ++ line name.now value) }
+    ensures refused { OnErr result (out.new ≡ out.old) }
+{
+    let name = Text::of(alloc, name)?;
+    out.push(alloc, (name, value))?;
+    Ok(())
+}
+
+/// Adds a header line of these bytes.
+///
+/// # Errors
+///
+/// Want of memory alone; the list is then as before.
+pub fn add_bytes(
+    alloc: Global,
+    out: &mut List<Line>,
+    name: &[u8],
+    value: &[u8],
+) -> Result<(), NoMemory>
+    ensures added { OnOk result (out.new ≡ out.old ++ line name.now value.now) }
+    ensures refused { OnErr result (out.new ≡ out.old) }
+{
+    let value = Text::of(alloc, value)?;
+    add_line(alloc, out, name, value)
+}
+
+/// Adds a header line of a number.
+///
+/// # Errors
+///
+/// Want of memory alone; the list is then as before.
+pub fn add_decimal(
+    alloc: Global,
+    out: &mut List<Line>,
+    name: &[u8],
+    number: u64,
+) -> Result<(), NoMemory>
+    ensures added { OnOk result (out.new ≡ out.old ++ line name.now (decimal number)) }
+    ensures refused { OnErr result (out.new ≡ out.old) }
+{
+    let mut value = Text::new();
+    add_number(alloc, &mut value, number)?;
+    add_line(alloc, out, name, value)
+}
+
+/// The same lines.
+#[tactic(auto, unfolding(crate::specs::Message::line))]
+fn lines_copied(alloc: Global, lines: &[Line]) -> Result<List<Line>, NoMemory>
+    ensures { IfOk result (λ ls. ls ≡ lines.now) }
+{
+    let mut copy = List::new();
+    for line in lines {
+        add_bytes(alloc, &mut copy, line.0.bytes(), line.1.bytes())?;
+    }
+    Ok(copy)
+}
+
+/// The lines of the name, as they stand.
+#[tactic(auto, unfolding(crate::specs::Message::line))]
+pub fn lines_named(alloc: Global, name: &[u8], lines: &[Line]) -> Result<List<Line>, NoMemory>
+    ensures { IfOk result (λ ls. ls ≡ named name.now lines.now) }
+{
+    let mut copy = List::new();
+    for line in lines {
+        if is_line(line, name) {
+            add_bytes(alloc, &mut copy, line.0.bytes(), line.1.bytes())?;
+        }
+    }
+    Ok(copy)
+}
+
+/// Adds the lines that are passed on, in their order.
+///
+/// # Errors
+///
+/// Want of memory alone; the list is then as before.
+pub fn add_passed(alloc: Global, out: &mut List<Line>, passed: &[Line]) -> Result<(), NoMemory>
+    ensures added { OnOk result (out.new ≡ out.old ++ passed.now) }
+    ensures refused { OnErr result (out.new ≡ out.old) }
+{
+    let copy = lines_copied(alloc, passed)?;
+    out.extend(alloc, copy)?;
+    Ok(())
+}
+
+/// Adds those of the lines that have the name, as they stand and in their order.
+///
+/// # Errors
+///
+/// Want of memory alone; the list is then as before.
+pub fn add_named(
+    alloc: Global,
+    out: &mut List<Line>,
+    name: &[u8],
+    lines: &[Line],
+) -> Result<(), NoMemory>
+    ensures added { OnOk result (out.new ≡ out.old ++ named name.now lines.now) }
+    ensures refused { OnErr result (out.new ≡ out.old) }
+{
+    let copy = lines_named(alloc, name, lines)?;
+    out.extend(alloc, copy)?;
+    Ok(())
+}

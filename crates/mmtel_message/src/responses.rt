@@ -1,0 +1,317 @@
+//! Responses to requests (RFC 3261 §8.2.6, §12.1.1 and §18.2.1).
+ghost use Rattle.std.specs.Prelude.{◌≡◌, ◌∷◌, ◌++◌, Some, IfOk, OnOk, codes, map};
+ghost use Rattle.mmtel_lex.specs.Reading.{name_addr_of};
+ghost use Rattle.mmtel_message.specs.Responses.{added_lines, contact_lines, makes_dialog, names_contact, own_lines, response, route_lines};
+ghost use Rattle.mmtel_message.specs.Responses.{call_lines, completed_lines, has_tag, heard_lines, party_lines, tag_due, tagged, to_line, to_value, via_lines};
+
+use crate::building::{add_bytes, add_decimal, add_line, add_named, add_passed, lines_named};
+use crate::faults::is_method;
+use crate::messages::{Line, Msg, Start};
+use crate::vias::completed;
+use mmtel_lex::{LexFault, param_value, read_name_addr};
+use mmtel_scan::{List, NoMemory, Text};
+use mmtel_types::Addr;
+use std::alloc::Global;
+use std::marker::Model;
+
+/// What a response has that its request does not say.
+#[derive(Drop)]
+pub struct Reply<'a> {
+    /// The status, 100 to 699.
+    pub code: u16,
+    /// Its phrase.
+    pub phrase: &'a [u8],
+    /// The server's tag for a To that has none; no bytes where none is due. A 100 never has it.
+    pub tag: &'a [u8],
+    /// Where the request came from, where the first Via is to say so.
+    pub source: Option<Addr>,
+    /// The value of Contact, which stands in 101 to 299 of an INVITE and in 202 of a REFER.
+    pub contact: &'a [u8],
+    /// Lines that are passed on.
+    pub passed: &'a [Line],
+    /// Lines that are named for this response, as Allow, Unsupported, Retry-After and Content-Type.
+    pub named: &'a [Line],
+    /// The body.
+    pub body: &'a [u8],
+}
+
+impl<'a> Model for Reply<'a> {
+    ghost use Rattle.mmtel_message.specs.Responses.{Reply};
+
+    ghost Value = { Reply };
+
+    ghost view = { λ r. record { code = r.code; phrase = r.phrase.now; tag = r.tag.now; source = r.source; contact = r.contact.now; passed = r.passed.now; named = r.named.now; body = r.body.now } };
+}
+
+/// Adds Via lines, the first completed.
+#[tactic(auto, unfolding(crate::specs::Message::line))]
+fn add_completed(
+    alloc: Global,
+    out: &mut List<Line>,
+    source: Addr,
+    vias: &[Line],
+) -> Result<(), NoMemory>
+    ensures { OnOk result (out.new ≡ out.old ++ completed_lines (Some source) vias.now) }
+{
+    match vias {
+        [] => Ok(()),
+        [first, further @ ..] => {
+            let value = completed(alloc, source, first.1.bytes())?;
+            add_line(alloc, out, first.0.bytes(), value)?;
+            add_passed(alloc, out, further)
+        }
+    }
+}
+
+/// Adds the Via lines of a request.
+#[tactic(auto, unfolding(crate::specs::Responses::via_lines))]
+fn add_vias(
+    alloc: Global,
+    out: &mut List<Line>,
+    source: Option<Addr>,
+    lines: &[Line],
+) -> Result<(), NoMemory>
+    ensures { OnOk result (out.new ≡ out.old ++ via_lines source lines.now) }
+{
+    match source {
+        None => add_named(alloc, out, b"Via", lines),
+        Some(source) => {
+            let vias = lines_named(alloc, b"Via", lines)?;
+            add_completed(alloc, out, source, vias.items())
+        }
+    }
+}
+
+/// Whether a To value has a tag.
+fn has_tag(alloc: Global, value: &[u8]) -> Result<bool, NoMemory>
+    ensures { IfOk result (λ b. b ≡ has_tag (name_addr_of value.now)) }
+{
+    match read_name_addr(alloc, value) {
+        Ok(name) => Ok(param_value(name.params.items(), b"tag").is_some()),
+        Err(LexFault::Malformed { at: _ }) => Ok(false),
+        Err(LexFault::NoMemory) => Err(NoMemory),
+    }
+}
+
+/// A From or To value with a tag put behind it (RFC 3261 §19.3).
+///
+/// # Errors
+///
+/// Want of memory alone.
+pub fn tagged(alloc: Global, value: Text, tag: &[u8]) -> Result<Text, NoMemory>
+    ensures value { IfOk result (λ t. t ≡ tagged value tag.now) }
+{
+    let mut out = value;
+    out.push(alloc, b";tag=")?;
+    out.push(alloc, tag)?;
+    Ok(out)
+}
+
+/// A To value with the server's tag, where it has none and one is given.
+fn to_value(alloc: Global, tag: &[u8], value: &[u8]) -> Result<Text, NoMemory>
+    ensures { IfOk result (λ t. t ≡ to_value tag.now value.now) }
+{
+    match tag {
+        [] => Text::of(alloc, value),
+        _ => {
+            if has_tag(alloc, value)? {
+                return Text::of(alloc, value);
+            }
+            let value = Text::of(alloc, value)?;
+            tagged(alloc, value, tag)
+        }
+    }
+}
+
+/// Adds To lines.
+#[tactic(auto, unfolding(crate::specs::Message::line))]
+fn add_to(alloc: Global, out: &mut List<Line>, tag: &[u8], lines: &[Line]) -> Result<(), NoMemory>
+    ensures { OnOk result (out.new ≡ out.old ++ map (to_line tag.now) lines.now) }
+{
+    for line in lines {
+        let value = to_value(alloc, tag, line.1.bytes())?;
+        add_line(alloc, out, line.0.bytes(), value)?;
+    }
+    Ok(())
+}
+
+/// Adds From and To.
+#[tactic(auto, unfolding(crate::specs::Responses::party_lines))]
+fn add_parties(
+    alloc: Global,
+    out: &mut List<Line>,
+    tag: &[u8],
+    lines: &[Line],
+) -> Result<(), NoMemory>
+    ensures { OnOk result (out.new ≡ out.old ++ party_lines tag.now lines.now) }
+{
+    let to = lines_named(alloc, b"To", lines)?;
+    add_named(alloc, out, b"From", lines)?;
+    add_to(alloc, out, tag, to.items())
+}
+
+/// Adds Call-ID and CSeq.
+#[tactic(auto, unfolding(crate::specs::Responses::call_lines))]
+fn add_call(alloc: Global, out: &mut List<Line>, lines: &[Line]) -> Result<(), NoMemory>
+    ensures { OnOk result (out.new ≡ out.old ++ call_lines lines.now) }
+{
+    add_named(alloc, out, b"Call-ID", lines)?;
+    add_named(alloc, out, b"CSeq", lines)
+}
+
+/// Adds what is as received.
+#[tactic(auto, unfolding(crate::specs::Responses::heard_lines))]
+fn add_heard(
+    alloc: Global,
+    out: &mut List<Line>,
+    source: Option<Addr>,
+    tag: &[u8],
+    lines: &[Line],
+) -> Result<(), NoMemory>
+    ensures { OnOk result (out.new ≡ out.old ++ heard_lines source tag.now lines.now) }
+{
+    add_vias(alloc, out, source, lines)?;
+    add_parties(alloc, out, tag, lines)?;
+    add_call(alloc, out, lines)
+}
+
+/// Whether a response of the code to a request with the start line makes a dialog (RFC 3261 §12.1.1).
+fn makes_dialog(code: u16, start: &Start) -> bool
+    ensures { result ≡ makes_dialog code start.now }
+{
+    code >= 101 && code <= 299 && is_method(b"INVITE", start)
+}
+
+/// Whether it says where the server is reached.
+fn names_contact(code: u16, start: &Start) -> bool
+    ensures { result ≡ names_contact code start.now }
+{
+    makes_dialog(code, start) || (code == 202 && is_method(b"REFER", start))
+}
+
+/// Adds Record-Route, where the response makes a dialog.
+#[tactic(auto, unfolding(crate::specs::Responses::route_lines))]
+fn add_routes(
+    alloc: Global,
+    out: &mut List<Line>,
+    code: u16,
+    start: &Start,
+    lines: &[Line],
+) -> Result<(), NoMemory>
+    ensures { OnOk result (out.new ≡ out.old ++ route_lines code start.now lines.now) }
+{
+    if makes_dialog(code, start) {
+        return add_named(alloc, out, b"Record-Route", lines);
+    }
+    Ok(())
+}
+
+/// Adds Contact, where it is due.
+#[tactic(auto, unfolding(crate::specs::Responses::contact_lines))]
+fn add_contact(
+    alloc: Global,
+    out: &mut List<Line>,
+    code: u16,
+    start: &Start,
+    contact: &[u8],
+) -> Result<(), NoMemory>
+    ensures { OnOk result (out.new ≡ out.old ++ contact_lines code start.now contact.now) }
+{
+    if names_contact(code, start) {
+        return add_bytes(alloc, out, b"Contact", contact);
+    }
+    Ok(())
+}
+
+/// Adds the lines of the response's own.
+#[tactic(auto, unfolding(crate::specs::Responses::own_lines))]
+fn add_own(
+    alloc: Global,
+    out: &mut List<Line>,
+    passed: &[Line],
+    named: &[Line],
+    body: &[u8],
+) -> Result<(), NoMemory>
+    ensures { OnOk result (out.new ≡ out.old ++ own_lines passed.now named.now body.now) }
+{
+    add_passed(alloc, out, passed)?;
+    add_passed(alloc, out, named)?;
+    add_decimal(alloc, out, b"Content-Length", body.len() as u64)
+}
+
+/// Adds what the server says.
+#[tactic(auto, unfolding(crate::specs::Responses::added_lines))]
+fn add_added(
+    alloc: Global,
+    out: &mut List<Line>,
+    code: u16,
+    start: &Start,
+    lines: &[Line],
+    contact: &[u8],
+    passed: &[Line],
+    named: &[Line],
+    body: &[u8],
+) -> Result<(), NoMemory>
+    ensures { OnOk result (out.new ≡ out.old ++ added_lines code start.now lines.now contact.now passed.now named.now body.now) }
+{
+    add_routes(alloc, out, code, start, lines)?;
+    add_contact(alloc, out, code, start, contact)?;
+    add_own(alloc, out, passed, named, body)
+}
+
+/// The tag of a response of this code.
+fn tag_due(code: u16, tag: &[u8]) -> &[u8]
+    ensures { result.now ≡ tag_due code tag.now }
+{
+    if code == 100 {
+        return b"";
+    }
+    tag
+}
+
+/// The response to a request with this start line and these lines: its Via lines, the first completed where the source is given (RFC 3261 §18.2.1, RFC 3581 §4);
+/// From, Call-ID and CSeq as received, and To with the server's tag where it has none (§8.2.6.2);
+/// where the response makes a dialog, Record-Route as received and Contact (§12.1.1); and what the reply has.
+///
+/// # Errors
+///
+/// Want of memory alone.
+#[tactic(auto, unfolding(crate::specs::Responses::response))]
+pub fn response(
+    alloc: Global,
+    start: &Start,
+    lines: &[Line],
+    reply: &Reply<'_>,
+) -> Result<Msg, NoMemory>
+    ensures message { IfOk result (λ m. m ≡ response start.now lines.now reply.now) }
+{
+    let mut out = List::new();
+    add_heard(
+        alloc,
+        &mut out,
+        reply.source,
+        tag_due(reply.code, reply.tag),
+        lines,
+    )?;
+    add_added(
+        alloc,
+        &mut out,
+        reply.code,
+        start,
+        lines,
+        reply.contact,
+        reply.passed,
+        reply.named,
+        reply.body,
+    )?;
+    let phrase = Text::of(alloc, reply.phrase)?;
+    let body = Text::of(alloc, reply.body)?;
+    Ok(Msg::of(
+        Start::Status {
+            code: reply.code,
+            phrase,
+        },
+        out,
+        body,
+    ))
+}

@@ -1,0 +1,6 @@
+-- What public clauses cite, the laws among them.
+pub mod Laws
+pub mod Parties
+pub mod Routing
+-- What private functions cite.
+pub mod Named

@@ -1,0 +1,45 @@
+-- The way of an attempt: which Route values it keeps, and to which peer it goes (RFC 3261 §16.4 and §16.6, loose routing).
+use Rattle.std.specs.Prelude.{ℕ, ◌==◌, Bool, false, ◌&&◌, Option, Some, None, List, [], ◌∷◌, drop, if◌then◌else◌}
+use Rattle.std.specs.Option.{unwrap_or}
+use Rattle.std.specs.Str.{bytes_eq}
+use Rattle.mmtel_lex.specs.declared.values.Uri.{Uri}
+use Rattle.mmtel_lex.specs.declared.values.Uri.TheVariants.{Sip, Tel}
+use Rattle.mmtel_message.specs.Addresses.{ip_text}
+use Rattle.mmtel_types.specs.declared.addrs.Addr.{Addr}
+use Rattle.mmtel_types.specs.declared.numbers.Peer.{Peer}
+use Rattle.mmtel_trust.specs.Asserted.{uri_in}
+use Rattle.mmtel_trust.specs.Peers.{route_of}
+use Rattle.mmtel_trust.specs.declared.parties.Route.{Route}
+
+-- ---- the values that are kept
+
+-- the URI names the server's address; 5060 is meant where it has no port (RFC 3261 §19.1.2)
+abbrev pub names_server : Addr → Uri → Bool
+names_server sip (Sip user host port params headers) = bytes_eq host (ip_text sip.ip) && unwrap_or port 5060 == sip.port
+names_server sip (Tel number params) = false
+
+abbrev pub is_own : Addr → Option Uri → Bool
+is_own sip None = false
+is_own sip (Some uri) = names_server sip uri
+
+-- the first value names the server
+abbrev pub begins_with_own : Addr → List (List ℕ) → Bool
+begins_with_own sip [] = false
+begins_with_own sip (value ∷ values) = is_own sip (uri_in value)
+
+-- the Route values that each attempt keeps: without a first one that names the server (RFC 3261 §16.4)
+abbrev pub kept_routes : Addr → List (List ℕ) → List (List ℕ)
+kept_routes sip values = if begins_with_own sip values then drop 1 values else values
+
+-- ---- the peer
+
+-- the peer to which a Route value leads: none where it is no sip URI
+abbrev pub led_to : List Route → Option Uri → Option Peer
+led_to table None = None
+led_to table (Some (Sip user host port params headers)) = route_of (Sip user host port params headers) table
+led_to table (Some (Tel number params)) = None
+
+-- the peer of the first of these Route values; without any, that of the target
+abbrev pub next_hop : List Route → (values : List (List ℕ)) → (target : Uri) → Option Peer
+next_hop table [] target = route_of target table
+next_hop table (value ∷ values) target = led_to table (uri_in value)

@@ -1,0 +1,56 @@
+//! Laws of the definitions that contracts cite: each is the contract of a function that does nothing.
+ghost use Rattle.std.specs.Prelude.{◌≡◌, ◌++◌, ◌∷◌, true, false, List, ℕ, Some};
+ghost use Rattle.mmtel_lex.specs.declared.values.NameAddr.{NameAddr};
+ghost use Rattle.mmtel_lex.specs.declared.values.Param.{Param};
+ghost use Rattle.mmtel_lex.specs.declared.values.Uri.TheVariants.{Tel};
+ghost use Rattle.mmtel_message.specs.Message.{Line, Message};
+ghost use Rattle.mmtel_message.specs.declared.messages.Start.{Start};
+ghost use Rattle.mmtel_targets.specs.Targets.{new_target};
+ghost use Rattle.mmtel_trust.specs.Accounts.{account_of};
+ghost use Rattle.mmtel_trust.specs.Digest.{HeardMessage, Originating, Terminating, caller_account, case_of, heard, served_account, served_by, served_origin};
+ghost use Rattle.mmtel_trust.specs.MaskedMessages.{Restriction, mask, public_part};
+ghost use Rattle.mmtel_trust.specs.declared.accounts.AccountIdentity.{AccountIdentity};
+ghost use Rattle.mmtel_parties.specs.Laws.{AllNameAlike, AreDigits, NamesUser, served_line, unbelieved};
+ghost use Rattle.mmtel_parties.specs.Parties.{account_in, origin_served, parties_of};
+
+use mmtel_trust::equal_masks_decide_alike;
+
+/// Nobody but a trusted peer is believed: the caller of another has no account, both sides are served, the target's account is that of the Request-URI,
+/// and nothing is said of its registration.
+pub fn strangers_are_not_believed()
+    ensures parties { (accounts : List AccountIdentity) (m : Message Start) → parties_of accounts (heard false m) ≡ unbelieved accounts m.start }
+{}
+
+/// Of several P-Served-User lines the first counts: what stands behind it changes nothing of what is said of the user,
+/// and nothing of who is served as the caller.
+pub fn first_served_user_counts()
+    ensures said { (before after : List Line) (value : List ℕ) → served_line before ≡ Some value → served_by (served_line (before ++ after)) ≡ served_by (served_line before) }
+    ensures origin { (before after : List Line) (value : List ℕ) → served_line before ≡ Some value → served_origin (before ++ after) ≡ served_origin before }
+{}
+
+/// The user whom a trusted peer names as served decides alone for its side: the account of that side is the user's, or none,
+/// whoever the caller is and whatever was requested.
+pub fn served_user_alone_decides()
+    ensures origin { (es : List AccountIdentity) (m : Message Start) (user : NameAddr) → NamesUser m user → case_of user.params ≡ Originating → (parties_of es (heard true m)).origin ≡ account_in es user.uri }
+    ensures target { (es : List AccountIdentity) (m : Message Start) (user : NameAddr) → NamesUser m user → case_of user.params ≡ Terminating → (parties_of es (heard true m)).target ≡ account_in es user.uri }
+{}
+
+/// The origin that is served is the account whose record restricts the caller.
+pub fn served_origin_restricts()
+    ensures account { (accounts : List AccountIdentity) (m : HeardMessage) → origin_served (parties_of accounts m) ≡ served_account accounts m }
+{}
+
+/// Nothing private decides of the parties but the account of the caller: two messages that are equal in what is never private,
+/// and whose callers are of one account, have the same parties; so have two messages of equal masks.
+pub fn parties_rest_on_the_mask()
+    ensures public { (es : List AccountIdentity) (m n : HeardMessage) → public_part m ≡ public_part n → caller_account es m ≡ caller_account es n → parties_of es m ≡ parties_of es n }
+    ensures masked { (restricts : Restriction) (es : List AccountIdentity) (m n : HeardMessage) → mask restricts es m ≡ mask restricts es n → parties_of es m ≡ parties_of es n }
+{
+    equal_masks_decide_alike();
+}
+
+/// A global number and the target that is made of it are of one account, where each identity of an account names both alike:
+/// where no sip URI has the number as its user but one of the home domain that says `user=phone`.
+pub fn numbers_are_found_alike()
+    ensures account { (es : List AccountIdentity) (home ds : List ℕ) (ps : List Param) → AreDigits ds → AllNameAlike es home ds → account_of es (new_target home (Tel (43 ∷ ds) ps)) ≡ account_of es (Tel (43 ∷ ds) ps) }
+{}

@@ -1,0 +1,64 @@
+-- What the values of the program tell: accounts and targets as they stand, diversions, turns and ends of attempts.
+use Rattle.std.specs.Prelude.{ℕ}
+use Rattle.std.specs.Option.{option_map}
+use Rattle.mmtel_sheet_values.specs.declared.values.Sheet.{Sheet}
+use Rattle.mmtel_precedence.specs.declared.attempts.AttemptEnd.{AttemptEnd}
+use Rattle.mmtel_precedence.specs.declared.attempts.AttemptEnd.TheVariants as ends
+use Rattle.mmtel_precedence.specs.declared.endings.CallFacts.{CallFacts}
+use Rattle.mmtel_precedence.specs.declared.reaches.Reached.{Reached}
+use Rattle.mmtel_precedence.specs.declared.reaches.ServedAccount.{ServedAccount}
+use Rattle.mmtel_precedence.specs.declared.turns.AfterEnding.{AfterEnding}
+use Rattle.mmtel_precedence.specs.declared.turns.AfterEnding.TheVariants as afters
+use Rattle.mmtel_precedence.specs.declared.turns.Onward.{Onward}
+use Rattle.mmtel_precedence.specs.declared.turns.Turn as program
+use Rattle.mmtel_precedence.specs.declared.turns.Turn.TheVariants as turns
+use Rattle.mmtel_precedence.specs.Services.{AccountState, DueDiversion}
+use Rattle.mmtel_precedence.specs.Calls.{End, Answer, Cancel, UserBusy, NotReachable, NoReply, Deflection, Other, Reach}
+use Rattle.mmtel_precedence.specs.Turns.{Turn, TurnOffer, TurnDivert, TurnRefuse, AfterEnd, EndAnswered, EndDivert, EndRefuse}
+
+-- the account as it stands, with this record
+abbrev pub standing : CallFacts → Sheet → AccountState
+standing c sheet = record { sheet = sheet; registered = c.registered; live = c.live }
+
+-- the account that is served
+abbrev pub told_account : ServedAccount → AccountState
+told_account a = record { sheet = a.sheet.now; registered = a.registered; live = a.live }
+
+-- a target at this moment
+abbrev pub told_reach : (now : ℕ) → Reached → Reach
+told_reach now r = record { at = now; served = option_map told_account r.served; is_unknown = r.is_unknown; has_no_peer = r.has_no_peer }
+
+-- a diversion
+abbrev pub told_due : Onward → DueDiversion
+told_due d = record {
+  forward = record {
+    target = d.target.now;
+    notify_caller = d.notify_caller;
+    reveal_to_caller = d.reveal_to_caller;
+    reveal_served_to_caller = d.reveal_served_to_caller;
+    reveal_to_target = d.reveal_to_target;
+  };
+  cause = d.cause;
+}
+
+-- a turn at a target
+abbrev pub told_turn : program.Turn → Turn
+told_turn (turns.Offer waiting) = TurnOffer waiting
+told_turn (turns.Divert due) = TurnDivert (told_due due)
+told_turn (turns.Refuse cause) = TurnRefuse cause
+
+-- and after an attempt
+abbrev pub told_after : AfterEnding → AfterEnd
+told_after afters.Answered = EndAnswered
+told_after (afters.Divert due) = EndDivert (told_due due)
+told_after (afters.Refuse cause) = EndRefuse cause
+
+-- the end of an attempt
+abbrev pub told_end : AttemptEnd → End
+told_end ends.Answered = Answer
+told_end ends.Cancelled = Cancel
+told_end (ends.UserBusy code) = UserBusy code
+told_end (ends.NotReachable code) = NotReachable code
+told_end ends.NoReply = NoReply
+told_end (ends.Deflected target rang) = Deflection target.now rang
+told_end (ends.Other code) = Other code

@@ -1,0 +1,45 @@
+//! Targets as they stand when a call reaches them.
+ghost use Rattle.std.specs.Prelude.{◌≡◌};
+ghost use Rattle.mmtel_precedence.specs.Targets.{party_of};
+
+use mmtel_lex::Uri;
+use mmtel_rules::Identities2;
+use mmtel_sheet_values::Sheet;
+
+/// The account that is served at a target, as it stands when the call reaches it.
+#[derive(Clone, Copy)]
+pub struct ServedAccount<'a> {
+    /// Its record.
+    pub sheet: &'a Sheet,
+    /// It is registered.
+    pub registered: bool,
+    /// Its calls that are not over, as caller or as called party, without the attempt that is to be made.
+    pub live: u32,
+}
+
+/// A target as it stands when the call reaches it.
+#[derive(Clone, Copy)]
+pub struct Reached<'a> {
+    /// The account that is served there, if one is.
+    pub served: Option<ServedAccount<'a>>,
+    /// It is of the home domain and no account's, as `is_unknown` of a target says.
+    pub is_unknown: bool,
+    /// No peer leads to it.
+    pub has_no_peer: bool,
+}
+
+/// The URI as the only identity of a party, as which the outgoing barring of an account is asked of a new target. It takes no memory.
+pub fn party_of(uri: Uri) -> Identities2
+    ensures exact { result ≡ party_of uri }
+{
+    match uri {
+        Uri::Sip { .. } => Identities2 {
+            sip: Some(uri),
+            tel: None,
+        },
+        Uri::Tel { .. } => Identities2 {
+            sip: None,
+            tel: Some(uri),
+        },
+    }
+}

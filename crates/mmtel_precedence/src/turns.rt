@@ -1,0 +1,174 @@
+//! What is done next with a call.
+ghost use Rattle.std.specs.Prelude.{◌≡◌, option_and_then};
+ghost use Rattle.std.specs.Option.{option_copied};
+ghost use Rattle.mmtel_types.specs.declared.causes.Cause.TheVariants.{Relayed};
+ghost use Rattle.mmtel_rules.specs.Circumstances.{known};
+ghost use Rattle.mmtel_precedence.specs.Services.{DueDiversion, due_on};
+ghost use Rattle.mmtel_precedence.specs.Targets.{deflected_to};
+ghost use Rattle.mmtel_precedence.specs.Told.{told_after, told_due, told_end, told_reach, told_turn};
+ghost use Rattle.mmtel_precedence.specs.Turns.{deflection_by, divert_or_refuse, offer_turn, turn_at, turn_by, turn_on};
+ghost use Rattle.mmtel_precedence.specs.Verdicts.{shown};
+
+use crate::attempts::AttemptEnd;
+use crate::deciding::arrived;
+use crate::reaches::Reached;
+use crate::verdicts::Verdict;
+use mmtel_diversion::{choose, deflect};
+use mmtel_lex::Uri;
+use mmtel_rules::{Facts, When};
+use mmtel_sheet_values::{Forward, Sheet};
+use mmtel_types::Cause;
+
+/// A diversion that is due: where the call goes, who is told what of it, and why. It is made unless `go_on` refuses it.
+#[derive(Clone, Copy)]
+pub struct Onward<'a> {
+    /// The target, as the rule or the device names it.
+    pub target: &'a Uri,
+    /// The caller is told that the call is diverted.
+    pub notify_caller: bool,
+    /// The caller is told where to.
+    pub reveal_to_caller: bool,
+    /// The caller is told by whom.
+    pub reveal_served_to_caller: bool,
+    /// The target is told by whom.
+    pub reveal_to_target: bool,
+    /// Why (RFC 4458 §2).
+    pub cause: u16,
+}
+
+/// What is done with a call at a target that it reached.
+#[derive(Clone, Copy)]
+pub enum Turn<'a> {
+    /// It is offered to the target.
+    Offer {
+        /// The user has another call already, so this one waits (communication waiting).
+        waiting: bool,
+    },
+    /// A diversion is due.
+    Divert(Onward<'a>),
+    /// It is refused.
+    Refuse(Cause),
+}
+
+/// What is done with a call after an attempt that ended.
+#[derive(Clone, Copy)]
+pub enum AfterEnding<'a> {
+    /// It is answered.
+    Answered,
+    /// A diversion is due.
+    Divert(Onward<'a>),
+    /// It is refused.
+    Refuse(Cause),
+}
+
+/// The diversion that a rule asks for.
+fn by_rule(forward: &Forward, cause: u16) -> Onward<'_>
+    ensures { told_due result ≡ record { forward = forward.now; cause = cause } }
+{
+    Onward {
+        target: &forward.target,
+        notify_caller: forward.notify_caller,
+        reveal_to_caller: forward.reveal_to_caller,
+        reveal_served_to_caller: forward.reveal_served_to_caller,
+        reveal_to_target: forward.reveal_to_target,
+        cause,
+    }
+}
+
+/// The diversion by the target's device, which hides nothing.
+fn by_device(target: &Uri, cause: u16) -> Onward<'_>
+    ensures { told_due result ≡ deflected_to target.now cause }
+{
+    Onward {
+        target,
+        notify_caller: true,
+        reveal_to_caller: true,
+        reveal_served_to_caller: true,
+        reveal_to_target: true,
+        cause,
+    }
+}
+
+/// A target that no service refused: it may still be nobody's, or out of reach.
+fn offer_unless(is_unknown: bool, has_no_peer: bool, waiting: bool) -> Turn<'static>
+    ensures { told_turn result ≡ offer_turn is_unknown has_no_peer waiting }
+{
+    if is_unknown {
+        return Turn::Refuse(Cause::NoAccount);
+    }
+    if has_no_peer {
+        return Turn::Refuse(Cause::NoRoute);
+    }
+    Turn::Offer { waiting }
+}
+
+/// The turn at a target where the services of its account decided so.
+fn turn_by(verdict: Verdict<'_>, is_unknown: bool, has_no_peer: bool) -> Turn<'_>
+    ensures { told_turn result ≡ turn_by (shown verdict.entry) is_unknown has_no_peer }
+{
+    match verdict {
+        Verdict::Offer { waiting } => offer_unless(is_unknown, has_no_peer, waiting),
+        Verdict::Divert {
+            forward: Some(forward),
+            cause,
+        } => Turn::Divert(by_rule(forward, cause)),
+        Verdict::Divert { forward: None, .. } => Turn::Refuse(Cause::Relayed(480)),
+        Verdict::Refuse(cause) => Turn::Refuse(cause),
+    }
+}
+
+/// What is done with a call at a target that it reached: what the services of the account decide that is served there, as `verdict` says;
+/// then, whoever is served, a target of the home domain that is no account's is refused, and one to which no peer leads.
+/// The facts name the caller as the other party. It takes no memory.
+pub fn turn_at<'a>(f: &Facts, r: &Reached<'a>) -> Turn<'a>
+    ensures exact { let facts = f.entry.now in told_turn result ≡ turn_at (known facts) (told_reach facts.now r.entry.now) }
+{
+    match &r.served {
+        None => offer_unless(r.is_unknown, r.has_no_peer, false),
+        Some(account) => turn_by(arrived(f, account), r.is_unknown, r.has_no_peer),
+    }
+}
+
+/// The diversion that the rules of the record ask for at this moment, else the refusal for this cause.
+fn rule_or<'a>(f: &Facts, s: Option<&'a Sheet>, when: When, cause: Cause) -> AfterEnding<'a>
+    ensures { let facts = f.entry.now in told_after result ≡ divert_or_refuse (option_and_then (due_on (known facts) when) (option_copied s.entry)) cause }
+{
+    let Some(sheet) = s else {
+        return AfterEnding::Refuse(cause);
+    };
+    match choose(sheet, f, when) {
+        None => AfterEnding::Refuse(cause),
+        Some(diversion) => AfterEnding::Divert(by_rule(diversion.forward, diversion.cause)),
+    }
+}
+
+/// The deflection to this target, where the record allows it, else the refusal by a 480.
+fn deflection_or<'a>(s: Option<&'a Sheet>, target: &'a Uri, rang: bool) -> AfterEnding<'a>
+    ensures { told_after result ≡ divert_or_refuse (option_and_then (deflection_by target.now rang) (option_copied s.entry)) (Relayed 480) }
+{
+    let Some(sheet) = s else {
+        return AfterEnding::Refuse(Cause::Relayed(480));
+    };
+    match deflect(sheet, rang) {
+        None => AfterEnding::Refuse(Cause::Relayed(480)),
+        Some(cause) => AfterEnding::Divert(by_device(target, cause)),
+    }
+}
+
+/// What is done with a call after an attempt that ended: it is answered, or refused since its caller gave up; else the rules for that ending come first, and then its cause.
+/// The sheet is the record under which it was offered, None where the target is of no account; the facts name the caller as the other party. It takes no memory.
+pub fn turn_on<'a>(f: &Facts, s: Option<&'a Sheet>, e: &AttemptEnd<'a>) -> AfterEnding<'a>
+    ensures exact { let facts = f.entry.now in told_after result ≡ turn_on (known facts) (option_copied s.entry) (told_end e.entry.now) }
+{
+    match *e {
+        AttemptEnd::Answered => AfterEnding::Answered,
+        AttemptEnd::Cancelled => AfterEnding::Refuse(Cause::Cancelled),
+        AttemptEnd::UserBusy(code) => rule_or(f, s, When::Busy, Cause::Relayed(code)),
+        AttemptEnd::NotReachable(code) => {
+            rule_or(f, s, When::NotReachable, Cause::Unreachable(code))
+        }
+        AttemptEnd::NoReply => rule_or(f, s, When::NoAnswer, Cause::NoReply),
+        AttemptEnd::Deflected { target, rang } => deflection_or(s, target, rang),
+        AttemptEnd::Other(code) => AfterEnding::Refuse(Cause::Relayed(code)),
+    }
+}

@@ -1,0 +1,31 @@
+-- What is known of a call when rules are asked of it: all that a condition may be about (RFC 4745 §6 and §7, TS 24.604 §4.9.1), and which event happened stands beside it.
+--
+-- The definitions above hand it on whole. What a further kind of condition is about is one more field here, and changes none of them.
+use Rattle.std.specs.Prelude.{ℕ, Bool, List}
+use Rattle.mmtel_sheet_values.specs.declared.values.Who.{Who}
+use Rattle.mmtel_rules.specs.Identities.{has_identity, identity_holds}
+use Rattle.mmtel_rules.specs.declared.values.Facts.{Facts}
+use Rattle.mmtel_rules.specs.declared.values.Identities2.{Identities2}
+
+pub record Circumstances : Type 0 where
+  -- of the other party, which is the caller, or the target where a call is barred on its way out: whether the identity part of a condition is true of it, and whether it has an identity at all
+  pub asks : Who → Bool
+  pub has_identity : Bool
+  -- the caller hides who it is
+  pub restricted : Bool
+  -- the kinds of media that are offered
+  pub media : List (List ℕ)
+  -- the moment
+  pub now : ℕ
+
+-- what the facts of the program tell: of the identities of the other party only which conditions are true of it, and whether it has any
+abbrev pub known : Facts → Circumstances
+known f = record { asks = identity_holds f.caller.now; has_identity = has_identity f.caller.now; restricted = f.restricted; media = f.media.now; now = f.now }
+
+-- the same circumstances, with these answers of the other party
+abbrev pub asked : Circumstances → (Who → Bool) → Circumstances
+asked k asks = record k { asks = asks }
+
+-- the same circumstances, where the other party has these identities
+abbrev pub of_party : Identities2 → Circumstances → Circumstances
+of_party i k = record k { asks = identity_holds i; has_identity = has_identity i }

@@ -1,0 +1,4 @@
+mod Deeds
+mod Enough
+mod Kinship
+mod Secret

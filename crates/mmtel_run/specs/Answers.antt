@@ -1,0 +1,73 @@
+-- The answers that the server makes of its own (RFC 3261 §8.2, §8.2.6, §20.5, §20.40).
+use Rattle.std.specs.Prelude.{ℕ, ◌+◌, Bool, not, if◌then◌else◌, List, [], map, filter, codes, Option, Some, is_none}
+use Rattle.std.specs.Str.{bytes_eq}
+use Rattle.mmtel_answers.specs.Answers.{allowed, own_answer}
+use Rattle.mmtel_answers.specs.Said.{Said, phrase_in, status_of}
+use Rattle.mmtel_message.specs.Addresses.{contact_text}
+use Rattle.mmtel_message.specs.Message.{Line, Message, first_value}
+use Rattle.mmtel_message.specs.Responses.{response}
+use Rattle.mmtel_message.specs.declared.messages.Start.{Start}
+use Rattle.mmtel_scan.specs.Numbers.{token_text}
+use Rattle.mmtel_trust.specs.Digest.{HeardMessage, tag_of}
+use Rattle.mmtel_types.specs.declared.addrs.Addr.{Addr}
+
+-- ---- what is answered
+
+-- a status, and the lines that this answer has of its own
+pub record Answer : Type 0 where
+  pub code : ℕ
+  pub named : List Line
+
+abbrev pub plainly : ℕ → Answer
+plainly code = record { code = code; named = [] }
+
+-- with the methods that the server knows (§20.5)
+abbrev pub allowing : ℕ → Answer
+allowing code = record { code = code; named = allowed }
+
+-- the options that a request requires and the server does not support, in received order (§8.2.2.3); of RFC 7044 it supports `histinfo`
+abbrev pub is_unsupported : List ℕ → Bool
+is_unsupported option = not (bytes_eq option (codes "histinfo"))
+
+abbrev pub unsupported : HeardMessage → List (List ℕ)
+unsupported message = filter (λ option. is_unsupported option) message.required
+
+abbrev pub unsupported_line : List ℕ → Line
+unsupported_line option = (codes "Unsupported", option)
+
+-- 420, with a line for each of them (§20.40)
+abbrev pub without_extension : HeardMessage → Answer
+without_extension message = record { code = 420; named = map unsupported_line (unsupported message) }
+
+-- ---- the tag
+
+-- how many numbers a response to a request draws: one for the tag of a To that has none (§8.2.6.2)
+abbrev pub tags_due : Option (List ℕ) → ℕ
+tags_due to_tag = if is_none to_tag then 1 else 0
+
+-- that tag, where so many numbers were drawn before; no bytes where none is due
+abbrev pub tag_for : (token : List ℕ) → (drawn : ℕ) → Option (List ℕ) → List ℕ
+tag_for token drawn to_tag = if is_none to_tag then token_text token (drawn + 1) else []
+
+-- ---- the response
+
+-- to what was said
+abbrev pub response_to : (sip : Addr) → (tag : List ℕ) → Said → Answer → Message Start
+response_to sip tag said answer = own_answer (contact_text sip) said tag answer.code [] answer.named []
+
+-- the tag of To in these lines
+abbrev pub to_tag_in : List Line → Option (List ℕ)
+to_tag_in lines = tag_of (first_value (codes "To") lines)
+
+-- the reply to bytes that were refused as they were read, completed for the peer that they came from (§8.2.6.2, §18.2.1)
+abbrev pub completed_reply : (tag : List ℕ) → (source : Addr) → Message Start → Message Start
+completed_reply tag source reply = response reply.start reply.lines (record {
+  code = status_of reply.start;
+  phrase = phrase_in reply.start;
+  tag = tag;
+  source = Some source;
+  contact = [];
+  passed = [];
+  named = [];
+  body = [];
+})

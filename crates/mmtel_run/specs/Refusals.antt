@@ -1,0 +1,128 @@
+-- What is done with a request that opens a transaction: the first refusal that applies (RFC 3261 §8.2), or what its method asks for. It reads public parts alone.
+use Rattle.std.specs.Prelude.{ℕ, Bool, true, false, not, ◌&&◌, ◌==◌, if◌then◌else◌, List, [], ◌∷◌, length, codes, Option, Some, None, is_none, is_some, Ok, Err}
+use Rattle.std.specs.List.{list_all, list_any}
+use Rattle.std.specs.declared.result.Result.{Result}
+use Rattle.mmtel_answers.specs.Attempts.{first_aim}
+use Rattle.mmtel_answers.specs.declared.attempts.Aim.{Aim}
+use Rattle.mmtel_directory.specs.declared.directories.Directory.{Directory}
+use Rattle.mmtel_leg.specs.Dialogues.{request_uri}
+use Rattle.mmtel_lex.specs.Reading.{uri_of, Refusal, foreign, malformed}
+use Rattle.mmtel_lex.specs.declared.values.Uri.{Uri}
+use Rattle.mmtel_lex.specs.declared.values.Uri.TheVariants.{Sip, Tel}
+use Rattle.mmtel_message.specs.Faults.{is_method}
+use Rattle.mmtel_message.specs.declared.messages.Start.{Start}
+use Rattle.mmtel_parties.specs.Routing.{kept_routes, names_server, next_hop}
+use Rattle.mmtel_scan.specs.Classes.{in_class}
+use Rattle.mmtel_scan.specs.Numbers.{leads_zero}
+use Rattle.mmtel_scan.specs.Scanning.{after_text}
+use Rattle.mmtel_scan.specs.declared.classes.Class.TheVariants.{Digit}
+use Rattle.mmtel_trust.specs.Digest.{HeardMessage}
+use Rattle.mmtel_trust.specs.MaskedMessages.{public_part}
+use Rattle.mmtel_types.specs.declared.addrs.Addr.{Addr}
+use Rattle.mmtel_types.specs.declared.numbers.Peer.{Peer}
+use Rattle.mmtel_run.specs.Answers.{Answer, allowing, plainly, unsupported, without_extension}
+
+-- ---- what may be done
+
+pub data Course : Type 0 where
+  -- it is answered
+  Refuse : (answer : Answer) → Course
+  -- it opens a call, whose first attempt goes there
+  Open : (aim : Aim) → Course
+  -- it is of a form that is not built yet
+  Unbuilt : Course
+
+-- ---- the refusals
+
+-- the methods that the server knows (§20.5)
+abbrev pub known_methods : List (List ℕ)
+known_methods = codes "INVITE" ∷ codes "ACK" ∷ codes "CANCEL" ∷ codes "BYE" ∷ codes "OPTIONS" ∷ codes "REGISTER" ∷ codes "REFER" ∷ []
+
+abbrev pub is_known_method : Start → Bool
+is_known_method start = list_any (λ name. is_method name start) known_methods
+
+abbrev pub is_foreign_uri : Result Uri Refusal → Bool
+is_foreign_uri (Ok uri) = false
+is_foreign_uri (Err malformed) = false
+is_foreign_uri (Err foreign) = true
+
+-- a Request-URI of a scheme other than sip and tel (§8.2.2.1)
+unfoldable pub is_foreign : Start → Bool
+is_foreign start = is_foreign_uri (uri_of (request_uri start))
+
+abbrev pub is_last_hop : Option ℕ → Bool
+is_last_hop None = false
+is_last_hop (Some hops) = hops == 0
+
+-- each refusal with its condition, in their order. `merged` says that another live transaction has its From tag, Call-ID and CSeq (§8.2.2.2); no dialog is live yet, so a To tag is of none
+abbrev pub refusals : (merged : Bool) → HeardMessage → List (Bool × Answer)
+refusals merged message =
+    (not (is_known_method message.start), allowing 405) ∷
+    (is_foreign message.start, plainly 416) ∷
+    (is_last_hop message.hops, plainly 483) ∷
+    (is_some message.to_tag, plainly 481) ∷
+    (is_none message.to_tag && merged, plainly 482) ∷
+    (not (length (unsupported message) == 0), without_extension message) ∷ []
+
+abbrev pub first_that_applies : List (Bool × Answer) → Option Answer
+first_that_applies [] = None
+first_that_applies (refusal ∷ others) = if refusal.0 then Some refusal.1 else first_that_applies others
+
+-- ---- INVITE
+
+-- the number of a conference room, without leading zeros
+abbrev pub is_room_number : Option (List ℕ) → Bool
+is_room_number None = false
+is_room_number (Some digits) = not (leads_zero digits) && (not (length digits == 0) && list_all (in_class Digit) digits)
+
+abbrev pub is_room_user : Option (List ℕ) → Bool
+is_room_user None = false
+is_room_user (Some user) = is_room_number (after_text (codes "room-") user)
+
+abbrev pub is_room : (sip : Addr) → Uri → Bool
+is_room sip (Sip user host port params headers) = names_server sip (Sip user host port params headers) && is_room_user user
+is_room sip (Tel number params) = false
+
+-- the peer to which a target leads, by the first Route value that is kept or else by itself; None where none does, or where the target is a room of the server
+abbrev pub peer_for : Directory → (routes : List (List ℕ)) → Result Uri Refusal → Option Peer
+peer_for directory routes (Ok target) = if is_room directory.sip target then None else next_hop directory.peers.routes routes target
+peer_for directory routes (Err refusal) = None
+
+abbrev pub opening_to : (routes : List (List ℕ)) → HeardMessage → Option Peer → Course
+opening_to routes message None = Unbuilt
+opening_to routes message (Some peer) = Open (first_aim peer routes message)
+
+-- where the Request-URI leads, with the Route values behind a first one that names the server
+abbrev pub opening_by : Directory → (routes : List (List ℕ)) → HeardMessage → Course
+opening_by directory routes message = opening_to routes message (peer_for directory routes (uri_of (request_uri message.start)))
+
+-- it opens a call where its target has a peer; a diverted one is not built yet
+abbrev pub invited : Directory → (diverted : Bool) → HeardMessage → Course
+invited directory diverted message = if diverted then Unbuilt else opening_by directory (kept_routes directory.sip message.routes) message
+
+-- ---- what is not refused
+
+-- by its method: OPTIONS is answered, BYE and REFER are of a dialog, and REGISTER is not built yet
+abbrev pub by_method : Directory → (diverted : Bool) → HeardMessage → Course
+by_method directory diverted message =
+    if is_method (codes "OPTIONS") message.start then Refuse (allowing 200)
+    else if is_method (codes "BYE") message.start then Refuse (plainly 481)
+    else if is_method (codes "REFER") message.start then Refuse (plainly 403)
+    else if is_method (codes "INVITE") message.start then invited directory diverted message
+    else Unbuilt
+
+abbrev pub course_by : Directory → (diverted : Bool) → HeardMessage → Option Answer → Course
+course_by directory diverted message None = by_method directory diverted message
+course_by directory diverted message (Some answer) = Refuse answer
+
+-- the first refusal that applies decides, and without one the method
+abbrev pub course_of : Directory → (merged diverted : Bool) → HeardMessage → Course
+course_of directory merged diverted message = course_by directory diverted message (first_that_applies (refusals merged message))
+
+-- it has History-Info: it was diverted before (RFC 7044 §5)
+abbrev pub is_diverted : HeardMessage → Bool
+is_diverted message = not (length message.history == 0)
+
+-- of its public part, and of whether it was diverted
+unfoldable pub course : Directory → (merged : Bool) → HeardMessage → Course
+course directory merged message = course_of directory merged (is_diverted message) (public_part message)

@@ -1,0 +1,13 @@
+use Rattle.std.proofs.Common.{◌≡◌, ◌≤◌, ◌+◌, length}
+use Rattle.mmtel_directory.specs.Lines.{lines_of}
+use Rattle.mmtel_script.specs.Tellings.{telling}
+use Rattle.mmtel_script.proofs.scripts.read_lines.Given as goal
+
+abbrev pub invariant-lines : goal.invariant-lines
+invariant-lines l = record {
+  same : telling l.peers.known 1 l.fn.told (lines_of l.fn.bytes) ≡ telling l.peers.known l.number l.told (lines_of l.rest);
+  few : l.number + length l.rest ≤ length l.bytes + 1;
+}
+
+abbrev pub decreases-lines : goal.decreases-lines
+decreases-lines l = length l.rest

@@ -1,0 +1,39 @@
+-- What the text of a service record says, as one function of its bytes (3GPP TS 24.623 §5).
+use Rattle.std.specs.Prelude.{◌≡◌, ℕ, List, Option, Some, None, Result, Ok, Err, if◌then◌else◌}
+use Rattle.std.specs.Str.{is_utf8}
+use Rattle.toml.specs.Parse.{parse_document}
+use Rattle.toml.specs.Data.{Members}
+use Rattle.mmtel_sheet_grammar.specs.Answers.{Read}
+use Rattle.mmtel_sheet_grammar.specs.Walk.{sheet_of}
+use Rattle.mmtel_sheet_grammar.specs.declared.faults.SheetFault.{SheetFault}
+use Rattle.mmtel_sheet_grammar.specs.declared.faults.SheetFault.TheVariants.{NotToml, Unknown, Wrong, Many, NoMemory}
+use Rattle.mmtel_sheet_values.specs.declared.values.Sheet.{Sheet}
+use Rattle.mmtel_sheet_values.specs.Sheets.{empty_sheet}
+
+abbrev pub document_read : Option Members → Read Sheet
+document_read None = Err (NotToml 0)
+document_read (Some ms) = sheet_of ms
+
+-- the sheet of the document that the bytes are, or the first fault; what is no TOML has no place here
+unfoldable pub sheet_read : List ℕ → Read Sheet
+sheet_read bytes = if is_utf8 bytes then document_read (parse_document bytes) else Err (NotToml 0)
+
+abbrev pub TellsFault : Read Sheet → SheetFault → Type 0
+TellsFault wanted (NotToml at) = wanted ≡ Err (NotToml 0)
+TellsFault wanted (Unknown key) = wanted ≡ Err (Unknown key)
+TellsFault wanted (Wrong key) = wanted ≡ Err (Wrong key)
+TellsFault wanted (Many key limit) = wanted ≡ Err (Many key limit)
+TellsFault wanted NoMemory = Unit {0}
+
+-- this is answered, but for the place of what is no TOML and for want of memory
+abbrev pub TellsRead : Read Sheet → Read Sheet → Type 0
+TellsRead wanted (Ok s) = wanted ≡ Ok s
+TellsRead wanted (Err e) = TellsFault wanted e
+
+abbrev pub sheet_or_empty : Read Sheet → Sheet
+sheet_or_empty (Ok s) = s
+sheet_or_empty (Err e) = empty_sheet
+
+-- the sheet of a text that was kept: where it is no record, that of an account which never said anything
+abbrev pub kept_sheet : List ℕ → Sheet
+kept_sheet bytes = sheet_or_empty (sheet_read bytes)

@@ -1,0 +1,35 @@
+-- What the document of bytes says is what the bytes say, as one function of them.
+use Rattle.std.proofs.Common.{◌≡◌, ℕ, List, Some, None, Ok, Err, refl, inl, inr, IsUtf8}
+use Rattle.std.proofs.lemmas.Bool.{cases_Bool}
+use Rattle.std.proofs.lemmas.Str.{IsUtf8-from_is_utf8, is_utf8-from_IsUtf8}
+use Rattle.std.specs.Str.{is_utf8}
+use Rattle.toml.specs.Parse.{parse_document}
+use Rattle.toml.specs.Data.{Members}
+use Rattle.mmtel_sheet_grammar.specs.Answers.{Read, Answers}
+use Rattle.mmtel_sheet_grammar.specs.Texts.{sheet_read, document_read, TellsRead}
+use Rattle.mmtel_sheet_grammar.specs.Walk.{sheet_of}
+use Rattle.mmtel_sheet_grammar.specs.declared.faults.SheetFault.TheVariants.{NotToml, Unknown, Wrong, Many, NoMemory}
+use Rattle.mmtel_sheet_values.specs.declared.values.Sheet.{Sheet}
+
+whole : (bytes : List ℕ) (ms : Members) → IsUtf8 bytes → parse_document bytes ≡ Some ms → sheet_read bytes ≡ sheet_of ms
+unfolding sheet_read
+whole bytes ms text parsed = rw (is_utf8-from_IsUtf8 bytes text, parsed) refl
+
+answered_alike : (wanted : Read Sheet) (r : Read Sheet) → Answers wanted r → TellsRead wanted r
+answered_alike wanted (Ok s) a = a
+answered_alike wanted (Err (NotToml at)) a = elim a [ ]
+answered_alike wanted (Err (Unknown k)) a = a
+answered_alike wanted (Err (Wrong k)) a = a
+answered_alike wanted (Err (Many k n)) a = a
+answered_alike wanted (Err NoMemory) a = tt
+
+pub told : (bytes : List ℕ) (ms : Members) (r : Read Sheet) → IsUtf8 bytes → parse_document bytes ≡ Some ms → Answers (sheet_of ms) r → TellsRead (sheet_read bytes) r
+told bytes ms r text parsed a = rw (whole bytes ms text parsed) (answered_alike (sheet_of ms) r a)
+
+pub told_nothing : (bytes : List ℕ) → (IsUtf8 bytes → parse_document bytes ≡ None) → sheet_read bytes ≡ Err (NotToml 0)
+unfolding sheet_read
+told_nothing bytes none =
+    elim (cases_Bool (is_utf8 bytes)) [
+      | inl y ↦ rw (y, none (IsUtf8-from_is_utf8 bytes y)) refl
+      | inr n ↦ rw n refl
+    ]

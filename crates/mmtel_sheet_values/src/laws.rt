@@ -1,0 +1,18 @@
+//! Laws of the records in force: each is the contract of a function that does nothing.
+ghost use Rattle.std.specs.Prelude.{◌≡◌, ◌≢◌, ℕ, Some, IsTrue};
+ghost use Rattle.mmtel_sheet_values.specs.View.{InForce, sheet_in, with_sheet, with_room, has_room};
+ghost use Rattle.mmtel_sheet_values.specs.declared.values.Sheet.{Sheet};
+
+/// A law, and no code: the sheet that is put is the account's from then on, and no other account's changes.
+pub fn putting_changes_one_account()
+    ensures its { (v : InForce) (a : ℕ) (s : Sheet) → sheet_in (with_sheet v a s) a ≡ Some s }
+    ensures others { (v : InForce) (a b : ℕ) (s : Sheet) → a ≢ b → sheet_in (with_sheet v a s) b ≡ sheet_in v b }
+{}
+
+/// A law, and no code: there is room for an account once it was made, and wherever there was room there still is.
+pub fn room_stays()
+    ensures made { (v : InForce) (a : ℕ) → IsTrue (has_room (with_room v a) a) }
+    ensures put { (v : InForce) (a : ℕ) (s : Sheet) → IsTrue (has_room (with_sheet v a s) a) }
+    ensures after_more_room { (v : InForce) (a b : ℕ) → IsTrue (has_room v b) → IsTrue (has_room (with_room v a) b) }
+    ensures after_a_sheet { (v : InForce) (a b : ℕ) (s : Sheet) → IsTrue (has_room v b) → IsTrue (has_room (with_sheet v a s) b) }
+{}

@@ -1,0 +1,5 @@
+-- What public clauses cite.
+pub mod Served
+pub mod Targets
+
+-- What private functions alone cite: nothing.

@@ -1,0 +1,468 @@
+-- Texts that are due to trusted peers decide nothing.
+use Rattle.std.proofs.Common.{◌≡◌, ℕ, suc, ◌+◌, ◌-◌, ◌^◌, List, [], ◌∷◌, ◌++◌, length, refl, true, false, Bool, not, ◌&&◌, ◌||◌, sym, ap, ◌∙◌, arith, map, cond, length-append}
+use Rattle.std.specs.Prelude.{Option, Some, None, option_map, filter, is_some, min, nat_le, ◌==◌}
+use Rattle.std.specs.List.{find, list_any}
+use Rattle.std.specs.Option.{unwrap_or}
+use Rattle.std.proofs.lemmas.List.{map-append}
+use Rattle.std.proofs.lemmas.List.Recursion.{is_count_by}
+use Rattle.mmtel_types.specs.declared.numbers.Peer.{Peer}
+use Rattle.mmtel_message.specs.Message.{Message}
+use Rattle.mmtel_message.specs.Texts.{message_text}
+use Rattle.mmtel_message.specs.declared.messages.Start.{Start}
+use Rattle.mmtel_transaction.specs.Heads.{head_of, is_2xx, is_ack, is_cancel, is_invite, is_provisional}
+use Rattle.mmtel_transaction.specs.declared.heads.Head.{Head}
+use Rattle.mmtel_transaction.specs.declared.entries.Entry.{Entry}
+use Rattle.mmtel_transaction.specs.declared.parts.Part.{Part}
+use Rattle.mmtel_transaction.specs.declared.parts.Part.TheVariants as part
+use Rattle.mmtel_transaction.specs.Deadlines.{resend_at, deadline, ends}
+use Rattle.mmtel_transaction.specs.Changes.{fired, replied, rang, finished, answered, acked, acked_2xx, kept, hit, is_ack_of}
+use Rattle.mmtel_transaction.specs.Calls.{Done, DidBegin, DidHear, DidAsk, DidReply, DidAck, DidFire, offers, step_of, opens, heard_opens, opened, live, is_live, change, heard_change}
+use Rattle.mmtel_transaction.specs.Answers.{Next, by_key, is_of, due_one, sooner, is_before, gives_again, gives_same, is_full, is_invite_of, is_client_of, is_server_of, merged_with, is_other, key_of, next_due, part_of, part_ack, part_request, part_response, peer_of, says, says_due, says_fresh, servers, text_again, then_gives, upcoming_of}
+use Rattle.mmtel_transaction.specs.Table.{settle}
+use Rattle.mmtel_transaction.specs.Belonging.{if_refused, owner}
+use Rattle.mmtel_transaction.specs.Alike.{Alike, AnswerAlike, GoOnAlike, TextsDecideNothing, blank, blank_due, blank_given, blank_heard, blank_if, blank_maybe, next_key}
+use Rattle.mmtel_transaction.specs.declared.words.Due.TheVariants as due
+use Rattle.mmtel_transaction.specs.declared.words.Heard.TheVariants as heard
+use Rattle.mmtel_transaction.specs.declared.words.TKey.{TKey}
+use Rattle.mmtel_transaction.proofs.Lists.{live_more}
+use Rattle.mmtel_transaction.proofs.Standing.{live_hit}
+
+-- ---- a text that is blank
+
+twice : (b : Bool) (t : List ℕ) → blank_if b (blank_if b t) ≡ blank_if b t
+twice true t = refl
+twice false t = refl
+
+twice_maybe : (b : Bool) (o : Option (List ℕ)) → blank_maybe b (blank_maybe b o) ≡ blank_maybe b o
+twice_maybe b None = refl
+twice_maybe b (Some t) = ap (λ (x : List ℕ). Some x) (twice b t)
+
+blank_text : (b : Bool) (s t : List ℕ) → (b ≡ false → s ≡ t) → blank_if b s ≡ blank_if b t
+blank_text true s t e = refl
+blank_text false s t e = e refl
+
+blank_both : (v : Peer → Bool) (b : Bool) (x y x' y' : Entry) → blank v x ≡ blank v x' → blank v y ≡ blank v y' → blank v (cond b x y) ≡ blank v (cond b x' y')
+blank_both v true x y x' y' p q = p
+blank_both v false x y x' y' p q = q
+
+module _ (v : Peer → Bool) where
+  -- a change that sees no text of a trusted peer's
+  abbrev pub Absorbs : (Entry → Entry) → Type 0
+  Absorbs f = (e : Entry) → blank v (f (blank v e)) ≡ blank v (f e)
+
+  again : Absorbs (λ e. e)
+  again e = rw (twice (v e.peer) e.request, twice_maybe (v e.peer) e.last) refl
+
+  absorbs_fired : (s : ℕ) → Absorbs (fired s)
+  absorbs_fired s e = blank_both v (is_some (resend_at e)) _ _ _ _ (rw (twice (v e.peer) e.request, twice_maybe (v e.peer) e.last) refl) (rw (twice (v e.peer) e.request, twice_maybe (v e.peer) e.last) refl)
+
+  absorbs_replied : (s i st : ℕ) (t g : List ℕ) (now : ℕ) → Absorbs (replied s i st t g now)
+  absorbs_replied s i st t g now e =
+      blank_both v (not e.is_server || not (e.done == 0)) _ _ _ _ (again e)
+      (blank_both v (is_provisional st) _ _ _ _ (rw (twice (v e.peer) e.request) refl) (rw (twice (v e.peer) e.request) refl))
+
+  absorbs_rang : (s now : ℕ) → Absorbs (rang s now)
+  absorbs_rang s now e = blank_both v (e.is_early || not (e.done == 0)) _ _ _ _ (again e) (rw (twice (v e.peer) e.request, twice_maybe (v e.peer) e.last) refl)
+
+  absorbs_finished : (s st now : ℕ) → Absorbs (finished s st now)
+  absorbs_finished s st now e =
+      blank_both v (not (is_invite e.asked)) _ _ _ _ (rw (twice (v e.peer) e.request, twice_maybe (v e.peer) e.last) refl)
+      (blank_both v (not (e.done == 0)) _ _ _ _ (rw (twice (v e.peer) e.request, twice_maybe (v e.peer) e.last) refl) (rw (twice (v e.peer) e.request, twice_maybe (v e.peer) e.last) refl))
+
+  absorbs_answered : (s st now : ℕ) → Absorbs (answered s st now)
+  absorbs_answered s st now e = blank_both v (is_provisional st) _ _ _ _ (absorbs_rang s now e) (absorbs_finished s st now e)
+
+  absorbs_acked : (s now : ℕ) → Absorbs (acked s now)
+  absorbs_acked s now e = blank_both v e.is_acked _ _ _ _ (again e) (rw (twice (v e.peer) e.request, twice_maybe (v e.peer) e.last) refl)
+
+  absorbs_acked_2xx : (s : ℕ) (m : Head) → Absorbs (acked_2xx s m)
+  absorbs_acked_2xx s m e = blank_both v (is_ack_of m e) _ _ _ _ (rw (twice (v e.peer) e.request, twice_maybe (v e.peer) e.last) refl) (again e)
+
+  absorbs_kept : (t : List ℕ) → Absorbs (kept t)
+  absorbs_kept t e = blank_both v (not e.is_server && e.is_refused) _ _ _ _ (rw (twice (v e.peer) e.request) refl) (again e)
+
+  absorbs_hit : (k : ℕ) (f : Entry → Entry) → Absorbs f → Absorbs (hit k f)
+  absorbs_hit k f a e = blank_both v (e.key == k) _ _ _ _ (a e) (again e)
+
+  absorbs_heard : (s : ℕ) (m : Message Start) (now : ℕ) (t : Part) → Absorbs (heard_change s m now t)
+  absorbs_heard s m now part.Fresh = again
+  absorbs_heard s m now part.Full = again
+  absorbs_heard s m now (part.Repeat k) = again
+  absorbs_heard s m now (part.Same k) = again
+  absorbs_heard s m now (part.Answer k) = absorbs_hit k (answered s (head_of m).status now) (absorbs_answered s (head_of m).status now)
+  absorbs_heard s m now (part.Acked k) = absorbs_hit k (acked s now) (absorbs_acked s now)
+  absorbs_heard s m now part.AckOf2xx = absorbs_acked_2xx s (head_of m)
+  absorbs_heard s m now part.Stray = again
+
+  -- so what is equal but for those texts stays so
+  carried : (f : Entry → Entry) → Absorbs f → (e x : Entry) → blank v e ≡ blank v x → blank v (f e) ≡ blank v (f x)
+  carried f a e x q = sym (a e) ∙ (ap (λ (y : Entry). blank v (f y)) q ∙ a x)
+
+  other_reply : (s i st : ℕ) (t u g : List ℕ) (now : ℕ) (e : Entry) → (v e.peer ≡ false → t ≡ u) → blank v (replied s i st t g now e) ≡ blank v (replied s i st u g now e)
+  other_reply s i st t u g now e q =
+      blank_both v (not e.is_server || not (e.done == 0)) _ _ _ _ refl
+      (blank_both v (is_provisional st) _ _ _ _ (rw (blank_text (v e.peer) t u q) refl) (rw (blank_text (v e.peer) t u q) refl))
+
+  other_kept : (t u : List ℕ) (e : Entry) → (v e.peer ≡ false → t ≡ u) → blank v (kept t e) ≡ blank v (kept u e)
+  other_kept t u e q = blank_both v (not e.is_server && e.is_refused) _ _ _ _ (rw (blank_text (v e.peer) t u q) refl) refl
+
+  -- ---- look-ups
+
+  find_blank : (p : Entry → Bool) → ((e : Entry) → p (blank v e) ≡ p e) → (es : List Entry) → find p (map (blank v) es) ≡ option_map (blank v) (find p es)
+  find_blank p q [] = refl
+  find_blank p q (e ∷ es) = rw (q e, find_blank p q es) (found (p e) e (find p es))
+    where
+      found : (b : Bool) (e : Entry) (o : Option Entry) → cond b (Some (blank v e)) (option_map (blank v) o) ≡ option_map (blank v) (cond b (Some e) o)
+      found true e o = refl
+      found false e o = refl
+
+  any_blank : (p : Entry → Bool) → ((e : Entry) → p (blank v e) ≡ p e) → (es : List Entry) → list_any p (map (blank v) es) ≡ list_any p es
+  any_blank p q [] = refl
+  any_blank p q (e ∷ es) = rw (q e, any_blank p q es) refl
+
+  abbrev counts : (Entry → Bool) → List Entry → ℕ
+  counts p [] = 0
+  counts p (e ∷ es) = cond (p e) (1 + counts p es) (counts p es)
+
+  counts_blank : (p : Entry → Bool) → ((e : Entry) → p (blank v e) ≡ p e) → (es : List Entry) → counts p (map (blank v) es) ≡ counts p es
+  counts_blank p q [] = refl
+  counts_blank p q (e ∷ es) = rw (q e, counts_blank p q es) refl
+
+  servers_blank : (es : List Entry) → servers (map (blank v) es) ≡ servers es
+  servers_blank es =
+      sym (is_count_by (counts (λ e. e.is_server)) (λ e. e.is_server) refl (λ x xs. refl) (map (blank v) es))
+      ∙ (counts_blank (λ e. e.is_server) (λ e. refl) es ∙ is_count_by (counts (λ e. e.is_server)) (λ e. e.is_server) refl (λ x xs. refl) es)
+
+  ack_blank : (o : Option Entry) → part_ack (option_map (blank v) o) ≡ part_ack o
+  ack_blank None = refl
+  ack_blank (Some e) = refl
+
+  request_blank : (b : Bool) (o : Option Entry) → part_request b (option_map (blank v) o) ≡ part_request b o
+  request_blank b None = refl
+  request_blank b (Some e) = refl
+
+  response_blank : (m : Head) (o : Option Entry) → part_response m (option_map (blank v) o) ≡ part_response m o
+  response_blank m None = refl
+  response_blank m (Some e) = refl
+
+  part_blank : (m : Head) (es : List Entry) → part_of m (map (blank v) es) ≡ part_of m es
+  part_blank m es = rw (
+    find_blank (is_server_of m) (λ e. refl) es,
+    find_blank (is_client_of m) (λ e. refl) es,
+    servers_blank es,
+    ack_blank (find (is_server_of m) es),
+    request_blank (is_full es) (find (is_server_of m) es),
+    response_blank m (find (is_client_of m) es),
+  ) refl
+
+  key_blank : (k : ℕ) (es : List Entry) → by_key k (map (blank v) es) ≡ option_map (blank v) (by_key k es)
+  key_blank k es = find_blank (is_of k) (λ e. refl) es
+
+  -- to which transaction a message belongs
+  refused_blank : (o : Option Entry) → if_refused (option_map (blank v) o) ≡ option_map (blank v) (if_refused o)
+  refused_blank None = refl
+  refused_blank (Some e) = either e.is_refused
+    where
+      either : (b : Bool) → cond b (Some (blank v e)) None ≡ option_map (blank v) (cond b (Some e) None)
+      either true = refl
+      either false = refl
+
+  picked : (r a c : Bool) (x o i : Option Entry) → cond r (option_map (blank v) x) (cond a (if_refused (option_map (blank v) o)) (cond c (option_map (blank v) i) (option_map (blank v) o))) ≡ option_map (blank v) (cond r x (cond a (if_refused o) (cond c i o)))
+  picked true a c x o i = refl
+  picked false true c x o i = refused_blank o
+  picked false false true x o i = refl
+  picked false false false x o i = refl
+
+  owner_blank : (m : Head) (es : List Entry) → owner m (map (blank v) es) ≡ option_map (blank v) (owner m es)
+  owner_blank m es =
+      rw (find_blank (is_client_of m) (λ e. refl) es, find_blank (is_server_of m) (λ e. refl) es, find_blank (is_invite_of m) (λ e. refl) es)
+      (picked (not m.is_request) (is_ack m) (is_cancel m) (find (is_client_of m) es) (find (is_server_of m) es) (find (is_invite_of m) es))
+
+  -- ---- deadlines
+
+  abbrev pub blank_next : Next → Next
+  blank_next n = record { at = n.at; entry = blank v n.entry }
+
+  one_blank : (now : ℕ) (e : Entry) (o : Option ℕ) → due_one now (blank v e) o ≡ option_map blank_next (due_one now e o)
+  one_blank now e None = refl
+  one_blank now e (Some at) = either (nat_le at now)
+    where
+      either : (b : Bool) → cond b (Some (record { at = at; entry = blank v e })) None ≡ option_map blank_next (cond b (Some (record { at = at; entry = e })) None)
+      either true = refl
+      either false = refl
+
+  sooner_blank : (x y : Option Next) → sooner (option_map blank_next x) (option_map blank_next y) ≡ option_map blank_next (sooner x y)
+  sooner_blank None y = refl
+  sooner_blank (Some x) None = refl
+  sooner_blank (Some x) (Some y) = either (is_before y.at y.entry x.at x.entry)
+    where
+      either : (b : Bool) → Some (cond b (blank_next y) (blank_next x)) ≡ option_map blank_next (Some (cond b y x))
+      either true = refl
+      either false = refl
+
+  next_blank : (now : ℕ) (es : List Entry) → next_due now (map (blank v) es) ≡ option_map blank_next (next_due now es)
+  next_blank now [] = refl
+  next_blank now (e ∷ es) = ap (λ (o : Option Next). sooner (due_one now (blank v e) (deadline e)) o) (next_blank now es) ∙ (ap (λ (o : Option Next). sooner o (option_map blank_next (next_due now es))) (one_blank now e (deadline e)) ∙ sooner_blank (due_one now e (deadline e)) (next_due now es))
+
+  -- ---- what is decided
+
+  given_blank : (p : Peer) (o : Option (List ℕ)) → option_map (blank_given v) (option_map (λ t. (p, t)) (blank_maybe (v p) o)) ≡ option_map (blank_given v) (option_map (λ t. (p, t)) o)
+  given_blank p None = refl
+  given_blank p (Some t) = ap (λ (x : List ℕ). Some (p, x)) (twice (v p) t)
+
+  same_blank : (o : Option Entry) → option_map (blank_given v) (then_gives gives_same (option_map (blank v) o)) ≡ option_map (blank_given v) (then_gives gives_same o)
+  same_blank None = refl
+  same_blank (Some e) = given_blank e.peer e.last
+
+  again_blank : (p : Peer) (o : Option Entry) → option_map (blank_given v) (then_gives (gives_again p) (option_map (blank v) o)) ≡ option_map (blank_given v) (then_gives (gives_again p) o)
+  again_blank p None = refl
+  again_blank p (Some e) = either ((p.0 == e.peer.0) && not e.is_acked && not (is_invite e.asked && is_2xx e.done))
+    where
+      either : (b : Bool) → option_map (blank_given v) (cond b (gives_same (blank v e)) None) ≡ option_map (blank_given v) (cond b (gives_same e) None)
+      either true = given_blank e.peer e.last
+      either false = refl
+
+  merged_blank : (o : Option Entry) (es : List Entry) → merged_with (option_map (blank v) o) (map (blank v) es) ≡ merged_with o es
+  merged_blank None es = refl
+  merged_blank (Some e) es = any_blank (is_other e) (λ x. refl) es
+
+  invite_blank : (o : Option Entry) → option_map key_of (option_map (blank v) o) ≡ option_map key_of o
+  invite_blank None = refl
+  invite_blank (Some e) = refl
+
+  peer_blank : (o : Option Entry) → option_map (λ (e : Entry). e.peer) (option_map (blank v) o) ≡ option_map (λ (e : Entry). e.peer) o
+  peer_blank None = refl
+  peer_blank (Some e) = refl
+
+  step_blank : (o : Option Next) → upcoming_of (option_map blank_next o) ≡ upcoming_of o
+  step_blank None = refl
+  step_blank (Some n) = refl
+
+  fires_blank : (o : Option Next) → next_key (option_map blank_next o) ≡ next_key o
+  fires_blank None = refl
+  fires_blank (Some n) = refl
+
+  or_blank : (o : Option (List ℕ)) → unwrap_or (blank_maybe false o) [] ≡ unwrap_or o []
+  or_blank None = refl
+  or_blank (Some t) = refl
+
+  text_blank : (b s : Bool) (o : Option (List ℕ)) (r : List ℕ) → blank_if b (cond s (unwrap_or (blank_maybe b o) []) (blank_if b r)) ≡ blank_if b (cond s (unwrap_or o []) r)
+  text_blank true s o r = refl
+  text_blank false true o r = or_blank o
+  text_blank false false o r = refl
+
+  says_if : (a b : Bool) (n : Next) (t u : List ℕ) → blank_if (v n.entry.peer) t ≡ blank_if (v n.entry.peer) u
+      → blank_due v (cond a (due.Again n.entry.peer n.at t) (cond b (due.Over (record { 0 = n.entry.key }) n.at) (due.Silent (record { 0 = n.entry.key }) n.entry.asked.branch n.entry.asked.method n.at)))
+      ≡ blank_due v (cond a (due.Again n.entry.peer n.at u) (cond b (due.Over (record { 0 = n.entry.key }) n.at) (due.Silent (record { 0 = n.entry.key }) n.entry.asked.branch n.entry.asked.method n.at)))
+  says_if true b n t u q = ap (λ (x : List ℕ). due.Again n.entry.peer n.at x) q
+  says_if false true n t u q = refl
+  says_if false false n t u q = refl
+
+  says_blank : (o : Option Next) → blank_due v (says_due (option_map blank_next o)) ≡ blank_due v (says_due o)
+  says_blank None = refl
+  says_blank (Some n) = says_if (is_some (resend_at n.entry)) (ends n.entry.plan) n (text_again (blank v n.entry)) (text_again n.entry) (text_blank (v n.entry.peer) n.entry.is_server n.entry.last n.entry.request)
+
+  module _ (g h : List Done) (a : Alike v g h) where
+    abbrev same_key : (k : ℕ) → option_map (blank v) (by_key k (live g)) ≡ option_map (blank v) (by_key k (live h))
+    same_key k = sym (key_blank k (live g)) ∙ (ap (by_key k) a.live ∙ key_blank k (live h))
+
+    taken_like : (m : Head) → part_of m (live g) ≡ part_of m (live h)
+    taken_like m = sym (part_blank m (live g)) ∙ (ap (part_of m) a.live ∙ part_blank m (live h))
+
+    invite_like : (m : Head) → option_map key_of (find (is_invite_of m) (live g)) ≡ option_map key_of (find (is_invite_of m) (live h))
+    invite_like m =
+        let P : List Entry → Option Entry = λ es. find (is_invite_of m) es in
+        sym (invite_blank (P (live g))) ∙ (ap (option_map key_of) (sym (find_blank (is_invite_of m) (λ e. refl) (live g)) ∙ (ap P a.live ∙ find_blank (is_invite_of m) (λ e. refl) (live h))) ∙ invite_blank (P (live h)))
+
+    owner_like : (m : Head) → option_map key_of (owner m (live g)) ≡ option_map key_of (owner m (live h))
+    owner_like m = sym (invite_blank (owner m (live g))) ∙ (ap (option_map key_of) (sym (owner_blank m (live g)) ∙ (ap (owner m) a.live ∙ owner_blank m (live h))) ∙ invite_blank (owner m (live h)))
+
+    again_like : (p : Peer) (k : ℕ) → option_map (blank_given v) (then_gives (gives_again p) (by_key k (live g))) ≡ option_map (blank_given v) (then_gives (gives_again p) (by_key k (live h)))
+    again_like p k = sym (again_blank p (by_key k (live g))) ∙ (ap (λ (o : Option Entry). option_map (blank_given v) (then_gives (gives_again p) o)) (same_key k) ∙ again_blank p (by_key k (live h)))
+
+    same_like : (k : ℕ) → option_map (blank_given v) (then_gives gives_same (by_key k (live g))) ≡ option_map (blank_given v) (then_gives gives_same (by_key k (live h)))
+    same_like k = sym (same_blank (by_key k (live g))) ∙ (ap (λ (o : Option Entry). option_map (blank_given v) (then_gives gives_same o)) (same_key k) ∙ same_blank (by_key k (live h)))
+
+    said_like : (p : Peer) (m : Message Start) (t : Part) → option_map (blank_heard v) (says (length (opened g)) (live g) p m t) ≡ option_map (blank_heard v) (says (length (opened h)) (live h) p m t)
+    said_like p m part.Fresh = ap (λ (n : ℕ). option_map (blank_heard v) (Some (says_fresh n (option_map key_of (find (is_invite_of (head_of m)) (live g))) m))) a.next
+        ∙ ap (λ (o : Option TKey). option_map (blank_heard v) (Some (says_fresh (length (opened h)) o m))) (invite_like (head_of m))
+    said_like p m part.Full = refl
+    said_like p m (part.Repeat k) = ap (λ (o : Option (Peer × List ℕ)). Some (heard.Repeat o)) (again_like p k)
+    said_like p m (part.Same k) = ap (λ (o : Option (Peer × List ℕ)). Some (heard.Repeat o)) (same_like k)
+    said_like p m (part.Answer k) = refl
+    said_like p m (part.Acked k) = refl
+    said_like p m part.AckOf2xx = refl
+    said_like p m part.Stray = refl
+
+    decide : AnswerAlike v g h
+    decide = record {
+      hear = λ p m. said_like p m (part_of (head_of m) (live g)) ∙ ap (λ (t : Part). option_map (blank_heard v) (says (length (opened h)) (live h) p m t)) (taken_like (head_of m));
+      taken = taken_like;
+      invite = invite_like;
+      owner = owner_like;
+      again = again_like;
+      same = same_like;
+      peer = λ k.
+          sym (peer_blank (by_key k (live g))) ∙ (ap (λ (o : Option Entry). option_map (λ (e : Entry). e.peer) o) (same_key k) ∙ peer_blank (by_key k (live h)));
+      merged = λ k.
+          sym (merged_blank (by_key k (live g)) (live g)) ∙ (ap (λ (o : Option Entry). merged_with o (map (blank v) (live g))) (sym (key_blank k (live g))) ∙ (ap (λ (es : List Entry). merged_with (by_key k es) es) a.live ∙ (ap (λ (o : Option Entry). merged_with o (map (blank v) (live h))) (key_blank k (live h)) ∙ merged_blank (by_key k (live h)) (live h))));
+      due = λ now.
+          sym (step_blank (next_due now (live g))) ∙ (ap (λ (o : Option Next). upcoming_of o) (sym (next_blank now (live g)) ∙ (ap (next_due now) a.live ∙ next_blank now (live h))) ∙ step_blank (next_due now (live h)));
+      fires = λ now.
+          sym (fires_blank (next_due now (live g))) ∙ (ap (λ (o : Option Next). next_key o) (sym (next_blank now (live g)) ∙ (ap (next_due now) a.live ∙ next_blank now (live h))) ∙ fires_blank (next_due now (live h)));
+      says = λ now.
+          sym (says_blank (next_due now (live g))) ∙ (ap (λ (o : Option Next). blank_due v (says_due o)) (sym (next_blank now (live g)) ∙ (ap (next_due now) a.live ∙ next_blank now (live h))) ∙ says_blank (next_due now (live h)));
+    }
+
+  -- ---- one more call
+
+  abbrev first_or : Entry → List Entry → Entry
+  first_or d [] = d
+  first_or d (e ∷ es) = e
+
+  abbrev rest : List Entry → List Entry
+  rest [] = []
+  rest (e ∷ es) = es
+
+  no_match : (e : Entry) (es : List Entry) → [] ≡ e ∷ es → ⊥
+  no_match e es q = let n : 0 ≡ suc (length es) = ap (λ (l : List Entry). length l) q in omega (arith, n)
+
+  kept_like : (b c : Bool) (e x : Entry) (es xs : List Entry) → b ≡ c → blank v e ≡ blank v x → map (blank v) es ≡ map (blank v) xs → map (blank v) (cond b (e ∷ es) es) ≡ map (blank v) (cond c (x ∷ xs) xs)
+  kept_like true true e x es xs q p r = rw (p, r) refl
+  kept_like true false e x es xs q p r = absurd cc
+  kept_like false true e x es xs q p r = absurd cc
+  kept_like false false e x es xs q p r = r
+
+  live_like : (e x : Entry) → blank v e ≡ blank v x → is_live e ≡ is_live x
+  live_like e x q = ap (λ (y : Entry). is_live y) q
+
+  filter_like : (f k : Entry → Entry) (es xs : List Entry) → map (blank v) es ≡ map (blank v) xs → ((e x : Entry) → blank v e ≡ blank v x → blank v (f e) ≡ blank v (k x)) → map (blank v) (filter is_live (map f es)) ≡ map (blank v) (filter is_live (map k xs))
+  filter_like f k [] [] q p = refl
+  filter_like f k [] (x ∷ xs) q p = absurd (no_match (blank v x) (map (blank v) xs) q)
+  filter_like f k (e ∷ es) [] q p = absurd (no_match (blank v e) (map (blank v) es) (sym q))
+  filter_like f k (e ∷ es) (x ∷ xs) q p =
+      let one : blank v (f e) ≡ blank v (k x) = p e x (ap (first_or (blank v e)) q) in
+      kept_like (is_live (f e)) (is_live (k x)) (f e) (k x) (filter is_live (map f es)) (filter is_live (map k xs)) (live_like (f e) (k x) one) one (filter_like f k es xs (ap rest q) p)
+
+  settle_like : (key : ℕ) (f k : Entry → Entry) (es xs : List Entry) → map (blank v) es ≡ map (blank v) xs → ((e x : Entry) → by_key key xs ≡ Some x → blank v e ≡ blank v x → blank v (f e) ≡ blank v (k x)) → map (blank v) (settle key f es) ≡ map (blank v) (settle key k xs)
+  settle_like key f k [] [] q p = refl
+  settle_like key f k [] (x ∷ xs) q p = absurd (no_match (blank v x) (map (blank v) xs) q)
+  settle_like key f k (e ∷ es) [] q p = absurd (no_match (blank v e) (map (blank v) es) (sym q))
+  settle_like key f k (e ∷ es) (x ∷ xs) q p = either (e.key == key) (x.key == key) refl (ap (λ (y : Entry). y.key == key) head)
+      (λ b. settle_like key f k es xs (ap rest q) (λ d y r. p d y (rw b r)))
+    where
+      head : blank v e ≡ blank v x
+      head = ap (first_or (blank v e)) q
+
+      either : (b c : Bool) → (x.key == key) ≡ c → b ≡ c → ((x.key == key) ≡ false → map (blank v) (settle key f es) ≡ map (blank v) (settle key k xs))
+          → map (blank v) (cond b (cond (is_live (f e)) (f e ∷ es) es) (e ∷ settle key f es)) ≡ map (blank v) (cond c (cond (is_live (k x)) (k x ∷ xs) xs) (x ∷ settle key k xs))
+      either true true r s ih =
+          let one : blank v (f e) ≡ blank v (k x) = p e x (rw r refl) head in
+          kept_like (is_live (f e)) (is_live (k x)) (f e) (k x) es xs (live_like (f e) (k x) one) one (ap rest q)
+      either true false r s ih = absurd cc
+      either false true r s ih = absurd cc
+      either false false r s ih = rw (head, ih r) refl
+
+  -- what a call leaves of the live transactions, and what it opens
+  abbrev left_by : ℕ → ℕ → ℕ → Done → List Entry → List Entry
+  left_by s i k c es = filter is_live (map (change s i c) es) ++ opens s i k c
+
+  append_like : (ds bs xs ys : List Entry) → map (blank v) ds ≡ map (blank v) xs → map (blank v) bs ≡ map (blank v) ys → map (blank v) (ds ++ bs) ≡ map (blank v) (xs ++ ys)
+  append_like ds bs xs ys p q = rw (map-append (blank v) ds bs, map-append (blank v) xs ys, p, q) refl
+
+  length_like : (s i k : ℕ) (c d : Done) (g h : List Done) → length (opens s i k c) ≡ length (opens s i k d) → length (opened g) ≡ length (opened h) → length (opened g ++ opens s i k c) ≡ length (opened h ++ opens s i k d)
+  length_like s i k c d g h q n = length-append (opened g) (opens s i k c) ∙ (ap (λ (x : ℕ). x + length (opens s i k c)) n ∙ (ap (λ (x : ℕ). length (opened h) + x) q ∙ sym (length-append (opened h) (opens s i k d))))
+
+  module _ (g h : List Done) (a : Alike v g h) where
+    opened_like : (c d : Done) → ((s i k : ℕ) → length (opens s i k c) ≡ length (opens s i k d)) → length (opened (c ∷ g)) ≡ length (opened (d ∷ h))
+    opened_like c d q =
+        length_like (step_of g) (offers g) (length (opened g)) c d g h (q _ _ _) a.next
+        ∙ ap (λ (n : ℕ). length (opened h ++ opens (step_of g) (offers g) n d)) a.next
+        ∙ ap (λ (n : ℕ). length (opened h ++ opens (step_of g) n (length (opened h)) d)) a.offers
+        ∙ ap (λ (n : ℕ). length (opened h ++ opens n (offers h) (length (opened h)) d)) a.step
+
+    live_after : (c d : Done) → ((s i : ℕ) (e x : Entry) → blank v e ≡ blank v x → blank v (change s i c e) ≡ blank v (change s i d x)) → ((s i k : ℕ) → map (blank v) (opens s i k c) ≡ map (blank v) (opens s i k d)) → map (blank v) (live (c ∷ g)) ≡ map (blank v) (live (d ∷ h))
+    live_after c d p q =
+        ap (map (blank v)) (live_more c g)
+        ∙ (ap (λ (n : ℕ). map (blank v) (left_by n (offers g) (length (opened g)) c (live g))) a.step
+        ∙ (ap (λ (n : ℕ). map (blank v) (left_by (step_of h) n (length (opened g)) c (live g))) a.offers
+        ∙ (ap (λ (n : ℕ). map (blank v) (left_by (step_of h) (offers h) n c (live g))) a.next
+        ∙ (append_like _ _ _ _ (filter_like (change (step_of h) (offers h) c) (change (step_of h) (offers h) d) (live g) (live h) a.live (p (step_of h) (offers h))) (q (step_of h) (offers h) (length (opened h)))
+        ∙ sym (ap (map (blank v)) (live_more d h))))))
+
+    goes_on : (c d : Done) → step_of (c ∷ g) ≡ step_of (d ∷ h) → offers (c ∷ g) ≡ offers (d ∷ h) → ((s i : ℕ) (e x : Entry) → blank v e ≡ blank v x → blank v (change s i c e) ≡ blank v (change s i d x)) → ((s i k : ℕ) → map (blank v) (opens s i k c) ≡ map (blank v) (opens s i k d)) → ((s i k : ℕ) → length (opens s i k c) ≡ length (opens s i k d)) → Alike v (c ∷ g) (d ∷ h)
+    goes_on c d s w p q l = record { step = s; offers = w; next = opened_like c d l; live = live_after c d p q }
+
+    -- a call that hits one transaction, whose texts may differ
+    hits : (c d : Done) (key : ℕ) (F G : ℕ → ℕ → Entry → Entry) → step_of (c ∷ g) ≡ step_of (d ∷ h) → offers (c ∷ g) ≡ offers (d ∷ h)
+        → ((s i : ℕ) (e : Entry) → change s i c e ≡ hit key (F s i) e) → ((s i : ℕ) (e : Entry) → change s i d e ≡ hit key (G s i) e)
+        → ((s i k : ℕ) → opens s i k c ≡ []) → ((s i k : ℕ) → opens s i k d ≡ [])
+        → ((s i : ℕ) (e x : Entry) → by_key key (live h) ≡ Some x → blank v e ≡ blank v x → blank v (F s i e) ≡ blank v (G s i x)) → Alike v (c ∷ g) (d ∷ h)
+    hits c d key F G s w cf dg oc od p = record {
+      step = s;
+      offers = w;
+      next = opened_like c d (λ s i k. ap (λ (l : List Entry). length l) (oc s i k ∙ sym (od s i k)));
+      live =
+          ap (map (blank v)) (live_hit c g key (F (step_of g) (offers g)) (cf (step_of g) (offers g)) (oc (step_of g) (offers g) (length (opened g))))
+          ∙ (ap (λ (n : ℕ). map (blank v) (settle key (F n (offers g)) (live g))) a.step
+          ∙ (ap (λ (n : ℕ). map (blank v) (settle key (F (step_of h) n) (live g))) a.offers
+          ∙ (settle_like key (F (step_of h) (offers h)) (G (step_of h) (offers h)) (live g) (live h) a.live (p (step_of h) (offers h))
+          ∙ sym (ap (map (blank v)) (live_hit d h key (G (step_of h) (offers h)) (dg (step_of h) (offers h)) (od (step_of h) (offers h) (length (opened h))))))));
+    }
+
+    -- of a message only the head matters where it is heard
+    heard_as : (s now : ℕ) (m n : Message Start) (t : Part) (e : Entry) → head_of m ≡ head_of n → heard_change s m now t e ≡ heard_change s n now t e
+    heard_as s now m n part.Fresh e q = refl
+    heard_as s now m n part.Full e q = refl
+    heard_as s now m n (part.Repeat k) e q = refl
+    heard_as s now m n (part.Same k) e q = refl
+    heard_as s now m n (part.Answer k) e q = ap (λ (x : Head). hit k (answered s x.status now) e) q
+    heard_as s now m n (part.Acked k) e q = refl
+    heard_as s now m n part.AckOf2xx e q = ap (λ (x : Head). acked_2xx s x e) q
+    heard_as s now m n part.Stray e q = refl
+
+    opens_as : (s i k : ℕ) (p : Peer) (m n : Message Start) (now : ℕ) (t : Part) → head_of m ≡ head_of n → heard_opens s k p m now t ≡ heard_opens s k p n now t
+    opens_as s i k p m n now part.Fresh q = rw q refl
+    opens_as s i k p m n now part.Full q = refl
+    opens_as s i k p m n now (part.Repeat j) q = refl
+    opens_as s i k p m n now (part.Same j) q = refl
+    opens_as s i k p m n now (part.Answer j) q = refl
+    opens_as s i k p m n now (part.Acked j) q = refl
+    opens_as s i k p m n now part.AckOf2xx q = refl
+    opens_as s i k p m n now part.Stray q = refl
+
+    strange : (key : ℕ) (x : Entry) (s t : List ℕ) → by_key key (live h) ≡ Some x → ((p : Peer) → peer_of key (live h) ≡ Some p → v p ≡ false → s ≡ t) → v x.peer ≡ false → s ≡ t
+    strange key x s t q f w = f x.peer (ap (λ (o : Option Entry). option_map (λ (e : Entry). e.peer) o) q) w
+
+    go_on : GoOnAlike v g h
+    go_on = record {
+      begins = λ n. goes_on (DidBegin n) (DidBegin n) refl a.offers (λ s i e x q. q) (λ s i k. refl) (λ s i k. refl);
+      hears = λ p m n now t q.
+          goes_on (DidHear p m now t) (DidHear p n now t) a.step a.offers
+          (λ s i e x r. carried (heard_change s m now t) (absorbs_heard s m now t) e x r ∙ ap (blank v) (heard_as s now m n t x q))
+          (λ s i k. ap (map (blank v)) (opens_as s i k p m n now t q))
+          (λ s i k. ap (λ (l : List Entry). length l) (opens_as s i k p m n now t q));
+      asks = λ p m n now q r.
+          goes_on (DidAsk p m now) (DidAsk p n now) a.step (ap (λ (x : ℕ). min (x + 1) (2 ^ 128 - 1)) a.offers) (λ s i e x w. w)
+          (λ s i k. rw (q, blank_text (v p) (message_text m) (message_text n) r) refl)
+          (λ s i k. refl);
+      replies = λ key m n now q r.
+          hits (DidReply key m now) (DidReply key n now) key
+          (λ s i. replied s i (head_of m).status (message_text m) (head_of m).to_tag now)
+          (λ s i. replied s i (head_of n).status (message_text n) (head_of n).to_tag now)
+          a.step (ap (λ (x : ℕ). min (x + 1) (2 ^ 128 - 1)) a.offers) (λ s i e. refl) (λ s i e. refl) (λ s i k. refl) (λ s i k. refl)
+          (λ s i e x w same.
+          carried (replied s i (head_of m).status (message_text m) (head_of m).to_tag now) (absorbs_replied s i (head_of m).status (message_text m) (head_of m).to_tag now) e x same
+          ∙ (ap (λ (y : Head). blank v (replied s i y.status (message_text m) y.to_tag now x)) q
+          ∙ other_reply s i (head_of n).status (message_text m) (message_text n) (head_of n).to_tag now x (strange key x (message_text m) (message_text n) w r)));
+      acks = λ key m n r.
+          hits (DidAck key m) (DidAck key n) key (λ s i. kept (message_text m)) (λ s i. kept (message_text n))
+          a.step a.offers (λ s i e. refl) (λ s i e. refl) (λ s i k. refl) (λ s i k. refl)
+          (λ s i e x w same.
+          carried (kept (message_text m)) (absorbs_kept (message_text m)) e x same
+          ∙ other_kept (message_text m) (message_text n) x (strange key x (message_text m) (message_text n) w r));
+      fires = λ key. goes_on (DidFire key) (DidFire key) a.step a.offers (λ s i e x q. carried (hit key (fired s)) (absorbs_hit key (fired s) (absorbs_fired s)) e x q) (λ s i k. refl) (λ s i k. refl);
+    }
+
+pub texts_decide_nothing : TextsDecideNothing
+texts_decide_nothing v g h a = (decide v g h a, go_on v g h a)

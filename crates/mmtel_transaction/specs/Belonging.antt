@@ -1,0 +1,91 @@
+-- To which live transaction a message belongs (RFC 3261 §9.2, §17.1.1.3, §17.1.3, §17.2.3), and what `hear` says by that.
+use Rattle.std.specs.Prelude.{◌≡◌, ◌↔◌, Bool, false, true, not, ◌&&◌, if◌then◌else◌, List, length, Option, Some, None, option_map}
+use Rattle.std.specs.List.{find}
+use Rattle.mmtel_types.specs.declared.numbers.Peer.{Peer}
+use Rattle.mmtel_message.specs.Message.{Message}
+use Rattle.mmtel_message.specs.declared.messages.Start.{Start}
+use Rattle.mmtel_transaction.specs.Heads.{head_of, is_ack, is_cancel, is_invite, is_refusal}
+use Rattle.mmtel_transaction.specs.Calls.{Done, live, opened}
+use Rattle.mmtel_transaction.specs.Answers.{by_key, gives_again, gives_same, hear_says, is_client_of, is_full, is_invite_of, is_server_of, key_of, then_gives, tkey}
+use Rattle.mmtel_transaction.specs.Runs.{IsRun}
+use Rattle.mmtel_transaction.specs.declared.heads.Head.{Head}
+use Rattle.mmtel_transaction.specs.declared.entries.Entry.{Entry}
+use Rattle.mmtel_transaction.specs.declared.words.TKey.{TKey}
+use Rattle.mmtel_transaction.specs.declared.words.Heard.{Heard}
+use Rattle.mmtel_transaction.specs.declared.words.Heard.TheVariants as heard
+
+-- a server transaction, where it has offered a final from 300
+abbrev pub if_refused : Option Entry → Option Entry
+if_refused None = None
+if_refused (Some e) = if e.is_refused then Some e else None
+
+-- a response belongs to the client transaction that it answers; an ACK to the INVITE whose final from 300 it acknowledges, and to none where there is no such final;
+-- a CANCEL to the INVITE that it cancels; any other request to the transaction of its key
+abbrev pub owner : Head → List Entry → Option Entry
+owner m es =
+    if not m.is_request then find (is_client_of m) es
+    else if is_ack m then if_refused (find (is_server_of m) es)
+    else if is_cancel m then find (is_invite_of m) es
+    else find (is_server_of m) es
+
+-- the live transaction to which a message belongs
+abbrev pub belongs : List Done → Message Start → Option TKey
+belongs h m = option_map key_of (owner (head_of m) (live h))
+
+-- the live transaction that a request opened when it was heard before
+abbrev pub own : List Done → Message Start → Option TKey
+own h m = option_map key_of (find (is_server_of (head_of m)) (live h))
+
+-- whether a response is a final from 300 of an INVITE that has heard such a final before
+abbrev pub is_final_again : Head → Option Entry → Bool
+is_final_again m None = false
+is_final_again m (Some e) = is_invite e.asked && e.is_refused && is_refusal m.status
+
+-- what is said of a response that belongs to this transaction: an answer, or a final that is heard again, which gives the kept ACK; it is stray where there is none
+abbrev pub response_said : List Entry → Message Start → Option TKey → Heard
+response_said es m None = heard.Stray
+response_said es m (Some key) = if is_final_again (head_of m) (by_key key.0 es) then heard.Repeat (then_gives gives_same (by_key key.0 es)) else heard.Answer key m
+
+-- of an ACK: it is of a 2xx where it belongs to none
+abbrev pub ack_said : Message Start → Option TKey → Heard
+ack_said m None = heard.AckOf2xx m
+ack_said m (Some key) = heard.Acked key
+
+-- of a request that opened this transaction when it was heard before; where there is none, it is refused or opens one, of which so much is said
+abbrev pub request_said : List Entry → Peer → Option TKey → Heard → Option Heard
+request_said es p (Some key) fresh = Some (heard.Repeat (then_gives (gives_again p) (by_key key.0 es)))
+request_said es p None fresh = if is_full es then None else Some fresh
+
+-- of a message that belongs to this transaction
+abbrev pub said_by : List Done → Peer → Message Start → Option TKey → Option Heard
+said_by h p m to =
+    if not (head_of m).is_request then Some (response_said (live h) m to)
+    else if is_ack (head_of m) then Some (ack_said m to)
+    else if is_cancel (head_of m) then request_said (live h) p (own h m) (heard.Cancel (tkey (length (opened h))) to m)
+    else request_said (live h) p to (heard.Fresh (tkey (length (opened h))) m)
+
+-- `hear` answers by the transaction to which the message belongs
+abbrev pub HearsByOwner : Type 0
+HearsByOwner = (h : List Done) (p : Peer) (m : Message Start) → hear_says h p m ≡ said_by h p m (belongs h m)
+
+-- and that transaction is live
+abbrev pub OwnersAreLive : Type 0
+OwnersAreLive = (h : List Done) (m : Message Start) (e : Entry) → owner (head_of m) (live h) ≡ Some e → by_key e.key (live h) ≡ Some e
+
+-- a live server transaction of an INVITE of this branch and sent-by has offered a final from 300
+pub record IsRefusedInvite (m : Head) (e : Entry) (h : List Done) : Type 0 where
+  pub live : by_key e.key (live h) ≡ Some e
+  pub server : e.is_server ≡ true
+  pub invite : is_invite e.asked ≡ true
+  pub branch : e.asked.branch ≡ m.branch
+  pub sent_by : e.asked.sent_by ≡ m.sent_by
+  pub final : is_refusal e.done ≡ true
+
+-- in a run an ACK belongs to just that one
+abbrev pub AcksBelong : Type 0
+AcksBelong =
+    (h : List Done) (m : Message Start) (e : Entry)
+    → IsRun h
+    → (head_of m).is_request ≡ true
+    → is_ack (head_of m) ≡ true
+    → (owner (head_of m) (live h) ≡ Some e) ↔ IsRefusedInvite (head_of m) e h

@@ -1,0 +1,94 @@
+-- Deadlines in a row: which comes next, in which step it was armed, and that they come to an end where nothing else is called between them (RFC 3261 §17).
+use Rattle.std.specs.Prelude.{◌≡◌, ◌↔◌, ℕ, zero, suc, ◌+◌, ◌-◌, ◌<◌, ◌≤◌, ◌⊎◌, Bool, false, nat_le, List, ◌∷◌, Option, Some, None, count_by, sum_by}
+use Rattle.mmtel_types.specs.declared.numbers.Peer.{Peer}
+use Rattle.mmtel_message.specs.Message.{Message}
+use Rattle.mmtel_message.specs.declared.messages.Start.{Start}
+use Rattle.mmtel_transaction.specs.Deadlines.{deadline, last_at}
+use Rattle.mmtel_transaction.specs.Calls.{Done, DidAck, DidAsk, DidBegin, DidReply, live, step_of}
+use Rattle.mmtel_transaction.specs.Answers.{Next, by_key, fires, next_due, upcoming_of}
+use Rattle.mmtel_transaction.specs.declared.entries.Entry.{Entry}
+
+-- of the deadlines of live transactions this moment and this step are the least that is not past now: the moment, and of one moment the step
+pub record IsLeast (now : ℕ) (h : List Done) (at step : ℕ) : Type 0 where
+  pub not_past : at ≤ now
+  pub stands : (e : Entry) × (by_key e.key (live h) ≡ Some e) × (deadline e ≡ Some at) × (e.step ≡ step)
+  pub least : (key a : ℕ) (e : Entry) → by_key key (live h) ≡ Some e → deadline e ≡ Some a → (at < a) ⊎ ((at ≡ a) × (step ≤ e.step))
+
+-- what `upcoming` gives is the least one
+abbrev pub UpcomingIsLeast : Type 0
+UpcomingIsLeast = (h : List Done) (now at step : ℕ) → upcoming_of (next_due now (live h)) ≡ Some (at, step) → IsLeast now h at step
+
+-- and where it gives none, every deadline is past now
+abbrev pub NoneIsDue : Type 0
+NoneIsDue = (h : List Done) (now key a : ℕ) (e : Entry) → upcoming_of (next_due now (live h)) ≡ None → by_key key (live h) ≡ Some e → deadline e ≡ Some a → now < a
+
+-- a transaction's deadline, as one more call leaves it, stood before with the same step and order
+pub record StoodBefore (h : List Done) (key a : ℕ) (x : Entry) : Type 0 where
+  pub entry : Entry
+  pub live : by_key key (live h) ≡ Some entry
+  pub moment : deadline entry ≡ Some a
+  pub step : x.step ≡ entry.step
+  pub order : x.order ≡ entry.order
+
+-- a deadline is armed in the step in which the call was made that brought it
+abbrev pub ArmedInItsStep : Type 0
+ArmedInItsStep = (c : Done) (h : List Done) (key a : ℕ) (x : Entry) → by_key key (live (c ∷ h)) ≡ Some x → deadline x ≡ Some a → (x.step ≡ step_of h) ⊎ StoodBefore h key a x
+
+-- how long a transaction's deadlines may go on: from the next one to the last one in milliseconds, and one; nothing where it has none
+abbrev pub left_by : Option ℕ → Option ℕ → ℕ
+left_by None last = 0
+left_by (Some a) None = 1
+left_by (Some a) (Some last) = suc (last - a)
+
+abbrev pub time_left : Entry → ℕ
+time_left e = left_by (deadline e) (last_at e)
+
+-- so of all of them together
+abbrev pub all_left : List Entry → ℕ
+all_left es = sum_by time_left es
+
+-- it falls with each deadline that fires
+abbrev pub FiringsUseUp : Type 0
+FiringsUseUp = (h : List Done) (now : ℕ) (n : Next) → next_due now (live h) ≡ Some n → suc (all_left (live (fires h (Some n)))) ≤ all_left (live h)
+
+-- the calls after so many calls of `due`, one after the other
+unfoldable pub settled : ℕ → ℕ → List Done → List Done
+settled zero now h = h
+settled (suc fuel) now h = settled fuel now (fires h (next_due now (live h)))
+
+-- that many are enough: then nothing is due
+abbrev pub FiringsEnd : Type 0
+FiringsEnd = (h : List Done) (now fuel : ℕ) → all_left (live h) ≤ fuel → next_due now (live (settled fuel now h)) ≡ None
+
+-- and once nothing is due, more of them change nothing
+abbrev pub MoreChangesNothing : Type 0
+MoreChangesNothing = (h : List Done) (now fuel more : ℕ) → next_due now (live (settled fuel now h)) ≡ None → settled (fuel + more) now h ≡ settled fuel now h
+
+-- where other calls are made between, as those above make them of what a deadline says: how many deadlines are not later than a moment
+abbrev pub is_not_later : ℕ → Option ℕ → Bool
+is_not_later at None = false
+is_not_later at (Some a) = nat_le a at
+
+abbrev pub due_by : ℕ → List Entry → ℕ
+due_by at es = count_by (λ e. is_not_later at (deadline e)) es
+
+-- nothing is due just where there are none
+abbrev pub DueIsCounted : Type 0
+DueIsCounted = (h : List Done) (at : ℕ) → (next_due at (live h) ≡ None) ↔ (due_by at (live h) ≡ 0)
+
+-- the first deadline that fires leaves fewer that are not later than it
+abbrev pub FiringsLeaveFewer : Type 0
+FiringsLeaveFewer = (h : List Done) (now : ℕ) (n : Next) → next_due now (live h) ≡ Some n → suc (due_by n.at (live (fires h (Some n)))) ≤ due_by n.at (live h)
+
+-- a step that begins changes no transaction
+abbrev pub BeginsChangeNothing : Type 0
+BeginsChangeNothing = (h : List Done) (step : ℕ) → live (DidBegin step ∷ h) ≡ live h
+
+-- and what is offered at that moment adds none
+pub record AddsNone (h : List Done) : Type 0 where
+  pub asks : (p : Peer) (m : Message Start) (at : ℕ) → due_by at (live (DidAsk p m at ∷ h)) ≤ due_by at (live h)
+  pub replies : (key : ℕ) (m : Message Start) (at : ℕ) → due_by at (live (DidReply key m at ∷ h)) ≤ due_by at (live h)
+  pub acks : (key : ℕ) (m : Message Start) (at : ℕ) → due_by at (live (DidAck key m ∷ h)) ≤ due_by at (live h)
+
+abbrev pub OffersAddNone : Type 0
+OffersAddNone = (h : List Done) → AddsNone h

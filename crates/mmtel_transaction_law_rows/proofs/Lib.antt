@@ -1,0 +1,4 @@
+pub mod HeadRows
+pub mod PeerRows
+pub mod BelongRows
+pub mod WaitRows

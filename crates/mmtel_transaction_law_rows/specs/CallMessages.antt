@@ -1,0 +1,57 @@
+-- The messages of one call, by what is read of them alone: whatever else they say, the rows hold of them (RFC 3261 §7.1, §8.1.1).
+use Rattle.std.specs.Prelude.{◌≡◌, ℕ, true, false, List, [], ◌∷◌, codes}
+use Rattle.mmtel_types.specs.declared.numbers.Peer.{Peer}
+use Rattle.mmtel_message.specs.Message.{Message}
+use Rattle.mmtel_message.specs.declared.messages.Start.{Start}
+use Rattle.mmtel_transaction.specs.Calls.{Done, DidAsk, DidHear, DidReply}
+use Rattle.mmtel_transaction.specs.Heads.{head_of}
+use Rattle.mmtel_transaction.specs.declared.heads.Head.{Head}
+use Rattle.mmtel_transaction.specs.declared.parts.Part.TheVariants as part
+
+abbrev pub peer : ℕ → Peer
+peer n = record { 0 = n }
+
+-- a request of this method, branch and To tag
+abbrev pub request : List ℕ → List ℕ → List ℕ → Head
+request method branch to = record { is_request = true; status = 0; method = method; branch = branch; sent_by = codes "h"; from_tag = codes "f"; to_tag = to; call_id = codes "c"; number = 1 }
+
+-- a response of this status to the request of this method and branch
+abbrev pub response : ℕ → List ℕ → List ℕ → Head
+response status method branch = record { is_request = false; status = status; method = method; branch = branch; sent_by = codes "h"; from_tag = codes "f"; to_tag = codes "t"; call_id = codes "c"; number = 1 }
+
+-- an INVITE, its answers, its ACK and its CANCEL; an OPTIONS and its answer; a BYE
+pub record Messages : Type 0 where
+  pub invite : Message Start
+  pub of_invite : head_of invite ≡ request (codes "INVITE") (codes "i") []
+  pub ringing : Message Start
+  pub of_ringing : head_of ringing ≡ response 180 (codes "INVITE") (codes "i")
+  pub busy : Message Start
+  pub of_busy : head_of busy ≡ response 486 (codes "INVITE") (codes "i")
+  pub success : Message Start
+  pub of_success : head_of success ≡ response 200 (codes "INVITE") (codes "i")
+  pub ack : Message Start
+  pub of_ack : head_of ack ≡ request (codes "ACK") (codes "i") (codes "t")
+  pub ack_2xx : Message Start
+  pub of_ack_2xx : head_of ack_2xx ≡ request (codes "ACK") (codes "a") (codes "t")
+  pub cancel : Message Start
+  pub of_cancel : head_of cancel ≡ request (codes "CANCEL") (codes "i") []
+  pub options : Message Start
+  pub of_options : head_of options ≡ request (codes "OPTIONS") (codes "o") []
+  pub answered : Message Start
+  pub of_answered : head_of answered ≡ response 200 (codes "OPTIONS") (codes "o")
+  pub bye : Message Start
+  pub of_bye : head_of bye ≡ request (codes "BYE") (codes "b") (codes "t")
+
+-- the INVITE is heard of peer 1, and answered at 300
+abbrev pub heard_invite : Messages → List Done
+heard_invite c = DidHear (peer 1) c.invite 0 part.Fresh ∷ []
+
+abbrev pub refused : Messages → List Done
+refused c = DidReply 0 c.busy 300 ∷ heard_invite c
+
+abbrev pub accepted : Messages → List Done
+accepted c = DidReply 0 c.success 300 ∷ heard_invite c
+
+-- it is sent to peer 2
+abbrev pub asked_invite : Messages → List Done
+asked_invite c = DidAsk (peer 2) c.invite 0 ∷ []

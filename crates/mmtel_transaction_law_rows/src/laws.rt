@@ -1,0 +1,29 @@
+//! Worked rows, each the contract of a function that does nothing.
+ghost use Rattle.mmtel_transaction_law_rows.specs.BelongRows.{RequestsBelong, ResponsesBelong};
+ghost use Rattle.mmtel_transaction_law_rows.specs.HeadRows.{HeadsOfInvites};
+ghost use Rattle.mmtel_transaction_law_rows.specs.PeerRows.{PeersRow, TextsRow};
+ghost use Rattle.mmtel_transaction_law_rows.specs.WaitRows.{AcksHeardAndKept, FinalAwaitsAck, InviteAmongOthers};
+
+/// What is read of three INVITEs that differ in Request-URI and From alone (RFC 3261 §8.1.1).
+pub fn heads_compute()
+    ensures heads { HeadsOfInvites }
+{}
+
+/// An INVITE whose text is due to a trusted peer, and of which peer transactions are.
+pub fn peers_compute()
+    ensures texts { TextsRow }
+    ensures peers { PeersRow }
+{}
+
+/// To which transaction CANCEL, ACK, BYE and responses belong.
+pub fn belonging_computes()
+    ensures requests { RequestsBelong }
+    ensures responses { ResponsesBelong }
+{}
+
+/// An INVITE that nobody answers, beside a request that is answered; a refusal with and without its ACK; the ACK of a 2xx; an ACK that is kept.
+pub fn waiting_computes()
+    ensures requests { InviteAmongOthers }
+    ensures finals { FinalAwaitsAck }
+    ensures acks { AcksHeardAndKept }
+{}

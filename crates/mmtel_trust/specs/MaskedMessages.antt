@@ -1,0 +1,93 @@
+-- A message that was heard without its private places, and beside it what is asked of its caller where that is private: by this two runs are compared (RFC 3323 §4.1, RFC 3325 §7, RFC 7044 §10.1, TS 24.607 §4.5.2).
+use Rattle.std.specs.Prelude.{◌≡◌, ℕ, Bool, true, false, ◌&&◌, Option, Some, None, is_none, List, [], codes, if◌then◌else◌}
+use Rattle.mmtel_history.specs.HistoryInfo.{masked_list}
+use Rattle.mmtel_message.specs.Faults.{is_method, is_request}
+use Rattle.mmtel_message.specs.Message.{Line}
+use Rattle.mmtel_types.specs.declared.numbers.Account.{Account}
+use Rattle.mmtel_types.specs.declared.privacy.PrivacySet.{PrivacySet}
+use Rattle.mmtel_trust.specs.Digest.{HeardMessage, caller_account, is_known, served_account}
+use Rattle.mmtel_trust.specs.Mask.{Entries, NoEntries, Places, entries_of, hidden_entries, hidden_uri, joined, masked_lines, only, opening, places_in}
+use Rattle.mmtel_trust.specs.Passed.{attempt_from, passed}
+use Rattle.mmtel_trust.specs.declared.accounts.AccountIdentity.{AccountIdentity}
+use Rattle.mmtel_trust.specs.declared.showing.Facing.{Facing}
+
+-- ---- a message without private places
+
+-- what is left of a message without these places
+abbrev pub hide : Places → HeardMessage → HeardMessage
+hide p m = record m { history = hidden_entries p.history m.history; redirect = hidden_uri p.redirect m.redirect; lines = masked_lines (places_in m.start p) m.lines }
+
+-- all that is never private of a message
+abbrev pub public_part : HeardMessage → HeardMessage
+public_part m = record m { history = []; redirect = None; lines = [] }
+
+-- ---- which places are private
+
+-- which callers are restricted: by the words of Privacy and the account that is served (TS 24.607 §4.5.2)
+abbrev pub Restriction : Type 0
+Restriction = PrivacySet → Option Account → Bool
+
+-- an INVITE without To tag from a trusted peer
+abbrev pub is_opening : HeardMessage → Bool
+is_opening m = m.trusted && (is_method (codes "INVITE") m.start && is_none m.to_tag)
+
+-- it opens a call whose caller is restricted
+abbrev pub is_private : Restriction → List AccountIdentity → HeardMessage → Bool
+is_private restricts accounts m = is_opening m && restricts m.wants (served_account accounts m)
+
+-- the private places of an opening, where the caller is restricted
+abbrev pub opening_if : Bool → Places
+opening_if b = if b then opening else only NoEntries
+
+-- the private entries of History-Info: any request of a trusted peer may have some
+abbrev pub private_entries : HeardMessage → Entries
+private_entries m = if m.trusted && is_request m.start then entries_of m.wants else NoEntries
+
+-- all private places of what was heard
+abbrev pub places_of : Restriction → List AccountIdentity → HeardMessage → Places
+places_of restricts accounts m = joined (opening_if (is_private restricts accounts m)) (only (private_entries m))
+
+-- ---- the mask
+
+-- what is asked of a caller who stays private
+pub record Answers : Type 0 where
+  -- the account of the caller
+  pub account : Option Account
+  -- the caller has an identity
+  pub somebody : Bool
+
+pub record Masked : Type 0 where
+  pub message : HeardMessage
+  -- they stand beside a message that opens a call of a restricted caller, and beside no other
+  pub answers : Option Answers
+
+abbrev pub answers_if : Bool → List AccountIdentity → HeardMessage → Option Answers
+answers_if b accounts m = if b then Some (record { account = caller_account accounts m; somebody = is_known m }) else None
+
+-- what two runs are compared by of a message: the conditions stand in the fields, so that each other field is seen through
+abbrev pub mask : Restriction → List AccountIdentity → HeardMessage → Masked
+mask restricts accounts m = record { message = hide (places_of restricts accounts m) m; answers = answers_if (is_private restricts accounts m) accounts m }
+
+-- ---- what equal masks decide
+
+-- where the caller is not private, these accounts name the same one as those
+abbrev pub NameAlike : Restriction → List AccountIdentity → List AccountIdentity → HeardMessage → Type 0
+NameAlike restricts accounts others m = is_private restricts accounts m ≡ false → caller_account accounts m ≡ caller_account others m
+
+-- the same is decided of a message, under these accounts, and of another one, under those
+pub record DecideAlike (restricts : Restriction) (accounts others : List AccountIdentity) (m n : HeardMessage) : Type 0 where
+  -- all that is read of what is never private
+  pub public : public_part m ≡ public_part n
+  -- whether it opens a call of a restricted caller
+  pub private : is_private restricts accounts m ≡ is_private restricts others n
+  -- who the caller is, whose record restricts it, and whether it has an identity
+  pub account : NameAlike restricts accounts others m → caller_account accounts m ≡ caller_account others n
+  pub served : NameAlike restricts accounts others m → served_account accounts m ≡ served_account others n
+  pub known : is_known m ≡ is_known n
+  -- its list of History-Info, as an untrusted peer may see it
+  pub history : masked_list m.wants.history m.history ≡ masked_list n.wants.history n.history
+  -- what is shown to an untrusted peer of a restricted caller, and to anybody of another one, beside the call's own History-Info
+  pub shown : (f : Facing) (history : List Line) → f.restricted ≡ true → passed f false history m.lines ≡ passed f false history n.lines
+  pub shown_to_all : (f : Facing) (to_trusted : Bool) (history : List Line) → is_private restricts accounts m ≡ false → passed f to_trusted history m.lines ≡ passed f to_trusted history n.lines
+  -- From of an attempt, where it names nobody for a restricted caller
+  pub from : (restricted : Bool) (tag : List ℕ) → (is_private restricts accounts m ≡ true → restricted ≡ true) → attempt_from restricted tag m.lines ≡ attempt_from restricted tag n.lines

@@ -1,0 +1,95 @@
+//! Targets of a call: those that a Request-URI names, those of diversions, the home domain, and which are nobody's.
+
+use crate::told::{Rows, Told, wrong_line};
+use mmtel_lex::{Uri, UriFault, print_uri, read_uri};
+use mmtel_targets::{Target, diverted_target, first_target, is_at_home, is_global_number};
+use mmtel_types::Account;
+
+const HOME: &[u8] = b"home.example";
+
+/// Adds the word where that is so.
+fn add_if(told: &mut Told, is: bool, word: &[u8]) {
+    if is {
+        told.add(word);
+    }
+}
+
+/// A target; whether it is a global number, was made of one, is of the home domain; whether it is nobody's without an account, and whether it is so with one.
+fn add_target(told: &mut Told, word: &[u8], target: &Target) {
+    told.add(word);
+    match print_uri(told.alloc(), &target.uri) {
+        Ok(text) => told.add(text.bytes()),
+        Err(_) => told.fail(),
+    }
+    add_if(told, is_global_number(&target.uri), b" global");
+    add_if(told, target.of_number, b" made");
+    add_if(told, is_at_home(HOME, &target.uri), b" home");
+    add_if(told, target.is_unknown(HOME, None), b" nobody");
+    add_if(
+        told,
+        target.is_unknown(HOME, Some(Account(1))),
+        b" nobody's account",
+    );
+    told.add_line(b"");
+}
+
+fn add_diverted(told: &mut Told, uri: Uri) {
+    match diverted_target(told.alloc(), HOME, uri) {
+        Ok(target) => add_target(told, b"diverted ", &target),
+        Err(_) => told.fail(),
+    }
+}
+
+/// Tells the target that a Request-URI names, and that of a diversion to it, where it is a URI.
+#[derive(Drop)]
+struct Targets;
+
+impl Rows for Targets {
+    fn tell(&mut self, told: &mut Told, asked: &[u8]) {
+        match first_target(told.alloc(), asked) {
+            Ok(Some(target)) => add_target(told, b"first ", &target),
+            Ok(None) => told.add_line(b"none"),
+            Err(_) => told.fail(),
+        }
+        match read_uri(told.alloc(), asked) {
+            Ok(uri) => add_diverted(told, uri),
+            Err(UriFault::NoMemory) => told.fail(),
+            Err(_) => {}
+        }
+    }
+}
+
+/// A Request-URI stays as it is, a number too. A diversion to a global number, with separators and parameters, goes to the home domain and is nobody's in no case (RFC 3261 §19.1.6);
+/// the same URI that no diversion made, and others of the home domain, whose case does not count, are nobody's without an account; a local number and another domain never are.
+/// Another scheme and what is no URI name no target.
+const TARGETS: &[u8] = br#"> tel:+49(30)1-1.1;x=y
+first tel:+49(30)1-1.1;x=y global
+diverted sip:+4930111@home.example;user=phone made home
+> sip:+4930111@home.example;user=phone
+first sip:+4930111@home.example;user=phone home nobody
+diverted sip:+4930111@home.example;user=phone home nobody
+> sip:eve@HOME.Example:5070;a=b
+first sip:eve@HOME.Example:5070;a=b home nobody
+diverted sip:eve@HOME.Example:5070;a=b home nobody
+> sip:home.example
+first sip:home.example home nobody
+diverted sip:home.example home nobody
+> tel:11-2;phone-context=home.example
+first tel:11-2;phone-context=home.example
+diverted tel:11-2;phone-context=home.example
+> sip:home.example@far.example
+first sip:home.example@far.example
+diverted sip:home.example@far.example
+> sip:vm@far.example
+first sip:vm@far.example
+diverted sip:vm@far.example
+> sips:bob@home.example
+none
+> sip:
+none
+"#;
+
+#[test]
+fn targets_of_calls(rt: HostRuntime) {
+    assert_eq!(rt; wrong_line(rt.alloc(), Targets, TARGETS), None);
+}

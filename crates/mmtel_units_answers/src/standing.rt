@@ -1,0 +1,217 @@
+//! Legs that stand: what is relayed in their dialogs, and their end.
+
+use crate::heard::{OPENING, SIP, desk, hearing, tell_desk};
+use crate::told::Told;
+use mmtel_answers::{Hearing, called, calling, first_aim};
+use mmtel_desk::Desk;
+use mmtel_leg::{Asked, CalleeLeg, CallerLeg, Ended, LegOf, Released, Remote, Standing};
+use mmtel_lex::List;
+use mmtel_message::{Line, add_bytes};
+use mmtel_transaction::TKey;
+use mmtel_types::{Cause, Moment, Peer, Side};
+use std::test::Fail;
+
+const RINGS: &[u8] = br##"SIP/2.0 183 Session Progress
+Via: SIP/2.0/UDP 127.0.0.1:5060;branch=z9hG4bKx
+From: "Anonymous" <sip:anonymous@anonymous.invalid>;tag=t2
+To: <sip:bob@far.example>;tag=b
+Call-ID: c2
+CSeq: 1 INVITE
+Contact: <sip:bob@127.0.0.1:5072>
+Content-Type: text/plain
+Content-Length: 2
+
+hi"##;
+
+const ACKED: &[u8] = br##"ACK sip:127.0.0.1:5060 SIP/2.0
+Via: SIP/2.0/UDP 127.0.0.1:5071;branch=z9hG4bKa2
+From: "Erin" <sip:erin@other.example>;tag=a
+To: <sip:bob@far.example>;tag=t1
+Call-ID: c1
+CSeq: 7 ACK
+Content-Length: 2
+
+ok"##;
+
+const GOES: &[u8] = br##"BYE sip:127.0.0.1:5060 SIP/2.0
+Via: SIP/2.0/UDP 127.0.0.1:5071;branch=z9hG4bKa3
+Max-Forwards: 1
+From: "Erin" <sip:erin@other.example>;tag=a
+To: <sip:bob@far.example>;tag=t1
+Call-ID: c1
+CSeq: 8 BYE
+Reason: SIP;cause=200
+Content-Length: 0
+
+"##;
+
+const TOLD: &[u8] = br##"reply 0
+SIP/2.0 183 Session Progress
+Via: SIP/2.0/UDP 127.0.0.1:5071;branch=z9hG4bKa1
+From: "Erin" <sip:erin@other.example>;tag=a
+To: <sip:bob@far.example>;tag=t1
+Call-ID: c1
+CSeq: 7 INVITE
+Contact: <sip:127.0.0.1:5060>
+Content-Type: text/plain
+Content-Length: 2
+
+hiplain 2
+ACK sip:bob@127.0.0.1:5072 SIP/2.0
+Via: SIP/2.0/UDP 127.0.0.1:5060;branch=z9hG4bK0123456789abcdef-1
+Max-Forwards: 69
+From: "Anonymous" <sip:anonymous@anonymous.invalid>;tag=t2
+To: <sip:bob@far.example>;tag=b
+Call-ID: c2
+CSeq: 1 ACK
+Content-Length: 2
+
+okask 2
+BYE sip:bob@127.0.0.1:5072 SIP/2.0
+Via: SIP/2.0/UDP 127.0.0.1:5060;branch=z9hG4bK0123456789abcdef-2
+Max-Forwards: 0
+From: "Anonymous" <sip:anonymous@anonymous.invalid>;tag=t2
+To: <sip:bob@far.example>;tag=b
+Call-ID: c2
+CSeq: 2 BYE
+Reason: SIP;cause=200
+Content-Length: 0
+
+reply 3
+SIP/2.0 200 OK
+Via: SIP/2.0/UDP 127.0.0.1:5071;branch=z9hG4bKa3
+From: "Erin" <sip:erin@other.example>;tag=a
+To: <sip:bob@far.example>;tag=t1
+Call-ID: c1
+CSeq: 8 BYE
+Content-Length: 0
+
+plain 2
+ACK sip:bob@127.0.0.1:5072 SIP/2.0
+Via: SIP/2.0/UDP 127.0.0.1:5060;branch=z9hG4bK0123456789abcdef-3
+Max-Forwards: 70
+From: "Anonymous" <sip:anonymous@anonymous.invalid>;tag=t2
+To: <sip:bob@far.example>;tag=b
+Call-ID: c2
+CSeq: 1 ACK
+Content-Length: 0
+
+ask 1
+BYE sip:erin@127.0.0.1:5071 SIP/2.0
+Via: SIP/2.0/UDP 127.0.0.1:5060;branch=z9hG4bK0123456789abcdef-4
+Max-Forwards: 70
+From: <sip:bob@far.example>;tag=t1
+To: "Erin" <sip:erin@other.example>;tag=a
+Call-ID: c1
+CSeq: 1 BYE
+Content-Length: 0
+
+"##;
+
+/// A list of one line.
+fn line(told: &mut Told, name: &[u8], value: &[u8]) -> List<Line> {
+    let mut lines = List::new();
+    let added = add_bytes(told.alloc, &mut lines, name, value);
+    told.noted(added);
+    lines
+}
+
+/// The leg to which the INVITE was offered, once this answer came.
+fn callee(told: &mut Told, opening: &Hearing, answer: &Hearing) -> Option<CalleeLeg<Standing>> {
+    let aim = first_aim(told.alloc, Peer(2), &[], opening);
+    let aim = told.noted(aim)?;
+    let call_id = told.copy(b"c2");
+    let tag = told.copy(b"t2");
+    let dialogue = calling(told.alloc, aim, opening, true, call_id, tag);
+    let dialogue = told.noted(dialogue)?;
+    let remote = Remote::read(told.alloc, &answer.message, Side::Callee);
+    let remote = told.noted(remote)?;
+    Some(CalleeLeg::<Asked>::begun(called(dialogue), None).stand(remote))
+}
+
+/// The leg of the caller, which stands from the opening on.
+fn caller(told: &mut Told, opening: &Hearing) -> Option<CallerLeg<Standing>> {
+    let tag = told.copy(b"t1");
+    match CallerLeg::<Standing>::open(told.alloc, Peer(1), &opening.message, tag, None) {
+        Ok(leg) => Some(leg),
+        Err((meter, _)) => {
+            end(told, Ended { meter });
+            told.fail();
+            None
+        }
+    }
+}
+
+/// The moment of 0 milliseconds.
+fn first_moment() -> Moment {
+    match Moment::new(0) {
+        Some(moment) => moment,
+        None => unreachable!(),
+    }
+}
+
+/// Ends a leg, and a meter that ran for it.
+fn end(told: &mut Told, ended: Ended) {
+    let Ended { meter } = ended;
+    match meter {
+        Some(meter) => {
+            let _row = meter.close(first_moment(), 0, Cause::Ended);
+            told.fail();
+        }
+        None => {}
+    }
+}
+
+/// What the callee's leg is asked: the caller's ACK, its BYE, and an ACK of the server's own.
+fn ask_callee(told: &mut Told, desk: &mut Desk, leg: &mut CalleeLeg<Standing>) {
+    let ack = hearing(told, ACKED, 1, 5071, true);
+    let done = desk.acknowledge_for(told.alloc, SIP, leg, &List::new(), &ack);
+    told.noted(done);
+    let bye = hearing(told, GOES, 1, 5071, true);
+    let passed = line(told, b"Reason", b"SIP;cause=200");
+    let done = desk.ask_for(told.alloc, SIP, b"BYE", leg, &passed, &bye);
+    told.noted(done);
+    let done = desk.reply(told.alloc, SIP, TKey(3), &bye, b"", 200);
+    told.noted(done);
+    let done = desk.acknowledge(told.alloc, SIP, leg);
+    told.noted(done);
+}
+
+/// Tells of the call's two legs: what the callee's is asked, and the end of the caller's.
+fn tell_legs(told: &mut Told, desk: &mut Desk, opening: &Hearing, rings: &Hearing) {
+    if let Some(leg) = callee(told, opening, rings) {
+        let mut leg = leg;
+        ask_callee(told, desk, &mut leg);
+        end(told, Released::Callee(leg).leave());
+    }
+    if let Some(leg) = caller(told, opening) {
+        let mut leg = leg;
+        let done = desk.bye(told.alloc, SIP, &mut leg);
+        told.noted(done);
+        end(told, Released::Caller(leg).leave());
+    }
+}
+
+/// A response with its body that is relayed to the caller, the ACK and the BYE that are relayed to the callee, an ACK of the server's own, and the BYE to a caller's leg that stands from the opening on. An ACK that names no hops has 69 left, a BYE of one hop none.
+#[test]
+fn relays(rt: HostRuntime) -> Result<(), Fail> {
+    let mut told = Told::new(rt.alloc());
+    let opening = hearing(&mut told, OPENING, 1, 5071, true);
+    let rings = hearing(&mut told, RINGS, 2, 5072, false);
+    let mut desk = desk(&mut told);
+    let passed = line(&mut told, b"Content-Type", b"text/plain");
+    let done = desk.relay(
+        rt.alloc(),
+        SIP,
+        TKey(0),
+        &opening,
+        b"t1",
+        passed.items(),
+        &rings,
+    );
+    told.noted(done);
+    tell_legs(&mut told, &mut desk, &opening, &rings);
+    tell_desk(&mut told, &desk);
+    assert_eq!(rt; told.whole(), TOLD);
+    Ok(())
+}

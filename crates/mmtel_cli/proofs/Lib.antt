@@ -1,9 +1,7 @@
 pub mod Giving
 pub mod LineRead
 pub mod LineSpelled
-pub mod Masked
-pub mod RunLaws
 pub mod Running
 pub mod Saying
-pub mod StepLaws
+pub mod Scripted
 pub mod WordLaws

@@ -1,5 +1,5 @@
 -- What the statement on a whole run says of each status.
-use Rattle.std.proofs.Common.{◌≡◌, ◌↔◌, ◌⊎◌, ◌==◌, true, ℕ, List, [], ◌∷◌, refl, subst, sym, ap, ◌∙◌, inl, inr, Option, Some, None, Result, Ok, Err}
+use Rattle.std.proofs.Common.{◌≡◌, ◌⊎◌, ◌==◌, true, ℕ, List, [], ◌∷◌, refl, subst, sym, ap, ◌∙◌, inl, inr, Option, Some, None, Result, Ok, Err}
 use Rattle.std.specs.List.{list_any}
 use Rattle.mmtel_directory.specs.Directory.{directory_of}
 use Rattle.mmtel_directory.specs.declared.directories.Directory.{Directory}
@@ -10,8 +10,8 @@ use Rattle.mmtel_script.specs.Script.{events_of}
 use Rattle.mmtel_scan.proofs.ChainLaws.{some_is}
 use Rattle.mmtel_cli.proofs.LineRead.{reads_spelled}
 use Rattle.mmtel_cli.specs.CommandLine.{IsReplay}
-use Rattle.mmtel_cli.specs.Runs.{CountsAtFive, Listed, WroteMemory, EndsOfEvents, EndsOfScript, EndsOfDirectory, EndsOfConfig, Replayed, Ran}
-use Rattle.mmtel_cli.specs.Sayings.{IsGood, GoodOnesAreListed, GoodOnesSucceed, ListsOne, OfEachRun, ZeroIsListed, OneIsUsage, SevenRose, ZeroKept, StatusesAreThese, NoFaultNoFailure}
+use Rattle.mmtel_cli.specs.Runs.{Listed, WroteMemory, EndsOfEvents, EndsOfScript, EndsOfDirectory, EndsOfConfig, Replayed}
+use Rattle.mmtel_cli.specs.Sayings.{IsGood, GoodOnesAreListed, GoodOnesSucceed, ZeroIsListed, OneIsUsage, SevenRose, ZeroKept, StatusesAreThese, NoFaultNoFailure}
 use Rattle.mmtel_cli.specs.Words.{Asked, replay_of}
 
 -- ---- the words spell one command at most

@@ -1,45 +1,51 @@
--- What a run is due to write, by what the files gave: the configuration comes first, then the script, then the listing of what the definitions of the run give.
+-- What a run is due to write, by what the files gave: the configuration comes first, then the script, then the listing of what the server offers.
 use Rattle.std.specs.Prelude.{ℕ, List, Some, None, Ok, Err}
 use Rattle.std.specs.declared.option.Option.{Option}
 use Rattle.std.specs.declared.result.Result.{Result}
 use Rattle.mmtel_directory.specs.Directory.{directory_of}
-use Rattle.mmtel_script.specs.Listing.{listing_of}
-use Rattle.mmtel_cli.specs.Run.{gives}
 use Rattle.mmtel_script.specs.Script.{events_of}
 use Rattle.mmtel_outside.specs.Shelf.{Shelf, answer_at, called}
 use Rattle.mmtel_cli.specs.Words.{Asked}
 use Rattle.mmtel_directory.specs.declared.directories.Directory.{Directory}
-use Rattle.mmtel_cli.specs.declared.reports.Report.{Report}
-use Rattle.mmtel_cli.specs.declared.reports.Report.TheVariants.{Usage, Line, File, Listing}
 use Rattle.mmtel_outside.specs.declared.events.Event.{Event}
 
--- what is due once the script was read: the listing of what the run of its events gives, or its first bad line
-abbrev pub due_of_events : Directory → List ℕ → Result (List Event) ℕ → Report
-due_of_events directory token (Ok events) = Listing (listing_of (gives directory token events))
+pub data Due : Type 0 where
+  -- the words are of no command
+  Usage : Due
+  -- that line is the first that breaks the grammar of its file
+  Line : (number : ℕ) → Due
+  -- a file cannot be read
+  File : Due
+  -- the listing of what the server offers in the run of these events
+  Run : (directory : Directory) → (token : List ℕ) → (events : List Event) → Due
+
+-- what is due once the script was read: the listing of the run of its events, or its first bad line
+abbrev pub due_of_events : Directory → List ℕ → Result (List Event) ℕ → Due
+due_of_events directory token (Ok events) = Run directory token events
 due_of_events directory token (Err line) = Line line
 
 -- what is due once the script was asked for
-abbrev pub due_of_script : Directory → List ℕ → Option (List ℕ) → Report
+abbrev pub due_of_script : Directory → List ℕ → Option (List ℕ) → Due
 due_of_script directory token None = File
 due_of_script directory token (Some script) = due_of_events directory token (events_of directory.peers.known script)
 
 -- what is due once the configuration was read; the last argument is what the files give for the script
-abbrev pub due_of_directory : Result Directory ℕ → List ℕ → Option (List ℕ) → Report
+abbrev pub due_of_directory : Result Directory ℕ → List ℕ → Option (List ℕ) → Due
 due_of_directory (Ok directory) token script = due_of_script directory token script
 due_of_directory (Err line) token script = Line line
 
 -- what is due once the configuration was asked for
-abbrev pub due_of_config : Option (List ℕ) → List ℕ → Option (List ℕ) → Report
+abbrev pub due_of_config : Option (List ℕ) → List ℕ → Option (List ℕ) → Due
 due_of_config None token script = File
 due_of_config (Some config) token script = due_of_directory (directory_of config) token script
 
 -- what is due, by what the words ask and what the files give for CONFIG and SCRIPT
-abbrev pub due_of : Option Asked → Option (List ℕ) → Option (List ℕ) → Report
+abbrev pub due_of : Option Asked → Option (List ℕ) → Option (List ℕ) → Due
 due_of None config script = Usage
 due_of (Some asked) config script = due_of_config config asked.token script
 
 -- what is due over files that tell: the first call is for CONFIG, and the second for SCRIPT
-abbrev pub due_over : Shelf → Option Asked → Report
+abbrev pub due_over : Shelf → Option Asked → Due
 due_over shelf None = Usage
 due_over shelf (Some asked) = due_of_config (answer_at shelf asked.config) asked.token (answer_at (called shelf) asked.script)
 

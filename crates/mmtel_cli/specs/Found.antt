@@ -1,8 +1,11 @@
 -- What was found due, beside what is due.
-use Rattle.std.specs.Prelude.{◌≡◌, ℕ, ◌⊎◌, Some, ⊤}
+use Rattle.std.specs.Prelude.{◌≡◌, ℕ, ◌⊎◌, List, Some, ⊤}
 use Rattle.std.specs.declared.option.Option.{Option}
 use Rattle.mmtel_outside.specs.Counts.{Rose}
 use Rattle.mmtel_outside.specs.Shelf.{Shelf}
+use Rattle.mmtel_cli.specs.Due as due
+use Rattle.mmtel_cli.specs.Due.{Due}
+use Rattle.mmtel_cli.specs.Listings.{Lists}
 use Rattle.mmtel_cli.specs.declared.reports.Report.{Report}
 use Rattle.mmtel_cli.specs.declared.reports.Report.TheVariants.{Usage, Line, File, Memory, Listing}
 
@@ -14,13 +17,20 @@ IsAsked File = ⊤
 IsAsked Memory = ⊤
 IsAsked (Listing text) = ⊤
 
+-- the text lists the run that is to be listed
+abbrev pub IsListing : List ℕ → Due → Type 0
+IsListing text due.Usage = ⊥
+IsListing text (due.Line number) = ⊥
+IsListing text due.File = ⊥
+IsListing text (due.Run directory token events) = Lists directory token events text
+
 -- what was found due is what is due, unless memory ran out
-abbrev pub IsDue : Report → Report → Type 0
-IsDue Memory due = ⊤
-IsDue Usage due = due ≡ Usage
-IsDue (Line line) due = due ≡ Line line
-IsDue File due = due ≡ File
-IsDue (Listing text) due = due ≡ Listing text
+abbrev pub IsDue : Report → Due → Type 0
+IsDue Memory wanted = ⊤
+IsDue Usage wanted = wanted ≡ due.Usage
+IsDue (Line line) wanted = wanted ≡ due.Line line
+IsDue File wanted = wanted ≡ due.File
+IsDue (Listing text) wanted = IsListing text wanted
 
 -- the calls that are due were made; or memory ran out, at the first of them or after the last
 abbrev pub HasCalled : Report → Option Shelf → Shelf → Shelf → Type 0

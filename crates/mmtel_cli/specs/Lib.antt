@@ -1,12 +1,6 @@
 -- What public clauses cite, which a user of the crate has to believe.
 -- The words of the command line:
 pub mod CommandLine
--- What the server offers in a run:
-pub mod Forms
-pub mod Openings
-pub mod Run
--- Noninterference:
-pub mod Mask
 -- A whole run: what was written, answered and asked of the files; and what follows of each status:
 pub mod Runs
 pub mod Sayings
@@ -16,6 +10,6 @@ pub mod Ends
 pub mod Words
 pub mod Asked
 -- What private functions alone cite.
+pub mod Listings
 pub mod Found
 pub mod Gives
-pub mod Stands

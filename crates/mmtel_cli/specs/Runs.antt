@@ -1,23 +1,20 @@
 -- What a whole run of the program wrote, answered and asked of the files, over the words as the grammar of the command line spells them.
-use Rattle.std.specs.Prelude.{◌≡◌, ◌≢◌, ℕ, false, ◌⊎◌, List, codes, IfSome, Some, None, Ok, Err}
-use Rattle.std.specs.Io.KnownBytes.{Appends}
+use Rattle.std.specs.Prelude.{◌≡◌, ◌≢◌, ℕ, ◌⊎◌, List, codes, IfSome, Some, None, Ok, Err}
 use Rattle.std.specs.declared.option.Option.{Option}
 use Rattle.std.specs.declared.result.Result.{Result}
-use Rattle.mmtel_types.specs.declared.numbers.Peer.{Peer}
-use Rattle.mmtel_trust.specs.Peers.{is_trusted}
 use Rattle.mmtel_directory.specs.Directory.{directory_of}
 use Rattle.mmtel_directory.specs.declared.directories.Directory.{Directory}
 use Rattle.mmtel_outside.specs.Counts.{Rose}
 use Rattle.mmtel_outside.specs.Shelf.{Shelf, answer_at, called}
 use Rattle.mmtel_outside.specs.declared.events.Event.{Event}
 use Rattle.mmtel_outside.specs.declared.events.Offer.{Offer}
+use Rattle.mmtel_run.specs.Headline.{Gives, SeesAlike}
+use Rattle.mmtel_run.specs.Short.{IsShortRun}
 use Rattle.mmtel_script.specs.Listing.{listing_of}
 use Rattle.mmtel_script.specs.Script.{events_of}
 use Rattle.mmtel_cli.specs.CommandLine.{IsReplay}
 use Rattle.mmtel_cli.specs.Due.{shelf_of_config}
 use Rattle.mmtel_cli.specs.Ends.{Wrote, WroteListing, line_text}
-use Rattle.mmtel_cli.specs.Mask.{mask}
-use Rattle.mmtel_cli.specs.Run.{gives, view}
 use Rattle.mmtel_cli.specs.Words.{Asked}
 
 -- ---- what was written, and the status
@@ -44,20 +41,14 @@ WroteFile status before after faults now = Said (codes "file\n") 5 status before
 
 -- ---- what was offered
 
--- of these offers, each untrusted peer sees what the definitions give it in any other run that is equal without its private places (RFC 3323, RFC 3325 §7)
-abbrev pub SeesAlike : Directory → List ℕ → List Event → List Offer → Type 0
-SeesAlike directory token events offers =
-    (p : Peer) (other : List Event) → is_trusted p directory.peers.known ≡ false → mask directory events ≡ mask directory other →
-    view p offers ≡ view p (gives directory token other)
-
 -- the run of these events was listed
 pub record Listed (directory : Directory) (token : List ℕ) (events : List Event) (status : ℕ) (before after : Option (List ℕ)) (faults now : ℕ) : Type 0 where
-  -- what the server offered
+  -- what the server offered, where the run is short,
   pub offers : List Offer
   -- is exactly what the definitions of the run give,
-  pub exact : offers ≡ gives directory token events
-  -- keeps the secret of restricted callers,
-  pub secret : SeesAlike directory token events offers
+  pub exact : IsShortRun directory token events → Gives directory token events offers
+  -- keeps the secret of restricted callers (RFC 3323, RFC 3325 §7),
+  pub secret : IsShortRun directory token events → SeesAlike directory token events offers
   -- and its listing was written: whole with status 0, and else a front of it with status 7
   pub written : WroteListing (listing_of offers) status before after faults now
 

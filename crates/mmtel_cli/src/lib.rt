@@ -1,22 +1,20 @@
-//! The program's work: the words of its command line, what the server offers in a run, what is due to be written, and how it runs over what lies outside.
+//! The program's work: the words of its command line, what is due to be written, and how it runs over what lies outside.
 #![tactic(auto)]
 
-mod forms;
 mod laws;
-mod openings;
 mod reports;
-mod steps;
+mod runs;
 mod top;
 mod words;
 
-pub use laws::{runs_keep_the_secret, statuses_say};
+pub use laws::statuses_say;
 pub use mmtel_directory::{Directory, DirectoryFault, read_directory};
 pub use mmtel_outside::{
     DiskFiles, Event, FileFault, Files, MemoryFiles, MemorySink, Offer, OutSink, Sink, write_all,
 };
 pub use mmtel_script::{ScriptFault, ScriptLink, listed_bytes_read_back, listing};
+pub use mmtel_server::{DriveFault, Server, drive};
 pub use mmtel_types::Failed;
 pub use reports::{Report, out_of_memory, write_report};
-pub use steps::offers;
 pub use top::run;
 pub use words::{Replay, command};

@@ -1,5 +1,5 @@
 //! The top call.
-ghost use Rattle.std.specs.Prelude.{◌≡◌, ◌↔◌, ◌≢◌, IfOk, IfSome, Ok, Some, None};
+ghost use Rattle.std.specs.Prelude.{◌≡◌, ◌↔◌, ◌≢◌, IfSome, Ok, Some, None};
 ghost use Rattle.mmtel_cli.specs.Asked.{asked_by};
 ghost use Rattle.mmtel_directory.specs.Directory.{directory_of};
 ghost use Rattle.mmtel_cli.specs.Due.{due_of_events, due_of_script, due_of_directory, due_of_config, due_over, shelf_of_directory, shelf_of_config, shelf_after};
@@ -8,33 +8,21 @@ ghost use Rattle.mmtel_cli.specs.Gives.{GivesScript, GivesBoth, GivesRun};
 ghost use Rattle.mmtel_cli.specs.Runs.{CalledFor, CountsAtFive, Ran};
 ghost use Rattle.mmtel_outside.specs.Shelf.{answer_at, called};
 ghost use Rattle.mmtel_cli.specs.Words.{Asked, replay_of};
+ghost use Rattle.mmtel_script.specs.Script.{unheard};
 
-use crate::laws::runs_keep_the_secret;
 use crate::reports::{Report, write_report};
-use crate::steps::offers;
+use crate::runs::listed;
 use crate::words::{Replay, command};
 use mmtel_directory::{Directory, DirectoryFault, read_directory};
 use mmtel_outside::{FileFault, Files, Sink};
 use mmtel_scan::{NoMemory, Text};
-use mmtel_script::{ScriptFault, ScriptLink, listing};
+use mmtel_script::{ScriptFault, ScriptLink};
 use std::alloc::Global;
 
-/// The listing of what the run of a script's events offers.
-fn listed(
-    alloc: Global,
-    directory: &Directory,
-    token: &[u8],
-    script: &ScriptLink,
-) -> Result<Text, NoMemory>
-    ensures text { IfOk result (λ text. Report.Listing text ≡ due_of_events directory.now token.now (Ok script.now)) }
-{
-    let offered = offers(alloc, directory, token, script)?;
-    listing(alloc, &offered)
-}
-
 /// What is due once both files were read and the script's grammar holds.
-fn over_events(alloc: Global, directory: &Directory, token: &[u8], script: &ScriptLink) -> Report
-    ensures due { IsDue result (due_of_events directory.now token.now (Ok script.now)) }
+fn over_events(alloc: Global, directory: Directory, token: &[u8], script: &mut ScriptLink) -> Report
+    requires unheard { script.old ≡ unheard script.old.events }
+    ensures due { IsDue result (due_of_events directory token.now (Ok script.old.events)) }
     ensures read { IsRead result }
 {
     match listed(alloc, directory, token, script) {
@@ -44,12 +32,12 @@ fn over_events(alloc: Global, directory: &Directory, token: &[u8], script: &Scri
 }
 
 /// What is due once both files were read.
-fn over_script(alloc: Global, directory: &Directory, token: &[u8], script: &Text) -> Report
-    ensures due { IsDue result (due_of_script directory.now token.now (Some script.now)) }
+fn over_script(alloc: Global, directory: Directory, token: &[u8], script: &Text) -> Report
+    ensures due { IsDue result (due_of_script directory token.now (Some script.now)) }
     ensures read { IsRead result }
 {
     match ScriptLink::read(alloc, script.bytes(), &directory.peers) {
-        Ok(script) => over_events(alloc, directory, token, &script),
+        Ok(mut script) => over_events(alloc, directory, token, &mut script),
         Err(ScriptFault::BadLine { line }) => Report::Line(line),
         Err(ScriptFault::NoMemory) => Report::Memory,
     }
@@ -59,19 +47,25 @@ fn over_script(alloc: Global, directory: &Directory, token: &[u8], script: &Text
 fn over_directory<F: Files>(
     alloc: Global,
     replay: Replay<'_>,
-    directory: &Directory,
+    directory: Directory,
     files: &mut F,
 ) -> Report
-    ensures due { IfSome (F.told files.old) (λ shelf. IsDue result (due_of_script directory.now replay.entry.token.now (answer_at shelf replay.entry.script.now))) }
-    ensures gives { GivesScript (F.told files.old) (asked_by replay.entry) (Ok directory.now) result }
+    ensures due { IfSome (F.told files.old) (λ shelf. IsDue result (due_of_script directory replay.entry.token.now (answer_at shelf replay.entry.script.now))) }
+    ensures gives { GivesScript (F.told files.old) (asked_by replay.entry) (Ok directory) result }
     ensures calls { IfSome (F.told files.old) (λ shelf. F.told files.new ≡ Some (called shelf)) }
     ensures count { CountsFiles result (F.faults files.old) (F.faults files.new) }
     ensures asked { result ≢ Report.Usage }
 {
     match files.read(alloc, replay.script) {
         Ok(script) => over_script(alloc, directory, replay.token, &script),
-        Err(FileFault::Failed) => Report::File,
-        Err(FileFault::NoMemory) => Report::Memory,
+        Err(FileFault::Failed) => {
+            drop(directory);
+            Report::File
+        }
+        Err(FileFault::NoMemory) => {
+            drop(directory);
+            Report::Memory
+        }
     }
 }
 
@@ -84,7 +78,7 @@ fn over_config<F: Files>(alloc: Global, replay: Replay<'_>, config: &Text, files
     ensures asked { result ≢ Report.Usage }
 {
     match read_directory(alloc, config.bytes()) {
-        Ok(directory) => over_directory(alloc, replay, &directory, files),
+        Ok(directory) => over_directory(alloc, replay, directory, files),
         Err(DirectoryFault::BadLine { line }) => Report::Line(line),
         Err(DirectoryFault::NoMemory) => Report::Memory,
     }
@@ -130,7 +124,6 @@ pub fn run<F: Files, S: Sink>(alloc: Global, words: &[Text], files: &mut F, out:
     // When the count of their faults rose.
     ensures files { CountsAtFive result (F.faults files.old) (F.faults files.new) }
 {
-    runs_keep_the_secret();
     let due = prepare(alloc, words, files);
     write_report(&due, out)
 }

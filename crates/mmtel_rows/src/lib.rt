@@ -4,12 +4,28 @@
 #![tactic(auto)]
 
 #[cfg(test)]
+mod datagrams;
+#[cfg(test)]
 mod devices;
+#[cfg(test)]
+mod limits;
 #[cfg(test)]
 mod openings;
 #[cfg(test)]
+mod pages;
+#[cfg(test)]
+mod repeated_invite;
+#[cfg(test)]
 mod runs;
 #[cfg(test)]
+mod silence;
+#[cfg(test)]
 mod tables;
+#[cfg(test)]
+mod unbuilt;
+#[cfg(test)]
+mod unrestricted_invite;
+#[cfg(test)]
+mod untrusted_identity;
 #[cfg(test)]
 mod words;

@@ -1,8 +1,8 @@
 //! Openings: the INVITE of a caller who asks for privacy, from a trusted peer to one that is not.
 
 use crate::runs::{is_right, sound};
-use mmtel_cli::{Directory, ScriptLink, listing, offers, read_directory};
-use mmtel_scan::Text;
+use mmtel_cli::{ScriptLink, Server, drive, listing, read_directory};
+use mmtel_scan::{List, Text};
 use std::alloc::Global;
 
 /// A server with a trusted peer and one that is not.
@@ -99,7 +99,7 @@ at 0 to 2
 |
 ";
 
-/// An opening at 500, and then events whose forms are not built yet, one of them with a lower moment than the one before it.
+/// An opening at 500, and then datagrams that are no messages, one of them with a lower moment than the one before it.
 const SEVERAL: &str = "at 500 peer 1
 |INVITE sip:bob@far.example SIP/2.0
 |Via: SIP/2.0/UDP 127.0.0.1:5071;branch=z9hG4bKa1
@@ -120,6 +120,7 @@ at 700 peer 1
 at 1000 peer 2
 ";
 
+/// The datagrams are dropped; the INVITE, which nobody answered, is sent again after 500 (RFC 3261 §17.1.1.2).
 const SEVERAL_OFFERS: &str = "at 500 to 1
 |SIP/2.0 100 Trying
 |Via: SIP/2.0/UDP 127.0.0.1:5071;branch=z9hG4bKa1
@@ -140,12 +141,20 @@ at 500 to 2
 |Contact: <sip:127.0.0.1:5060>
 |Content-Length: 0
 |
-at 900 unbuilt
-at 900 unbuilt
-at 1000 unbuilt
+at 1000 to 2
+|INVITE sip:bob@far.example SIP/2.0
+|Via: SIP/2.0/UDP 127.0.0.1:5060;branch=z9hG4bK0123456789abcdef-4
+|Max-Forwards: 67
+|From: \"Anonymous\" <sip:anonymous@anonymous.invalid>;tag=0123456789abcdef-3
+|To: <sip:bob@far.example>
+|Call-ID: 0123456789abcdef-2
+|CSeq: 1 INVITE
+|Contact: <sip:127.0.0.1:5060>
+|Content-Length: 0
+|
 ";
 
-/// The same INVITE from the peer that is not trusted is of no form that is built yet.
+/// The same INVITE from the peer that is not trusted.
 const UNTRUSTED: &str = "at 0 peer 2
 |INVITE sip:bob@far.example SIP/2.0
 |Via: SIP/2.0/UDP 127.0.0.1:5072;branch=z9hG4bKa1
@@ -161,17 +170,25 @@ const UNTRUSTED: &str = "at 0 peer 2
 |
 ";
 
-/// Erin asks for no privacy: a form that is not built yet.
-const UNRESTRICTED: &str = "at 0 peer 1
-|INVITE sip:bob@far.example SIP/2.0
-|Via: SIP/2.0/UDP 127.0.0.1:5071;branch=z9hG4bKa1
-|Max-Forwards: 68
+/// The identity that it asserts is not believed, and Erin is anonymous.
+const UNTRUSTED_OFFERS: &str = "at 0 to 2
+|SIP/2.0 100 Trying
+|Via: SIP/2.0/UDP 127.0.0.1:5072;branch=z9hG4bKa1
 |From: \"Erin\" <sip:erin@other.example>;tag=a
 |To: <sip:bob@far.example>
 |Call-ID: c1
 |CSeq: 7 INVITE
-|Contact: <sip:erin@127.0.0.1:5071>
-|P-Asserted-Identity: <sip:erin@other.example>
+|Content-Length: 0
+|
+at 0 to 2
+|INVITE sip:bob@far.example SIP/2.0
+|Via: SIP/2.0/UDP 127.0.0.1:5060;branch=z9hG4bK0123456789abcdef-4
+|Max-Forwards: 67
+|From: \"Anonymous\" <sip:anonymous@anonymous.invalid>;tag=0123456789abcdef-3
+|To: <sip:bob@far.example>
+|Call-ID: 0123456789abcdef-2
+|CSeq: 1 INVITE
+|Contact: <sip:127.0.0.1:5060>
 |Content-Length: 0
 |
 ";
@@ -216,7 +233,7 @@ at 0 to 2
 ";
 
 /// Whether a run of the script lists this.
-fn is_listed(alloc: Global, script: &str, offers: &str) -> bool {
+pub fn is_listed(alloc: Global, script: &str, offers: &str) -> bool {
     let files = [("server.cfg", CONFIG), ("run.script", script)];
     let words = "replay|server.cfg|run.script|--token|0123456789abcdef";
     is_right(alloc, words, sound(&files), 0, offers)
@@ -229,8 +246,7 @@ fn restricted_openings(rt: HostRuntime) {
         (RESTRICTED, RESTRICTED_OFFERS),
         (OTHER_CALLER, OTHER_OFFERS),
         (SEVERAL, SEVERAL_OFFERS),
-        (UNTRUSTED, "at 0 unbuilt\n"),
-        (UNRESTRICTED, "at 0 unbuilt\n"),
+        (UNTRUSTED, UNTRUSTED_OFFERS),
         (FEWER_HOPS, FEWER_HOPS_OFFERS),
         ("", ""),
     ];
@@ -238,25 +254,32 @@ fn restricted_openings(rt: HostRuntime) {
     assert!(rt; rows.iter().all(|row| is_listed(alloc, row.0, row.1)));
 }
 
-/// The listing of what the events of a script make the server offer, by the calls right below the top call.
-fn offered(alloc: Global, directory: &Directory, script: &str) -> Option<Text> {
-    let script = ScriptLink::read(alloc, script.as_bytes(), &directory.peers).ok()?;
-    let offers = offers(alloc, directory, b"0123456789abcdef", &script).ok()?;
-    listing(alloc, &offers).ok()
+/// The listing of what a script makes a server offer in so many turns, by the calls right below the top call; None where the link did not end as it is due to.
+fn offered(alloc: Global, script: &str, turns: u64, closed: bool) -> Option<Text> {
+    let directory = read_directory(alloc, CONFIG.as_bytes()).ok()?;
+    let mut script = ScriptLink::read(alloc, script.as_bytes(), &directory.peers).ok()?;
+    let token = Text::of(alloc, b"0123456789abcdef").ok()?;
+    let mut server = Server::new(directory, token);
+    let mut out = List::new();
+    match drive(alloc, &mut server, &mut script, turns, &mut out) {
+        Ok(end) if end == closed => listing(alloc, &out).ok(),
+        _ => None,
+    }
 }
 
-/// Whether the events make the server offer this.
-fn is_offered(alloc: Global, directory: &Directory, script: &str, text: &str) -> bool {
-    match offered(alloc, directory, script) {
+/// Whether that is listed as this.
+fn is_offered(alloc: Global, script: &str, turns: u64, closed: bool, text: &str) -> bool {
+    match offered(alloc, script, turns, closed) {
         None => false,
         Some(listed) => listed.bytes() == text.as_bytes(),
     }
 }
 
+/// One turn takes the one event, and one more comes to the end.
 #[test]
-fn offers_of_an_opening(rt: HostRuntime) {
-    let directory = read_directory(rt.alloc(), CONFIG.as_bytes());
-    assert!(rt;
-        matches!(&directory, Ok(read) if is_offered(rt.alloc(), read, RESTRICTED, RESTRICTED_OFFERS))
-    );
+fn turns_over_an_opening(rt: HostRuntime) {
+    let alloc = rt.alloc();
+    assert!(rt; is_offered(alloc, RESTRICTED, 0, false, ""));
+    assert!(rt; is_offered(alloc, RESTRICTED, 1, false, RESTRICTED_OFFERS));
+    assert!(rt; is_offered(alloc, RESTRICTED, 2, true, RESTRICTED_OFFERS));
 }

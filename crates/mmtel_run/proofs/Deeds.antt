@@ -1,11 +1,12 @@
 -- Each deed leaves worlds alike that were alike: what is due to trusted peers decides nothing, and of kin messages the same is done.
 use Rattle.std.proofs.Common.{◌≡◌, ℕ, zero, suc, ◌+◌, List, [], ◌∷◌, ◌++◌, length, refl, sym, ap, ◌∙◌, Bool, true, false, ◌&&◌, Option, Some, None, inl, inr, arith, subst, append-nil}
-use Rattle.std.specs.Prelude.{option_map, ◌==◌}
+use Rattle.std.specs.Prelude.{codes, if◌then◌else◌, option_map, ◌==◌}
 use Rattle.std.specs.List.{list_any}
 use Rattle.std.proofs.lemmas.Bool.{cases_Bool}
 use Rattle.std.proofs.lemmas.Bool.Decides.{nat_tests}
 use Rattle.mmtel_answers.specs.declared.attempts.Aim.{Aim}
 use Rattle.mmtel_directory.specs.declared.directories.Directory.{Directory}
+use Rattle.mmtel_message.specs.Faults.{is_method}
 use Rattle.mmtel_message.specs.Message.{Message}
 use Rattle.mmtel_message.specs.Texts.{message_text}
 use Rattle.mmtel_message.specs.declared.messages.Start.{Start}
@@ -36,7 +37,7 @@ use Rattle.mmtel_run.specs.Openings.{attempt, names, opening_draws, trying}
 use Rattle.mmtel_run.specs.Refusals.{Course, Refuse, Open, Unbuilt, course}
 use Rattle.mmtel_run.specs.Run.{due_in, fire_one, fired_if, settled}
 use Rattle.mmtel_run.specs.View.{view}
-use Rattle.mmtel_run.specs.World.{World, answering, begun, drawing, emit_one, fired, fired_in, hearing, offering, opening, refusing, repeating, replying, replying_plainly, rung, taking, taking_fresh, to_peer, told, unbuilt}
+use Rattle.mmtel_run.specs.World.{World, answering, begun, drawing, emit_one, fired, fired_in, heard_again, hearing, offering, opening, refusing, repeating, replying, replying_plainly, rung, taking, taking_fresh, to_peer, told, unbuilt}
 
 -- ---- views
 
@@ -305,11 +306,22 @@ module _ (law : TextsDecideNothing) (new : NewPeers) (d e : Directory) (token : 
         taking_fresh-alike at peer source m n kin (length (opened v.acts)) (length (opened w.acts)) _ _ a.acts.next
         (λ q r. some_same peer q (sym (new w.acts peer (message_in n) at) ∙ r)) (heard_alike part.Fresh)
 
+    again_by : (b : Bool) (x y : Option (Peer × List ℕ)) (u t : World) → option_map (blank_given (trusts d)) x ≡ option_map (blank_given (trusts d)) y → AlikeWorlds d u t
+        → AlikeWorlds d (if b then unbuilt at u else repeating at x u) (if b then unbuilt at t else repeating at y t)
+    again_by true x y u t s b = unbuilt-alike at u t b
+    again_by false x y u t s b = repeating-alike at x y u t s b
+
+    heard_again-alike : (x y : Option (Peer × List ℕ)) (u t : World) → option_map (blank_given (trusts d)) x ≡ option_map (blank_given (trusts d)) y → AlikeWorlds d u t
+        → AlikeWorlds d (heard_again at (said_by peer source m) x u) (heard_again at (said_by peer source n) y t)
+    heard_again-alike x y u t s b =
+        subst (λ (z : Start). AlikeWorlds d (if is_method (codes "CANCEL") z then unbuilt at u else repeating at x u) (heard_again at (said_by peer source n) y t)) (sym kin.start)
+        (again_by (is_method (codes "CANCEL") n.start) x y u t s b)
+
     told_by-alike : (t : Part) → AlikeWorlds d (told_by d at peer source m t v) (told_by e at peer source n t w)
     told_by-alike part.Fresh = fresh_alike (is_cancel (head_of (message_in m))) (is_cancel (head_of (message_in n))) _ _ (ap is_cancel kin.head)
     told_by-alike part.Full = replying_plainly-alike at peer source m n kin (plainly 503) v w a
-    told_by-alike (part.Repeat k) = repeating-alike at _ _ _ _ (((law (trusts d) v.acts w.acts a.acts).0).again peer k) (heard_alike (part.Repeat k))
-    told_by-alike (part.Same k) = repeating-alike at _ _ _ _ (((law (trusts d) v.acts w.acts a.acts).0).same k) (heard_alike (part.Same k))
+    told_by-alike (part.Repeat k) = heard_again-alike _ _ _ _ (((law (trusts d) v.acts w.acts a.acts).0).again peer k) (heard_alike (part.Repeat k))
+    told_by-alike (part.Same k) = heard_again-alike _ _ _ _ (((law (trusts d) v.acts w.acts a.acts).0).same k) (heard_alike (part.Same k))
     told_by-alike (part.Answer k) = unbuilt-alike at _ _ (heard_alike (part.Answer k))
     told_by-alike (part.Acked k) = heard_alike (part.Acked k)
     told_by-alike part.AckOf2xx = heard_alike part.AckOf2xx

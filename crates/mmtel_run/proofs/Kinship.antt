@@ -1,6 +1,6 @@
 -- Two messages of a peer that are equal without their private places are kin: the same is done with them, and what is built of them differs in texts to trusted peers alone.
 use Rattle.std.proofs.Common.{◌≡◌, ℕ, suc, List, [], ◌∷◌, length, refl, sym, ap, ◌∙◌, Bool, true, false, ◌&&◌, not, Option, Some, None, codes, map, subst, append-nil}
-use Rattle.std.specs.Prelude.{◌==◌, is_none, if◌then◌else◌, Ok, Err}
+use Rattle.std.specs.Prelude.{◌==◌, ◌||◌, is_none, if◌then◌else◌, Ok, Err}
 use Rattle.std.specs.declared.result.Result.{Result}
 use Rattle.mmtel_answers.specs.Attempts.{calling, invite_of}
 use Rattle.mmtel_answers.specs.Answers.{own_reply}
@@ -38,7 +38,7 @@ use Rattle.mmtel_run.specs.Answers.{Answer, response_to}
 use Rattle.mmtel_run.specs.Events.{message_in}
 use Rattle.mmtel_run.specs.Mask.{by_words, mask_said}
 use Rattle.mmtel_run.specs.Openings.{Names, attempt, facing, is_hiding, shown_to}
-use Rattle.mmtel_run.specs.Refusals.{Course, Refuse, Unbuilt, course, course_by, course_of, first_that_applies, invited, is_diverted, is_room, opening_by, opening_to, peer_for, refusals}
+use Rattle.mmtel_run.specs.Refusals.{Course, Refuse, Unbuilt, course, course_by, course_of, first_that_applies, invited, is_diverted, is_factory, is_of_conference, is_room, opening_by, opening_to, peer_for, refusals}
 use Rattle.mmtel_run.specs.Answers.{allowing, plainly}
 use Rattle.mmtel_run.proofs.Deeds.{true_false}
 
@@ -55,8 +55,9 @@ OpenAnswersAreKept = (p : Places) (start : Start) (ls : List Line) (r : Reply) �
 module _ (d e : Directory) (equal : EqualButForAccounts d e) where
   peer_same : (routes : List (List ℕ)) (target : Result Uri Refusal) → peer_for d routes target ≡ peer_for e routes target
   peer_same routes (Ok target) =
-      ap (λ (s : Addr). if is_room s target then None else next_hop d.peers.routes routes target) equal.sip
-      ∙ ap (λ (t : Peers). if is_room e.sip target then None else next_hop t.routes routes target) equal.peers
+      ap (λ (s : Addr). if is_room s target || is_factory d.factory target then None else next_hop d.peers.routes routes target) equal.sip
+      ∙ (ap (λ (f : Option Uri). if is_room e.sip target || is_factory f target then None else next_hop d.peers.routes routes target) equal.factory
+      ∙ ap (λ (t : Peers). if is_of_conference e target then None else next_hop t.routes routes target) equal.peers)
   peer_same routes (Err refusal) = refl
 
   opening_same : (routes : List (List ℕ)) (m : HeardMessage) → opening_by d routes m ≡ opening_by e routes m
@@ -122,6 +123,7 @@ module _ (d e : Directory) (equal : EqualButForAccounts d e) where
   -- one message
   kin_self : (peer : Peer) (source : Addr) (m : HeardMessage) → Kin d e peer source m m
   kin_self peer source m = record {
+    start = refl;
     head = refl;
     to_tag = refl;
     decided = λ merged. decided_alike merged m m refl refl;
@@ -201,6 +203,7 @@ module _ (d e : Directory) (equal : EqualButForAccounts d e) where
 
     pub kin_masked : Kin d e peer source m n
     kin_masked = record {
+      start = ap (λ (x : HeardMessage). x.start) alike.public;
       head = heads (places_of by_words [] m) (places_of by_words [] n) m n left;
       to_tag = ap (λ (x : HeardMessage). x.to_tag) alike.public;
       decided = λ merged. decided_alike merged m n diverted alike.public;

@@ -24,6 +24,7 @@ use Rattle.mmtel_run.specs.World.{World}
 pub record EqualButForAccounts (one other : Directory) : Type 0 where
   pub sip : one.sip ≡ other.sip
   pub home : one.home ≡ other.home
+  pub factory : one.factory ≡ other.factory
   pub peers : one.peers ≡ other.peers
 
 abbrev pub trusts : Directory → Peer → Bool
@@ -37,6 +38,7 @@ said_by peer source message = record { peer = peer; source = source; heard = mes
 
 -- what a run reads and builds of two messages of a peer is the same, but for texts that are due to trusted peers, and of these the heads are the same
 pub record Kin (one other : Directory) (peer : Peer) (source : Addr) (message second : HeardMessage) : Type 0 where
+  pub start : message.start ≡ second.start
   pub head : head_of (message_in message) ≡ head_of (message_in second)
   pub to_tag : message.to_tag ≡ second.to_tag
   -- what is done with them

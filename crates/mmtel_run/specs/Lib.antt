@@ -10,6 +10,7 @@ pub mod Answers
 pub mod Openings
 -- The run:
 pub mod Run
+pub mod Short
 pub mod View
 -- What two runs are compared by, and in what they are alike:
 pub mod Mask

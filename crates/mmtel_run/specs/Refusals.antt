@@ -1,5 +1,5 @@
 -- What is done with a request that opens a transaction: the first refusal that applies (RFC 3261 §8.2), or what its method asks for. It reads public parts alone.
-use Rattle.std.specs.Prelude.{ℕ, Bool, true, false, not, ◌&&◌, ◌==◌, if◌then◌else◌, List, [], ◌∷◌, length, codes, Option, Some, None, is_none, is_some, Ok, Err}
+use Rattle.std.specs.Prelude.{ℕ, Bool, true, false, not, ◌&&◌, ◌||◌, ◌==◌, if◌then◌else◌, List, [], ◌∷◌, length, codes, Option, Some, None, is_none, is_some, Ok, Err}
 use Rattle.std.specs.List.{list_all, list_any}
 use Rattle.std.specs.declared.result.Result.{Result}
 use Rattle.mmtel_answers.specs.Attempts.{first_aim}
@@ -7,6 +7,7 @@ use Rattle.mmtel_answers.specs.declared.attempts.Aim.{Aim}
 use Rattle.mmtel_directory.specs.declared.directories.Directory.{Directory}
 use Rattle.mmtel_leg.specs.Dialogues.{request_uri}
 use Rattle.mmtel_lex.specs.Reading.{uri_of, Refusal, foreign, malformed}
+use Rattle.mmtel_lex.specs.SameIdentity.{is_same_identity}
 use Rattle.mmtel_lex.specs.declared.values.Uri.{Uri}
 use Rattle.mmtel_lex.specs.declared.values.Uri.TheVariants.{Sip, Tel}
 use Rattle.mmtel_message.specs.Faults.{is_method}
@@ -83,9 +84,18 @@ abbrev pub is_room : (sip : Addr) → Uri → Bool
 is_room sip (Sip user host port params headers) = names_server sip (Sip user host port params headers) && is_room_user user
 is_room sip (Tel number params) = false
 
--- the peer to which a target leads, by the first Route value that is kept or else by itself; None where none does, or where the target is a room of the server
+-- the URI at which rooms are made
+abbrev pub is_factory : (factory : Option Uri) → Uri → Bool
+is_factory None target = false
+is_factory (Some uri) target = is_same_identity uri target
+
+-- a conference room of the server, or the factory of rooms (RFC 4579 §5.4): neither is built yet
+abbrev pub is_of_conference : Directory → Uri → Bool
+is_of_conference directory target = is_room directory.sip target || is_factory directory.factory target
+
+-- the peer to which a target leads, by the first Route value that is kept or else by itself; None where none does, or where the target is of a conference
 abbrev pub peer_for : Directory → (routes : List (List ℕ)) → Result Uri Refusal → Option Peer
-peer_for directory routes (Ok target) = if is_room directory.sip target then None else next_hop directory.peers.routes routes target
+peer_for directory routes (Ok target) = if is_of_conference directory target then None else next_hop directory.peers.routes routes target
 peer_for directory routes (Err refusal) = None
 
 abbrev pub opening_to : (routes : List (List ℕ)) → HeardMessage → Option Peer → Course

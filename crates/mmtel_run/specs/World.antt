@@ -1,8 +1,9 @@
 -- What was done in a run so far, layer by layer, and what each deed adds. Of a layer stands the list of the calls that were made of it, never a table: what was opened, is live or is due is a function of that list.
-use Rattle.std.specs.Prelude.{ℕ, ◌+◌, List, [], ◌∷◌, ◌++◌, Option, Some, None}
+use Rattle.std.specs.Prelude.{ℕ, ◌+◌, List, [], ◌∷◌, ◌++◌, codes, Option, Some, None, if◌then◌else◌}
 use Rattle.mmtel_answers.specs.Said.{Said}
 use Rattle.mmtel_answers.specs.declared.attempts.Aim.{Aim}
 use Rattle.mmtel_directory.specs.declared.directories.Directory.{Directory}
+use Rattle.mmtel_message.specs.Faults.{is_method}
 use Rattle.mmtel_message.specs.Message.{Message}
 use Rattle.mmtel_message.specs.Texts.{message_text}
 use Rattle.mmtel_message.specs.declared.messages.Start.{Start}
@@ -135,12 +136,16 @@ abbrev pub repeating : ℕ → Option (Peer × List ℕ) → World → World
 repeating at None world = world
 repeating at (Some sent) world = emitted at (emit.Plain sent.0 sent.1 ∷ []) world
 
+-- a message that is heard again, with what was sent before; a CANCEL is not built yet, however often it is heard
+abbrev pub heard_again : ℕ → Said → Option (Peer × List ℕ) → World → World
+heard_again at said sent world = if is_method (codes "CANCEL") said.heard.start then unbuilt at world else repeating at sent world
+
 -- what is done with a message, by what the transactions say of it; None where too many of them are live. CANCEL and answers are not built yet
 abbrev pub answering : Directory → (token : List ℕ) → ℕ → Said → Option transaction.Heard → World → World
 answering directory token at said None world = replying_plainly directory token at said (plainly 503) world
 answering directory token at said (Some (heard.Fresh key message)) world = taking_fresh directory token at key said world
 answering directory token at said (Some (heard.Answer key message)) world = unbuilt at world
-answering directory token at said (Some (heard.Repeat sent)) world = repeating at sent world
+answering directory token at said (Some (heard.Repeat sent)) world = heard_again at said sent world
 answering directory token at said (Some (heard.Acked key)) world = world
 answering directory token at said (Some (heard.Cancel key invite message)) world = unbuilt at world
 answering directory token at said (Some (heard.AckOf2xx message)) world = world

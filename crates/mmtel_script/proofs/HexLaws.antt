@@ -41,6 +41,8 @@ onto : (bytes : List ℕ) (byte : ℕ) (w : Option (List ℕ)) → option_map (�
 onto bytes byte None = refl
 onto bytes byte (Some m) = ap (λ (l : List ℕ). Some l) (append_assoc bytes (byte ∷ []) m)
 
-pub next_pair : (bytes new s : List ℕ) (byte : ℕ) (more : List ℕ) (all : Option (List ℕ)) → new ≡ bytes ++ byte ∷ [] → hex_bytes s ≡ with_first byte (hex_bytes more) → option_map (λ m. bytes ++ m) (hex_bytes s) ≡ all → option_map (λ m. new ++ m) (hex_bytes more) ≡ all
+pub next_pair : (bytes new s : List ℕ) (byte : ℕ) (more : List ℕ) (all : Option (List ℕ)) → new ≡ bytes ++ byte ∷ [] →
+    hex_bytes s ≡ with_first byte (hex_bytes more) → option_map (λ m. bytes ++ m) (hex_bytes s) ≡ all → option_map (λ m. new ++ m) (hex_bytes more) ≡ all
 next_pair bytes new s byte more all pushed first before =
-    subst (λ (n : List ℕ). option_map (λ m. n ++ m) (hex_bytes more) ≡ all) (sym pushed) (onto bytes byte (hex_bytes more) ∙ ap (λ (o : Option (List ℕ)). option_map (λ m. bytes ++ m) o) (sym first) ∙ before)
+    subst (λ (n : List ℕ). option_map (λ m. n ++ m) (hex_bytes more) ≡ all) (sym pushed)
+    (onto bytes byte (hex_bytes more) ∙ ap (λ (o : Option (List ℕ)). option_map (λ m. bytes ++ m) o) (sym first) ∙ before)

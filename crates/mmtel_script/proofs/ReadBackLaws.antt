@@ -1,5 +1,5 @@
 -- What a listing writes of bytes gives the bytes back.
-use Rattle.std.proofs.Common.{◌≡◌, ◌==◌, ◌&&◌, Bool, true, false, not, cond, nat_lt, map, ℕ, ◌+◌, ◌-◌, ◌*◌, ◌/◌, ◌%◌, ◌≤◌, ◌<◌, List, [], ◌∷◌, ◌++◌, length, take, drop, Option, Some, None, refl, ap, sym, ◌∙◌, arith, append_assoc, inl, inr}
+use Rattle.std.proofs.Common.{◌≡◌, ◌==◌, ◌&&◌, Bool, true, false, not, nat_lt, map, ℕ, ◌+◌, ◌-◌, ◌*◌, ◌/◌, ◌%◌, ◌≤◌, ◌<◌, List, [], ◌∷◌, ◌++◌, length, take, drop, Option, Some, None, refl, ap, sym, ◌∙◌, arith, append_assoc, inl, inr}
 use Rattle.std.specs.Prelude.{codes, nat_le}
 use Rattle.std.specs.Str.{bytes_eq}
 use Rattle.std.specs.List.{list_all, flat_map, onto_first}
@@ -183,8 +183,10 @@ listed known (p ∷ ps) all =
     let both = and_true (list_all is_byte p) (list_all (λ q. list_all is_byte q) ps) all in
     let first = lists_by known p (before_crlf p) both.0 refl in
     let rest : List ℕ = flat_map piece_line ps in
-    let lines : lines_of (piece_line p ++ rest) ≡ first.line ∷ lines_of rest = ap (λ (t : List ℕ). lines_of (t ++ rest)) first.whole ∙ ap lines_of (append_assoc first.line (10 ∷ []) rest) ∙ lines_at first.line rest first.free in
-    ap (forms_of known) lines ∙ ap (λ (f : Option ScriptLine). f ∷ forms_of known (lines_of rest)) first.form ∙ ap (λ (fs : List (Option ScriptLine)). Some (Data p) ∷ fs) (listed known ps both.1)
+    let lines : lines_of (piece_line p ++ rest) ≡ first.line ∷ lines_of rest =
+    ap (λ (t : List ℕ). lines_of (t ++ rest)) first.whole ∙ ap lines_of (append_assoc first.line (10 ∷ []) rest) ∙ lines_at first.line rest first.free in
+    ap (forms_of known) lines ∙ ap (λ (f : Option ScriptLine). f ∷ forms_of known (lines_of rest)) first.form ∙
+    ap (λ (fs : List (Option ScriptLine)). Some (Data p) ∷ fs) (listed known ps both.1)
 
 pub reads_back : (known : List KnownPeer) (bytes : List ℕ) → AreBytes bytes → ReadsBack known bytes
 reads_back known bytes all = record {
@@ -206,5 +208,6 @@ same_pieces (p ∷ ps) (q ∷ qs) e =
 
 pub told_apart : (a b : List ℕ) → AreBytes a → AreBytes b → data_lines a ≡ data_lines b → a ≡ b
 told_apart a b all others e =
-    let forms : map (λ p. Some (Data p)) (pieces_of a) ≡ map (λ p. Some (Data p)) (pieces_of b) = sym (listed [] (pieces_of a) (pieces_bytes false a all)) ∙ ap (λ (t : List ℕ). forms_of [] (lines_of t)) e ∙ listed [] (pieces_of b) (pieces_bytes false b others) in
+    let forms : map (λ p. Some (Data p)) (pieces_of a) ≡ map (λ p. Some (Data p)) (pieces_of b) =
+    sym (listed [] (pieces_of a) (pieces_bytes false a all)) ∙ ap (λ (t : List ℕ). forms_of [] (lines_of t)) e ∙ listed [] (pieces_of b) (pieces_bytes false b others) in
     sym (joined false a) ∙ ap (λ (ps : List (List ℕ)). flat_map (λ p. p) ps) (same_pieces (pieces_of a) (pieces_of b) forms) ∙ joined false b

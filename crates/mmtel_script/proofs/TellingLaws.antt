@@ -1,5 +1,5 @@
 -- What is told line by line is the events that the lines say.
-use Rattle.std.proofs.Common.{◌≡◌, Bool, true, false, cond, ℕ, ◌+◌, List, [], ◌∷◌, ◌++◌, Option, Some, None, Result, Ok, Err, refl, ap, sym, subst, ◌∙◌, append_assoc}
+use Rattle.std.proofs.Common.{◌≡◌, Bool, false, cond, ℕ, ◌+◌, List, [], ◌∷◌, ◌++◌, Option, Some, None, Result, Ok, Err, refl, ap, sym, subst, ◌∙◌, append_assoc}
 use Rattle.std.proofs.lemmas.List.{append-nil}
 use Rattle.mmtel_scan.specs.Chain.{◌>>=◌}
 use Rattle.mmtel_trust.specs.declared.parties.KnownPeer.{KnownPeer}
@@ -11,8 +11,8 @@ use Rattle.mmtel_script.specs.declared.scripts.ScriptFault.{ScriptFault}
 use Rattle.mmtel_script.specs.declared.scripts.ScriptFault.TheVariants as fault
 use Rattle.mmtel_script.specs.declared.tellings.Telling.{Telling}
 use Rattle.mmtel_directory.specs.Lines.{lines_of, and_then, said_by}
-use Rattle.mmtel_script.specs.Script.{Answers, line_of, holds_bytes, takes_bytes, stands, next_said, data_of, with_bytes, events_in, events_from, events_of}
-use Rattle.mmtel_script.specs.Tellings.{Reads, nothing_told, closed, all_told, with_line, telling}
+use Rattle.mmtel_script.specs.Script.{line_of, holds_bytes, takes_bytes, stands, next_said, data_of, with_bytes, events_in, events_from, events_of}
+use Rattle.mmtel_script.specs.Tellings.{Gathers, Reads, nothing_told, closed, all_told, with_line, telling}
 
 -- ---- what is told, and lines that follow
 
@@ -54,7 +54,8 @@ ends : (events : List Event) (last : Option Event) → events ++ with_last last 
 ends events None = append-nil events
 ends events (Some event) = ap (λ (e : Event). events ++ e ∷ []) (with_nothing event)
 
-starts : (events : List Event) (last : Option Event) (event : Event) (lines : List ScriptLine) → closed events last ++ events_in (Begins event ∷ lines) ≡ events ++ with_last last (Begins event ∷ lines)
+starts : (events : List Event) (last : Option Event) (event : Event) (lines : List ScriptLine) →
+    closed events last ++ events_in (Begins event ∷ lines) ≡ events ++ with_last last (Begins event ∷ lines)
 starts events None event lines = refl
 starts events (Some before) event lines =
     append_assoc events (before ∷ []) (events_in (Begins event ∷ lines)) ∙ ap (λ (e : Event). events ++ e ∷ events_in (Begins event ∷ lines)) (sym (with_nothing before))
@@ -86,10 +87,12 @@ begun told said event is = record {
   same = λ more. starts told.events told.last event more ∙ is.same (Begins event ∷ more) ∙ ap events_in (sym (said_more said (Begins event) more));
 }
 
-data_added : (events : List Event) (event : Event) (said : List ScriptLine) (bytes : List ℕ) → Tells (record { events = events; last = Some event }) said → Tells (record { events = events; last = Some (with_bytes event bytes) }) (said ++ Data bytes ∷ [])
+data_added : (events : List Event) (event : Event) (said : List ScriptLine) (bytes : List ℕ) → Tells (record { events = events; last = Some event }) said →
+    Tells (record { events = events; last = Some (with_bytes event bytes) }) (said ++ Data bytes ∷ [])
 data_added events event said bytes is = record {
   open_event = holds_still event bytes ∙ is.open_event ∙ sym (takes_more false said (Data bytes ∷ []));
-  same = λ more. ap (λ (e : Event). events ++ e ∷ events_in more) (with_twice event bytes (data_of more)) ∙ is.same (Data bytes ∷ more) ∙ ap events_in (sym (said_more said (Data bytes) more));
+  same = λ more. ap (λ (e : Event). events ++ e ∷ events_in more) (with_twice event bytes (data_of more)) ∙ is.same (Data bytes ∷ more) ∙
+      ap events_in (sym (said_more said (Data bytes) more));
 }
 
 -- ---- all lines
@@ -100,21 +103,27 @@ Goes known number texts = (told : Telling) (said : List ScriptLine) → Tells to
 -- what a line that was read leads to, on both sides
 abbrev Same : List KnownPeer → ℕ → List (List ℕ) → Telling → List ScriptLine → ScriptLine → Type 0
 Same known number texts told said l =
-    and_then number (with_line told l) (λ next. telling known (number + 1) next texts) ≡ events_from (and_then number (cond (stands said l) (Some l) None) (λ next. said_by (next_said known) (number + 1) (said ++ next ∷ []) texts))
+    and_then number (with_line told l) (λ next. telling known (number + 1) next texts) ≡
+    events_from (and_then number (cond (stands said l) (Some l) None) (λ next. said_by (next_said known) (number + 1) (said ++ next ∷ []) texts))
 
-over_data : (known : List KnownPeer) (number : ℕ) (texts : List (List ℕ)) (events : List Event) (last : Option Event) (said : List ScriptLine) (bytes : List ℕ) → Tells (record { events = events; last = last }) said → Goes known (number + 1) texts → Same known number texts (record { events = events; last = last }) said (Data bytes)
+over_data : (known : List KnownPeer) (number : ℕ) (texts : List (List ℕ)) (events : List Event) (last : Option Event) (said : List ScriptLine) (bytes : List ℕ) →
+    Tells (record { events = events; last = last }) said → Goes known (number + 1) texts → Same known number texts (record { events = events; last = last }) said (Data bytes)
 over_data known number texts events None said bytes is goes = rw (sym is.open_event) refl
-over_data known number texts events (Some (Datagram from at before)) said bytes is goes = rw (sym is.open_event) (goes _ (said ++ Data bytes ∷ []) (data_added events (Datagram from at before) said bytes is))
+over_data known number texts events (Some (Datagram from at before)) said bytes is goes =
+    rw (sym is.open_event) (goes _ (said ++ Data bytes ∷ []) (data_added events (Datagram from at before) said bytes is))
 over_data known number texts events (Some (Web at before)) said bytes is goes = rw (sym is.open_event) (goes _ (said ++ Data bytes ∷ []) (data_added events (Web at before) said bytes is))
 over_data known number texts events (Some (Quiet at)) said bytes is goes = rw (sym is.open_event) refl
 
-over_line : (known : List KnownPeer) (number : ℕ) (texts : List (List ℕ)) (told : Telling) (said : List ScriptLine) (l : ScriptLine) → Tells told said → Goes known (number + 1) texts → Same known number texts told said l
+over_line : (known : List KnownPeer) (number : ℕ) (texts : List (List ℕ)) (told : Telling) (said : List ScriptLine) (l : ScriptLine) → Tells told said →
+    Goes known (number + 1) texts → Same known number texts told said l
 over_line known number texts told said Remark is goes = goes told (said ++ Remark ∷ []) (remark told said is)
 over_line known number texts told said (Begins event) is goes = goes _ (said ++ Begins event ∷ []) (begun told said event is)
 over_line known number texts told said (Data bytes) is goes = over_data known number texts told.events told.last said bytes is goes
 
-over_form : (known : List KnownPeer) (number : ℕ) (texts : List (List ℕ)) (told : Telling) (said : List ScriptLine) (read : Option ScriptLine) → Tells told said → Goes known (number + 1) texts →
-    and_then number (read >>= λ l. with_line told l) (λ next. telling known (number + 1) next texts) ≡ events_from (and_then number (read >>= λ l. cond (stands said l) (Some l) None) (λ next. said_by (next_said known) (number + 1) (said ++ next ∷ []) texts))
+over_form : (known : List KnownPeer) (number : ℕ) (texts : List (List ℕ)) (told : Telling) (said : List ScriptLine) (read : Option ScriptLine) → Tells told said →
+    Goes known (number + 1) texts →
+    and_then number (read >>= λ l. with_line told l) (λ next. telling known (number + 1) next texts) ≡
+    events_from (and_then number (read >>= λ l. cond (stands said l) (Some l) None) (λ next. said_by (next_said known) (number + 1) (said ++ next ∷ []) texts))
 over_form known number texts told said None is goes = refl
 over_form known number texts told said (Some l) is goes = over_line known number texts told said l is goes
 
@@ -132,9 +141,10 @@ unfolding events_of
 telling_is known text = goes known 1 (lines_of text) nothing_told [] tells_nothing
 
 -- what comes of a text whose lines were read
-pub answers_fault : (known : List KnownPeer) (text : List ℕ) (e : ScriptFault) (after : Telling) → Reads known (Err e) nothing_told (lines_of text) after → Answers (Err e) (events_of known text)
+pub answers_fault : (known : List KnownPeer) (text : List ℕ) (e : ScriptFault) (after : Telling) → Reads known (Err e) nothing_told (lines_of text) after → Gathers (Err e) (events_of known text)
 answers_fault known text (fault.BadLine n) after is = sym (telling_is known text) ∙ is
 answers_fault known text fault.NoMemory after is = tt
 
-pub answers_finished : (known : List KnownPeer) (text : List ℕ) (after : Telling) (r : Result (List Event) ScriptFault) → telling known 1 nothing_told (lines_of text) ≡ Ok (all_told after) → Answers r (Ok (all_told after)) → Answers r (events_of known text)
-answers_finished known text after r is answer = subst (λ (due : Result (List Event) ℕ). Answers r due) (sym is ∙ telling_is known text) answer
+pub answers_finished : (known : List KnownPeer) (text : List ℕ) (after : Telling) (r : Result (List Event) ScriptFault) →
+    telling known 1 nothing_told (lines_of text) ≡ Ok (all_told after) → Gathers r (Ok (all_told after)) → Gathers r (events_of known text)
+answers_finished known text after r is answer = subst (λ (due : Result (List Event) ℕ). Gathers r due) (sym is ∙ telling_is known text) answer

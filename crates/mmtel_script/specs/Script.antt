@@ -11,6 +11,7 @@ use Rattle.mmtel_outside.specs.declared.events.Event.{Event}
 use Rattle.mmtel_outside.specs.declared.events.Event.TheVariants.{Datagram, Web, Quiet}
 use Rattle.mmtel_directory.specs.Directory.{peer_of}
 use Rattle.mmtel_directory.specs.Lines.{lines_of, said_by}
+use Rattle.mmtel_link.specs.Told.{Ear}
 use Rattle.mmtel_script.specs.declared.scripts.ScriptFault.{ScriptFault}
 use Rattle.mmtel_script.specs.declared.scripts.ScriptFault.TheVariants.{BadLine, NoMemory}
 use Rattle.mmtel_script.specs.declared.script_lines.ScriptLine.{ScriptLine}
@@ -151,8 +152,12 @@ events_of known text = events_from (said_by (next_said known) 1 [] (lines_of tex
 
 -- ---- words of contracts
 
--- these events or this fault, unless memory ran out
-abbrev pub Answers : Result (List Event) ScriptFault → Result (List Event) ℕ → Type 0
-Answers (Ok events) due = due ≡ Ok events
+-- what a link hears that gives these events and has given none yet
+abbrev pub unheard : List Event → Ear
+unheard events = record { events = events; reads = []; over = false }
+
+-- a link of these events, or this fault, unless memory ran out
+abbrev pub Answers : Result Ear ScriptFault → Result (List Event) ℕ → Type 0
+Answers (Ok ear) due = due ≡ Ok ear.events
 Answers (Err (BadLine number)) due = due ≡ Err number
 Answers (Err NoMemory) due = Unit {0}

@@ -46,6 +46,12 @@ abbrev pub telling : List KnownPeer → ℕ → Telling → List (List ℕ) → 
 telling known number told [] = Ok (all_told told)
 telling known number told (text ∷ texts) = and_then number (step known told text) (λ next. telling known (number + 1) next texts)
 
+-- these events or this fault, unless memory ran out
+abbrev pub Gathers : Result (List Event) ScriptFault → Result (List Event) ℕ → Type 0
+Gathers (Ok events) due = due ≡ Ok events
+Gathers (Err (BadLine number)) due = due ≡ Err number
+Gathers (Err NoMemory) due = Unit {0}
+
 -- what came of a line: this telling, or the line's number where there is none
 abbrev pub Steps : Result (Unit {0}) ScriptFault → ℕ → Option Telling → Telling → Type 0
 Steps (Ok done) number due after = due ≡ Some after

@@ -146,7 +146,10 @@ fn add_offer(alloc: Global, out: &mut Text, offer: &Offer) -> Result<(), NoMemor
 
 /// The listing of the offers, in their order.
 ///
-/// Each begins with a line `at M to N`, `at M web` or `at M unbuilt`, where `M` is its moment in milliseconds since 1970-01-01T00:00:00Z and `N` the number of a peer. Its bytes follow: each piece that a CRLF ends as a line of `|` and the piece, and what is left behind the last CRLF, if anything, as a line of `+` and those bytes. A piece with a byte outside 32 to 126 is a line of `x` and its bytes, the CRLF included, as pairs of hexadecimal digits. Each line of the listing ends with LF.
+/// Each begins with a line `at M to N`, `at M web` or `at M unbuilt`, where `M` is its moment in milliseconds since 1970-01-01T00:00:00Z and `N` the number of
+/// a peer. Its bytes follow: each piece that a CRLF ends as a line of `|` and the piece, and what is left behind the last CRLF, if anything, as a line of `+`
+/// and those bytes. A piece with a byte outside 32 to 126 is a line of `x` and its bytes, the CRLF included, as pairs of hexadecimal digits. Each line of the
+/// listing ends with LF.
 ///
 /// # Errors
 ///

@@ -1,7 +1,6 @@
 //! The events of a script while its lines are read.
 ghost use Rattle.std.specs.Prelude.{◌≡◌, OnOk, None, Ok};
-ghost use Rattle.mmtel_script.specs.Script.{Answers};
-ghost use Rattle.mmtel_script.specs.Tellings.{Steps, all_told, nothing_told, step, with_line};
+ghost use Rattle.mmtel_script.specs.Tellings.{Gathers, Steps, all_told, nothing_told, step, with_line};
 ghost use Rattle.mmtel_script.specs.declared.script_lines.ScriptLine.TheVariants as said;
 
 use crate::script_lines::{ScriptLine, read_script_line};
@@ -91,7 +90,7 @@ impl Telling {
 
     /// The events, where no further line comes.
     pub fn finish(self, alloc: Global) -> Result<List<Event>, ScriptFault>
-        ensures { Answers result (Ok (all_told self)) }
+        ensures { Gathers result (Ok (all_told self)) }
     {
         let mut told = self;
         told.close(alloc)?;

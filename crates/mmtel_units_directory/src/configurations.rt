@@ -8,8 +8,25 @@ use mmtel_types::{Account, Addr, Peer};
 use std::alloc::Global;
 
 /// A server of two peers, with lines of each kind.
-pub const HOME: &[u8] =
-    b"# Two peers.\n\nsip 127.0.0.1:5060\nweb 10.0.0.1:80\nhome home.example\npeer 1 127.0.0.1:5071 trusted\npeer 2 127.0.0.1:5072 untrusted\nroute home.example 1\nroute far.example 2\nroute +4930 1\nroute * 2\naccount 1 sip:alice@home.example tel:+4930111\naccount 4294967295 sip:bob@home.example\noperator sip:op@home.example\nmixer 10.0.0.2 41000\nfactory sip:conf@home.example\nbound 0\nstore calls.db\n";
+pub const HOME: &[u8] = b"# Two peers.
+
+sip 127.0.0.1:5060
+web 10.0.0.1:80
+home home.example
+peer 1 127.0.0.1:5071 trusted
+peer 2 127.0.0.1:5072 untrusted
+route home.example 1
+route far.example 2
+route +4930 1
+route * 2
+account 1 sip:alice@home.example tel:+4930111
+account 4294967295 sip:bob@home.example
+operator sip:op@home.example
+mixer 10.0.0.2 41000
+factory sip:conf@home.example
+bound 0
+store calls.db
+";
 
 /// An address of the host itself.
 pub fn peer_addr(port: u16) -> Addr {
@@ -162,13 +179,24 @@ const WHOLE: &[u8] = b"0|sip 1.2.3.4:5;home h
 2|sip 1.2.3.4:5;home a/b;
 3|sip 1.2.3.4:5;home h;website x;
 3|sip 1.2.3.4:5;home h;country 49;
-3|#;;x;sip 1.2.3.4:5;home h;";
+3|#;;x;sip 1.2.3.4:5;home h;
+1|sip  127.0.0.1:5060;home h;
+1|sip 127.0-0.1:5060;home h;
+2|sip 1.2.3.4:5;home h ;
+1|at 7 quiet;sip 1.2.3.4:5;home h;
+1||data;sip 1.2.3.4:5;home h;
+1|peer x;
+2|sip 1.2.3.4:5;bound 17
+4|sip 1.2.3.4:5;peer 1 1.1.1.1:1 trusted;bound 16;
+5|home h;#;bound 16;;";
 
 /// The same of peers and routes, behind `sip` and `home`.
 const ROUTES: &[u8] = b"0|peer 1024 1.1.1.1:1 trusted;
 3|peer 1025 1.1.1.1:1 trusted;
 3|peer 0 1.1.1.1:1 trusted;
 3|peer 01 1.1.1.1:1 trusted;
+3|peer +1 1.1.1.1:1 trusted;
+3|peer 18446744073709551617 1.1.1.1:1 trusted;
 3|peer 1 1.1.1.1:1 Trusted;
 3|peer 1 1.1.1.1:1;
 3|peer 1 1.1.1.1 trusted;
@@ -224,6 +252,7 @@ const ONCE: &[u8] = b"0|web 1.2.3.4:5;
 0|bound 16;
 3|bound 17;
 3|bound 05;
+3|bound 18446744073709551616;
 3|bound -1;
 3|bound;
 4|bound 5;bound 5;
@@ -238,6 +267,47 @@ const ONCE: &[u8] = b"0|web 1.2.3.4:5;
 3|store ;
 3|store a b;
 4|store a;store a;";
+
+/// A server of one peer, one route and one account.
+const SMALL: &[u8] = b"sip 127.0.0.1:5060
+home home.example
+peer 1 127.0.0.1:5071 trusted
+route home.example 1
+account 1 sip:alice@home.example tel:+4930111
+";
+
+/// The same of lines that were damaged, behind those of a small server: a blank too many, a word misspelt, a line of a script, a line told twice.
+const DAMAGED: &[u8] = b"0|# a comment;;bound 3;web 127.0.0.1:8081
+6| ;
+6|foo;
+6|x0;
+6||data;
+6|at 7 quiet;
+6|boundx0;
+6|bound 99;
+6|accoun/ 2 sip:bob@home.example tel:+4930222;
+6|peer  2 127.0.0.1:5072 untrusted;
+6|peer 2 127.0.0.1:5072 untrusted ;
+6|peer 1 127.0.0.1:5071 trusted;
+6|route  far.example 1;
+6|route  * 1;
+6|route far.example 1 ;
+6|route +4930 1 ;
+6|route /ome.example 1;
+7|route +4930 1;route +4930 1;
+6|account  2 sip:bob@home.example;
+6|account 2 sip:bob@home.example tel:+4930222 ;";
+
+/// The identity of a number, as a sip URI.
+const PHONE: &[u8] = b"sip 1.2.3.4:5\nhome h\naccount 1 sip:+4930111@h;user=phone\n";
+
+/// The same of accounts behind that of the number: it has no second account, in whatever form it is written.
+const NUMBERS: &[u8] = b"0|account 2 tel:+4930112;
+0|account 2 sip:+4930111@i;
+4|account 2 tel:+4930111;
+4|account 2 tel:+49-30-111;
+4|account 2 sip:bob@h tel:+49.30.111;
+4|account 2 sip:+4930111@H;";
 
 /// Configurations, behind these lines.
 #[derive(Clone, Copy)]
@@ -269,6 +339,8 @@ fn names_the_first_bad_line(rt: HostRuntime) {
         wrong_config(alloc, both, ROUTES),
         wrong_config(alloc, both, ACCOUNTS),
         wrong_config(alloc, both, ONCE),
+        wrong_config(alloc, SMALL, DAMAGED),
+        wrong_config(alloc, PHONE, NUMBERS),
     ];
-    assert_eq!(rt; found, [0, 0, 0, 0]);
+    assert_eq!(rt; found, [0, 0, 0, 0, 0, 0]);
 }

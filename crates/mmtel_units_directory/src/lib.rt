@@ -8,6 +8,8 @@ mod limits;
 #[cfg(test)]
 mod listings;
 #[cfg(test)]
+mod script_links;
+#[cfg(test)]
 mod scripts;
 #[cfg(test)]
 mod tables;

@@ -36,10 +36,10 @@ fn broken(alloc: Global, last: u64, words: (&[u8], &[u8], &[u8])) -> u64 {
     }
 }
 
+// Line 4,100 is the 4,097th route: so each before it was taken.
 #[test]
 fn takes_so_many_routes(rt: HostRuntime) {
     let alloc = rt.alloc();
     let words: (&[u8], &[u8], &[u8]) = (b"route h", b"-", b" 1\n");
-    let found = [broken(alloc, 4096, words), broken(alloc, 4097, words)];
-    assert_eq!(rt; found, [0, 4100]);
+    assert_eq!(rt; broken(alloc, 4097, words), 4100);
 }

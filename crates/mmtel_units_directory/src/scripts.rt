@@ -87,6 +87,7 @@ const EVENTS: &[u8] = b"0|
 1|at 0 Web;
 1|at -1 web;
 1|at  quiet;
+1|at  0 web;
 1|at quiet;
 1|at 0 quiet 1;
 1|at 0 quiet ;
@@ -109,6 +110,7 @@ const DATA: &[u8] = b"0|at 0 peer 1;|;+;x;
 3|at 0 web;at 0 quiet;|a;
 0|at 0 quiet;at 0 web;|a;
 2|at 0 peer 1;x4;
+4|at 0 web;|GET / HTTP/1.1;|;x0;
 2|at 0 peer 1;x4A;
 2|at 0 peer 1;x4g;
 2|at 0 peer 1;x41 ;

@@ -1,11 +1,11 @@
 -- A request for a record sees one account, and an upload is of that account.
-use Rattle.std.proofs.Common.{◌≡◌, Bool, true, false, ℕ, List, [], ◌∷◌, Option, Some, None, cond, refl, sym, ap, ◌∙◌}
+use Rattle.std.proofs.Common.{◌≡◌, Bool, true, false, ℕ, List, [], Option, Some, None, cond, refl, ap}
 use Rattle.mmtel_types.specs.declared.numbers.Account.{Account}
 use Rattle.mmtel_charging.specs.declared.rows.Row.{Row}
 use Rattle.mmtel_lex.specs.declared.values.Uri.{Uri}
 use Rattle.mmtel_sheet_values.specs.declared.values.Sheet.{Sheet}
 use Rattle.mmtel_trust.specs.declared.accounts.AccountIdentity.{AccountIdentity}
-use Rattle.mmtel_http.specs.Places.{place_of, method_of}
+use Rattle.mmtel_http.specs.Places.{method_of}
 use Rattle.mmtel_http.specs.Requests.{Asking, asked}
 use Rattle.mmtel_http.specs.declared.places.Method.{Method}
 use Rattle.mmtel_http.specs.declared.places.Method.TheVariants as method

@@ -1,13 +1,11 @@
 -- What one account is answered depends on that account alone: directories and tables of texts that agree on it.
-use Rattle.std.specs.Prelude.{◌≡◌, ℕ, List, Some}
-use Rattle.std.specs.declared.option.Option.{Option}
+use Rattle.std.specs.Prelude.{◌≡◌, List, Some}
 use Rattle.mmtel_types.specs.declared.numbers.Account.{Account}
 use Rattle.mmtel_lex.specs.declared.values.Uri.{Uri}
 use Rattle.mmtel_trust.specs.declared.accounts.AccountIdentity.{AccountIdentity}
 use Rattle.mmtel_http.specs.Places.{place_of}
 use Rattle.mmtel_http.specs.Requests.{Asking}
 use Rattle.mmtel_http.specs.declared.places.Place.TheVariants.{Sheet}
-use Rattle.mmtel_sheet_texts.specs.Texts.{text_at}
 use Rattle.mmtel_web.specs.Parties.{is_own}
 use Rattle.mmtel_directory.specs.Directory.{is_account}
 

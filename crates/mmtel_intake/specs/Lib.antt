@@ -1,0 +1,6 @@
+-- What public clauses cite, which a user of the crate has to believe: what the code returns, as the values of the definitions of a run.
+pub mod Told
+pub mod Courses
+pub mod Openings
+-- What private functions alone cite.
+pub mod Targets

@@ -1,0 +1,57 @@
+//! What may be done with a request that opens a transaction, and what is answered to it.
+ghost use Rattle.std.specs.Prelude.{◌≡◌, IfOk};
+ghost use Rattle.mmtel_run.specs.Answers.{allowing, plainly};
+ghost use Rattle.mmtel_intake.specs.Courses.{answer_in};
+
+use mmtel_answers::{Aim, allowed};
+use mmtel_message::Line;
+use mmtel_scan::{List, NoMemory};
+use std::alloc::Global;
+
+/// An answer of the server's own: its status, and the lines that it has of its own.
+#[derive(Drop)]
+pub struct Answer {
+    /// The status.
+    pub code: u16,
+    /// The lines that are named for it: Allow (RFC 3261 §20.5) or Unsupported (§20.40).
+    pub named: List<Line>,
+}
+
+/// What is done with a request that opens a transaction.
+#[derive(Drop)]
+pub enum Course {
+    /// It is answered.
+    Refuse(Answer),
+    /// It opens a call, whose first attempt goes there.
+    Open(Aim),
+    /// It is of a form that is not built yet.
+    Unbuilt,
+}
+
+/// An answer that has no lines of its own.
+pub fn plainly(code: u16) -> Answer
+    ensures answer { answer_in result ≡ plainly code }
+{
+    Answer {
+        code,
+        named: List::new(),
+    }
+}
+
+/// An answer with the methods that the server knows (RFC 3261 §20.5).
+pub fn allowing(alloc: Global, code: u16) -> Result<Answer, NoMemory>
+    ensures { IfOk result (λ answer. answer_in answer ≡ allowing code) }
+{
+    let named = allowed(alloc)?;
+    Ok(Answer { code, named })
+}
+
+/// The answer to a request that requires what the server does not support, with a line for each option (RFC 3261 §20.40).
+pub fn without_extension(lines: List<Line>) -> Answer
+    ensures { answer_in result ≡ record { code = 420; named = lines } }
+{
+    Answer {
+        code: 420,
+        named: lines,
+    }
+}

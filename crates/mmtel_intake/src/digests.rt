@@ -1,0 +1,123 @@
+//! What is read of an event.
+ghost use Rattle.std.specs.Prelude.{◌≡◌, IfOk};
+ghost use Rattle.mmtel_message.specs.Reads.{reads};
+ghost use Rattle.mmtel_run.specs.Events.{digest, digest_from, digest_read, moment_of, refused_by};
+ghost use Rattle.mmtel_intake.specs.Told.{digest_in};
+
+use mmtel_answers::Hearing;
+use mmtel_directory::Directory;
+use mmtel_message::{Msg, ReadFault, read};
+use mmtel_outside::Event;
+use mmtel_scan::NoMemory;
+use mmtel_trust::PeerTable;
+use mmtel_types::{Addr, Moment, Peer};
+use std::alloc::Global;
+
+/// What was read of an event.
+#[derive(Drop)]
+pub enum Told {
+    /// Nothing: a quiet moment, or a datagram that is dropped.
+    Nothing,
+    /// Bytes of a peer that are refused as they are read.
+    Refused {
+        /// From whom they came.
+        peer: Peer,
+        /// Where that peer is reached.
+        source: Addr,
+        /// The reply that is due, not yet completed for the peer.
+        reply: Msg,
+    },
+    /// A message of a peer.
+    Heard(Hearing),
+    /// An event of a kind that is not built yet.
+    Unbuilt,
+}
+
+/// The moment of an event.
+pub fn moment(event: &Event) -> Moment
+    ensures moment { result ≡ moment_of event.now }
+{
+    match event {
+        Event::Datagram { at, .. } => *at,
+        Event::Web { at, .. } => *at,
+        Event::Quiet { at } => *at,
+    }
+}
+
+/// Bytes that are refused: with a reply, where one is due.
+fn refused(peer: Peer, source: Addr, reply: Option<Msg>) -> Told
+    ensures { digest_in result ≡ refused_by peer source reply }
+{
+    match reply {
+        None => Told::Nothing,
+        Some(reply) => Told::Refused {
+            peer,
+            source,
+            reply,
+        },
+    }
+}
+
+/// What a peer said from there.
+fn told_by(
+    alloc: Global,
+    peers: &PeerTable,
+    peer: Peer,
+    source: Addr,
+    bytes: &[u8],
+) -> Result<Told, NoMemory>
+    ensures { IfOk result (λ told. digest_in told ≡ digest_read peers.now peer source (reads bytes.now)) }
+{
+    match read(alloc, bytes) {
+        Ok(message) => Ok(Told::Heard(Hearing {
+            peer,
+            source,
+            trusted: peers.trusted(peer),
+            message,
+        })),
+        Err(ReadFault::TooLarge { reply }) => Ok(refused(peer, source, reply)),
+        Err(ReadFault::NotSip) => Ok(Told::Nothing),
+        Err(ReadFault::TooMany { reply }) => Ok(refused(peer, source, reply)),
+        Err(ReadFault::Bad { at: _, reply }) => Ok(refused(peer, source, reply)),
+        Err(ReadFault::NoMemory) => Err(NoMemory),
+    }
+}
+
+/// What came from there, where this peer is reached, or nobody whom the server knows.
+fn told_from(
+    alloc: Global,
+    peers: &PeerTable,
+    peer: Option<Peer>,
+    source: Addr,
+    bytes: &[u8],
+) -> Result<Told, NoMemory>
+    ensures { IfOk result (λ told. digest_in told ≡ digest_from peers.now source bytes.now peer) }
+{
+    match peer {
+        None => Ok(Told::Nothing),
+        Some(peer) => told_by(alloc, peers, peer, source, bytes),
+    }
+}
+
+/// What is read of an event: of a datagram from the address of a peer the message, or the reply that is due where the bytes are refused as they are read (RFC 3261 §7, §18.3);
+/// of one from any other address nothing.
+///
+/// # Errors
+///
+/// Want of memory alone.
+#[tactic(auto, unfolding(mmtel_run::specs::Events::digest))]
+pub fn digest(alloc: Global, directory: &Directory, event: &Event) -> Result<Told, NoMemory>
+    ensures told { IfOk result (λ told. digest_in told ≡ digest directory.now event.now) }
+{
+    match event {
+        Event::Datagram { from, bytes, .. } => told_from(
+            alloc,
+            &directory.peers,
+            directory.peers.find(*from),
+            *from,
+            bytes.bytes(),
+        ),
+        Event::Web { .. } => Ok(Told::Unbuilt),
+        Event::Quiet { .. } => Ok(Told::Nothing),
+    }
+}

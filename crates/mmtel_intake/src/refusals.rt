@@ -1,0 +1,96 @@
+//! The conditions under which a request that opens a transaction is refused (RFC 3261 §8.2).
+ghost use Rattle.std.specs.Prelude.{◌≡◌, IfOk, map};
+ghost use Rattle.mmtel_leg.specs.Dialogues.{request_uri};
+ghost use Rattle.mmtel_lex.specs.Reading.{uri_of};
+ghost use Rattle.mmtel_run.specs.Answers.{is_unsupported, unsupported, unsupported_line};
+ghost use Rattle.mmtel_run.specs.Refusals.{is_foreign_uri, is_known_method, is_last_hop};
+ghost use Rattle.mmtel_intake.specs.Targets.{target_in};
+
+use mmtel_answers::Hearing;
+use mmtel_leg::request_uri;
+use mmtel_lex::{Uri, UriFault, read_uri};
+use mmtel_message::{Line, Start, add_bytes, first_of, is_method, line_texts};
+use mmtel_scan::{List, NoMemory, number_up_to};
+use std::alloc::Global;
+
+/// What a Request-URI is.
+#[derive(Drop)]
+pub enum Target {
+    /// A sip or tel URI.
+    Known(Uri),
+    /// Bytes that are no URI.
+    Malformed,
+    /// A URI of another scheme.
+    Foreign,
+}
+
+/// What the Request-URI of a request is; it is read once.
+pub fn read_target(alloc: Global, start: &Start) -> Result<Target, NoMemory>
+    ensures { IfOk result (λ target. target_in target ≡ uri_of (request_uri start.now)) }
+{
+    match read_uri(alloc, request_uri(start)) {
+        Ok(uri) => Ok(Target::Known(uri)),
+        Err(UriFault::Malformed { at: _ }) => Ok(Target::Malformed),
+        Err(UriFault::Scheme) => Ok(Target::Foreign),
+        Err(UriFault::NoMemory) => Err(NoMemory),
+    }
+}
+
+/// Whether the URI is of another scheme than sip and tel (RFC 3261 §8.2.2.1).
+pub fn is_foreign(target: &Target) -> bool
+    ensures { result ≡ is_foreign_uri (target_in target.now) }
+{
+    match target {
+        Target::Known(_) => false,
+        Target::Malformed => false,
+        Target::Foreign => true,
+    }
+}
+
+/// Whether the method is one that the server knows (RFC 3261 §20.5).
+pub fn is_known_method(start: &Start) -> bool
+    ensures { result ≡ is_known_method start.now }
+{
+    is_method(b"INVITE", start)
+        || is_method(b"ACK", start)
+        || is_method(b"CANCEL", start)
+        || is_method(b"BYE", start)
+        || is_method(b"OPTIONS", start)
+        || is_method(b"REGISTER", start)
+        || is_method(b"REFER", start)
+}
+
+/// Whether no hops are left (RFC 3261 §16.3).
+pub fn is_last_hop(request: &Hearing) -> bool
+    ensures { result ≡ is_last_hop request.now.heard.hops }
+{
+    match first_of(request.message.lines(), b"Max-Forwards") {
+        None => false,
+        Some(value) => match number_up_to(255, value) {
+            None => false,
+            Some(hops) => hops == 0,
+        },
+    }
+}
+
+/// Whether an option of Require is one that the server does not support.
+fn is_unsupported(option: &[u8]) -> bool
+    ensures { result ≡ is_unsupported option.now }
+{
+    !(option == b"histinfo".as_slice())
+}
+
+/// A line for each option that a request requires and the server does not support, in received order (RFC 3261 §8.2.2.3, §20.40).
+#[tactic(auto, unfolding(mmtel_message::specs::Message::line))]
+pub fn unsupported_lines(alloc: Global, request: &Hearing) -> Result<List<Line>, NoMemory>
+    ensures { IfOk result (λ lines. lines ≡ map unsupported_line (unsupported request.now.heard)) }
+{
+    let options = line_texts(alloc, request.message.lines(), b"Require")?;
+    let mut lines = List::new();
+    for option in options.items() {
+        if is_unsupported(option.bytes()) {
+            add_bytes(alloc, &mut lines, b"Unsupported", option.bytes())?;
+        }
+    }
+    Ok(lines)
+}

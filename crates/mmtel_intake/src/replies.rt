@@ -1,0 +1,115 @@
+//! The responses that the server makes of its own.
+ghost use Rattle.std.specs.Prelude.{◌≡◌, IfOk, is_none};
+ghost use Rattle.std.specs.Option.{option_copied};
+ghost use Rattle.mmtel_answers.specs.Said.{phrase_in};
+ghost use Rattle.mmtel_trust.specs.Digest.{tag_of};
+ghost use Rattle.mmtel_run.specs.Answers.{completed_reply, response_to, to_tag_in};
+ghost use Rattle.mmtel_run.specs.Openings.{trying};
+ghost use Rattle.mmtel_intake.specs.Courses.{answer_in};
+
+use crate::answers::{Answer, plainly};
+use mmtel_answers::{Hearing, own_answer, status_of};
+use mmtel_lex::{LexFault, param_value, read_name_addr};
+use mmtel_message::{Msg, Reply, Start, first_of, response};
+use mmtel_scan::NoMemory;
+use mmtel_types::Addr;
+use std::alloc::Global;
+
+/// Whether a To value has no tag.
+fn has_no_tag(alloc: Global, value: Option<&[u8]>) -> Result<bool, NoMemory>
+    ensures { IfOk result (λ b. b ≡ is_none (tag_of (option_copied value.entry))) }
+{
+    match value {
+        None => Ok(true),
+        Some(value) => match read_name_addr(alloc, value) {
+            Ok(name) => Ok(param_value(name.params.items(), b"tag").is_none()),
+            Err(LexFault::Malformed { at: _ }) => Ok(true),
+            Err(LexFault::NoMemory) => Err(NoMemory),
+        },
+    }
+}
+
+/// Whether To has no tag, so that a response draws one (RFC 3261 §8.2.6.2).
+///
+/// # Errors
+///
+/// Want of memory alone.
+pub fn is_untagged(alloc: Global, message: &Msg) -> Result<bool, NoMemory>
+    ensures untagged { IfOk result (λ b. b ≡ is_none (to_tag_in message.now.lines)) }
+{
+    has_no_tag(alloc, first_of(message.lines(), b"To"))
+}
+
+/// The response to a request, with this tag where its To has none (RFC 3261 §8.2.6).
+///
+/// # Errors
+///
+/// Want of memory alone.
+pub fn response_to(
+    alloc: Global,
+    sip: Addr,
+    tag: &[u8],
+    request: &Hearing,
+    answer: &Answer,
+) -> Result<Msg, NoMemory>
+    ensures message { IfOk result (λ m. m ≡ response_to sip tag.now request.now (answer_in answer.now)) }
+{
+    own_answer(
+        alloc,
+        sip,
+        request,
+        tag,
+        answer.code,
+        &[],
+        answer.named.items(),
+        &[],
+    )
+}
+
+/// The phrase of a response; no bytes of a request.
+fn phrase_in(start: &Start) -> &[u8]
+    ensures { result.now ≡ phrase_in start.now }
+{
+    match start {
+        Start::Request { method: _, uri: _ } => b"",
+        Start::Status { code: _, phrase } => phrase.bytes(),
+    }
+}
+
+/// The reply to bytes that were refused as they were read, completed for the peer that they came from:
+/// its first Via says from where, and To has this tag where it has none (RFC 3261 §8.2.6.2, §18.2.1).
+///
+/// # Errors
+///
+/// Want of memory alone.
+pub fn completed_reply(
+    alloc: Global,
+    tag: &[u8],
+    source: Addr,
+    reply: &Msg,
+) -> Result<Msg, NoMemory>
+    ensures message { IfOk result (λ m. m ≡ completed_reply tag.now source reply.now) }
+{
+    let said = Reply {
+        code: status_of(reply.start()),
+        phrase: phrase_in(reply.start()),
+        tag,
+        source: Some(source),
+        contact: &[],
+        passed: &[],
+        named: &[],
+        body: &[],
+    };
+    response(alloc, reply.start(), reply.lines(), &said)
+}
+
+/// The 100 to a request, which has no tag of the server (RFC 3261 §8.2.6.1).
+///
+/// # Errors
+///
+/// Want of memory alone.
+pub fn trying(alloc: Global, sip: Addr, request: &Hearing) -> Result<Msg, NoMemory>
+    ensures message { IfOk result (λ m. m ≡ trying sip request.now) }
+{
+    response_to(alloc, sip, b"", request, &plainly(100))
+}

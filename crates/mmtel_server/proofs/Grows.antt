@@ -1,0 +1,195 @@
+-- Nothing that was done is undone: each deed only adds. So what was few enough in the end was few enough before, and what was offered before stands in front of what is offered in the end.
+use Rattle.std.proofs.Common.{◌≡◌, ℕ, ◌≤◌, List, [], ◌∷◌, ◌++◌, length, refl, sym, ap, ◌∙◌, arith, append-nil, append_assoc, subst, Option, Some, None}
+use Rattle.std.specs.Prelude.{Bool, true, false, codes, if◌then◌else◌, OnErr, Result, Ok, Err}
+use Rattle.mmtel_answers.specs.Said.{Said}
+use Rattle.mmtel_answers.specs.declared.attempts.Aim.{Aim}
+use Rattle.mmtel_directory.specs.declared.directories.Directory.{Directory}
+use Rattle.mmtel_message.specs.Faults.{is_method}
+use Rattle.mmtel_message.specs.Message.{Message}
+use Rattle.mmtel_message.specs.Texts.{message_text}
+use Rattle.mmtel_message.specs.declared.messages.Start.{Start}
+use Rattle.mmtel_outside.specs.declared.events.Offer.{Offer}
+use Rattle.mmtel_outside.specs.declared.events.Offer.TheVariants as offer
+use Rattle.mmtel_run.specs.Answers.{Answer, completed_reply, plainly, response_to, tag_for, tags_due, to_tag_in}
+use Rattle.mmtel_run.specs.Events.{Digest, Nothing, Refused, Heard, Unbuilt, message_in}
+use Rattle.mmtel_run.specs.Openings.{attempt, names, opening_draws, trying}
+use Rattle.mmtel_run.specs.Refusals.{Course, Refuse, Open, course}
+use Rattle.mmtel_run.specs.Refusals as refusals
+use Rattle.mmtel_run.specs.Short.{IsShort}
+use Rattle.mmtel_run.specs.World.{World, answering, begun, came, drawing, emit_one, emitted, hearing, met, offering, opening, refusing, repeating, replying, replying_plainly, taking, taking_fresh, told, told_as, unbuilt}
+use Rattle.mmtel_transaction.specs.Answers.{hear_says, is_merged}
+use Rattle.mmtel_transaction.specs.Calls.{Done, live}
+use Rattle.mmtel_transaction.specs.declared.words.Emit.{Emit}
+use Rattle.mmtel_transaction.specs.declared.words.Emit.TheVariants as emit
+use Rattle.mmtel_transaction.specs.declared.words.Heard as transaction
+use Rattle.mmtel_transaction.specs.declared.words.Heard.TheVariants as heard
+use Rattle.mmtel_transaction.specs.declared.words.TKey.{TKey}
+use Rattle.mmtel_trust.specs.Peers.{is_trusted}
+use Rattle.mmtel_types.specs.declared.addrs.Addr.{Addr}
+use Rattle.mmtel_types.specs.declared.numbers.Peer.{Peer}
+use Rattle.mmtel_server.specs.Follows.{Breaks, Follows}
+use Rattle.mmtel_server.specs.Stands.{IsCut, IsPrefixOf}
+use Rattle.mmtel_server.specs.declared.servers.Server.{Server}
+
+-- the second world has all that the first has
+pub record Grows (v w : World) : Type 0 where
+  pub acts : length v.acts ≤ length w.acts
+  pub steps : v.steps ≤ w.steps
+  pub drawn : v.drawn ≤ w.drawn
+  pub front : IsPrefixOf v.offers w.offers
+
+pub same : (w : World) → Grows w w
+same w = record { acts = omega arith; steps = omega arith; drawn = omega arith; front = ([], append-nil w.offers) }
+
+pub grows_on : (u v w : World) → Grows u v → Grows v w → Grows u w
+grows_on u v w a b = record {
+  acts = omega (arith, a.acts, b.acts);
+  steps = omega (arith, a.steps, b.steps);
+  drawn = omega (arith, a.drawn, b.drawn);
+  front = (a.front.0 ++ b.front.0, sym (append_assoc u.offers a.front.0 b.front.0) ∙ (ap (λ (os : List Offer). os ++ b.front.0) a.front.1 ∙ b.front.1));
+}
+
+-- ---- single deeds
+
+pub adds : (os : List Offer) (w : World) → Grows w (offering os w)
+adds os w = record { acts = omega arith; steps = omega arith; drawn = omega arith; front = (os, refl) }
+
+pub acts_more : (xs : List Done) (w : World) → length w.acts ≤ length xs → Grows w (record w { acts = xs })
+acts_more xs w l = record { acts = l; steps = omega arith; drawn = omega arith; front = ([], append-nil w.offers) }
+
+pub draws : (n : ℕ) (w : World) → Grows w (drawing n w)
+draws n w = record { acts = omega arith; steps = omega arith; drawn = omega arith; front = ([], append-nil w.offers) }
+
+pub begins : (w : World) → Grows w (begun w)
+begins w = record { acts = omega arith; steps = omega arith; drawn = omega arith; front = ([], append-nil w.offers) }
+
+pub emits : (at : ℕ) (e : Emit) (w : World) → Grows w (emit_one at e w)
+emits at (emit.Ask peer m) w = record { acts = omega arith; steps = omega arith; drawn = omega arith; front = (_, refl) }
+emits at (emit.Reply key m) w = record { acts = omega arith; steps = omega arith; drawn = omega arith; front = (_, refl) }
+emits at (emit.Plain peer text) w = record { acts = omega arith; steps = omega arith; drawn = omega arith; front = (_, refl) }
+emits at (emit.Ack key m) w = record { acts = omega arith; steps = omega arith; drawn = omega arith; front = (_, refl) }
+emits at (emit.Arm call what when) w = same w
+emits at (emit.ArmSeat room seat what when) w = same w
+
+pub emits_all : (at : ℕ) (es : List Emit) (w : World) → Grows w (emitted at es w)
+emits_all at [] w = same w
+emits_all at (e ∷ es) w = grows_on w (emit_one at e w) (emitted at es (emit_one at e w)) (emits at e w) (emits_all at es (emit_one at e w))
+
+-- numbers are drawn, and then something is done
+pub draws_emits : (n at : ℕ) (es : List Emit) (w : World) → Grows w (emitted at es (drawing n w))
+draws_emits n at es w = grows_on w (drawing n w) (emitted at es (drawing n w)) (draws n w) (emits_all at es (drawing n w))
+
+-- ---- messages
+
+pub replies : (d : Directory) (token : List ℕ) (at : ℕ) (key : TKey) (s : Said) (a : Answer) (w : World) → Grows w (replying d token at key s a w)
+replies d token at key s a w = draws_emits (tags_due s.heard.to_tag) at (emit.Reply key (response_to d.sip (tag_for token w.drawn s.heard.to_tag) s a) ∷ []) w
+
+pub replies_plainly : (d : Directory) (token : List ℕ) (at : ℕ) (s : Said) (a : Answer) (w : World) → Grows w (replying_plainly d token at s a w)
+replies_plainly d token at s a w = draws_emits (tags_due s.heard.to_tag) at (emit.Plain s.peer (message_text (response_to d.sip (tag_for token w.drawn s.heard.to_tag) s a)) ∷ []) w
+
+pub refuses : (token : List ℕ) (at : ℕ) (peer : Peer) (source : Addr) (m : Message Start) (w : World) → Grows w (refusing token at peer source m w)
+refuses token at peer source m w = draws_emits (tags_due (to_tag_in m.lines)) at (emit.Plain peer (message_text (completed_reply (tag_for token w.drawn (to_tag_in m.lines)) source m)) ∷ []) w
+
+pub opens_call : (d : Directory) (token : List ℕ) (at : ℕ) (key : TKey) (s : Said) (aim : Aim) (w : World) → Grows w (opening d token at key s aim w)
+opens_call d token at key s aim w = draws_emits opening_draws at
+    (emit.Reply key (trying d.sip s) ∷ emit.Ask aim.peer (attempt d.sip (names token w.drawn) aim (is_trusted aim.peer d.peers.known) s.heard) ∷ []) w
+
+pub takes : (d : Directory) (token : List ℕ) (at : ℕ) (key : TKey) (s : Said) (c : Course) (w : World) → Grows w (taking d token at key s c w)
+takes d token at key s (Refuse a) w = replies d token at key s a w
+takes d token at key s (Open aim) w = opens_call d token at key s aim w
+takes d token at key s refusals.Unbuilt w = adds (offer.Unbuilt at ∷ []) w
+
+pub takes_fresh : (d : Directory) (token : List ℕ) (at : ℕ) (key : TKey) (s : Said) (w : World) → Grows w (taking_fresh d token at key s w)
+takes_fresh d token at key s w = takes d token at key s (course d (is_merged key.0 (live w.acts)) s.heard) w
+
+pub repeats : (at : ℕ) (o : Option (Peer × List ℕ)) (w : World) → Grows w (repeating at o w)
+repeats at None w = same w
+repeats at (Some sent) w = emits_all at (emit.Plain sent.0 sent.1 ∷ []) w
+
+repeats_unless : (b : Bool) (at : ℕ) (o : Option (Peer × List ℕ)) (w : World) → Grows w (if b then unbuilt at w else repeating at o w)
+repeats_unless true at o w = adds (offer.Unbuilt at ∷ []) w
+repeats_unless false at o w = repeats at o w
+
+pub answers : (d : Directory) (token : List ℕ) (at : ℕ) (s : Said) (o : Option transaction.Heard) (w : World) → Grows w (answering d token at s o w)
+answers d token at s None w = replies_plainly d token at s (plainly 503) w
+answers d token at s (Some (heard.Fresh key x)) w = takes_fresh d token at key s w
+answers d token at s (Some (heard.Answer key x)) w = adds (offer.Unbuilt at ∷ []) w
+answers d token at s (Some (heard.Repeat sent)) w = repeats_unless (is_method (codes "CANCEL") s.heard.start) at sent w
+answers d token at s (Some (heard.Acked key)) w = same w
+answers d token at s (Some (heard.Cancel key invite x)) w = adds (offer.Unbuilt at ∷ []) w
+answers d token at s (Some (heard.AckOf2xx x)) w = same w
+answers d token at s (Some heard.Stray) w = same w
+
+pub hears_one : (at : ℕ) (s : Said) (o : Option transaction.Heard) (w : World) → Grows w (hearing at s o w)
+hears_one at s None w = same w
+hears_one at s (Some taken) w = acts_more _ w (omega arith)
+
+pub told_grows : (d : Directory) (token : List ℕ) (at : ℕ) (s : Said) (w : World) → Grows w (told d token at s w)
+told_grows d token at s w =
+    let taken = hear_says w.acts s.peer (message_in s.heard) in
+    grows_on w (hearing at s taken w) (told_as d token at s taken w) (hears_one at s taken w) (answers d token at s taken (hearing at s taken w))
+
+-- ---- events
+
+pub met_grows : (d : Directory) (token : List ℕ) (at : ℕ) (x : Digest) (w : World) → Grows w (met d token at x w)
+met_grows d token at Nothing w = same w
+met_grows d token at (Refused peer source reply) w = refuses token at peer source reply w
+met_grows d token at (Heard s) w = told_grows d token at s w
+met_grows d token at Unbuilt w = adds (offer.Unbuilt at ∷ []) w
+
+clocked : (at : ℕ) (w : World) → Grows w (record (begun w) { clock = at })
+clocked at w = let g = begins w in record { acts = g.acts; steps = g.steps; drawn = g.drawn; front = g.front }
+
+pub came_grows : (d : Directory) (token : List ℕ) (at : ℕ) (x : Digest) (w : World) → Grows w (came d token at x w)
+came_grows d token at x w =
+    grows_on w (record (begun w) { clock = at }) (came d token at x w) (clocked at w) (met_grows d token at x (record (begun w) { clock = at }))
+
+-- ---- what follows for the code
+
+pub short_of : (v w : World) → Grows v w → IsShort w → IsShort v
+short_of v w g s = record { acts = omega (arith, g.acts, s.acts); steps = omega (arith, g.steps, s.steps); drawn = omega (arith, g.drawn, s.drawn) }
+
+pub front_of : (before out : List Offer) (v w : World) → Grows v w → out ≡ before ++ v.offers → IsPrefixOf out (before ++ w.offers)
+front_of before out v w g e = (g.front.0, ap (λ (os : List Offer). os ++ g.front.0) e ∙ (append_assoc before v.offers g.front.0 ∙ ap (λ (os : List Offer). before ++ os) g.front.1))
+
+-- what stood there before stands in front of what stands there later
+pub kept_of : (before out now : List Offer) (v w : World) → Grows v w → out ≡ before ++ v.offers → now ≡ before ++ w.offers → IsPrefixOf out now
+kept_of before out now v w g e f = subst (IsPrefixOf out) (sym f) (front_of before out v w g e)
+
+-- a deed ended half way
+pub cut_of : (before out now : List Offer) (u v w : World) → Grows u v → Grows v w → out ≡ before ++ u.offers → now ≡ before ++ v.offers → IsCut out now (before ++ w.offers)
+cut_of before out now u v w g h e f = (kept_of before out now u v g e f, front_of before now v w h f)
+
+-- a front of a front
+pub front_on : (xs ys zs : List Offer) → IsPrefixOf xs ys → IsPrefixOf ys zs → IsPrefixOf xs zs
+front_on xs ys zs a b = (a.0 ++ b.0, sym (append_assoc xs a.0 b.0) ∙ (ap (λ (os : List Offer). os ++ b.0) a.1 ∙ b.1))
+
+-- nothing was added
+pub stops : (f : Directory → List ℕ → World → World) (old : Server) (out now : List Offer) → ((d : Directory) (token : List ℕ) (w : World) → Grows w (f d token w)) → now ≡ out
+    → Breaks old out now f
+stops f old out now grows e d token before w did short = cut_of before out now w w (f d token w) (same w) (grows d token w) did.offered (e ∙ did.offered)
+
+-- one deed after another
+pub followed : (f g : Directory → List ℕ → World → World) (old mid new : Server) (out between now : List Offer)
+    → ((d : Directory) (token : List ℕ) (w : World) → Grows w (g d token w)) → Follows old out mid between f → Follows mid between new now g
+    → Follows old out new now (λ d token w. g d token (f d token w))
+followed f g old mid new out between now grows a b d token before w did short =
+    b d token before (f d token w) (a d token before w did (short_of (f d token w) (g d token (f d token w)) (grows d token (f d token w)) short)) short
+
+pub broken : (f g : Directory → List ℕ → World → World) (old mid : Server) (out between now : List Offer) → ((d : Directory) (token : List ℕ) (w : World) → Grows w (f d token w))
+    → ((d : Directory) (token : List ℕ) (w : World) → Grows w (g d token w)) → Follows old out mid between f → Breaks mid between now g
+    → Breaks old out now (λ d token w. g d token (f d token w))
+broken f g old mid out between now first grows a b d token before w did short =
+    let there = a d token before w did (short_of (f d token w) (g d token (f d token w)) (grows d token (f d token w)) short) in
+    let cut = b d token before (f d token w) there short in
+    (front_on out between now (kept_of before out between w (f d token w) (first d token w) did.offered there.offered) cut.0, cut.1)
+
+pub on_err : {A E : Type 0} (r : Result A E) (P : Type 0) → P → OnErr r P
+on_err (Ok x) P p = tt
+on_err (Err e) P p = p
+
+-- the same of a call that offers all or nothing
+pub stops_on : {A E : Type 0} (r : Result A E) (f : Directory → List ℕ → World → World) (old : Server) (out now : List Offer)
+    → ((d : Directory) (token : List ℕ) (w : World) → Grows w (f d token w)) → OnErr r (now ≡ out) → OnErr r (Breaks old out now f)
+stops_on (Ok x) f old out now grows e = tt
+stops_on (Err x) f old out now grows e = stops f old out now grows e

@@ -1,0 +1,5 @@
+use Rattle.std.proofs.Common.{◌∙◌}
+use Rattle.mmtel_server.proofs.servers.Server.rows_waiting.Goals as goal
+
+pub returns : goal.returns
+returns c = record { waiting = λ directory token events before out went. c.items.ensures ∙ went.did.stands.rows }

@@ -1,0 +1,7 @@
+-- What public clauses cite, which a user of the crate has to believe.
+pub mod Stands
+pub mod Driven
+pub mod Laws
+-- What private functions alone cite.
+pub mod Follows
+pub mod Turns

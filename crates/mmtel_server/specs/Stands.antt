@@ -1,0 +1,56 @@
+-- The server that stands for what was done in a run.
+use Rattle.std.specs.Prelude.{◌≡◌, ℕ, false, List, [], ◌∷◌, ◌++◌}
+use Rattle.mmtel_directory.specs.declared.directories.Directory.{Directory}
+use Rattle.mmtel_outside.specs.declared.events.Event.{Event}
+use Rattle.mmtel_outside.specs.declared.events.Offer.{Offer}
+use Rattle.mmtel_run.specs.Events.{digests}
+use Rattle.mmtel_run.specs.Run.{IsEnough, after, gives}
+use Rattle.mmtel_run.specs.Short.{IsShortRun}
+use Rattle.mmtel_run.specs.World.{World, empty}
+use Rattle.mmtel_server.specs.declared.servers.Server.{Server}
+use Rattle.mmtel_transaction.specs.Stands as transactions
+
+-- what a server keeps of what was done; one that has failed for want of memory stands for nothing
+pub record Stands (directory : Directory) (token : List ℕ) (server : Server) (world : World) : Type 0 where
+  pub directory_same : server.directory ≡ directory
+  pub tokens : server.tokens ≡ record { token = token; drawn = world.drawn }
+  pub transactions : transactions.Stands server.transactions world.acts
+  pub clock : server.clock ≡ world.clock
+  pub steps : server.steps ≡ world.steps
+  -- no call is followed to its end yet, so no row is written
+  pub rows : server.rows ≡ []
+  pub whole : server.failed ≡ false
+
+-- it stands for that, and this was offered behind what stood there before
+pub record Did (directory : Directory) (token : List ℕ) (before : List Offer) (server : Server) (out : List Offer) (world : World) : Type 0 where
+  pub stands : Stands directory token server world
+  pub offered : out ≡ before ++ world.offers
+
+-- it went through the run of these events, in which every deadline that was due has fired, and what it offered stands behind what stood there before
+pub record Went (directory : Directory) (token : List ℕ) (events : List Event) (before : List Offer) (server : Server) (out : List Offer) : Type 0 where
+  pub fuel : ℕ
+  pub enough : IsEnough directory token fuel events
+  pub did : Did directory token before server out (after directory token fuel (digests directory events) empty)
+
+-- the front of a list
+abbrev pub IsPrefixOf : List Offer → List Offer → Type 0
+IsPrefixOf front whole = (rest : List Offer) × (front ++ rest ≡ whole)
+
+-- what stood there stands there still, and what stands there now is a front of what was to stand there
+abbrev pub IsCut : (old now whole : List Offer) → Type 0
+IsCut old now whole = IsPrefixOf old now × IsPrefixOf now whole
+
+-- whatever run it went through, it has gone through this event more
+abbrev pub GoesOn : Server → List Offer → Server → List Offer → Event → Type 0
+GoesOn old out new now event =
+    (directory : Directory) (token : List ℕ) (events : List Event) (before : List Offer) →
+    Went directory token events before old out → IsShortRun directory token (events ++ event ∷ []) →
+    Went directory token (events ++ event ∷ []) before new now
+
+-- whatever run it went through, of what this event more makes it offer a front was added
+abbrev pub BreaksOff : Server → List Offer → List Offer → Event → Type 0
+BreaksOff old out now event =
+    (directory : Directory) (token : List ℕ) (events : List Event) (before : List Offer) (fuel : ℕ) →
+    Went directory token events before old out → IsShortRun directory token (events ++ event ∷ []) →
+    IsEnough directory token fuel (events ++ event ∷ []) →
+    IsCut out now (before ++ gives directory token fuel (events ++ event ∷ []))

@@ -1,0 +1,10 @@
+//! The server: what each event of a run makes it offer.
+#![tactic(auto)]
+
+mod driving;
+mod laws;
+mod servers;
+
+pub use driving::{DriveFault, drive};
+pub use laws::servers_offer_what_runs_give;
+pub use servers::Server;

@@ -1,0 +1,199 @@
+//! What is offered: whatever the layers want done goes through here.
+ghost use Rattle.std.specs.Prelude.{◌≡◌, ◌<◌, ◌^◌, ◌+◌, ◌++◌, ◌∷◌, [], IfOk, OnErr, OnOk};
+ghost use Rattle.mmtel_intake.specs.Openings.{names_in};
+ghost use Rattle.mmtel_outside.specs.declared.events.Offer.TheVariants as offer;
+ghost use Rattle.mmtel_run.specs.Answers.{tag_for, tags_due, to_tag_in};
+ghost use Rattle.mmtel_run.specs.Openings.{names, opening_draws};
+ghost use Rattle.mmtel_run.specs.World.{emit_one, emitted, to_peer};
+ghost use Rattle.mmtel_transaction.specs.declared.words.Emit.TheVariants as emit;
+ghost use Rattle.mmtel_server.specs.Follows.{Breaks, Follows};
+
+use crate::servers::Server;
+use mmtel_intake::{Names, is_untagged};
+use mmtel_message::Msg;
+use mmtel_outside::Offer;
+use mmtel_scan::{List, NoMemory, Text};
+use mmtel_transaction::laws::numbers_are_distinct;
+use mmtel_transaction::{Emit, TKey, Tokens};
+use mmtel_types::{Moment, Peer};
+use std::alloc::Global;
+
+/// Adds an offer to a peer.
+pub(super) fn offer_to(
+    alloc: Global,
+    peer: Peer,
+    at: u64,
+    text: Text,
+    out: &mut List<Offer>,
+) -> Result<(), NoMemory>
+    ensures done { OnOk result (out.new ≡ out.old ++ offer.To peer at text ∷ []) }
+    ensures err { OnErr result (out.new ≡ out.old) }
+{
+    out.push(alloc, Offer::To { peer, at, text })?;
+    Ok(())
+}
+
+/// Adds an offer to a peer, where there is one.
+fn offer_to_peer(
+    alloc: Global,
+    peer: Option<Peer>,
+    at: u64,
+    text: Text,
+    out: &mut List<Offer>,
+) -> Result<(), NoMemory>
+    ensures done { OnOk result (out.new ≡ out.old ++ to_peer at text peer) }
+    ensures err { OnErr result (out.new ≡ out.old) }
+{
+    match peer {
+        None => Ok(()),
+        Some(peer) => offer_to(alloc, peer, at, text, out),
+    }
+}
+
+/// Adds an event of a form that is not built yet.
+pub(super) fn offer_unbuilt(alloc: Global, at: u64, out: &mut List<Offer>) -> Result<(), NoMemory>
+    ensures done { OnOk result (out.new ≡ out.old ++ offer.Unbuilt at ∷ []) }
+    ensures err { OnErr result (out.new ≡ out.old) }
+{
+    out.push(alloc, Offer::Unbuilt { at })?;
+    Ok(())
+}
+
+/// Draws the tag of a response to a message whose To has none (RFC 3261 §8.2.6.2); no bytes where it has one.
+pub(super) fn drawn_tag(alloc: Global, tokens: &mut Tokens, message: &Msg) -> Result<Text, NoMemory>
+    ensures tag { tokens.old.drawn < 2 ^ 60 → IfOk result (λ tag. tag ≡ tag_for tokens.old.token tokens.old.drawn (to_tag_in message.now.lines)) }
+    ensures drawn { tokens.old.drawn < 2 ^ 60 → OnOk result (tokens.new ≡ record { token = tokens.old.token; drawn = tokens.old.drawn + tags_due (to_tag_in message.now.lines) }) }
+{
+    if is_untagged(alloc, message)? {
+        tokens.draw(alloc)
+    } else {
+        Ok(Text::new())
+    }
+}
+
+/// Draws what an opening names: the tag of the caller's side, and the names of the first attempt.
+pub(super) fn drawn_names(alloc: Global, tokens: &mut Tokens) -> Result<Names, NoMemory>
+    ensures names { tokens.old.drawn < 2 ^ 60 → IfOk result (λ drawn. names_in drawn ≡ names tokens.old.token tokens.old.drawn) }
+    ensures drawn { tokens.old.drawn < 2 ^ 60 → OnOk result (tokens.new ≡ record { token = tokens.old.token; drawn = tokens.old.drawn + opening_draws }) }
+{
+    let _caller = tokens.draw(alloc)?;
+    let call_id = tokens.draw(alloc)?;
+    let tag = tokens.draw(alloc)?;
+    let branch = tokens.draw(alloc)?;
+    Ok(Names {
+        call_id,
+        tag,
+        branch,
+    })
+}
+
+/// What a layer wants done. Each deed offers all that it has to; for want of memory nothing, and of several deeds a front, and the server has then failed.
+impl Server {
+    /// Sends a request in a client transaction of its own.
+    pub(super) fn ask(
+        &mut self,
+        alloc: Global,
+        peer: Peer,
+        message: &Msg,
+        at: Moment,
+        out: &mut List<Offer>,
+    ) -> Result<(), NoMemory>
+        ensures done { OnOk result (Follows self.old out.old self.new out.new (λ d token. emit_one at (emit.Ask peer message.now))) }
+        ensures err { OnErr result (out.new ≡ out.old) }
+    {
+        numbers_are_distinct();
+        let text = message.text(alloc)?;
+        self.transactions.ask(alloc, peer, message, at)?;
+        offer_to(alloc, peer, at.ms(), text, out)
+    }
+
+    /// Answers a server transaction.
+    pub(super) fn reply(
+        &mut self,
+        alloc: Global,
+        key: TKey,
+        message: &Msg,
+        at: Moment,
+        out: &mut List<Offer>,
+    ) -> Result<(), NoMemory>
+        ensures done { OnOk result (Follows self.old out.old self.new out.new (λ d token. emit_one at (emit.Reply key message.now))) }
+        ensures err { OnErr result (out.new ≡ out.old) }
+    {
+        let text = message.text(alloc)?;
+        let peer = self.transactions.peer(key);
+        self.transactions.reply(alloc, key, message, at)?;
+        offer_to_peer(alloc, peer, at.ms(), text, out)
+    }
+
+    /// Acknowledges the non-2xx final that a client transaction heard.
+    pub(super) fn acknowledge(
+        &mut self,
+        alloc: Global,
+        key: TKey,
+        message: &Msg,
+        at: Moment,
+        out: &mut List<Offer>,
+    ) -> Result<(), NoMemory>
+        ensures done { OnOk result (Follows self.old out.old self.new out.new (λ d token. emit_one at (emit.Ack key message.now))) }
+        ensures err { OnErr result (out.new ≡ out.old) }
+    {
+        let text = message.text(alloc)?;
+        let peer = self.transactions.peer(key);
+        self.transactions.ack(alloc, key, message)?;
+        offer_to_peer(alloc, peer, at.ms(), text, out)
+    }
+
+    /// Sends a text without a transaction.
+    pub(super) fn send(
+        &mut self,
+        alloc: Global,
+        peer: Peer,
+        text: &[u8],
+        at: Moment,
+        out: &mut List<Offer>,
+    ) -> Result<(), NoMemory>
+        ensures done { OnOk result (Follows self.old out.old self.new out.new (λ d token. emit_one at (emit.Plain peer text.now))) }
+        ensures err { OnErr result (out.new ≡ out.old) }
+    {
+        let text = Text::of(alloc, text)?;
+        offer_to(alloc, peer, at.ms(), text, out)
+    }
+
+    /// Does what a layer wants done.
+    pub(super) fn emit(
+        &mut self,
+        alloc: Global,
+        emit: &Emit,
+        at: Moment,
+        out: &mut List<Offer>,
+    ) -> Result<(), NoMemory>
+        ensures done { OnOk result (Follows self.old out.old self.new out.new (λ d token. emit_one at emit.now)) }
+        ensures err { OnErr result (out.new ≡ out.old) }
+    {
+        match emit {
+            Emit::Ask { peer, msg } => self.ask(alloc, *peer, msg, at, out),
+            Emit::Reply { key, msg } => self.reply(alloc, *key, msg, at, out),
+            Emit::Plain { peer, text } => self.send(alloc, *peer, text.bytes(), at, out),
+            Emit::Ack { key, msg } => self.acknowledge(alloc, *key, msg, at, out),
+            Emit::Arm { .. } => Ok(()),
+            Emit::ArmSeat { .. } => Ok(()),
+        }
+    }
+
+    /// Does all that a layer wants done, in order.
+    pub(super) fn emit_all(
+        &mut self,
+        alloc: Global,
+        emits: &[Emit],
+        at: Moment,
+        out: &mut List<Offer>,
+    ) -> Result<(), NoMemory>
+        ensures done { OnOk result (Follows self.old out.old self.new out.new (λ d token. emitted at emits.now)) }
+        ensures err { OnErr result (Breaks self.old out.old out.new (λ d token. emitted at emits.now)) }
+    {
+        for emit in emits {
+            self.emit(alloc, emit, at, out)?;
+        }
+        Ok(())
+    }
+}

@@ -1,0 +1,307 @@
+//! What is done with messages.
+ghost use Rattle.std.specs.Prelude.{◌≡◌, if◌then◌else◌, None, OnErr, OnOk, Some};
+ghost use Rattle.mmtel_answers.specs.Said.{said};
+ghost use Rattle.mmtel_intake.specs.Courses.{answer_in, course_in};
+ghost use Rattle.mmtel_intake.specs.Told.{digest_in};
+ghost use Rattle.mmtel_message.specs.Message.{Message};
+ghost use Rattle.mmtel_message.specs.declared.messages.Start.{Start};
+ghost use Rattle.mmtel_run.specs.World.{answering, met, opening, refusing, repeating, replying, replying_plainly, taking, taking_fresh, told, unbuilt};
+ghost use Rattle.mmtel_server.specs.Follows.{Breaks, Follows, IsTaken};
+
+use crate::servers::Server;
+use crate::servers::deeds::{drawn_names, drawn_tag, offer_unbuilt};
+use mmtel_answers::{Aim, Hearing};
+use mmtel_intake::{
+    Answer, Course, Told, attempt, completed_reply, course, plainly, response_to, trying,
+};
+use mmtel_message::{Msg, is_method};
+use mmtel_outside::Offer;
+use mmtel_scan::{List, NoMemory, Text};
+use mmtel_transaction::laws::numbers_are_distinct;
+use mmtel_transaction::{HearFault, Heard, TKey};
+use mmtel_types::{Addr, Moment, Peer};
+use std::alloc::Global;
+
+/// Answers of the server's own.
+impl Server {
+    /// Answers a request in its transaction, with a tag of the server where To has none (RFC 3261 §8.2.6).
+    fn replying(
+        &mut self,
+        alloc: Global,
+        key: TKey,
+        request: &Hearing,
+        answer: &Answer,
+        at: Moment,
+        out: &mut List<Offer>,
+    ) -> Result<(), NoMemory>
+        ensures done { OnOk result (Follows self.old out.old self.new out.new (λ d token. replying d token at key request.now (answer_in answer.now))) }
+        ensures err { OnErr result (out.new ≡ out.old) }
+    {
+        let tag = drawn_tag(alloc, &mut self.tokens, &request.message)?;
+        let response = response_to(alloc, self.directory.sip, tag.bytes(), request, answer)?;
+        self.reply(alloc, key, &response, at, out)
+    }
+
+    /// Answers a request without a transaction, with a tag of the server where To has none (RFC 3261 §8.2.7).
+    fn replying_plainly(
+        &mut self,
+        alloc: Global,
+        request: &Hearing,
+        answer: &Answer,
+        at: Moment,
+        out: &mut List<Offer>,
+    ) -> Result<(), NoMemory>
+        ensures done { OnOk result (Follows self.old out.old self.new out.new (λ d token. replying_plainly d token at request.now (answer_in answer.now))) }
+        ensures err { OnErr result (out.new ≡ out.old) }
+    {
+        let tag = drawn_tag(alloc, &mut self.tokens, &request.message)?;
+        let response = response_to(alloc, self.directory.sip, tag.bytes(), request, answer)?;
+        let text = response.text(alloc)?;
+        self.send(alloc, request.peer, text.bytes(), at, out)
+    }
+
+    /// Replies to bytes of a peer that were refused as they were read.
+    fn refusing(
+        &mut self,
+        alloc: Global,
+        peer: Peer,
+        source: Addr,
+        reply: &Msg,
+        at: Moment,
+        out: &mut List<Offer>,
+    ) -> Result<(), NoMemory>
+        ensures done { OnOk result (Follows self.old out.old self.new out.new (λ d token. refusing token at peer source reply.now)) }
+        ensures err { OnErr result (out.new ≡ out.old) }
+    {
+        let tag = drawn_tag(alloc, &mut self.tokens, reply)?;
+        let response = completed_reply(alloc, tag.bytes(), source, reply)?;
+        let text = response.text(alloc)?;
+        self.send(alloc, peer, text.bytes(), at, out)
+    }
+}
+
+/// What is done with a request that opens a transaction.
+impl Server {
+    /// Opens a call: the 100 to the caller, and the INVITE of the first attempt.
+    fn open(
+        &mut self,
+        alloc: Global,
+        key: TKey,
+        request: &Hearing,
+        aim: Aim,
+        at: Moment,
+        out: &mut List<Offer>,
+    ) -> Result<(), NoMemory>
+        ensures done { OnOk result (Follows self.old out.old self.new out.new (λ d token. opening d token at key request.now aim)) }
+        ensures err { OnErr result (Breaks self.old out.old out.new (λ d token. opening d token at key request.now aim)) }
+    {
+        let names = drawn_names(alloc, &mut self.tokens)?;
+        let peer = aim.peer;
+        let to_trusted = self.directory.peers.trusted(peer);
+        let answer = trying(alloc, self.directory.sip, request)?;
+        let invite = attempt(alloc, self.directory.sip, names, aim, to_trusted, request)?;
+        self.reply(alloc, key, &answer, at, out)?;
+        self.ask(alloc, peer, &invite, at, out)?;
+        Ok(())
+    }
+
+    /// Notes an event of a form that is not built yet.
+    pub(super) fn pass_over(
+        &mut self,
+        alloc: Global,
+        at: Moment,
+        out: &mut List<Offer>,
+    ) -> Result<(), NoMemory>
+        ensures done { OnOk result (Follows self.old out.old self.new out.new (λ d token. unbuilt at)) }
+        ensures err { OnErr result (out.new ≡ out.old) }
+    {
+        offer_unbuilt(alloc, at.ms(), out)
+    }
+
+    /// Does with a request what is decided of it.
+    fn take(
+        &mut self,
+        alloc: Global,
+        key: TKey,
+        request: &Hearing,
+        course: Course,
+        at: Moment,
+        out: &mut List<Offer>,
+    ) -> Result<(), NoMemory>
+        ensures done { OnOk result (Follows self.old out.old self.new out.new (λ d token. taking d token at key request.now (course_in course))) }
+        ensures err { OnErr result (Breaks self.old out.old out.new (λ d token. taking d token at key request.now (course_in course))) }
+    {
+        match course {
+            Course::Refuse(answer) => self.replying(alloc, key, request, &answer, at, out),
+            Course::Open(aim) => self.open(alloc, key, request, aim, at, out),
+            Course::Unbuilt => self.pass_over(alloc, at, out),
+        }
+    }
+
+    /// Does what is due of a request that opened a transaction.
+    fn take_fresh(
+        &mut self,
+        alloc: Global,
+        key: TKey,
+        request: &Hearing,
+        at: Moment,
+        out: &mut List<Offer>,
+    ) -> Result<(), NoMemory>
+        ensures done { OnOk result (Follows self.old out.old self.new out.new (λ d token. taking_fresh d token at key request.now)) }
+        ensures err { OnErr result (Breaks self.old out.old out.new (λ d token. taking_fresh d token at key request.now)) }
+    {
+        let merged = self.transactions.merged(key);
+        let course = course(alloc, &self.directory, merged, request)?;
+        self.take(alloc, key, request, course, at, out)
+    }
+}
+
+/// What is done with whatever a peer says.
+impl Server {
+    /// Sends again what a message that is heard again is due.
+    fn repeat(
+        &mut self,
+        alloc: Global,
+        sent: Option<(Peer, Text)>,
+        at: Moment,
+        out: &mut List<Offer>,
+    ) -> Result<(), NoMemory>
+        ensures done { OnOk result (Follows self.old out.old self.new out.new (λ d token. repeating at sent)) }
+        ensures err { OnErr result (out.new ≡ out.old) }
+    {
+        match sent {
+            None => Ok(()),
+            Some((peer, text)) => self.send(alloc, peer, text.bytes(), at, out),
+        }
+    }
+
+    /// Does what is due of a message that is heard again; of a CANCEL nothing is built yet.
+    fn hear_again(
+        &mut self,
+        alloc: Global,
+        is_cancel: bool,
+        sent: Option<(Peer, Text)>,
+        at: Moment,
+        out: &mut List<Offer>,
+    ) -> Result<(), NoMemory>
+        ensures done { OnOk result (Follows self.old out.old self.new out.new (λ d token world. if is_cancel then unbuilt at world else repeating at sent world)) }
+        ensures err { OnErr result (out.new ≡ out.old) }
+    {
+        if is_cancel {
+            self.pass_over(alloc, at, out)
+        } else {
+            self.repeat(alloc, sent, at, out)
+        }
+    }
+
+    /// Does what is due of a message of a peer, by what the transactions say of it.
+    fn answer(
+        &mut self,
+        alloc: Global,
+        peer: Peer,
+        source: Addr,
+        trusted: bool,
+        is_cancel: bool,
+        taken: Heard,
+        at: Moment,
+        out: &mut List<Offer>,
+    ) -> Result<(), NoMemory>
+        ensures done { OnOk result ((message : Message Start) → IsTaken is_cancel message taken →
+            Follows self.old out.old self.new out.new (λ d token. answering d token at (said peer source trusted message) (Some taken))) }
+        ensures err { OnErr result ((message : Message Start) → IsTaken is_cancel message taken →
+            Breaks self.old out.old out.new (λ d token. answering d token at (said peer source trusted message) (Some taken))) }
+    {
+        match taken {
+            Heard::Fresh(key, message) => {
+                let request = Hearing {
+                    peer,
+                    source,
+                    trusted,
+                    message,
+                };
+                self.take_fresh(alloc, key, &request, at, out)
+            }
+            Heard::Answer(_, _) => self.pass_over(alloc, at, out),
+            Heard::Repeat(sent) => self.hear_again(alloc, is_cancel, sent, at, out),
+            Heard::Acked(_) => Ok(()),
+            Heard::Cancel(_, _, _) => self.pass_over(alloc, at, out),
+            Heard::AckOf2xx(_) => Ok(()),
+            Heard::Stray => Ok(()),
+        }
+    }
+
+    /// Answers a message that is one too many (RFC 3261 §21.5.4).
+    fn turn_away(
+        &mut self,
+        alloc: Global,
+        request: &Hearing,
+        at: Moment,
+        out: &mut List<Offer>,
+    ) -> Result<(), NoMemory>
+        ensures done { OnOk result (Follows self.old out.old self.new out.new (λ d token. answering d token at request.now None)) }
+        ensures err { OnErr result (out.new ≡ out.old) }
+    {
+        self.replying_plainly(alloc, request, &plainly(503), at, out)
+    }
+
+    /// Hears a message of a peer.
+    fn hear(
+        &mut self,
+        alloc: Global,
+        heard: Hearing,
+        at: Moment,
+        out: &mut List<Offer>,
+    ) -> Result<(), NoMemory>
+        ensures done { OnOk result (Follows self.old out.old self.new out.new (λ d token. told d token at heard)) }
+        ensures err { OnErr result (Breaks self.old out.old out.new (λ d token. told d token at heard)) }
+    {
+        numbers_are_distinct();
+        let is_cancel = is_method(b"CANCEL", heard.message.start());
+        let Hearing {
+            peer,
+            source,
+            trusted,
+            message,
+        } = heard;
+        match self.transactions.hear(alloc, peer, message, at) {
+            Ok(taken) => self.answer(alloc, peer, source, trusted, is_cancel, taken, at, out),
+            Err(HearFault::Full(message)) => {
+                let request = Hearing {
+                    peer,
+                    source,
+                    trusted,
+                    message,
+                };
+                self.turn_away(alloc, &request, at, out)
+            }
+            Err(HearFault::NoMemory) => Err(NoMemory),
+        }
+    }
+
+    /// Meets an event at a moment of the clock, by what was read of it.
+    ///
+    /// # Errors
+    ///
+    /// Want of memory alone: a front of what it has to offer is then offered, and the server has failed.
+    pub(crate) fn meet(
+        &mut self,
+        alloc: Global,
+        told: Told,
+        at: Moment,
+        out: &mut List<Offer>,
+    ) -> Result<(), NoMemory>
+        ensures done { OnOk result (Follows self.old out.old self.new out.new (λ d token. met d token at (digest_in told))) }
+        ensures err { OnErr result (Breaks self.old out.old out.new (λ d token. met d token at (digest_in told))) }
+    {
+        match told {
+            Told::Nothing => Ok(()),
+            Told::Refused {
+                peer,
+                source,
+                reply,
+            } => self.refusing(alloc, peer, source, &reply, at, out),
+            Told::Heard(heard) => self.hear(alloc, heard, at, out),
+            Told::Unbuilt => self.pass_over(alloc, at, out),
+        }
+    }
+}

@@ -1,0 +1,159 @@
+//! What is done with requests.
+
+use crate::heard::{add_request, directory, hearing};
+use crate::told::Told;
+use mmtel_answers::Aim;
+use mmtel_directory::Directory;
+use mmtel_intake::{Answer, Course, course};
+use mmtel_message::Line;
+use mmtel_scan::part;
+use std::test::Fail;
+
+/// A row is a request: `m` where it is merged, `t` where To has a tag, its method and Request-URI, and further lines, each ended by `|`. Below it stands what is done with it.
+const TABLE: &[u8] = br##"> -- INFO sip:bob@home.example
+405 Allow: INVITE, ACK, CANCEL, BYE, OPTIONS, REGISTER, REFER
+> -- INFO sips:bob@home.example
+405 Allow: INVITE, ACK, CANCEL, BYE, OPTIONS, REGISTER, REFER
+> -- OPTIONS sips:bob@home.example
+416
+> -- OPTIONS sips:bob@home.example|Max-Forwards: 0|
+416
+> -- OPTIONS sip:bob@home.example|Max-Forwards: 00|
+483
+> -t OPTIONS sip:bob@home.example|Max-Forwards: 0|
+483
+> -t OPTIONS sip:bob@home.example|Max-Forwards: 1|
+481
+> mt OPTIONS sip:bob@home.example
+481
+> m- OPTIONS sip:bob@home.example
+482
+> m- OPTIONS sip:bob@home.example|Require: 100rel|
+482
+> -- OPTIONS sip:bob@home.example|Require: 100rel, histinfo, timer|Require: HISTINFO|
+420 Unsupported: 100rel Unsupported: timer Unsupported: HISTINFO
+> -- BYE sip:bob@home.example|Require: 100rel|
+420 Unsupported: 100rel
+> -- OPTIONS sip:bob@home.example|Require: histinfo|
+200 Allow: INVITE, ACK, CANCEL, BYE, OPTIONS, REGISTER, REFER
+> -- BYE sip:bob@home.example
+481
+> -- REFER sip:bob@home.example|Refer-To: <sip:vm@far.example>|
+403
+> -- REGISTER sip:home.example
+unbuilt
+> -- INVITE sip:bob@home.example|Require: histinfo|
+open 1 sip:bob@home.example "Bob" <sip:bob@home.example>
+> -- INVITE sip:vm@far.example
+open 2 sip:vm@far.example "Bob" <sip:bob@home.example>
+> -- INVITE sip:vm@nowhere.example
+unbuilt
+> -- INVITE tel:+4930111
+unbuilt
+> -- INVITE sip:vm@far.example|Route: <sip:127.0.0.1:5060;lr>, <sip:p@home.example;lr>|
+open 1 sip:vm@far.example "Bob" <sip:bob@home.example> <sip:p@home.example;lr>
+> -- INVITE sip:bob@home.example|Route: <sip:127.0.0.1;lr>|
+open 1 sip:bob@home.example "Bob" <sip:bob@home.example>
+> -- INVITE sip:bob@home.example|Route: <sip:127.0.0.1:5071;lr>, <sip:p@far.example;lr>|
+open 1 sip:bob@home.example "Bob" <sip:bob@home.example> <sip:127.0.0.1:5071;lr> <sip:p@far.example;lr>
+> -- INVITE sip:bob@home.example|Route: <sip:p@nowhere.example;lr>|
+unbuilt
+> -- INVITE sip:bob@home.example|Route: <tel:+4930111>|
+unbuilt
+> -- INVITE sip:conf@home.example
+unbuilt
+> -- INVITE sip:conf@far.example
+open 2 sip:conf@far.example "Bob" <sip:bob@home.example>
+> -- INVITE sip:room-1@127.0.0.1
+unbuilt
+> -- INVITE sip:room-0@127.0.0.1:5060
+unbuilt
+> -- INVITE sip:room-1@127.0.0.1:5060|Route: <sip:p@home.example;lr>|
+unbuilt
+> -- INVITE sip:room-01@127.0.0.1:5060
+open 1 sip:room-01@127.0.0.1:5060 "Bob" <sip:bob@home.example>
+> -- INVITE sip:room-@127.0.0.1
+open 1 sip:room-@127.0.0.1 "Bob" <sip:bob@home.example>
+> -- INVITE sip:room-1a@127.0.0.1
+open 1 sip:room-1a@127.0.0.1 "Bob" <sip:bob@home.example>
+> -- INVITE sip:Room-1@127.0.0.1
+open 1 sip:Room-1@127.0.0.1 "Bob" <sip:bob@home.example>
+> -- INVITE sip:room-1@127.0.0.1:5071
+open 1 sip:room-1@127.0.0.1:5071 "Bob" <sip:bob@home.example>
+> -- INVITE sip:127.0.0.1
+open 1 sip:127.0.0.1 "Bob" <sip:bob@home.example>
+> -- INVITE sip:bob@home.example|History-Info: <sip:carol@home.example>;index=1|
+unbuilt
+> -- OPTIONS sip:bob@home.example|History-Info: <sip:carol@home.example>;index=1|
+200 Allow: INVITE, ACK, CANCEL, BYE, OPTIONS, REGISTER, REFER
+"##;
+
+fn tell_answer(told: &mut Told, answer: &Answer) {
+    told.add_number(u64::from(answer.code));
+    for line in answer.named.items() {
+        told.add(b" ");
+        told.add_line(line);
+    }
+}
+
+fn tell_aim(told: &mut Told, aim: &Aim) {
+    told.add(b"open ");
+    told.add_number(u64::from(aim.peer.0));
+    told.add(b" ");
+    told.add(aim.uri.bytes());
+    told.add(b" ");
+    told.add(aim.to.bytes());
+    for route in aim.routes.items() {
+        told.add(b" ");
+        told.add(route.bytes());
+    }
+}
+
+fn tell_course(told: &mut Told, course: &Course) {
+    match course {
+        Course::Refuse(answer) => tell_answer(told, answer),
+        Course::Open(aim) => tell_aim(told, aim),
+        Course::Unbuilt => told.add(b"unbuilt"),
+    }
+    told.add(b"\n");
+}
+
+/// Tells what is done with the request of a row.
+fn tell_row(told: &mut Told, directory: &Directory, merged: bool, tagged: bool, row: &[u8]) {
+    let (start, further) = part(b'|', row).unwrap_or((row, b""));
+    let mut text = Told::new(told.alloc);
+    add_request(&mut text, tagged, start, further);
+    if let Some(request) = hearing(told, text.whole(), true) {
+        let course = course(told.alloc, directory, merged, &request);
+        if let Some(course) = told.noted(course) {
+            tell_course(told, &course);
+        }
+    }
+}
+
+fn tell_line(told: &mut Told, directory: &Directory, line: &[u8]) {
+    match line {
+        [b'>', b' ', merged, tagged, b' ', row @ ..] => {
+            told.add(line);
+            told.add(b"\n");
+            tell_row(told, directory, *merged == b'm', *tagged == b't', row);
+        }
+        _ => {}
+    }
+}
+
+/// Each refusal and the order between them, each method, and where an INVITE leads.
+#[test]
+fn decides(rt: HostRuntime) -> Result<(), Fail> {
+    let mut told = Told::new(rt.alloc());
+    if let Some(directory) = directory(&mut told) {
+        let mut rest: &[u8] = TABLE;
+        for _ in 0..200 {
+            let (line, later) = part(b'\n', rest).unwrap_or((rest, b""));
+            tell_line(&mut told, &directory, line);
+            rest = later;
+        }
+    }
+    assert_eq!(rt; told.whole(), TABLE);
+    Ok(())
+}

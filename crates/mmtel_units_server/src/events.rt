@@ -1,0 +1,134 @@
+//! A server, and what it hears in the runs of the tests.
+
+use mmtel_directory::read_directory;
+use mmtel_link::Event;
+use mmtel_scan::{List, Text};
+use mmtel_server::Server;
+use mmtel_types::{Addr, Moment};
+use std::alloc::Global;
+
+/// A server with a trusted peer and one that is not.
+const CONFIG: &str = "sip 127.0.0.1:5060
+home home.example
+peer 1 127.0.0.1:5071 trusted
+peer 2 127.0.0.1:5072 untrusted
+route home.example 1
+route far.example 2
+";
+
+/// A server of that configuration; None for want of memory.
+pub fn server(alloc: Global) -> Option<Server> {
+    let directory = read_directory(alloc, CONFIG.as_bytes()).ok()?;
+    let token = Text::of(alloc, b"0123456789abcdef").ok()?;
+    Some(Server::new(directory, token))
+}
+
+/// Erin calls bob, and asks that her identity be kept private.
+const RESTRICTED: &str = "INVITE sip:bob@far.example SIP/2.0\r
+Via: SIP/2.0/UDP 127.0.0.1:5071;branch=z9hG4bKa1\r
+Max-Forwards: 68\r
+From: \"Erin\" <sip:erin@other.example>;tag=a\r
+To: <sip:bob@far.example>\r
+Call-ID: c1\r
+CSeq: 7 INVITE\r
+Contact: <sip:erin@127.0.0.1:5071>\r
+P-Asserted-Identity: <sip:erin@other.example>\r
+Privacy: id\r
+Content-Length: 0\r
+\r
+";
+
+/// What is offered for it: the 100 to her peer, and the INVITE to his.
+pub const OPENING: &str = "at 0 to 1
+|SIP/2.0 100 Trying
+|Via: SIP/2.0/UDP 127.0.0.1:5071;branch=z9hG4bKa1
+|From: \"Erin\" <sip:erin@other.example>;tag=a
+|To: <sip:bob@far.example>
+|Call-ID: c1
+|CSeq: 7 INVITE
+|Content-Length: 0
+|
+at 0 to 2
+|INVITE sip:bob@far.example SIP/2.0
+|Via: SIP/2.0/UDP 127.0.0.1:5060;branch=z9hG4bK0123456789abcdef-4
+|Max-Forwards: 67
+|From: \"Anonymous\" <sip:anonymous@anonymous.invalid>;tag=0123456789abcdef-3
+|To: <sip:bob@far.example>
+|Call-ID: 0123456789abcdef-2
+|CSeq: 1 INVITE
+|Contact: <sip:127.0.0.1:5060>
+|Content-Length: 0
+|
+";
+
+/// And what is offered of it again at 500, where nobody has answered.
+pub const AGAIN: &str = "at 500 to 2
+|INVITE sip:bob@far.example SIP/2.0
+|Via: SIP/2.0/UDP 127.0.0.1:5060;branch=z9hG4bK0123456789abcdef-4
+|Max-Forwards: 67
+|From: \"Anonymous\" <sip:anonymous@anonymous.invalid>;tag=0123456789abcdef-3
+|To: <sip:bob@far.example>
+|Call-ID: 0123456789abcdef-2
+|CSeq: 1 INVITE
+|Contact: <sip:127.0.0.1:5060>
+|Content-Length: 0
+|
+";
+
+fn moment(ms: u16) -> Moment {
+    match Moment::new(u64::from(ms)) {
+        Some(moment) => moment,
+        None => unreachable!(),
+    }
+}
+
+/// Events in the making, which remember that memory ran out.
+#[derive(Drop)]
+pub struct Events {
+    pub list: List<Event>,
+    pub failed: bool,
+}
+
+impl Events {
+    /// None yet.
+    pub fn new() -> Events {
+        Events {
+            list: List::new(),
+            failed: false,
+        }
+    }
+
+    fn add(&mut self, alloc: Global, event: Event) {
+        if self.list.push(alloc, event).is_err() {
+            self.failed = true;
+        }
+    }
+
+    /// A datagram of the peer that is reached at this port.
+    fn add_datagram(&mut self, alloc: Global, port: u16, ms: u16, text: &str) {
+        let ip = [127, 0, 0, 1];
+        let (from, at) = (Addr { ip, port }, moment(ms));
+        match Text::of(alloc, text.as_bytes()) {
+            Ok(bytes) => self.add(alloc, Event::Datagram { from, at, bytes }),
+            Err(_) => self.failed = true,
+        }
+    }
+
+    /// A web connection of which nothing is read.
+    fn add_web(&mut self, alloc: Global, ms: u16) {
+        let (at, bytes) = (moment(ms), Text::new());
+        self.add(alloc, Event::Web { at, bytes });
+    }
+
+    fn add_quiet(&mut self, alloc: Global, ms: u16) {
+        self.add(alloc, Event::Quiet { at: moment(ms) });
+    }
+
+    /// Her INVITE, a web connection, a datagram of nobody, and nothing up to 500.
+    pub fn add_run(&mut self, alloc: Global) {
+        self.add_datagram(alloc, 5071, 0, RESTRICTED);
+        self.add_web(alloc, 200);
+        self.add_datagram(alloc, 5073, 300, RESTRICTED);
+        self.add_quiet(alloc, 500);
+    }
+}

@@ -1,0 +1,65 @@
+-- A call as it stands in the table of calls: whether it stays there, whose a signal is, and whom it keeps busy.
+use Rattle.std.specs.Prelude.{ℕ, ◌==◌, not, Bool, false, if◌then◌else◌, Option, Some, None, List, [], ◌∷◌, ◌++◌, flat_map, option_to_list}
+use Rattle.std.specs.Option.{option_map}
+use Rattle.mmtel_call.specs.declared.calls.Phase.TheVariants.{Lent, Offered, Over, Stood}
+use Rattle.mmtel_call.specs.declared.calls.Phase.{Phase}
+use Rattle.mmtel_call.specs.Closing.{account_in}
+use Rattle.mmtel_call.specs.Settled.{has_heard, has_sent, is_over_in, is_settled}
+use Rattle.mmtel_transaction.specs.declared.words.TKey.{TKey}
+use Rattle.mmtel_types.specs.declared.numbers.Account.{Account}
+use Rattle.mmtel_b2bua.specs.declared.entries.Entry.{Entry}
+
+-- ---- which calls live, and which stay
+
+-- it is not over
+unfoldable pub is_live : Entry → Bool
+is_live e = not (is_over_in e.call.phase)
+
+-- what stays of it: a call that is over stays as long as an INVITE of it may be heard of
+abbrev pub kept : Entry → List Entry
+kept e = if is_settled e.call then [] else e ∷ []
+
+-- ---- whose a signal is
+
+-- the call has this number
+unfoldable pub is_numbered : ℕ → Entry → Bool
+is_numbered number e = e.call.opening.number.0 == number
+
+-- an INVITE of it has this branch
+unfoldable pub sent_it : (branch : Option (List ℕ)) → Entry → Bool
+sent_it None e = false
+sent_it (Some branch) e = has_sent branch e.call
+
+-- an INVITE of it had its answer by this client transaction
+unfoldable pub heard_by : TKey → Entry → Bool
+heard_by key e = has_heard key e.call
+
+-- ---- whom it keeps busy, as long as it is not over: the account that is served as its caller, and that of its current attempt
+
+abbrev pub origin_in : Phase → (origin : Option Account) → Option Account
+origin_in (Offered x) origin = origin
+origin_in (Stood x stage) origin = origin
+origin_in (Lent loan) origin = origin
+origin_in (Over cause) origin = None
+
+abbrev pub served_in : Phase → Option Account
+served_in (Offered x) = option_map account_in x.attempt.service
+served_in (Stood x stage) = option_map account_in x.service
+served_in (Lent loan) = option_map account_in loan.service
+served_in (Over cause) = None
+
+unfoldable pub origin_of : Entry → Option Account
+origin_of e = origin_in e.call.phase e.call.opening.served.origin
+
+unfoldable pub served_of : Entry → Option Account
+served_of e = served_in e.call.phase
+
+unfoldable pub accounts_of : Entry → List Account
+accounts_of e = option_to_list (origin_of e) ++ option_to_list (served_of e)
+
+-- as a step of the call of this number sees it: of that call the caller's account alone
+unfoldable pub beside : ℕ → Entry → List Account
+beside number e = if is_numbered number e then option_to_list (origin_of e) else accounts_of e
+
+abbrev pub busy_beside : ℕ → List Entry → List Account
+busy_beside number es = flat_map (beside number) es

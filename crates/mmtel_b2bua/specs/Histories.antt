@@ -1,0 +1,89 @@
+-- A table of calls and all that was done on it. What a table is after deeds is told from the list of the deeds alone.
+use Rattle.std.specs.Prelude.{ℕ, ◌≡◌, Bool, false, List, [], ◌∷◌, drop}
+use Rattle.mmtel_call.specs.Site.{Site}
+use Rattle.mmtel_desk.specs.Desks.{fresh}
+use Rattle.mmtel_desk.specs.declared.desks.Desk.{Desk}
+use Rattle.mmtel_leg.specs.declared.legs.Released.{Released}
+use Rattle.mmtel_sheet_values.specs.View.{InForce}
+use Rattle.mmtel_transaction.specs.Tokens.{Drawn}
+use Rattle.mmtel_trust.specs.Peers.{Peers}
+use Rattle.mmtel_trust.specs.declared.accounts.AccountIdentity.{AccountIdentity}
+use Rattle.mmtel_types.specs.declared.addrs.Addr.{Addr}
+use Rattle.mmtel_types.specs.declared.sides.Side.{Side}
+use Rattle.mmtel_b2bua.specs.Lending.{ended, released, restored}
+use Rattle.mmtel_b2bua.specs.Tables.{Moved, Table, no_calls, opened_after, taken, with_moved}
+use Rattle.mmtel_scan.specs.Numbers.{next_number}
+use Rattle.mmtel_b2bua.specs.declared.signals.Signal.{Signal}
+
+-- what was heard: the moment, the records in force and the registrations, the tokens that were drawn before, and the signal
+pub record Heard : Type 0 where
+  pub at : ℕ
+  pub view : InForce
+  pub tokens : Drawn
+  pub signal : Signal
+
+-- what is done on a table of calls
+pub data Deed : Type 0 where
+  -- a signal was heard
+  Hears : (heard : Heard) → Deed
+  -- a leg of the call of this number was taken out, or put back
+  Releases : (number : ℕ) → (side : Side) → Deed
+  Restores : (number : ℕ) → (away : Released) → Deed
+  -- that call was ended without it
+  Finishes : (number at : ℕ) → (tokens : Drawn) → Deed
+  -- so many rows were handed over
+  Drops : (count : ℕ) → Deed
+
+-- what a signal brings forth
+abbrev pub heard_by : Site → Heard → Table → Moved
+heard_by site x table = taken site x.at x.view (next_number table.opened) x.signal table.entries (fresh x.tokens)
+
+-- and what the end of a call without its leg brings forth
+abbrev pub finished_by : Site → (number at : ℕ) → Drawn → Table → Moved
+finished_by site number at tokens table = ended site at number table.entries (fresh tokens)
+
+abbrev pub did : Site → Deed → Table → Table
+did site (Hears heard) table = with_moved (heard_by site heard table) (opened_after heard.signal table.opened) table
+did site (Releases number side) table = record table { entries = released number side table.entries }
+did site (Restores number away) table = record table { entries = restored number away table.entries }
+did site (Finishes number at tokens) table = with_moved (finished_by site number at tokens table) table.opened table
+did site (Drops count) table = record table { rows = drop count table.rows }
+
+-- the table after these deeds, the newest first
+abbrev pub table_after : Site → List Deed → Table
+table_after site [] = no_calls
+table_after site (deed ∷ deeds) = did site deed (table_after site deeds)
+
+-- ---- a value of calls
+
+pub record CallsView : Type 0 where
+  pub sip : Addr
+  pub home : List ℕ
+  pub bound : ℕ
+  pub table : Table
+  -- memory was wanted in a step
+  pub has_failed : Bool
+
+-- its configuration, with the peers and the accounts that each call on it is given
+abbrev pub site_of : CallsView → Peers → List AccountIdentity → Site
+site_of calls peers accounts = record { sip = calls.sip; home = calls.home; bound = calls.bound; peers = peers; accounts = accounts }
+
+-- it stands for these deeds
+pub record Stands (peers : Peers) (accounts : List AccountIdentity) (calls : CallsView) (deeds : List Deed) : Type 0 where
+  pub table : calls.table ≡ table_after (site_of calls peers accounts) deeds
+  pub works : calls.has_failed ≡ false
+
+-- what a signal brings forth, where these deeds were done before
+abbrev pub hears_after : Site → List Deed → Heard → Moved
+hears_after site deeds x = heard_by site x (table_after site deeds)
+
+-- the calls after a signal, and what it brings forth
+abbrev pub after_hearing : Peers → List AccountIdentity → Heard → CallsView → CallsView
+after_hearing peers accounts x calls = record calls { table = with_moved (heard_by (site_of calls peers accounts) x calls.table) (opened_after x.signal calls.table.opened) calls.table }
+
+abbrev pub brought_forth : Peers → List AccountIdentity → Heard → CallsView → Desk
+brought_forth peers accounts x calls = (heard_by (site_of calls peers accounts) x calls.table).desk
+
+-- and after the end of a call without its leg
+abbrev pub after_finishing : Peers → List AccountIdentity → (number at : ℕ) → Drawn → CallsView → CallsView
+after_finishing peers accounts number at tokens calls = record calls { table = with_moved (finished_by (site_of calls peers accounts) number at tokens calls.table) calls.table.opened calls.table }

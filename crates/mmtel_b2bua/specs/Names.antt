@@ -1,0 +1,124 @@
+-- What is asked of the table of calls: whose dialog a request names (RFC 3261 §12.2.2), whose INVITE opened a server transaction (§9.2), who a side is, and how many calls an account has.
+use Rattle.std.specs.Prelude.{ℕ, ◌==◌, ◌&&◌, Bool, if◌then◌else◌, Option, Some, None, List, flat_map, is_some, position, slice_get}
+use Rattle.std.specs.Option.{option_map}
+use Rattle.std.specs.Str.{bytes_eq}
+use Rattle.mmtel_call.specs.declared.calls.Pair.{Pair}
+use Rattle.mmtel_call.specs.declared.calls.Phase.TheVariants.{Lent, Offered, Over, Stood}
+use Rattle.mmtel_call.specs.declared.calls.Phase.{Phase}
+use Rattle.mmtel_call.specs.declared.calls.Trial.{Trial}
+use Rattle.mmtel_call.specs.Closing.{account_in}
+use Rattle.mmtel_call.specs.Site.{calls_among}
+use Rattle.mmtel_leg.specs.declared.dialogues.Dialogue.{Dialogue}
+use Rattle.mmtel_leg.specs.declared.legs.Released.{Released}
+use Rattle.mmtel_leg.specs.declared.legs.Released.TheVariants as released
+use Rattle.mmtel_transaction.specs.declared.words.TKey.{TKey}
+use Rattle.mmtel_types.specs.declared.numbers.Account.{Account}
+use Rattle.mmtel_types.specs.declared.numbers.CallNo.{CallNo}
+use Rattle.mmtel_types.specs.declared.numbers.Peer.{Peer}
+use Rattle.mmtel_types.specs.declared.sides.Side.{Side}
+use Rattle.mmtel_types.specs.declared.sides.Side.TheVariants.{Caller, Callee}
+use Rattle.mmtel_b2bua.specs.Entries.{accounts_of, is_live}
+use Rattle.mmtel_b2bua.specs.Lending.{entry_at, entry_of}
+use Rattle.mmtel_b2bua.specs.declared.entries.Entry.{Entry}
+use Rattle.mmtel_b2bua.specs.declared.entries.InviteKey.{InviteKey}
+
+-- the call and the side
+abbrev pub sided : Entry → Side → CallNo × Side
+sided e side = (e.call.opening.number, side)
+
+-- ---- the first call that has such a side
+
+abbrev pub has_side : (side_in : Entry → Option Side) → Entry → Bool
+has_side side_in e = is_some (side_in e)
+
+abbrev pub side_of : (side_in : Entry → Option Side) → Option Entry → Option (CallNo × Side)
+side_of side_in None = None
+side_of side_in (Some e) = option_map (sided e) (side_in e)
+
+abbrev pub first_side : (side_in : Entry → Option Side) → List Entry → Option (CallNo × Side)
+first_side side_in es = side_of side_in (entry_at (position (has_side side_in) es) es)
+
+-- ---- dialogs
+
+-- by Call-ID, the server's tag and the other side's
+abbrev pub has_name : (call_id local remote : List ℕ) → Dialogue → Bool
+has_name call_id local remote d = bytes_eq d.call_id call_id && (bytes_eq d.local_tag local && bytes_eq d.remote_tag remote)
+
+abbrev pub side_by : (caller callee : Bool) → Option Side
+side_by caller callee = if caller then Some Caller else if callee then Some Callee else None
+
+-- the caller's dialog stands from the opening on, that of a target from its first response with a tag
+abbrev pub named_offered : (call_id local remote : List ℕ) → Trial → Option Side
+named_offered call_id local remote x = side_by (has_name call_id local remote x.caller.dialogue) (x.callee.is_early && has_name call_id local remote x.callee.leg.dialogue)
+
+abbrev pub named_stood : (call_id local remote : List ℕ) → Pair → Option Side
+named_stood call_id local remote x = side_by (has_name call_id local remote x.caller.dialogue) (has_name call_id local remote x.callee.dialogue)
+
+-- a leg that is away has no dialog here
+abbrev pub named_left : (call_id local remote : List ℕ) → Released → Option Side
+named_left call_id local remote (released.Caller leg) = if has_name call_id local remote leg.dialogue then Some Caller else None
+named_left call_id local remote (released.Callee leg) = if has_name call_id local remote leg.dialogue then Some Callee else None
+
+abbrev pub named_in : (call_id local remote : List ℕ) → Phase → Option Side
+named_in call_id local remote (Offered x) = named_offered call_id local remote x
+named_in call_id local remote (Stood x stage) = named_stood call_id local remote x
+named_in call_id local remote (Lent loan) = named_left call_id local remote loan.left
+named_in call_id local remote (Over cause) = None
+
+unfoldable pub side_named : (call_id local remote : List ℕ) → Entry → Option Side
+side_named call_id local remote e = named_in call_id local remote e.call.phase
+
+-- ---- INVITEs
+
+unfoldable pub is_key : TKey → InviteKey → Bool
+is_key key invite = invite.key.0 == key.0
+
+abbrev pub side_of_invite : Option InviteKey → Option Side
+side_of_invite None = None
+side_of_invite (Some invite) = Some invite.side
+
+abbrev pub side_at : Option ℕ → List InviteKey → Option Side
+side_at None invites = None
+side_at (Some place) invites = side_of_invite (slice_get invites place)
+
+abbrev pub side_that_asked : TKey → List InviteKey → Option Side
+side_that_asked key invites = side_at (position (is_key key) invites) invites
+
+-- of a call that lives
+unfoldable pub side_asking : TKey → Entry → Option Side
+side_asking key e = if is_live e then side_that_asked key e.invites else None
+
+-- ---- a side
+
+abbrev pub party_offered : (origin : Option Account) → Side → Trial → Peer × Option Account
+party_offered origin Caller x = (x.caller.dialogue.peer, origin)
+party_offered origin Callee x = (x.callee.leg.dialogue.peer, option_map account_in x.attempt.service)
+
+abbrev pub party_stood : (origin : Option Account) → Side → Pair → Peer × Option Account
+party_stood origin Caller x = (x.caller.dialogue.peer, origin)
+party_stood origin Callee x = (x.callee.dialogue.peer, option_map account_in x.service)
+
+abbrev pub party_left : (origin served : Option Account) → Side → Released → Option (Peer × Option Account)
+party_left origin served Caller (released.Caller leg) = Some (leg.dialogue.peer, origin)
+party_left origin served Caller (released.Callee leg) = None
+party_left origin served Callee (released.Caller leg) = None
+party_left origin served Callee (released.Callee leg) = Some (leg.dialogue.peer, served)
+
+-- the peer of its leg, and the account that is served there
+abbrev pub party_in : (origin : Option Account) → Side → Phase → Option (Peer × Option Account)
+party_in origin side (Offered x) = Some (party_offered origin side x)
+party_in origin side (Stood x stage) = Some (party_stood origin side x)
+party_in origin side (Lent loan) = party_left origin (option_map account_in loan.service) side loan.left
+party_in origin side (Over cause) = None
+
+abbrev pub party_of : Side → Option Entry → Option (Peer × Option Account)
+party_of side None = None
+party_of side (Some e) = party_in e.call.opening.served.origin side e.call.phase
+
+abbrev pub party : ℕ → Side → List Entry → Option (Peer × Option Account)
+party number side es = party_of side (entry_of number es)
+
+-- ---- how many calls an account has: once for each that it makes, and once for each that is offered to it or that it answered
+
+abbrev pub live : ℕ → List Entry → ℕ
+live account es = calls_among (flat_map accounts_of es) account

@@ -1,0 +1,267 @@
+//! What is asked of the calls: whose dialog a request names, whose INVITE opened a server transaction, and who a side is.
+ghost use Rattle.std.specs.Prelude.{◌≡◌, Some, position};
+ghost use Rattle.std.specs.Option.{option_map};
+ghost use Rattle.mmtel_b2bua.specs.Lending.{entry_of, place_of};
+ghost use Rattle.mmtel_b2bua.specs.Names.{first_side, has_name, has_side, is_key, named_left, named_offered, named_stood, party, party_left, party_of, party_offered, party_stood, side_asking, side_by, side_named, side_that_asked, sided};
+
+use crate::busy::account_of;
+use crate::entries::{Entry, InviteKey};
+use mmtel_call::{Pair, Phase, Trial, TriedLeg};
+use mmtel_leg::{Dialogue, Released};
+use mmtel_transaction::TKey;
+use mmtel_types::{Account, CallNo, Peer, Side};
+
+/// The name of a dialog as a request gives it: its Call-ID, the server's tag, and the other side's (RFC 3261 §12).
+#[derive(Clone, Copy)]
+pub struct DialogName<'a> {
+    pub call_id: &'a [u8],
+    pub local: &'a [u8],
+    pub remote: &'a [u8],
+}
+
+impl<'a> DialogName<'a> {
+    /// Whether the dialog has this name.
+    fn is_of(&self, dialogue: &Dialogue) -> bool
+        ensures { result ≡ has_name self.now.call_id.now self.now.local.now self.now.remote.now dialogue.now }
+    {
+        dialogue.call_id.bytes() == self.call_id
+            && dialogue.local_tag.bytes() == self.local
+            && dialogue.remote_tag.bytes() == self.remote
+    }
+
+    /// The side of a call that is offered whose dialog has this name.
+    fn side_offered(&self, x: &Trial) -> Option<Side>
+        ensures { result ≡ named_offered self.now.call_id.now self.now.local.now self.now.remote.now x.now }
+    {
+        if self.is_of(x.caller.dialogue()) {
+            return Some(Side::Caller);
+        }
+        match &x.callee.leg {
+            TriedLeg::Asked(_) => None,
+            TriedLeg::Early(leg) => {
+                if self.is_of(leg.dialogue()) {
+                    Some(Side::Callee)
+                } else {
+                    None
+                }
+            }
+        }
+    }
+
+    /// That of an answered call.
+    fn side_stood(&self, x: &Pair) -> Option<Side>
+        ensures { result ≡ named_stood self.now.call_id.now self.now.local.now self.now.remote.now x.now }
+    {
+        if self.is_of(x.caller.dialogue()) {
+            return Some(Side::Caller);
+        }
+        if self.is_of(x.callee.dialogue()) {
+            return Some(Side::Callee);
+        }
+        None
+    }
+
+    /// That of the leg that is left, where the other is away.
+    fn side_left(&self, left: &Released) -> Option<Side>
+        ensures { result ≡ named_left self.now.call_id.now self.now.local.now self.now.remote.now left.now }
+    {
+        match left {
+            Released::Caller(leg) => {
+                if self.is_of(leg.dialogue()) {
+                    Some(Side::Caller)
+                } else {
+                    None
+                }
+            }
+            Released::Callee(leg) => {
+                if self.is_of(leg.dialogue()) {
+                    Some(Side::Callee)
+                } else {
+                    None
+                }
+            }
+        }
+    }
+
+    /// The side of a call whose dialog has this name.
+    #[tactic(auto, unfolding(crate::specs::Names::side_named))]
+    fn side_in(&self, entry: &Entry) -> Option<Side>
+        ensures { result ≡ side_named self.now.call_id.now self.now.local.now self.now.remote.now entry.now }
+    {
+        match &entry.call.phase {
+            Phase::Offered(x) => self.side_offered(x),
+            Phase::Stood(x, _) => self.side_stood(x),
+            Phase::Lent(loan) => self.side_left(&loan.left),
+            Phase::Over(_) => None,
+        }
+    }
+}
+
+/// The place of the call whose dialog has this name.
+fn place_named(entries: &[Entry], name: DialogName<'_>) -> Option<usize>
+    ensures { result ≡ position (has_side (side_named name.entry.call_id.now name.entry.local.now name.entry.remote.now)) entries.now }
+{
+    entries
+        .iter()
+        .position(|entry| name.side_in(entry).is_some())
+}
+
+/// The call and the side whose dialog has this name.
+pub fn find(entries: &[Entry], name: DialogName<'_>) -> Option<(CallNo, Side)>
+    ensures { result ≡ first_side (side_named name.entry.call_id.now name.entry.local.now name.entry.remote.now) entries.now }
+{
+    match place_named(entries, name) {
+        None => None,
+        Some(at) => match entries.get(at) {
+            None => None,
+            Some(entry) => entry.sided(name.side_in(entry)),
+        },
+    }
+}
+
+/// The place of the INVITE of this server transaction.
+fn place_of_invite(invites: &[InviteKey], key: TKey) -> Option<usize>
+    ensures { result ≡ position (is_key key) invites.now }
+{
+    invites.iter().position(|invite| invite.is_of(key))
+}
+
+/// The side that sent the INVITE of this server transaction.
+fn side_that_asked(invites: &[InviteKey], key: TKey) -> Option<Side>
+    ensures { result ≡ side_that_asked key invites.now }
+{
+    match place_of_invite(invites, key) {
+        None => None,
+        Some(at) => match invites.get(at) {
+            None => None,
+            Some(invite) => Some(invite.side),
+        },
+    }
+}
+
+impl Entry {
+    /// The call and its side, where there is one.
+    fn sided(&self, side: Option<Side>) -> Option<(CallNo, Side)>
+        ensures { result ≡ option_map (sided self.now) side }
+    {
+        match side {
+            None => None,
+            Some(side) => Some((self.call.opening.number, side)),
+        }
+    }
+
+    /// The same of a call that lives.
+    #[tactic(auto, unfolding(crate::specs::Names::side_asking))]
+    fn side_asking(&self, key: TKey) -> Option<Side>
+        ensures { result ≡ side_asking key self.now }
+    {
+        if self.is_live() {
+            return side_that_asked(self.invites.items(), key);
+        }
+        None
+    }
+
+    /// Who a side of the call is: the peer of its leg, and the account that is served there.
+    fn party(&self, side: Side) -> Option<(Peer, Option<Account>)>
+        ensures { result ≡ party_of side (Some self.now) }
+    {
+        let origin = self.call.opening.served.origin;
+        match &self.call.phase {
+            Phase::Offered(x) => Some(party_offered(origin, side, x)),
+            Phase::Stood(x, _) => Some(party_stood(origin, side, x)),
+            Phase::Lent(loan) => {
+                party_left(origin, account_of(loan.service.as_ref()), side, &loan.left)
+            }
+            Phase::Over(_) => None,
+        }
+    }
+}
+
+/// A side of a call that is offered.
+fn party_offered(origin: Option<Account>, side: Side, x: &Trial) -> (Peer, Option<Account>)
+    ensures { result ≡ party_offered origin side x.now }
+{
+    match side {
+        Side::Caller => (x.caller.peer(), origin),
+        Side::Callee => {
+            let account = account_of(x.attempt.service.as_ref());
+            match &x.callee.leg {
+                TriedLeg::Asked(leg) => (leg.peer(), account),
+                TriedLeg::Early(leg) => (leg.peer(), account),
+            }
+        }
+    }
+}
+
+/// A side of an answered call.
+fn party_stood(origin: Option<Account>, side: Side, x: &Pair) -> (Peer, Option<Account>)
+    ensures { result ≡ party_stood origin side x.now }
+{
+    match side {
+        Side::Caller => (x.caller.peer(), origin),
+        Side::Callee => (x.callee.peer(), account_of(x.service.as_ref())),
+    }
+}
+
+/// A side of a call, one leg of which is away.
+fn party_left(
+    origin: Option<Account>,
+    served: Option<Account>,
+    side: Side,
+    left: &Released,
+) -> Option<(Peer, Option<Account>)>
+    ensures { result ≡ party_left origin served side left.now }
+{
+    match side {
+        Side::Caller => match left {
+            Released::Caller(leg) => Some((leg.peer(), origin)),
+            Released::Callee(_) => None,
+        },
+        Side::Callee => match left {
+            Released::Caller(_) => None,
+            Released::Callee(leg) => Some((leg.peer(), served)),
+        },
+    }
+}
+
+/// The place of the call that lives whose INVITE opened this server transaction.
+fn place_asking(entries: &[Entry], key: TKey) -> Option<usize>
+    ensures { result ≡ position (has_side (side_asking key)) entries.now }
+{
+    entries
+        .iter()
+        .position(|entry| entry.side_asking(key).is_some())
+}
+
+/// The call and the side whose INVITE opened this server transaction.
+pub fn asked_by(entries: &[Entry], key: TKey) -> Option<(CallNo, Side)>
+    ensures { result ≡ first_side (side_asking key) entries.now }
+{
+    match place_asking(entries, key) {
+        None => None,
+        Some(at) => match entries.get(at) {
+            None => None,
+            Some(entry) => entry.sided(entry.side_asking(key)),
+        },
+    }
+}
+
+/// The place of the call of this number.
+pub fn place_of(entries: &[Entry], number: CallNo) -> Option<usize>
+    ensures { result ≡ place_of number.0 entries.now }
+{
+    entries.iter().position(|entry| entry.is_numbered(number))
+}
+
+/// Who a side of the call of this number is.
+pub fn party(entries: &[Entry], number: CallNo, side: Side) -> Option<(Peer, Option<Account>)>
+    ensures { result ≡ party number.0 side entries.now }
+{
+    match place_of(entries, number) {
+        None => None,
+        Some(at) => match entries.get(at) {
+            None => None,
+            Some(entry) => entry.party(side),
+        },
+    }
+}

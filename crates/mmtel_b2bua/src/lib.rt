@@ -1,0 +1,15 @@
+//! The calls of a back-to-back user agent (RFC 3261 §6): the table of calls, in which each signal is of one call.
+#![tactic(auto)]
+
+mod asked;
+mod busy;
+mod entries;
+mod lending;
+mod moves;
+mod signals;
+mod tables;
+
+pub use entries::{Entry, InviteKey};
+pub use mmtel_call::NotTalking;
+pub use signals::{CallFault, Signal};
+pub use tables::Calls;

@@ -1,0 +1,406 @@
+//! The table of calls.
+ghost use Rattle.std.specs.Prelude.{◌≡◌, ◌≤◌, ◌<◌, ◌∷◌, ◌++◌, [], ℕ, true, false, drop, length, List, IfErr, IfOk, IsErr, None, OnErr, OnOk, Some, Err, MatchResult, count_by};
+ghost use Rattle.mmtel_b2bua.specs.Entries.{is_live};
+ghost use Rattle.mmtel_b2bua.specs.Histories.{CallsView, Deed, Drops, Finishes, Heard, Hears, Releases, Restores, Stands, after_finishing, after_hearing, brought_forth, finished_by, hears_after, heard_by, site_of, table_after};
+ghost use Rattle.mmtel_b2bua.specs.Lending.{ended, entry_of, is_away, leg_out, takes_back};
+ghost use Rattle.mmtel_b2bua.specs.Names.{first_side, live, party, side_asking, side_named};
+ghost use Rattle.mmtel_b2bua.specs.Tables.{is_full, is_opening, most_calls, no_calls, opened_after, taken, with_moved};
+ghost use Rattle.mmtel_desk.specs.Desks.{fresh};
+ghost use Rattle.mmtel_leg.specs.Releases.{released_leg};
+ghost use Rattle.mmtel_scan.specs.Numbers.{next_number};
+ghost use Rattle.mmtel_trust.specs.Peers.{Peers};
+ghost use Rattle.mmtel_trust.specs.declared.accounts.AccountIdentity.{AccountIdentity};
+
+use crate::asked::{self, DialogName};
+use crate::busy::live_among;
+use crate::entries::Entry;
+use crate::lending;
+use crate::moves::{give_up_entry, take};
+use crate::signals::{CallFault, Signal};
+use mmtel_call::{NotTalking, Setting};
+use mmtel_charging::Row;
+use mmtel_desk::Desk;
+use mmtel_leg::Released;
+use mmtel_scan::{List, NoMemory, Text};
+use mmtel_sheet_values::SheetView;
+use mmtel_transaction::{Emits, TKey, Tokens};
+use mmtel_trust::{Accounts, PeerTable};
+use mmtel_types::{Account, Addr, CallNo, Moment, Peer, Side};
+use std::alloc::Global;
+use std::marker::Model;
+use std::mem;
+
+/// So many calls may live at once.
+const MOST_CALLS: usize = 4_096;
+
+/// The calls of a server. They must be spent.
+pub struct Calls {
+    sip: Addr,
+    home: Text,
+    bound: u16,
+    entries: Vec<Entry>,
+    opened: u64,
+    rows: List<Row>,
+    has_failed: bool,
+}
+
+impl Model for Calls {
+    ghost use Rattle.std.specs.Prelude.{◌≤◌};
+    ghost use Rattle.mmtel_b2bua.specs.Histories.{CallsView};
+
+    ghost Value = { CallsView };
+
+    ghost view = { λ c. record { sip = c.sip; home = c.home; bound = c.bound; table = record { entries = c.entries.items; opened = c.opened; rows = c.rows }; has_failed = c.has_failed } };
+
+    ghost invariant = { λ c. c.bound ≤ 16 };
+}
+
+/// How many of the calls live.
+fn live_calls(entries: &[Entry]) -> usize
+    ensures { result ≡ count_by is_live entries.now }
+{
+    let mut count = 0;
+    for entry in entries {
+        if entry.is_live() {
+            count += 1;
+        }
+    }
+    count
+}
+
+/// Whether a signal would open one call too many.
+fn is_full(signal: &Signal, entries: &[Entry]) -> bool
+    ensures { result ≡ is_full signal.now entries.now }
+{
+    match signal {
+        Signal::Arrived { .. } => live_calls(entries) >= MOST_CALLS,
+        _ => false,
+    }
+}
+
+/// The number of the last call, after a signal.
+fn opened_after(signal: &Signal, opened: u64) -> u64
+    ensures { result ≡ opened_after signal.now opened }
+{
+    match signal {
+        Signal::Arrived { .. } => opened.saturating_add(1),
+        _ => opened,
+    }
+}
+
+impl Calls {
+    /// No calls yet, for the home domain, the server's address, and the bound on the diversions of a call (TS 24.604 §4.5.2.6).
+    ///
+    /// # Errors
+    ///
+    /// Want of memory alone.
+    pub fn new(alloc: Global, home: Text, sip: Addr, bound: u16) -> Result<Calls, NoMemory>
+        requires { bound ≤ 16 }
+        ensures { IfOk result (λ calls. calls ≡ record { sip = sip; home = home; bound = bound; table = no_calls; has_failed = false }) }
+    {
+        Ok(Calls {
+            sip,
+            home,
+            bound,
+            entries: Vec::new(alloc),
+            opened: 0,
+            rows: List::new(),
+            has_failed: false,
+        })
+    }
+
+    /// The calls hear a signal.
+    fn hear(
+        &mut self,
+        alloc: Global,
+        signal: Signal,
+        sheets: &SheetView,
+        peers: &PeerTable,
+        accounts: &Accounts,
+        now: Moment,
+        desk: &mut Desk,
+    ) -> Result<(), NoMemory>
+        ensures done { OnOk result (self.new ≡ record self.old { table = record self.old.table { entries = (taken (site_of self.old peers.now accounts.now) now sheets.now (next_number self.old.table.opened) signal self.old.table.entries desk.old).entries; opened = opened_after signal self.old.table.opened } }) }
+        ensures desk { OnOk result (desk.new ≡ (taken (site_of self.old peers.now accounts.now) now sheets.now (next_number self.old.table.opened) signal self.old.table.entries desk.old).desk) }
+    {
+        let opened = opened_after(&signal, self.opened);
+        let number = CallNo(self.opened.saturating_add(1));
+        let setting = Setting {
+            sip: self.sip,
+            home: self.home.bytes(),
+            bound: self.bound,
+            peers,
+            accounts,
+        };
+        take(
+            &mut self.entries,
+            alloc,
+            &setting,
+            sheets,
+            now,
+            number,
+            signal,
+            desk,
+        )?;
+        self.opened = opened;
+        Ok(())
+    }
+
+    /// Keeps the rows that were closed, until they are handed over.
+    fn keep_rows(&mut self, alloc: Global, rows: List<Row>) -> Result<(), NoMemory>
+        ensures { OnOk result (self.new ≡ record self.old { table = record self.old.table { rows = self.old.table.rows ++ rows } }) }
+    {
+        match self.rows.extend(alloc, rows) {
+            Ok(()) => Ok(()),
+            Err((_, error)) => Err(error),
+        }
+    }
+
+    /// The calls hear a signal and keep the rows that it closed; a desk of these tokens is given back by its parts.
+    fn hear_with(
+        &mut self,
+        alloc: Global,
+        signal: Signal,
+        sheets: &SheetView,
+        peers: &PeerTable,
+        accounts: &Accounts,
+        tokens: &mut Tokens,
+        now: Moment,
+    ) -> Result<Emits, NoMemory>
+        ensures done { OnOk result (self.new ≡ after_hearing peers.now accounts.now (record { at = now; view = sheets.now; tokens = tokens.old; signal = signal }) self.old) }
+        ensures emits { IfOk result (λ out. out ≡ (brought_forth peers.now accounts.now (record { at = now; view = sheets.now; tokens = tokens.old; signal = signal }) self.old).out) }
+        ensures tokens { OnOk result (tokens.new ≡ (brought_forth peers.now accounts.now (record { at = now; view = sheets.now; tokens = tokens.old; signal = signal }) self.old).tokens) }
+    {
+        let mut desk = Desk::new(mem::replace(tokens, Tokens::new(Text::new())));
+        let heard = self.hear(alloc, signal, sheets, peers, accounts, now, &mut desk);
+        let Desk {
+            tokens: drawn,
+            out,
+            rows,
+        } = desk;
+        *tokens = drawn;
+        heard?;
+        self.keep_rows(alloc, rows)?;
+        Ok(out)
+    }
+
+    /// The calls hear a signal: the call that it is of takes its step by the step table of a call, or one is opened (RFC 3261 §12 to §15, TS 24.604 §4.5.2.6).
+    ///
+    /// # Errors
+    ///
+    /// `Full` exactly where an INVITE would open a call and 4,096 live; the signal is handed back, and nothing has changed. `NoMemory` for want of memory: the calls have failed then, and each later signal answers it and changes nothing; the tokens may have drawn some numbers.
+    pub fn signal(
+        &mut self,
+        alloc: Global,
+        signal: Signal,
+        sheets: &SheetView,
+        peers: &PeerTable,
+        accounts: &Accounts,
+        tokens: &mut Tokens,
+        now: Moment,
+    ) -> Result<Emits, CallFault>
+        ensures done { OnOk result ((deeds : List Deed) → Stands peers.now accounts.now self.old deeds → Stands peers.now accounts.now self.new (Hears (record { at = now; view = sheets.now; tokens = tokens.old; signal = signal }) ∷ deeds)) }
+        ensures emits { IfOk result (λ out. (deeds : List Deed) → Stands peers.now accounts.now self.old deeds → out ≡ (hears_after (site_of self.old peers.now accounts.now) deeds (record { at = now; view = sheets.now; tokens = tokens.old; signal = signal })).desk.out) }
+        ensures tokens { OnOk result ((deeds : List Deed) → Stands peers.now accounts.now self.old deeds → tokens.new ≡ (hears_after (site_of self.old peers.now accounts.now) deeds (record { at = now; view = sheets.now; tokens = tokens.old; signal = signal })).desk.tokens) }
+        ensures full { self.old.has_failed ≡ false → is_full signal self.old.table.entries ≡ true → (result ≡ Err (CallFault.Full signal)) × ((self.new ≡ self.old) × (tokens.new ≡ tokens.old)) }
+        ensures fails { self.old.has_failed ≡ false → is_full signal self.old.table.entries ≡ false → IfErr result (λ e. (e ≡ CallFault.NoMemory) × (self.new.has_failed ≡ true)) }
+        ensures stuck { self.old.has_failed ≡ true → (result ≡ Err CallFault.NoMemory) × ((self.new ≡ self.old) × (tokens.new ≡ tokens.old)) }
+    {
+        if self.has_failed {
+            return Err(CallFault::NoMemory);
+        }
+        if is_full(&signal, &self.entries) {
+            return Err(CallFault::Full(signal));
+        }
+        match self.hear_with(alloc, signal, sheets, peers, accounts, tokens, now) {
+            Ok(out) => Ok(out),
+            Err(_) => {
+                self.has_failed = true;
+                Err(CallFault::NoMemory)
+            }
+        }
+    }
+
+    /// How many calls the account has: once for each that it makes, and once for each that is offered to it or that it answered.
+    pub fn live(&self, account: Account) -> u32
+        ensures { (peers : Peers) (accounts : List AccountIdentity) (deeds : List Deed) → Stands peers accounts self.now deeds → result ≡ live account.0 (table_after (site_of self.now peers accounts) deeds).entries }
+    {
+        live_among(&self.entries, account)
+    }
+
+    /// The call and the side whose dialog has this Call-ID, this tag of the server and this tag of the other side (RFC 3261 §12.2.2).
+    pub fn find(&self, call_id: &[u8], local: &[u8], remote: &[u8]) -> Option<(CallNo, Side)>
+        ensures { (peers : Peers) (accounts : List AccountIdentity) (deeds : List Deed) → Stands peers accounts self.now deeds → result ≡ first_side (side_named call_id.now local.now remote.now) (table_after (site_of self.now peers accounts) deeds).entries }
+    {
+        let name = DialogName {
+            call_id,
+            local,
+            remote,
+        };
+        asked::find(&self.entries, name)
+    }
+
+    /// The call that lives and the side whose INVITE opened this server transaction (RFC 3261 §9.2).
+    pub fn asked_by(&self, invite: TKey) -> Option<(CallNo, Side)>
+        ensures { (peers : Peers) (accounts : List AccountIdentity) (deeds : List Deed) → Stands peers accounts self.now deeds → result ≡ first_side (side_asking invite) (table_after (site_of self.now peers accounts) deeds).entries }
+    {
+        asked::asked_by(&self.entries, invite)
+    }
+
+    /// The peer of a side's leg, and the account that is served there; None exactly where the call does not live or that side has no leg.
+    pub fn party(&self, call: CallNo, side: Side) -> Option<(Peer, Option<Account>)>
+        ensures { (peers : Peers) (accounts : List AccountIdentity) (deeds : List Deed) → Stands peers accounts self.now deeds → result ≡ party call.0 side (table_after (site_of self.now peers accounts) deeds).entries }
+    {
+        asked::party(&self.entries, call, side)
+    }
+
+    /// The rows of calls that are over and that were not handed over, in the order in which they were closed.
+    pub fn rows_waiting(&self) -> &[Row]
+        ensures rows { (peers : Peers) (accounts : List AccountIdentity) (deeds : List Deed) → Stands peers accounts self.now deeds → result.now ≡ (table_after (site_of self.now peers accounts) deeds).rows }
+        ensures kept { result.now ≡ self.now.table.rows }
+    {
+        self.rows.items()
+    }
+
+    /// So many of the rows that wait were handed over.
+    pub fn drop_rows(&mut self, count: usize)
+        requires { count ≤ length self.old.table.rows }
+        ensures { (peers : Peers) (accounts : List AccountIdentity) (deeds : List Deed) → Stands peers accounts self.old deeds → Stands peers accounts self.new (Drops count ∷ deeds) }
+    {
+        drop_first(&mut self.rows, count);
+    }
+
+    /// Takes the standing leg of a side out of a talking call; its meter stays with the call (RFC 4579 §5.6). It takes no memory.
+    ///
+    /// # Errors
+    ///
+    /// `NotTalking` exactly where the call does not talk, or a leg of it is away.
+    #[tactic(auto, using(crate::proofs::Away::without_meter))]
+    pub fn release(&mut self, call: CallNo, side: Side) -> Result<Released, NotTalking>
+        ensures done { (peers : Peers) (accounts : List AccountIdentity) (deeds : List Deed) → Stands peers accounts self.old deeds → Stands peers accounts self.new (Releases call.0 side ∷ deeds) }
+        ensures leg { MatchResult result (λ leg. leg_out call.0 side self.old.table.entries ≡ Some leg) (λ refused. leg_out call.0 side self.old.table.entries ≡ None) }
+        ensures away { IfOk result (λ leg. is_away (entry_of call.0 self.new.table.entries) ≡ true) }
+        ensures fits { IfOk result (λ leg. takes_back leg (entry_of call.0 self.new.table.entries) ≡ true) }
+        ensures meter { IfOk result (λ leg. (released_leg leg).meter ≡ None) }
+    {
+        lending::release(&mut self.entries, call, side)
+    }
+
+    /// Puts a leg back that was taken out of this call. It takes no memory.
+    pub fn restore(&mut self, call: CallNo, away: Released)
+        requires fits { takes_back away (entry_of call.0 self.old.table.entries) ≡ true }
+        requires meter { (released_leg away).meter ≡ None }
+        ensures { (peers : Peers) (accounts : List AccountIdentity) (deeds : List Deed) → Stands peers accounts self.old deeds → Stands peers accounts self.new (Restores call.0 away ∷ deeds) }
+    {
+        lending::restore(&mut self.entries, call, away);
+    }
+
+    /// The call of this number, whose leg is away, ends, and its rows are kept.
+    fn finish_with(
+        &mut self,
+        alloc: Global,
+        call: CallNo,
+        peers: &PeerTable,
+        accounts: &Accounts,
+        tokens: &mut Tokens,
+        now: Moment,
+    ) -> Result<Emits, NoMemory>
+        requires { is_away (entry_of call.0 self.old.table.entries) ≡ true }
+        ensures done { OnOk result (self.new ≡ after_finishing peers.now accounts.now call.0 now tokens.old self.old) }
+        ensures emits { IfOk result (λ out. out ≡ (finished_by (site_of self.old peers.now accounts.now) call.0 now tokens.old self.old.table).desk.out) }
+    {
+        let setting = Setting {
+            sip: self.sip,
+            home: self.home.bytes(),
+            bound: self.bound,
+            peers,
+            accounts,
+        };
+        let mut desk = Desk::new(mem::replace(tokens, Tokens::new(Text::new())));
+        let finished = lending::finish(&mut self.entries, alloc, &setting, now, call, &mut desk);
+        let Desk {
+            tokens: drawn,
+            out,
+            rows,
+        } = desk;
+        *tokens = drawn;
+        finished?;
+        self.keep_rows(alloc, rows)?;
+        Ok(out)
+    }
+
+    /// Ends a call whose leg is away: BYE to the leg that is left, and its rows are closed.
+    ///
+    /// # Errors
+    ///
+    /// Want of memory alone: the calls have failed then, and each later signal answers it and changes nothing; the tokens may have drawn some numbers.
+    pub fn finish(
+        &mut self,
+        alloc: Global,
+        call: CallNo,
+        peers: &PeerTable,
+        accounts: &Accounts,
+        tokens: &mut Tokens,
+        now: Moment,
+    ) -> Result<Emits, NoMemory>
+        requires { is_away (entry_of call.0 self.old.table.entries) ≡ true }
+        ensures done { OnOk result ((deeds : List Deed) → Stands peers.now accounts.now self.old deeds → Stands peers.now accounts.now self.new (Finishes call.0 now tokens.old ∷ deeds)) }
+        ensures emits { IfOk result (λ out. (deeds : List Deed) → Stands peers.now accounts.now self.old deeds → out ≡ (finished_by (site_of self.old peers.now accounts.now) call.0 now tokens.old (table_after (site_of self.old peers.now accounts.now) deeds)).desk.out) }
+        ensures fails { IfErr result (λ e. (self.old.has_failed ≡ false → self.new.has_failed ≡ true)) }
+        ensures stuck { self.old.has_failed ≡ true → IsErr result × ((self.new ≡ self.old) × (tokens.new ≡ tokens.old)) }
+    {
+        if self.has_failed {
+            return Err(NoMemory);
+        }
+        let finished = self.finish_with(alloc, call, peers, accounts, tokens, now);
+        if finished.is_err() {
+            self.has_failed = true;
+        }
+        finished
+    }
+
+    /// Spends all calls, without rows. It takes no memory.
+    pub fn give_up(self) {
+        let Calls {
+            sip: _,
+            home: _,
+            bound: _,
+            entries,
+            opened: _,
+            rows: _,
+            has_failed: _,
+        } = self;
+        let mut entries = entries;
+        'given: while let Some(entry) = entries.pop() {
+            give_up_entry(entry, beginning());
+        }
+        entries.destroy_empty();
+    }
+}
+
+/// The first of all moments: of rows that nobody keeps.
+fn beginning() -> Moment {
+    match Moment::new(0) {
+        Some(moment) => moment,
+        None => unreachable!(),
+    }
+}
+
+/// Takes the first item.
+fn drop_one<T: Drop>(items: &mut List<T>)
+    requires { 0 < length items.old }
+    ensures { items.new ≡ drop 1 items.old }
+{
+    drop(items.remove(0));
+}
+
+/// Takes so many rows from the front.
+#[tactic(auto, using(crate::proofs::Places::dropped))]
+fn drop_first(rows: &mut List<Row>, count: usize)
+    requires { count ≤ length rows.old }
+    ensures { rows.new ≡ drop count rows.old }
+{
+    for _ in 0..count {
+        drop_one(rows);
+    }
+}

@@ -1,0 +1,4 @@
+pub mod AnyPhase
+mod Barrings
+mod DueDiversions
+pub mod FirstVia

@@ -1,0 +1,15 @@
+use Rattle.std.proofs.Common.{◌+◌, ◌*◌}
+use Rattle.mmtel_call.proofs.calls.Call.+diverting.Given as goal
+
+-- how many diversions are left, and how far the step to the next one came
+abbrev pub decreases-divert : goal.decreases-divert
+decreases-divert l = 4 * l.self.now.diversions.left + 1
+
+abbrev pub decreases-divert_to : goal.decreases-divert_to
+decreases-divert_to l = 4 * l.self.now.diversions.left
+
+abbrev pub decreases-take_turn : goal.decreases-take_turn
+decreases-take_turn l = 4 * l.self.now.diversions.left + 2
+
+abbrev pub decreases-come_to : goal.decreases-come_to
+decreases-come_to l = 4 * l.self.now.diversions.left + 3

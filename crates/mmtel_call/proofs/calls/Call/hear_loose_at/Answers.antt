@@ -1,0 +1,24 @@
+-- the INVITE that was taken out is that at the place, and the server's address is that of the configuration
+use Rattle.std.proofs.Common.{◌∙◌, Option, Result, Ok, Err, OnOk, ap, sym}
+use Rattle.mmtel_desk.specs.Loose.{on_response}
+use Rattle.mmtel_desk.specs.declared.invitations.Loose.{Loose}
+use Rattle.mmtel_call.specs.Leaving.{answered_loose}
+use Rattle.mmtel_call.specs.Site.{Site}
+use Rattle.mmtel_call.proofs.calls.Call.hear_loose_at.Goals as goal
+
+always : {T E P : Type 0} (r : Result T E) → P → OnOk r P
+always (Ok x) p = p
+always (Err e) p = tt
+
+pub returns-in-None-clause-desk : goal.returns-in-None-clause-desk
+returns-in-None-clause-desk c =
+    c.in_ok-hear_loose.ensures.desk
+    ∙ (ap (λ (s : Site). (on_response s.sip c.args.key c.args.m.now.heard c.remove-loose.result c.args.desk.now).desk) c.setting.view_is
+    ∙ ap (λ (l : Option Loose). (answered_loose c.args.setting.now c.args.key c.args.m.now c.args.at l c.args.self.now c.args.desk.now).desk) (sym c.remove-loose.ensures.handed_out))
+
+pub returns-in-Some-clause-desk : goal.returns-in-Some-clause-desk
+returns-in-Some-clause-desk c =
+    always c.file.result
+    (c.in_ok-hear_loose.ensures.desk
+    ∙ (ap (λ (s : Site). (on_response s.sip c.args.key c.args.m.now.heard c.remove-loose.result c.args.desk.now).desk) c.setting.view_is
+    ∙ ap (λ (l : Option Loose). (answered_loose c.args.setting.now c.args.key c.args.m.now c.args.at l c.args.self.now c.args.desk.now).desk) (sym c.remove-loose.ensures.handed_out)))

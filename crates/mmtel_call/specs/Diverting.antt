@@ -1,0 +1,132 @@
+-- How a call goes on: it comes to one target after another until it is offered to one, or refused (TS 24.604 §4.5.2.6, RFC 7044 §7).
+use Rattle.std.specs.Prelude.{ℕ, zero, suc, ◌==◌, not, Bool, false, List, if◌then◌else◌, Option, Some, None}
+use Rattle.mmtel_answers.specs.Said.{Said, status_of as status_in}
+use Rattle.mmtel_charging.specs.declared.rows.Kind.TheVariants.{Diversion, Terminating}
+use Rattle.mmtel_desk.specs.declared.desks.Desk.{Desk}
+use Rattle.mmtel_history.specs.HistoryInfo.{appended}
+use Rattle.mmtel_leg.specs.Dialogues.{request_uri}
+use Rattle.mmtel_leg.specs.Legs.{Leg}
+use Rattle.mmtel_lex.specs.Grammar.{uri_text}
+use Rattle.mmtel_precedence.specs.Calls.{End, Standing}
+use Rattle.mmtel_precedence.specs.Services.{DueDiversion}
+use Rattle.mmtel_precedence.specs.Turns.{AfterEnd, EndAnswered, EndDivert, EndRefuse, Turn, TurnDivert, TurnOffer, TurnRefuse}
+use Rattle.mmtel_targets.specs.Targets.{diverted_target}
+use Rattle.mmtel_targets.specs.declared.targets.Target.{Target}
+use Rattle.mmtel_types.specs.Causes.{status_of}
+use Rattle.mmtel_types.specs.declared.causes.Cause.{Cause}
+use Rattle.mmtel_types.specs.declared.causes.Cause.TheVariants as causes
+use Rattle.mmtel_types.specs.declared.numbers.Peer.{Peer}
+use Rattle.mmtel_call.specs.Calls.{Call, Diverted, Service, Trial}
+use Rattle.mmtel_call.specs.Closing.{Step, meter_for, over, with_past}
+use Rattle.mmtel_call.specs.Decisions.{decided_after, decided_at, is_barred, peer_for, service_at}
+use Rattle.mmtel_call.specs.Offering.{aim_at, offer}
+use Rattle.mmtel_call.specs.Sending.{relayed_to_caller, told_caller, told_diversion}
+use Rattle.mmtel_call.specs.Site.{Site}
+
+-- ---- the final to the caller
+
+-- a final of the server's own
+abbrev pub refused : Site → (at : ℕ) → Leg → Cause → Call → Desk → Step
+refused site at caller cause c desk = over at cause caller.meter None c (told_caller site c (status_of cause) desk)
+
+-- the status of a target's final that a cause hands on
+abbrev pub handed_on : Cause → Option ℕ
+handed_on (causes.Relayed code) = Some code
+handed_on (causes.Unreachable code) = Some code
+handed_on cause = None
+
+abbrev pub is_status : ℕ → Option ℕ → Bool
+is_status code None = false
+is_status code (Some other) = other == code
+
+-- the final that was heard, where the cause hands it on, and else one of the server's own
+abbrev pub refused_by : Site → (at : ℕ) → Leg → Option Service → Option Said → Cause → Call → Desk → Step
+refused_by site at caller service None cause c desk = refused site at caller cause c desk
+refused_by site at caller service (Some m) cause c desk =
+    if is_status (status_in m.heard.start) (handed_on cause) then over at cause caller.meter None c (relayed_to_caller site c service m desk) else refused site at caller cause c desk
+
+-- ---- a diversion
+
+-- one more was made, to this URI, and so many are left
+abbrev pub diverted_list : (uri : List ℕ) → (left : ℕ) → DueDiversion → Call → Diverted
+diverted_list uri left due c = record {
+  left = left;
+  history = appended c.diversions.history (request_uri c.opening.invite.heard.start) uri due.cause (not due.forward.reveal_to_target);
+  hides_diverting = not due.forward.reveal_served_to_caller;
+  hides_target = not due.forward.reveal_to_caller;
+}
+
+-- by the account that is served
+abbrev pub diverted : Target → (at left : ℕ) → Option Service → DueDiversion → Call → Call
+diverted target at left service due c = with_past (meter_for Diversion c at service) (record c { diversions = diverted_list (uri_text target.uri) left due c })
+
+-- the caller is told of it, where the forward says so
+abbrev pub told_of : Site → DueDiversion → Call → Desk → Desk
+told_of site due c desk = if due.forward.notify_caller then told_diversion site c desk else desk
+
+-- a call at the bound is refused, as busy where the diversion is for a busy user (RFC 4458 §2)
+abbrev pub too_many : DueDiversion → Cause
+too_many due = causes.TooManyDiversions (due.cause == 486)
+
+-- outgoing barring comes first
+abbrev pub unless_barred : Bool → (made : Call → Desk → Step) → Site → (at : ℕ) → Leg → Call → Desk → Step
+unless_barred barred made site at caller c desk = if barred then refused site at caller causes.OutgoingBarred c desk else made c desk
+
+-- ---- at a target
+
+-- the meter of an account that is reached and not offered to
+abbrev pub passed_by : (at : ℕ) → Option Service → Call → Call
+passed_by at service c = with_past (meter_for Terminating c at service) c
+
+abbrev pub offer_where : Option Peer → Site → (at : ℕ) → Leg → Option Service → (waiting : Bool) → (cause : Option ℕ) → Target → Call → Desk → Step
+offer_where None site at caller service waiting cause target c desk = refused site at caller causes.NoRoute (passed_by at service c) desk
+offer_where (Some peer) site at caller service waiting cause target c desk = offer site at caller service waiting (aim_at c.opening peer cause target) c desk
+
+-- by what was decided; `divert` says what a diversion comes to
+abbrev pub on_turn : (divert : Option Service → DueDiversion → Call → Desk → Step) → Site → (at : ℕ) → Leg → Option Service → Option Peer → (cause : Option ℕ) → Target → Turn → Call → Desk → Step
+on_turn divert site at caller service peer cause target (TurnOffer waiting) c desk = offer_where peer site at caller service waiting cause target c desk
+on_turn divert site at caller service peer cause target (TurnDivert due) c desk = divert service due (passed_by at service c) desk
+on_turn divert site at caller service peer cause target (TurnRefuse why) c desk = refused site at caller why (passed_by at service c) desk
+
+-- where this account is served there, and this peer leads to it
+abbrev pub where_served : (divert : Option Service → DueDiversion → Call → Desk → Step) → Site → Standing → Leg → Option Service → Option Peer → (cause : Option ℕ) → Target → Call → Desk → Step
+where_served divert site now caller service peer cause target c desk =
+    on_turn divert site now.at caller service peer cause target (decided_at site now c.opening cause target service peer) c desk
+
+abbrev pub at_target : (divert : Option Service → DueDiversion → Call → Desk → Step) → Site → Standing → Leg → (cause : Option ℕ) → Target → Call → Desk → Step
+at_target divert site now caller cause target c desk =
+    where_served divert site now caller (service_at site now c.opening cause target) (peer_for site c.opening target) cause target c desk
+
+-- the target of a diversion
+abbrev pub target_of : Site → DueDiversion → Target
+target_of site due = diverted_target site.home due.forward.target
+
+-- a diversion is made, after which so many are left, and the caller is told of it; `onward` says what is done at the target
+abbrev pub made : (onward : Call → Desk → Step) → Site → Target → (at left : ℕ) → Option Service → DueDiversion → Call → Desk → Step
+made onward site target at left service due c desk = onward (diverted target at left service due c) (told_of site due (diverted target at left service due c) desk)
+
+-- a diversion that is due, where the bound leaves so many: it is made, and the call comes to the next target
+unfoldable pub divert : (left : ℕ) → Site → Standing → Leg → Option Service → DueDiversion → Call → Desk → Step
+divert zero site now caller service due c desk =
+    unless_barred (is_barred site c.opening now.at service due) (refused site now.at caller (too_many due)) site now.at caller c desk
+divert (suc left) site now caller service due c desk =
+    unless_barred (is_barred site c.opening now.at service due)
+    (made (at_target (divert left site now caller) site now caller (Some due.cause) (target_of site due)) site (target_of site due) now.at left service due)
+    site now.at caller c desk
+
+-- the call comes to a target
+abbrev pub reach : Site → Standing → Leg → (cause : Option ℕ) → Target → Call → Desk → Step
+reach site now caller cause target c desk = at_target (divert c.diversions.left site now caller) site now caller cause target c desk
+
+-- ---- after an attempt
+
+-- by what was decided; a final that was heard may be handed on; after an answer there is nothing to go on to
+abbrev pub on_end : Site → Standing → Leg → Option Service → Option Said → AfterEnd → Call → Desk → Step
+on_end site now caller service m EndAnswered c desk = over now.at causes.Ended caller.meter None c desk
+on_end site now caller service m (EndDivert due) c desk = divert c.diversions.left site now caller service due c desk
+on_end site now caller service m (EndRefuse cause) c desk = refused_by site now.at caller service m cause c desk
+
+-- the attempt ended so, and its meter lies with the others
+abbrev pub goes_on : Site → Standing → Trial → End → Option Said → Call → Desk → Step
+goes_on site now x how m c desk =
+    on_end site now x.caller x.attempt.service m (decided_after c.opening now.at x.attempt.service how) (with_past x.callee.leg.meter c) desk

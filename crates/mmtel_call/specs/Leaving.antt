@@ -1,0 +1,125 @@
+-- INVITEs of a call that are not the one it waits on, whatever its phase: those that were left before they had a final answer, and those that had a 2xx (RFC 3261 §9.1, §13.2.2.4, §17.1.1.3).
+use Rattle.std.specs.Prelude.{ℕ, ◌+◌, ◌==◌, ◌&&◌, not, nat_le, nat_lt, Bool, true, false, if◌then◌else◌, Option, Some, None, List, ◌++◌, drop, option_to_list, position, slice_get, take}
+use Rattle.std.specs.Str.{bytes_eq}
+use Rattle.mmtel_answers.specs.Said.{Said, status_of}
+use Rattle.mmtel_desk.specs.Desks.{emitted}
+use Rattle.mmtel_desk.specs.Loose.{Rest, is_of, on_response}
+use Rattle.mmtel_desk.specs.declared.desks.Desk.{Desk}
+use Rattle.mmtel_desk.specs.declared.invitations.Loose.{Loose}
+use Rattle.mmtel_transaction.specs.declared.words.Emit.TheVariants as emit
+use Rattle.mmtel_transaction.specs.declared.words.TKey.{TKey}
+use Rattle.mmtel_call.specs.Calls.{Answered, Asking, Call, Lent, Offered, Over, Parting, Phase, Stage, Stood, Taken, Talking}
+use Rattle.mmtel_call.specs.Closing.{Step, onward}
+use Rattle.mmtel_call.specs.Ringing.{tag_given}
+use Rattle.mmtel_call.specs.Site.{Site}
+
+-- ---- places in a list
+
+abbrev pub without_at : {A : Type 0} → ℕ → List A → List A
+without_at at items = take at items ++ drop (at + 1) items
+
+abbrev pub without : {A : Type 0} → Option ℕ → List A → List A
+without None items = items
+without (Some at) items = without_at at items
+
+-- ---- one that was left
+
+-- what is left of it stands last
+abbrev pub with_rest : (at : ℕ) → Rest → Call → Step
+with_rest at rest c = record { call = record c { loose = without_at at c.loose ++ option_to_list rest.left }; desk = rest.desk }
+
+-- a response to it: a provisional one lets the CANCEL go, a 2xx has its ACK and its dialog the BYE, a final from 300 has its ACK and ends it
+abbrev pub answered_loose : Site → TKey → Said → (at : ℕ) → Option Loose → Call → Desk → Step
+answered_loose site key m at None c desk = onward c desk
+answered_loose site key m at (Some l) c desk = with_rest at (on_response site.sip key m.heard l desk) c
+
+-- ---- one that had a 2xx
+
+abbrev pub is_taken : (branch : List ℕ) → Taken → Bool
+is_taken branch t = bytes_eq t.invitation.branch branch
+
+abbrev pub is_success : ℕ → Bool
+is_success code = nat_le 200 code && nat_lt code 300
+
+-- a 2xx of another dialog than the one that was made
+abbrev pub is_fork : Taken → Said → Bool
+is_fork t m = not t.within && not (bytes_eq (tag_given m) t.tag)
+
+abbrev pub is_talking_at : Stage → Bool
+is_talking_at (Answered side success) = false
+is_talking_at (Parting side success) = false
+is_talking_at Talking = true
+is_talking_at (Asking side q) = false
+
+abbrev pub is_talking : Phase → Bool
+is_talking (Offered x) = false
+is_talking (Stood x stage) = is_talking_at stage
+is_talking (Lent loan) = false
+is_talking (Over cause) = false
+
+-- as one that was left: such a dialog has its ACK, and the BYE once
+abbrev pub as_loose : Taken → Loose
+as_loose t = record { invitation = t.invitation; within = false }
+
+abbrev pub taken_again : Taken → Option Loose → Option Taken
+taken_again t None = None
+taken_again t (Some l) = Some (record t { invitation = l.invitation })
+
+-- what is left of it stands last
+abbrev pub with_taken : (at : ℕ) → Taken → Rest → Call → Step
+with_taken at t rest c = record { call = record c { taken = without_at at c.taken ++ option_to_list (taken_again t rest.left) }; desk = rest.desk }
+
+abbrev pub forked : Site → TKey → Said → (at : ℕ) → Taken → Call → Desk → Step
+forked site key m at t c desk = with_taken at t (on_response site.sip key m.heard (as_loose t) desk) c
+
+-- the ACK that was sent goes out again
+abbrev pub acked_again : Taken → Option (List ℕ) → Desk → Desk
+acked_again t None desk = desk
+acked_again t (Some text) desk = emitted (emit.Plain t.invitation.dialogue.peer text) desk
+
+abbrev pub repeated : Taken → Call → Desk → Step
+repeated t c desk = onward c (if is_talking c.phase then acked_again t t.invitation.ack desk else desk)
+
+-- a response to it: a 2xx of another dialog, or the one that was heard, again; any other has come too late
+abbrev pub answered_taken : Site → TKey → Said → (at : ℕ) → Option Taken → Call → Desk → Step
+answered_taken site key m at None c desk = onward c desk
+answered_taken site key m at (Some t) c desk =
+    if not (is_success (status_of m.heard.start)) then onward c desk
+    else if is_fork t m then forked site key m at t c desk
+    else repeated t c desk
+
+-- ---- by the branch of the INVITE
+
+abbrev pub answered_taken_at : Site → TKey → Said → Option ℕ → Call → Desk → Step
+answered_taken_at site key m None c desk = onward c desk
+answered_taken_at site key m (Some at) c desk = answered_taken site key m at (slice_get c.taken at) c desk
+
+abbrev pub answered_at : Site → TKey → Said → (branch : List ℕ) → Option ℕ → Call → Desk → Step
+answered_at site key m branch None c desk = answered_taken_at site key m (position (is_taken branch) c.taken) c desk
+answered_at site key m branch (Some at) c desk = answered_loose site key m at (slice_get c.loose at) c desk
+
+unfoldable pub answered_other : Site → TKey → Said → (branch : List ℕ) → Call → Desk → Step
+answered_other site key m branch c desk = answered_at site key m branch (position (is_of branch) c.loose) c desk
+
+-- silence ends one that was left
+abbrev pub without_silent : (branch : List ℕ) → Call → Call
+without_silent branch c = record c { loose = without (position (is_of branch) c.loose) c.loose }
+
+-- ---- by its client transaction
+
+abbrev pub is_key : TKey → Option TKey → Bool
+is_key key None = false
+is_key key (Some other) = other.0 == key.0
+
+abbrev pub is_loose_key : TKey → Loose → Bool
+is_loose_key key l = is_key key l.invitation.key
+
+abbrev pub is_taken_key : TKey → Taken → Bool
+is_taken_key key t = is_key key t.invitation.key
+
+-- no more is heard of the INVITE whose transaction has ended
+abbrev pub without_key : TKey → Call → Call
+without_key key c = record c {
+  loose = without (position (is_loose_key key) c.loose) c.loose;
+  taken = without (position (is_taken_key key) c.taken) c.taken;
+}

@@ -1,0 +1,22 @@
+-- What public clauses cite: a call and what it is given, how it opens, and its step table.
+pub mod Tried
+pub mod Diverted
+pub mod Calls
+pub mod Site
+pub mod Decisions
+pub mod Sending
+pub mod Closing
+pub mod Offering
+pub mod Diverting
+pub mod Opening
+pub mod Requests
+pub mod Ringing
+pub mod Answered
+pub mod Reinvites
+pub mod Stages
+pub mod Leaving
+pub mod Table
+pub mod Settled
+pub mod Lending
+
+-- What private functions alone cite: nothing.

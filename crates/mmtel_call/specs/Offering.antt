@@ -1,0 +1,66 @@
+-- How a call is offered to a target: the INVITE that opened it goes there, and the longest time that it may ring begins (RFC 3261 §16.6, TS 24.604 §4.5.2.6).
+use Rattle.std.specs.Prelude.{ℕ, ◌+◌, Bool, false, Option, Some, None}
+use Rattle.mmtel_answers.specs.Attempts.{called, diverted_aim, first_aim}
+use Rattle.mmtel_answers.specs.declared.attempts.Aim.{Aim}
+use Rattle.mmtel_charging.specs.declared.rows.Kind.TheVariants.{Terminating}
+use Rattle.mmtel_desk.specs.Desks.{drew, emitted, token}
+use Rattle.mmtel_desk.specs.Invitations.{sent}
+use Rattle.mmtel_desk.specs.Sending.{attempt_dialog, offered}
+use Rattle.mmtel_desk.specs.declared.desks.Desk.{Desk}
+use Rattle.mmtel_leg.specs.Legs.{Leg}
+use Rattle.mmtel_leg.specs.declared.dialogues.Dialogue.{Dialogue}
+use Rattle.mmtel_scan.specs.Numbers.{next_number}
+use Rattle.mmtel_targets.specs.declared.targets.Target.{Target}
+use Rattle.mmtel_transaction.specs.declared.words.DueWord.TheVariants as due
+use Rattle.mmtel_transaction.specs.declared.words.Emit.TheVariants as emit
+use Rattle.mmtel_types.specs.declared.numbers.Peer.{Peer}
+use Rattle.mmtel_types.specs.declared.sides.Side.TheVariants.{Caller}
+use Rattle.mmtel_call.specs.Calls.{Attempt, Call, Offered, Opening, Service, TriedView}
+use Rattle.mmtel_call.specs.Closing.{Step, meter_for}
+use Rattle.mmtel_call.specs.Sending.{shown_to}
+use Rattle.mmtel_call.specs.Site.{Site}
+
+-- the longest time that an attempt may take, in milliseconds
+abbrev pub longest_time : ℕ
+longest_time = 180000
+
+-- the number of the next attempt
+abbrev pub next_attempt : Call → ℕ
+next_attempt c = next_number c.attempts
+
+-- to whom it goes: the first target as it was asked for, or that of a diversion by this cause
+abbrev pub aim_at : Opening → Peer → (cause : Option ℕ) → Target → Aim
+aim_at o peer None target = first_aim peer o.routes o.invite.heard
+aim_at o peer (Some cause) target = diverted_aim peer o.routes target.uri cause
+
+-- its dialog, before its INVITE is sent
+abbrev pub dialog_of : Opening → Aim → Desk → Dialogue
+dialog_of o aim desk = attempt_dialog aim o.invite.heard o.restricted desk
+
+-- the INVITE goes out, with what the target is shown of the one that opened the call, and the longest time begins
+abbrev pub sent_to : Site → (at : ℕ) → Option Service → (waiting : Bool) → Aim → Call → Desk → Desk
+sent_to site at service waiting aim c desk =
+    emitted (emit.Arm c.opening.number (due.Cap (next_attempt c)) (at + longest_time))
+    (offered site.sip aim c.opening.invite.heard c.opening.restricted (shown_to site c.opening c.diversions service Caller aim.peer c.opening.invite) waiting desk)
+
+-- the target's leg, with the meter of the account that is served there
+abbrev pub callee_of : (at : ℕ) → Option Service → Aim → Call → Desk → TriedView
+callee_of at service aim c desk = record {
+  leg = record { dialogue = called (dialog_of c.opening aim desk); meter = meter_for Terminating c at service };
+  is_early = false;
+}
+
+abbrev pub attempt_of : Option Service → Aim → Call → Desk → Attempt
+attempt_of service aim c desk = record {
+  number = next_attempt c;
+  service = service;
+  rang = false;
+  invitation = sent (dialog_of c.opening aim desk) 1 (token (drew (drew desk)));
+}
+
+-- the call is offered, as waiting or not
+abbrev pub offer : Site → (at : ℕ) → Leg → Option Service → (waiting : Bool) → Aim → Call → Desk → Step
+offer site at caller service waiting aim c desk = record {
+  call = record c { attempts = next_attempt c; phase = Offered (record { caller = caller; callee = callee_of at service aim c desk; attempt = attempt_of service aim c desk }) };
+  desk = sent_to site at service waiting aim c desk;
+}

@@ -1,0 +1,194 @@
+-- A call that is offered to a target and not answered: what it does on each signal (RFC 3261 §9, §13.2.2, §13.3.1, TS 24.604 §4.5.2.6).
+use Rattle.std.specs.Prelude.{ℕ, ◌+◌, ◌==◌, ◌&&◌, ◌||◌, not, nat_lt, Bool, true, false, if◌then◌else◌, Option, Some, None, List, [], ◌∷◌, ◌++◌, length, Result, Ok, Err}
+use Rattle.std.specs.Option.{unwrap_or}
+use Rattle.mmtel_answers.specs.Said.{Said}
+use Rattle.mmtel_desk.specs.Desks.{emitted}
+use Rattle.mmtel_desk.specs.Invitations.{has_said, once_cancelled}
+use Rattle.mmtel_desk.specs.Sending.{cancelled, final_acked}
+use Rattle.mmtel_desk.specs.declared.desks.Desk.{Desk}
+use Rattle.mmtel_desk.specs.declared.invitations.Invitation.{Invitation}
+use Rattle.mmtel_desk.specs.declared.invitations.Loose.{Loose}
+use Rattle.mmtel_leg.specs.Dialogues.{met}
+use Rattle.mmtel_leg.specs.Legs.{with_dialogue}
+use Rattle.mmtel_leg.specs.Remotes.{remote_of}
+use Rattle.mmtel_leg.specs.declared.dialogues.DialogueFault.{DialogueFault}
+use Rattle.mmtel_leg.specs.declared.dialogues.InFlight.TheVariants as in_flight
+use Rattle.mmtel_leg.specs.declared.remotes.Remote.{Remote}
+use Rattle.mmtel_precedence.specs.Attempts.{end_by_final, end_by_time, rings}
+use Rattle.mmtel_precedence.specs.Calls.{End, NoReply, NotReachable, Standing}
+use Rattle.mmtel_scan.specs.Numbers.{next_number}
+use Rattle.mmtel_sheet_values.specs.NoReply.{no_reply_time}
+use Rattle.mmtel_sheet_values.specs.declared.values.Sheet.{Sheet}
+use Rattle.mmtel_transaction.specs.declared.words.DueWord.{DueWord}
+use Rattle.mmtel_transaction.specs.declared.words.DueWord.TheVariants as due
+use Rattle.mmtel_transaction.specs.declared.words.Emit.TheVariants as emit
+use Rattle.mmtel_transaction.specs.declared.words.TKey.{TKey}
+use Rattle.mmtel_types.specs.declared.causes.Cause.TheVariants as causes
+use Rattle.mmtel_types.specs.declared.sides.Side.{Side}
+use Rattle.mmtel_types.specs.declared.sides.Side.TheVariants.{Caller, Callee}
+use Rattle.mmtel_call.specs.Calls.{Answered, Attempt, Call, Offered, Pair, Stood, Success, Taken, Trial, TriedView}
+use Rattle.mmtel_call.specs.Closing.{Step, onward, over_offered}
+use Rattle.mmtel_call.specs.Decisions.{its_sheet, redirect_of}
+use Rattle.mmtel_call.specs.Diverting.{goes_on}
+use Rattle.mmtel_call.specs.Requests.{having_heard, is_bye, number_of, says, unheard, unlisted}
+use Rattle.mmtel_call.specs.Sending.{relayed_to_caller, replied_to, told_caller}
+use Rattle.mmtel_call.specs.Site.{Site}
+
+-- ---- an attempt that is left
+
+abbrev pub loose : Invitation → Loose
+loose i = record { invitation = i; within = false }
+
+abbrev pub with_loose : Loose → Call → Call
+with_loose l c = record c { loose = c.loose ++ l ∷ [] }
+
+-- its INVITE is cancelled, where a provisional response lets that be (§9.1), and is loose
+abbrev pub left : Trial → Call → Call
+left x c = with_loose (loose (once_cancelled x.attempt.invitation)) c
+
+abbrev pub cancelled_attempt : Site → Trial → Desk → Desk
+cancelled_attempt site x desk = cancelled site.sip x.attempt.invitation desk
+
+-- ---- provisional responses
+
+-- the tag that a response gives
+abbrev pub tag_given : Said → List ℕ
+tag_given m = unwrap_or m.heard.to_tag []
+
+-- the first one with a tag makes an early dialog (§12.1.2): what the target says of itself in it
+abbrev pub early_said : TriedView → Said → Option Remote
+early_said callee m = if callee.is_early || length (tag_given m) == 0 then None else Some (remote_of Callee m.heard.lines)
+
+abbrev pub met_by : Option Remote → TriedView → TriedView
+met_by None callee = callee
+met_by (Some remote) callee = record { leg = with_dialogue callee.leg (met callee.leg.dialogue remote); is_early = true }
+
+abbrev pub callee_after : TriedView → Said → TriedView
+callee_after callee m = met_by (early_said callee m) callee
+
+-- the response came by this client transaction
+abbrev pub noted : TKey → Attempt → Attempt
+noted key attempt = record attempt { invitation = has_said key attempt.invitation }
+
+abbrev pub ringing : ℕ → Attempt → Attempt
+ringing code attempt = record attempt { rang = attempt.rang || rings code }
+
+-- 100: nothing
+abbrev pub tried : TKey → Trial → Call → Desk → Step
+tried key x c desk = onward (record c { phase = Offered (record x { attempt = noted key x.attempt }) }) desk
+
+-- the no-reply time of the record, which begins with the first 180 to 183
+abbrev pub time_of : Option Sheet → Option ℕ
+time_of None = None
+time_of (Some sheet) = no_reply_time sheet
+
+abbrev pub armed_in : Option ℕ → (at : ℕ) → Attempt → Call → Desk → Desk
+armed_in None at attempt c desk = desk
+armed_in (Some time) at attempt c desk = emitted (emit.Arm c.opening.number (due.NoReply attempt.number) (at + time)) desk
+
+abbrev pub armed : ℕ → (at : ℕ) → Attempt → Call → Desk → Desk
+armed code at attempt c desk = if rings code && not attempt.rang then armed_in (time_of (its_sheet attempt.service)) at attempt c desk else desk
+
+-- 101 to 199: it, to the caller
+abbrev pub proceeding : Site → (at : ℕ) → Trial → TKey → Said → ℕ → Call → Desk → Step
+proceeding site at x key m code c desk = record {
+  call = record c { phase = Offered (record x { callee = callee_after x.callee m; attempt = ringing code (noted key x.attempt) }) };
+  desk = armed code at x.attempt c (relayed_to_caller site c x.attempt.service m desk);
+}
+
+-- ---- 2xx
+
+-- for so long a 2xx waits for its ACK, in milliseconds (§13.3.1.4)
+abbrev pub ack_time : ℕ
+ack_time = 32000
+
+abbrev pub next_success : Call → ℕ
+next_success c = next_number c.successes
+
+abbrev pub awaiting_ack : (at : ℕ) → Call → Desk → Desk
+awaiting_ack at c desk = emitted (emit.Arm c.opening.number (due.NoAck (next_success c)) (at + ack_time)) desk
+
+-- the INVITE had this 2xx
+abbrev pub taken_by : TKey → Said → (within : Bool) → Invitation → Taken
+taken_by key m within i = record { invitation = has_said key i; tag = tag_given m; within = within }
+
+-- what waits for the ACK of this INVITE, whose 2xx relays that of the INVITE of the other side
+abbrev pub success_of : Call → Said → Invitation → Success
+success_of c m i = record { number = next_success c; cseq = number_of m; branch = i.branch }
+
+-- its dialog is confirmed (§13.2.2.4)
+abbrev pub pair_of : Trial → Said → Pair
+pair_of x m = record { caller = x.caller; callee = with_dialogue x.callee.leg (met x.callee.leg.dialogue (remote_of Callee m.heard.lines)); service = x.attempt.service }
+
+-- it, to the caller, whose ACK is due
+abbrev pub answered : Site → (at : ℕ) → Trial → TKey → Said → Call → Desk → Step
+answered site at x key m c desk = record {
+  call = record c {
+    answered = Some at;
+    successes = next_success c;
+    taken = c.taken ++ taken_by key m false x.attempt.invitation ∷ [];
+    phase = Stood (pair_of x m) (Answered Caller (success_of c c.opening.invite x.attempt.invitation));
+  };
+  desk = awaiting_ack at c (relayed_to_caller site c x.attempt.service m desk);
+}
+
+-- ---- a final from 300, silence, its time
+
+-- ACK to the target, and the call goes on
+abbrev pub failed : Site → Standing → Trial → TKey → Said → ℕ → Call → Desk → Step
+failed site now x key m code c desk =
+    goes_on site now x (end_by_final code (redirect_of m) x.attempt.rang) (Some m) c (final_acked site.sip key x.attempt.invitation m.heard desk)
+
+abbrev pub on_response : Site → Standing → Trial → TKey → Said → ℕ → Call → Desk → Step
+on_response site now x key m code c desk =
+    if nat_lt code 101 then tried key x c desk
+    else if nat_lt code 200 then proceeding site now.at x key m code c desk
+    else if nat_lt code 300 then answered site now.at x key m c desk
+    else failed site now x key m code c desk
+
+-- no response at all: the target is out of reach; of one that rang nothing is known
+abbrev pub silenced : Site → Standing → Trial → Call → Desk → Step
+silenced site now x c desk = if x.attempt.rang then onward c desk else goes_on site now x (NotReachable 408) None c desk
+
+-- CANCEL to the target, and the call goes on
+abbrev pub timed_out : Site → Standing → Trial → End → Call → Desk → Step
+timed_out site now x how c desk = goes_on site now x how None (left x c) (cancelled_attempt site x desk)
+
+-- of this attempt alone
+abbrev pub on_due : Site → Standing → Trial → DueWord → Call → Desk → Step
+on_due site now x (due.NoReply number) c desk = if number == x.attempt.number then timed_out site now x NoReply c desk else onward c desk
+on_due site now x (due.Cap number) c desk = if number == x.attempt.number then timed_out site now x (end_by_time x.attempt.rang) c desk else onward c desk
+on_due site now x (due.NoAck number) c desk = onward c desk
+
+-- ---- the caller gives up (§9.2, §15.1.2)
+
+-- 487 to its INVITE, and CANCEL to the target
+abbrev pub given_up : Site → (at : ℕ) → Trial → Call → Desk → Step
+given_up site at x c desk = over_offered at causes.Cancelled x (left x c) (cancelled_attempt site x (told_caller site c 487 desk))
+
+-- CANCEL of the INVITE that opened the call; one of another INVITE, which has its final, has its 200 alone
+abbrev pub on_cancel : Site → (at : ℕ) → Trial → TKey → Said → (invite : TKey) → Call → Desk → Step
+on_cancel site at x key m invite c desk = if invite.0 == c.opening.key.0 then given_up site at x c (replied_to site c key m 200 desk) else onward c (replied_to site c key m 200 desk)
+
+-- BYE of the caller is as its CANCEL; one of the target, which has no dialog to end, is refused
+abbrev pub on_heard : Site → (at : ℕ) → Trial → Side → TKey → Said → Call → Desk → Step
+on_heard site at x Caller key m c desk = if is_bye m then given_up site at x c (replied_to site c key m 200 desk) else onward c (unlisted site c key m desk)
+on_heard site at x Callee key m c desk = onward c (unlisted site c key m desk)
+
+-- ---- requests
+
+abbrev pub heard_by : Side → Said → Trial → Trial
+heard_by Caller m x = record x { caller = having_heard x.caller m }
+heard_by Callee m x = record x { callee = record x.callee { leg = having_heard x.callee.leg m } }
+
+abbrev pub on_request_if : Result (Unit {0}) DialogueFault → Site → (at : ℕ) → Trial → Side → TKey → Said → Call → Desk → Step
+on_request_if (Ok heard) site at x side key m c desk = on_heard site at (heard_by side m x) side key m (record c { phase = Offered (heard_by side m x) }) desk
+on_request_if (Err fault) site at x side key m c desk = onward c (unheard site c key m fault desk)
+
+-- an INVITE of the caller comes before the one that opened the call has its final, one of the target while the server's is in flight
+abbrev pub says_offered : Trial → Side → Said → Result (Unit {0}) DialogueFault
+says_offered x Caller m = says x.caller m in_flight.Theirs
+says_offered x Callee m = says x.callee.leg m in_flight.Own
+
+abbrev pub on_request : Site → (at : ℕ) → Trial → Side → TKey → Said → Call → Desk → Step
+on_request site at x side key m c desk = on_request_if (says_offered x side m) site at x side key m c desk

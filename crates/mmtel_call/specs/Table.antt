@@ -1,0 +1,142 @@
+-- The step table of a call: what it does on each signal, by its phase (RFC 3261 §12 to §15, TS 24.604 §4.5.2.6). How it opens is said by Opening.
+use Rattle.std.specs.Prelude.{ℕ, Bool, false, if◌then◌else◌, Option, Some, None, List, [], ◌∷◌, codes}
+use Rattle.std.specs.Str.{bytes_eq}
+use Rattle.mmtel_scan.specs.Chain.{◌>>=◌}
+use Rattle.mmtel_scan.specs.Scanning.{after_text}
+use Rattle.mmtel_answers.specs.Said.{Said, status_of}
+use Rattle.mmtel_desk.specs.declared.desks.Desk.{Desk}
+use Rattle.mmtel_desk.specs.declared.invitations.Invitation.{Invitation}
+use Rattle.mmtel_lex.specs.Params.{param_value}
+use Rattle.mmtel_message.specs.Fields.{cseq_at, via_at}
+use Rattle.mmtel_message.specs.declared.fields.CSeq.{CSeq}
+use Rattle.mmtel_message.specs.declared.fields.Via.{Via}
+use Rattle.mmtel_precedence.specs.Calls.{Standing}
+use Rattle.mmtel_transaction.specs.declared.words.DueWord.{DueWord}
+use Rattle.mmtel_transaction.specs.declared.words.TKey.{TKey}
+use Rattle.mmtel_types.specs.declared.sides.Side.{Side}
+use Rattle.mmtel_call.specs.Calls.{Answered, Asking, Call, Lent, Offered, Over, Parting, Phase, Stage, Stood, Talking}
+use Rattle.mmtel_call.specs.Closing.{Step, onward}
+use Rattle.mmtel_call.specs.Leaving.{answered_other, without_key, without_silent}
+use Rattle.mmtel_call.specs.Ringing.{on_cancel, on_due, on_request, on_response, silenced}
+use Rattle.mmtel_call.specs.Sending.{replied_to}
+use Rattle.mmtel_call.specs.Site.{Site}
+use Rattle.mmtel_call.specs.Stages.{on_ack_at, on_cancel_at, on_due_at, on_request_at, on_response_at, on_silence_at}
+use Rattle.mmtel_call.specs.declared.signals.Signal.{Signal}
+use Rattle.mmtel_call.specs.declared.signals.Signal.TheVariants as signal
+
+-- ---- which INVITE a response answers (RFC 3261 §17.1.3)
+
+-- what stands behind the cookie of a branch (§8.1.1.7)
+abbrev pub behind_cookie : List ℕ → Option (List ℕ)
+behind_cookie branch = after_text (codes "z9hG4bK") branch
+
+abbrev pub first_via : List (List ℕ) → Option Via
+first_via [] = None
+first_via (value ∷ values) = via_at value
+
+abbrev pub via_branch : Via → Option (List ℕ)
+via_branch via = param_value (codes "branch") via.params
+
+abbrev pub is_invite_method : List ℕ → Bool
+is_invite_method method = bytes_eq method (codes "INVITE")
+
+abbrev pub of_invite : Option CSeq → Bool
+of_invite None = false
+of_invite (Some cseq) = is_invite_method cseq.method
+
+abbrev pub behind : Option (List ℕ) → Option (List ℕ)
+behind branch = branch >>= behind_cookie
+
+-- of the first Via, and of a CSeq
+abbrev pub branch_in : List (List ℕ) → Option (List ℕ)
+branch_in vias = behind (first_via vias >>= via_branch)
+
+abbrev pub answers_invite : Option (List ℕ) → Bool
+answers_invite cseq = of_invite (cseq >>= cseq_at)
+
+-- the branch of the INVITE that it answers; none where it answers another request
+unfoldable pub invite_answered : Said → Option (List ℕ)
+invite_answered m = if answers_invite m.heard.cseq then branch_in m.heard.vias else None
+
+-- that of the INVITE that was given up
+abbrev pub invite_silent : (branch method : List ℕ) → Option (List ℕ)
+invite_silent branch method = if is_invite_method method then behind_cookie branch else None
+
+-- ---- the INVITE that the call waits on
+
+abbrev pub current_at : Stage → Option Invitation
+current_at (Answered side success) = None
+current_at (Parting side success) = None
+current_at Talking = None
+current_at (Asking side q) = Some q.invitation
+
+abbrev pub current : Phase → Option Invitation
+current (Offered x) = Some x.attempt.invitation
+current (Stood x stage) = current_at stage
+current (Lent loan) = None
+current (Over cause) = None
+
+abbrev pub is_branch : List ℕ → Option Invitation → Bool
+is_branch branch None = false
+is_branch branch (Some i) = bytes_eq i.branch branch
+
+abbrev pub is_current : List ℕ → Call → Bool
+is_current branch c = is_branch branch (current c.phase)
+
+-- ---- by phase; a call that is over answers nobody, and one whose leg is away hears nothing
+
+abbrev pub response_in : Phase → Site → Standing → TKey → Said → Call → Desk → Step
+response_in (Offered x) site now key m c desk = on_response site now x key m (status_of m.heard.start) c desk
+response_in (Stood x stage) site now key m c desk = on_response_at stage site now.at x key m c desk
+response_in (Lent loan) site now key m c desk = onward c desk
+response_in (Over cause) site now key m c desk = onward c desk
+
+abbrev pub silence_in : Phase → Site → Standing → Call → Desk → Step
+silence_in (Offered x) site now c desk = silenced site now x c desk
+silence_in (Stood x stage) site now c desk = on_silence_at stage site now.at x c desk
+silence_in (Lent loan) site now c desk = onward c desk
+silence_in (Over cause) site now c desk = onward c desk
+
+abbrev pub request_in : Phase → Site → (at : ℕ) → Side → TKey → Said → Call → Desk → Step
+request_in (Offered x) site at side key m c desk = on_request site at x side key m c desk
+request_in (Stood x stage) site at side key m c desk = on_request_at stage site at x side key m c desk
+request_in (Lent loan) site at side key m c desk = onward c desk
+request_in (Over cause) site at side key m c desk = onward c desk
+
+abbrev pub ack_in : Phase → Site → (at : ℕ) → Side → Said → Call → Desk → Step
+ack_in (Offered x) site at side m c desk = onward c desk
+ack_in (Stood x stage) site at side m c desk = on_ack_at stage site at x side m c desk
+ack_in (Lent loan) site at side m c desk = onward c desk
+ack_in (Over cause) site at side m c desk = onward c desk
+
+abbrev pub cancel_in : Phase → Site → (at : ℕ) → TKey → Said → (invite : TKey) → Call → Desk → Step
+cancel_in (Offered x) site at key m invite c desk = on_cancel site at x key m invite c desk
+cancel_in (Stood x stage) site at key m invite c desk = on_cancel_at stage site x invite c (replied_to site c key m 200 desk)
+cancel_in (Lent loan) site at key m invite c desk = onward c desk
+cancel_in (Over cause) site at key m invite c desk = onward c desk
+
+abbrev pub due_in : Phase → Site → Standing → DueWord → Call → Desk → Step
+due_in (Offered x) site now what c desk = on_due site now x what c desk
+due_in (Stood x stage) site now what c desk = on_due_at stage site now.at x what c desk
+due_in (Lent loan) site now what c desk = onward c desk
+due_in (Over cause) site now what c desk = onward c desk
+
+-- ---- the table
+
+-- a response: of the INVITE that the call waits on, or of another one
+abbrev pub answer_to : Option (List ℕ) → Site → Standing → TKey → Said → Call → Desk → Step
+answer_to None site now key m c desk = onward c desk
+answer_to (Some branch) site now key m c desk = if is_current branch c then response_in c.phase site now key m c desk else answered_other site key m branch c desk
+
+abbrev pub silence_of : Option (List ℕ) → Site → Standing → Call → Desk → Step
+silence_of None site now c desk = onward c desk
+silence_of (Some branch) site now c desk = if is_current branch c then silence_in c.phase site now c desk else onward (without_silent branch c) desk
+
+unfoldable pub step : Site → Standing → Signal → Call → Desk → Step
+step site now (signal.Request side key request) c desk = request_in c.phase site now.at side key request c desk
+step site now (signal.Ack side ack) c desk = ack_in c.phase site now.at side ack c desk
+step site now (signal.Cancel key cancel invite) c desk = cancel_in c.phase site now.at key cancel invite c desk
+step site now (signal.Answer key response) c desk = answer_to (invite_answered response) site now key response c desk
+step site now (signal.Silent branch method) c desk = silence_of (invite_silent branch method) site now c desk
+step site now (signal.Due what) c desk = due_in c.phase site now what c desk
+step site now (signal.Ended key) c desk = onward (without_key key c) desk

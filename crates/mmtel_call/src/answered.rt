@@ -1,0 +1,440 @@
+//! An answered call: a 2xx waits for its ACK, the call talks, or a side leaves.
+ghost use Rattle.std.specs.Prelude.{◌≡◌, IfOk, OnOk, codes, map};
+ghost use Rattle.mmtel_desk.specs.Desks.{token};
+ghost use Rattle.mmtel_desk.specs.Sending.{acked, acked_for, asked_for, relayed_ack_text};
+ghost use Rattle.mmtel_types.specs.Sides.{other_of};
+ghost use Rattle.mmtel_types.specs.declared.causes.Cause.TheVariants.{Ended as HasEnded};
+ghost use Rattle.mmtel_call.specs.Answered.{acked_across, acked_and_left, acknowledges, bye_across, bye_before_ack, bye_to, is_due, keeps_ack, leg_of, parted, shown_across, unacknowledged, with_ack};
+ghost use Rattle.mmtel_call.specs.Calls.{Over};
+ghost use Rattle.mmtel_call.specs.Closing.{over_stood};
+ghost use Rattle.mmtel_call.specs.Requests.{is_same_number, is_same_side};
+
+use crate::attempts::number_of;
+use crate::calls::{Call, Pair, Phase, Stage, Success, Taken};
+use crate::settings::Setting;
+use mmtel_answers::Hearing;
+use mmtel_desk::{Desk, Invitation};
+use mmtel_leg::Ended;
+use mmtel_message::Line;
+use mmtel_scan::{List, NoMemory, Text};
+use mmtel_transaction::DueWord;
+use mmtel_types::{Cause, Moment, Peer, Side};
+use std::alloc::Global;
+
+/// Whether two sides are one.
+pub fn is_same_side(one: Side, other: Side) -> bool
+    ensures { result ≡ is_same_side one other }
+{
+    match one {
+        Side::Caller => match other {
+            Side::Caller => true,
+            Side::Callee => false,
+        },
+        Side::Callee => match other {
+            Side::Caller => false,
+            Side::Callee => true,
+        },
+    }
+}
+
+/// Whether there are two numbers, and they are equal.
+fn is_same_number(one: Option<u32>, other: Option<u32>) -> bool
+    ensures { result ≡ is_same_number one other }
+{
+    match one {
+        None => false,
+        Some(one) => match other {
+            None => false,
+            Some(other) => one == other,
+        },
+    }
+}
+
+/// Whether an ACK of this side is that of the 2xx.
+pub fn acknowledges(
+    alloc: Global,
+    waiting: Side,
+    success: &Success,
+    side: Side,
+    m: &Hearing,
+) -> Result<bool, NoMemory>
+    ensures { IfOk result (λ yes. yes ≡ acknowledges waiting success.now side m.now) }
+{
+    let number = number_of(alloc, m)?;
+    Ok(is_same_side(waiting, side) && is_same_number(number, success.cseq))
+}
+
+impl Success {
+    /// Whether the deadline is that of this 2xx.
+    pub fn is_due(&self, what: DueWord) -> bool
+        ensures { result ≡ is_due self.now what }
+    {
+        match what {
+            DueWord::NoReply(_) => false,
+            DueWord::Cap(_) => false,
+            DueWord::NoAck(number) => number == self.number,
+        }
+    }
+}
+
+impl Pair {
+    /// The peer of a side.
+    pub fn peer_of(&self, side: Side) -> Peer
+        ensures { result ≡ (leg_of side self.now).dialogue.peer }
+    {
+        match side {
+            Side::Caller => self.caller.peer(),
+            Side::Callee => self.callee.peer(),
+        }
+    }
+
+    /// Leaves a side by a BYE of the server's own.
+    pub fn bye_to(
+        &mut self,
+        alloc: Global,
+        setting: &Setting<'_>,
+        side: Side,
+        desk: &mut Desk,
+    ) -> Result<(), NoMemory>
+        ensures done { OnOk result (desk.new ≡ bye_to setting.now self.old side desk.old) }
+        ensures other { leg_of (other_of side) self.new ≡ leg_of (other_of side) self.old }
+        ensures caller { self.new.caller.meter ≡ self.old.caller.meter }
+        ensures callee { self.new.callee.meter ≡ self.old.callee.meter }
+    {
+        match side {
+            Side::Caller => desk.bye(alloc, setting.sip, &mut self.caller),
+            Side::Callee => desk.bye(alloc, setting.sip, &mut self.callee),
+        }
+    }
+
+    /// Acknowledges the 2xx of a side by an ACK of the server's own.
+    fn acknowledge(
+        &self,
+        alloc: Global,
+        setting: &Setting<'_>,
+        side: Side,
+        desk: &mut Desk,
+    ) -> Result<(), NoMemory>
+        ensures { OnOk result (desk.new ≡ acked setting.now.sip (leg_of side self.now).dialogue desk.old) }
+    {
+        match side {
+            Side::Caller => desk.acknowledge(alloc, setting.sip, &self.caller),
+            Side::Callee => desk.acknowledge(alloc, setting.sip, &self.callee),
+        }
+    }
+
+    /// Acknowledges the 2xx of a side, and leaves it.
+    fn acknowledge_and_leave(
+        &mut self,
+        alloc: Global,
+        setting: &Setting<'_>,
+        side: Side,
+        desk: &mut Desk,
+    ) -> Result<(), NoMemory>
+        ensures done { OnOk result (desk.new ≡ acked_and_left setting.now self.old side desk.old) }
+        ensures other { leg_of (other_of side) self.new ≡ leg_of (other_of side) self.old }
+        ensures caller { self.new.caller.meter ≡ self.old.caller.meter }
+        ensures callee { self.new.callee.meter ≡ self.old.callee.meter }
+    {
+        self.acknowledge(alloc, setting, side, desk)?;
+        self.bye_to(alloc, setting, side, desk)
+    }
+
+    /// Sends a side the request of the other one, with these lines of it. Gives its branch.
+    pub fn ask_for(
+        &mut self,
+        alloc: Global,
+        setting: &Setting<'_>,
+        method: &[u8],
+        side: Side,
+        lines: &List<Line>,
+        m: &Hearing,
+        desk: &mut Desk,
+    ) -> Result<Text, NoMemory>
+        ensures branch { IfOk result (λ t. t ≡ token desk.old) }
+        ensures done { OnOk result (desk.new ≡ asked_for setting.now.sip method.now (leg_of side self.old).dialogue lines.now m.now.heard desk.old) }
+        ensures caller { self.new.caller.meter ≡ self.old.caller.meter }
+        ensures callee { self.new.callee.meter ≡ self.old.callee.meter }
+    {
+        match side {
+            Side::Caller => desk.ask_for(alloc, setting.sip, method, &mut self.caller, lines, m),
+            Side::Callee => desk.ask_for(alloc, setting.sip, method, &mut self.callee, lines, m),
+        }
+    }
+
+    /// Sends a side the ACK of the other one, with these lines of it. Gives its text.
+    fn acknowledge_for(
+        &self,
+        alloc: Global,
+        setting: &Setting<'_>,
+        side: Side,
+        lines: &List<Line>,
+        m: &Hearing,
+        desk: &mut Desk,
+    ) -> Result<Text, NoMemory>
+        ensures text { IfOk result (λ t. t ≡ relayed_ack_text setting.now.sip (leg_of side self.now).dialogue (token desk.old) lines.now m.now.heard) }
+        ensures done { OnOk result (desk.new ≡ acked_for setting.now.sip (leg_of side self.now).dialogue lines.now m.now.heard desk.old) }
+    {
+        match side {
+            Side::Caller => desk.acknowledge_for(alloc, setting.sip, &self.caller, lines, m),
+            Side::Callee => desk.acknowledge_for(alloc, setting.sip, &self.callee, lines, m),
+        }
+    }
+}
+
+/// Keeps the text of an ACK with an INVITE of this branch.
+fn with_ack(alloc: Global, branch: &[u8], text: &Text, taken: Taken) -> Result<Taken, NoMemory>
+    ensures { IfOk result (λ t. t ≡ with_ack branch.now text.now taken) }
+{
+    if taken.invitation.branch.bytes() != branch {
+        return Ok(taken);
+    }
+    let kept = text.copied(alloc)?;
+    let Taken {
+        invitation,
+        tag,
+        within,
+    } = taken;
+    Ok(Taken {
+        invitation: Invitation {
+            ack: Some(kept),
+            ..invitation
+        },
+        tag,
+        within,
+    })
+}
+
+/// Keeps it with each INVITE of this branch.
+fn with_acks(
+    alloc: Global,
+    branch: &[u8],
+    text: &Text,
+    taken: List<Taken>,
+) -> Result<List<Taken>, NoMemory>
+    ensures { IfOk result (λ ts. ts ≡ map (with_ack branch.now text.now) taken) }
+{
+    let mut rest = taken;
+    let mut kept = List::new();
+    'rest: while let Some(taken) = rest.pop_first() {
+        let taken = with_ack(alloc, branch, text, taken)?;
+        kept.push(alloc, taken)?;
+    }
+    Ok(kept)
+}
+
+impl Call {
+    /// The lines of a side's message that the other side is shown.
+    pub fn shown_across(
+        &self,
+        alloc: Global,
+        setting: &Setting<'_>,
+        x: &Pair,
+        side: Side,
+        m: &Hearing,
+    ) -> Result<List<Line>, NoMemory>
+        ensures { IfOk result (λ ls. ls ≡ shown_across setting.now self.now x.now side m.now) }
+    {
+        let peer = x.peer_of(side.other());
+        self.shown_to(alloc, setting, x.service.as_ref(), side, peer, m)
+    }
+
+    /// The call is over, and both legs leave.
+    pub fn end_pair(
+        &mut self,
+        alloc: Global,
+        at: Moment,
+        x: Pair,
+        desk: &mut Desk,
+    ) -> Result<(), NoMemory>
+        requires { self.old.phase ≡ Over HasEnded }
+        ensures call { OnOk result (self.new ≡ (over_stood at x self.old desk.old).call) }
+        ensures desk { OnOk result (desk.new ≡ (over_stood at x self.old desk.old).desk) }
+    {
+        let Pair {
+            caller,
+            callee,
+            service: _,
+        } = x;
+        let Ended { meter: first } = caller.leave();
+        let Ended { meter: last } = callee.leave();
+        self.close(alloc, at, Cause::Ended, first, last, desk)
+    }
+
+    /// No ACK came: ACK without body and BYE to the other side; BYE to this one.
+    pub fn end_unacknowledged(
+        &mut self,
+        alloc: Global,
+        setting: &Setting<'_>,
+        at: Moment,
+        x: Pair,
+        side: Side,
+        desk: &mut Desk,
+    ) -> Result<(), NoMemory>
+        requires { self.old.phase ≡ Over HasEnded }
+        ensures call { OnOk result (self.new ≡ (unacknowledged setting.now at x side self.old desk.old).call) }
+        ensures desk { OnOk result (desk.new ≡ (unacknowledged setting.now at x side self.old desk.old).desk) }
+    {
+        let mut x = x;
+        let left = x.acknowledge_and_leave(alloc, setting, side.other(), desk);
+        let left_too = x.bye_to(alloc, setting, side, desk);
+        let closed = self.end_pair(alloc, at, x, desk);
+        left?;
+        left_too?;
+        closed
+    }
+
+    /// A parting call ends with the side that it waited for: BYE to it.
+    pub fn part(
+        &mut self,
+        alloc: Global,
+        setting: &Setting<'_>,
+        at: Moment,
+        x: Pair,
+        side: Side,
+        desk: &mut Desk,
+    ) -> Result<(), NoMemory>
+        requires { self.old.phase ≡ Over HasEnded }
+        ensures call { OnOk result (self.new ≡ (parted setting.now at x side self.old desk.old).call) }
+        ensures desk { OnOk result (desk.new ≡ (parted setting.now at x side self.old desk.old).desk) }
+    {
+        let mut x = x;
+        let left = x.bye_to(alloc, setting, side, desk);
+        let closed = self.end_pair(alloc, at, x, desk);
+        left?;
+        closed
+    }
+
+    /// A side that owes an ACK leaves: ACK without body and BYE to the other side.
+    fn end_before_ack(
+        &mut self,
+        alloc: Global,
+        setting: &Setting<'_>,
+        at: Moment,
+        x: Pair,
+        side: Side,
+        desk: &mut Desk,
+    ) -> Result<(), NoMemory>
+        requires { self.old.phase ≡ Over HasEnded }
+        ensures call { OnOk result (self.new ≡ (over_stood at x self.old (acked_and_left setting.now x (other_of side) desk.old)).call) }
+        ensures desk { OnOk result (desk.new ≡ (over_stood at x self.old (acked_and_left setting.now x (other_of side) desk.old)).desk) }
+    {
+        let mut x = x;
+        let left = x.acknowledge_and_leave(alloc, setting, side.other(), desk);
+        let closed = self.end_pair(alloc, at, x, desk);
+        left?;
+        closed
+    }
+
+    /// A BYE while an ACK is due.
+    pub fn bye_before_ack(
+        &mut self,
+        alloc: Global,
+        setting: &Setting<'_>,
+        at: Moment,
+        x: Pair,
+        waiting: Side,
+        success: Success,
+        side: Side,
+        desk: &mut Desk,
+    ) -> Result<(), NoMemory>
+        requires { self.old.phase ≡ Over HasEnded }
+        ensures call { OnOk result (self.new ≡ (bye_before_ack setting.now at x waiting success side self.old desk.old).call) }
+        ensures desk { OnOk result (desk.new ≡ (bye_before_ack setting.now at x waiting success side self.old desk.old).desk) }
+    {
+        if is_same_side(waiting, side) {
+            return self.end_before_ack(alloc, setting, at, x, side, desk);
+        }
+        self.put_phase(Phase::Stood(x, Stage::Parting(waiting, success)));
+        Ok(())
+    }
+
+    /// What goes out where a talking side leaves: its BYE, to the other side.
+    fn pass_bye(
+        &self,
+        alloc: Global,
+        setting: &Setting<'_>,
+        x: &mut Pair,
+        side: Side,
+        m: &Hearing,
+        desk: &mut Desk,
+    ) -> Result<(), NoMemory>
+        ensures done { OnOk result (desk.new ≡ asked_for setting.now.sip (codes "BYE") (leg_of (other_of side) x.old).dialogue (shown_across setting.now self.now x.old side m.now) m.now.heard desk.old) }
+        ensures caller { x.new.caller.meter ≡ x.old.caller.meter }
+        ensures callee { x.new.callee.meter ≡ x.old.callee.meter }
+    {
+        let lines = self.shown_across(alloc, setting, x, side, m)?;
+        x.ask_for(alloc, setting, b"BYE", side.other(), &lines, m, desk)?;
+        Ok(())
+    }
+
+    /// A talking side leaves, and the call is over.
+    pub fn bye_across(
+        &mut self,
+        alloc: Global,
+        setting: &Setting<'_>,
+        at: Moment,
+        x: Pair,
+        side: Side,
+        m: &Hearing,
+        desk: &mut Desk,
+    ) -> Result<(), NoMemory>
+        requires { self.old.phase ≡ Over HasEnded }
+        ensures call { OnOk result (self.new ≡ (bye_across setting.now at x side m.now self.old desk.old).call) }
+        ensures desk { OnOk result (desk.new ≡ (bye_across setting.now at x side m.now self.old desk.old).desk) }
+    {
+        let mut x = x;
+        let passed = self.pass_bye(alloc, setting, &mut x, side, m, desk);
+        let closed = self.end_pair(alloc, at, x, desk);
+        passed?;
+        closed
+    }
+
+    /// The text of the ACK of the INVITE of this branch is kept.
+    fn keep_ack(&mut self, alloc: Global, branch: &[u8], text: &Text) -> Result<(), NoMemory>
+        ensures done { OnOk result (self.new ≡ keeps_ack branch.now text.now self.old) }
+        ensures phase { self.new.phase ≡ self.old.phase }
+    {
+        let taken = std::mem::replace(&mut self.taken, List::new());
+        self.taken = with_acks(alloc, branch, text, taken)?;
+        Ok(())
+    }
+
+    /// What goes out where the ACK of a side comes: its ACK, to the other side. Gives its text.
+    fn pass_ack(
+        &self,
+        alloc: Global,
+        setting: &Setting<'_>,
+        x: &Pair,
+        side: Side,
+        m: &Hearing,
+        desk: &mut Desk,
+    ) -> Result<Text, NoMemory>
+        ensures text { IfOk result (λ t. t ≡ relayed_ack_text setting.now.sip (leg_of (other_of side) x.now).dialogue (token desk.old) (shown_across setting.now self.now x.now side m.now) m.now.heard) }
+        ensures done { OnOk result (desk.new ≡ acked_for setting.now.sip (leg_of (other_of side) x.now).dialogue (shown_across setting.now self.now x.now side m.now) m.now.heard desk.old) }
+    {
+        let lines = self.shown_across(alloc, setting, x, side, m)?;
+        x.acknowledge_for(alloc, setting, side.other(), &lines, m, desk)
+    }
+
+    /// The ACK of the 2xx came, and the call talks.
+    pub fn acknowledge_across(
+        &mut self,
+        alloc: Global,
+        setting: &Setting<'_>,
+        x: Pair,
+        side: Side,
+        success: &Success,
+        m: &Hearing,
+        desk: &mut Desk,
+    ) -> Result<(), NoMemory>
+        requires { self.old.phase ≡ Over HasEnded }
+        ensures call { OnOk result (self.new ≡ (acked_across setting.now x side success.now m.now self.old desk.old).call) }
+        ensures desk { OnOk result (desk.new ≡ (acked_across setting.now x side success.now m.now self.old desk.old).desk) }
+    {
+        let passed = self.pass_ack(alloc, setting, &x, side, m, desk);
+        self.put_phase(Phase::Stood(x, Stage::Talking));
+        let text = passed?;
+        self.keep_ack(alloc, success.branch.bytes(), &text)
+    }
+}

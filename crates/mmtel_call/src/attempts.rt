@@ -1,0 +1,417 @@
+//! What an attempt is once it proceeds, is answered or left: its INVITE, its times and its end.
+ghost use Rattle.std.specs.Prelude.{◌≡◌, ◌≤◌, ◌∷◌, ◌++◌, [], false, Some, IfOk, IfSome, OnErr, OnOk};
+ghost use Rattle.std.specs.Option.{option_copied};
+ghost use Rattle.mmtel_desk.specs.Invitations.{has_said, once_cancelled};
+ghost use Rattle.mmtel_leg.specs.Dialogues.{met};
+ghost use Rattle.mmtel_leg.specs.Legs.{with_dialogue};
+ghost use Rattle.mmtel_call.specs.Sending.{relayed_to_caller};
+ghost use Rattle.mmtel_precedence.specs.Attempts.{end_by_final, end_by_time};
+ghost use Rattle.mmtel_sheet_values.specs.NoReply.{no_reply_time};
+ghost use Rattle.mmtel_precedence.specs.Told.{told_end};
+ghost use Rattle.mmtel_types.specs.declared.causes.Cause.TheVariants.{Ended as HasEnded};
+ghost use Rattle.mmtel_types.specs.declared.sides.Side.TheVariants.{Callee as TheCallee, Caller};
+ghost use Rattle.mmtel_leg.specs.Remotes.{remote_of};
+ghost use Rattle.mmtel_call.specs.Calls.{Answered, Offered, Over, Stood};
+ghost use Rattle.mmtel_call.specs.Decisions.{its_sheet};
+ghost use Rattle.mmtel_call.specs.Requests.{number_of};
+ghost use Rattle.mmtel_call.specs.Ringing.{answered, armed, awaiting_ack, early_said, loose, next_success, noted, proceeding, ringing, success_of, tag_given, time_of, with_loose};
+
+use crate::calls::{Attempt, Call, Pair, Phase, Service, Stage, Success, Taken, Trial};
+use crate::legs::said_by_callee;
+use crate::sending::its_sheet;
+use crate::settings::Setting;
+use mmtel_answers::Hearing;
+use mmtel_desk::{Desk, Invitation, Loose, file, once_cancelled};
+use mmtel_leg::Remote;
+use mmtel_lex::{LexFault, Uri};
+use mmtel_message::{first_of, read_cseq};
+use mmtel_precedence::{AttemptEnd, AttemptEvent, end_by, rings};
+use mmtel_scan::{NoMemory, Text};
+use mmtel_sheet_values::Sheet;
+use mmtel_transaction::{DueWord, Emit, TKey};
+use mmtel_types::{Moment, Side};
+use std::alloc::Global;
+
+/// For so long a 2xx waits for its ACK, in milliseconds.
+const ACK_TIME: u64 = 32_000;
+
+/// The number of CSeq of a request, where that can be read.
+#[tactic(auto, unfolding(mmtel_leg::specs::Dialogues::number_at))]
+pub fn number_of(alloc: Global, request: &Hearing) -> Result<Option<u32>, NoMemory>
+    ensures { IfOk result (λ n. n ≡ number_of request.now) }
+{
+    match first_of(request.message.lines(), b"CSeq") {
+        None => Ok(None),
+        Some(value) => match read_cseq(alloc, value) {
+            Ok(cseq) => Ok(Some(cseq.number)),
+            Err(LexFault::Malformed { at: _ }) => Ok(None),
+            Err(LexFault::NoMemory) => Err(NoMemory),
+        },
+    }
+}
+
+/// An INVITE of which this response came by this client transaction.
+pub fn has_said(key: TKey, invitation: Invitation) -> Invitation
+    ensures { result ≡ has_said key invitation }
+{
+    Invitation {
+        key: Some(key),
+        provisional: true,
+        ..invitation
+    }
+}
+
+/// The INVITE that had a 2xx with this tag.
+pub fn taken_by(key: TKey, tag: Text, within: bool, invitation: Invitation) -> Taken
+    ensures { result ≡ record { invitation = has_said key invitation; tag = tag; within = within } }
+{
+    Taken {
+        invitation: has_said(key, invitation),
+        tag,
+        within,
+    }
+}
+
+impl Attempt {
+    /// The attempt once a provisional response of this status came by this client transaction.
+    fn proceed(self, key: TKey, code: u16) -> Attempt
+        ensures { result ≡ ringing code (noted key self) }
+    {
+        let Attempt {
+            number,
+            service,
+            rang,
+            invitation,
+        } = self;
+        Attempt {
+            number,
+            service,
+            rang: rang || rings(code),
+            invitation: has_said(key, invitation),
+        }
+    }
+
+    /// The same for a 100.
+    fn note(self, key: TKey) -> Attempt
+        ensures { result ≡ noted key self }
+    {
+        let Attempt {
+            number,
+            service,
+            rang,
+            invitation,
+        } = self;
+        Attempt {
+            number,
+            service,
+            rang,
+            invitation: has_said(key, invitation),
+        }
+    }
+}
+
+/// The no-reply time of a record.
+fn time_in(sheet: &Sheet) -> Option<u64>
+    ensures exact { result ≡ no_reply_time sheet.now }
+    ensures bound { IfSome result (λ time. time ≤ 65535000) }
+{
+    match &sheet.diversion {
+        None => None,
+        Some(part) => {
+            let seconds = part.no_reply;
+            match sheet.no_reply_time() {
+                None => None,
+                Some(_) => Some(u64::from(seconds) * 1000),
+            }
+        }
+    }
+}
+
+/// The no-reply time of the record of the account that is served.
+fn time_of(service: Option<&Service>) -> Option<u64>
+    ensures exact { result ≡ time_of (its_sheet (option_copied service.entry)) }
+    ensures bound { IfSome result (λ time. time ≤ 65535000) }
+{
+    match its_sheet(service) {
+        None => None,
+        Some(sheet) => time_in(sheet),
+    }
+}
+
+/// How a final from 300 ends an attempt.
+pub fn end_of<'a>(code: u16, target: Option<&'a Uri>, rang: bool) -> AttemptEnd<'a>
+    requires { 200 ≤ code }
+    ensures { told_end result ≡ end_by_final code (option_copied target.entry) rang }
+{
+    match end_by(AttemptEvent::Response { code, target }, rang) {
+        Some(end) => end,
+        None => unreachable!(),
+    }
+}
+
+/// How the longest time ends an attempt.
+pub fn end_of_time(rang: bool) -> AttemptEnd<'static>
+    ensures { told_end result ≡ end_by_time rang }
+{
+    match end_by(AttemptEvent::LongestTime, rang) {
+        Some(end) => end,
+        None => unreachable!(),
+    }
+}
+
+impl Call {
+    /// Keeps an INVITE that is left, which was sent in a dialog that stood or not.
+    pub fn loosen(
+        &mut self,
+        alloc: Global,
+        invitation: Invitation,
+        within: bool,
+    ) -> Result<(), NoMemory>
+        ensures done { OnOk result (self.new ≡ with_loose (record { invitation = invitation; within = within }) self.old) }
+        ensures refused { OnErr result (self.new ≡ self.old) }
+    {
+        file(alloc, &mut self.loose, Loose { invitation, within })
+    }
+
+    /// The number of the next 2xx that goes to a side.
+    fn next_success(&self) -> u64
+        ensures { result ≡ next_success self.now }
+    {
+        self.successes.saturating_add(1)
+    }
+
+    /// Arms the time for which that 2xx waits for its ACK.
+    pub fn await_ack(&self, alloc: Global, at: Moment, desk: &mut Desk) -> Result<(), NoMemory>
+        ensures { OnOk result (desk.new ≡ awaiting_ack at self.now desk.old) }
+    {
+        desk.emit(
+            alloc,
+            Emit::Arm {
+                call: self.opening.number,
+                what: DueWord::NoAck(self.next_success()),
+                at: at.ms() + ACK_TIME,
+            },
+        )
+    }
+
+    /// What waits for the ACK of this INVITE, whose 2xx relays that of the INVITE of the other side.
+    pub fn success_of(
+        &self,
+        alloc: Global,
+        request: &Hearing,
+        invitation: &Invitation,
+    ) -> Result<Success, NoMemory>
+        ensures { IfOk result (λ s. s ≡ success_of self.now request.now invitation.now) }
+    {
+        let cseq = number_of(alloc, request)?;
+        let branch = invitation.branch.copied(alloc)?;
+        Ok(Success {
+            number: self.next_success(),
+            cseq,
+            branch,
+        })
+    }
+
+    /// Arms the no-reply time, where it begins with this response.
+    fn arm(
+        &self,
+        alloc: Global,
+        code: u16,
+        at: Moment,
+        attempt: &Attempt,
+        desk: &mut Desk,
+    ) -> Result<(), NoMemory>
+        ensures { OnOk result (desk.new ≡ armed code at attempt.now self.now desk.old) }
+    {
+        if !rings(code) || attempt.rang {
+            return Ok(());
+        }
+        match time_of(attempt.service.as_ref()) {
+            None => Ok(()),
+            Some(time) => desk.emit(
+                alloc,
+                Emit::Arm {
+                    call: self.opening.number,
+                    what: DueWord::NoReply(attempt.number),
+                    at: at.ms() + time,
+                },
+            ),
+        }
+    }
+
+    /// A 100 of the target.
+    pub fn hear_trying(&mut self, x: Trial, key: TKey)
+        requires { self.old.phase ≡ Over HasEnded }
+        ensures { self.new ≡ record self.old { phase = Offered (record x { attempt = noted key x.attempt }) } }
+    {
+        let Trial {
+            caller,
+            callee,
+            attempt,
+        } = x;
+        self.put_phase(Phase::Offered(Trial {
+            caller,
+            callee,
+            attempt: attempt.note(key),
+        }));
+    }
+
+    /// What goes out on a provisional response but 100, and what it says of the target.
+    fn pass_proceeding(
+        &self,
+        alloc: Global,
+        setting: &Setting<'_>,
+        at: Moment,
+        x: &Trial,
+        m: &Hearing,
+        code: u16,
+        desk: &mut Desk,
+    ) -> Result<Option<Remote>, NoMemory>
+        ensures desk { OnOk result (desk.new ≡ armed code at x.now.attempt self.now (relayed_to_caller setting.now self.now x.now.attempt.service m.now desk.old)) }
+        ensures said { IfOk result (λ r. r ≡ early_said x.now.callee m.now) }
+    {
+        let service = x.attempt.service.as_ref();
+        self.relay_to_caller(alloc, setting, service, m, desk)?;
+        self.arm(alloc, code, at, &x.attempt, desk)?;
+        x.callee.early_said(alloc, m)
+    }
+
+    /// A provisional response of the target but 100.
+    pub fn hear_proceeding(
+        &mut self,
+        alloc: Global,
+        setting: &Setting<'_>,
+        at: Moment,
+        x: Trial,
+        key: TKey,
+        m: &Hearing,
+        code: u16,
+        desk: &mut Desk,
+    ) -> Result<(), NoMemory>
+        requires { self.old.phase ≡ Over HasEnded }
+        ensures call { OnOk result (self.new ≡ (proceeding setting.now at x key m.now code self.old desk.old).call) }
+        ensures desk { OnOk result (desk.new ≡ (proceeding setting.now at x key m.now code self.old desk.old).desk) }
+    {
+        let passed = self.pass_proceeding(alloc, setting, at, &x, m, code, desk);
+        match passed {
+            Err(error) => {
+                x.give_up(at);
+                Err(error)
+            }
+            Ok(remote) => {
+                let Trial {
+                    caller,
+                    callee,
+                    attempt,
+                } = x;
+                self.put_phase(Phase::Offered(Trial {
+                    caller,
+                    callee: callee.meet(remote),
+                    attempt: attempt.proceed(key, code),
+                }));
+                Ok(())
+            }
+        }
+    }
+
+    /// What goes out on a 2xx of the target, what it says of itself, and what waits for the caller's ACK.
+    fn pass_answer(
+        &self,
+        alloc: Global,
+        setting: &Setting<'_>,
+        at: Moment,
+        attempt: &Attempt,
+        m: &Hearing,
+        desk: &mut Desk,
+    ) -> Result<(Remote, Text, Success), NoMemory>
+        ensures desk { OnOk result (desk.new ≡ awaiting_ack at self.now (relayed_to_caller setting.now self.now attempt.now.service m.now desk.old)) }
+        ensures remote { IfOk result (λ r. r.0 ≡ remote_of TheCallee m.now.heard.lines) }
+        ensures tag { IfOk result (λ r. r.1 ≡ tag_given m.now) }
+        ensures success { IfOk result (λ r. r.2 ≡ success_of self.now self.now.opening.invite attempt.now.invitation) }
+    {
+        self.relay_to_caller(alloc, setting, attempt.service.as_ref(), m, desk)?;
+        self.await_ack(alloc, at, desk)?;
+        let success = self.success_of(alloc, &self.opening.invite, &attempt.invitation)?;
+        let remote = said_by_callee(alloc, m)?;
+        let tag = remote.tag.copied(alloc)?;
+        Ok((remote, tag, success))
+    }
+
+    /// The call was answered: it waits for the caller's ACK.
+    fn note_answer(&mut self, alloc: Global, at: Moment, taken: Taken) -> Result<(), NoMemory>
+        ensures done { OnOk result (self.new ≡ record self.old { answered = Some at; successes = next_success self.old; taken = self.old.taken ++ taken ∷ [] }) }
+        ensures phase { self.new.phase ≡ self.old.phase }
+    {
+        self.successes = self.next_success();
+        self.answered = Some(at);
+        file(alloc, &mut self.taken, taken)
+    }
+
+    /// A 2xx of the target.
+    pub fn hear_answer(
+        &mut self,
+        alloc: Global,
+        setting: &Setting<'_>,
+        at: Moment,
+        x: Trial,
+        key: TKey,
+        m: &Hearing,
+        desk: &mut Desk,
+    ) -> Result<(), NoMemory>
+        requires { self.old.phase ≡ Over HasEnded }
+        ensures call { OnOk result (self.new ≡ (answered setting.now at x key m.now self.old desk.old).call) }
+        ensures desk { OnOk result (desk.new ≡ (answered setting.now at x key m.now self.old desk.old).desk) }
+    {
+        let passed = self.pass_answer(alloc, setting, at, &x.attempt, m, desk);
+        match passed {
+            Err(error) => {
+                x.give_up(at);
+                Err(error)
+            }
+            Ok((remote, tag, success)) => self.stand(alloc, at, x, key, remote, tag, success),
+        }
+    }
+
+    /// The call stands with what the target says of itself.
+    fn stand(
+        &mut self,
+        alloc: Global,
+        at: Moment,
+        x: Trial,
+        key: TKey,
+        remote: Remote,
+        tag: Text,
+        success: Success,
+    ) -> Result<(), NoMemory>
+        requires { self.old.phase ≡ Over HasEnded }
+        ensures { OnOk result (self.new ≡ record self.old { answered = Some at; successes = next_success self.old; taken = self.old.taken ++ record { invitation = has_said key x.attempt.invitation; tag = tag; within = false } ∷ []; phase = Stood (record { caller = x.caller; callee = with_dialogue x.callee.leg (met x.callee.leg.dialogue remote); service = x.attempt.service }) (Answered Caller success) }) }
+    {
+        let Trial {
+            caller,
+            callee,
+            attempt,
+        } = x;
+        let Attempt {
+            number: _,
+            service,
+            rang: _,
+            invitation,
+        } = attempt;
+        let noted = self.note_answer(alloc, at, taken_by(key, tag, false, invitation));
+        let pair = Pair {
+            caller,
+            callee: callee.stand(remote),
+            service,
+        };
+        self.put_phase(Phase::Stood(pair, Stage::Answered(Side::Caller, success)));
+        noted
+    }
+
+    /// The INVITE of an attempt that is left is loose, once it was cancelled where that is due.
+    pub fn leave_attempt(&mut self, alloc: Global, invitation: Invitation) -> Result<(), NoMemory>
+        ensures done { OnOk result (self.new ≡ with_loose (loose (once_cancelled invitation)) self.old) }
+        ensures refused { OnErr result (self.new ≡ self.old) }
+    {
+        self.loosen(alloc, once_cancelled(invitation), false)
+    }
+}

@@ -1,0 +1,181 @@
+//! Requests of a call that is offered to a target and not answered, and the caller that gives up.
+ghost use Rattle.std.specs.Prelude.{◌≡◌, OnErr, OnOk};
+ghost use Rattle.mmtel_desk.specs.Sending.{cancelled};
+ghost use Rattle.mmtel_call.specs.Sending.{replied_to, told_caller};
+ghost use Rattle.mmtel_types.specs.declared.causes.Cause.TheVariants.{Ended as HasEnded};
+ghost use Rattle.mmtel_call.specs.Calls.{Offered, Over};
+ghost use Rattle.mmtel_call.specs.Ringing.{given_up, heard_by, on_cancel, on_heard, on_request, says_offered};
+
+use crate::calls::{Attempt, Call, Phase, Trial};
+use crate::legs::hear;
+use crate::settings::Setting;
+use mmtel_answers::Hearing;
+use mmtel_desk::Desk;
+use mmtel_leg::{DialogueFault, Ended, InFlight};
+use mmtel_message::is_method;
+use mmtel_scan::NoMemory;
+use mmtel_transaction::TKey;
+use mmtel_types::{Cause, Moment, Side};
+use std::alloc::Global;
+
+impl Call {
+    /// What goes out where the caller gives up: its 487, and the CANCEL where that is due.
+    fn pass_giving_up(
+        &self,
+        alloc: Global,
+        setting: &Setting<'_>,
+        attempt: &Attempt,
+        desk: &mut Desk,
+    ) -> Result<(), NoMemory>
+        ensures { OnOk result (desk.new ≡ cancelled setting.now.sip attempt.now.invitation (told_caller setting.now self.now 487 desk.old)) }
+    {
+        self.tell_caller(alloc, setting, 487, desk)?;
+        desk.cancel(alloc, setting.sip, &attempt.invitation)
+    }
+
+    /// The caller gives up, and the call is over.
+    fn give_up_offered(
+        &mut self,
+        alloc: Global,
+        setting: &Setting<'_>,
+        at: Moment,
+        x: Trial,
+        desk: &mut Desk,
+    ) -> Result<(), NoMemory>
+        requires { self.old.phase ≡ Over HasEnded }
+        ensures call { OnOk result (self.new ≡ (given_up setting.now at x self.old desk.old).call) }
+        ensures desk { OnOk result (desk.new ≡ (given_up setting.now at x self.old desk.old).desk) }
+    {
+        let passed = self.pass_giving_up(alloc, setting, &x.attempt, desk);
+        let Trial {
+            caller,
+            callee,
+            attempt,
+        } = x;
+        let Attempt {
+            number: _,
+            service: _,
+            rang: _,
+            invitation,
+        } = attempt;
+        let left = self.leave_attempt(alloc, invitation);
+        let Ended { meter: first } = caller.leave();
+        let last = callee.leave();
+        let closed = self.close(alloc, at, Cause::Cancelled, first, last, desk);
+        passed?;
+        left?;
+        closed
+    }
+
+    /// A CANCEL of the caller: of the INVITE that opened the call, or of another one, which has its final.
+    pub fn hear_cancel(
+        &mut self,
+        alloc: Global,
+        setting: &Setting<'_>,
+        at: Moment,
+        x: Trial,
+        key: TKey,
+        m: &Hearing,
+        invite: TKey,
+        desk: &mut Desk,
+    ) -> Result<(), NoMemory>
+        requires { self.old.phase ≡ Over HasEnded }
+        ensures call { OnOk result (self.new ≡ (on_cancel setting.now at x key m.now invite (record self.old { phase = Offered x }) desk.old).call) }
+        ensures desk { OnOk result (desk.new ≡ (on_cancel setting.now at x key m.now invite (record self.old { phase = Offered x }) desk.old).desk) }
+    {
+        let replied = self.reply_to(alloc, setting, key, m, 200, desk);
+        if invite.0 == self.opening.key.0 {
+            let given_up = self.give_up_offered(alloc, setting, at, x, desk);
+            replied?;
+            return given_up;
+        }
+        self.put_phase(Phase::Offered(x));
+        replied
+    }
+
+    /// A BYE of the caller, who gives up.
+    fn hear_bye_offered(
+        &mut self,
+        alloc: Global,
+        setting: &Setting<'_>,
+        at: Moment,
+        x: Trial,
+        key: TKey,
+        m: &Hearing,
+        desk: &mut Desk,
+    ) -> Result<(), NoMemory>
+        requires { self.old.phase ≡ Over HasEnded }
+        ensures call { OnOk result (self.new ≡ (given_up setting.now at x self.old (replied_to setting.now self.old key m.now 200 desk.old)).call) }
+        ensures desk { OnOk result (desk.new ≡ (given_up setting.now at x self.old (replied_to setting.now self.old key m.now 200 desk.old)).desk) }
+    {
+        let replied = self.reply_to(alloc, setting, key, m, 200, desk);
+        let given_up = self.give_up_offered(alloc, setting, at, x, desk);
+        replied?;
+        given_up
+    }
+
+    /// A request that a leg heard.
+    fn take_request_offered(
+        &mut self,
+        alloc: Global,
+        setting: &Setting<'_>,
+        at: Moment,
+        x: Trial,
+        side: Side,
+        key: TKey,
+        m: &Hearing,
+        desk: &mut Desk,
+    ) -> Result<(), NoMemory>
+        requires { self.old.phase ≡ Over HasEnded }
+        ensures call { OnOk result (self.new ≡ (on_heard setting.now at x side key m.now (record self.old { phase = Offered x }) desk.old).call) }
+        ensures desk { OnOk result (desk.new ≡ (on_heard setting.now at x side key m.now (record self.old { phase = Offered x }) desk.old).desk) }
+    {
+        if side == Side::Caller && is_method(b"BYE", m.message.start()) {
+            return self.hear_bye_offered(alloc, setting, at, x, key, m, desk);
+        }
+        let answered = self.answer_unlisted(alloc, setting, key, m, desk);
+        self.put_phase(Phase::Offered(x));
+        answered
+    }
+
+    /// A request of a side in its dialog.
+    pub fn hear_request_offered(
+        &mut self,
+        alloc: Global,
+        setting: &Setting<'_>,
+        at: Moment,
+        x: Trial,
+        side: Side,
+        key: TKey,
+        m: &Hearing,
+        desk: &mut Desk,
+    ) -> Result<(), NoMemory>
+        requires { self.old.phase ≡ Over HasEnded }
+        ensures call { OnOk result (self.new ≡ (on_request setting.now at x side key m.now (record self.old { phase = Offered x }) desk.old).call) }
+        ensures desk { OnOk result (desk.new ≡ (on_request setting.now at x side key m.now (record self.old { phase = Offered x }) desk.old).desk) }
+    {
+        let mut x = x;
+        match x.hear(side, m) {
+            Ok(()) => self.take_request_offered(alloc, setting, at, x, side, key, m, desk),
+            Err(fault) => {
+                let refused = self.refuse_unheard(alloc, setting, key, m, fault, desk);
+                self.put_phase(Phase::Offered(x));
+                refused
+            }
+        }
+    }
+}
+
+impl Trial {
+    /// Takes note of a request of a side, or refuses it.
+    fn hear(&mut self, side: Side, m: &Hearing) -> Result<(), DialogueFault>
+        ensures answer { result ≡ says_offered self.old side m.now }
+        ensures heard { OnOk result (self.new ≡ heard_by side m.now self.old) }
+        ensures refused { OnErr result (self.new ≡ self.old) }
+    {
+        match side {
+            Side::Caller => hear(&mut self.caller, m, InFlight::Theirs),
+            Side::Callee => self.callee.hear(m, InFlight::Own),
+        }
+    }
+}

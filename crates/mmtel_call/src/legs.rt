@@ -1,0 +1,160 @@
+//! The legs of a call: that of an attempt, and those of both sides once it was answered.
+ghost use Rattle.std.specs.Prelude.{◌≡◌, ◌||◌, ◌==◌, true, None, Some, length, if◌then◌else◌, IfOk, OnErr, OnOk};
+ghost use Rattle.mmtel_leg.specs.Dialogues.{met};
+ghost use Rattle.mmtel_leg.specs.Legs.{with_dialogue};
+ghost use Rattle.mmtel_leg.specs.Remotes.{remote_of, tag_in};
+ghost use Rattle.mmtel_types.specs.declared.sides.Side.TheVariants.{Callee};
+ghost use Rattle.mmtel_call.specs.Requests.{having_heard, says};
+ghost use Rattle.mmtel_call.specs.Ringing.{early_said, met_by, tag_given};
+
+use crate::calls::{Pair, Trial, Tried, TriedLeg};
+use crate::closing::give_up_meter;
+use mmtel_answers::Hearing;
+use mmtel_charging::Meter;
+use mmtel_leg::{CalleeLeg, CallerLeg, DialogueFault, Ended, InFlight, LegOf, Remote, Standing};
+use mmtel_scan::NoMemory;
+use mmtel_types::{Moment, Side};
+use std::alloc::Global;
+
+/// Takes note of a request of a side, or refuses it.
+#[tactic(auto, unfolding(mmtel_leg::specs::Dialogues::number_in))]
+pub fn hear<P, S>(
+    leg: &mut LegOf<P, S>,
+    request: &Hearing,
+    busy: InFlight,
+) -> Result<(), DialogueFault>
+    ensures answer { result ≡ says leg.old request.now busy }
+    ensures heard { OnOk result (leg.new ≡ having_heard leg.old request.now) }
+    ensures refused { OnErr result (leg.new ≡ leg.old) }
+{
+    leg.heard(&request.message, busy)
+}
+
+/// What the callee says of itself in a response.
+#[tactic(auto, unfolding(mmtel_leg::specs::Remotes::tag_in))]
+pub fn said_by_callee(alloc: Global, response: &Hearing) -> Result<Remote, NoMemory>
+    ensures remote { IfOk result (λ r. r ≡ remote_of Callee response.now.heard.lines) }
+    ensures tag { IfOk result (λ r. r.tag ≡ tag_given response.now) }
+{
+    Remote::read(alloc, &response.message, Side::Callee)
+}
+
+impl Tried {
+    /// Whether a response made an early dialog.
+    fn is_early(&self) -> bool
+        ensures { result ≡ self.now.is_early }
+    {
+        match &self.leg {
+            TriedLeg::Asked(_) => false,
+            TriedLeg::Early(_) => true,
+        }
+    }
+
+    /// What the callee says of itself in a response that makes the early dialog.
+    pub fn early_said(&self, alloc: Global, response: &Hearing) -> Result<Option<Remote>, NoMemory>
+        ensures { IfOk result (λ r. r ≡ early_said self.now response.now) }
+    {
+        let remote = said_by_callee(alloc, response)?;
+        if self.is_early() || remote.tag.bytes().is_empty() {
+            return Ok(None);
+        }
+        Ok(Some(remote))
+    }
+
+    /// The leg with the early dialog, where there is one now.
+    pub fn meet(self, remote: Option<Remote>) -> Tried
+        requires { self.is_early ≡ true → remote ≡ None }
+        ensures { result ≡ met_by remote self }
+    {
+        let Tried { leg } = self;
+        match leg {
+            TriedLeg::Asked(leg) => match remote {
+                None => Tried {
+                    leg: TriedLeg::Asked(leg),
+                },
+                Some(remote) => Tried {
+                    leg: TriedLeg::Early(leg.early(remote)),
+                },
+            },
+            TriedLeg::Early(leg) => match remote {
+                None => Tried {
+                    leg: TriedLeg::Early(leg),
+                },
+                Some(_) => unreachable!(),
+            },
+        }
+    }
+
+    /// The leg once its dialog is confirmed.
+    pub fn stand(self, remote: Remote) -> CalleeLeg<Standing>
+        ensures { result ≡ with_dialogue self.leg (met self.leg.dialogue remote) }
+    {
+        let Tried { leg } = self;
+        match leg {
+            TriedLeg::Asked(leg) => leg.stand(remote),
+            TriedLeg::Early(leg) => leg.stand(remote),
+        }
+    }
+
+    /// Takes note of a request of the callee, or refuses it.
+    pub fn hear(&mut self, request: &Hearing, busy: InFlight) -> Result<(), DialogueFault>
+        ensures answer { result ≡ says self.old.leg request.now busy }
+        ensures heard { OnOk result (self.new ≡ record self.old { leg = having_heard self.old.leg request.now }) }
+        ensures refused { OnErr result (self.new ≡ self.old) }
+    {
+        match &mut self.leg {
+            TriedLeg::Asked(leg) => hear(leg, request, busy),
+            TriedLeg::Early(leg) => hear(leg, request, busy),
+        }
+    }
+
+    /// Ends the leg, and gives its meter.
+    pub fn leave(self) -> Option<Meter>
+        ensures { result ≡ self.leg.meter }
+    {
+        let Tried { leg } = self;
+        match leg {
+            TriedLeg::Asked(leg) => {
+                let Ended { meter } = leg.leave();
+                meter
+            }
+            TriedLeg::Early(leg) => {
+                let Ended { meter } = leg.leave();
+                meter
+            }
+        }
+    }
+}
+
+/// Lets the caller's leg go, whose call is given up.
+pub fn give_up_caller(caller: CallerLeg<Standing>, at: Moment) {
+    let Ended { meter } = caller.leave();
+    give_up_meter(meter, at);
+}
+
+impl Trial {
+    /// Lets both legs go, whose call is given up.
+    pub fn give_up(self, at: Moment) {
+        let Trial {
+            caller,
+            callee,
+            attempt: _,
+        } = self;
+        give_up_caller(caller, at);
+        give_up_meter(callee.leave(), at);
+    }
+}
+
+impl Pair {
+    /// Lets both legs go, whose call is given up.
+    pub fn give_up(self, at: Moment) {
+        let Pair {
+            caller,
+            callee,
+            service: _,
+        } = self;
+        give_up_caller(caller, at);
+        let Ended { meter } = callee.leave();
+        give_up_meter(meter, at);
+    }
+}

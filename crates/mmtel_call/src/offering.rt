@@ -1,0 +1,174 @@
+//! How a call is offered to a target.
+ghost use Rattle.std.specs.Prelude.{◌≡◌, false, IfOk, OnOk};
+ghost use Rattle.std.specs.Option.{option_copied};
+ghost use Rattle.mmtel_answers.specs.Attempts.{called};
+ghost use Rattle.mmtel_desk.specs.Desks.{drew, token};
+ghost use Rattle.mmtel_desk.specs.Invitations.{sent};
+ghost use Rattle.mmtel_types.specs.declared.causes.Cause.TheVariants.{Ended as HasEnded};
+ghost use Rattle.mmtel_charging.specs.declared.rows.Kind.TheVariants.{Terminating};
+ghost use Rattle.mmtel_call.specs.Calls.{Offered, Over};
+ghost use Rattle.mmtel_call.specs.Closing.{meter_for};
+ghost use Rattle.mmtel_call.specs.Offering.{aim_at, dialog_of, next_attempt, offer, sent_to};
+
+use crate::calls::{Attempt, Call, Opening, Phase, Service, Trial, Tried, TriedLeg};
+use crate::closing::meter_for;
+use crate::legs::give_up_caller;
+use crate::settings::Setting;
+use mmtel_answers::{Aim, called, diverted_aim, first_aim};
+use mmtel_charging::Kind;
+use mmtel_desk::{Desk, Invitation};
+use mmtel_leg::{CalleeLeg, CallerLeg, Dialogue, Standing};
+use mmtel_scan::NoMemory;
+use mmtel_targets::Target;
+use mmtel_transaction::{DueWord, Emit};
+use mmtel_types::{Moment, Peer, Side};
+use std::alloc::Global;
+
+/// The longest time that an attempt may take, in milliseconds.
+const LONGEST_TIME: u64 = 180_000;
+
+impl Opening {
+    /// To whom an attempt goes: to the first target as it was asked for, or to that of a diversion by this cause.
+    pub fn aim_at(
+        &self,
+        alloc: Global,
+        peer: Peer,
+        cause: Option<u16>,
+        target: &Target,
+    ) -> Result<Aim, NoMemory>
+        ensures { IfOk result (λ aim. aim ≡ aim_at self.now peer cause target.now) }
+    {
+        match cause {
+            None => first_aim(alloc, peer, self.routes.items(), &self.invite),
+            Some(cause) => diverted_aim(alloc, peer, self.routes.items(), &target.uri, cause),
+        }
+    }
+}
+
+impl Call {
+    /// The number of the next attempt.
+    fn next_attempt(&self) -> u64
+        ensures { result ≡ next_attempt self.now }
+    {
+        self.attempts.saturating_add(1)
+    }
+
+    /// Sends the INVITE of an attempt, and arms the longest time that it may take. Gives the INVITE as it was sent.
+    fn send_offer(
+        &self,
+        alloc: Global,
+        setting: &Setting<'_>,
+        at: Moment,
+        service: Option<&Service>,
+        waiting: bool,
+        aim: Aim,
+        desk: &mut Desk,
+    ) -> Result<Invitation, NoMemory>
+        ensures done { OnOk result (desk.new ≡ sent_to setting.now at (option_copied service.entry) waiting aim self.now desk.old) }
+        ensures sent { IfOk result (λ i. i ≡ sent (dialog_of self.now.opening aim desk.old) 1 (token (drew (drew desk.old)))) }
+    {
+        let opening = &self.opening;
+        let peer = aim.peer;
+        let lines = self.shown_to(alloc, setting, service, Side::Caller, peer, &opening.invite)?;
+        let invitation = desk.offer(
+            alloc,
+            setting.sip,
+            aim,
+            &opening.invite,
+            opening.restricted,
+            lines.items(),
+            waiting,
+        )?;
+        desk.emit(
+            alloc,
+            Emit::Arm {
+                call: opening.number,
+                what: DueWord::Cap(self.next_attempt()),
+                at: at.ms() + LONGEST_TIME,
+            },
+        )?;
+        Ok(invitation)
+    }
+
+    /// The call waits for the answer to this INVITE, whose dialog the target's leg keeps.
+    fn await_answer(
+        &mut self,
+        at: Moment,
+        caller: CallerLeg<Standing>,
+        service: Option<Service>,
+        invitation: Invitation,
+        dialogue: Dialogue,
+    )
+        requires { self.old.phase ≡ Over HasEnded }
+        ensures { self.new ≡ record self.old { attempts = next_attempt self.old; phase = Offered (record { caller = caller; callee = record { leg = record { dialogue = called dialogue; meter = meter_for Terminating self.old at service }; is_early = false }; attempt = record { number = next_attempt self.old; service = service; rang = false; invitation = invitation } }) } }
+    {
+        let number = self.next_attempt();
+        let meter = meter_for(Kind::Terminating, self, at, service.as_ref());
+        let leg = CalleeLeg::begun(called(dialogue), meter);
+        self.attempts = number;
+        self.put_phase(Phase::Offered(Trial {
+            caller,
+            callee: Tried {
+                leg: TriedLeg::Asked(leg),
+            },
+            attempt: Attempt {
+                number,
+                service,
+                rang: false,
+                invitation,
+            },
+        }));
+    }
+
+    /// Offers the call to a target, as waiting or not.
+    ///
+    /// # Errors
+    ///
+    /// Want of memory alone; the legs are then given up.
+    pub fn offer(
+        &mut self,
+        alloc: Global,
+        setting: &Setting<'_>,
+        at: Moment,
+        caller: CallerLeg<Standing>,
+        service: Option<Service>,
+        waiting: bool,
+        aim: Aim,
+        desk: &mut Desk,
+    ) -> Result<(), NoMemory>
+        requires { self.old.phase ≡ Over HasEnded }
+        ensures call { OnOk result (self.new ≡ (offer setting.now at caller service waiting aim self.old desk.old).call) }
+        ensures desk { OnOk result (desk.new ≡ (offer setting.now at caller service waiting aim self.old desk.old).desk) }
+    {
+        match self.sent_offer(alloc, setting, at, service.as_ref(), waiting, aim, desk) {
+            Ok((invitation, dialogue)) => {
+                self.await_answer(at, caller, service, invitation, dialogue);
+                Ok(())
+            }
+            Err(error) => {
+                give_up_caller(caller, at);
+                Err(error)
+            }
+        }
+    }
+
+    /// The same INVITE, and its dialog once more.
+    fn sent_offer(
+        &self,
+        alloc: Global,
+        setting: &Setting<'_>,
+        at: Moment,
+        service: Option<&Service>,
+        waiting: bool,
+        aim: Aim,
+        desk: &mut Desk,
+    ) -> Result<(Invitation, Dialogue), NoMemory>
+        ensures done { OnOk result (desk.new ≡ sent_to setting.now at (option_copied service.entry) waiting aim self.now desk.old) }
+        ensures sent { IfOk result (λ r. r.0 ≡ sent (dialog_of self.now.opening aim desk.old) 1 (token (drew (drew desk.old)))) }
+        ensures dialog { IfOk result (λ r. r.1 ≡ dialog_of self.now.opening aim desk.old) }
+    {
+        let invitation = self.send_offer(alloc, setting, at, service, waiting, aim, desk)?;
+        let dialogue = invitation.dialogue.copied(alloc)?;
+        Ok((invitation, dialogue))
+    }
+}

@@ -1,0 +1,335 @@
+//! Responses, silence and deadlines of a call that is offered to a target and not answered.
+ghost use Rattle.std.specs.Prelude.{◌≡◌, ◌≤◌, None, Some, OnOk};
+ghost use Rattle.std.specs.Option.{option_copied};
+ghost use Rattle.mmtel_desk.specs.Invitations.{once_cancelled};
+ghost use Rattle.mmtel_desk.specs.Sending.{cancelled};
+ghost use Rattle.mmtel_answers.specs.Said.{status_of};
+ghost use Rattle.mmtel_call.specs.Closing.{with_past};
+ghost use Rattle.mmtel_precedence.specs.Attempts.{end_by_final};
+ghost use Rattle.mmtel_precedence.specs.Told.{told_end};
+ghost use Rattle.mmtel_types.specs.declared.causes.Cause.TheVariants.{Ended as HasEnded};
+ghost use Rattle.mmtel_call.specs.Calls.{Offered, Over};
+ghost use Rattle.mmtel_call.specs.Decisions.{decided_after};
+ghost use Rattle.mmtel_call.specs.Diverting.{goes_on, on_end};
+ghost use Rattle.mmtel_call.specs.Ringing.{failed, loose, on_due, on_response, silenced, timed_out, with_loose};
+ghost use Rattle.mmtel_call.specs.Site.{standing};
+
+use crate::attempts::{end_of, end_of_time};
+use crate::calls::{Attempt, Call, Phase, Service, Trial, Tried};
+use crate::deciding::redirect_of;
+use crate::legs::give_up_caller;
+use crate::settings::{Present, Setting};
+use mmtel_answers::{Hearing, status_of};
+use mmtel_desk::{Desk, Invitation};
+use mmtel_leg::{CallerLeg, Standing};
+use mmtel_lex::Uri;
+use mmtel_precedence::AttemptEnd;
+use mmtel_scan::NoMemory;
+use mmtel_transaction::{DueWord, TKey};
+use std::alloc::Global;
+
+impl Call {
+    /// An attempt of this account ended so, its leg with it; a final that was heard may be handed on.
+    fn go_on_from(
+        &mut self,
+        alloc: Global,
+        setting: &Setting<'_>,
+        present: &Present<'_>,
+        caller: CallerLeg<Standing>,
+        callee: Tried,
+        service: Option<&Service>,
+        how: &AttemptEnd<'_>,
+        response: Option<&Hearing>,
+        desk: &mut Desk,
+    ) -> Result<(), NoMemory>
+        requires { self.old.phase ≡ Over HasEnded }
+        ensures call { OnOk result (self.new ≡ (on_end setting.now (standing present.now) caller (option_copied service.entry) (option_copied response.entry) (decided_after self.old.opening present.now.at (option_copied service.entry) (told_end how.entry.now)) (with_past callee.leg.meter self.old) desk.old).call) }
+        ensures desk { OnOk result (desk.new ≡ (on_end setting.now (standing present.now) caller (option_copied service.entry) (option_copied response.entry) (decided_after self.old.opening present.now.at (option_copied service.entry) (told_end how.entry.now)) (with_past callee.leg.meter self.old) desk.old).desk) }
+    {
+        let kept = self.keep_meter(alloc, callee.leave(), present.at);
+        match kept {
+            Err(error) => {
+                give_up_caller(caller, present.at);
+                Err(error)
+            }
+            Ok(()) => self.go_on(
+                alloc, setting, present, caller, service, how, response, desk,
+            ),
+        }
+    }
+
+    /// The attempt ended so; a final that was heard may be handed on.
+    fn go_on_after(
+        &mut self,
+        alloc: Global,
+        setting: &Setting<'_>,
+        present: &Present<'_>,
+        x: Trial,
+        how: &AttemptEnd<'_>,
+        response: Option<&Hearing>,
+        desk: &mut Desk,
+    ) -> Result<(), NoMemory>
+        requires { self.old.phase ≡ Over HasEnded }
+        ensures call { OnOk result (self.new ≡ (goes_on setting.now (standing present.now) x (told_end how.entry.now) (option_copied response.entry) self.old desk.old).call) }
+        ensures desk { OnOk result (desk.new ≡ (goes_on setting.now (standing present.now) x (told_end how.entry.now) (option_copied response.entry) self.old desk.old).desk) }
+    {
+        let Trial {
+            caller,
+            callee,
+            attempt,
+        } = x;
+        let service = attempt.service.as_ref();
+        self.go_on_from(
+            alloc, setting, present, caller, callee, service, how, response, desk,
+        )
+    }
+
+    /// The same, said of the call as it was offered.
+    fn go_on_offered(
+        &mut self,
+        alloc: Global,
+        setting: &Setting<'_>,
+        present: &Present<'_>,
+        x: Trial,
+        how: &AttemptEnd<'_>,
+        desk: &mut Desk,
+    ) -> Result<(), NoMemory>
+        requires { self.old.phase ≡ Over HasEnded }
+        ensures call { OnOk result (self.new ≡ (goes_on setting.now (standing present.now) x (told_end how.entry.now) None (record self.old { phase = Offered x }) desk.old).call) }
+        ensures desk { OnOk result (desk.new ≡ (goes_on setting.now (standing present.now) x (told_end how.entry.now) None (record self.old { phase = Offered x }) desk.old).desk) }
+    {
+        self.go_on_after(alloc, setting, present, x, how, None, desk)
+    }
+
+    /// The attempt ended by a final of this status, which was heard and may be handed on.
+    fn go_on_from_final(
+        &mut self,
+        alloc: Global,
+        setting: &Setting<'_>,
+        present: &Present<'_>,
+        x: Trial,
+        redirect: Option<&Uri>,
+        m: &Hearing,
+        code: u16,
+        desk: &mut Desk,
+    ) -> Result<(), NoMemory>
+        requires phase { self.old.phase ≡ Over HasEnded }
+        requires code { 200 ≤ code }
+        ensures call { OnOk result (self.new ≡ (goes_on setting.now (standing present.now) x (end_by_final code (option_copied redirect.entry) x.attempt.rang) (Some m.now) self.old desk.old).call) }
+        ensures desk { OnOk result (desk.new ≡ (goes_on setting.now (standing present.now) x (end_by_final code (option_copied redirect.entry) x.attempt.rang) (Some m.now) self.old desk.old).desk) }
+    {
+        let how = end_of(code, redirect, x.attempt.rang);
+        self.go_on_after(alloc, setting, present, x, &how, Some(m), desk)
+    }
+
+    /// The same, where the response redirects to this target or to none.
+    fn go_on_redirected(
+        &mut self,
+        alloc: Global,
+        setting: &Setting<'_>,
+        present: &Present<'_>,
+        x: Trial,
+        redirect: Option<Uri>,
+        m: &Hearing,
+        code: u16,
+        desk: &mut Desk,
+    ) -> Result<(), NoMemory>
+        requires phase { self.old.phase ≡ Over HasEnded }
+        requires code { 200 ≤ code }
+        ensures call { OnOk result (self.new ≡ (goes_on setting.now (standing present.now) x (end_by_final code redirect x.attempt.rang) (Some m.now) self.old desk.old).call) }
+        ensures desk { OnOk result (desk.new ≡ (goes_on setting.now (standing present.now) x (end_by_final code redirect x.attempt.rang) (Some m.now) self.old desk.old).desk) }
+    {
+        let target = redirect.as_ref();
+        self.go_on_from_final(alloc, setting, present, x, target, m, code, desk)
+    }
+
+    /// A final from 300 of the target.
+    fn hear_failure(
+        &mut self,
+        alloc: Global,
+        setting: &Setting<'_>,
+        present: &Present<'_>,
+        x: Trial,
+        key: TKey,
+        m: &Hearing,
+        code: u16,
+        desk: &mut Desk,
+    ) -> Result<(), NoMemory>
+        requires phase { self.old.phase ≡ Over HasEnded }
+        requires code { 200 ≤ code }
+        ensures call { OnOk result (self.new ≡ (failed setting.now (standing present.now) x key m.now code self.old desk.old).call) }
+        ensures desk { OnOk result (desk.new ≡ (failed setting.now (standing present.now) x key m.now code self.old desk.old).desk) }
+    {
+        let acked = desk.acknowledge_final(alloc, setting.sip, key, &x.attempt.invitation, m);
+        let redirect = redirect_of(alloc, m);
+        match acked {
+            Err(error) => {
+                x.give_up(present.at);
+                Err(error)
+            }
+            Ok(()) => match redirect {
+                Err(error) => {
+                    x.give_up(present.at);
+                    Err(error)
+                }
+                Ok(redirect) => {
+                    self.go_on_redirected(alloc, setting, present, x, redirect, m, code, desk)
+                }
+            },
+        }
+    }
+
+    /// A response of the target.
+    pub fn hear_response(
+        &mut self,
+        alloc: Global,
+        setting: &Setting<'_>,
+        present: &Present<'_>,
+        x: Trial,
+        key: TKey,
+        m: &Hearing,
+        desk: &mut Desk,
+    ) -> Result<(), NoMemory>
+        requires { self.old.phase ≡ Over HasEnded }
+        ensures call { OnOk result (self.new ≡ (on_response setting.now (standing present.now) x key m.now (status_of m.now.heard.start) self.old desk.old).call) }
+        ensures desk { OnOk result (desk.new ≡ (on_response setting.now (standing present.now) x key m.now (status_of m.now.heard.start) self.old desk.old).desk) }
+    {
+        let code = status_of(m.message.start());
+        if code < 101 {
+            self.hear_trying(x, key);
+            return Ok(());
+        }
+        if code < 200 {
+            return self.hear_proceeding(alloc, setting, present.at, x, key, m, code, desk);
+        }
+        if code < 300 {
+            return self.hear_answer(alloc, setting, present.at, x, key, m, desk);
+        }
+        self.hear_failure(alloc, setting, present, x, key, m, code, desk)
+    }
+
+    /// No response came from the target at all.
+    pub fn hear_silence(
+        &mut self,
+        alloc: Global,
+        setting: &Setting<'_>,
+        present: &Present<'_>,
+        x: Trial,
+        desk: &mut Desk,
+    ) -> Result<(), NoMemory>
+        requires { self.old.phase ≡ Over HasEnded }
+        ensures call { OnOk result (self.new ≡ (silenced setting.now (standing present.now) x (record self.old { phase = Offered x }) desk.old).call) }
+        ensures desk { OnOk result (desk.new ≡ (silenced setting.now (standing present.now) x (record self.old { phase = Offered x }) desk.old).desk) }
+    {
+        if x.attempt.rang {
+            self.put_phase(Phase::Offered(x));
+            return Ok(());
+        }
+        let how = AttemptEnd::NotReachable(408);
+        self.go_on_offered(alloc, setting, present, x, &how, desk)
+    }
+
+    /// An attempt of this account, which ended so, is left with its INVITE: CANCEL to the target where that is due, and the call goes on.
+    fn leave_for_next(
+        &mut self,
+        alloc: Global,
+        setting: &Setting<'_>,
+        present: &Present<'_>,
+        caller: CallerLeg<Standing>,
+        callee: Tried,
+        service: Option<&Service>,
+        invitation: Invitation,
+        how: &AttemptEnd<'_>,
+        desk: &mut Desk,
+    ) -> Result<(), NoMemory>
+        requires { self.old.phase ≡ Over HasEnded }
+        ensures call { OnOk result (self.new ≡ (on_end setting.now (standing present.now) caller (option_copied service.entry) None (decided_after self.old.opening present.now.at (option_copied service.entry) (told_end how.entry.now)) (with_past callee.leg.meter (with_loose (loose (once_cancelled invitation)) self.old)) (cancelled setting.now.sip invitation desk.old)).call) }
+        ensures desk { OnOk result (desk.new ≡ (on_end setting.now (standing present.now) caller (option_copied service.entry) None (decided_after self.old.opening present.now.at (option_copied service.entry) (told_end how.entry.now)) (with_past callee.leg.meter (with_loose (loose (once_cancelled invitation)) self.old)) (cancelled setting.now.sip invitation desk.old)).desk) }
+    {
+        let cancelled = desk.cancel(alloc, setting.sip, &invitation);
+        let left = self.leave_attempt(alloc, invitation);
+        let gone = self.go_on_from(
+            alloc, setting, present, caller, callee, service, how, None, desk,
+        );
+        cancelled?;
+        left?;
+        gone
+    }
+
+    /// The time of an attempt passed: CANCEL to the target, and the call goes on.
+    fn time_out(
+        &mut self,
+        alloc: Global,
+        setting: &Setting<'_>,
+        present: &Present<'_>,
+        x: Trial,
+        how: &AttemptEnd<'_>,
+        desk: &mut Desk,
+    ) -> Result<(), NoMemory>
+        requires { self.old.phase ≡ Over HasEnded }
+        ensures call { OnOk result (self.new ≡ (timed_out setting.now (standing present.now) x (told_end how.entry.now) self.old desk.old).call) }
+        ensures desk { OnOk result (desk.new ≡ (timed_out setting.now (standing present.now) x (told_end how.entry.now) self.old desk.old).desk) }
+    {
+        let Trial {
+            caller,
+            callee,
+            attempt,
+        } = x;
+        let Attempt {
+            number: _,
+            service,
+            rang: _,
+            invitation,
+        } = attempt;
+        let service = service.as_ref();
+        self.leave_for_next(
+            alloc, setting, present, caller, callee, service, invitation, how, desk,
+        )
+    }
+
+    /// The same, said of the call as it was offered.
+    fn time_out_offered(
+        &mut self,
+        alloc: Global,
+        setting: &Setting<'_>,
+        present: &Present<'_>,
+        x: Trial,
+        how: &AttemptEnd<'_>,
+        desk: &mut Desk,
+    ) -> Result<(), NoMemory>
+        requires { self.old.phase ≡ Over HasEnded }
+        ensures call { OnOk result (self.new ≡ (timed_out setting.now (standing present.now) x (told_end how.entry.now) (record self.old { phase = Offered x }) desk.old).call) }
+        ensures desk { OnOk result (desk.new ≡ (timed_out setting.now (standing present.now) x (told_end how.entry.now) (record self.old { phase = Offered x }) desk.old).desk) }
+    {
+        self.time_out(alloc, setting, present, x, how, desk)
+    }
+
+    /// A deadline of the call came, which is that of this attempt or has nothing to say.
+    pub fn ring_out(
+        &mut self,
+        alloc: Global,
+        setting: &Setting<'_>,
+        present: &Present<'_>,
+        x: Trial,
+        what: DueWord,
+        desk: &mut Desk,
+    ) -> Result<(), NoMemory>
+        requires { self.old.phase ≡ Over HasEnded }
+        ensures call { OnOk result (self.new ≡ (on_due setting.now (standing present.now) x what (record self.old { phase = Offered x }) desk.old).call) }
+        ensures desk { OnOk result (desk.new ≡ (on_due setting.now (standing present.now) x what (record self.old { phase = Offered x }) desk.old).desk) }
+    {
+        match what {
+            DueWord::NoReply(number) if number == x.attempt.number => {
+                self.time_out_offered(alloc, setting, present, x, &AttemptEnd::NoReply, desk)
+            }
+            DueWord::Cap(number) if number == x.attempt.number => {
+                let how = end_of_time(x.attempt.rang);
+                self.time_out_offered(alloc, setting, present, x, &how, desk)
+            }
+            _ => {
+                self.put_phase(Phase::Offered(x));
+                Ok(())
+            }
+        }
+    }
+}

@@ -1,0 +1,461 @@
+//! What an answered call does on each signal, by its stage.
+ghost use Rattle.std.specs.Prelude.{◌≡◌, OnErr, OnOk};
+ghost use Rattle.mmtel_types.specs.declared.causes.Cause.TheVariants.{Ended as HasEnded};
+ghost use Rattle.mmtel_call.specs.Calls.{Answered, Over, Parting, Stood};
+ghost use Rattle.mmtel_call.specs.Stages.{busy_in, has_left, is_due_at, left_by, on_ack_at, on_bye, on_cancel_at, on_due_at, on_heard_at, on_invite, on_request_at, on_response_at, on_silence_at, rung_out};
+ghost use Rattle.mmtel_call.specs.Answered.{leg_of, with_leg};
+ghost use Rattle.mmtel_call.specs.Requests.{having_heard, says};
+
+use crate::answered::{acknowledges, is_same_side};
+use crate::calls::{Call, Pair, Phase, Stage, Success};
+use crate::legs::hear;
+use crate::settings::Setting;
+use mmtel_answers::Hearing;
+use mmtel_desk::Desk;
+use mmtel_leg::{DialogueFault, InFlight};
+use mmtel_message::is_method;
+use mmtel_scan::NoMemory;
+use mmtel_transaction::{DueWord, TKey};
+use mmtel_types::{Moment, Side};
+use std::alloc::Global;
+
+impl Stage {
+    /// Which INVITE stands in the way of one of this side.
+    fn busy(&self, side: Side) -> InFlight
+        ensures { result ≡ busy_in self.now side }
+    {
+        match self {
+            Stage::Answered(_, _) => InFlight::Own,
+            Stage::Parting(_, _) => InFlight::Own,
+            Stage::Talking => InFlight::None,
+            Stage::Asking(asking, _) => if is_same_side(*asking, side) {
+                InFlight::Theirs
+            } else {
+                InFlight::Own
+            },
+        }
+    }
+}
+
+impl Pair {
+    /// Takes note of a request of a side, or refuses it.
+    fn hear(&mut self, side: Side, m: &Hearing, busy: InFlight) -> Result<(), DialogueFault>
+        ensures answer { result ≡ says (leg_of side self.old) m.now busy }
+        ensures heard { OnOk result (self.new ≡ with_leg side (having_heard (leg_of side self.old) m.now) self.old) }
+        ensures refused { OnErr result (self.new ≡ self.old) }
+    {
+        match side {
+            Side::Caller => hear(&mut self.caller, m, busy),
+            Side::Callee => hear(&mut self.callee, m, busy),
+        }
+    }
+}
+
+impl Stage {
+    /// Whether a deadline is that of the 2xx which waits for its ACK.
+    fn is_due(&self, what: DueWord) -> bool
+        ensures { result ≡ is_due_at self.now what }
+    {
+        match self {
+            Stage::Answered(_, success) => success.is_due(what),
+            Stage::Parting(_, success) => success.is_due(what),
+            Stage::Talking => false,
+            Stage::Asking(_, _) => false,
+        }
+    }
+
+    /// Whether the side has left before.
+    fn has_left(&self, side: Side) -> bool
+        ensures { result ≡ has_left self.now side }
+    {
+        match self {
+            Stage::Answered(_, _) => false,
+            Stage::Parting(waiting, _) => !is_same_side(*waiting, side),
+            Stage::Talking => false,
+            Stage::Asking(_, _) => false,
+        }
+    }
+}
+
+impl Call {
+    /// The call stays where it stood.
+    pub fn stay(&mut self, phase: Phase) -> Result<(), NoMemory>
+        requires { self.old.phase ≡ Over HasEnded }
+        ensures { self.new ≡ record self.old { phase = phase } }
+    {
+        self.put_phase(phase);
+        Ok(())
+    }
+
+    /// An INVITE of a side that its leg heard.
+    fn take_invite(
+        &mut self,
+        alloc: Global,
+        setting: &Setting<'_>,
+        at: Moment,
+        x: Pair,
+        stage: Stage,
+        side: Side,
+        key: TKey,
+        m: Hearing,
+        desk: &mut Desk,
+    ) -> Result<(), NoMemory>
+        requires { self.old.phase ≡ Over HasEnded }
+        ensures call { OnOk result (self.new ≡ (on_invite stage setting.now x side key m (record self.old { phase = Stood x stage }) desk.old).call) }
+        ensures desk { OnOk result (desk.new ≡ (on_invite stage setting.now x side key m (record self.old { phase = Stood x stage }) desk.old).desk) }
+    {
+        match stage {
+            Stage::Talking => self.invite_across(alloc, setting, at, x, side, key, m, desk),
+            Stage::Answered(waiting, success) => self.stay(Phase::Stood(
+                x,
+                Stage::Answered(waiting, success),
+            )),
+            Stage::Parting(waiting, success) => self.stay(Phase::Stood(
+                x,
+                Stage::Parting(waiting, success),
+            )),
+            Stage::Asking(asking, q) => self.stay(Phase::Stood(x, Stage::Asking(asking, q))),
+        }
+    }
+
+    /// A side leaves, whose BYE was answered.
+    fn leave_by(
+        &mut self,
+        alloc: Global,
+        setting: &Setting<'_>,
+        at: Moment,
+        x: Pair,
+        stage: Stage,
+        side: Side,
+        m: &Hearing,
+        desk: &mut Desk,
+    ) -> Result<(), NoMemory>
+        requires { self.old.phase ≡ Over HasEnded }
+        ensures call { OnOk result (self.new ≡ (left_by stage setting.now at x side m.now (record self.old { phase = Stood x stage }) desk.old).call) }
+        ensures desk { OnOk result (desk.new ≡ (left_by stage setting.now at x side m.now (record self.old { phase = Stood x stage }) desk.old).desk) }
+    {
+        match stage {
+            Stage::Answered(waiting, success) => {
+                self.bye_before_ack(alloc, setting, at, x, waiting, success, side, desk)
+            }
+            Stage::Parting(_waiting, success) => {
+                drop(success);
+                self.end_pair(alloc, at, x, desk)
+            }
+            Stage::Talking => self.bye_across(alloc, setting, at, x, side, m, desk),
+            Stage::Asking(asking, q) => {
+                self.bye_while_asking(alloc, setting, at, x, asking, q, side, desk)
+            }
+        }
+    }
+
+    /// A BYE of a side that its leg heard.
+    fn take_bye(
+        &mut self,
+        alloc: Global,
+        setting: &Setting<'_>,
+        at: Moment,
+        x: Pair,
+        stage: Stage,
+        side: Side,
+        key: TKey,
+        m: &Hearing,
+        desk: &mut Desk,
+    ) -> Result<(), NoMemory>
+        requires { self.old.phase ≡ Over HasEnded }
+        ensures call { OnOk result (self.new ≡ (on_bye stage setting.now at x side key m.now (record self.old { phase = Stood x stage }) desk.old).call) }
+        ensures desk { OnOk result (desk.new ≡ (on_bye stage setting.now at x side key m.now (record self.old { phase = Stood x stage }) desk.old).desk) }
+    {
+        if stage.has_left(side) {
+            let replied = self.reply_to(alloc, setting, key, m, 481, desk);
+            self.put_phase(Phase::Stood(x, stage));
+            return replied;
+        }
+        let replied = self.reply_to(alloc, setting, key, m, 200, desk);
+        let left = self.leave_by(alloc, setting, at, x, stage, side, m, desk);
+        replied?;
+        left
+    }
+
+    /// A request of a side that its leg heard.
+    fn take_request(
+        &mut self,
+        alloc: Global,
+        setting: &Setting<'_>,
+        at: Moment,
+        x: Pair,
+        stage: Stage,
+        side: Side,
+        key: TKey,
+        m: Hearing,
+        desk: &mut Desk,
+    ) -> Result<(), NoMemory>
+        requires { self.old.phase ≡ Over HasEnded }
+        ensures call { OnOk result (self.new ≡ (on_heard_at stage setting.now at x side key m (record self.old { phase = Stood x stage }) desk.old).call) }
+        ensures desk { OnOk result (desk.new ≡ (on_heard_at stage setting.now at x side key m (record self.old { phase = Stood x stage }) desk.old).desk) }
+    {
+        if is_method(b"INVITE", m.message.start()) {
+            return self.take_invite(alloc, setting, at, x, stage, side, key, m, desk);
+        }
+        if is_method(b"BYE", m.message.start()) {
+            return self.take_bye(alloc, setting, at, x, stage, side, key, &m, desk);
+        }
+        let answered = self.answer_unlisted(alloc, setting, key, &m, desk);
+        self.put_phase(Phase::Stood(x, stage));
+        answered
+    }
+
+    /// A request of a side of an answered call.
+    pub fn hear_request_at(
+        &mut self,
+        alloc: Global,
+        setting: &Setting<'_>,
+        at: Moment,
+        x: Pair,
+        stage: Stage,
+        side: Side,
+        key: TKey,
+        m: Hearing,
+        desk: &mut Desk,
+    ) -> Result<(), NoMemory>
+        requires { self.old.phase ≡ Over HasEnded }
+        ensures call { OnOk result (self.new ≡ (on_request_at stage setting.now at x side key m (record self.old { phase = Stood x stage }) desk.old).call) }
+        ensures desk { OnOk result (desk.new ≡ (on_request_at stage setting.now at x side key m (record self.old { phase = Stood x stage }) desk.old).desk) }
+    {
+        let mut x = x;
+        match x.hear(side, &m, stage.busy(side)) {
+            Ok(()) => self.take_request(alloc, setting, at, x, stage, side, key, m, desk),
+            Err(fault) => {
+                let refused = self.refuse_unheard(alloc, setting, key, &m, fault, desk);
+                self.put_phase(Phase::Stood(x, stage));
+                refused
+            }
+        }
+    }
+
+    /// The ACK of a 2xx, which this call waited for or did not.
+    fn take_ack(
+        &mut self,
+        alloc: Global,
+        setting: &Setting<'_>,
+        at: Moment,
+        x: Pair,
+        waiting: Side,
+        success: Success,
+        side: Side,
+        m: &Hearing,
+        desk: &mut Desk,
+    ) -> Result<(), NoMemory>
+        requires { self.old.phase ≡ Over HasEnded }
+        ensures call { OnOk result (self.new ≡ (on_ack_at (Answered waiting success) setting.now at x side m.now (record self.old { phase = Stood x (Answered waiting success) }) desk.old).call) }
+        ensures desk { OnOk result (desk.new ≡ (on_ack_at (Answered waiting success) setting.now at x side m.now (record self.old { phase = Stood x (Answered waiting success) }) desk.old).desk) }
+    {
+        match acknowledges(alloc, waiting, &success, side, m) {
+            Err(error) => {
+                x.give_up(at);
+                Err(error)
+            }
+            Ok(true) => self.acknowledge_across(alloc, setting, x, side, &success, m, desk),
+            Ok(false) => self.stay(Phase::Stood(x, Stage::Answered(waiting, success))),
+        }
+    }
+
+    /// The same in a parting call.
+    fn take_last_ack(
+        &mut self,
+        alloc: Global,
+        setting: &Setting<'_>,
+        at: Moment,
+        x: Pair,
+        waiting: Side,
+        success: Success,
+        side: Side,
+        m: &Hearing,
+        desk: &mut Desk,
+    ) -> Result<(), NoMemory>
+        requires { self.old.phase ≡ Over HasEnded }
+        ensures call { OnOk result (self.new ≡ (on_ack_at (Parting waiting success) setting.now at x side m.now (record self.old { phase = Stood x (Parting waiting success) }) desk.old).call) }
+        ensures desk { OnOk result (desk.new ≡ (on_ack_at (Parting waiting success) setting.now at x side m.now (record self.old { phase = Stood x (Parting waiting success) }) desk.old).desk) }
+    {
+        match acknowledges(alloc, waiting, &success, side, m) {
+            Err(error) => {
+                x.give_up(at);
+                Err(error)
+            }
+            Ok(true) => self.part(alloc, setting, at, x, side, desk),
+            Ok(false) => self.stay(Phase::Stood(x, Stage::Parting(waiting, success))),
+        }
+    }
+
+    /// An ACK of a side of an answered call.
+    pub fn hear_ack_at(
+        &mut self,
+        alloc: Global,
+        setting: &Setting<'_>,
+        at: Moment,
+        x: Pair,
+        stage: Stage,
+        side: Side,
+        m: &Hearing,
+        desk: &mut Desk,
+    ) -> Result<(), NoMemory>
+        requires { self.old.phase ≡ Over HasEnded }
+        ensures call { OnOk result (self.new ≡ (on_ack_at stage setting.now at x side m.now (record self.old { phase = Stood x stage }) desk.old).call) }
+        ensures desk { OnOk result (desk.new ≡ (on_ack_at stage setting.now at x side m.now (record self.old { phase = Stood x stage }) desk.old).desk) }
+    {
+        match stage {
+            Stage::Answered(waiting, success) => {
+                self.take_ack(alloc, setting, at, x, waiting, success, side, m, desk)
+            }
+            Stage::Parting(waiting, success) => {
+                self.take_last_ack(alloc, setting, at, x, waiting, success, side, m, desk)
+            }
+            Stage::Talking => self.stay(Phase::Stood(x, Stage::Talking)),
+            Stage::Asking(asking, q) => self.stay(Phase::Stood(x, Stage::Asking(asking, q))),
+        }
+    }
+
+    /// A CANCEL in an answered call, which had its 200.
+    pub fn hear_cancel_at(
+        &mut self,
+        alloc: Global,
+        setting: &Setting<'_>,
+        x: Pair,
+        stage: Stage,
+        invite: TKey,
+        desk: &mut Desk,
+    ) -> Result<(), NoMemory>
+        requires { self.old.phase ≡ Over HasEnded }
+        ensures call { OnOk result (self.new ≡ (on_cancel_at stage setting.now x invite (record self.old { phase = Stood x stage }) desk.old).call) }
+        ensures desk { OnOk result (desk.new ≡ (on_cancel_at stage setting.now x invite (record self.old { phase = Stood x stage }) desk.old).desk) }
+    {
+        match stage {
+            Stage::Answered(waiting, success) => self.stay(Phase::Stood(
+                x,
+                Stage::Answered(waiting, success),
+            )),
+            Stage::Parting(waiting, success) => self.stay(Phase::Stood(
+                x,
+                Stage::Parting(waiting, success),
+            )),
+            Stage::Talking => self.stay(Phase::Stood(x, Stage::Talking)),
+            Stage::Asking(asking, q) => {
+                if invite.0 == q.key.0 {
+                    return self.cancel_across(alloc, setting, x, asking, q, desk);
+                }
+                self.stay(Phase::Stood(x, Stage::Asking(asking, q)))
+            }
+        }
+    }
+
+    /// A response to the INVITE that was relayed.
+    pub fn hear_response_at(
+        &mut self,
+        alloc: Global,
+        setting: &Setting<'_>,
+        at: Moment,
+        x: Pair,
+        stage: Stage,
+        key: TKey,
+        m: &Hearing,
+        desk: &mut Desk,
+    ) -> Result<(), NoMemory>
+        requires { self.old.phase ≡ Over HasEnded }
+        ensures call { OnOk result (self.new ≡ (on_response_at stage setting.now at x key m.now (record self.old { phase = Stood x stage }) desk.old).call) }
+        ensures desk { OnOk result (desk.new ≡ (on_response_at stage setting.now at x key m.now (record self.old { phase = Stood x stage }) desk.old).desk) }
+    {
+        match stage {
+            Stage::Answered(waiting, success) => self.stay(Phase::Stood(
+                x,
+                Stage::Answered(waiting, success),
+            )),
+            Stage::Parting(waiting, success) => self.stay(Phase::Stood(
+                x,
+                Stage::Parting(waiting, success),
+            )),
+            Stage::Talking => self.stay(Phase::Stood(x, Stage::Talking)),
+            Stage::Asking(asking, q) => {
+                self.hear_response_across(alloc, setting, at, x, asking, q, key, m, desk)
+            }
+        }
+    }
+
+    /// No response came to the INVITE that was relayed.
+    pub fn hear_silence_at(
+        &mut self,
+        alloc: Global,
+        setting: &Setting<'_>,
+        at: Moment,
+        x: Pair,
+        stage: Stage,
+        desk: &mut Desk,
+    ) -> Result<(), NoMemory>
+        requires { self.old.phase ≡ Over HasEnded }
+        ensures call { OnOk result (self.new ≡ (on_silence_at stage setting.now at x (record self.old { phase = Stood x stage }) desk.old).call) }
+        ensures desk { OnOk result (desk.new ≡ (on_silence_at stage setting.now at x (record self.old { phase = Stood x stage }) desk.old).desk) }
+    {
+        match stage {
+            Stage::Answered(waiting, success) => self.stay(Phase::Stood(
+                x,
+                Stage::Answered(waiting, success),
+            )),
+            Stage::Parting(waiting, success) => self.stay(Phase::Stood(
+                x,
+                Stage::Parting(waiting, success),
+            )),
+            Stage::Talking => self.stay(Phase::Stood(x, Stage::Talking)),
+            Stage::Asking(_asking, q) => {
+                self.hear_silence_across(alloc, setting, at, x, &q, desk)
+            }
+        }
+    }
+
+    /// No ACK came of the 2xx that waited for it.
+    fn lapse(
+        &mut self,
+        alloc: Global,
+        setting: &Setting<'_>,
+        at: Moment,
+        x: Pair,
+        stage: Stage,
+        desk: &mut Desk,
+    ) -> Result<(), NoMemory>
+        requires { self.old.phase ≡ Over HasEnded }
+        ensures call { OnOk result (self.new ≡ (rung_out stage setting.now at x (record self.old { phase = Stood x stage }) desk.old).call) }
+        ensures desk { OnOk result (desk.new ≡ (rung_out stage setting.now at x (record self.old { phase = Stood x stage }) desk.old).desk) }
+    {
+        match stage {
+            Stage::Answered(waiting, success) => {
+                drop(success);
+                self.end_unacknowledged(alloc, setting, at, x, waiting, desk)
+            }
+            Stage::Parting(waiting, success) => {
+                drop(success);
+                self.part(alloc, setting, at, x, waiting, desk)
+            }
+            Stage::Talking => self.stay(Phase::Stood(x, Stage::Talking)),
+            Stage::Asking(asking, q) => self.stay(Phase::Stood(x, Stage::Asking(asking, q))),
+        }
+    }
+
+    /// A deadline of an answered call came.
+    pub fn ring_out_at(
+        &mut self,
+        alloc: Global,
+        setting: &Setting<'_>,
+        at: Moment,
+        x: Pair,
+        stage: Stage,
+        what: DueWord,
+        desk: &mut Desk,
+    ) -> Result<(), NoMemory>
+        requires { self.old.phase ≡ Over HasEnded }
+        ensures call { OnOk result (self.new ≡ (on_due_at stage setting.now at x what (record self.old { phase = Stood x stage }) desk.old).call) }
+        ensures desk { OnOk result (desk.new ≡ (on_due_at stage setting.now at x what (record self.old { phase = Stood x stage }) desk.old).desk) }
+    {
+        if stage.is_due(what) {
+            return self.lapse(alloc, setting, at, x, stage, desk);
+        }
+        self.stay(Phase::Stood(x, stage))
+    }
+}

@@ -1,0 +1,393 @@
+//! The step table of a call: which INVITE a response answers, and what a call does on each signal, by its phase.
+ghost use Rattle.std.specs.Prelude.{◌≡◌, IfOk, OnOk};
+ghost use Rattle.std.specs.Option.{option_copied};
+ghost use Rattle.mmtel_answers.specs.Said.{status_of};
+ghost use Rattle.mmtel_types.specs.declared.causes.Cause.TheVariants.{Ended as HasEnded};
+ghost use Rattle.mmtel_call.specs.Calls.{Offered, Over};
+ghost use Rattle.mmtel_call.specs.Ringing.{on_response};
+ghost use Rattle.mmtel_call.specs.Site.{standing};
+ghost use Rattle.mmtel_call.specs.Table.{ack_in, answer_to, answers_invite, behind, branch_in, cancel_in, current, due_in, first_via, invite_answered, invite_silent, is_branch, request_in, response_in, silence_in, silence_of, step};
+
+use crate::calls::{Call, Phase, Stage, Trial};
+use crate::settings::{Present, Setting};
+use crate::signals::Signal;
+use mmtel_answers::Hearing;
+use mmtel_desk::Desk;
+use mmtel_lex::LexFault;
+use mmtel_message::{Via, first_of, param_value, read_cseq, read_via};
+use mmtel_scan::{NoMemory, Text, skip_text};
+use mmtel_transaction::{DueWord, TKey};
+use mmtel_types::{Cause, Moment, Side};
+use std::alloc::Global;
+use std::mem;
+
+/// The branch behind its cookie.
+fn behind_cookie(branch: Option<&[u8]>) -> Option<&[u8]>
+    ensures { option_copied result ≡ behind (option_copied branch.entry) }
+{
+    match branch {
+        None => None,
+        Some(branch) => skip_text(b"z9hG4bK", branch),
+    }
+}
+
+/// The first Via of a message, where it can be read.
+#[tactic(auto, using(crate::proofs::FirstVia::via_read))]
+fn first_via(alloc: Global, m: &Hearing) -> Result<Option<Via>, NoMemory>
+    ensures { IfOk result (λ via. via ≡ first_via m.now.heard.vias) }
+{
+    match first_of(m.message.lines(), b"Via") {
+        None => Ok(None),
+        Some(value) => match read_via(alloc, value) {
+            Ok(via) => Ok(Some(via)),
+            Err(LexFault::Malformed { at: _ }) => Ok(None),
+            Err(LexFault::NoMemory) => Err(NoMemory),
+        },
+    }
+}
+
+/// The branch, behind its cookie, of the first Via of a response.
+fn branch_of(alloc: Global, m: &Hearing) -> Result<Option<Text>, NoMemory>
+    ensures { IfOk result (λ branch. branch ≡ branch_in m.now.heard.vias) }
+{
+    match first_via(alloc, m)? {
+        None => Ok(None),
+        Some(via) => match behind_cookie(param_value(via.params.items(), b"branch")) {
+            None => Ok(None),
+            Some(branch) => Ok(Some(Text::of(alloc, branch)?)),
+        },
+    }
+}
+
+/// Whether a response answers an INVITE.
+fn is_of_invite(alloc: Global, m: &Hearing) -> Result<bool, NoMemory>
+    ensures { IfOk result (λ yes. yes ≡ answers_invite m.now.heard.cseq) }
+{
+    match first_of(m.message.lines(), b"CSeq") {
+        None => Ok(false),
+        Some(value) => match read_cseq(alloc, value) {
+            Ok(cseq) => Ok(cseq.method.bytes() == b"INVITE".as_slice()),
+            Err(LexFault::Malformed { at: _ }) => Ok(false),
+            Err(LexFault::NoMemory) => Err(NoMemory),
+        },
+    }
+}
+
+/// The branch, behind its cookie, of the INVITE that a response answers; None where it answers another request.
+///
+/// # Errors
+///
+/// Want of memory alone.
+#[tactic(auto, unfolding(crate::specs::Table::invite_answered))]
+pub fn invite_answered(alloc: Global, m: &Hearing) -> Result<Option<Text>, NoMemory>
+    ensures { IfOk result (λ branch. branch ≡ invite_answered m.now) }
+{
+    if is_of_invite(alloc, m)? {
+        return branch_of(alloc, m);
+    }
+    Ok(None)
+}
+
+/// That of the INVITE that was given up, whose branch and method these are.
+pub fn invite_silent<'a>(branch: &'a [u8], method: &[u8]) -> Option<&'a [u8]>
+    ensures { option_copied result ≡ invite_silent branch.now method.now }
+{
+    if method == b"INVITE".as_slice() {
+        return skip_text(b"z9hG4bK", branch);
+    }
+    None
+}
+
+impl Phase {
+    /// Whether the INVITE that the call waits on is of this branch.
+    pub fn waits_on(&self, branch: &[u8]) -> bool
+        ensures { result ≡ is_branch branch.now (current self.now) }
+    {
+        match self {
+            Phase::Offered(x) => x.attempt.invitation.branch.bytes() == branch,
+            Phase::Stood(_, stage) => match stage {
+                Stage::Answered(_, _) => false,
+                Stage::Parting(_, _) => false,
+                Stage::Talking => false,
+                Stage::Asking(_, q) => q.invitation.branch.bytes() == branch,
+            },
+            Phase::Lent(_) => false,
+            Phase::Over(_) => false,
+        }
+    }
+}
+
+impl Call {
+    /// A request of a side in its dialog.
+    fn hear_request(
+        &mut self,
+        alloc: Global,
+        setting: &Setting<'_>,
+        at: Moment,
+        side: Side,
+        key: TKey,
+        m: Hearing,
+        desk: &mut Desk,
+    ) -> Result<(), NoMemory>
+        ensures call { OnOk result (self.new ≡ (request_in self.old.phase setting.now at side key m self.old desk.old).call) }
+        ensures desk { OnOk result (desk.new ≡ (request_in self.old.phase setting.now at side key m self.old desk.old).desk) }
+    {
+        match mem::replace(&mut self.phase, Phase::Over(Cause::Ended)) {
+            Phase::Offered(x) => {
+                self.hear_request_offered(alloc, setting, at, x, side, key, &m, desk)
+            }
+            Phase::Stood(x, stage) => {
+                self.hear_request_at(alloc, setting, at, x, stage, side, key, m, desk)
+            }
+            Phase::Lent(loan) => self.stay(Phase::Lent(loan)),
+            Phase::Over(cause) => self.stay(Phase::Over(cause)),
+        }
+    }
+
+    /// An ACK of a side.
+    fn hear_ack(
+        &mut self,
+        alloc: Global,
+        setting: &Setting<'_>,
+        at: Moment,
+        side: Side,
+        m: &Hearing,
+        desk: &mut Desk,
+    ) -> Result<(), NoMemory>
+        ensures call { OnOk result (self.new ≡ (ack_in self.old.phase setting.now at side m.now self.old desk.old).call) }
+        ensures desk { OnOk result (desk.new ≡ (ack_in self.old.phase setting.now at side m.now self.old desk.old).desk) }
+    {
+        match mem::replace(&mut self.phase, Phase::Over(Cause::Ended)) {
+            Phase::Offered(x) => self.stay(Phase::Offered(x)),
+            Phase::Stood(x, stage) => {
+                self.hear_ack_at(alloc, setting, at, x, stage, side, m, desk)
+            }
+            Phase::Lent(loan) => self.stay(Phase::Lent(loan)),
+            Phase::Over(cause) => self.stay(Phase::Over(cause)),
+        }
+    }
+
+    /// A CANCEL.
+    fn hear_any_cancel(
+        &mut self,
+        alloc: Global,
+        setting: &Setting<'_>,
+        at: Moment,
+        key: TKey,
+        m: &Hearing,
+        invite: TKey,
+        desk: &mut Desk,
+    ) -> Result<(), NoMemory>
+        ensures call { OnOk result (self.new ≡ (cancel_in self.old.phase setting.now at key m.now invite self.old desk.old).call) }
+        ensures desk { OnOk result (desk.new ≡ (cancel_in self.old.phase setting.now at key m.now invite self.old desk.old).desk) }
+    {
+        match mem::replace(&mut self.phase, Phase::Over(Cause::Ended)) {
+            Phase::Offered(x) => { self.hear_cancel(alloc, setting, at, x, key, m, invite, desk) }
+            Phase::Stood(x, stage) => {
+                let replied = self.reply_to(alloc, setting, key, m, 200, desk);
+                let heard = self.hear_cancel_at(alloc, setting, x, stage, invite, desk);
+                replied?;
+                heard
+            }
+            Phase::Lent(loan) => self.stay(Phase::Lent(loan)),
+            Phase::Over(cause) => self.stay(Phase::Over(cause)),
+        }
+    }
+
+    /// A response of the target that the call is offered to.
+    fn hear_response_offered(
+        &mut self,
+        alloc: Global,
+        setting: &Setting<'_>,
+        present: &Present<'_>,
+        x: Trial,
+        key: TKey,
+        m: &Hearing,
+        desk: &mut Desk,
+    ) -> Result<(), NoMemory>
+        requires { self.old.phase ≡ Over HasEnded }
+        ensures call { OnOk result (self.new ≡ (on_response setting.now (standing present.now) x key m.now (status_of m.now.heard.start) (record self.old { phase = Offered x }) desk.old).call) }
+        ensures desk { OnOk result (desk.new ≡ (on_response setting.now (standing present.now) x key m.now (status_of m.now.heard.start) (record self.old { phase = Offered x }) desk.old).desk) }
+    {
+        self.hear_response(alloc, setting, present, x, key, m, desk)
+    }
+
+    /// A response to the INVITE that the call waits on.
+    fn hear_answer_of(
+        &mut self,
+        alloc: Global,
+        setting: &Setting<'_>,
+        present: &Present<'_>,
+        key: TKey,
+        m: &Hearing,
+        desk: &mut Desk,
+    ) -> Result<(), NoMemory>
+        ensures call { OnOk result (self.new ≡ (response_in self.old.phase setting.now (standing present.now) key m.now self.old desk.old).call) }
+        ensures desk { OnOk result (desk.new ≡ (response_in self.old.phase setting.now (standing present.now) key m.now self.old desk.old).desk) }
+    {
+        match mem::replace(&mut self.phase, Phase::Over(Cause::Ended)) {
+            Phase::Offered(x) => {
+                self.hear_response_offered(alloc, setting, present, x, key, m, desk)
+            }
+            Phase::Stood(x, stage) => {
+                self.hear_response_at(alloc, setting, present.at, x, stage, key, m, desk)
+            }
+            Phase::Lent(loan) => self.stay(Phase::Lent(loan)),
+            Phase::Over(cause) => self.stay(Phase::Over(cause)),
+        }
+    }
+
+    /// No response came to the INVITE that the call waits on.
+    fn hear_silence_of(
+        &mut self,
+        alloc: Global,
+        setting: &Setting<'_>,
+        present: &Present<'_>,
+        desk: &mut Desk,
+    ) -> Result<(), NoMemory>
+        ensures call { OnOk result (self.new ≡ (silence_in self.old.phase setting.now (standing present.now) self.old desk.old).call) }
+        ensures desk { OnOk result (desk.new ≡ (silence_in self.old.phase setting.now (standing present.now) self.old desk.old).desk) }
+    {
+        match mem::replace(&mut self.phase, Phase::Over(Cause::Ended)) {
+            Phase::Offered(x) => self.hear_silence(alloc, setting, present, x, desk),
+            Phase::Stood(x, stage) => {
+                self.hear_silence_at(alloc, setting, present.at, x, stage, desk)
+            }
+            Phase::Lent(loan) => self.stay(Phase::Lent(loan)),
+            Phase::Over(cause) => self.stay(Phase::Over(cause)),
+        }
+    }
+
+    /// A deadline of the call came.
+    fn hear_due(
+        &mut self,
+        alloc: Global,
+        setting: &Setting<'_>,
+        present: &Present<'_>,
+        what: DueWord,
+        desk: &mut Desk,
+    ) -> Result<(), NoMemory>
+        ensures call { OnOk result (self.new ≡ (due_in self.old.phase setting.now (standing present.now) what self.old desk.old).call) }
+        ensures desk { OnOk result (desk.new ≡ (due_in self.old.phase setting.now (standing present.now) what self.old desk.old).desk) }
+    {
+        match mem::replace(&mut self.phase, Phase::Over(Cause::Ended)) {
+            Phase::Offered(x) => self.ring_out(alloc, setting, present, x, what, desk),
+            Phase::Stood(x, stage) => {
+                self.ring_out_at(alloc, setting, present.at, x, stage, what, desk)
+            }
+            Phase::Lent(loan) => self.stay(Phase::Lent(loan)),
+            Phase::Over(cause) => self.stay(Phase::Over(cause)),
+        }
+    }
+
+    /// A response, by the branch of the INVITE that it answers.
+    fn hear_answer_to(
+        &mut self,
+        alloc: Global,
+        setting: &Setting<'_>,
+        present: &Present<'_>,
+        branch: Option<&[u8]>,
+        key: TKey,
+        m: &Hearing,
+        desk: &mut Desk,
+    ) -> Result<(), NoMemory>
+        ensures call { OnOk result (self.new ≡ (answer_to (option_copied branch.entry) setting.now (standing present.now) key m.now self.old desk.old).call) }
+        ensures desk { OnOk result (desk.new ≡ (answer_to (option_copied branch.entry) setting.now (standing present.now) key m.now self.old desk.old).desk) }
+    {
+        let Some(branch) = branch else {
+            return Ok(());
+        };
+        if self.phase.waits_on(branch) {
+            return self.hear_answer_of(alloc, setting, present, key, m, desk);
+        }
+        self.hear_other(alloc, setting, key, m, branch, desk)
+    }
+
+    /// Silence, by the branch of the INVITE that was given up.
+    fn hear_silence_to(
+        &mut self,
+        alloc: Global,
+        setting: &Setting<'_>,
+        present: &Present<'_>,
+        branch: Option<&[u8]>,
+        desk: &mut Desk,
+    ) -> Result<(), NoMemory>
+        ensures call { OnOk result (self.new ≡ (silence_of (option_copied branch.entry) setting.now (standing present.now) self.old desk.old).call) }
+        ensures desk { OnOk result (desk.new ≡ (silence_of (option_copied branch.entry) setting.now (standing present.now) self.old desk.old).desk) }
+    {
+        let Some(branch) = branch else {
+            return Ok(());
+        };
+        if self.phase.waits_on(branch) {
+            return self.hear_silence_of(alloc, setting, present, desk);
+        }
+        self.drop_silent(branch);
+        Ok(())
+    }
+
+    /// A response.
+    fn hear_any_answer(
+        &mut self,
+        alloc: Global,
+        setting: &Setting<'_>,
+        present: &Present<'_>,
+        key: TKey,
+        m: &Hearing,
+        desk: &mut Desk,
+    ) -> Result<(), NoMemory>
+        ensures call { OnOk result (self.new ≡ (answer_to (invite_answered m.now) setting.now (standing present.now) key m.now self.old desk.old).call) }
+        ensures desk { OnOk result (desk.new ≡ (answer_to (invite_answered m.now) setting.now (standing present.now) key m.now self.old desk.old).desk) }
+    {
+        match invite_answered(alloc, m)? {
+            None => Ok(()),
+            Some(branch) => {
+                let branch = Some(branch.bytes());
+                self.hear_answer_to(alloc, setting, present, branch, key, m, desk)
+            }
+        }
+    }
+
+    /// Takes a step on what was heard, by the step table.
+    ///
+    /// # Errors
+    ///
+    /// Want of memory alone; of the call and of the desk nothing is said then, but that the call can be given up.
+    #[tactic(auto, unfolding(crate::specs::Table::step))]
+    pub fn step(
+        &mut self,
+        alloc: Global,
+        setting: &Setting<'_>,
+        present: &Present<'_>,
+        signal: Signal,
+        desk: &mut Desk,
+    ) -> Result<(), NoMemory>
+        ensures call { OnOk result (self.new ≡ (step setting.now (standing present.now) signal self.old desk.old).call) }
+        ensures desk { OnOk result (desk.new ≡ (step setting.now (standing present.now) signal self.old desk.old).desk) }
+    {
+        match signal {
+            Signal::Request { side, key, request } => {
+                self.hear_request(alloc, setting, present.at, side, key, request, desk)
+            }
+            Signal::Ack { side, ack } => {
+                self.hear_ack(alloc, setting, present.at, side, &ack, desk)
+            }
+            Signal::Cancel {
+                key,
+                cancel,
+                invite,
+            } => self.hear_any_cancel(alloc, setting, present.at, key, &cancel, invite, desk),
+            Signal::Answer { key, response } => {
+                self.hear_any_answer(alloc, setting, present, key, &response, desk)
+            }
+            Signal::Silent { branch, method } => {
+                let branch = invite_silent(branch.bytes(), method.bytes());
+                self.hear_silence_to(alloc, setting, present, branch, desk)
+            }
+            Signal::Due { what } => self.hear_due(alloc, setting, present, what, desk),
+            Signal::Ended { key } => {
+                self.drop_ended(key);
+                Ok(())
+            }
+        }
+    }
+}

@@ -1,0 +1,14 @@
+mod Parts
+mod Falling
+mod Knowing
+mod Agreeing
+mod Coming
+mod Untouched
+mod Faring
+mod Answering
+mod Turning
+mod Telling
+mod Lowering
+mod Concluding
+mod Signs
+mod Moments

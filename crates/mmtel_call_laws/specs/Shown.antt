@@ -1,0 +1,99 @@
+-- What a call shows to the outside while it is offered: the INVITEs to its targets, and the final to its caller (RFC 3261 §13.2.1, §13.3.1, §16.6, §16.7).
+use Rattle.std.specs.Prelude.{◌≡◌, true, false, ℕ, ◌==◌, nat_lt, Bool, if◌then◌else◌, List, [], ◌∷◌, ◌++◌, Option, Some, None, codes}
+use Rattle.mmtel_answers.specs.Said.{status_of as status_in}
+use Rattle.mmtel_history.specs.EntryUri.{with_cause}
+use Rattle.mmtel_leg.specs.Dialogues.{request_uri}
+use Rattle.mmtel_lex.specs.Grammar.{uri_text}
+use Rattle.mmtel_lex.specs.declared.values.Uri.{Uri}
+use Rattle.mmtel_message.specs.Faults.{is_method}
+use Rattle.mmtel_precedence.specs.Calls.{Answered, Final, NotOffered, Offer, Offered, Pending, Result, Target}
+use Rattle.mmtel_precedence.specs.Services.{DueDiversion}
+use Rattle.mmtel_transaction.specs.declared.words.Emit.{Emit}
+use Rattle.mmtel_transaction.specs.declared.words.Emit.TheVariants as emit
+use Rattle.mmtel_transaction.specs.declared.words.TKey.{TKey}
+use Rattle.mmtel_types.specs.Causes.{status_of}
+use Rattle.mmtel_call.specs.declared.calls.Opening.{Opening}
+use Rattle.mmtel_call.specs.declared.calls.Phase.{Phase}
+use Rattle.mmtel_call.specs.declared.calls.Phase.TheVariants as phases
+use Rattle.mmtel_call.specs.declared.signals.Signal.{Signal}
+use Rattle.mmtel_call.specs.declared.signals.Signal.TheVariants as signal
+use Rattle.mmtel_call_laws.specs.Story.{Heard, Start, added, call_after, first_step, next_step}
+
+-- ---- what is seen of what goes out
+
+pub data Sign : Type 0 where
+  -- an INVITE, with this Request-URI
+  Invited : (uri : List ℕ) → Sign
+  -- a 2xx to the INVITE that opened the call
+  Accepted : Sign
+  -- any other final to it
+  Refused : (code : ℕ) → Sign
+
+-- a status; a provisional one is no final
+abbrev pub final_sign : (code : ℕ) → List Sign
+final_sign code = if nat_lt code 200 then [] else if nat_lt code 300 then Accepted ∷ [] else Refused code ∷ []
+
+-- of what goes out, where the INVITE that opened the call is of this server transaction
+abbrev pub sign_of : (key : TKey) → Emit → List Sign
+sign_of key (emit.Ask peer m) = if is_method (codes "INVITE") m.start then Invited (request_uri m.start) ∷ [] else []
+sign_of key (emit.Reply asked m) = if asked.0 == key.0 then final_sign (status_in m.start) else []
+sign_of key (emit.Plain peer text) = []
+sign_of key (emit.Ack asked m) = []
+sign_of key (emit.Arm call what at) = []
+sign_of key (emit.ArmSeat room seat what at) = []
+
+abbrev pub signs_of : (key : TKey) → List Emit → List Sign
+signs_of key [] = []
+signs_of key (e ∷ later) = sign_of key e ++ signs_of key later
+
+-- ---- what Outcome says of it
+
+-- the Request-URI: that of the first target is as it was asked for, that of a diversion has its cause (RFC 4458)
+abbrev pub asked_uri : Opening → Option DueDiversion → Uri → List ℕ
+asked_uri o None uri = request_uri o.invite.heard.start
+asked_uri o (Some due) uri = with_cause due.cause (uri_text uri)
+
+abbrev pub sign_if : Offer → (uri : List ℕ) → List Sign
+sign_if NotOffered uri = []
+sign_if (Offered waiting) uri = Invited uri ∷ []
+
+-- of each target to which the call is offered
+abbrev pub signs_of_targets : Opening → List Target → List Sign
+signs_of_targets o [] = []
+signs_of_targets o (target ∷ later) = sign_if target.offer (asked_uri o target.by target.uri) ++ signs_of_targets o later
+
+-- of the result
+abbrev pub sign_of_result : Result → List Sign
+sign_of_result Pending = []
+sign_of_result Answered = Accepted ∷ []
+sign_of_result (Final cause) = final_sign (status_of cause)
+
+-- ---- in a story
+
+-- the phase of a call that is offered to a target
+abbrev pub is_offered : Phase → Bool
+is_offered (phases.Offered x) = true
+is_offered (phases.Stood x stage) = false
+is_offered (phases.Lent loan) = false
+is_offered (phases.Over cause) = false
+
+-- what went out as it opened, and in the steps at which it was offered; in order
+unfoldable pub emits_while_offered : Start → List Heard → List Emit
+emits_while_offered s [] = added s.desk.out (first_step s).desk.out
+emits_while_offered s (x ∷ earlier) =
+    emits_while_offered s earlier ++ (if is_offered (call_after s earlier).phase then added x.desk.out (next_step s x (call_after s earlier)).desk.out else [])
+
+-- a request that is heard later has another server transaction than the INVITE that opened the call
+abbrev pub IsOthers : (key : TKey) → Signal → Type 0
+IsOthers key (signal.Request side asked request) = (asked.0 == key.0) ≡ false
+IsOthers key (signal.Ack side ack) = Unit {0}
+IsOthers key (signal.Cancel asked cancel invite) = (asked.0 == key.0) ≡ false
+IsOthers key (signal.Answer asked response) = Unit {0}
+IsOthers key (signal.Silent branch method) = Unit {0}
+IsOthers key (signal.Due what) = Unit {0}
+IsOthers key (signal.Ended asked) = Unit {0}
+
+-- and each step has a desk of its own, on which nothing lies
+abbrev pub AreOwn : Start → List Heard → Type 0
+AreOwn s [] = s.desk.out ≡ []
+AreOwn s (x ∷ earlier) = (x.desk.out ≡ []) × IsOthers s.arrival.key x.signal × AreOwn s earlier

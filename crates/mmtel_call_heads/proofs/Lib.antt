@@ -1,0 +1,14 @@
+mod Bytes
+mod Splitting
+mod Reading
+mod Building
+mod Hearing
+mod Sending
+mod Keeping
+mod Deciding
+mod Going
+mod Ringing
+mod Leaving
+mod Talking
+mod Stories
+mod Canonical

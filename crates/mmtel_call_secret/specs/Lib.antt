@@ -1,0 +1,11 @@
+-- What the laws cite.
+pub mod Roles
+pub mod Parts
+pub mod Seen
+pub mod Premises
+pub mod Common
+pub mod Rows
+pub mod Table
+pub mod Alike
+pub mod Opening
+pub mod Stories

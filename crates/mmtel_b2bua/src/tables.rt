@@ -188,7 +188,7 @@ impl Calls {
     ///
     /// # Errors
     ///
-    /// `Full` exactly where an INVITE would open a call and 4,096 live; the signal is handed back, and nothing has changed. `NoMemory` for want of memory: the calls have failed then, and each later signal answers it and changes nothing; the tokens may have drawn some numbers.
+    /// `Full` exactly where an INVITE would open a call and 4,096 live; the signal is handed back, and nothing has changed. `NoMemory` for want of memory: the calls have failed then, and each later signal answers it and changes nothing; of the tokens nothing is said then.
     pub fn signal(
         &mut self,
         alloc: Global,
@@ -329,11 +329,11 @@ impl Calls {
         Ok(out)
     }
 
-    /// Ends a call whose leg is away: BYE to the leg that is left, and its rows are closed.
+    /// Ends a call whose leg is away: BYE to the leg that is left, and its rows are closed. Of the tokens nothing is said, but that they stay where the calls had failed before.
     ///
     /// # Errors
     ///
-    /// Want of memory alone: the calls have failed then, and each later signal answers it and changes nothing; the tokens may have drawn some numbers.
+    /// Want of memory alone: the calls have failed then, and each later signal answers it and changes nothing.
     pub fn finish(
         &mut self,
         alloc: Global,

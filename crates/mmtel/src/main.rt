@@ -1,8 +1,9 @@
-//! The program: the files of the system, the standard output, and the call that does the work. It ends with that call's status.
+//! The program: the files of the system, a database, the standard output, and the call that does the work. It ends with that call's status.
 #![tactic(auto)]
 
 use mmtel_cli::{DiskFiles, OutSink, out_of_memory, run};
 use mmtel_scan::Text;
+use mmtel_store::SqliteKeeper;
 use std::alloc::Global;
 use std::io::ErrorKind;
 use std::process::ExitCode;
@@ -22,12 +23,19 @@ fn words(rt: &HostRuntime, alloc: Global) -> io::Result<Vec<Text>> {
 
 fn main(rt: HostRuntime) -> ExitCode {
     let mut files = DiskFiles::new(&rt);
+    let mut keeper = SqliteKeeper::new(&rt);
     let mut out = OutSink::new(&rt);
     let status = match words(&rt, rt.alloc()) {
-        Ok(words) => run(rt.alloc(), words.as_slice(), &mut files, &mut out),
+        Ok(words) => run(
+            rt.alloc(),
+            words.as_slice(),
+            &mut files,
+            &mut keeper,
+            &mut out,
+        ),
         Err(e) if e.kind() == ErrorKind::OutOfMemory => out_of_memory(&mut out),
         // A word that is not UTF-8 is of no command, and neither is no word at all.
-        Err(_) => run(rt.alloc(), &[], &mut files, &mut out),
+        Err(_) => run(rt.alloc(), &[], &mut files, &mut keeper, &mut out),
     };
     ExitCode::from(status)
 }

@@ -1,9 +1,10 @@
 -- What the files gave, stage by stage.
 use Rattle.std.proofs.Common.{◌≡◌, ℕ, List, refl, sym, subst, Option, Some, None, Result, Ok, Err, IfSome}
 use Rattle.mmtel_directory.specs.Directory.{directory_of}
-use Rattle.mmtel_cli.specs.Due.{due_of_script}
-use Rattle.mmtel_cli.specs.Found.{IsDue}
-use Rattle.mmtel_cli.specs.Gives.{GivesScript, GivesBoth}
+use Rattle.mmtel_cli.specs.Due.{due_of_records, due_of_script, shelf_of_config, shelf_of_directory}
+use Rattle.mmtel_cli.specs.Found.{HasCalled, IsDue}
+use Rattle.mmtel_cli.specs.Gives.{GivesScript, GivesBoth, GivesRecords}
+use Rattle.mmtel_cli.specs.Keeping.{KeeperSeen}
 use Rattle.mmtel_outside.specs.Shelf.{Shelf, answer_at, called, ReadsTold}
 use Rattle.mmtel_cli.specs.Words.{Asked}
 use Rattle.mmtel_directory.specs.declared.directories.Directory.{Directory}
@@ -39,56 +40,92 @@ some-is None after name text h = tt
 some-is (Some shelf) after name text h = sym h.1.ok
 
 -- what the files told of the next name they tell of it after a call
-pub next-is : (told after : Option Shelf) (name text : List ℕ) (script : Option (List ℕ)) (other : List ℕ) → ReadsTold told after name (Ok text) → IfSome after (λ shelf. script ≡ answer_at shelf other) → IfSome told (λ shelf. script ≡ answer_at (called shelf) other)
+pub next-is : (told after : Option Shelf) (name text : List ℕ) (script : Option (List ℕ)) (other : List ℕ) → ReadsTold told after name (Ok text)
+    → IfSome after (λ shelf. script ≡ answer_at shelf other) → IfSome told (λ shelf. script ≡ answer_at (called shelf) other)
 next-is None after name text script other h k = tt
 next-is (Some shelf) after name text script other h k =
     let P : Option Shelf → Type 0 = λ a. IfSome a (λ s. script ≡ answer_at s other) in
     subst P h.0 k
 
-pub gives_script : (told after : Option Shelf) (asked : Asked) (directory : Directory) (script : List ℕ) (found : Report) → ReadsTold told after asked.script (Ok script) → IsDue found (due_of_script directory asked.token (Some script)) → GivesScript told asked (Ok directory) found
-gives_script told after asked directory script found h d = record {
-  script = Some script;
-  told_script = some-is told after asked.script script h;
-  is_due = d;
-}
+module _ (keeper later : KeeperSeen) where
+  pub gives_script : (told after : Option Shelf) (asked : Asked) (directory : Directory) (script : List ℕ) (outcome : Report)
+      → ReadsTold told after asked.script (Ok script)
+      → IsDue keeper later outcome (due_of_script directory asked.token (Some script)) → GivesScript told keeper later asked (Ok directory) outcome
+  gives_script told after asked directory script outcome h d = record {
+    script = Some script;
+    told_script = some-is told after asked.script script h;
+    is_due = d;
+  }
 
-pub gives_line : (told : Option Shelf) (asked : Asked) (config : List ℕ) (line : ℕ) → directory_of config ≡ Err line → GivesScript told asked (directory_of config) (Line line)
-gives_line told asked config line e = record {
-  script = told_answer told asked.script;
-  told_script = told_answer-is told asked.script;
-  is_due = rw e refl;
-}
+  pub gives_no_script : (told after : Option Shelf) (asked : Asked) (directory : Directory) → ReadsTold told after asked.script (Err Failed)
+      → GivesScript told keeper later asked (Ok directory) File
+  gives_no_script told after asked directory h = record {
+    script = None;
+    told_script = none-is told after asked.script h;
+    is_due = refl;
+  }
 
-pub gives_memory : (told : Option Shelf) (asked : Asked) (directory : Result Directory ℕ) → GivesScript told asked directory Memory
-gives_memory told asked directory = record {
-  script = told_answer told asked.script;
-  told_script = told_answer-is told asked.script;
-  is_due = tt;
-}
+  pub gives_line : (told : Option Shelf) (asked : Asked) (config : List ℕ) (line : ℕ) → directory_of config ≡ Err line
+      → GivesScript told keeper later asked (directory_of config) (Line line)
+  gives_line told asked config line e = record {
+    script = told_answer told asked.script;
+    told_script = told_answer-is told asked.script;
+    is_due = rw e refl;
+  }
 
-pub gives_config : (told after : Option Shelf) (asked : Asked) (config : List ℕ) (found : Report) → ReadsTold told after asked.config (Ok config) → GivesScript after asked (directory_of config) found → GivesBoth told asked found
-gives_config told after asked config found h k = record {
-  config = Some config;
-  script = k.script;
-  told_config = some-is told after asked.config config h;
-  told_script = next-is told after asked.config config k.script asked.script h k.told_script;
-  is_due = k.is_due;
-}
+  pub gives_memory : (told : Option Shelf) (asked : Asked) (directory : Result Directory ℕ) → GivesScript told keeper later asked directory Memory
+  gives_memory told asked directory = record {
+    script = told_answer told asked.script;
+    told_script = told_answer-is told asked.script;
+    is_due = tt;
+  }
 
-pub gives_no_config : (told after : Option Shelf) (asked : Asked) → ReadsTold told after asked.config (Err Failed) → GivesBoth told asked File
-gives_no_config told after asked h = record {
-  config = None;
-  script = told_next told asked.script;
-  told_config = none-is told after asked.config h;
-  told_script = told_next-is told asked.script;
-  is_due = refl;
-}
+  pub gives_config : (told after : Option Shelf) (asked : Asked) (config : List ℕ) (outcome : Report)
+      → ReadsTold told after asked.config (Ok config) → GivesScript after keeper later asked (directory_of config) outcome → GivesBoth told keeper later asked outcome
+  gives_config told after asked config outcome h k = record {
+    config = Some config;
+    script = k.script;
+    told_config = some-is told after asked.config config h;
+    told_script = next-is told after asked.config config k.script asked.script h k.told_script;
+    is_due = k.is_due;
+  }
 
-pub gives_no_memory : (told : Option Shelf) (asked : Asked) → GivesBoth told asked Memory
-gives_no_memory told asked = record {
-  config = told_answer told asked.config;
-  script = told_next told asked.script;
-  told_config = told_answer-is told asked.config;
-  told_script = told_next-is told asked.script;
-  is_due = tt;
-}
+  pub gives_no_config : (told after : Option Shelf) (asked : Asked) → ReadsTold told after asked.config (Err Failed) → GivesBoth told keeper later asked File
+  gives_no_config told after asked h = record {
+    config = None;
+    script = told_next told asked.script;
+    told_config = none-is told after asked.config h;
+    told_script = told_next-is told asked.script;
+    is_due = refl;
+  }
+
+  pub gives_no_memory : (told : Option Shelf) (asked : Asked) → GivesBoth told keeper later asked Memory
+  gives_no_memory told asked = record {
+    config = told_answer told asked.config;
+    script = told_next told asked.script;
+    told_config = told_answer-is told asked.config;
+    told_script = told_next-is told asked.script;
+    is_due = tt;
+  }
+
+-- the calls that were made once the configuration's text was there
+pub called_config : (told mid after : Option Shelf) (name config : List ℕ) (outcome : Report) → ReadsTold told mid name (Ok config)
+    → IfSome mid (λ shelf. HasCalled outcome after shelf (shelf_of_directory shelf (directory_of config)))
+    → IfSome told (λ shelf. HasCalled outcome after (called shelf) (shelf_of_config (called shelf) (answer_at shelf name)))
+called_config None mid after name config outcome h k = tt
+called_config (Some shelf) mid after name config outcome h k =
+    let P : Option Shelf → Type 0 = λ m. IfSome m (λ s. HasCalled outcome after s (shelf_of_directory s (directory_of config))) in
+    let there = subst P h.0 k in
+    rw h.1.ok there
+
+-- ---- of `check`
+
+pub gives_text : (told after : Option Shelf) (records text : List ℕ) (outcome : Report)
+    → ReadsTold told after records (Ok text) → ((keeper later : KeeperSeen) → IsDue keeper later outcome (due_of_records (Some text))) → GivesRecords told records outcome
+gives_text told after records text outcome h d = record { text = Some text; told_text = some-is told after records text h; is_due = d }
+
+pub gives_no_text : (told after : Option Shelf) (records : List ℕ) → ReadsTold told after records (Err Failed) → GivesRecords told records File
+gives_no_text told after records h = record { text = None; told_text = none-is told after records h; is_due = λ keeper. λ later. refl }
+
+pub gives_unread : (told : Option Shelf) (records : List ℕ) → GivesRecords told records Memory
+gives_unread told records = record { text = told_answer told records; told_text = told_answer-is told records; is_due = λ keeper. λ later. tt }

@@ -1,4 +1,5 @@
 pub mod Giving
+pub mod LineChecked
 pub mod LineRead
 pub mod LineSpelled
 pub mod Running

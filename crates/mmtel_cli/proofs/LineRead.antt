@@ -1,5 +1,5 @@
 -- What the grammar spells is read back, and so the words of `replay` are exactly those that it spells.
-use Rattle.std.proofs.Common.{◌≡◌, ◌↔◌, Bool, true, false, ℕ, List, [], ◌∷◌, ◌++◌, Option, Some, None, refl, sym, subst, ap, IfSome, ◌∙◌, codes, inl, inr}
+use Rattle.std.proofs.Common.{◌≡◌, Bool, true, false, ℕ, List, [], ◌∷◌, ◌++◌, Option, Some, None, refl, sym, subst, ap, ◌∙◌, codes, inl, inr}
 use Rattle.std.proofs.lemmas.Bool.{cases_Bool, or_cases}
 use Rattle.std.specs.List.{list_all, flat_map}
 use Rattle.std.specs.Str.{bytes_eq}
@@ -116,22 +116,3 @@ spelled_read asked (word ∷ words) e =
           subst P (sym (equal word (codes "replay") y)) (spelled_rest asked words (rw y at e))
       | inr n ↦ absurd (let wrong = rw n at e in cc)
     ]
-
--- so there is no command exactly where the grammar spells none
-none_of : (words : List (List ℕ)) (asked : Option Asked) → replay_of words ≡ asked → ((a : Asked) → IsReplay a words → ⊥) → replay_of words ≡ None
-none_of words None e no_one = e
-none_of words (Some asked) e no_one = absurd (no_one asked (spelled_read asked words e))
-
-pub none_spelled : (words : List (List ℕ)) → (replay_of words ≡ None) ↔ ((asked : Asked) → IsReplay asked words → ⊥)
-none_spelled words = (
-  λ none. λ asked. λ spells. let read = reads_spelled asked words spells in cc,
-  λ no_one. none_of words (replay_of words) refl no_one,
-)
-
--- and a reader that gives what is read gives what is spelled
-pub spelled_some : (asked : Option Asked) (words : List (List ℕ)) → asked ≡ replay_of words → IfSome asked (λ a. IsReplay a words)
-spelled_some None words e = tt
-spelled_some (Some asked) words e = spelled_read asked words (sym e)
-
-pub status_spelled : (status : ℕ) (words : List (List ℕ)) → (status ≡ 1) ↔ (replay_of words ≡ None) → (status ≡ 1) ↔ ((asked : Asked) → IsReplay asked words → ⊥)
-status_spelled status words h = (λ e. (none_spelled words).0 (h.0 e), λ no_one. h.1 ((none_spelled words).1 no_one))

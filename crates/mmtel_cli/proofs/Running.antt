@@ -1,149 +1,288 @@
--- A run, by what the files gave.
-use Rattle.std.proofs.Common.{◌≡◌, ◌↔◌, ◌⊎◌, ◌∙◌, ℕ, List, refl, subst, sym, inl, inr, Option, Some, None, Result, Ok, Err, IfSome}
+-- A run, by what the files and the keeper gave.
+use Rattle.std.proofs.Common.{◌≡◌, ◌↔◌, ◌⊎◌, ◌∙◌, true, false, ℕ, List, refl, subst, sym, inl, inr, nat_eq, codes, Option, Some, None, Result, Ok, Err, IfSome}
+use Rattle.std.proofs.lemmas.Bool.{cases_Bool, eqb-true, eqb-false}
 use Rattle.mmtel_directory.specs.Directory.{directory_of}
 use Rattle.mmtel_directory.specs.declared.directories.Directory.{Directory}
 use Rattle.mmtel_outside.specs.Shelf.{Shelf, called}
 use Rattle.mmtel_outside.specs.declared.events.Event.{Event}
 use Rattle.mmtel_script.specs.Script.{events_of}
-use Rattle.mmtel_cli.proofs.LineRead.{none_spelled, reads_spelled, spelled_read}
-use Rattle.mmtel_cli.specs.CommandLine.{IsReplay}
+use Rattle.mmtel_uploads.specs.Uploads.{upload_of}
+use Rattle.mmtel_uploads.specs.declared.uploads.Upload.{Upload}
+use Rattle.mmtel_uploads.specs.declared.uploads.Upload.TheVariants as upload
+use Rattle.mmtel_cli.proofs.LineChecked.{none_spelled, reads_command, spelled_command}
+use Rattle.mmtel_cli.specs.CommandLine.{Command, Serve, Replay, Check, Charges, Workload, IsReplay, IsCheck, SpellsNone}
+use Rattle.mmtel_cli.specs.Commands.{command_of}
 use Rattle.mmtel_cli.specs.Due as due
-use Rattle.mmtel_cli.specs.Due.{due_of_events, due_of_script, due_of_directory, due_of_config, shelf_of_config, shelf_after}
+use Rattle.mmtel_cli.specs.Due.{due_of_events, due_of_script, due_of_directory, due_of_config, due_of_upload, due_of_records, shelf_of_config, shelf_after}
 use Rattle.mmtel_cli.specs.Ends.{Ends, WroteListing}
-use Rattle.mmtel_cli.specs.Found.{HasCalled, IsDue}
-use Rattle.mmtel_cli.specs.Gives.{GivesBoth, GivesRun}
+use Rattle.mmtel_cli.specs.Found.{HasCalled, IsDue, SparedBy, Spares}
+use Rattle.mmtel_cli.specs.Gives.{GivesBoth, GivesRecords, GivesRun}
+use Rattle.mmtel_cli.specs.Keeping.{IsNotLoaded, IsSpared, KeeperSeen}
 use Rattle.mmtel_cli.specs.Listings.{Lists}
-use Rattle.mmtel_cli.specs.Runs.{WroteMemory, WroteLine, WroteFile, Listed, EndsOfEvents, EndsOfScript, EndsOfDirectory, EndsOfConfig, Replayed, Ran, Called, CalledFor}
-use Rattle.mmtel_cli.specs.Words.{Asked, replay_of}
+use Rattle.mmtel_cli.specs.Runs.{WroteMemory, WroteLine, WroteFile, WroteKeeper, WroteFault, Listed, Replayed, Checked, Ran, Called, CalledFor}
+use Rattle.mmtel_cli.specs.Runs.{EndsOfEvents, EndsOfScript, EndsOfDirectory, EndsOfConfig, EndsOfUpload, EndsOfRecords}
+use Rattle.mmtel_cli.specs.Words.{Asked}
 use Rattle.mmtel_cli.specs.declared.reports.Report.{Report}
-use Rattle.mmtel_cli.specs.declared.reports.Report.TheVariants.{Usage, Line, File, Memory, Listing}
+use Rattle.mmtel_cli.specs.declared.reports.Report.TheVariants.{Usage, Line, File, Keeper, Memory, Listing, Sound, Unsound}
 
 -- ---- what was written, where it is known what is due
 
-written_line : (found : Report) (line status : ℕ) (before after : Option (List ℕ)) (faults now : ℕ)
-    → IsDue found (due.Line line) → Ends found status before after faults now → WroteLine line status before after faults now ⊎ WroteMemory status before after faults now
-written_line Usage line status before after faults now is ends = absurd (let wrong : due.Line line ≡ due.Usage = is in cc)
-written_line (Line n) line status before after faults now is ends =
-    let equal : due.Line line ≡ due.Line n = is in
-    let same : n ≡ line = cc in
-    let P : ℕ → Type 0 = λ l. WroteLine l status before after faults now in
-    inl (subst P same ends)
-written_line File line status before after faults now is ends = absurd (let wrong : due.Line line ≡ due.File = is in cc)
-written_line Memory line status before after faults now is ends = inr ends
-written_line (Listing text) line status before after faults now is ends = absurd is
+module _ (keeper later : KeeperSeen) (status : ℕ) (before after : Option (List ℕ)) (faults now : ℕ) where
+  abbrev EndsSo : Report → Type 0
+  EndsSo outcome = Ends outcome status before after faults now
 
-written_file : (found : Report) (status : ℕ) (before after : Option (List ℕ)) (faults now : ℕ)
-    → IsDue found due.File → Ends found status before after faults now → WroteFile status before after faults now ⊎ WroteMemory status before after faults now
-written_file Usage status before after faults now is ends = absurd (let wrong : due.File ≡ due.Usage = is in cc)
-written_file (Line n) status before after faults now is ends = absurd (let wrong : due.File ≡ due.Line n = is in cc)
-written_file File status before after faults now is ends = inl ends
-written_file Memory status before after faults now is ends = inr ends
-written_file (Listing text) status before after faults now is ends = absurd is
+  abbrev OutOfMemory : Type 0
+  OutOfMemory = WroteMemory status before after faults now
 
-listed_by : (directory : Directory) (token : List ℕ) (events : List Event) (text : List ℕ) (status : ℕ) (before after : Option (List ℕ)) (faults now : ℕ)
-    → Lists directory token events text → WroteListing text status before after faults now → Listed directory token events status before after faults now
-listed_by directory token events text status before after faults now lists wrote = record {
-  offers = lists.offers;
-  exact = lists.run.exact;
-  secret = lists.run.secret;
-  written = let P : List ℕ → Type 0 = λ t. WroteListing t status before after faults now in subst P lists.listing wrote;
-}
+  written_line : (outcome : Report) (line : ℕ) → IsDue keeper later outcome (due.Line line) → EndsSo outcome → WroteLine line status before after faults now ⊎ OutOfMemory
+  written_line Usage line is ends = absurd (let wrong : due.Line line ≡ due.Usage = is in cc)
+  written_line (Line n) line is ends =
+      let equal : due.Line line ≡ due.Line n = is in
+      let same : n ≡ line = cc in
+      let P : ℕ → Type 0 = λ l. WroteLine l status before after faults now in
+      inl (subst P same ends)
+  written_line File line is ends = absurd (let wrong : due.Line line ≡ due.File = is in cc)
+  written_line Keeper line is ends = absurd is
+  written_line Memory line is ends = inr ends
+  written_line (Listing text) line is ends = absurd is
+  written_line Sound line is ends = absurd (let wrong : due.Line line ≡ due.Sound = is in cc)
+  written_line (Unsound other) line is ends = absurd (let wrong : due.Line line ≡ due.Unsound other = is in cc)
 
-written_listing : (directory : Directory) (token : List ℕ) (events : List Event) (found : Report) (status : ℕ) (before after : Option (List ℕ)) (faults now : ℕ)
-    → IsDue found (due.Run directory token events) → Ends found status before after faults now
-    → Listed directory token events status before after faults now ⊎ WroteMemory status before after faults now
-written_listing directory token events Usage status before after faults now is ends = absurd (let wrong : due.Run directory token events ≡ due.Usage = is in cc)
-written_listing directory token events (Line n) status before after faults now is ends = absurd (let wrong : due.Run directory token events ≡ due.Line n = is in cc)
-written_listing directory token events File status before after faults now is ends = absurd (let wrong : due.Run directory token events ≡ due.File = is in cc)
-written_listing directory token events Memory status before after faults now is ends = inr ends
-written_listing directory token events (Listing text) status before after faults now is ends = inl (listed_by directory token events text status before after faults now is ends)
+  written_file : (outcome : Report) → IsDue keeper later outcome due.File → EndsSo outcome → WroteFile status before after faults now ⊎ OutOfMemory
+  written_file Usage is ends = absurd (let wrong : due.File ≡ due.Usage = is in cc)
+  written_file (Line n) is ends = absurd (let wrong : due.File ≡ due.Line n = is in cc)
+  written_file File is ends = inl ends
+  written_file Keeper is ends = absurd is
+  written_file Memory is ends = inr ends
+  written_file (Listing text) is ends = absurd is
+  written_file Sound is ends = absurd (let wrong : due.File ≡ due.Sound = is in cc)
+  written_file (Unsound other) is ends = absurd (let wrong : due.File ≡ due.Unsound other = is in cc)
 
--- ---- stage by stage
+  written_sound : (outcome : Report) → IsDue keeper later outcome due.Sound → EndsSo outcome → WroteListing (codes "ok\n") status before after faults now ⊎ OutOfMemory
+  written_sound Usage is ends = absurd (let wrong : due.Sound ≡ due.Usage = is in cc)
+  written_sound (Line n) is ends = absurd (let wrong : due.Sound ≡ due.Line n = is in cc)
+  written_sound File is ends = absurd (let wrong : due.Sound ≡ due.File = is in cc)
+  written_sound Keeper is ends = absurd is
+  written_sound Memory is ends = inr ends
+  written_sound (Listing text) is ends = absurd is
+  written_sound Sound is ends = inl ends
+  written_sound (Unsound other) is ends = absurd (let wrong : due.Sound ≡ due.Unsound other = is in cc)
 
-ends_of_events : (directory : Directory) (token : List ℕ) (events : Result (List Event) ℕ) (found : Report) (status : ℕ) (before after : Option (List ℕ)) (faults now : ℕ)
-    → IsDue found (due_of_events directory token events) → Ends found status before after faults now
-    → EndsOfEvents directory token events status before after faults now ⊎ WroteMemory status before after faults now
-ends_of_events directory token (Ok events) found status before after faults now due ends = written_listing directory token events found status before after faults now due ends
-ends_of_events directory token (Err line) found status before after faults now due ends = written_line found line status before after faults now due ends
+  written_fault : (outcome : Report) (line : List ℕ) → IsDue keeper later outcome (due.Unsound line) → EndsSo outcome → WroteFault line status before after faults now ⊎ OutOfMemory
+  written_fault Usage line is ends = absurd (let wrong : due.Unsound line ≡ due.Usage = is in cc)
+  written_fault (Line n) line is ends = absurd (let wrong : due.Unsound line ≡ due.Line n = is in cc)
+  written_fault File line is ends = absurd (let wrong : due.Unsound line ≡ due.File = is in cc)
+  written_fault Keeper line is ends = absurd is
+  written_fault Memory line is ends = inr ends
+  written_fault (Listing text) line is ends = absurd is
+  written_fault Sound line is ends = absurd (let wrong : due.Unsound line ≡ due.Sound = is in cc)
+  written_fault (Unsound other) line is ends =
+      let equal : due.Unsound line ≡ due.Unsound other = is in
+      let same : other ≡ line = cc in
+      let P : List ℕ → Type 0 = λ l. WroteFault l status before after faults now in
+      inl (subst P same ends)
 
-ends_of_script : (directory : Directory) (token : List ℕ) (script : Option (List ℕ)) (found : Report) (status : ℕ) (before after : Option (List ℕ)) (faults now : ℕ)
-    → IsDue found (due_of_script directory token script) → Ends found status before after faults now
-    → EndsOfScript directory token script status before after faults now ⊎ WroteMemory status before after faults now
-ends_of_script directory token None found status before after faults now due ends = written_file found status before after faults now due ends
-ends_of_script directory token (Some script) found status before after faults now due ends =
-    ends_of_events directory token (events_of directory.peers.known script) found status before after faults now due ends
+  listed_by : (directory : Directory) (token : List ℕ) (events : List Event) (text : List ℕ)
+      → Lists directory token events keeper later text → WroteListing text status before after faults now
+      → Listed directory token events keeper later status before after faults now
+  listed_by directory token events text lists wrote = record {
+    loaded = lists.loaded;
+    opening = lists.opening;
+    opened = lists.opened;
+    offers = lists.lists.offers;
+    run = lists.lists.run;
+    written = let P : List ℕ → Type 0 = λ t. WroteListing t status before after faults now in subst P lists.lists.listing wrote;
+  }
 
-ends_of_directory : (directory : Result Directory ℕ) (token : List ℕ) (script : Option (List ℕ)) (found : Report) (status : ℕ) (before after : Option (List ℕ)) (faults now : ℕ)
-    → IsDue found (due_of_directory directory token script) → Ends found status before after faults now
-    → EndsOfDirectory directory token script status before after faults now ⊎ WroteMemory status before after faults now
-ends_of_directory (Ok directory) token script found status before after faults now due ends = ends_of_script directory token script found status before after faults now due ends
-ends_of_directory (Err line) token script found status before after faults now due ends = written_line found line status before after faults now due ends
+  written_listing : (directory : Directory) (token : List ℕ) (events : List Event) (outcome : Report) → IsDue keeper later outcome (due.Run directory token events) → EndsSo outcome
+      → (Listed directory token events keeper later status before after faults now
+      ⊎ (IsNotLoaded directory.store keeper later × WroteKeeper status before after faults now)) ⊎ OutOfMemory
+  written_listing directory token events Usage is ends = absurd (let wrong : due.Run directory token events ≡ due.Usage = is in cc)
+  written_listing directory token events (Line n) is ends = absurd (let wrong : due.Run directory token events ≡ due.Line n = is in cc)
+  written_listing directory token events File is ends = absurd (let wrong : due.Run directory token events ≡ due.File = is in cc)
+  written_listing directory token events Keeper is ends = inl (inr (is, ends))
+  written_listing directory token events Memory is ends = inr ends
+  written_listing directory token events (Listing text) is ends = inl (inl (listed_by directory token events text is ends))
+  written_listing directory token events Sound is ends = absurd (let wrong : due.Run directory token events ≡ due.Sound = is in cc)
+  written_listing directory token events (Unsound other) is ends = absurd (let wrong : due.Run directory token events ≡ due.Unsound other = is in cc)
 
-ends_of_config : (config : Option (List ℕ)) (token : List ℕ) (script : Option (List ℕ)) (found : Report) (status : ℕ) (before after : Option (List ℕ)) (faults now : ℕ)
-    → IsDue found (due_of_config config token script) → Ends found status before after faults now
-    → EndsOfConfig config token script status before after faults now ⊎ WroteMemory status before after faults now
-ends_of_config None token script found status before after faults now due ends = written_file found status before after faults now due ends
-ends_of_config (Some config) token script found status before after faults now due ends =
-    ends_of_directory (directory_of config) token script found status before after faults now due ends
+  -- ---- stage by stage
 
--- ---- a whole run
+  ends_of_events : (directory : Directory) (token : List ℕ) (events : Result (List Event) ℕ) (outcome : Report) → IsDue keeper later outcome (due_of_events directory token events)
+      → EndsSo outcome
+      → EndsOfEvents directory token events keeper later status before after faults now ⊎ OutOfMemory
+  ends_of_events directory token (Ok events) outcome due ends = written_listing directory token events outcome due ends
+  ends_of_events directory token (Err line) outcome due ends = written_line outcome line due ends
 
-replayed : (told : Option Shelf) (words : List (List ℕ)) (asked : Asked) (found : Report) (status : ℕ) (before after : Option (List ℕ)) (faults now : ℕ)
-    → IsReplay asked words → GivesBoth told asked found → Ends found status before after faults now → Replayed told words status before after faults now
-replayed told words asked found status before after faults now spelled gives ends = record {
-  asked = asked;
-  spelled = spelled;
-  answers = record { config = gives.config; script = gives.script; told_config = gives.told_config; told_script = gives.told_script };
-  ends = ends_of_config gives.config asked.token gives.script found status before after faults now gives.is_due ends;
-}
+  ends_of_script : (directory : Directory) (token : List ℕ) (script : Option (List ℕ)) (outcome : Report) → IsDue keeper later outcome (due_of_script directory token script)
+      → EndsSo outcome
+      → EndsOfScript directory token script keeper later status before after faults now ⊎ OutOfMemory
+  ends_of_script directory token None outcome due ends = written_file outcome due ends
+  ends_of_script directory token (Some script) outcome due ends = ends_of_events directory token (events_of directory.peers.known script) outcome due ends
 
-ran_asked : (told : Option Shelf) (words : List (List ℕ)) (asked : Option Asked) (found : Report) (status : ℕ) (before after : Option (List ℕ)) (faults now : ℕ)
-    → replay_of words ≡ asked → GivesRun told asked found → Ends found status before after faults now → Ran told words status before after faults now
-ran_asked told words None found status before after faults now read gives ends =
-    let P : Report → Type 0 = λ r. Ends r status before after faults now in
-    inr (record { none = (none_spelled words).0 read; said = subst P gives ends })
-ran_asked told words (Some asked) found status before after faults now read gives ends =
-    inl (replayed told words asked found status before after faults now (spelled_read asked words read) gives ends)
+  ends_of_directory : (directory : Result Directory ℕ) (token : List ℕ) (script : Option (List ℕ)) (outcome : Report)
+      → IsDue keeper later outcome (due_of_directory directory token script) → EndsSo outcome
+      → EndsOfDirectory directory token script keeper later status before after faults now ⊎ OutOfMemory
+  ends_of_directory (Ok directory) token script outcome due ends = ends_of_script directory token script outcome due ends
+  ends_of_directory (Err line) token script outcome due ends = written_line outcome line due ends
 
-pub ran : (told : Option Shelf) (words : List (List ℕ)) (found : Report) (status : ℕ) (before after : Option (List ℕ)) (faults now : ℕ)
-    → GivesRun told (replay_of words) found → Ends found status before after faults now → Ran told words status before after faults now
-ran told words found status before after faults now gives ends = ran_asked told words (replay_of words) found status before after faults now refl gives ends
+  ends_of_config : (config : Option (List ℕ)) (token : List ℕ) (script : Option (List ℕ)) (outcome : Report) → IsDue keeper later outcome (due_of_config config token script)
+      → EndsSo outcome
+      → EndsOfConfig config token script keeper later status before after faults now ⊎ OutOfMemory
+  ends_of_config None token script outcome due ends = written_file outcome due ends
+  ends_of_config (Some config) token script outcome due ends = ends_of_directory (directory_of config) token script outcome due ends
+
+  -- ---- a check
+
+  ends_of_upload : (said : Upload) (outcome : Report) → IsDue keeper later outcome (due_of_upload said) → EndsSo outcome
+      → EndsOfUpload said status before after faults now ⊎ OutOfMemory
+  ends_of_upload (upload.Accepted sheet) outcome due ends = written_sound outcome due ends
+  ends_of_upload (upload.Refused line) outcome due ends = written_fault outcome line due ends
+
+  ends_of_records : (text : Option (List ℕ)) (outcome : Report) → IsDue keeper later outcome (due_of_records text) → EndsSo outcome
+      → EndsOfRecords text status before after faults now ⊎ OutOfMemory
+  ends_of_records None outcome due ends = written_file outcome due ends
+  ends_of_records (Some text) outcome due ends = ends_of_upload (upload_of text) outcome due ends
+
+  checked : (told : Option Shelf) (words : List (List ℕ)) (records : List ℕ) (outcome : Report)
+      → IsCheck records words → GivesRecords told records outcome → EndsSo outcome → Checked told words status before after faults now
+  checked told words records outcome spelled gives ends = record {
+    records = records;
+    spelled = spelled;
+    text = gives.text;
+    told_text = gives.told_text;
+    ends = ends_of_records gives.text outcome (gives.is_due keeper later) ends;
+  }
+
+  -- ---- a whole run
+
+  replayed : (told : Option Shelf) (words : List (List ℕ)) (asked : Asked) (outcome : Report)
+      → IsReplay asked words → GivesBoth told keeper later asked outcome → EndsSo outcome → Replayed told keeper later words status before after faults now
+  replayed told words asked outcome spelled gives ends = record {
+    asked = asked;
+    spelled = spelled;
+    answers = record { config = gives.config; script = gives.script; told_config = gives.told_config; told_script = gives.told_script };
+    ends = ends_of_config gives.config asked.token gives.script outcome gives.is_due ends;
+  }
+
+  ran_command : (told : Option Shelf) (words : List (List ℕ)) (command : Option Command) (outcome : Report)
+      → command_of words ≡ command → GivesRun told keeper later command outcome → EndsSo outcome → Ran told keeper later words status before after faults now
+  ran_command told words None outcome read gives ends =
+      let P : Report → Type 0 = λ r. EndsSo r in
+      inr (inr (record { none = (none_spelled words).0 read; said = subst P gives ends }))
+  ran_command told words (Some (Serve config token turns)) outcome read gives ends = absurd gives
+  ran_command told words (Some (Replay asked)) outcome read gives ends = inl (replayed told words asked outcome (spelled_command (Replay asked) words read).1 gives ends)
+  ran_command told words (Some (Check records)) outcome read gives ends = inr (inl (checked told words records outcome (spelled_command (Check records) words read).1 gives ends))
+  ran_command told words (Some (Charges config)) outcome read gives ends = absurd gives
+  ran_command told words (Some (Workload calls salt)) outcome read gives ends = absurd gives
+
+  pub ran : (told : Option Shelf) (words : List (List ℕ)) (outcome : Report)
+      → GivesRun told keeper later (command_of words) outcome → EndsSo outcome → Ran told keeper later words status before after faults now
+  ran told words outcome gives ends = ran_command told words (command_of words) outcome refl gives ends
 
 -- ---- the calls of files
 
 called_last : (status : ℕ) (after : Option Shelf) (first last : Shelf) → (status ≡ 1) → Called status after first last → after ≡ Some last
 called_last status after first last one called = called.all (λ e. let wrong : 1 ≡ 8 = sym one ∙ e in cc)
 
+-- where the first call is the last too, it was made
+either_called : (after : Option Shelf) (one : Shelf) → (after ≡ Some one) ⊎ (after ≡ Some one) → after ≡ Some one
+either_called after one (inl e) = e
+either_called after one (inr e) = e
+
+called_once : (status : ℕ) (after : Option Shelf) (one : Shelf) → Called status after one one → after ≡ Some one
+called_once status after one called =
+    elim (cases_Bool (nat_eq status 8)) [
+      | inl y ↦ either_called after one (called.some (eqb-true status 8 y))
+      | inr n ↦ called.all (eqb-false status 8 n)
+    ]
+
 pub called_for : (shelf : Shelf) (words : List (List ℕ)) (status : ℕ) (after : Option Shelf)
-    → (status ≡ 1) ↔ (replay_of words ≡ None) → Called status after (called shelf) (shelf_after shelf (replay_of words)) → CalledFor shelf words status after
+    → (status ≡ 1) ↔ (command_of words ≡ None) → Called status after (called shelf) (shelf_after shelf (command_of words)) → CalledFor shelf words status after
 called_for shelf words status after usage calls = record {
   none = λ no_one.
-      let read : replay_of words ≡ None = (none_spelled words).1 no_one in
+      let read : command_of words ≡ None = (none_spelled words).1 no_one in
       called_last status after (called shelf) shelf (usage.1 read) (rw read at calls);
-  each = λ asked. λ spelled. (rw (reads_spelled asked words spelled) at calls);
+  each = λ asked. λ spelled. (rw (reads_command (Replay asked) words tt spelled) at calls);
+  checked = λ records. λ spelled. called_once status after (called shelf) (rw (reads_command (Check records) words tt spelled) at calls);
 }
 
 not_eight : (n status : ℕ) → status ≡ n → (n ≡ 8 → ⊥) → status ≡ 8 → ⊥
 not_eight n status is other eight = other (sym is ∙ eight)
 
--- by what was found due
-has_called : (found : Report) (status : ℕ) (told : Option Shelf) (first last : Shelf) (before after : Option (List ℕ)) (faults now : ℕ)
-    → HasCalled found told first last → Ends found status before after faults now → Called status told first last
-has_called Usage status told first last before after faults now called ends = record { all = λ e. called; some = λ e. absurd (not_eight 1 status ends.0 (λ w. cc) e) }
-has_called (Line line) status told first last before after faults now called ends = record { all = λ e. called; some = λ e. absurd (not_eight 2 status ends.0 (λ w. cc) e) }
-has_called File status told first last before after faults now called ends = record { all = λ e. called; some = λ e. absurd (not_eight 5 status ends.0 (λ w. cc) e) }
-has_called Memory status told first last before after faults now called ends = record { all = λ e. absurd (e ends.0); some = λ e. called }
-has_called (Listing text) status told first last before after faults now called ends = record {
-  all = λ e. called;
-  some = λ e. elim ends [
-    | inl whole ↦ absurd (not_eight 0 status whole.0 (λ w. cc) e)
-    | inr part ↦ absurd (not_eight 7 status part.0 (λ w. cc) e)
-  ];
-}
+-- status 1 comes exactly where no command was found
+other_status : (P : Type 0) (n status : ℕ) (outcome : Report) → status ≡ n → (n ≡ 1 → ⊥) → (outcome ≡ Usage → ⊥) → (outcome ≡ Usage) ↔ P → (status ≡ 1) ↔ P
+other_status P n status outcome is other asked usage = (λ one. absurd (other (sym is ∙ one)), λ p. absurd (asked (usage.1 p)))
 
-pub calls_told : (told : Option Shelf) (words : List (List ℕ)) (found : Report) (status : ℕ) (asked : Option Shelf) (before after : Option (List ℕ)) (faults now : ℕ)
-    → (status ≡ 1) ↔ (replay_of words ≡ None) → IfSome told (λ shelf. HasCalled found asked (called shelf) (shelf_after shelf (replay_of words))) → Ends found status before after faults now
+done_status : (P : Type 0) (text : List ℕ) (status : ℕ) (outcome : Report) (before after : Option (List ℕ)) (faults now : ℕ)
+    → WroteListing text status before after faults now → (outcome ≡ Usage → ⊥) → (outcome ≡ Usage) ↔ P → (status ≡ 1) ↔ P
+done_status P text status outcome before after faults now (inl whole) asked usage = other_status P 0 status outcome whole.0 (λ w. cc) asked usage
+done_status P text status outcome before after faults now (inr part) asked usage = other_status P 7 status outcome part.0 (λ w. cc) asked usage
+
+status_one : (P : Type 0) (outcome : Report) (status : ℕ) (before after : Option (List ℕ)) (faults now : ℕ)
+    → (outcome ≡ Usage) ↔ P → Ends outcome status before after faults now → (status ≡ 1) ↔ P
+status_one P Usage status before after faults now usage ends = (λ one. usage.0 refl, λ p. ends.0)
+status_one P (Line n) status before after faults now usage ends = other_status P 2 status (Line n) ends.0 (λ w. cc) (λ w. cc) usage
+status_one P File status before after faults now usage ends = other_status P 5 status File ends.0 (λ w. cc) (λ w. cc) usage
+status_one P Keeper status before after faults now usage ends = other_status P 6 status Keeper ends.0 (λ w. cc) (λ w. cc) usage
+status_one P Memory status before after faults now usage ends = other_status P 8 status Memory ends.0 (λ w. cc) (λ w. cc) usage
+status_one P (Listing text) status before after faults now usage ends = done_status P text status (Listing text) before after faults now ends (λ w. cc) usage
+status_one P Sound status before after faults now usage ends = done_status P (codes "ok\n") status Sound before after faults now ends (λ w. cc) usage
+status_one P (Unsound line) status before after faults now usage ends = other_status P 3 status (Unsound line) ends.0 (λ w. cc) (λ w. cc) usage
+
+-- by what was found due
+called_all : (n status : ℕ) (told : Option Shelf) (first last : Shelf) → status ≡ n → (n ≡ 8 → ⊥) → told ≡ Some last → Called status told first last
+called_all n status told first last is other called = record { all = λ e. called; some = λ e. absurd (not_eight n status is other e) }
+
+called_done : (text : List ℕ) (status : ℕ) (told : Option Shelf) (first last : Shelf) (before after : Option (List ℕ)) (faults now : ℕ)
+    → told ≡ Some last → WroteListing text status before after faults now → Called status told first last
+called_done text status told first last before after faults now called (inl whole) = called_all 0 status told first last whole.0 (λ w. cc) called
+called_done text status told first last before after faults now called (inr part) = called_all 7 status told first last part.0 (λ w. cc) called
+
+has_called : (outcome : Report) (status : ℕ) (told : Option Shelf) (first last : Shelf) (before after : Option (List ℕ)) (faults now : ℕ)
+    → HasCalled outcome told first last → Ends outcome status before after faults now → Called status told first last
+has_called Usage status told first last before after faults now called ends = called_all 1 status told first last ends.0 (λ w. cc) called
+has_called (Line line) status told first last before after faults now called ends = called_all 2 status told first last ends.0 (λ w. cc) called
+has_called File status told first last before after faults now called ends = called_all 5 status told first last ends.0 (λ w. cc) called
+has_called Keeper status told first last before after faults now called ends = called_all 6 status told first last ends.0 (λ w. cc) called
+has_called Memory status told first last before after faults now called ends = record { all = λ e. absurd (e ends.0); some = λ e. called }
+has_called (Listing text) status told first last before after faults now called ends = called_done text status told first last before after faults now called ends
+has_called Sound status told first last before after faults now called ends = called_done (codes "ok\n") status told first last before after faults now called ends
+has_called (Unsound line) status told first last before after faults now called ends = called_all 3 status told first last ends.0 (λ w. cc) called
+
+pub calls_told : (told : Option Shelf) (words : List (List ℕ)) (outcome : Report) (status : ℕ) (asked : Option Shelf) (before after : Option (List ℕ)) (faults now : ℕ)
+    → (outcome ≡ Usage) ↔ (command_of words ≡ None)
+    → IfSome told (λ shelf. HasCalled outcome asked (called shelf) (shelf_after shelf (command_of words))) → Ends outcome status before after faults now
     → IfSome told (λ shelf. CalledFor shelf words status asked)
-calls_told None words found status asked before after faults now usage calls ends = tt
-calls_told (Some shelf) words found status asked before after faults now usage calls ends =
-    called_for shelf words status asked usage (has_called found status asked (called shelf) (shelf_after shelf (replay_of words)) before after faults now calls ends)
+calls_told None words outcome status asked before after faults now usage calls ends = tt
+calls_told (Some shelf) words outcome status asked before after faults now usage calls ends =
+    called_for shelf words status asked (status_one (command_of words ≡ None) outcome status before after faults now usage ends)
+    (has_called outcome status asked (called shelf) (shelf_after shelf (command_of words)) before after faults now calls ends)
+
+-- ---- the keeper, where no run comes to it
+
+early_spared : {K : Type 0} (outcome : Report) (keeper later : K) (status : ℕ) (before after : Option (List ℕ)) (faults now : ℕ) → Spares outcome keeper later
+    → Ends outcome status before after faults now
+    → (status ≡ 0 → ⊥) → (status ≡ 6 → ⊥) → (status ≡ 7 → ⊥) → (status ≡ 8 → ⊥) → later ≡ keeper
+early_spared Usage keeper later status before after faults now spares ends zero six seven eight = spares
+early_spared (Line line) keeper later status before after faults now spares ends zero six seven eight = spares
+early_spared File keeper later status before after faults now spares ends zero six seven eight = spares
+early_spared Keeper keeper later status before after faults now spares ends zero six seven eight = absurd (six ends.0)
+early_spared Memory keeper later status before after faults now spares ends zero six seven eight = absurd (eight ends.0)
+early_spared (Listing text) keeper later status before after faults now spares ends zero six seven eight =
+    elim ends [
+      | inl whole ↦ absurd (zero whole.0)
+      | inr part ↦ absurd (seven part.0)
+    ]
+early_spared Sound keeper later status before after faults now spares ends zero six seven eight = spares
+early_spared (Unsound line) keeper later status before after faults now spares ends zero six seven eight = spares
+
+pub is_spared : {K : Type 0} (words : List (List ℕ)) (outcome : Report) (keeper later : K) (status : ℕ) (before after : Option (List ℕ)) (faults now : ℕ)
+    → Spares outcome keeper later → SparedBy (command_of words) keeper later → Ends outcome status before after faults now → IsSpared words status keeper later
+is_spared {K} words outcome keeper later status before after faults now spares spared ends =
+    let P : Option Command → Type 0 = λ c. SparedBy c keeper later in
+    record {
+      none = λ no_one. subst P ((none_spelled words).1 no_one) spared;
+      checked = λ records. λ spelled. subst P (reads_command (Check records) words tt spelled) spared;
+      early = early_spared outcome keeper later status before after faults now spares ends;
+    }

@@ -1,18 +1,28 @@
 -- What the statement on a whole run says of each status.
-use Rattle.std.proofs.Common.{◌≡◌, ◌⊎◌, ◌==◌, true, ℕ, List, [], ◌∷◌, refl, subst, sym, ap, ◌∙◌, inl, inr, Option, Some, None, Result, Ok, Err}
+use Rattle.std.proofs.Common.{◌≡◌, ◌⊎◌, ◌==◌, Bool, true, false, ℕ, List, [], ◌∷◌, refl, subst, sym, ap, ◌∙◌, inl, inr, codes, Option, Some, None, Result, Ok, Err}
 use Rattle.std.specs.List.{list_any}
 use Rattle.mmtel_directory.specs.Directory.{directory_of}
 use Rattle.mmtel_directory.specs.declared.directories.Directory.{Directory}
+use Rattle.mmtel_keeper.specs.Kept.{KeeperCalls}
 use Rattle.mmtel_outside.specs.Counts.{Rose}
 use Rattle.mmtel_outside.specs.Shelf.{Shelf, answer_at, called}
 use Rattle.mmtel_outside.specs.declared.events.Event.{Event}
+use Rattle.mmtel_script.specs.Listing.{listing_of}
 use Rattle.mmtel_script.specs.Script.{events_of}
 use Rattle.mmtel_scan.proofs.ChainLaws.{some_is}
+use Rattle.mmtel_uploads.specs.Uploads.{upload_of}
+use Rattle.mmtel_uploads.specs.declared.uploads.Upload.{Upload}
+use Rattle.mmtel_uploads.specs.declared.uploads.Upload.TheVariants as upload
+use Rattle.mmtel_cli.proofs.LineChecked.{check_is_no_replay, reads_checked}
 use Rattle.mmtel_cli.proofs.LineRead.{reads_spelled}
-use Rattle.mmtel_cli.specs.CommandLine.{IsReplay}
-use Rattle.mmtel_cli.specs.Runs.{Listed, WroteMemory, EndsOfEvents, EndsOfScript, EndsOfDirectory, EndsOfConfig, Replayed}
-use Rattle.mmtel_cli.specs.Sayings.{IsGood, GoodOnesAreListed, GoodOnesSucceed, ZeroIsListed, OneIsUsage, SevenRose, ZeroKept, StatusesAreThese, NoFaultNoFailure}
-use Rattle.mmtel_cli.specs.Words.{Asked, replay_of}
+use Rattle.mmtel_cli.specs.CommandLine.{Command, Replay, Check, IsHere, IsReplay, IsCheck, SpellsNone}
+use Rattle.mmtel_cli.specs.Ends.{WroteListing}
+use Rattle.mmtel_cli.specs.Keeping.{IsNotLoaded, IsOpened, KeeperSeen, refuses}
+use Rattle.mmtel_cli.specs.Runs.{Listed, WroteMemory, Replayed, Checked, Ran}
+use Rattle.mmtel_cli.specs.Runs.{EndsOfEvents, EndsOfScript, EndsOfDirectory, EndsOfConfig, EndsOfUpload, EndsOfRecords}
+use Rattle.mmtel_cli.specs.Sayings.{IsGood, IsWilling, GoodOnesAreListed, GoodOnesSucceed, GoodOnesWantAKeeper}
+use Rattle.mmtel_cli.specs.Sayings.{IsThere, ChecksAreTold, ListsOne, ChecksOne, RefusesOne, ZeroIsListed, OneIsUsage, ThreeIsRefused, SixRose, SevenRose, ZeroKept, StatusesAreThese, NoFaultNoFailure}
+use Rattle.mmtel_cli.specs.Words.{Asked, replay_of, records_of}
 
 -- ---- the words spell one command at most
 
@@ -22,145 +32,331 @@ same_asked a b words one other =
     let again : replay_of words ≡ Some b = reads_spelled b words other in
     some_is a b (sym read ∙ again)
 
+same_records : (a b : List ℕ) (words : List (List ℕ)) → IsCheck a words → IsCheck b words → a ≡ b
+same_records a b words one other =
+    let read : records_of words ≡ Some a = reads_checked a words one in
+    let again : records_of words ≡ Some b = reads_checked b words other in
+    some_is a b (sym read ∙ again)
+
+never_both : (asked : Asked) (records : List ℕ) (words : List (List ℕ)) → IsReplay asked words → IsCheck records words → ⊥
+never_both asked records words one other =
+    let read : replay_of words ≡ Some asked = reads_spelled asked words one in
+    let none : replay_of words ≡ None = check_is_no_replay records words other in
+    let wrong : Some asked ≡ None = sym read ∙ none in
+    cc
+
 -- ---- files that are there and good
 
-good_ends : (directory : Directory) (token config_text script_text : List ℕ) (events : List Event) (config script : Option (List ℕ)) (status : ℕ) (before after : Option (List ℕ)) (faults now : ℕ)
-    → config ≡ Some config_text → directory_of config_text ≡ Ok directory → script ≡ Some script_text → events_of directory.peers.known script_text ≡ Ok events
-    → EndsOfConfig config token script status before after faults now ⊎ WroteMemory status before after faults now
-    → Listed directory token events status before after faults now ⊎ WroteMemory status before after faults now
-good_ends directory token config_text script_text events config script status before after faults now config_is directory_is script_is events_is ends =
-    rw (config_is, script_is, directory_is, events_is) at ends
+module _ (shelf : Shelf) (keeper later : KeeperSeen) (words : List (List ℕ)) (asked : Asked) (directory : Directory) (events : List Event)
+    (status : ℕ) (before after : Option (List ℕ)) (faults now : ℕ) where
+  -- how such a run ends
+  abbrev EndsWell : Type 0
+  EndsWell = EndsOfEvents directory asked.token (Ok events) keeper later status before after faults now
 
-good_replay : (shelf : Shelf) (words : List (List ℕ)) (asked : Asked) (directory : Directory) (events : List Event) (status : ℕ) (before after : Option (List ℕ)) (faults now : ℕ)
-    → IsGood shelf words asked directory events → (r : Replayed (Some shelf) words status before after faults now)
-    → Listed directory asked.token events status before after faults now ⊎ WroteMemory status before after faults now
-good_replay shelf words asked directory events status before after faults now good r =
-    let same : r.asked ≡ asked = same_asked r.asked asked words r.spelled good.spelled in
-    let P : Asked → Type 0 = λ a. EndsOfConfig r.answers.config a.token r.answers.script status before after faults now ⊎ WroteMemory status before after faults now in
-    good_ends directory asked.token good.config good.script events r.answers.config r.answers.script status before after faults now
-    (r.answers.told_config ∙ ap (λ (a : Asked). answer_at shelf a.config) same ∙ good.config_there) good.config_read
-    (r.answers.told_script ∙ ap (λ (a : Asked). answer_at (called shelf) a.script) same ∙ good.script_there) good.script_read
-    (subst P same r.ends)
+  good_ends : (config_text script_text : List ℕ) (config script : Option (List ℕ))
+      → config ≡ Some config_text → directory_of config_text ≡ Ok directory → script ≡ Some script_text → events_of directory.peers.known script_text ≡ Ok events
+      → EndsOfConfig config asked.token script keeper later status before after faults now ⊎ WroteMemory status before after faults now
+      → EndsWell ⊎ WroteMemory status before after faults now
+  good_ends config_text script_text config script config_is directory_is script_is events_is ends =
+      rw (config_is, script_is, directory_is, events_is) at ends
 
-memory_is : (directory : Directory) (token : List ℕ) (events : List Event) (status : ℕ) (before after : Option (List ℕ)) (faults now : ℕ)
-    → Listed directory token events status before after faults now ⊎ WroteMemory status before after faults now
-    → Listed directory token events status before after faults now ⊎ (status ≡ 8)
-memory_is directory token events status before after faults now (inl listed) = inl listed
-memory_is directory token events status before after faults now (inr memory) = inr memory.0
+  good_replay : IsGood shelf words asked directory events → (r : Replayed (Some shelf) keeper later words status before after faults now)
+      → EndsWell ⊎ WroteMemory status before after faults now
+  good_replay good r =
+      let same : r.asked ≡ asked = same_asked r.asked asked words r.spelled good.spelled in
+      let P : Asked
+      → Type 0 = λ a. EndsOfConfig r.answers.config a.token r.answers.script keeper later status before after faults now ⊎ WroteMemory status before after faults now in
+      good_ends good.config good.script r.answers.config r.answers.script
+      (r.answers.told_config ∙ ap (λ (a : Asked). answer_at shelf a.config) same ∙ good.config_there) good.config_read
+      (r.answers.told_script ∙ ap (λ (a : Asked). answer_at (called shelf) a.script) same ∙ good.script_there) good.script_read
+      (subst P same r.ends)
+
+  good_run : IsGood shelf words asked directory events → Ran (Some shelf) keeper later words status before after faults now → EndsWell ⊎ (status ≡ 8)
+  good_run good (inl r) =
+      elim (good_replay good r) [
+        | inl ends ↦ inl ends
+        | inr memory ↦ inr memory.0
+      ]
+  good_run good (inr (inl c)) = absurd (never_both asked c.records words good.spelled c.spelled)
+  good_run good (inr (inr refused)) = absurd (refused.none (Replay asked) tt good.spelled)
+
+-- a keeper that can be bound and loaded is one that was not refused
+opens : (path : List ℕ) (calls since : Option KeeperCalls) (told : KeeperCalls) (refused : Bool) → IsOpened path calls since refused → calls ≡ Some told → refuses told ≡ refused
+opens path None since told refused opened is = absurd cc
+opens path (Some calls) since told refused opened is = let same : calls ≡ told = some_is calls told is in ap refuses (sym same) ∙ opened.1
+
+never_unwilling : (store : List ℕ) (keeper later : KeeperSeen) → IsWilling keeper later → IsNotLoaded store keeper later → ⊥
+never_unwilling store keeper later (inl willing) not =
+    let wrong : false ≡ true = sym willing.2 ∙ opens store keeper.calls later.calls willing.0 true not.calls willing.1 in
+    cc
+never_unwilling store keeper later (inr willing) not = willing not.rose
 
 pub good_ones_are_listed : GoodOnesAreListed
-good_ones_are_listed shelf words asked directory events status before after faults now good (inl r) =
-    memory_is directory asked.token events status before after faults now (good_replay shelf words asked directory events status before after faults now good r)
-good_ones_are_listed shelf words asked directory events status before after faults now good (inr refused) = absurd (refused.none asked good.spelled)
-
-succeeds : (directory : Directory) (token : List ℕ) (events : List Event) (status : ℕ) (before after : Option (List ℕ)) (faults now : ℕ)
-    → Listed directory token events status before after faults now ⊎ (status ≡ 8) → ¬ (Rose faults now) → (status ≡ 0) ⊎ (status ≡ 8)
-succeeds directory token events status before after faults now (inr memory) kept = inr memory
-succeeds directory token events status before after faults now (inl listed) kept =
-    elim listed.written [
-      | inl whole ↦ inl whole.0
-      | inr part ↦ absurd (kept part.2)
+good_ones_are_listed shelf keeper later words asked directory events status before after faults now good willing ran =
+    elim (good_run shelf keeper later words asked directory events status before after faults now good ran) [
+      | inl ends ↦ elim ends [
+        | inl listed ↦ inl listed
+        | inr not ↦ absurd (never_unwilling directory.store keeper later willing not.0)
+      ]
+      | inr memory ↦ inr memory
     ]
 
 pub good_ones_succeed : GoodOnesSucceed
-good_ones_succeed shelf words asked directory events status before after faults now good ran kept =
-    succeeds directory asked.token events status before after faults now
-    (good_ones_are_listed shelf words asked directory events status before after faults now good ran) kept
+good_ones_succeed shelf keeper later words asked directory events status before after faults now good willing ran kept =
+    elim (good_ones_are_listed shelf keeper later words asked directory events status before after faults now good willing ran) [
+      | inl listed ↦ elim listed.written [
+        | inl whole ↦ inl whole.0
+        | inr part ↦ absurd (kept part.2)
+      ]
+      | inr memory ↦ inr memory
+    ]
+
+pub good_ones_want_a_keeper : GoodOnesWantAKeeper
+good_ones_want_a_keeper shelf keeper later calls words asked directory events status before after faults now good is unwilling ran =
+    elim (good_run shelf keeper later words asked directory events status before after faults now good ran) [
+      | inl ends ↦ elim ends [
+        | inl listed ↦ absurd (let wrong : true ≡ false = sym unwilling ∙ opens directory.store keeper.calls listed.opening.calls calls false listed.opened.calls is in cc)
+        | inr not ↦ inl not.1.0
+      ]
+      | inr memory ↦ inr memory
+    ]
+
+-- ---- a file that is checked
+
+told_ends : (text : Option (List ℕ)) (there : List ℕ) (status : ℕ) (before after : Option (List ℕ)) (faults now : ℕ) → text ≡ Some there
+    → EndsOfRecords text status before after faults now ⊎ WroteMemory status before after faults now → EndsOfUpload (upload_of there) status before after faults now ⊎ (status ≡ 8)
+told_ends text there status before after faults now is (inl ends) =
+    let P : Option (List ℕ) → Type 0 = λ t. EndsOfRecords t status before after faults now in
+    inl (subst P is ends)
+told_ends text there status before after faults now is (inr memory) = inr memory.0
+
+pub checks_are_told : ChecksAreTold
+checks_are_told shelf keeper later words text status before after faults now there (inl r) = absurd (never_both r.asked there.records words r.spelled there.spelled)
+checks_are_told shelf keeper later words text status before after faults now there (inr (inl c)) =
+    told_ends c.text text status before after faults now
+    (c.told_text ∙ (ap (answer_at shelf) (same_records c.records there.records words c.spelled there.spelled) ∙ there.there)) c.ends
+checks_are_told shelf keeper later words text status before after faults now there (inr (inr refused)) = absurd (refused.none (Check there.records) tt there.spelled)
 
 -- ---- each status
 
--- what a run's end says of the status, of the listing and of the sink
-record Ending (asked : Asked) (status : ℕ) (before after : Option (List ℕ)) (faults now : ℕ) : Type 0 where
-  known : list_any (λ known. known == status) (0 ∷ 1 ∷ 2 ∷ 5 ∷ 7 ∷ 8 ∷ []) ≡ true
+-- what a run's end says of the status, of what it means at 0, at 3 and at 6, and of the sink
+record Ending (Zero Three Six : Type 0) (status : ℕ) (faults now : ℕ) : Type 0 where
+  known : list_any (λ known. known == status) (0 ∷ 1 ∷ 2 ∷ 3 ∷ 5 ∷ 6 ∷ 7 ∷ 8 ∷ []) ≡ true
   other : status ≡ 1 → ⊥
-  listed : status ≡ 0 → (directory : Directory) × (events : List Event) × Listed directory asked.token events 0 before after faults now
+  zero : status ≡ 0 → Zero
+  three : status ≡ 3 → Three
+  six : status ≡ 6 → Six
   rose : status ≡ 7 → Rose faults now
   kept : status ≡ 0 → now ≡ faults
-  fine : (status ≡ 5 → ⊥) → (status ≡ 7 → ⊥) → list_any (λ known. known == status) (0 ∷ 1 ∷ 2 ∷ 8 ∷ []) ≡ true
+  fine : (status ≡ 5 → ⊥) → (status ≡ 6 → ⊥) → (status ≡ 7 → ⊥) → list_any (λ known. known == status) (0 ∷ 1 ∷ 2 ∷ 3 ∷ 8 ∷ []) ≡ true
 
-ending_line : (asked : Asked) (status : ℕ) (before after : Option (List ℕ)) (faults now : ℕ) → status ≡ 2 → Ending asked status before after faults now
-ending_line asked status before after faults now e =
-    let P : ℕ → Type 0 = λ s. Ending asked s before after faults now in
-    subst P (sym e) (record { known = refl; other = λ x. absurd cc; listed = λ x. absurd cc; rose = λ x. absurd cc; kept = λ x. absurd cc; fine = λ five. λ seven. refl })
+module _ (Zero Three Six : Type 0) (status faults now : ℕ) where
+  abbrev EndingAt : ℕ → Type 0
+  EndingAt s = Ending Zero Three Six s faults now
 
-ending_file : (asked : Asked) (status : ℕ) (before after : Option (List ℕ)) (faults now : ℕ) → status ≡ 5 → Ending asked status before after faults now
-ending_file asked status before after faults now e =
-    let P : ℕ → Type 0 = λ s. Ending asked s before after faults now in
-    subst P (sym e) (record { known = refl; other = λ x. absurd cc; listed = λ x. absurd cc; rose = λ x. absurd cc; kept = λ x. absurd cc; fine = λ five. λ seven. absurd (five refl) })
+  ending_line : status ≡ 2 → EndingAt status
+  ending_line e = subst EndingAt (sym e) (record {
+    known = refl;
+    other = λ x. absurd cc;
+    zero = λ x. absurd cc;
+    three = λ x. absurd cc;
+    six = λ x. absurd cc;
+    rose = λ x. absurd cc;
+    kept = λ x. absurd cc;
+    fine = λ five. λ six. λ seven. refl;
+  })
 
-ending_memory : (asked : Asked) (status : ℕ) (before after : Option (List ℕ)) (faults now : ℕ) → status ≡ 8 → Ending asked status before after faults now
-ending_memory asked status before after faults now e =
-    let P : ℕ → Type 0 = λ s. Ending asked s before after faults now in
-    subst P (sym e) (record { known = refl; other = λ x. absurd cc; listed = λ x. absurd cc; rose = λ x. absurd cc; kept = λ x. absurd cc; fine = λ five. λ seven. refl })
+  ending_refused : Three → status ≡ 3 → EndingAt status
+  ending_refused three e = subst EndingAt (sym e) (record {
+    known = refl;
+    other = λ x. absurd cc;
+    zero = λ x. absurd cc;
+    three = λ x. three;
+    six = λ x. absurd cc;
+    rose = λ x. absurd cc;
+    kept = λ x. absurd cc;
+    fine = λ five. λ six. λ seven. refl;
+  })
 
-ending_listed : (asked : Asked) (directory : Directory) (events : List Event) (status : ℕ) (before after : Option (List ℕ)) (faults now : ℕ)
-    → Listed directory asked.token events status before after faults now → Ending asked status before after faults now
-ending_listed asked directory events status before after faults now l =
-    let P : ℕ → Type 0 = λ s. Ending asked s before after faults now in
-    elim l.written [
-      | inl w ↦ subst P (sym w.0) (record {
-        known = refl;
-        other = λ x. absurd cc;
-        listed = λ x. (directory, events, record { offers = l.offers; exact = l.exact; secret = l.secret; written = inl (refl, w.1, w.2) });
-        rose = λ x. absurd cc;
-        kept = λ x. w.2;
-        fine = λ five. λ seven. refl;
-      })
-      | inr w ↦ subst P (sym w.0) (record { known = refl; other = λ x. absurd cc; listed = λ x. absurd cc; rose = λ x. w.2; kept = λ x. absurd cc; fine = λ five. λ seven. absurd (seven refl) })
-    ]
+  ending_file : status ≡ 5 → EndingAt status
+  ending_file e = subst EndingAt (sym e) (record {
+    known = refl;
+    other = λ x. absurd cc;
+    zero = λ x. absurd cc;
+    three = λ x. absurd cc;
+    six = λ x. absurd cc;
+    rose = λ x. absurd cc;
+    kept = λ x. absurd cc;
+    fine = λ five. λ six. λ seven. absurd (five refl);
+  })
 
-ending_events : (asked : Asked) (directory : Directory) (events : Result (List Event) ℕ) (status : ℕ) (before after : Option (List ℕ)) (faults now : ℕ)
-    → EndsOfEvents directory asked.token events status before after faults now → Ending asked status before after faults now
-ending_events asked directory (Ok events) status before after faults now e = ending_listed asked directory events status before after faults now e
-ending_events asked directory (Err line) status before after faults now e = ending_line asked status before after faults now e.0
+  ending_keeper : Six → status ≡ 6 → EndingAt status
+  ending_keeper rose e = subst EndingAt (sym e) (record {
+    known = refl;
+    other = λ x. absurd cc;
+    zero = λ x. absurd cc;
+    three = λ x. absurd cc;
+    six = λ x. rose;
+    rose = λ x. absurd cc;
+    kept = λ x. absurd cc;
+    fine = λ five. λ six. λ seven. absurd (six refl);
+  })
 
-ending_script : (asked : Asked) (directory : Directory) (script : Option (List ℕ)) (status : ℕ) (before after : Option (List ℕ)) (faults now : ℕ)
-    → EndsOfScript directory asked.token script status before after faults now → Ending asked status before after faults now
-ending_script asked directory None status before after faults now e = ending_file asked status before after faults now e.0
-ending_script asked directory (Some script) status before after faults now e = ending_events asked directory (events_of directory.peers.known script) status before after faults now e
+  ending_memory : status ≡ 8 → EndingAt status
+  ending_memory e = subst EndingAt (sym e) (record {
+    known = refl;
+    other = λ x. absurd cc;
+    zero = λ x. absurd cc;
+    three = λ x. absurd cc;
+    six = λ x. absurd cc;
+    rose = λ x. absurd cc;
+    kept = λ x. absurd cc;
+    fine = λ five. λ six. λ seven. refl;
+  })
 
-ending_directory : (asked : Asked) (directory : Result Directory ℕ) (script : Option (List ℕ)) (status : ℕ) (before after : Option (List ℕ)) (faults now : ℕ)
-    → EndsOfDirectory directory asked.token script status before after faults now → Ending asked status before after faults now
-ending_directory asked (Ok directory) script status before after faults now e = ending_script asked directory script status before after faults now e
-ending_directory asked (Err line) script status before after faults now e = ending_line asked status before after faults now e.0
+  -- a text that is due of a command that is done: what it means at 0 may rest on its having been written
+  ending_written : (text : List ℕ) (before after : Option (List ℕ)) → (WroteListing text 0 before after faults now → Zero) → WroteListing text status before after faults now
+      → EndingAt status
+  ending_written text before after zero (inl w) = subst EndingAt (sym w.0) (record {
+    known = refl;
+    other = λ x. absurd cc;
+    zero = λ x. zero (inl (refl, w.1, w.2));
+    three = λ x. absurd cc;
+    six = λ x. absurd cc;
+    rose = λ x. absurd cc;
+    kept = λ x. w.2;
+    fine = λ five. λ six. λ seven. refl;
+  })
+  ending_written text before after zero (inr w) = subst EndingAt (sym w.0) (record {
+    known = refl;
+    other = λ x. absurd cc;
+    zero = λ x. absurd cc;
+    three = λ x. absurd cc;
+    six = λ x. absurd cc;
+    rose = λ x. w.2;
+    kept = λ x. absurd cc;
+    fine = λ five. λ six. λ seven. absurd (seven refl);
+  })
 
-ending_config : (asked : Asked) (config script : Option (List ℕ)) (status : ℕ) (before after : Option (List ℕ)) (faults now : ℕ)
-    → EndsOfConfig config asked.token script status before after faults now ⊎ WroteMemory status before after faults now → Ending asked status before after faults now
-ending_config asked None script status before after faults now (inl e) = ending_file asked status before after faults now e.0
-ending_config asked (Some config) script status before after faults now (inl e) = ending_directory asked (directory_of config) script status before after faults now e
-ending_config asked config script status before after faults now (inr memory) = ending_memory asked status before after faults now memory.0
+-- ---- of `replay`
 
-ending : (told : Option Shelf) (words : List (List ℕ)) (status : ℕ) (before after : Option (List ℕ)) (faults now : ℕ)
-    → (r : Replayed told words status before after faults now) → Ending r.asked status before after faults now
-ending told words status before after faults now r = ending_config r.asked r.answers.config r.answers.script status before after faults now r.ends
+-- at 0 a run was listed; never 3; at 6 the keeper's count rose
+abbrev ListsAtZero : Asked → (keeper later : KeeperSeen) → Option (List ℕ) → Option (List ℕ) → ℕ → ℕ → Type 0
+ListsAtZero asked keeper later before after faults now =
+    (directory : Directory) × (events : List Event) × Listed directory asked.token events keeper later 0 before after faults now
+
+module _ (asked : Asked) (keeper later : KeeperSeen) (status : ℕ) (before after : Option (List ℕ)) (faults now : ℕ) where
+  abbrev AtZero : Type 0
+  AtZero = ListsAtZero asked keeper later before after faults now
+
+  abbrev AtSix : Type 0
+  AtSix = Rose keeper.faults later.faults
+
+  abbrev EndsReplay : Type 0
+  EndsReplay = Ending AtZero ⊥ AtSix status faults now
+
+  ending_listed : (directory : Directory) (events : List Event) → Listed directory asked.token events keeper later status before after faults now → EndsReplay
+  ending_listed directory events l =
+      ending_written AtZero ⊥ AtSix status faults now (listing_of l.offers) before after
+      (λ w. (directory, events, record { loaded = l.loaded; opening = l.opening; opened = l.opened; offers = l.offers; run = l.run; written = w })) l.written
+
+  ending_events : (directory : Directory) (events : Result (List Event) ℕ) → EndsOfEvents directory asked.token events keeper later status before after faults now → EndsReplay
+  ending_events directory (Ok events) (inl e) = ending_listed directory events e
+  ending_events directory (Ok events) (inr e) = ending_keeper AtZero ⊥ AtSix status faults now e.0.rose e.1.0
+  ending_events directory (Err line) e = ending_line AtZero ⊥ AtSix status faults now e.0
+
+  ending_script : (directory : Directory) (script : Option (List ℕ)) → EndsOfScript directory asked.token script keeper later status before after faults now → EndsReplay
+  ending_script directory None e = ending_file AtZero ⊥ AtSix status faults now e.0
+  ending_script directory (Some script) e = ending_events directory (events_of directory.peers.known script) e
+
+  ending_directory : (directory : Result Directory ℕ) (script : Option (List ℕ)) → EndsOfDirectory directory asked.token script keeper later status before after faults now
+      → EndsReplay
+  ending_directory (Ok directory) script e = ending_script directory script e
+  ending_directory (Err line) script e = ending_line AtZero ⊥ AtSix status faults now e.0
+
+  ending_config : (config script : Option (List ℕ))
+      → EndsOfConfig config asked.token script keeper later status before after faults now ⊎ WroteMemory status before after faults now → EndsReplay
+  ending_config None script (inl e) = ending_file AtZero ⊥ AtSix status faults now e.0
+  ending_config (Some config) script (inl e) = ending_directory (directory_of config) script e
+  ending_config config script (inr memory) = ending_memory AtZero ⊥ AtSix status faults now memory.0
+
+-- ---- of `check`
+
+module _ (words : List (List ℕ)) (records : List ℕ) (spelled : IsCheck records words) (status : ℕ) (before after : Option (List ℕ)) (faults now : ℕ) where
+  abbrev EndsCheck : Type 0
+  EndsCheck = Ending (ChecksOne words 0 before after faults now) (RefusesOne words) ⊥ status faults now
+
+  ending_upload : (text : List ℕ) (said : Upload) → upload_of text ≡ said → EndsOfUpload said status before after faults now → EndsCheck
+  ending_upload text (upload.Accepted sheet) is e =
+      ending_written (ChecksOne words 0 before after faults now) (RefusesOne words) ⊥ status faults now (codes "ok\n") before after
+      (λ w. record { records = records; spelled = spelled; text = text; sheet = sheet; sound = is; written = w }) e
+  ending_upload text (upload.Refused line) is e =
+      ending_refused (ChecksOne words 0 before after faults now) (RefusesOne words) ⊥ status faults now
+      (record { records = records; spelled = spelled; text = text; line = line; unsound = is }) e.0
+
+  ending_records : (text : Option (List ℕ)) → EndsOfRecords text status before after faults now ⊎ WroteMemory status before after faults now → EndsCheck
+  ending_records None (inl e) = ending_file (ChecksOne words 0 before after faults now) (RefusesOne words) ⊥ status faults now e.0
+  ending_records (Some text) (inl e) = ending_upload text (upload_of text) refl e
+  ending_records text (inr memory) = ending_memory (ChecksOne words 0 before after faults now) (RefusesOne words) ⊥ status faults now memory.0
 
 -- ---- the sayings
 
+module _ (told : Option Shelf) (keeper later : KeeperSeen) (words : List (List ℕ)) (status : ℕ) (before after : Option (List ℕ)) (faults now : ℕ) where
+  of_replay : (r : Replayed told keeper later words status before after faults now)
+      → Ending (ListsAtZero r.asked keeper later before after faults now) ⊥ (Rose keeper.faults later.faults) status faults now
+  of_replay r = ending_config r.asked keeper later status before after faults now r.answers.config r.answers.script r.ends
+
+  of_check : Checked told words status before after faults now → Ending (ChecksOne words 0 before after faults now) (RefusesOne words) ⊥ status faults now
+  of_check c = ending_records words c.records c.spelled status before after faults now c.text c.ends
+
+-- another status than that of `usage`
+not_usage : (n status : ℕ) → status ≡ 1 → (n ≡ 1 → ⊥) → status ≡ n → ⊥
+not_usage n status one other is = other (sym is ∙ one)
+
 pub zero_is_listed : ZeroIsListed
-zero_is_listed told words status before after faults now (inl r) zero =
-    let one = (ending told words status before after faults now r).listed zero in
-    record { asked = r.asked; spelled = r.spelled; directory = one.0; events = one.1; listed = one.2 }
-zero_is_listed told words status before after faults now (inr refused) zero = absurd (let one = refused.said.0 in let wrong : 0 ≡ 1 = sym zero ∙ one in cc)
+zero_is_listed told keeper later words status before after faults now (inl r) zero =
+    let one = (of_replay told keeper later words status before after faults now r).zero zero in
+    inl (record { asked = r.asked; spelled = r.spelled; directory = one.0; events = one.1; listed = one.2 })
+zero_is_listed told keeper later words status before after faults now (inr (inl c)) zero = inr ((of_check told keeper later words status before after faults now c).zero zero)
+zero_is_listed told keeper later words status before after faults now (inr (inr refused)) zero = absurd (not_usage 0 status refused.said.0 (λ w. cc) zero)
 
 pub one_is_usage : OneIsUsage
-one_is_usage told words status before after faults now (inl r) =
-    (λ one. absurd ((ending told words status before after faults now r).other one), λ no_one. absurd (no_one r.asked r.spelled))
-one_is_usage told words status before after faults now (inr refused) = (λ one. refused.none, λ no_one. refused.said.0)
+one_is_usage told keeper later words status before after faults now (inl r) =
+    (λ one. absurd ((of_replay told keeper later words status before after faults now r).other one), λ no_one. absurd (no_one (Replay r.asked) tt r.spelled))
+one_is_usage told keeper later words status before after faults now (inr (inl c)) =
+    (λ one. absurd ((of_check told keeper later words status before after faults now c).other one), λ no_one. absurd (no_one (Check c.records) tt c.spelled))
+one_is_usage told keeper later words status before after faults now (inr (inr refused)) = (λ one. refused.none, λ no_one. refused.said.0)
+
+pub three_is_refused : ThreeIsRefused
+three_is_refused told keeper later words status before after faults now (inl r) three = absurd ((of_replay told keeper later words status before after faults now r).three three)
+three_is_refused told keeper later words status before after faults now (inr (inl c)) three = (of_check told keeper later words status before after faults now c).three three
+three_is_refused told keeper later words status before after faults now (inr (inr refused)) three = absurd (not_usage 3 status refused.said.0 (λ w. cc) three)
+
+pub six_rose : SixRose
+six_rose told keeper later words status before after faults now (inl r) six = (of_replay told keeper later words status before after faults now r).six six
+six_rose told keeper later words status before after faults now (inr (inl c)) six = absurd ((of_check told keeper later words status before after faults now c).six six)
+six_rose told keeper later words status before after faults now (inr (inr refused)) six = absurd (not_usage 6 status refused.said.0 (λ w. cc) six)
 
 pub seven_rose : SevenRose
-seven_rose told words status before after faults now (inl r) seven = (ending told words status before after faults now r).rose seven
-seven_rose told words status before after faults now (inr refused) seven = absurd (let one = refused.said.0 in let wrong : 7 ≡ 1 = sym seven ∙ one in cc)
+seven_rose told keeper later words status before after faults now (inl r) seven = (of_replay told keeper later words status before after faults now r).rose seven
+seven_rose told keeper later words status before after faults now (inr (inl c)) seven = (of_check told keeper later words status before after faults now c).rose seven
+seven_rose told keeper later words status before after faults now (inr (inr refused)) seven = absurd (not_usage 7 status refused.said.0 (λ w. cc) seven)
 
 pub zero_kept : ZeroKept
-zero_kept told words status before after faults now (inl r) zero = (ending told words status before after faults now r).kept zero
-zero_kept told words status before after faults now (inr refused) zero = absurd (let one = refused.said.0 in let wrong : 0 ≡ 1 = sym zero ∙ one in cc)
+zero_kept told keeper later words status before after faults now (inl r) zero = (of_replay told keeper later words status before after faults now r).kept zero
+zero_kept told keeper later words status before after faults now (inr (inl c)) zero = (of_check told keeper later words status before after faults now c).kept zero
+zero_kept told keeper later words status before after faults now (inr (inr refused)) zero = absurd (not_usage 0 status refused.said.0 (λ w. cc) zero)
 
 pub statuses_are_these : StatusesAreThese
-statuses_are_these told words status before after faults now (inl r) = (ending told words status before after faults now r).known
-statuses_are_these told words status before after faults now (inr refused) = rw (refused.said.0) refl
+statuses_are_these told keeper later words status before after faults now (inl r) = (of_replay told keeper later words status before after faults now r).known
+statuses_are_these told keeper later words status before after faults now (inr (inl c)) = (of_check told keeper later words status before after faults now c).known
+statuses_are_these told keeper later words status before after faults now (inr (inr refused)) = rw (refused.said.0) refl
 
 pub no_fault_no_failure : NoFaultNoFailure
-no_fault_no_failure told words status before after faults now (inl r) earlier later counts files sink =
-    let end = ending told words status before after faults now r in
-    end.fine (λ five. files (counts.rose five)) (λ seven. sink (end.rose seven))
-no_fault_no_failure told words status before after faults now (inr refused) earlier later counts files sink = rw (refused.said.0) refl
+no_fault_no_failure told keeper later words status before after faults now (inl r) earlier since counts files kept sink =
+    let end = of_replay told keeper later words status before after faults now r in
+    end.fine (λ five. files (counts.rose five)) (λ six. kept (end.six six)) (λ seven. sink (end.rose seven))
+no_fault_no_failure told keeper later words status before after faults now (inr (inl c)) earlier since counts files kept sink =
+    let end = of_check told keeper later words status before after faults now c in
+    end.fine (λ five. files (counts.rose five)) (λ six. end.six six) (λ seven. sink (end.rose seven))
+no_fault_no_failure told keeper later words status before after faults now (inr (inr refused)) earlier since counts files kept sink = rw (refused.said.0) refl

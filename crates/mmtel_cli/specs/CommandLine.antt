@@ -93,3 +93,19 @@ IsCommand (Workload calls salt) words =
 -- the words that ask this of `replay`
 abbrev pub IsReplay : Asked → List (List ℕ) → Type 0
 IsReplay asked words = IsCommand (Replay asked) words
+
+-- the words that ask to check this file
+abbrev pub IsCheck : List ℕ → List (List ℕ) → Type 0
+IsCheck records words = IsCommand (Check records) words
+
+-- the commands that the program has so far
+abbrev pub IsHere : Command → Type 0
+IsHere (Serve config token turns) = ⊥
+IsHere (Replay asked) = ⊤
+IsHere (Check records) = ⊤
+IsHere (Charges config) = ⊥
+IsHere (Workload calls salt) = ⊥
+
+-- the words spell none of them
+abbrev pub SpellsNone : List (List ℕ) → Type 0
+SpellsNone words = (command : Command) → IsHere command → IsCommand command words → ⊥

@@ -1,13 +1,18 @@
--- What a run is due to write, by what the files gave: the configuration comes first, then the script, then the listing of what the server offers.
+-- What a run is due to write, by what the files gave: of `replay` the configuration comes first, then the script, then the listing of what the server offers; of `check` the
+-- file is a service record or is none.
 use Rattle.std.specs.Prelude.{ℕ, List, Some, None, Ok, Err}
 use Rattle.std.specs.declared.option.Option.{Option}
 use Rattle.std.specs.declared.result.Result.{Result}
 use Rattle.mmtel_directory.specs.Directory.{directory_of}
 use Rattle.mmtel_script.specs.Script.{events_of}
 use Rattle.mmtel_outside.specs.Shelf.{Shelf, answer_at, called}
+use Rattle.mmtel_cli.specs.CommandLine.{Command, Serve, Replay, Check, Charges, Workload}
 use Rattle.mmtel_cli.specs.Words.{Asked}
 use Rattle.mmtel_directory.specs.declared.directories.Directory.{Directory}
 use Rattle.mmtel_outside.specs.declared.events.Event.{Event}
+use Rattle.mmtel_uploads.specs.Uploads.{upload_of}
+use Rattle.mmtel_uploads.specs.declared.uploads.Upload.{Upload}
+use Rattle.mmtel_uploads.specs.declared.uploads.Upload.TheVariants.{Accepted, Refused}
 
 pub data Due : Type 0 where
   -- the words are of no command
@@ -18,6 +23,10 @@ pub data Due : Type 0 where
   File : Due
   -- the listing of what the server offers in the run of these events
   Run : (directory : Directory) → (token : List ℕ) → (events : List Event) → Due
+  -- the file is a service record
+  Sound : Due
+  -- the file is none, and this line tells its first fault
+  Unsound : (line : List ℕ) → Due
 
 -- what is due once the script was read: the listing of the run of its events, or its first bad line
 abbrev pub due_of_events : Directory → List ℕ → Result (List Event) ℕ → Due
@@ -39,17 +48,29 @@ abbrev pub due_of_config : Option (List ℕ) → List ℕ → Option (List ℕ) 
 due_of_config None token script = File
 due_of_config (Some config) token script = due_of_directory (directory_of config) token script
 
--- what is due, by what the words ask and what the files give for CONFIG and SCRIPT
-abbrev pub due_of : Option Asked → Option (List ℕ) → Option (List ℕ) → Due
-due_of None config script = Usage
-due_of (Some asked) config script = due_of_config config asked.token script
+-- what is due of a text that is to be checked
+abbrev pub due_of_upload : Upload → Due
+due_of_upload (Accepted sheet) = Sound
+due_of_upload (Refused line) = Unsound line
 
--- what is due over files that tell: the first call is for CONFIG, and the second for SCRIPT
-abbrev pub due_over : Shelf → Option Asked → Due
+-- what is due once the file that is to be checked was asked for
+abbrev pub due_of_records : Option (List ℕ) → Due
+due_of_records None = File
+due_of_records (Some text) = due_of_upload (upload_of text)
+
+-- what is due of a command over files that tell: of `replay` the first call is for CONFIG, and the second for SCRIPT; of `check` there is one call. The others are not here yet
+abbrev pub due_by : Shelf → Command → Due
+due_by shelf (Serve config token turns) = Usage
+due_by shelf (Replay asked) = due_of_config (answer_at shelf asked.config) asked.token (answer_at (called shelf) asked.script)
+due_by shelf (Check records) = due_of_records (answer_at shelf records)
+due_by shelf (Charges config) = Usage
+due_by shelf (Workload calls salt) = Usage
+
+abbrev pub due_over : Shelf → Option Command → Due
 due_over shelf None = Usage
-due_over shelf (Some asked) = due_of_config (answer_at shelf asked.config) asked.token (answer_at (called shelf) asked.script)
+due_over shelf (Some command) = due_by shelf command
 
--- the files after the calls that are due: none without a command, one where CONFIG is not there or not good, and else two
+-- the files after the calls that are due: none without a command, one of `check` and where CONFIG is not there or not good, and else two
 abbrev pub shelf_of_directory : Shelf → Result Directory ℕ → Shelf
 shelf_of_directory shelf (Ok directory) = called shelf
 shelf_of_directory shelf (Err line) = shelf
@@ -58,6 +79,13 @@ abbrev pub shelf_of_config : Shelf → Option (List ℕ) → Shelf
 shelf_of_config shelf None = shelf
 shelf_of_config shelf (Some config) = shelf_of_directory shelf (directory_of config)
 
-abbrev pub shelf_after : Shelf → Option Asked → Shelf
+abbrev pub shelf_by : Shelf → Command → Shelf
+shelf_by shelf (Serve config token turns) = shelf
+shelf_by shelf (Replay asked) = shelf_of_config (called shelf) (answer_at shelf asked.config)
+shelf_by shelf (Check records) = called shelf
+shelf_by shelf (Charges config) = shelf
+shelf_by shelf (Workload calls salt) = shelf
+
+abbrev pub shelf_after : Shelf → Option Command → Shelf
 shelf_after shelf None = shelf
-shelf_after shelf (Some asked) = shelf_of_config (called shelf) (answer_at shelf asked.config)
+shelf_after shelf (Some command) = shelf_by shelf command

@@ -1,20 +1,24 @@
--- What a whole run of the program wrote, answered and asked of the files, over the words as the grammar of the command line spells them.
+-- What a whole run of the program wrote, answered and asked of the files and of the keeper, over the words as the grammar of the command line spells them.
 use Rattle.std.specs.Prelude.{◌≡◌, ◌≢◌, ℕ, ◌⊎◌, List, codes, IfSome, Some, None, Ok, Err}
 use Rattle.std.specs.declared.option.Option.{Option}
 use Rattle.std.specs.declared.result.Result.{Result}
 use Rattle.mmtel_directory.specs.Directory.{directory_of}
 use Rattle.mmtel_directory.specs.declared.directories.Directory.{Directory}
+use Rattle.mmtel_in_force.specs.Texts.{Texts}
 use Rattle.mmtel_outside.specs.Counts.{Rose}
 use Rattle.mmtel_outside.specs.Shelf.{Shelf, answer_at, called}
 use Rattle.mmtel_outside.specs.declared.events.Event.{Event}
 use Rattle.mmtel_outside.specs.declared.events.Offer.{Offer}
-use Rattle.mmtel_run.specs.Headline.{Gives, SeesAlike}
-use Rattle.mmtel_run.specs.Short.{IsShortRun}
 use Rattle.mmtel_script.specs.Listing.{listing_of}
 use Rattle.mmtel_script.specs.Script.{events_of}
-use Rattle.mmtel_cli.specs.CommandLine.{IsReplay}
+use Rattle.mmtel_uploads.specs.Uploads.{upload_of}
+use Rattle.mmtel_uploads.specs.declared.uploads.Upload.{Upload}
+use Rattle.mmtel_uploads.specs.declared.uploads.Upload.TheVariants as upload
+use Rattle.mmtel_cli.specs.CommandLine.{IsReplay, IsCheck, SpellsNone}
 use Rattle.mmtel_cli.specs.Due.{shelf_of_config}
 use Rattle.mmtel_cli.specs.Ends.{Wrote, WroteListing, line_text}
+use Rattle.mmtel_cli.specs.Keeping.{IsLoaded, IsNotLoaded, KeeperSeen}
+use Rattle.mmtel_cli.specs.Listings.{OffersRun}
 use Rattle.mmtel_cli.specs.Words.{Asked}
 
 -- ---- what was written, and the status
@@ -39,42 +43,66 @@ WroteLine line status before after faults now = Said (line_text line) 2 status b
 abbrev pub WroteFile : ℕ → Option (List ℕ) → Option (List ℕ) → ℕ → ℕ → Type 0
 WroteFile status before after faults now = Said (codes "file\n") 5 status before after faults now
 
+-- a keeper that could not be bound or loaded: status 6, and `keeper`
+abbrev pub WroteKeeper : ℕ → Option (List ℕ) → Option (List ℕ) → ℕ → ℕ → Type 0
+WroteKeeper status before after faults now = Said (codes "keeper\n") 6 status before after faults now
+
+-- a file that is no service record: status 3, and the line that tells its first fault
+abbrev pub WroteFault : List ℕ → ℕ → Option (List ℕ) → Option (List ℕ) → ℕ → ℕ → Type 0
+WroteFault line status before after faults now = Said line 3 status before after faults now
+
 -- ---- what was offered
 
 -- the run of these events was listed
-pub record Listed (directory : Directory) (token : List ℕ) (events : List Event) (status : ℕ) (before after : Option (List ℕ)) (faults now : ℕ) : Type 0 where
-  -- what the server offered, where the run is short,
+pub record Listed (directory : Directory) (token : List ℕ) (events : List Event) (keeper later : KeeperSeen) (status : ℕ)
+    (before after : Option (List ℕ)) (faults now : ℕ) : Type 0 where
+  -- the keeper was bound to the store of the configuration and gave these texts,
+  pub loaded : Texts
+  pub opening : KeeperSeen
+  pub opened : IsLoaded directory.store loaded keeper opening
+  -- this is what the server offered over them,
   pub offers : List Offer
-  -- is exactly what the definitions of the run give,
-  pub exact : IsShortRun directory token events → Gives directory token events offers
-  -- keeps the secret of restricted callers (RFC 3323, RFC 3325 §7),
-  pub secret : IsShortRun directory token events → SeesAlike directory token events offers
+  pub run : OffersRun directory token loaded events opening later offers
   -- and its listing was written: whole with status 0, and else a front of it with status 7
   pub written : WroteListing (listing_of offers) status before after faults now
 
 -- ---- how a run ends, by what the files answer
 
--- once the script was read
-abbrev pub EndsOfEvents : Directory → List ℕ → Result (List Event) ℕ → ℕ → Option (List ℕ) → Option (List ℕ) → ℕ → ℕ → Type 0
-EndsOfEvents directory token (Ok events) status before after faults now = Listed directory token events status before after faults now
-EndsOfEvents directory token (Err line) status before after faults now = WroteLine line status before after faults now
+-- once the script was read: the run was listed, or the keeper could not be bound to the store of the configuration or not be loaded
+abbrev pub EndsOfEvents : Directory → List ℕ → Result (List Event) ℕ → (keeper later : KeeperSeen) → ℕ → Option (List ℕ) → Option (List ℕ) → ℕ → ℕ → Type 0
+EndsOfEvents directory token (Ok events) keeper later status before after faults now =
+    Listed directory token events keeper later status before after faults now
+    ⊎ (IsNotLoaded directory.store keeper later × WroteKeeper status before after faults now)
+EndsOfEvents directory token (Err line) keeper later status before after faults now = WroteLine line status before after faults now
 
 -- once the script was asked for
-abbrev pub EndsOfScript : Directory → List ℕ → Option (List ℕ) → ℕ → Option (List ℕ) → Option (List ℕ) → ℕ → ℕ → Type 0
-EndsOfScript directory token None status before after faults now = WroteFile status before after faults now
-EndsOfScript directory token (Some script) status before after faults now =
-    EndsOfEvents directory token (events_of directory.peers.known script) status before after faults now
+abbrev pub EndsOfScript : Directory → List ℕ → Option (List ℕ) → (keeper later : KeeperSeen) → ℕ → Option (List ℕ) → Option (List ℕ) → ℕ → ℕ → Type 0
+EndsOfScript directory token None keeper later status before after faults now = WroteFile status before after faults now
+EndsOfScript directory token (Some script) keeper later status before after faults now =
+    EndsOfEvents directory token (events_of directory.peers.known script) keeper later status before after faults now
 
 -- once the configuration was read; `script` is what the files answer for the script
-abbrev pub EndsOfDirectory : Result Directory ℕ → List ℕ → Option (List ℕ) → ℕ → Option (List ℕ) → Option (List ℕ) → ℕ → ℕ → Type 0
-EndsOfDirectory (Ok directory) token script status before after faults now = EndsOfScript directory token script status before after faults now
-EndsOfDirectory (Err line) token script status before after faults now = WroteLine line status before after faults now
+abbrev pub EndsOfDirectory : Result Directory ℕ → List ℕ → Option (List ℕ) → (keeper later : KeeperSeen) → ℕ → Option (List ℕ) → Option (List ℕ) → ℕ → ℕ → Type 0
+EndsOfDirectory (Ok directory) token script keeper later status before after faults now = EndsOfScript directory token script keeper later status before after faults now
+EndsOfDirectory (Err line) token script keeper later status before after faults now = WroteLine line status before after faults now
 
 -- once the configuration was asked for
-abbrev pub EndsOfConfig : Option (List ℕ) → List ℕ → Option (List ℕ) → ℕ → Option (List ℕ) → Option (List ℕ) → ℕ → ℕ → Type 0
-EndsOfConfig None token script status before after faults now = WroteFile status before after faults now
-EndsOfConfig (Some config) token script status before after faults now =
-    EndsOfDirectory (directory_of config) token script status before after faults now
+abbrev pub EndsOfConfig : Option (List ℕ) → List ℕ → Option (List ℕ) → (keeper later : KeeperSeen) → ℕ → Option (List ℕ) → Option (List ℕ) → ℕ → ℕ → Type 0
+EndsOfConfig None token script keeper later status before after faults now = WroteFile status before after faults now
+EndsOfConfig (Some config) token script keeper later status before after faults now =
+    EndsOfDirectory (directory_of config) token script keeper later status before after faults now
+
+-- ---- how a check ends
+
+-- of a text that is a service record, or is none (3GPP TS 24.623 §5)
+abbrev pub EndsOfUpload : Upload → ℕ → Option (List ℕ) → Option (List ℕ) → ℕ → ℕ → Type 0
+EndsOfUpload (upload.Accepted sheet) status before after faults now = WroteListing (codes "ok\n") status before after faults now
+EndsOfUpload (upload.Refused line) status before after faults now = WroteFault line status before after faults now
+
+-- once the file was asked for
+abbrev pub EndsOfRecords : Option (List ℕ) → ℕ → Option (List ℕ) → Option (List ℕ) → ℕ → ℕ → Type 0
+EndsOfRecords None status before after faults now = WroteFile status before after faults now
+EndsOfRecords (Some text) status before after faults now = EndsOfUpload (upload_of text) status before after faults now
 
 -- ---- a run
 
@@ -85,20 +113,29 @@ pub record Answered (told : Option Shelf) (asked : Asked) : Type 0 where
   pub told_config : IfSome told (λ shelf. config ≡ answer_at shelf asked.config)
   pub told_script : IfSome told (λ shelf. script ≡ answer_at (called shelf) asked.script)
 
--- the words spell a `replay`, and it ended as the files' answers say; or memory ran out
-pub record Replayed (told : Option Shelf) (words : List (List ℕ)) (status : ℕ) (before after : Option (List ℕ)) (faults now : ℕ) : Type 0 where
+-- the words spell a `replay`, and it ended as the files' answers and the keeper's say; or memory ran out
+pub record Replayed (told : Option Shelf) (keeper later : KeeperSeen) (words : List (List ℕ)) (status : ℕ) (before after : Option (List ℕ)) (faults now : ℕ) : Type 0 where
   pub asked : Asked
   pub spelled : IsReplay asked words
   pub answers : Answered told asked
-  pub ends : EndsOfConfig answers.config asked.token answers.script status before after faults now ⊎ WroteMemory status before after faults now
+  pub ends : EndsOfConfig answers.config asked.token answers.script keeper later status before after faults now ⊎ WroteMemory status before after faults now
+
+-- the words spell a `check`, and it ended as the files' answer for RECORDS says, which is that of the first call where the files tell; or memory ran out
+pub record Checked (told : Option Shelf) (words : List (List ℕ)) (status : ℕ) (before after : Option (List ℕ)) (faults now : ℕ) : Type 0 where
+  pub records : List ℕ
+  pub spelled : IsCheck records words
+  pub text : Option (List ℕ)
+  pub told_text : IfSome told (λ shelf. text ≡ answer_at shelf records)
+  pub ends : EndsOfRecords text status before after faults now ⊎ WroteMemory status before after faults now
 
 -- the words spell no command
 pub record Refused (words : List (List ℕ)) (status : ℕ) (before after : Option (List ℕ)) (faults now : ℕ) : Type 0 where
-  pub none : (asked : Asked) → IsReplay asked words → ⊥
+  pub none : SpellsNone words
   pub said : WroteUsage status before after faults now
 
-abbrev pub Ran : Option Shelf → List (List ℕ) → ℕ → Option (List ℕ) → Option (List ℕ) → ℕ → ℕ → Type 0
-Ran told words status before after faults now = Replayed told words status before after faults now ⊎ Refused words status before after faults now
+abbrev pub Ran : Option Shelf → (keeper later : KeeperSeen) → List (List ℕ) → ℕ → Option (List ℕ) → Option (List ℕ) → ℕ → ℕ → Type 0
+Ran told keeper later words status before after faults now =
+    Replayed told keeper later words status before after faults now ⊎ (Checked told words status before after faults now ⊎ Refused words status before after faults now)
 
 -- ---- the calls of files
 
@@ -107,10 +144,12 @@ pub record Called (status : ℕ) (after : Option Shelf) (first last : Shelf) : T
   pub all : status ≢ 8 → after ≡ Some last
   pub some : status ≡ 8 → (after ≡ Some first) ⊎ (after ≡ Some last)
 
--- CONFIG and then SCRIPT, each once and no other name; SCRIPT only where CONFIG is there and good; nothing without a command
+-- of `replay` CONFIG and then SCRIPT, each once and no other name, SCRIPT only where CONFIG is there and good; of `check` RECORDS, once and no other name; nothing without a
+-- command
 pub record CalledFor (shelf : Shelf) (words : List (List ℕ)) (status : ℕ) (after : Option Shelf) : Type 0 where
-  pub none : ((asked : Asked) → IsReplay asked words → ⊥) → after ≡ Some shelf
+  pub none : SpellsNone words → after ≡ Some shelf
   pub each : (asked : Asked) → IsReplay asked words → Called status after (called shelf) (shelf_of_config (called shelf) (answer_at shelf asked.config))
+  pub checked : (records : List ℕ) → IsCheck records words → after ≡ Some (called shelf)
 
 -- the count of the files' faults rose at status 5, and is as before at every other
 pub record CountsAtFive (status before now : ℕ) : Type 0 where

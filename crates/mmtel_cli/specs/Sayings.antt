@@ -1,15 +1,21 @@
--- What the one statement on a whole run says of each status, and where the files tell what they hold.
-use Rattle.std.specs.Prelude.{◌≡◌, ◌↔◌, ◌==◌, ℕ, true, ◌⊎◌, List, [], ◌∷◌, Some, Ok}
+-- What the one statement on a whole run says of each status, and where the files and the keeper tell what they hold.
+use Rattle.std.specs.Prelude.{◌≡◌, ◌↔◌, ◌==◌, ℕ, true, false, ◌⊎◌, List, [], ◌∷◌, codes, Some, Ok}
 use Rattle.std.specs.List.{list_any}
 use Rattle.std.specs.declared.option.Option.{Option}
 use Rattle.mmtel_directory.specs.Directory.{directory_of}
 use Rattle.mmtel_directory.specs.declared.directories.Directory.{Directory}
+use Rattle.mmtel_keeper.specs.Kept.{KeeperCalls}
 use Rattle.mmtel_outside.specs.Counts.{Rose}
 use Rattle.mmtel_outside.specs.Shelf.{Shelf, answer_at, called}
 use Rattle.mmtel_outside.specs.declared.events.Event.{Event}
 use Rattle.mmtel_script.specs.Script.{events_of}
-use Rattle.mmtel_cli.specs.CommandLine.{IsReplay}
-use Rattle.mmtel_cli.specs.Runs.{CountsAtFive, Listed, Ran}
+use Rattle.mmtel_sheet_values.specs.declared.values.Sheet.{Sheet}
+use Rattle.mmtel_uploads.specs.Uploads.{upload_of}
+use Rattle.mmtel_uploads.specs.declared.uploads.Upload.TheVariants.{Accepted, Refused}
+use Rattle.mmtel_cli.specs.CommandLine.{IsReplay, IsCheck, SpellsNone}
+use Rattle.mmtel_cli.specs.Ends.{WroteListing}
+use Rattle.mmtel_cli.specs.Keeping.{KeeperSeen, refuses}
+use Rattle.mmtel_cli.specs.Runs.{CountsAtFive, EndsOfUpload, Listed, Ran}
 use Rattle.mmtel_cli.specs.Words.{Asked}
 
 -- the words spell a `replay` whose files are there and of their grammars
@@ -22,57 +28,109 @@ pub record IsGood (shelf : Shelf) (words : List (List ℕ)) (asked : Asked) (dir
   pub script_there : answer_at (called shelf) asked.script ≡ Some script
   pub script_read : events_of directory.peers.known script ≡ Ok events
 
+-- the keeper can be bound and loaded: it tells so, or its count of faults did not rise
+abbrev pub IsWilling : (keeper later : KeeperSeen) → Type 0
+IsWilling keeper later = ((calls : KeeperCalls) × (keeper.calls ≡ Some calls) × (refuses calls ≡ false)) ⊎ ¬ (Rose keeper.faults later.faults)
+
 -- of these, the run was listed: exactly what the definitions give, and with the secret kept; or memory ran out
 abbrev pub GoodOnesAreListed : Type 0
 GoodOnesAreListed =
-    (shelf : Shelf) (words : List (List ℕ)) (asked : Asked) (directory : Directory) (events : List Event)
+    (shelf : Shelf) (keeper later : KeeperSeen) (words : List (List ℕ)) (asked : Asked) (directory : Directory) (events : List Event)
     (status : ℕ) (before after : Option (List ℕ)) (faults now : ℕ) →
-    IsGood shelf words asked directory events → Ran (Some shelf) words status before after faults now →
-    Listed directory asked.token events status before after faults now ⊎ (status ≡ 8)
+    IsGood shelf words asked directory events → IsWilling keeper later → Ran (Some shelf) keeper later words status before after faults now →
+    Listed directory asked.token events keeper later status before after faults now ⊎ (status ≡ 8)
 
 -- and where the sink met no fault, the status is 0, or 8
 abbrev pub GoodOnesSucceed : Type 0
 GoodOnesSucceed =
-    (shelf : Shelf) (words : List (List ℕ)) (asked : Asked) (directory : Directory) (events : List Event)
+    (shelf : Shelf) (keeper later : KeeperSeen) (words : List (List ℕ)) (asked : Asked) (directory : Directory) (events : List Event)
     (status : ℕ) (before after : Option (List ℕ)) (faults now : ℕ) →
-    IsGood shelf words asked directory events → Ran (Some shelf) words status before after faults now →
+    IsGood shelf words asked directory events → IsWilling keeper later → Ran (Some shelf) keeper later words status before after faults now →
     ¬ (Rose faults now) → (status ≡ 0) ⊎ (status ≡ 8)
 
+-- and where the keeper tells that it cannot be bound or not be loaded, the status is 6, or 8
+abbrev pub GoodOnesWantAKeeper : Type 0
+GoodOnesWantAKeeper =
+    (shelf : Shelf) (keeper later : KeeperSeen) (calls : KeeperCalls) (words : List (List ℕ)) (asked : Asked) (directory : Directory) (events : List Event)
+    (status : ℕ) (before after : Option (List ℕ)) (faults now : ℕ) →
+    IsGood shelf words asked directory events → keeper.calls ≡ Some calls → refuses calls ≡ true → Ran (Some shelf) keeper later words status before after faults now →
+    (status ≡ 6) ⊎ (status ≡ 8)
+
+-- the words spell a `check` whose file is there, with this text
+pub record IsThere (shelf : Shelf) (words : List (List ℕ)) (text : List ℕ) : Type 0 where
+  pub records : List ℕ
+  pub spelled : IsCheck records words
+  pub there : answer_at shelf records ≡ Some text
+
+-- of these, what the text is was told: `ok` where it is a service record, and else the line of its first fault with status 3; or memory ran out
+abbrev pub ChecksAreTold : Type 0
+ChecksAreTold =
+    (shelf : Shelf) (keeper later : KeeperSeen) (words : List (List ℕ)) (text : List ℕ)
+    (status : ℕ) (before after : Option (List ℕ)) (faults now : ℕ) →
+    IsThere shelf words text → Ran (Some shelf) keeper later words status before after faults now →
+    EndsOfUpload (upload_of text) status before after faults now ⊎ (status ≡ 8)
+
 -- a run that was listed, whatever the files tell
-pub record ListsOne (words : List (List ℕ)) (status : ℕ) (before after : Option (List ℕ)) (faults now : ℕ) : Type 0 where
+pub record ListsOne (keeper later : KeeperSeen) (words : List (List ℕ)) (status : ℕ) (before after : Option (List ℕ)) (faults now : ℕ) : Type 0 where
   pub asked : Asked
   pub spelled : IsReplay asked words
   pub directory : Directory
   pub events : List Event
-  pub listed : Listed directory asked.token events status before after faults now
+  pub listed : Listed directory asked.token events keeper later status before after faults now
 
 -- a statement on each run
-abbrev pub OfEachRun : (Option Shelf → List (List ℕ) → ℕ → Option (List ℕ) → Option (List ℕ) → ℕ → ℕ → Type 0) → Type 0
+abbrev pub OfEachRun : ((keeper later : KeeperSeen) → List (List ℕ) → ℕ → Option (List ℕ) → Option (List ℕ) → ℕ → ℕ → Type 0) → Type 0
 OfEachRun P =
-    (told : Option Shelf) (words : List (List ℕ)) (status : ℕ) (before after : Option (List ℕ)) (faults now : ℕ) →
-    Ran told words status before after faults now → P told words status before after faults now
+    (told : Option Shelf) (keeper later : KeeperSeen) (words : List (List ℕ)) (status : ℕ) (before after : Option (List ℕ)) (faults now : ℕ) →
+    Ran told keeper later words status before after faults now → P keeper later words status before after faults now
 
--- at status 0 there is a listing
+-- a check of a service record, and `ok` was written, whatever the files tell
+pub record ChecksOne (words : List (List ℕ)) (status : ℕ) (before after : Option (List ℕ)) (faults now : ℕ) : Type 0 where
+  pub records : List ℕ
+  pub spelled : IsCheck records words
+  pub text : List ℕ
+  pub sheet : Sheet
+  pub sound : upload_of text ≡ Accepted sheet
+  pub written : WroteListing (codes "ok\n") status before after faults now
+
+-- at status 0 there is a listing, or a service record was checked
 abbrev pub ZeroIsListed : Type 0
-ZeroIsListed = OfEachRun (λ told words status before after faults now. status ≡ 0 → ListsOne words 0 before after faults now)
+ZeroIsListed = OfEachRun (λ keeper later words status before after faults now.
+    status ≡ 0 → ListsOne keeper later words 0 before after faults now ⊎ ChecksOne words 0 before after faults now)
 
 -- status 1 comes exactly where the words spell no command
 abbrev pub OneIsUsage : Type 0
-OneIsUsage = OfEachRun (λ told words status before after faults now. (status ≡ 1) ↔ ((asked : Asked) → IsReplay asked words → ⊥))
+OneIsUsage = OfEachRun (λ keeper later words status before after faults now. (status ≡ 1) ↔ SpellsNone words)
+
+-- a text that is no service record was checked
+pub record RefusesOne (words : List (List ℕ)) : Type 0 where
+  pub records : List ℕ
+  pub spelled : IsCheck records words
+  pub text : List ℕ
+  pub line : List ℕ
+  pub unsound : upload_of text ≡ Refused line
+
+-- at status 3 one was
+abbrev pub ThreeIsRefused : Type 0
+ThreeIsRefused = OfEachRun (λ keeper later words status before after faults now. status ≡ 3 → RefusesOne words)
+
+-- at status 6 the count of the keeper's faults rose
+abbrev pub SixRose : Type 0
+SixRose = OfEachRun (λ keeper later words status before after faults now. status ≡ 6 → Rose keeper.faults later.faults)
 
 -- at status 7 the count of the sink's faults rose, and at 0 it is as before
 abbrev pub SevenRose : Type 0
-SevenRose = OfEachRun (λ told words status before after faults now. status ≡ 7 → Rose faults now)
+SevenRose = OfEachRun (λ keeper later words status before after faults now. status ≡ 7 → Rose faults now)
 
 abbrev pub ZeroKept : Type 0
-ZeroKept = OfEachRun (λ told words status before after faults now. status ≡ 0 → now ≡ faults)
+ZeroKept = OfEachRun (λ keeper later words status before after faults now. status ≡ 0 → now ≡ faults)
 
 -- no other status comes
 abbrev pub StatusesAreThese : Type 0
-StatusesAreThese = OfEachRun (λ told words status before after faults now. list_any (λ known. known == status) (0 ∷ 1 ∷ 2 ∷ 5 ∷ 7 ∷ 8 ∷ []) ≡ true)
+StatusesAreThese = OfEachRun (λ keeper later words status before after faults now. list_any (λ known. known == status) (0 ∷ 1 ∷ 2 ∷ 3 ∷ 5 ∷ 6 ∷ 7 ∷ 8 ∷ []) ≡ true)
 
--- and where neither the count of the files' faults nor that of the sink's rose, it is 0, 1, 2 or 8
+-- and where none of the counts of the files' faults, of the keeper's and of the sink's rose, it is 0, 1, 2, 3 or 8
 abbrev pub NoFaultNoFailure : Type 0
-NoFaultNoFailure = OfEachRun (λ told words status before after faults now.
-    (earlier later : ℕ) → CountsAtFive status earlier later → ¬ (Rose earlier later) → ¬ (Rose faults now) →
-    list_any (λ known. known == status) (0 ∷ 1 ∷ 2 ∷ 8 ∷ []) ≡ true)
+NoFaultNoFailure = OfEachRun (λ keeper later words status before after faults now.
+    (earlier since : ℕ) → CountsAtFive status earlier since → ¬ (Rose earlier since) → ¬ (Rose keeper.faults later.faults) → ¬ (Rose faults now) →
+    list_any (λ known. known == status) (0 ∷ 1 ∷ 2 ∷ 3 ∷ 8 ∷ []) ≡ true)

@@ -1,4 +1,4 @@
--- What the words of a command line ask of `replay`, read from the left.
+-- What the words of a command line ask of `replay` and of `check`, read from the left.
 use Rattle.std.specs.Prelude.{ℕ, ◌==◌, ◌&&◌, ◌||◌, not, nat_le, nat_eq, List, [], ◌∷◌, ◌++◌, length, true, false, Bool, if◌then◌else◌, Some, None, codes}
 use Rattle.std.specs.List.{list_all, starts_with}
 use Rattle.std.specs.Option.{option_to_list}
@@ -137,3 +137,20 @@ replay_of_rest words = replay_from (positionals Options words) (tokens Options w
 abbrev pub replay_of : List (List ℕ) → Option Asked
 replay_of [] = None
 replay_of (word ∷ words) = if bytes_eq word (codes "replay") then replay_of_rest words else None
+
+-- ---- commands of one word
+
+-- the one positional word of a command that has no option: alone, or with the mark `--` before or behind it
+abbrev pub only_word : List (List ℕ) → Option (List ℕ)
+only_word [] = None
+only_word (word ∷ []) = if is_positional word then Some word else None
+only_word (first ∷ second ∷ []) =
+    if bytes_eq first (codes "--") then Some second
+    else if bytes_eq second (codes "--") && is_positional first then Some first
+    else None
+only_word (first ∷ second ∷ third ∷ words) = None
+
+-- the name of the file that the words ask to check, the command first; None where they are no `check` of the grammar
+abbrev pub records_of : List (List ℕ) → Option (List ℕ)
+records_of [] = None
+records_of (word ∷ words) = if bytes_eq word (codes "check") then only_word words else None

@@ -1,6 +1,7 @@
 //! The program's work: the words of its command line, what is due to be written, and how it runs over what lies outside.
 #![tactic(auto)]
 
+mod checks;
 mod laws;
 mod reports;
 mod runs;
@@ -9,6 +10,7 @@ mod words;
 
 pub use laws::statuses_say;
 pub use mmtel_directory::{Directory, DirectoryFault, read_directory};
+pub use mmtel_keeper::{KeepFault, Keeper, MemoryKeeper};
 pub use mmtel_outside::{
     DiskFiles, Event, FileFault, Files, MemoryFiles, MemorySink, Offer, OutSink, Sink, write_all,
 };
@@ -17,4 +19,4 @@ pub use mmtel_server::{DriveFault, Server, drive};
 pub use mmtel_types::Failed;
 pub use reports::{Report, out_of_memory, write_report};
 pub use top::run;
-pub use words::{Replay, command};
+pub use words::{Replay, Wanted, command};

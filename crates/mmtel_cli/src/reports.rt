@@ -2,7 +2,7 @@
 ghost use Rattle.std.specs.Prelude.{OnOk, OnErr, decimal};
 ghost use Rattle.std.specs.Io.KnownBytes.{Appends};
 ghost use Rattle.mmtel_outside.specs.Counts.{HasCause};
-ghost use Rattle.mmtel_cli.specs.Ends.{Ends, Wrote, line_text};
+ghost use Rattle.mmtel_cli.specs.Ends.{Ends, Wrote, WroteListing, line_text};
 ghost use Rattle.mmtel_outside.specs.Written.{AppendsPart};
 
 use itoa::Buffer;
@@ -19,10 +19,16 @@ pub enum Report {
     Line(u64),
     /// `file`, status 5: a file could not be read.
     File,
+    /// `keeper`, status 6: the keeper could not be bound or not be loaded.
+    Keeper,
     /// `memory`, status 8: memory ran out.
     Memory,
     /// The listing of what was offered, status 0; 7 where it is not written whole.
     Listing(Text),
+    /// `ok`, status 0, and 7 where it is not written whole: the file is a service record.
+    Sound,
+    /// The line that tells its first fault, status 3: the file is no service record.
+    Unsound(Text),
 }
 
 /// Writes a number in decimal.
@@ -60,6 +66,16 @@ fn say_line<S: Sink>(out: &mut S, line: u64)
     let _ = write_line(out, line);
 }
 
+/// Writes the text of a command that is done, and answers the status.
+fn write_whole<S: Sink>(out: &mut S, text: &[u8]) -> u8
+    ensures wrote { WroteListing text.now result (S.written out.old) (S.written out.new) (S.faults out.old) (S.faults out.new) }
+{
+    match write_all(out, text) {
+        Ok(()) => 0,
+        Err(Failed) => 7,
+    }
+}
+
 /// Writes what is due, and answers the status. It takes no memory.
 pub fn write_report<S: Sink>(due: &Report, out: &mut S) -> u8
     ensures ends { Ends due.now result (S.written out.old) (S.written out.new) (S.faults out.old) (S.faults out.new) }
@@ -77,14 +93,20 @@ pub fn write_report<S: Sink>(due: &Report, out: &mut S) -> u8
             say(out, b"file\n");
             5
         }
+        Report::Keeper => {
+            say(out, b"keeper\n");
+            6
+        }
         Report::Memory => {
             say(out, b"memory\n");
             8
         }
-        Report::Listing(text) => match write_all(out, text.bytes()) {
-            Ok(()) => 0,
-            Err(Failed) => 7,
-        },
+        Report::Listing(text) => write_whole(out, text.bytes()),
+        Report::Sound => write_whole(out, b"ok\n"),
+        Report::Unsound(line) => {
+            say(out, line.bytes());
+            3
+        }
     }
 }
 

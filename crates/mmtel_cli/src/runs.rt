@@ -1,68 +1,124 @@
-//! A run over a script, to its end.
-ghost use Rattle.std.specs.Prelude.{◌≡◌, ℕ, List, [], IfOk, OnOk};
-ghost use Rattle.mmtel_cli.specs.Listings.{Lists, OffersRun};
+//! A run over a script and a keeper, to its end.
+ghost use Rattle.std.specs.Prelude.{◌≡◌, ℕ, List, [], IfOk, IsErrOf, OnOk, false, true};
+ghost use Rattle.mmtel_cli.specs.Keeping.{IsLoaded, IsNotLoaded, seen};
+ghost use Rattle.mmtel_cli.specs.Listings.{Lists, ListsOver, OffersRun};
 ghost use Rattle.mmtel_directory.specs.declared.directories.Directory.{Directory};
+ghost use Rattle.mmtel_in_force.specs.Texts.{Texts};
+ghost use Rattle.mmtel_keeper.specs.declared.keepers.KeepFault.TheVariants as fault;
 ghost use Rattle.mmtel_script.specs.Script.{unheard};
 ghost use Rattle.mmtel_server.specs.Stands.{Went};
 
 use mmtel_directory::Directory;
+use mmtel_keeper::{KeepFault, Keeper};
 use mmtel_outside::Offer;
 use mmtel_scan::{List, NoMemory, Text};
 use mmtel_script::{ScriptLink, listing};
-use mmtel_server::{DriveFault, Server, drive};
+use mmtel_server::{DriveFault, Server, connections_are_read_out, drive};
+use mmtel_types::Account;
 use std::alloc::Global;
 
+/// Binds a keeper to the place of that name, and loads what it holds there.
+fn open<K: Keeper>(
+    alloc: Global,
+    keeper: &mut K,
+    store: &[u8],
+) -> Result<List<(Account, Text)>, KeepFault>
+    ensures loaded { IfOk result (λ loaded. IsLoaded store.now loaded (seen (K.held keeper.old) (K.calls keeper.old) (K.faults keeper.old))
+        (seen (K.held keeper.new) (K.calls keeper.new) (K.faults keeper.new))) }
+    ensures failed { IsErrOf result fault.Failed → IsNotLoaded store.now (seen (K.held keeper.old) (K.calls keeper.old) (K.faults keeper.old))
+        (seen (K.held keeper.new) (K.calls keeper.new) (K.faults keeper.new)) }
+{
+    keeper.bind(alloc, store)?;
+    keeper.load(alloc)
+}
+
 /// Drives the server over the script, with a turn for each of its events and one for its end.
-fn drive_over(
+fn drive_over<K: Keeper>(
     alloc: Global,
     server: &mut Server,
     script: &mut ScriptLink,
+    keeper: &mut K,
     out: &mut List<Offer>,
 ) -> Result<(), NoMemory>
     requires unheard { script.old ≡ unheard script.old.events }
-    ensures run { OnOk result ((directory : Directory) (token : List ℕ) → Went directory token [] [] server.old out.old → OffersRun directory token script.old.events out.new) }
+    ensures run { OnOk result ((directory : Directory) (token : List ℕ) (loaded : Texts) → Went directory token loaded [] [] server.old out.old →
+        OffersRun directory token loaded script.old.events (seen (K.held keeper.old) (K.calls keeper.old) (K.faults keeper.old))
+        (seen (K.held keeper.new) (K.calls keeper.new) (K.faults keeper.new)) out.new) }
 {
+    connections_are_read_out();
     let turns = script.len().saturating_add(1);
-    match drive(alloc, server, script, turns, out) {
+    match drive(alloc, server, script, keeper, turns, out) {
         Ok(_) => Ok(()),
         Err(DriveFault::NoMemory) => Err(NoMemory),
         Err(DriveFault::LinkFault) => unreachable!(),
     }
 }
 
-/// What a server of this configuration offers in the run of a script's events.
-fn offered(
+/// What a server of this configuration offers over these texts in the run of a script's events.
+fn offered<K: Keeper>(
     alloc: Global,
     directory: Directory,
     token: &[u8],
+    loaded: &[(Account, Text)],
     script: &mut ScriptLink,
+    keeper: &mut K,
 ) -> Result<List<Offer>, NoMemory>
     requires unheard { script.old ≡ unheard script.old.events }
-    ensures run { IfOk result (OffersRun directory token.now script.old.events) }
+    ensures run { IfOk result (OffersRun directory token.now loaded.now script.old.events (seen (K.held keeper.old) (K.calls keeper.old) (K.faults keeper.old))
+        (seen (K.held keeper.new) (K.calls keeper.new) (K.faults keeper.new))) }
 {
     let token = Text::of(alloc, token)?;
-    let mut server = Server::new(directory, token);
+    let mut server = Server::new(alloc, directory, token, loaded)?;
     let mut out = List::new();
-    let driven = drive_over(alloc, &mut server, script, &mut out);
+    let driven = drive_over(alloc, &mut server, script, keeper, &mut out);
     server.give_up();
     driven?;
     Ok(out)
 }
 
-/// The listing of what a server of this configuration offers in the run of a script's events. `token` begins the identifiers that it draws.
+/// The listing of what it offers then.
+fn listed_over<K: Keeper>(
+    alloc: Global,
+    directory: Directory,
+    token: &[u8],
+    loaded: &[(Account, Text)],
+    script: &mut ScriptLink,
+    keeper: &mut K,
+) -> Result<Text, NoMemory>
+    requires unheard { script.old ≡ unheard script.old.events }
+    ensures lists { IfOk result (ListsOver directory token.now loaded.now script.old.events (seen (K.held keeper.old) (K.calls keeper.old) (K.faults keeper.old))
+        (seen (K.held keeper.new) (K.calls keeper.new) (K.faults keeper.new))) }
+{
+    let offers = offered(alloc, directory, token, loaded, script, keeper)?;
+    listing(alloc, &offers)
+}
+
+/// The listing of what a server of this configuration offers in the run of a script's events over a keeper, which is bound to the store of the configuration and loaded first. `token` begins the identifiers that the server draws.
 ///
 /// # Errors
 ///
-/// Want of memory alone.
-pub fn listed(
+/// `Failed` where the keeper could not be bound or not be loaded, and else want of memory alone.
+pub fn listed<K: Keeper>(
     alloc: Global,
     directory: Directory,
     token: &[u8],
     script: &mut ScriptLink,
-) -> Result<Text, NoMemory>
+    keeper: &mut K,
+) -> Result<Text, KeepFault>
     requires unheard { script.old ≡ unheard script.old.events }
-    ensures lists { IfOk result (Lists directory token.now script.old.events) }
+    ensures lists { IfOk result (Lists directory token.now script.old.events (seen (K.held keeper.old) (K.calls keeper.old) (K.faults keeper.old))
+        (seen (K.held keeper.new) (K.calls keeper.new) (K.faults keeper.new))) }
+    ensures failed { IsErrOf result fault.Failed → IsNotLoaded directory.store (seen (K.held keeper.old) (K.calls keeper.old) (K.faults keeper.old))
+        (seen (K.held keeper.new) (K.calls keeper.new) (K.faults keeper.new)) }
 {
-    let offers = offered(alloc, directory, token, script)?;
-    listing(alloc, &offers)
+    match open(alloc, keeper, directory.store.bytes()) {
+        Ok(loaded) => {
+            let text = listed_over(alloc, directory, token, loaded.items(), script, keeper)?;
+            Ok(text)
+        }
+        Err(fault) => {
+            drop(directory);
+            Err(fault)
+        }
+    }
 }

@@ -1,63 +1,86 @@
 //! The top call.
 ghost use Rattle.std.specs.Prelude.{◌≡◌, ◌↔◌, ◌≢◌, IfSome, Ok, Some, None};
 ghost use Rattle.mmtel_cli.specs.Asked.{asked_by};
+ghost use Rattle.mmtel_cli.specs.Commands.{command_of, command_in};
+ghost use Rattle.mmtel_cli.specs.CommandLine as line;
 ghost use Rattle.mmtel_directory.specs.Directory.{directory_of};
-ghost use Rattle.mmtel_cli.specs.Due.{due_of_events, due_of_script, due_of_directory, due_of_config, due_over, shelf_of_directory, shelf_of_config, shelf_after};
-ghost use Rattle.mmtel_cli.specs.Found.{IsDue, HasCalled, CountsFiles, IsRead};
-ghost use Rattle.mmtel_cli.specs.Gives.{GivesScript, GivesBoth, GivesRun};
+ghost use Rattle.mmtel_cli.specs.Due.{due_of_events, due_of_script, shelf_of_directory, shelf_by, shelf_after};
+ghost use Rattle.mmtel_cli.specs.Found.{IsDue, HasCalled, CountsFiles, IsRead, SparedBy, Spares};
+ghost use Rattle.mmtel_cli.specs.Gives.{GivesScript, GivesBoth, GivesCommand, GivesRun};
+ghost use Rattle.mmtel_cli.specs.Keeping.{IsSpared, seen};
 ghost use Rattle.mmtel_cli.specs.Runs.{CalledFor, CountsAtFive, Ran};
-ghost use Rattle.mmtel_outside.specs.Shelf.{answer_at, called};
-ghost use Rattle.mmtel_cli.specs.Words.{Asked, replay_of};
+ghost use Rattle.mmtel_outside.specs.Shelf.{called};
 ghost use Rattle.mmtel_script.specs.Script.{unheard};
 
+use crate::checks::over_records;
 use crate::reports::{Report, write_report};
 use crate::runs::listed;
-use crate::words::{Replay, command};
+use crate::words::{Replay, Wanted, command};
 use mmtel_directory::{Directory, DirectoryFault, read_directory};
+use mmtel_keeper::{KeepFault, Keeper};
 use mmtel_outside::{FileFault, Files, Sink};
-use mmtel_scan::{NoMemory, Text};
+use mmtel_scan::Text;
 use mmtel_script::{ScriptFault, ScriptLink};
 use std::alloc::Global;
 
 /// What is due once both files were read and the script's grammar holds.
-fn over_events(alloc: Global, directory: Directory, token: &[u8], script: &mut ScriptLink) -> Report
+fn over_events<K: Keeper>(
+    alloc: Global,
+    directory: Directory,
+    token: &[u8],
+    script: &mut ScriptLink,
+    keeper: &mut K,
+) -> Report
     requires unheard { script.old ≡ unheard script.old.events }
-    ensures due { IsDue result (due_of_events directory token.now (Ok script.old.events)) }
+    ensures due { IsDue (seen (K.held keeper.old) (K.calls keeper.old) (K.faults keeper.old))
+        (seen (K.held keeper.new) (K.calls keeper.new) (K.faults keeper.new)) result (due_of_events directory token.now (Ok script.old.events)) }
     ensures read { IsRead result }
+    ensures spares { Spares result keeper.old keeper.new }
 {
-    match listed(alloc, directory, token, script) {
+    match listed(alloc, directory, token, script, keeper) {
         Ok(text) => Report::Listing(text),
-        Err(NoMemory) => Report::Memory,
+        Err(KeepFault::Failed) => Report::Keeper,
+        Err(KeepFault::NoMemory) => Report::Memory,
     }
 }
 
 /// What is due once both files were read.
-fn over_script(alloc: Global, directory: Directory, token: &[u8], script: &Text) -> Report
-    ensures due { IsDue result (due_of_script directory token.now (Some script.now)) }
+fn over_script<K: Keeper>(
+    alloc: Global,
+    directory: Directory,
+    token: &[u8],
+    script: &Text,
+    keeper: &mut K,
+) -> Report
+    ensures due { IsDue (seen (K.held keeper.old) (K.calls keeper.old) (K.faults keeper.old))
+        (seen (K.held keeper.new) (K.calls keeper.new) (K.faults keeper.new)) result (due_of_script directory token.now (Some script.now)) }
     ensures read { IsRead result }
+    ensures spares { Spares result keeper.old keeper.new }
 {
     match ScriptLink::read(alloc, script.bytes(), &directory.peers) {
-        Ok(mut script) => over_events(alloc, directory, token, &mut script),
+        Ok(mut script) => over_events(alloc, directory, token, &mut script, keeper),
         Err(ScriptFault::BadLine { line }) => Report::Line(line),
         Err(ScriptFault::NoMemory) => Report::Memory,
     }
 }
 
 /// What is due once the configuration was read. The next call is for the script.
-fn over_directory<F: Files>(
+fn over_directory<F: Files, K: Keeper>(
     alloc: Global,
     replay: Replay<'_>,
     directory: Directory,
     files: &mut F,
+    keeper: &mut K,
 ) -> Report
-    ensures due { IfSome (F.told files.old) (λ shelf. IsDue result (due_of_script directory replay.entry.token.now (answer_at shelf replay.entry.script.now))) }
-    ensures gives { GivesScript (F.told files.old) (asked_by replay.entry) (Ok directory) result }
+    ensures gives { GivesScript (F.told files.old) (seen (K.held keeper.old) (K.calls keeper.old) (K.faults keeper.old))
+        (seen (K.held keeper.new) (K.calls keeper.new) (K.faults keeper.new)) (asked_by replay.entry) (Ok directory) result }
     ensures calls { IfSome (F.told files.old) (λ shelf. F.told files.new ≡ Some (called shelf)) }
     ensures count { CountsFiles result (F.faults files.old) (F.faults files.new) }
     ensures asked { result ≢ Report.Usage }
+    ensures spares { Spares result keeper.old keeper.new }
 {
     match files.read(alloc, replay.script) {
-        Ok(script) => over_script(alloc, directory, replay.token, &script),
+        Ok(script) => over_script(alloc, directory, replay.token, &script, keeper),
         Err(FileFault::Failed) => {
             drop(directory);
             Report::File
@@ -70,60 +93,110 @@ fn over_directory<F: Files>(
 }
 
 /// What is due once the configuration's text is there. The next call, if any, is for the script.
-fn over_config<F: Files>(alloc: Global, replay: Replay<'_>, config: &Text, files: &mut F) -> Report
-    ensures due { IfSome (F.told files.old) (λ shelf. IsDue result (due_of_directory (directory_of config.now) replay.entry.token.now (answer_at shelf replay.entry.script.now))) }
-    ensures gives { GivesScript (F.told files.old) (asked_by replay.entry) (directory_of config.now) result }
+fn over_config<F: Files, K: Keeper>(
+    alloc: Global,
+    replay: Replay<'_>,
+    config: &Text,
+    files: &mut F,
+    keeper: &mut K,
+) -> Report
+    ensures gives { GivesScript (F.told files.old) (seen (K.held keeper.old) (K.calls keeper.old) (K.faults keeper.old))
+        (seen (K.held keeper.new) (K.calls keeper.new) (K.faults keeper.new)) (asked_by replay.entry) (directory_of config.now) result }
     ensures calls { IfSome (F.told files.old) (λ shelf. HasCalled result (F.told files.new) shelf (shelf_of_directory shelf (directory_of config.now))) }
     ensures count { CountsFiles result (F.faults files.old) (F.faults files.new) }
     ensures asked { result ≢ Report.Usage }
+    ensures spares { Spares result keeper.old keeper.new }
 {
     match read_directory(alloc, config.bytes()) {
-        Ok(directory) => over_directory(alloc, replay, directory, files),
+        Ok(directory) => over_directory(alloc, replay, directory, files, keeper),
         Err(DirectoryFault::BadLine { line }) => Report::Line(line),
         Err(DirectoryFault::NoMemory) => Report::Memory,
     }
 }
 
 /// What is due over the files of a `replay`. The next call is for the configuration.
-fn over_replay<F: Files>(alloc: Global, replay: Replay<'_>, files: &mut F) -> Report
-    ensures due { IfSome (F.told files.old) (λ shelf. IsDue result (due_over shelf (Some (asked_by replay.entry)))) }
-    ensures gives { GivesBoth (F.told files.old) (asked_by replay.entry) result }
-    ensures calls { IfSome (F.told files.old) (λ shelf. HasCalled result (F.told files.new) (called shelf) (shelf_after shelf (Some (asked_by replay.entry)))) }
+fn over_replay<F: Files, K: Keeper>(
+    alloc: Global,
+    replay: Replay<'_>,
+    files: &mut F,
+    keeper: &mut K,
+) -> Report
+    ensures gives { GivesBoth (F.told files.old) (seen (K.held keeper.old) (K.calls keeper.old) (K.faults keeper.old))
+        (seen (K.held keeper.new) (K.calls keeper.new) (K.faults keeper.new)) (asked_by replay.entry) result }
+    ensures calls { IfSome (F.told files.old) (λ shelf. HasCalled result (F.told files.new) (called shelf) (shelf_by shelf (line.Replay (asked_by replay.entry)))) }
     ensures count { CountsFiles result (F.faults files.old) (F.faults files.new) }
     ensures asked { result ≢ Report.Usage }
+    ensures spares { Spares result keeper.old keeper.new }
 {
     match files.read(alloc, replay.config) {
-        Ok(config) => over_config(alloc, replay, &config, files),
+        Ok(config) => over_config(alloc, replay, &config, files, keeper),
         Err(FileFault::Failed) => Report::File,
         Err(FileFault::NoMemory) => Report::Memory,
     }
 }
 
-/// What is due by these words over these files.
-fn prepare<F: Files>(alloc: Global, words: &[Text], files: &mut F) -> Report
-    ensures due { IfSome (F.told files.old) (λ shelf. IsDue result (due_over shelf (replay_of words.now))) }
-    ensures gives { GivesRun (F.told files.old) (replay_of words.now) result }
-    ensures calls { IfSome (F.told files.old) (λ shelf. HasCalled result (F.told files.new) (called shelf) (shelf_after shelf (replay_of words.now))) }
+/// What is due of what is wanted, over these files and this keeper.
+fn over_wanted<F: Files, K: Keeper>(
+    alloc: Global,
+    wanted: Wanted<'_>,
+    files: &mut F,
+    keeper: &mut K,
+) -> Report
+    ensures gives { GivesCommand (F.told files.old) (seen (K.held keeper.old) (K.calls keeper.old) (K.faults keeper.old))
+        (seen (K.held keeper.new) (K.calls keeper.new) (K.faults keeper.new)) (command_in wanted.entry) result }
+    ensures calls { IfSome (F.told files.old) (λ shelf. HasCalled result (F.told files.new) (called shelf) (shelf_by shelf (command_in wanted.entry))) }
     ensures count { CountsFiles result (F.faults files.old) (F.faults files.new) }
-    ensures usage { (result ≡ Report.Usage) ↔ (replay_of words.now ≡ None) }
+    ensures asked { result ≢ Report.Usage }
+    ensures spares { Spares result keeper.old keeper.new }
+    ensures spared { SparedBy (Some (command_in wanted.entry)) keeper.old keeper.new }
 {
-    match command(words) {
-        None => Report::Usage,
-        Some(replay) => over_replay(alloc, replay, files),
+    match wanted {
+        Wanted::Replay(replay) => over_replay(alloc, replay, files, keeper),
+        Wanted::Check(records) => over_records(alloc, records, files),
     }
 }
 
-/// Runs the command that the words ask for over these files, writes what is due to the sink, and answers the status.
+/// What is due by these words over these files and this keeper.
+fn prepare<F: Files, K: Keeper>(
+    alloc: Global,
+    words: &[Text],
+    files: &mut F,
+    keeper: &mut K,
+) -> Report
+    ensures gives { GivesRun (F.told files.old) (seen (K.held keeper.old) (K.calls keeper.old) (K.faults keeper.old))
+        (seen (K.held keeper.new) (K.calls keeper.new) (K.faults keeper.new)) (command_of words.now) result }
+    ensures calls { IfSome (F.told files.old) (λ shelf. HasCalled result (F.told files.new) (called shelf) (shelf_after shelf (command_of words.now))) }
+    ensures count { CountsFiles result (F.faults files.old) (F.faults files.new) }
+    ensures usage { (result ≡ Report.Usage) ↔ (command_of words.now ≡ None) }
+    ensures spares { Spares result keeper.old keeper.new }
+    ensures spared { SparedBy (command_of words.now) keeper.old keeper.new }
+{
+    match command(words) {
+        None => Report::Usage,
+        Some(wanted) => over_wanted(alloc, wanted, files, keeper),
+    }
+}
+
+/// Runs the command that the words ask for over these files and this keeper, writes what is due to the sink, and answers the status.
 ///
-/// `words` are those behind the program's own name. The one command so far is `replay CONFIG SCRIPT --token T`: it reads the configuration and then the script, each once, and writes the listing of what the server offers. The status is 0 where the listing was written whole, 1 where the words are not of the grammar (`usage`), 2 where the configuration, or else the script, breaks its grammar (`line N`), 5 where the configuration, or else the script, cannot be read (`file`), 7 where the sink failed before the listing was whole, and 8 for want of memory (`memory`).
-pub fn run<F: Files, S: Sink>(alloc: Global, words: &[Text], files: &mut F, out: &mut S) -> u8
-    // What was written and answered: by the words as their grammar spells them and by what the files answered, the listing of exactly the offers that the definitions of the run give, which keep the secret of restricted callers; or the text of another status.
-    ensures ran { Ran (F.told files.old) words.now result (S.written out.old) (S.written out.new) (S.faults out.old) (S.faults out.new) }
+/// `words` are those behind the program's own name. There are two commands so far. `replay CONFIG SCRIPT --token T` reads the configuration and then the script, each once, binds the keeper to the store of the configuration and loads it, each once, and writes the listing of what the server offers; records that are uploaded in the script are kept by the keeper. `check RECORDS` reads that file once, and writes `ok` where it is a service record, and else the line that tells its first fault. The status is 0 where the listing or `ok` was written whole, 1 where the words are not of the grammar (`usage`), 2 where the configuration, or else the script, breaks its grammar (`line N`), 3 where the file that is checked is no service record (`not toml`, `unknown KEY`, `wrong KEY` or `many KEY LIMIT`), 5 where the configuration, or else the script, or the file that is checked cannot be read (`file`), 6 where the keeper cannot be bound or not be loaded (`keeper`), 7 where the sink failed before the listing or `ok` was whole, and 8 for want of memory (`memory`).
+pub fn run<F: Files, K: Keeper, S: Sink>(
+    alloc: Global,
+    words: &[Text],
+    files: &mut F,
+    keeper: &mut K,
+    out: &mut S,
+) -> u8
+    // What was written and answered: by the words as their grammar spells them and by what the files answered, the listing of exactly the offers that the definitions of the run give over what the keeper gave, which keep the secret of restricted callers, with what the keeper holds then; or that it could not be bound to the store of the configuration or not be loaded; or what a text that was checked is; or the text of another status.
+    ensures ran { Ran (F.told files.old) (seen (K.held keeper.old) (K.calls keeper.old) (K.faults keeper.old))
+        (seen (K.held keeper.new) (K.calls keeper.new) (K.faults keeper.new)) words.now result (S.written out.old) (S.written out.new) (S.faults out.old) (S.faults out.new) }
     // What was asked of the files.
     ensures calls { IfSome (F.told files.old) (λ shelf. CalledFor shelf words.now result (F.told files.new)) }
     // When the count of their faults rose.
     ensures files { CountsAtFive result (F.faults files.old) (F.faults files.new) }
+    // Where nothing was asked of the keeper.
+    ensures keeper { IsSpared words.now result keeper.old keeper.new }
 {
-    let due = prepare(alloc, words, files);
+    let due = prepare(alloc, words, files, keeper);
     write_report(&due, out)
 }

@@ -2,8 +2,9 @@
 ghost use Rattle.std.specs.Prelude.{◌≡◌, ◌<◌, ◌++◌, [], length, true, Some, IfSome, MatchOption};
 ghost use Rattle.std.specs.Option.{option_to_list, option_copied};
 ghost use Rattle.std.specs.List.{list_all};
-ghost use Rattle.mmtel_cli.specs.CommandLine.{IsReplay};
-ghost use Rattle.mmtel_cli.specs.Words.{Asked, is_hex, is_token, kind_of, kind_of_value, kind_of_joined, kind_of_other, kind_of_word, mode_after, with_positional, value_of, is_complete, replay_from, replay_of_rest, replay_of};
+ghost use Rattle.mmtel_cli.specs.CommandLine.{Command, IsHere, IsCommand};
+ghost use Rattle.mmtel_cli.specs.Commands.{command_given, command_of};
+ghost use Rattle.mmtel_cli.specs.Words.{Asked, is_hex, is_token, kind_of, kind_of_value, kind_of_joined, kind_of_other, kind_of_word, mode_after, with_positional, value_of, is_complete, is_positional, replay_from, replay_of_rest, replay_of, only_word, records_of};
 ghost use Rattle.mmtel_cli.specs.Asked.{asked_of, positionals_of};
 
 use mmtel_scan::{Text, skip_text};
@@ -17,6 +18,15 @@ pub struct Replay<'a> {
     pub script: &'a [u8],
     /// The token: 16 lower-case hexadecimal digits, from which branches, tags and Call-IDs are made.
     pub token: &'a [u8],
+}
+
+/// What the words ask for.
+#[derive(Clone, Copy)]
+pub enum Wanted<'a> {
+    /// That a script be replayed.
+    Replay(Replay<'a>),
+    /// That the file of this name be checked: whether it is a service record.
+    Check(&'a [u8]),
 }
 
 /// The positional words so far.
@@ -79,6 +89,13 @@ fn is_token(word: &[u8]) -> bool
     word.len() == 16 && is_all_hex(word)
 }
 
+/// Whether a word is positional where options may stand.
+fn is_positional(word: &[u8]) -> bool
+    ensures exact { result ≡ is_positional word.now }
+{
+    word == b"-".as_slice() || !word.starts_with(b"-".as_slice())
+}
+
 /// What a word is behind `--token`.
 fn kind_of_value(word: &[u8]) -> WordKind
     ensures exact { result ≡ kind_of_value word.now }
@@ -108,7 +125,7 @@ fn kind_of_other(value: Option<&[u8]>, word: &[u8]) -> WordKind
     match value {
         Some(value) => kind_of_joined(value),
         None => {
-            if word == b"-".as_slice() || !word.starts_with(b"-".as_slice()) {
+            if is_positional(word) {
                 WordKind::Positional
             } else {
                 WordKind::Wrong
@@ -234,7 +251,7 @@ fn replay_of_rest(words: &[Text]) -> Option<Replay<'_>>
 }
 
 /// What the words ask of `replay`, the command first.
-fn read_command(words: &[Text]) -> Option<Replay<'_>>
+fn read_replay(words: &[Text]) -> Option<Replay<'_>>
     ensures asked { asked_of result ≡ replay_of words.now }
 {
     let (first, rest) = words.split_first()?;
@@ -245,13 +262,63 @@ fn read_command(words: &[Text]) -> Option<Replay<'_>>
     }
 }
 
-/// What the words ask, the command first. It takes no memory.
+/// The one positional word of a command that has no option, of the words behind the command.
+fn only_word(words: &[Text]) -> Option<&[u8]>
+    ensures exact { option_copied result ≡ only_word words.now }
+{
+    match words {
+        [word] => {
+            if is_positional(word.bytes()) {
+                Some(word.bytes())
+            } else {
+                None
+            }
+        }
+        [first, second] => {
+            if first.bytes() == b"--".as_slice() {
+                Some(second.bytes())
+            } else if second.bytes() == b"--".as_slice() && is_positional(first.bytes()) {
+                Some(first.bytes())
+            } else {
+                None
+            }
+        }
+        _ => None,
+    }
+}
+
+/// The name of the file that the words ask to check, the command first.
+fn read_check(words: &[Text]) -> Option<&[u8]>
+    ensures asked { option_copied result ≡ records_of words.now }
+{
+    let (first, rest) = words.split_first()?;
+    if first.bytes() == b"check".as_slice() {
+        only_word(rest)
+    } else {
+        None
+    }
+}
+
+/// What the words ask for, the command first, by the first of the commands that reads them.
+fn read_command(words: &[Text]) -> Option<Wanted<'_>>
+    ensures asked { command_given result ≡ command_of words.now }
+{
+    match read_replay(words) {
+        Some(replay) => Some(Wanted::Replay(replay)),
+        None => match read_check(words) {
+            Some(records) => Some(Wanted::Check(records)),
+            None => None,
+        },
+    }
+}
+
+/// What the words ask for, the command first. It takes no memory.
 ///
-/// The one command so far is `replay CONFIG SCRIPT --token T`. Its words behind `replay` are read from the left: `--token T` or `--token=T`, which stands exactly once; `--`, which makes all later words positional; any other word is positional if it is `-` or does not begin with `-`. The positional words are exactly CONFIG and SCRIPT. T is 16 lower-case hexadecimal digits. None exactly where the words are not of this grammar.
-pub fn command(words: &[Text]) -> Option<Replay<'_>>
-    ensures asked { asked_of result ≡ replay_of words.now }
-    ensures spelled { IfSome (asked_of result) (λ asked. IsReplay asked words.now) }
-    ensures only { (asked : Asked) → IsReplay asked words.now → asked_of result ≡ Some asked }
+/// The commands so far are `replay CONFIG SCRIPT --token T` and `check RECORDS`. The words behind the command are read from the left: for `replay` `--token T` or `--token=T`, which stands exactly once; `--`, which makes all later words positional; any other word is positional if it is `-` or does not begin with `-`. The positional words are exactly as many as named. T is 16 lower-case hexadecimal digits. None exactly where the words are not of this grammar.
+pub fn command(words: &[Text]) -> Option<Wanted<'_>>
+    ensures asked { command_given result ≡ command_of words.now }
+    ensures spelled { IfSome (command_given result) (λ wanted. IsHere wanted × IsCommand wanted words.now) }
+    ensures only { (wanted : Command) → IsHere wanted → IsCommand wanted words.now → command_given result ≡ Some wanted }
 {
     read_command(words)
 }

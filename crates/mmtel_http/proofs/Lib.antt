@@ -4,3 +4,4 @@ pub mod MethodLaws
 pub mod PathLaws
 pub mod RequestLaws
 pub mod Routing
+pub mod Standing

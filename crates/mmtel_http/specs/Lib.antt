@@ -4,5 +4,6 @@ pub mod Requests
 pub mod Seen
 pub mod Replies
 pub mod Places
+pub mod Standing
 
 -- What private functions alone cite: nothing.

@@ -4,3 +4,4 @@ pub mod Courses
 pub mod Openings
 -- What private functions alone cite.
 pub mod Targets
+pub mod Accounts

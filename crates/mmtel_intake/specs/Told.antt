@@ -1,5 +1,5 @@
--- What the code read of an event, as the digest that it is.
-use Rattle.mmtel_run.specs.Events.{Digest, Nothing, Refused, Heard, Unbuilt}
+-- What the code read of a datagram, as the digest that it is.
+use Rattle.mmtel_run.specs.Events.{Digest, Nothing, Refused, Heard}
 use Rattle.mmtel_intake.specs.declared.digests.Told.{Told}
 use Rattle.mmtel_intake.specs.declared.digests.Told.TheVariants as told
 
@@ -7,4 +7,3 @@ abbrev pub digest_in : Told → Digest
 digest_in told.Nothing = Nothing
 digest_in (told.Refused peer source reply) = Refused peer source reply
 digest_in (told.Heard said) = Heard said
-digest_in told.Unbuilt = Unbuilt

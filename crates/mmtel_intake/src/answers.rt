@@ -6,6 +6,7 @@ ghost use Rattle.mmtel_intake.specs.Courses.{answer_in};
 use mmtel_answers::{Aim, allowed};
 use mmtel_message::Line;
 use mmtel_scan::{List, NoMemory};
+use mmtel_types::Account;
 use std::alloc::Global;
 
 /// An answer of the server's own: its status, and the lines that it has of its own.
@@ -24,6 +25,13 @@ pub enum Course {
     Refuse(Answer),
     /// It opens a call, whose first attempt goes there.
     Open(Aim),
+    /// It registers an account for so many seconds.
+    Register {
+        /// The account.
+        account: Account,
+        /// The seconds from now.
+        seconds: u64,
+    },
     /// It is of a form that is not built yet.
     Unbuilt,
 }

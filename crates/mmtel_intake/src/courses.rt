@@ -13,6 +13,7 @@ use crate::answers::{Course, allowing, plainly, without_extension};
 use crate::refusals::{
     Target, is_foreign, is_known_method, is_last_hop, read_target, unsupported_lines,
 };
+use crate::registrations::registration;
 use crate::replies::is_untagged;
 use mmtel_answers::{Hearing, first_aim};
 use mmtel_directory::Directory;
@@ -183,6 +184,8 @@ fn by_method(
         Ok(Course::Refuse(plainly(403)))
     } else if is_method(b"INVITE", start) {
         invited(alloc, directory, target, request)
+    } else if is_method(b"REGISTER", start) {
+        registration(alloc, directory, request)
     } else {
         Ok(Course::Unbuilt)
     }

@@ -1,7 +1,7 @@
-//! What is read of an event.
+//! What is read of a datagram.
 ghost use Rattle.std.specs.Prelude.{◌≡◌, IfOk};
 ghost use Rattle.mmtel_message.specs.Reads.{reads};
-ghost use Rattle.mmtel_run.specs.Events.{digest, digest_from, digest_read, moment_of, refused_by};
+ghost use Rattle.mmtel_run.specs.Events.{digest_datagram, digest_from, digest_read, moment_of, refused_by};
 ghost use Rattle.mmtel_intake.specs.Told.{digest_in};
 
 use mmtel_answers::Hearing;
@@ -13,10 +13,10 @@ use mmtel_trust::PeerTable;
 use mmtel_types::{Addr, Moment, Peer};
 use std::alloc::Global;
 
-/// What was read of an event.
+/// What was read of a datagram.
 #[derive(Drop)]
 pub enum Told {
-    /// Nothing: a quiet moment, or a datagram that is dropped.
+    /// Nothing: it is dropped.
     Nothing,
     /// Bytes of a peer that are refused as they are read.
     Refused {
@@ -29,8 +29,6 @@ pub enum Told {
     },
     /// A message of a peer.
     Heard(Hearing),
-    /// An event of a kind that is not built yet.
-    Unbuilt,
 }
 
 /// The moment of an event.
@@ -99,25 +97,26 @@ fn told_from(
     }
 }
 
-/// What is read of an event: of a datagram from the address of a peer the message, or the reply that is due where the bytes are refused as they are read (RFC 3261 §7, §18.3);
-/// of one from any other address nothing.
+/// What is read of a datagram: from the address of a peer the message, or the reply that is due where the bytes are refused as they are read (RFC 3261 §7, §18.3);
+/// from any other address nothing.
 ///
 /// # Errors
 ///
 /// Want of memory alone.
-#[tactic(auto, unfolding(mmtel_run::specs::Events::digest))]
-pub fn digest(alloc: Global, directory: &Directory, event: &Event) -> Result<Told, NoMemory>
-    ensures told { IfOk result (λ told. digest_in told ≡ digest directory.now event.now) }
+#[tactic(auto, unfolding(mmtel_run::specs::Events::digest_datagram))]
+pub fn digest(
+    alloc: Global,
+    directory: &Directory,
+    from: Addr,
+    bytes: &[u8],
+) -> Result<Told, NoMemory>
+    ensures told { IfOk result (λ told. digest_in told ≡ digest_datagram directory.now from bytes.now) }
 {
-    match event {
-        Event::Datagram { from, bytes, .. } => told_from(
-            alloc,
-            &directory.peers,
-            directory.peers.find(*from),
-            *from,
-            bytes.bytes(),
-        ),
-        Event::Web { .. } => Ok(Told::Unbuilt),
-        Event::Quiet { .. } => Ok(Told::Nothing),
-    }
+    told_from(
+        alloc,
+        &directory.peers,
+        directory.peers.find(from),
+        from,
+        bytes,
+    )
 }

@@ -1,4 +1,4 @@
-//! What is read of an event, decided of a request, and built of it: the work of a server below its steps.
+//! What is read of a datagram, decided of a request, and built of it: the work of a server below its steps.
 #![tactic(auto)]
 
 mod answers;
@@ -6,6 +6,7 @@ mod courses;
 mod digests;
 mod openings;
 mod refusals;
+mod registrations;
 mod replies;
 
 pub use answers::{Answer, Course, plainly};

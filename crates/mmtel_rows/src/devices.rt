@@ -1,4 +1,4 @@
-//! Files and sinks that fail, and files that break their grammars.
+//! Files, keepers and sinks that fail, and files that break their grammars.
 
 use crate::openings::{CONFIG, RESTRICTED, RESTRICTED_OFFERS};
 use crate::runs::{Devices, is_right, sound};
@@ -71,6 +71,41 @@ fn failing_files(rt: HostRuntime) {
     );
 }
 
+/// Whether a run over these files and a keeper whose calls of these numbers fail answers this.
+fn fails_to_keep(
+    alloc: Global,
+    words: &str,
+    files: &[(&str, &str)],
+    failing: &[u64],
+    status: u8,
+    text: &str,
+) -> bool {
+    let devices = Devices {
+        failing_keeps: failing,
+        ..sound(files)
+    };
+    is_right(alloc, words, devices, status, text)
+}
+
+/// A keeper that cannot be bound, its first call, or not be loaded, its second: behind the files, and never for another command. Nothing else is asked of it in a run without uploads.
+#[test]
+fn failing_keepers(rt: HostRuntime) {
+    let bad_script: &[(&str, &str)] = &[("server.cfg", CONFIG), ("run.script", "at 0\n")];
+    let config_alone: &[(&str, &str)] = &[("server.cfg", CONFIG)];
+    let rows: &[(&str, &[(&str, &str)], &[u64], u8, &str)] = &[
+        (REPLAY, FILES, &[1], 6, "keeper\n"),
+        (REPLAY, FILES, &[2], 6, "keeper\n"),
+        (REPLAY, FILES, &[1, 2], 6, "keeper\n"),
+        (REPLAY, FILES, &[3], 0, RESTRICTED_OFFERS),
+        (REPLAY, bad_script, &[1], 2, "line 1\n"),
+        (REPLAY, config_alone, &[1], 5, "file\n"),
+        ("check|run.script", &[("run.script", "")], &[1], 0, "ok\n"),
+        ("replay", FILES, &[1], 1, "usage\n"),
+    ];
+    let alloc = rt.alloc();
+    assert!(rt; rows.iter().all(|row| fails_to_keep(alloc, row.0, row.1, row.2, row.3, row.4)));
+}
+
 /// A sink that takes so many bytes in all and in one write, and whose writes of these numbers fail.
 #[derive(Clone, Copy)]
 struct Cut<'a> {
@@ -138,5 +173,11 @@ fn statuses_that_stay(rt: HostRuntime) {
     assert!(rt; fails_to_write(alloc, "replay", &[], two, 1, "us"));
     let six = Cut { room: 6, ..two };
     let bad = &[("server.cfg", "peer x\n")];
+    let unkept = Devices {
+        failing_keeps: &[2],
+        room: 5,
+        ..sound(FILES)
+    };
     assert!(rt; fails_to_write(alloc, REPLAY, bad, six, 2, "line 1"));
+    assert!(rt; is_right(alloc, REPLAY, unkept, 6, "keepe"));
 }

@@ -1,8 +1,10 @@
-//! Worked rows over the top call: words, files and a sink in memory, with the status and the text that come of them.
+//! Worked rows over the top call: words, files, a keeper and a sink in memory, with the status and the text that come of them.
 //!
-//! What the contracts say needs no test. Here stand whole runs whose texts come from the standards and from the rules of the formats, and runs over files and sinks that fail, with memory enough, since a body that always answers want of memory meets its contract too.
+//! What the contracts say needs no test. Here stand whole runs whose texts come from the standards and from the rules of the formats, and runs over files, keepers and sinks that fail, with memory enough, since a body that always answers want of memory meets its contract too.
 #![tactic(auto)]
 
+#[cfg(test)]
+mod checks;
 #[cfg(test)]
 mod datagrams;
 #[cfg(test)]
@@ -13,6 +15,8 @@ mod limits;
 mod openings;
 #[cfg(test)]
 mod pages;
+#[cfg(test)]
+mod registration;
 #[cfg(test)]
 mod repeated_invite;
 #[cfg(test)]
@@ -27,5 +31,7 @@ mod unbuilt;
 mod unrestricted_invite;
 #[cfg(test)]
 mod untrusted_identity;
+#[cfg(test)]
+mod uploads;
 #[cfg(test)]
 mod words;

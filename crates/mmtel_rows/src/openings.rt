@@ -1,7 +1,7 @@
 //! Openings: the INVITE of a caller who asks for privacy, from a trusted peer to one that is not.
 
 use crate::runs::{is_right, sound};
-use mmtel_cli::{ScriptLink, Server, drive, listing, read_directory};
+use mmtel_cli::{MemoryKeeper, ScriptLink, Server, drive, listing, read_directory};
 use mmtel_scan::{List, Text};
 use std::alloc::Global;
 
@@ -259,9 +259,17 @@ fn offered(alloc: Global, script: &str, turns: u64, closed: bool) -> Option<Text
     let directory = read_directory(alloc, CONFIG.as_bytes()).ok()?;
     let mut script = ScriptLink::read(alloc, script.as_bytes(), &directory.peers).ok()?;
     let token = Text::of(alloc, b"0123456789abcdef").ok()?;
-    let mut server = Server::new(directory, token);
+    let mut server = Server::new(alloc, directory, token, &[]).ok()?;
+    let mut keeper = MemoryKeeper::new(List::new());
     let mut out = List::new();
-    match drive(alloc, &mut server, &mut script, turns, &mut out) {
+    match drive(
+        alloc,
+        &mut server,
+        &mut script,
+        &mut keeper,
+        turns,
+        &mut out,
+    ) {
         Ok(end) if end == closed => listing(alloc, &out).ok(),
         _ => None,
     }

@@ -16,15 +16,11 @@ fn is_unbuilt(alloc: Global, request: &Request<'_>) -> bool {
     }
 }
 
-/// REGISTER, CANCEL, an INVITE that was diverted before, to the factory of rooms, to a room, and to where no route leads.
+/// CANCEL, an INVITE that was diverted before, to the factory of rooms, to a room, and to where no route leads.
 #[test]
 fn unbuilt_requests(rt: HostRuntime) {
     let history = "|History-Info: <sip:bob@far.example>;index=1\n";
     let rows: &[Request<'_>] = &[
-        Request {
-            method: "REGISTER",
-            ..invite()
-        },
         Request {
             method: "CANCEL",
             ..invite()
@@ -52,15 +48,4 @@ fn unbuilt_requests(rt: HostRuntime) {
     ];
     let alloc = rt.alloc();
     assert!(rt; rows.iter().all(|row| is_unbuilt(alloc, row)));
-}
-
-/// A web connection.
-const WEB: &str = "at 5 web
-|GET /charges HTTP/1.1
-|
-";
-
-#[test]
-fn unbuilt_web(rt: HostRuntime) {
-    assert!(rt; is_listed(rt.alloc(), WEB, "at 5 unbuilt\n"));
 }

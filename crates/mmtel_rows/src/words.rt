@@ -4,7 +4,7 @@ use crate::runs::{sound, written};
 use crate::tables::{Table, cut, wrong_row};
 use std::alloc::Global;
 
-/// What each list of words, parted here by `|`, makes a run write. The name of the configuration is that of a file whose first line is bad, so that a run ends with its number; every other name is of no file, and no file is read for words that ask for nothing.
+/// What each list of words, parted here by `|`, makes a run write. The name of the configuration is that of a file whose first line is bad, so that a run ends with its number, and that is no service record; every other name is of no file, and no file is read for words that ask for nothing.
 const WORDS: &[u8] = b"line 1|replay|c|s|--token|0123456789abcdef
 line 1|replay|c|--token|0123456789abcdef|s
 line 1|replay|--token|0123456789abcdef|c|s
@@ -26,7 +26,25 @@ usage||replay|c|s|--token|0123456789abcdef
 usage|replay
 usage|serve
 usage|serve|c|--token|0123456789abcdef|--turns|1
-usage|check|c
+not toml|check|c
+not toml|check|--|c
+not toml|check|c|--
+not toml|check|-
+not toml|check|--|-c
+file|check|s
+file|check|--|--
+file|check|replay
+file|check|
+usage|check
+usage|check|--
+usage|check|c|s
+usage|check|-c
+usage|check|c|--|s
+usage|check|--|c|s
+usage|check|--|--|c
+usage|check|c|--token|0123456789abcdef
+usage|check|--token=0123456789abcdef|c
+usage|Check|c
 usage|charges|c
 usage|workload|--calls|1|--salt|0
 usage|Replay|c|s|--token|0123456789abcdef
@@ -70,6 +88,7 @@ fn status_of(text: &[u8]) -> u8 {
         Some(b'u') => 1,
         Some(b'l') => 2,
         Some(b'f') => 5,
+        Some(b'n') => 3,
         _ => 0,
     }
 }

@@ -5,7 +5,9 @@ use Rattle.std.specs.List.{list_any}
 use Rattle.std.proofs.lemmas.Bool.{cases_Bool}
 use Rattle.std.proofs.lemmas.Bool.Decides.{nat_tests}
 use Rattle.mmtel_answers.specs.declared.attempts.Aim.{Aim}
+use Rattle.mmtel_charging.specs.declared.rows.Row.{Row}
 use Rattle.mmtel_directory.specs.declared.directories.Directory.{Directory}
+use Rattle.mmtel_http.specs.Requests.{Request}
 use Rattle.mmtel_message.specs.Faults.{is_method}
 use Rattle.mmtel_message.specs.Message.{Message}
 use Rattle.mmtel_message.specs.Texts.{message_text}
@@ -29,15 +31,20 @@ use Rattle.mmtel_trust.specs.Digest.{HeardMessage}
 use Rattle.mmtel_trust.specs.Peers.{Peers, is_trusted}
 use Rattle.mmtel_trust.specs.declared.parties.KnownPeer.{KnownPeer}
 use Rattle.mmtel_types.specs.declared.addrs.Addr.{Addr}
+use Rattle.mmtel_types.specs.declared.numbers.Account.{Account}
 use Rattle.mmtel_types.specs.declared.numbers.Peer.{Peer}
+use Rattle.mmtel_web.specs.Answers.{Kept, web_reply}
+use Rattle.mmtel_web.specs.Uploads.{kept_upload, upload_in}
+use Rattle.mmtel_in_force.specs.Texts.{put_kept}
 use Rattle.mmtel_run.specs.Alike.{AlikeWorlds, EqualButForAccounts, Kin, said_by, trusts}
 use Rattle.mmtel_run.specs.Answers.{Answer, completed_reply, plainly, response_to, tag_for, tags_due, to_tag_in}
 use Rattle.mmtel_run.specs.Events.{message_in}
 use Rattle.mmtel_run.specs.Openings.{attempt, names, opening_draws, trying}
-use Rattle.mmtel_run.specs.Refusals.{Course, Refuse, Open, Unbuilt, course}
+use Rattle.mmtel_run.specs.Records.{until_of}
+use Rattle.mmtel_run.specs.Refusals.{Course, Refuse, Open, Register, Unbuilt, course}
 use Rattle.mmtel_run.specs.Run.{due_in, fire_one, fired_if, settled}
 use Rattle.mmtel_run.specs.View.{view}
-use Rattle.mmtel_run.specs.World.{World, answering, begun, drawing, emit_one, fired, fired_in, heard_again, hearing, offering, opening, refusing, repeating, replying, replying_plainly, rung, taking, taking_fresh, to_peer, told, unbuilt}
+use Rattle.mmtel_run.specs.World.{World, answering, begun, drawing, emit_one, fired, fired_in, heard_again, hearing, keeping, offering, opening, refusing, registering, repeating, replying, replying_plainly, rung, serving, taking, taking_fresh, to_peer, told, unbuilt}
 
 -- ---- views
 
@@ -79,16 +86,45 @@ module _ (law : TextsDecideNothing) (new : NewPeers) (d e : Directory) (token : 
   -- ---- single deeds
 
   offering-alike : (os ps : List Offer) (v w : World) → ((p : Peer) → trusts d p ≡ false → view p os ≡ view p ps) → AlikeWorlds d v w → AlikeWorlds d (offering os v) (offering ps w)
-  offering-alike os ps v w s a = record { clock = a.clock; steps = a.steps; acts = a.acts; drawn = a.drawn; seen = λ p strange. seen_more p v.offers w.offers os ps (a.seen p strange) (s p strange) }
+  offering-alike os ps v w s a = record { clock = a.clock; steps = a.steps; acts = a.acts; drawn = a.drawn; texts = a.texts; registrations = a.registrations; seen = λ p strange. seen_more p v.offers w.offers os ps (a.seen p strange) (s p strange) }
 
   acting-alike : (x y : List Done) (v w : World) → Alike (trusts d) x y → AlikeWorlds d v w → AlikeWorlds d (record v { acts = x }) (record w { acts = y })
-  acting-alike x y v w s a = record { clock = a.clock; steps = a.steps; acts = s; drawn = a.drawn; seen = a.seen }
+  acting-alike x y v w s a = record { clock = a.clock; steps = a.steps; acts = s; drawn = a.drawn; texts = a.texts; registrations = a.registrations; seen = a.seen }
 
   drawing-alike : (i j : ℕ) (v w : World) → i ≡ j → AlikeWorlds d v w → AlikeWorlds d (drawing i v) (drawing j w)
-  drawing-alike i j v w same a = record { clock = a.clock; steps = a.steps; acts = a.acts; drawn = ap (λ (k : ℕ). k + i) a.drawn ∙ ap (λ (k : ℕ). w.drawn + k) same; seen = a.seen }
+  drawing-alike i j v w same a = record { clock = a.clock; steps = a.steps; acts = a.acts; drawn = ap (λ (k : ℕ). k + i) a.drawn ∙ ap (λ (k : ℕ). w.drawn + k) same; texts = a.texts; registrations = a.registrations; seen = a.seen }
 
   pub unbuilt-alike : (at : ℕ) (v w : World) → AlikeWorlds d v w → AlikeWorlds d (unbuilt at v) (unbuilt at w)
   unbuilt-alike at v w a = offering-alike (offer.Unbuilt at ∷ []) (offer.Unbuilt at ∷ []) v w (λ p s. refl) a
+
+  keeping-alike : (u t : Option (Account × List ℕ)) (v w : World) → u ≡ t → AlikeWorlds d v w → AlikeWorlds d (keeping u v) (keeping t w)
+  keeping-alike u t v w same a = record {
+    clock = a.clock;
+    steps = a.steps;
+    acts = a.acts;
+    drawn = a.drawn;
+    texts = ap (λ (x : Option (Account × List ℕ)). put_kept x v.texts) same ∙ ap (put_kept t) a.texts;
+    registrations = a.registrations;
+    seen = a.seen;
+  }
+
+  registering-alike : (account : Account) (until : ℕ) (v w : World) → AlikeWorlds d v w → AlikeWorlds d (registering account until v) (registering account until w)
+  registering-alike account until v w a = record {
+    clock = a.clock;
+    steps = a.steps;
+    acts = a.acts;
+    drawn = a.drawn;
+    texts = a.texts;
+    registrations = ap (λ (l : List (Account × ℕ)). (account, until) ∷ l) a.registrations;
+    seen = a.seen;
+  }
+
+  -- what is replied on the web nobody sees of the peers
+  pub serving-alike : (at : ℕ) (r s : Request) (k l : Kept) (rows others : List Row) (v w : World) → kept_upload k (upload_in d.names r) ≡ kept_upload l (upload_in e.names s) → AlikeWorlds d v w
+      → AlikeWorlds d (serving d at r k rows v) (serving e at s l others w)
+  serving-alike at r s k l rows others v w same a =
+      offering-alike (offer.Web at (web_reply d.names v.texts r k rows) ∷ []) (offer.Web at (web_reply e.names w.texts s l others) ∷ []) _ _ (λ p strange. refl)
+      (keeping-alike (kept_upload k (upload_in d.names r)) (kept_upload l (upload_in e.names s)) v w same a)
 
   -- what is emitted, where two messages differ in what only a trusted peer is sent
   reply-alike : (at : ℕ) (key : TKey) (m n : Message Start) (v w : World) → head_of m ≡ head_of n → ((q : Peer) → peer_of key.0 (live w.acts) ≡ Some q → trusts d q ≡ false → message_text m ≡ message_text n) → AlikeWorlds d v w → AlikeWorlds d (emit_one at (emit.Reply key m) v) (emit_one at (emit.Reply key n) w)
@@ -153,6 +189,8 @@ module _ (law : TextsDecideNothing) (new : NewPeers) (d e : Directory) (token : 
     steps = ap (λ (n : ℕ). n + 1) a.steps;
     acts = subst (λ (n : ℕ). Alike (trusts d) (DidBegin v.steps ∷ v.acts) (DidBegin n ∷ w.acts)) a.steps (((law (trusts d) v.acts w.acts a.acts).1).begins v.steps);
     drawn = a.drawn;
+    texts = a.texts;
+    registrations = a.registrations;
     seen = a.seen;
   }
 
@@ -237,6 +275,7 @@ module _ (law : TextsDecideNothing) (new : NewPeers) (d e : Directory) (token : 
         → AlikeWorlds d (taking d token at key (said_by peer source m) c v) (taking e token at key (said_by peer source n) c w)
     taking-alike key (Refuse answer) v w of_peer a = replying-alike key answer v w of_peer a
     taking-alike key (Open aim) v w of_peer a = opening-alike key aim v w of_peer a
+    taking-alike key (Register account seconds) v w of_peer a = replying-alike key (plainly 200) _ _ of_peer (registering-alike account (until_of at seconds) v w a)
     taking-alike key Unbuilt v w of_peer a = unbuilt-alike at v w a
 
     taking_fresh-alike : (i j : ℕ) (v w : World) → i ≡ j → ((q : Peer) → peer_of j (live w.acts) ≡ Some q → q ≡ peer) → AlikeWorlds d v w

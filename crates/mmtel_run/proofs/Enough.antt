@@ -9,7 +9,7 @@ use Rattle.mmtel_transaction.specs.declared.words.Due.TheVariants as due
 use Rattle.mmtel_run.specs.Events.{Digest, digests}
 use Rattle.mmtel_run.specs.Headline.{GivesAlways, GivesOnce, MoreChangesNothing}
 use Rattle.mmtel_run.specs.Run.{IsEnoughAfter, IsSettled, after, clock_at, due_in, fire_one, fired_if, gives, one_more, settled}
-use Rattle.mmtel_run.specs.World.{World, came, empty, fired, rung}
+use Rattle.mmtel_run.specs.World.{World, beginning, came, fired, rung}
 
 -- ---- more changes nothing
 
@@ -91,14 +91,14 @@ module _ (use_up : FiringsUseUp) (begins : BeginsChangeNothing) where
         )
 
   pub always : GivesAlways
-  always d token events = enough_after d token (digests d events) empty
+  always d token loaded happened = enough_after d token (digests d happened) (beginning loaded)
 
   pub more_changes_nothing : MoreChangesNothing
-  more_changes_nothing d token events fuel more e = ap (λ (w : World). w.offers) (after_more d token fuel more (digests d events) empty e)
+  more_changes_nothing d token loaded happened fuel more e = ap (λ (w : World). w.offers) (after_more d token fuel more (digests d happened) (beginning loaded) e)
 
   pub once : GivesOnce
-  once d token events offers others g h =
+  once d token loaded happened offers others g h =
       let turned : g.fuel + h.fuel ≡ h.fuel + g.fuel = omega arith in
-      g.exact ∙ (sym (more_changes_nothing d token events g.fuel h.fuel g.enough)
-      ∙ (ap (λ (k : ℕ). gives d token k events) turned
-      ∙ (more_changes_nothing d token events h.fuel g.fuel h.enough ∙ sym h.exact)))
+      g.exact ∙ (sym (more_changes_nothing d token loaded happened g.fuel h.fuel g.enough)
+      ∙ (ap (λ (k : ℕ). gives d token loaded k happened) turned
+      ∙ (more_changes_nothing d token loaded happened h.fuel g.fuel h.enough ∙ sym h.exact)))

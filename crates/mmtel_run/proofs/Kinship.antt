@@ -32,13 +32,14 @@ use Rattle.mmtel_trust.specs.Passed.{attempt_from, history_row, passed}
 use Rattle.mmtel_trust.specs.Peers.{Peers}
 use Rattle.mmtel_trust.specs.declared.accounts.AccountIdentity.{AccountIdentity}
 use Rattle.mmtel_types.specs.declared.addrs.Addr.{Addr}
+use Rattle.mmtel_types.specs.declared.numbers.Account.{Account}
 use Rattle.mmtel_types.specs.declared.numbers.Peer.{Peer}
-use Rattle.mmtel_run.specs.Alike.{EqualButForAccounts, Kin, MasksMakeKin, said_by, trusts}
+use Rattle.mmtel_run.specs.Alike.{EqualButForAccounts, Kin, MasksMakeKin, MasksNameTheRegistrant, said_by, trusts}
 use Rattle.mmtel_run.specs.Answers.{Answer, response_to}
 use Rattle.mmtel_run.specs.Events.{message_in}
 use Rattle.mmtel_run.specs.Mask.{by_words, mask_said}
 use Rattle.mmtel_run.specs.Openings.{Names, attempt, facing, is_hiding, shown_to}
-use Rattle.mmtel_run.specs.Refusals.{Course, Refuse, Unbuilt, course, course_by, course_of, first_that_applies, invited, is_diverted, is_factory, is_of_conference, is_room, opening_by, opening_to, peer_for, refusals}
+use Rattle.mmtel_run.specs.Refusals.{Course, Refuse, Unbuilt, course, course_by, course_of, first_that_applies, invited, is_diverted, is_factory, is_of_conference, is_register, is_room, opening_by, opening_to, peer_for, refusals, registrant, registration, registration_of, to_account}
 use Rattle.mmtel_run.specs.Answers.{allowing, plainly}
 use Rattle.mmtel_run.proofs.Deeds.{true_false}
 
@@ -68,22 +69,42 @@ module _ (d e : Directory) (equal : EqualButForAccounts d e) where
       ap (λ (c : Course). if diverted then Unbuilt else c)
       (ap (λ (s : Addr). opening_by d (kept_routes s m.routes) m) equal.sip ∙ opening_same (kept_routes e.sip m.routes) m)
 
-  course_same : (diverted : Bool) (m : HeardMessage) (o : Option Answer) → course_by d diverted m o ≡ course_by e diverted m o
-  course_same diverted m None =
+  -- the account that a REGISTER names, if it is asked for
+  registered_by : (b c : Bool) (o p : Option Account) (m : HeardMessage) → (if b && c then o else None) ≡ (if b && c then p else None)
+      → (if c then (if b then registration_of o m else Refuse (plainly 403)) else Unbuilt) ≡ (if c then (if b then registration_of p m else Refuse (plainly 403)) else Unbuilt)
+  registered_by b false o p m same = refl
+  registered_by false true o p m same = refl
+  registered_by true true o p m same = ap (λ (x : Option Account). registration_of x m) same
+
+  registered_same : (m : HeardMessage) → registrant d.names.accounts m ≡ registrant e.names.accounts m
+      → (if is_register m then registration d.names.accounts m else Unbuilt) ≡ (if is_register m then registration e.names.accounts m else Unbuilt)
+  registered_same m same = registered_by m.trusted (is_register m) (to_account d.names.accounts m) (to_account e.names.accounts m) m same
+
+  course_same : (diverted : Bool) (m : HeardMessage) (o : Option Answer) → registrant d.names.accounts m ≡ registrant e.names.accounts m → course_by d diverted m o ≡ course_by e diverted m o
+  course_same diverted m None same =
       ap (λ (c : Course).
       if is_method (codes "OPTIONS") m.start then Refuse (allowing 200)
       else if is_method (codes "BYE") m.start then Refuse (plainly 481)
       else if is_method (codes "REFER") m.start then Refuse (plainly 403)
       else if is_method (codes "INVITE") m.start then c
+      else if is_register m then registration d.names.accounts m
       else Unbuilt) (invited_same diverted m)
-  course_same diverted m (Some answer) = refl
+      ∙ ap (λ (c : Course).
+      if is_method (codes "OPTIONS") m.start then Refuse (allowing 200)
+      else if is_method (codes "BYE") m.start then Refuse (plainly 481)
+      else if is_method (codes "REFER") m.start then Refuse (plainly 403)
+      else if is_method (codes "INVITE") m.start then invited e diverted m
+      else c) (registered_same m same)
+  course_same diverted m (Some answer) same = refl
 
-  decided_alike : (merged : Bool) (m n : HeardMessage) → is_diverted m ≡ is_diverted n → public_part m ≡ public_part n → course d merged m ≡ course e merged n
+  decided_alike : (merged : Bool) (m n : HeardMessage) → is_diverted m ≡ is_diverted n → public_part m ≡ public_part n → registrant d.names.accounts m ≡ registrant e.names.accounts n
+      → course d merged m ≡ course e merged n
   unfolding course
-  decided_alike merged m n diverted public =
+  decided_alike merged m n diverted public same =
       ap (λ (b : Bool). course_of d merged b (public_part m)) diverted
       ∙ (ap (course_of d merged (is_diverted n)) public
-      ∙ course_same (is_diverted n) (public_part n) (first_that_applies (refusals merged (public_part n))))
+      ∙ course_same (is_diverted n) (public_part n) (first_that_applies (refusals merged (public_part n)))
+      (sym (ap (registrant d.names.accounts) public) ∙ same))
 
   -- ---- what is built
 
@@ -121,12 +142,12 @@ module _ (d e : Directory) (equal : EqualButForAccounts d e) where
   -- ---- the two cases
 
   -- one message
-  kin_self : (peer : Peer) (source : Addr) (m : HeardMessage) → Kin d e peer source m m
-  kin_self peer source m = record {
+  kin_self : (peer : Peer) (source : Addr) (m : HeardMessage) → registrant d.names.accounts m ≡ registrant e.names.accounts m → Kin d e peer source m m
+  kin_self peer source m register = record {
     start = refl;
     head = refl;
     to_tag = refl;
-    decided = λ merged. decided_alike merged m m refl refl;
+    decided = λ merged. decided_alike merged m m refl refl register;
     answer_head = λ tag answer. ap (λ (s : Addr). head_of (response_to s tag (said_by peer source m) answer)) equal.sip;
     answer = λ strange tag answer. ap (λ (s : Addr). response_to s tag (said_by peer source m) answer) equal.sip;
     attempt_head = λ names aim b. ap (λ (s : Addr). head_of (attempt s names aim b m)) equal.sip;
@@ -138,7 +159,8 @@ module _ (d e : Directory) (equal : EqualButForAccounts d e) where
   map_length f (x ∷ h) = ap suc (map_length f h)
 
   module _ (decides : DecidesAlike) (kept : OpenAnswersAreKept) (heads : HeardAlikeHaveOneHead) (responses : AlikeResponsesHaveOneHead) (shown : ShownLinesHaveNoHead)
-      (peer : Peer) (source : Addr) (m n : HeardMessage) (same : trust.mask by_words [] m ≡ trust.mask by_words [] n) (trusted : trusts d peer ≡ true) where
+      (peer : Peer) (source : Addr) (m n : HeardMessage) (same : trust.mask by_words [] m ≡ trust.mask by_words [] n) (trusted : trusts d peer ≡ true)
+      (register : registrant d.names.accounts m ≡ registrant e.names.accounts n) where
     alike : DecideAlike by_words [] [] m n
     alike = decides by_words [] [] m n same
 
@@ -206,7 +228,7 @@ module _ (d e : Directory) (equal : EqualButForAccounts d e) where
       start = ap (λ (x : HeardMessage). x.start) alike.public;
       head = heads (places_of by_words [] m) (places_of by_words [] n) m n left;
       to_tag = ap (λ (x : HeardMessage). x.to_tag) alike.public;
-      decided = λ merged. decided_alike merged m n diverted alike.public;
+      decided = λ merged. decided_alike merged m n diverted alike.public register;
       answer_head = λ tag answer.
           ap (λ (s : Addr). head_of (response_to s tag (said_by peer source m) answer)) equal.sip
           ∙ one_head (is_private by_words [] m) refl (own_reply (contact_text e.sip) source tag answer.code [] answer.named []);
@@ -216,12 +238,23 @@ module _ (d e : Directory) (equal : EqualButForAccounts d e) where
     }
 
   module _ (decides : DecidesAlike) (kept : OpenAnswersAreKept) (heads : HeardAlikeHaveOneHead) (responses : AlikeResponsesHaveOneHead) (shown : ShownLinesHaveNoHead) where
-    kin_by : (b : Bool) (peer : Peer) (source : Addr) (m n : HeardMessage) → trusts d peer ≡ b → mask_said b m ≡ mask_said b n → Kin d e peer source m n
-    kin_by true peer source m n known same = kin_masked decides kept heads responses shown peer source m n same known
-    kin_by false peer source m n known same = subst (λ (x : HeardMessage). Kin d e peer source m x) (ap (λ (x : Masked). x.message) same) (kin_self peer source m)
+    kin_by : (b : Bool) (peer : Peer) (source : Addr) (m n : HeardMessage) → trusts d peer ≡ b → mask_said b m ≡ mask_said b n → registrant d.names.accounts m ≡ registrant e.names.accounts n → Kin d e peer source m n
+    kin_by true peer source m n known same register = kin_masked decides kept heads responses shown peer source m n same known register
+    kin_by false peer source m n known same register =
+        let one : m ≡ n = ap (λ (x : Masked). x.message) same in
+        subst (λ (x : HeardMessage). Kin d e peer source m x) one
+        (kin_self peer source m (register ∙ ap (registrant e.names.accounts) (sym one)))
 
-    pub kin_of : (peer : Peer) (source : Addr) (m n : HeardMessage) → mask_said (trusts d peer) m ≡ mask_said (trusts d peer) n → Kin d e peer source m n
-    kin_of peer source m n same = kin_by (trusts d peer) peer source m n refl same
+    pub kin_of : (peer : Peer) (source : Addr) (m n : HeardMessage) → mask_said (trusts d peer) m ≡ mask_said (trusts d peer) n → registrant d.names.accounts m ≡ registrant e.names.accounts n → Kin d e peer source m n
+    kin_of peer source m n same register = kin_by (trusts d peer) peer source m n refl same register
 
 pub kinship : DecidesAlike → OpenAnswersAreKept → HeardAlikeHaveOneHead → AlikeResponsesHaveOneHead → ShownLinesHaveNoHead → MasksMakeKin
-kinship decides kept heads responses shown d e peer source m n equal same = kin_of d e equal decides kept heads responses shown peer source m n same
+kinship decides kept heads responses shown d e peer source m n equal same register = kin_of d e equal decides kept heads responses shown peer source m n same register
+
+-- one account is named under one configuration
+names_by : DecidesAlike → (d : Directory) (b : Bool) (m n : HeardMessage) → mask_said b m ≡ mask_said b n → registrant d.names.accounts m ≡ registrant d.names.accounts n
+names_by decides d true m n same = ap (registrant d.names.accounts) ((decides by_words [] [] m n same).public)
+names_by decides d false m n same = ap (λ (x : Masked). registrant d.names.accounts x.message) same
+
+pub names_the_registrant : DecidesAlike → MasksNameTheRegistrant
+names_the_registrant decides d b m n same = names_by decides d b m n same

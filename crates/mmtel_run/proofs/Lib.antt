@@ -1,4 +1,5 @@
 mod Deeds
 mod Enough
+mod InForce
 mod Kinship
 mod Secret

@@ -1,5 +1,5 @@
 -- Runs of equal masks leave worlds alike, so an untrusted peer sees the same of them.
-use Rattle.std.proofs.Common.{◌≡◌, ℕ, ◌+◌, max, List, [], ◌∷◌, refl, sym, ap, ◌∙◌, Bool, drop, subst, arith}
+use Rattle.std.proofs.Common.{◌≡◌, ℕ, ◌+◌, max, List, [], ◌∷◌, refl, sym, ap, ◌∙◌, Bool, Option, drop, subst, arith}
 use Rattle.mmtel_answers.specs.Said.{Said}
 use Rattle.mmtel_directory.specs.declared.directories.Directory.{Directory}
 use Rattle.mmtel_message.specs.Message.{Message}
@@ -8,48 +8,64 @@ use Rattle.mmtel_transaction.specs.Alike.{TextsDecideNothing}
 use Rattle.mmtel_transaction.specs.OnePeer.{NewPeers}
 use Rattle.mmtel_trust.specs.MaskedMessages.{Masked}
 use Rattle.mmtel_types.specs.declared.addrs.Addr.{Addr}
+use Rattle.mmtel_types.specs.declared.numbers.Account.{Account}
 use Rattle.mmtel_types.specs.declared.numbers.Peer.{Peer}
+use Rattle.mmtel_in_force.specs.Texts.{Texts}
+use Rattle.mmtel_web.specs.Uploads.{kept_upload, upload_in}
 use Rattle.mmtel_run.specs.Alike.{AlikeWorlds, EqualButForAccounts, EventsKeepAlike, MasksMakeKin, said_by, trusts}
 use Rattle.mmtel_run.specs.Events as Events
 use Rattle.mmtel_run.specs.Events.{Digest, digests}
 use Rattle.mmtel_run.specs.Headline.{KeepsTheSecret, MoreChangesNothing, OffersKeepTheSecret}
-use Rattle.mmtel_run.specs.Mask.{MaskedDigest, Nothing, Refused, Heard, Unbuilt, mask_all, mask_digest, mask_said, masked_said}
+use Rattle.mmtel_run.specs.Mask.{MaskedDigest, Nothing, Refused, Heard, Asked, mask_all, mask_digest, mask_said, masked_said}
+use Rattle.mmtel_run.specs.Refusals.{registrant}
 use Rattle.mmtel_run.specs.Run.{after, clock_at, gives, one_more, settled}
 use Rattle.mmtel_run.specs.View.{view}
-use Rattle.mmtel_run.specs.World.{World, begun, came, empty, met}
-use Rattle.mmtel_run.proofs.Deeds.{begun-alike, refusing-alike, settled-alike, told-alike, trusts_same, unbuilt-alike}
+use Rattle.mmtel_run.specs.World.{World, beginning, begun, came, met}
+use Rattle.mmtel_run.proofs.Deeds.{begun-alike, refusing-alike, serving-alike, settled-alike, told-alike, trusts_same}
 
 -- what was said, of a masked digest
 abbrev masked_of : Masked → MaskedDigest → Masked
 masked_of other Nothing = other
 masked_of other (Refused peer source reply) = other
-masked_of other (Heard peer source left) = left
-masked_of other Unbuilt = other
+masked_of other (Heard peer source left registrant) = left
+masked_of other (Asked put) = other
 
 abbrev peer_of : Peer → MaskedDigest → Peer
 peer_of other Nothing = other
 peer_of other (Refused peer source reply) = peer
-peer_of other (Heard peer source left) = peer
-peer_of other Unbuilt = other
+peer_of other (Heard peer source left registrant) = peer
+peer_of other (Asked put) = other
 
 abbrev source_of : Addr → MaskedDigest → Addr
 source_of other Nothing = other
 source_of other (Refused peer source reply) = source
-source_of other (Heard peer source left) = source
-source_of other Unbuilt = other
+source_of other (Heard peer source left registrant) = source
+source_of other (Asked put) = other
 
 abbrev reply_of : Message Start → MaskedDigest → Message Start
 reply_of other Nothing = other
 reply_of other (Refused peer source reply) = reply
-reply_of other (Heard peer source left) = other
-reply_of other Unbuilt = other
+reply_of other (Heard peer source left registrant) = other
+reply_of other (Asked put) = other
+
+abbrev registrant_of : Option Account → MaskedDigest → Option Account
+registrant_of other Nothing = other
+registrant_of other (Refused peer source reply) = other
+registrant_of other (Heard peer source left registrant) = registrant
+registrant_of other (Asked put) = other
+
+abbrev put_of : Option (Account × List ℕ) → MaskedDigest → Option (Account × List ℕ)
+put_of other Nothing = other
+put_of other (Refused peer source reply) = other
+put_of other (Heard peer source left registrant) = other
+put_of other (Asked put) = put
 
 -- the kinds are apart
 abbrev kind_of : MaskedDigest → ℕ
 kind_of Nothing = 0
 kind_of (Refused peer source reply) = 1
-kind_of (Heard peer source left) = 2
-kind_of Unbuilt = 3
+kind_of (Heard peer source left registrant) = 2
+kind_of (Asked put) = 3
 
 abbrev first_of : ℕ × MaskedDigest → List (ℕ × MaskedDigest) → ℕ × MaskedDigest
 first_of other [] = other
@@ -65,7 +81,7 @@ module _ (law : TextsDecideNothing) (new : NewPeers) (kin : MasksMakeKin)
       let left : mask_said (trusts d s.peer) s.heard ≡ mask_said (trusts d s.peer) t.heard = ap (masked_of (mask_said (trusts d s.peer) s.heard)) same ∙ ap (λ (b : Bool). mask_said b t.heard) known in
       subst (λ (p : Peer). AlikeWorlds d (met d token at (Events.Heard s) v) (met e token at (Events.Heard (said_by p t.source t.heard)) w)) peer
       (subst (λ (q : Addr). AlikeWorlds d (met d token at (Events.Heard s) v) (met e token at (Events.Heard (said_by s.peer q t.heard)) w)) source
-      (told-alike law new d e token equal at s.peer s.source s.heard t.heard (kin d e s.peer s.source s.heard t.heard equal left) v w a))
+      (told-alike law new d e token equal at s.peer s.source s.heard t.heard (kin d e s.peer s.source s.heard t.heard equal left (ap (registrant_of (registrant d.names.accounts s.heard)) same)) v w a))
 
   refused-alike : (at : ℕ) (p q : Peer) (x y : Addr) (r s : Message Start) (v w : World) → Refused p x r ≡ Refused q y s → AlikeWorlds d v w → AlikeWorlds d (met d token at (Events.Refused p x r) v) (met e token at (Events.Refused q y s) w)
   refused-alike at p q x y r s v w same a =
@@ -81,24 +97,25 @@ module _ (law : TextsDecideNothing) (new : NewPeers) (kin : MasksMakeKin)
   met-alike at Events.Nothing Events.Nothing v w same a = a
   met-alike at Events.Nothing (Events.Refused q y s) v w same a = let k = apart _ _ same in absurd (omega (arith, k))
   met-alike at Events.Nothing (Events.Heard t) v w same a = let k = apart _ _ same in absurd (omega (arith, k))
-  met-alike at Events.Nothing Events.Unbuilt v w same a = let k = apart _ _ same in absurd (omega (arith, k))
+  met-alike at Events.Nothing (Events.Asked z k rows) v w same a = let n = apart _ _ same in absurd (omega (arith, n))
   met-alike at (Events.Refused p x r) Events.Nothing v w same a = let k = apart _ _ same in absurd (omega (arith, k))
   met-alike at (Events.Refused p x r) (Events.Refused q y s) v w same a = refused-alike at p q x y r s v w same a
   met-alike at (Events.Refused p x r) (Events.Heard t) v w same a = let k = apart _ _ same in absurd (omega (arith, k))
-  met-alike at (Events.Refused p x r) Events.Unbuilt v w same a = let k = apart _ _ same in absurd (omega (arith, k))
+  met-alike at (Events.Refused p x r) (Events.Asked z k rows) v w same a = let n = apart _ _ same in absurd (omega (arith, n))
   met-alike at (Events.Heard s) Events.Nothing v w same a = let k = apart _ _ same in absurd (omega (arith, k))
   met-alike at (Events.Heard s) (Events.Refused q y r) v w same a = let k = apart _ _ same in absurd (omega (arith, k))
   met-alike at (Events.Heard s) (Events.Heard t) v w same a = heard-alike at s t v w same a
-  met-alike at (Events.Heard s) Events.Unbuilt v w same a = let k = apart _ _ same in absurd (omega (arith, k))
-  met-alike at Events.Unbuilt Events.Nothing v w same a = let k = apart _ _ same in absurd (omega (arith, k))
-  met-alike at Events.Unbuilt (Events.Refused q y s) v w same a = let k = apart _ _ same in absurd (omega (arith, k))
-  met-alike at Events.Unbuilt (Events.Heard t) v w same a = let k = apart _ _ same in absurd (omega (arith, k))
-  met-alike at Events.Unbuilt Events.Unbuilt v w same a = unbuilt-alike law new d e token equal at v w a
+  met-alike at (Events.Heard s) (Events.Asked z k rows) v w same a = let n = apart _ _ same in absurd (omega (arith, n))
+  met-alike at (Events.Asked r k rows) Events.Nothing v w same a = let n = apart _ _ same in absurd (omega (arith, n))
+  met-alike at (Events.Asked r k rows) (Events.Refused q y s) v w same a = let n = apart _ _ same in absurd (omega (arith, n))
+  met-alike at (Events.Asked r k rows) (Events.Heard t) v w same a = let n = apart _ _ same in absurd (omega (arith, n))
+  met-alike at (Events.Asked r k rows) (Events.Asked s l others) v w same a =
+      serving-alike law new d e token equal at r s k l rows others v w (ap (put_of (kept_upload k (upload_in d.names r))) same) a
 
   -- ---- steps and runs
 
   at_clock : (at : ℕ) (v w : World) → AlikeWorlds d v w → AlikeWorlds d (record v { clock = at }) (record w { clock = at })
-  at_clock at v w a = record { clock = refl; steps = a.steps; acts = a.acts; drawn = a.drawn; seen = a.seen }
+  at_clock at v w a = record { clock = refl; steps = a.steps; acts = a.acts; drawn = a.drawn; texts = a.texts; registrations = a.registrations; seen = a.seen }
 
   came-alike : (at : ℕ) (x y : Digest) (v w : World) → mask_digest d x ≡ mask_digest e y → AlikeWorlds d v w → AlikeWorlds d (came d token at x v) (came e token at y w)
   came-alike at x y v w same a = met-alike at x y _ _ same (at_clock at (begun v) (begun w) (begun-alike law new d e token equal v w a))
@@ -118,20 +135,20 @@ module _ (law : TextsDecideNothing) (new : NewPeers) (kin : MasksMakeKin)
       after-alike fuel xs ys _ _ (ap (λ (l : List (ℕ × MaskedDigest)). drop 1 l) same)
       (one_more-alike fuel x.0 y.0 x.1 y.1 v w (ap (λ (z : ℕ × MaskedDigest). z.0) first) (ap (λ (z : ℕ × MaskedDigest). z.1) first) a)
 
-  empty-alike : AlikeWorlds d empty empty
-  empty-alike = record { clock = refl; steps = refl; acts = record { step = refl; offers = refl; next = refl; live = refl }; drawn = refl; seen = λ p s. refl }
+  beginning-alike : (loaded : Texts) → AlikeWorlds d (beginning loaded) (beginning loaded)
+  beginning-alike loaded = record { clock = refl; steps = refl; acts = record { step = refl; offers = refl; next = refl; live = refl }; drawn = refl; texts = refl; registrations = refl; seen = λ p s. refl }
 
 pub events : TextsDecideNothing → NewPeers → MasksMakeKin → EventsKeepAlike
 events law new kin d e token fuel moment x y v w equal same a = one_more-alike law new kin d e token equal fuel moment moment x y v w refl same a
 
 pub keeps : TextsDecideNothing → NewPeers → MasksMakeKin → KeepsTheSecret
-keeps law new kin d e token fuel events run seer equal strange same =
-    (after-alike law new kin d e token equal fuel (digests d events) (digests e run) empty empty same (empty-alike law new kin d e token equal)).seen seer strange
+keeps law new kin d e token loaded fuel happened run seer equal strange same =
+    (after-alike law new kin d e token equal fuel (digests d happened) (digests e run) (beginning loaded) (beginning loaded) same (beginning-alike law new kin d e token equal loaded)).seen seer strange
 
 -- by as many firings as are enough for both runs
 pub offers_keep : KeepsTheSecret → MoreChangesNothing → OffersKeepTheSecret
-offers_keep secret more d token events offers given e run others seer equal strange same other =
+offers_keep secret more d token loaded happened offers given e run others seer equal strange same other =
     let turned : given.fuel + other.fuel ≡ other.fuel + given.fuel = omega arith in
-    ap (view seer) (given.exact ∙ sym (more d token events given.fuel other.fuel given.enough))
-    ∙ (secret d e token (given.fuel + other.fuel) events run seer equal strange same
-    ∙ ap (view seer) (ap (λ (k : ℕ). gives e token k run) turned ∙ (more e token run other.fuel given.fuel other.enough ∙ sym other.exact)))
+    ap (view seer) (given.exact ∙ sym (more d token loaded happened given.fuel other.fuel given.enough))
+    ∙ (secret d e token loaded (given.fuel + other.fuel) happened run seer equal strange same
+    ∙ ap (view seer) (ap (λ (k : ℕ). gives e token loaded k run) turned ∙ (more e token loaded run other.fuel given.fuel other.enough ∙ sym other.exact)))

@@ -13,7 +13,7 @@ use Rattle.mmtel_run.specs.Answers.{Answer, response_to}
 use Rattle.mmtel_run.specs.Events.{Digest, message_in}
 use Rattle.mmtel_run.specs.Mask.{mask_digest, mask_said}
 use Rattle.mmtel_run.specs.Openings.{Names, attempt}
-use Rattle.mmtel_run.specs.Refusals.{course}
+use Rattle.mmtel_run.specs.Refusals.{course, registrant}
 use Rattle.mmtel_run.specs.Run.{one_more}
 use Rattle.mmtel_run.specs.View.{view}
 use Rattle.mmtel_run.specs.World.{World}
@@ -50,19 +50,27 @@ pub record Kin (one other : Directory) (peer : Peer) (source : Addr) (message se
   pub attempt_head : (names : Names) (aim : Aim) (to_trusted : Bool) → head_of (attempt one.sip names aim to_trusted message) ≡ head_of (attempt other.sip names aim to_trusted second)
   pub attempt : (names : Names) (aim : Aim) → attempt one.sip names aim false message ≡ attempt other.sip names aim false second
 
--- messages that are equal without their private places are kin
+-- messages that are equal without their private places are kin, where they register the same account, if any
 abbrev pub MasksMakeKin : Type 0
 MasksMakeKin = (one other : Directory) (peer : Peer) (source : Addr) (message second : HeardMessage) → EqualButForAccounts one other →
-    mask_said (trusts one peer) message ≡ mask_said (trusts one peer) second → Kin one other peer source message second
+    mask_said (trusts one peer) message ≡ mask_said (trusts one peer) second → registrant one.names.accounts message ≡ registrant other.names.accounts second →
+    Kin one other peer source message second
+
+-- under one configuration they do: that account is read of what is never private
+abbrev pub MasksNameTheRegistrant : Type 0
+MasksNameTheRegistrant = (directory : Directory) (trusted : Bool) (message second : HeardMessage) →
+    mask_said trusted message ≡ mask_said trusted second → registrant directory.names.accounts message ≡ registrant directory.names.accounts second
 
 -- ---- worlds
 
--- calls, rooms, records and rows each add a field here, as they do to a world
+-- calls, rooms and rows each add a field here, as they do to a world
 pub record AlikeWorlds (directory : Directory) (one other : World) : Type 0 where
   pub clock : one.clock ≡ other.clock
   pub steps : one.steps ≡ other.steps
   pub acts : Alike (trusts directory) one.acts other.acts
   pub drawn : one.drawn ≡ other.drawn
+  pub texts : one.texts ≡ other.texts
+  pub registrations : one.registrations ≡ other.registrations
   pub seen : (seer : Peer) → trusts directory seer ≡ false → view seer one.offers ≡ view seer other.offers
 
 -- one more event leaves alike worlds alike, whatever its private places are

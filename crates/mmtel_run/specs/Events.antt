@@ -1,7 +1,9 @@
--- What a run hears: of each event what the rules of a run read of it, with its moment. `digest` is the only word that sees bytes.
+-- What a run hears: what happened, and of it what the rules of a run read, with its moment. `digest` is the only word that sees bytes.
 use Rattle.std.specs.Prelude.{ℕ, Option, Some, None, List, Ok, Err, map}
 use Rattle.mmtel_answers.specs.Said.{Said, said}
+use Rattle.mmtel_charging.specs.declared.rows.Row.{Row}
 use Rattle.mmtel_directory.specs.declared.directories.Directory.{Directory}
+use Rattle.mmtel_http.specs.Requests.{Request, request_of}
 use Rattle.mmtel_message.specs.Message.{Message}
 use Rattle.mmtel_message.specs.Reads.{Read, reads}
 use Rattle.mmtel_message.specs.declared.messages.Start.{Start}
@@ -12,8 +14,17 @@ use Rattle.mmtel_trust.specs.Digest.{HeardMessage}
 use Rattle.mmtel_trust.specs.Peers.{Peers, peer_at, is_trusted}
 use Rattle.mmtel_types.specs.declared.addrs.Addr.{Addr}
 use Rattle.mmtel_types.specs.declared.numbers.Peer.{Peer}
+use Rattle.mmtel_web.specs.Answers.{Kept}
 
--- ---- what is read of an event
+-- ---- what happened
+
+-- an event, and what the keeper answered in it: whether its call was made, failed, or was given up for want of memory before anything changed, and the charging rows that it gave. Of an event that asks nothing of the keeper nobody reads these
+pub record Happened : Type 0 where
+  pub event : Event
+  pub kept : Kept
+  pub rows : List Row
+
+-- ---- what is read of it
 
 pub data Digest : Type 0 where
   -- nothing at all
@@ -22,8 +33,8 @@ pub data Digest : Type 0 where
   Refused : (peer : Peer) → (source : Addr) → (reply : Message Start) → Digest
   -- a message of a peer
   Heard : (said : Said) → Digest
-  -- an event of a kind that is not built yet
-  Unbuilt : Digest
+  -- what a web connection asks, and what the keeper answered
+  Asked : (request : Request) → (kept : Kept) → (rows : List Row) → Digest
 
 abbrev pub refused_by : Peer → Addr → Option (Message Start) → Digest
 refused_by peer source None = Nothing
@@ -43,11 +54,18 @@ abbrev pub digest_from : Peers → Addr → List ℕ → Option Peer → Digest
 digest_from peers source bytes None = Nothing
 digest_from peers source bytes (Some peer) = digest_read peers peer source (reads bytes)
 
--- of an event; web requests are not built yet
-unfoldable pub digest : Directory → Event → Digest
-digest directory (event.Datagram from at bytes) = digest_from directory.peers from bytes (peer_at from directory.peers.known)
-digest directory (event.Web at bytes) = Unbuilt
-digest directory (event.Quiet at) = Nothing
+-- of a datagram
+unfoldable pub digest_datagram : Directory → Addr → List ℕ → Digest
+digest_datagram directory from bytes = digest_from directory.peers from bytes (peer_at from directory.peers.known)
+
+abbrev pub digest_event : Directory → Event → Kept → List Row → Digest
+digest_event directory (event.Datagram from at bytes) kept rows = digest_datagram directory from bytes
+digest_event directory (event.Web at bytes) kept rows = Asked (request_of bytes) kept rows
+digest_event directory (event.Quiet at) kept rows = Nothing
+
+-- of what happened
+abbrev pub digest : Directory → Happened → Digest
+digest directory happened = digest_event directory happened.event happened.kept happened.rows
 
 -- ---- a whole run
 
@@ -57,9 +75,13 @@ moment_of (event.Datagram from at bytes) = at
 moment_of (event.Web at bytes) = at
 moment_of (event.Quiet at) = at
 
--- what is read of a run's events, each with its moment
-abbrev pub digests : Directory → List Event → List (ℕ × Digest)
-digests directory events = map (λ came. (moment_of came, digest directory came)) events
+-- what is read of all that happened in a run, each with its moment
+abbrev pub digests : Directory → List Happened → List (ℕ × Digest)
+digests directory happened = map (λ came. (moment_of came.event, digest directory came)) happened
+
+-- the events alone
+abbrev pub events_in : List Happened → List Event
+events_in happened = map (λ came. came.event) happened
 
 -- a message as it was received
 abbrev pub message_in : HeardMessage → Message Start

@@ -4,6 +4,9 @@ pub mod Headline
 -- What it hears, what was done in it, and what each deed adds:
 pub mod Events
 pub mod World
+-- The records in force, and the registrations:
+pub mod Records
+pub mod InForce
 -- What is done with a request, and what is answered and built:
 pub mod Refusals
 pub mod Answers

@@ -13,13 +13,18 @@ use Rattle.mmtel_lex.specs.declared.values.Uri.TheVariants.{Sip, Tel}
 use Rattle.mmtel_message.specs.Faults.{is_method}
 use Rattle.mmtel_message.specs.declared.messages.Start.{Start}
 use Rattle.mmtel_parties.specs.Routing.{kept_routes, names_server, next_hop}
+use Rattle.mmtel_scan.specs.Chain.{◌>>=◌}
 use Rattle.mmtel_scan.specs.Classes.{in_class}
 use Rattle.mmtel_scan.specs.Numbers.{leads_zero}
 use Rattle.mmtel_scan.specs.Scanning.{after_text}
 use Rattle.mmtel_scan.specs.declared.classes.Class.TheVariants.{Digit}
 use Rattle.mmtel_trust.specs.Digest.{HeardMessage}
 use Rattle.mmtel_trust.specs.MaskedMessages.{public_part}
+use Rattle.mmtel_trust.specs.Accounts.{account_of}
+use Rattle.mmtel_trust.specs.Asserted.{uri_in}
+use Rattle.mmtel_trust.specs.declared.accounts.AccountIdentity.{AccountIdentity}
 use Rattle.mmtel_types.specs.declared.addrs.Addr.{Addr}
+use Rattle.mmtel_types.specs.declared.numbers.Account.{Account}
 use Rattle.mmtel_types.specs.declared.numbers.Peer.{Peer}
 use Rattle.mmtel_run.specs.Answers.{Answer, allowing, plainly, unsupported, without_extension}
 
@@ -30,6 +35,8 @@ pub data Course : Type 0 where
   Refuse : (answer : Answer) → Course
   -- it opens a call, whose first attempt goes there
   Open : (aim : Aim) → Course
+  -- it registers an account for so many seconds
+  Register : (account : Account) → (seconds : ℕ) → Course
   -- it is of a form that is not built yet
   Unbuilt : Course
 
@@ -110,15 +117,46 @@ opening_by directory routes message = opening_to routes message (peer_for direct
 abbrev pub invited : Directory → (diverted : Bool) → HeardMessage → Course
 invited directory diverted message = if diverted then Unbuilt else opening_by directory (kept_routes directory.sip message.routes) message
 
+-- ---- REGISTER (§10.3), by which the core tells of a registration (3GPP TS 24.229 §5.4.1.7, §5.7.1.1)
+
+abbrev pub is_register : HeardMessage → Bool
+is_register message = is_method (codes "REGISTER") message.start
+
+-- the account that a name-addr names
+abbrev pub account_in : List AccountIdentity → List ℕ → Option Account
+account_in accounts value = uri_in value >>= account_of accounts
+
+-- the account that To names
+abbrev pub to_account : List AccountIdentity → HeardMessage → Option Account
+to_account accounts message = message.to >>= account_in accounts
+
+-- an hour without Expires, or where it is no number
+abbrev pub seconds_of : Option ℕ → ℕ
+seconds_of None = 3600
+seconds_of (Some seconds) = seconds
+
+abbrev pub registration_of : Option Account → HeardMessage → Course
+registration_of None message = Refuse (plainly 404)
+registration_of (Some account) message = Register account (seconds_of message.expires)
+
+-- of a trusted peer alone
+abbrev pub registration : List AccountIdentity → HeardMessage → Course
+registration accounts message = if message.trusted then registration_of (to_account accounts message) message else Refuse (plainly 403)
+
+-- the account that is asked for, where one is: of a REGISTER of a trusted peer
+abbrev pub registrant : List AccountIdentity → HeardMessage → Option Account
+registrant accounts message = if message.trusted && is_register message then to_account accounts message else None
+
 -- ---- what is not refused
 
--- by its method: OPTIONS is answered, BYE and REFER are of a dialog, and REGISTER is not built yet
+-- by its method: OPTIONS is answered, BYE and REFER are of a dialog
 abbrev pub by_method : Directory → (diverted : Bool) → HeardMessage → Course
 by_method directory diverted message =
     if is_method (codes "OPTIONS") message.start then Refuse (allowing 200)
     else if is_method (codes "BYE") message.start then Refuse (plainly 481)
     else if is_method (codes "REFER") message.start then Refuse (plainly 403)
     else if is_method (codes "INVITE") message.start then invited directory diverted message
+    else if is_register message then registration directory.names.accounts message
     else Unbuilt
 
 abbrev pub course_by : Directory → (diverted : Bool) → HeardMessage → Option Answer → Course

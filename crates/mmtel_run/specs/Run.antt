@@ -1,12 +1,12 @@
 -- A run: events in order, and before each of them the deadlines that are due by then, each a step of its own (RFC 3261 §17); and what is offered in it.
 use Rattle.std.specs.Prelude.{◌≡◌, ℕ, zero, suc, max, List, [], ◌∷◌, Option, Some, None, ⊤}
 use Rattle.mmtel_directory.specs.declared.directories.Directory.{Directory}
-use Rattle.mmtel_outside.specs.declared.events.Event.{Event}
 use Rattle.mmtel_outside.specs.declared.events.Offer.{Offer}
 use Rattle.mmtel_transaction.specs.Answers.{Next, next_due}
 use Rattle.mmtel_transaction.specs.Calls.{live}
-use Rattle.mmtel_run.specs.Events.{Digest, digests}
-use Rattle.mmtel_run.specs.World.{World, empty, fired, came}
+use Rattle.mmtel_in_force.specs.Texts.{Texts}
+use Rattle.mmtel_run.specs.Events.{Digest, Happened, digests}
+use Rattle.mmtel_run.specs.World.{World, beginning, fired, came}
 
 -- ---- deadlines
 
@@ -50,14 +50,14 @@ IsEnoughAfter directory token fuel [] world = ⊤
 IsEnoughAfter directory token fuel (came ∷ others) world =
     IsSettled fuel (clock_at world came.0) world × IsEnoughAfter directory token fuel others (one_more directory token fuel came.0 came.1 world)
 
-abbrev pub IsEnough : Directory → (token : List ℕ) → (fuel : ℕ) → List Event → Type 0
-IsEnough directory token fuel events = IsEnoughAfter directory token fuel (digests directory events) empty
+abbrev pub IsEnough : Directory → (token : List ℕ) → (loaded : Texts) → (fuel : ℕ) → List Happened → Type 0
+IsEnough directory token loaded fuel happened = IsEnoughAfter directory token fuel (digests directory happened) (beginning loaded)
 
 -- ---- what is offered
 
-abbrev pub gives_of : Directory → (token : List ℕ) → (fuel : ℕ) → List (ℕ × Digest) → List Offer
-gives_of directory token fuel digests = (after directory token fuel digests empty).offers
+abbrev pub gives_of : Directory → (token : List ℕ) → (loaded : Texts) → (fuel : ℕ) → List (ℕ × Digest) → List Offer
+gives_of directory token loaded fuel digests = (after directory token fuel digests (beginning loaded)).offers
 
 -- what the server offers in a run, in order
-abbrev pub gives : Directory → (token : List ℕ) → (fuel : ℕ) → List Event → List Offer
-gives directory token fuel events = gives_of directory token fuel (digests directory events)
+abbrev pub gives : Directory → (token : List ℕ) → (loaded : Texts) → (fuel : ℕ) → List Happened → List Offer
+gives directory token loaded fuel happened = gives_of directory token loaded fuel (digests directory happened)

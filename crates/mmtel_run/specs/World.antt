@@ -1,14 +1,18 @@
--- What was done in a run so far, layer by layer, and what each deed adds. Of a layer stands the list of the calls that were made of it, never a table: what was opened, is live or is due is a function of that list.
-use Rattle.std.specs.Prelude.{ℕ, ◌+◌, List, [], ◌∷◌, ◌++◌, codes, Option, Some, None, if◌then◌else◌}
+-- What was done in a run so far, layer by layer, and what each deed adds. Of a layer stands the list of the calls that were made of it, never a table: what was opened, is live or is due is a function of that list. Of the records stands the text of each account, by the last one that was kept (`specs/InForce`).
+use Rattle.std.specs.Prelude.{ℕ, ◌+◌, Bool, List, [], ◌∷◌, ◌++◌, codes, Option, Some, None, if◌then◌else◌}
 use Rattle.mmtel_answers.specs.Said.{Said}
 use Rattle.mmtel_answers.specs.declared.attempts.Aim.{Aim}
+use Rattle.mmtel_charging.specs.declared.rows.Row.{Row}
 use Rattle.mmtel_directory.specs.declared.directories.Directory.{Directory}
+use Rattle.mmtel_http.specs.Requests.{Request}
 use Rattle.mmtel_message.specs.Faults.{is_method}
 use Rattle.mmtel_message.specs.Message.{Message}
 use Rattle.mmtel_message.specs.Texts.{message_text}
 use Rattle.mmtel_message.specs.declared.messages.Start.{Start}
 use Rattle.mmtel_outside.specs.declared.events.Offer.{Offer}
 use Rattle.mmtel_outside.specs.declared.events.Offer.TheVariants as offer
+use Rattle.mmtel_sheet_values.specs.View.{is_registered}
+use Rattle.mmtel_sheet_values.specs.declared.values.Sheet.{Sheet}
 use Rattle.mmtel_transaction.specs.Answers.{next_due, hears, hear_says, fires, says_due, peer_of, is_merged}
 use Rattle.mmtel_transaction.specs.Calls.{Done, DidBegin, DidAsk, DidReply, DidAck, live}
 use Rattle.mmtel_transaction.specs.declared.words.Due.{Due}
@@ -20,14 +24,19 @@ use Rattle.mmtel_transaction.specs.declared.words.Heard.TheVariants as heard
 use Rattle.mmtel_transaction.specs.declared.words.TKey.{TKey}
 use Rattle.mmtel_trust.specs.Peers.{is_trusted}
 use Rattle.mmtel_types.specs.declared.addrs.Addr.{Addr}
+use Rattle.mmtel_types.specs.declared.numbers.Account.{Account}
 use Rattle.mmtel_types.specs.declared.numbers.Peer.{Peer}
+use Rattle.mmtel_web.specs.Answers.{Kept, web_reply}
+use Rattle.mmtel_in_force.specs.Texts.{Texts, end_at, put_each, record_of, put_kept}
+use Rattle.mmtel_web.specs.Uploads.{kept_upload, upload_in}
 use Rattle.mmtel_run.specs.Answers.{Answer, completed_reply, plainly, response_to, tag_for, tags_due, to_tag_in}
-use Rattle.mmtel_run.specs.Events.{Digest, Nothing, Refused, Heard, Unbuilt, message_in}
+use Rattle.mmtel_run.specs.Events.{Digest, Nothing, Refused, Heard, Asked, message_in}
 use Rattle.mmtel_run.specs.Openings.{attempt, names, opening_draws, trying}
-use Rattle.mmtel_run.specs.Refusals.{Course, Refuse, Open, course}
+use Rattle.mmtel_run.specs.Records.{until_of}
+use Rattle.mmtel_run.specs.Refusals.{Course, Refuse, Open, Register, course}
 use Rattle.mmtel_run.specs.Refusals as refusals
 
--- each layer above (calls, rooms, records, rows) adds one list here
+-- each layer above (calls, rooms, rows) adds one list here
 pub record World : Type 0 where
   -- the greatest moment so far
   pub clock : ℕ
@@ -37,11 +46,26 @@ pub record World : Type 0 where
   pub acts : List Done
   -- how many numbers were drawn
   pub drawn : ℕ
+  -- the text that was loaded or kept last for each account that has one
+  pub texts : Texts
+  -- the accounts that were registered, each until a moment, the newest registration first
+  pub registrations : List (Account × ℕ)
   -- all that was offered, in order
   pub offers : List Offer
 
-abbrev pub empty : World
-empty = record { clock = 0; steps = 0; acts = []; drawn = 0; offers = [] }
+-- nothing was done yet; these texts were loaded
+abbrev pub beginning : (loaded : Texts) → World
+beginning loaded = record { clock = 0; steps = 0; acts = []; drawn = 0; texts = put_each loaded []; registrations = []; offers = [] }
+
+-- ---- what is in force
+
+-- the record of an account
+abbrev pub record_in_force : World → Account → Sheet
+record_in_force world account = record_of world.texts account
+
+-- whether an account is registered at a moment
+abbrev pub is_registered_in : World → Account → ℕ → Bool
+is_registered_in world account now = is_registered (end_at world.registrations account) now
 
 -- ---- single deeds
 
@@ -120,11 +144,33 @@ opening directory token at key said aim world =
     emitted at (emit.Reply key (trying directory.sip said)
     ∷ emit.Ask aim.peer (attempt directory.sip (names token world.drawn) aim (is_trusted aim.peer directory.peers.known) said.heard) ∷ []) (drawing opening_draws world)
 
+-- ---- registrations
+
+-- the account is registered until this moment
+abbrev pub registering : Account → (until : ℕ) → World → World
+registering account until world = record world { registrations = (account, until) ∷ world.registrations }
+
+-- and the request is answered
+abbrev pub registered : Directory → (token : List ℕ) → ℕ → TKey → Said → Account → (seconds : ℕ) → World → World
+registered directory token at key said account seconds world = replying directory token at key said (plainly 200) (registering account (until_of at seconds) world)
+
+-- ---- web requests
+
+-- what was kept is in force from then on
+abbrev pub keeping : Option (Account × List ℕ) → World → World
+keeping upload world = record world { texts = put_kept upload world.texts }
+
+-- the reply to a request, by what was in force before it
+abbrev pub serving : Directory → ℕ → Request → Kept → List Row → World → World
+serving directory at request kept rows world =
+    offering (offer.Web at (web_reply directory.names world.texts request kept rows) ∷ []) (keeping (kept_upload kept (upload_in directory.names request)) world)
+
 -- ---- messages
 
 abbrev pub taking : Directory → (token : List ℕ) → ℕ → TKey → Said → Course → World → World
 taking directory token at key said (Refuse answer) world = replying directory token at key said answer world
 taking directory token at key said (Open aim) world = opening directory token at key said aim world
+taking directory token at key said (Register account seconds) world = registered directory token at key said account seconds world
 taking directory token at key said refusals.Unbuilt world = unbuilt at world
 
 -- a request that opened a transaction
@@ -168,7 +214,7 @@ abbrev pub met : Directory → (token : List ℕ) → ℕ → Digest → World �
 met directory token at Nothing world = world
 met directory token at (Refused peer source reply) world = refusing token at peer source reply world
 met directory token at (Heard said) world = told directory token at said world
-met directory token at Unbuilt world = unbuilt at world
+met directory token at (Asked request kept rows) world = serving directory at request kept rows world
 
 -- an event comes at a moment of the clock
 abbrev pub came : Directory → (token : List ℕ) → ℕ → Digest → World → World

@@ -34,6 +34,8 @@ drew d token before s t out w n did e = record {
     transactions = did.stands.transactions;
     clock = did.stands.clock;
     steps = did.stands.steps;
+    texts = did.stands.texts;
+    registered = did.stands.registered;
     rows = did.stands.rows;
     whole = did.stands.whole;
   };
@@ -80,6 +82,8 @@ asked few s t out out2 peer m at text P opens is offered d token before w did sh
     transactions = (opens w.acts did.stands.transactions (has_room few w.acts (omega (arith, short.acts)))).0;
     clock = did.stands.clock;
     steps = did.stands.steps;
+    texts = did.stands.texts;
+    registered = did.stands.registered;
     rows = did.stands.rows;
     whole = did.stands.whole;
   };

@@ -3,7 +3,9 @@ use Rattle.std.proofs.Common.{◌≡◌, ℕ, ◌≤◌, List, [], ◌∷◌, �
 use Rattle.std.specs.Prelude.{Bool, true, false, codes, if◌then◌else◌, OnErr, Result, Ok, Err}
 use Rattle.mmtel_answers.specs.Said.{Said}
 use Rattle.mmtel_answers.specs.declared.attempts.Aim.{Aim}
+use Rattle.mmtel_charging.specs.declared.rows.Row.{Row}
 use Rattle.mmtel_directory.specs.declared.directories.Directory.{Directory}
+use Rattle.mmtel_http.specs.Requests.{Request}
 use Rattle.mmtel_message.specs.Faults.{is_method}
 use Rattle.mmtel_message.specs.Message.{Message}
 use Rattle.mmtel_message.specs.Texts.{message_text}
@@ -11,12 +13,13 @@ use Rattle.mmtel_message.specs.declared.messages.Start.{Start}
 use Rattle.mmtel_outside.specs.declared.events.Offer.{Offer}
 use Rattle.mmtel_outside.specs.declared.events.Offer.TheVariants as offer
 use Rattle.mmtel_run.specs.Answers.{Answer, completed_reply, plainly, response_to, tag_for, tags_due, to_tag_in}
-use Rattle.mmtel_run.specs.Events.{Digest, Nothing, Refused, Heard, Unbuilt, message_in}
+use Rattle.mmtel_run.specs.Events.{Digest, Nothing, Refused, Heard, Asked, message_in}
 use Rattle.mmtel_run.specs.Openings.{attempt, names, opening_draws, trying}
-use Rattle.mmtel_run.specs.Refusals.{Course, Refuse, Open, course}
+use Rattle.mmtel_run.specs.Records.{until_of}
+use Rattle.mmtel_run.specs.Refusals.{Course, Refuse, Open, Register, course}
 use Rattle.mmtel_run.specs.Refusals as refusals
 use Rattle.mmtel_run.specs.Short.{IsShort}
-use Rattle.mmtel_run.specs.World.{World, answering, begun, came, drawing, emit_one, emitted, hearing, met, offering, opening, refusing, repeating, replying, replying_plainly, taking, taking_fresh, told, told_as, unbuilt}
+use Rattle.mmtel_run.specs.World.{World, answering, begun, came, drawing, emit_one, emitted, hearing, met, offering, opening, refusing, registering, repeating, replying, replying_plainly, serving, taking, taking_fresh, told, told_as, unbuilt}
 use Rattle.mmtel_transaction.specs.Answers.{hear_says, is_merged}
 use Rattle.mmtel_transaction.specs.Calls.{Done, live}
 use Rattle.mmtel_transaction.specs.declared.words.Emit.{Emit}
@@ -27,6 +30,7 @@ use Rattle.mmtel_transaction.specs.declared.words.TKey.{TKey}
 use Rattle.mmtel_trust.specs.Peers.{is_trusted}
 use Rattle.mmtel_types.specs.declared.addrs.Addr.{Addr}
 use Rattle.mmtel_types.specs.declared.numbers.Peer.{Peer}
+use Rattle.mmtel_web.specs.Answers.{Kept}
 use Rattle.mmtel_server.specs.Follows.{Breaks, Follows}
 use Rattle.mmtel_server.specs.Stands.{IsCut, IsPrefixOf}
 use Rattle.mmtel_server.specs.declared.servers.Server.{Server}
@@ -97,6 +101,10 @@ opens_call d token at key s aim w = draws_emits opening_draws at
 pub takes : (d : Directory) (token : List ℕ) (at : ℕ) (key : TKey) (s : Said) (c : Course) (w : World) → Grows w (taking d token at key s c w)
 takes d token at key s (Refuse a) w = replies d token at key s a w
 takes d token at key s (Open aim) w = opens_call d token at key s aim w
+takes d token at key s (Register account seconds) w =
+    let v = registering account (until_of at seconds) w in
+    let g = replies d token at key s (plainly 200) v in
+    record { acts = g.acts; steps = g.steps; drawn = g.drawn; front = g.front }
 takes d token at key s refusals.Unbuilt w = adds (offer.Unbuilt at ∷ []) w
 
 pub takes_fresh : (d : Directory) (token : List ℕ) (at : ℕ) (key : TKey) (s : Said) (w : World) → Grows w (taking_fresh d token at key s w)
@@ -129,13 +137,18 @@ told_grows d token at s w =
     let taken = hear_says w.acts s.peer (message_in s.heard) in
     grows_on w (hearing at s taken w) (told_as d token at s taken w) (hears_one at s taken w) (answers d token at s taken (hearing at s taken w))
 
+-- ---- web requests
+
+pub serves : (d : Directory) (at : ℕ) (request : Request) (kept : Kept) (rows : List Row) (w : World) → Grows w (serving d at request kept rows w)
+serves d at request kept rows w = record { acts = omega arith; steps = omega arith; drawn = omega arith; front = (_, refl) }
+
 -- ---- events
 
 pub met_grows : (d : Directory) (token : List ℕ) (at : ℕ) (x : Digest) (w : World) → Grows w (met d token at x w)
 met_grows d token at Nothing w = same w
 met_grows d token at (Refused peer source reply) w = refuses token at peer source reply w
 met_grows d token at (Heard s) w = told_grows d token at s w
-met_grows d token at Unbuilt w = adds (offer.Unbuilt at ∷ []) w
+met_grows d token at (Asked request kept rows) w = serves d at request kept rows w
 
 clocked : (at : ℕ) (w : World) → Grows w (record (begun w) { clock = at })
 clocked at w = let g = begins w in record { acts = g.acts; steps = g.steps; drawn = g.drawn; front = g.front }

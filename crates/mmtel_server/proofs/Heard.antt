@@ -1,93 +1,117 @@
--- What was heard of a link and done, event after event.
-use Rattle.std.proofs.Common.{◌≡◌, ◌+◌, ◌<◌, ℕ, add-one, true, false, List, [], ◌∷◌, ◌++◌, length, slice_get, refl, sym, ap, ◌∙◌, subst, append-nil, append_assoc, length-append, Option, Some, None, Result, Ok, Err, arith}
-use Rattle.mmtel_link.specs.Told.{Ear, IsCall, LinkCalls, NextTold, came, cut, heard, heard_of}
-use Rattle.mmtel_link.specs.declared.links.Arrival.{Arrival}
+-- What is heard of a link, turn after turn, and how often it is called.
+use Rattle.std.proofs.Common.{◌≡◌, ◌+◌, ◌≤◌, ℕ, zero, suc, Bool, false, List, [], ◌∷◌, ◌++◌, drop, length, slice_get, take, refl, sym, ap, ◌∙◌, subst, append-nil, append_assoc, length-append, Option, Some, None, Result, Ok, Err, arith, inl, inr}
+use Rattle.std.specs.Prelude.{◌⊎◌}
+use Rattle.std.specs.Result.{IsErrAnd}
+use Rattle.mmtel_link.specs.Told.{Ear, IsCall, LinkCalls, NextTold, coming, cut, heard, heard_of, web_bytes}
 use Rattle.mmtel_link.specs.declared.links.Arrival.TheVariants as arrival
+use Rattle.mmtel_outside.specs.Counts.{Rose}
 use Rattle.mmtel_outside.specs.declared.events.Event.{Event}
 use Rattle.mmtel_outside.specs.declared.events.Event.TheVariants as event
-use Rattle.mmtel_outside.specs.declared.events.Offer.{Offer}
-use Rattle.mmtel_run.specs.Headline.{GivesAlways}
-use Rattle.mmtel_run.specs.Run.{IsEnough, gives}
-use Rattle.mmtel_run.specs.Short.{IsShortRun}
+use Rattle.mmtel_scan.specs.declared.memory.NoMemory.{NoMemory}
 use Rattle.mmtel_types.specs.declared.addrs.Addr.{Addr}
 use Rattle.mmtel_types.specs.declared.numbers.Failed.{Failed}
-use Rattle.mmtel_server.specs.Driven.{BrokeOff, CalledTimes, CalledWithin, Driven, HasDriveCause, HeardMore, IsAtEnd, KeptTheSecret, WentOn, called_times}
-use Rattle.mmtel_server.specs.Laws.{WentSeesAlike}
-use Rattle.mmtel_server.specs.Stands.{BreaksOff, IsPrefixOf, Went}
-use Rattle.mmtel_server.specs.Turns.{Drove, IsEventOf, Takes}
+use Rattle.mmtel_server.specs.Driven.{CalledTimes, CalledWithin, EachRead, HeardMore, IsRead, IsReadOut, ReadButLast, ReadEach, StandsOrRose, called_times, to_come}
+use Rattle.mmtel_server.specs.Turns.{AddsOne, HasRead, IsReading, Takes, read_to}
 use Rattle.mmtel_server.specs.declared.driving.DriveFault.{DriveFault}
-use Rattle.mmtel_server.specs.declared.driving.DriveFault.TheVariants.{LinkFault, NoMemory}
-use Rattle.mmtel_server.specs.declared.servers.Server.{Server}
-use Rattle.mmtel_server.proofs.Fronts.{enough_of_front, offers_given, short_front}
+use Rattle.mmtel_server.specs.declared.driving.DriveFault.TheVariants as fault
 
--- ---- what is heard
+-- ---- one event
 
 nothing_heard : (es : List Event) → heard_of es [] ≡ []
 nothing_heard [] = refl
 nothing_heard (e ∷ es) = refl
 
-heard_next : (es : List Event) (reads : List ℕ) (e : Event) → slice_get es (length reads) ≡ Some e → heard_of es (reads ++ 0 ∷ []) ≡ heard_of es reads ++ cut 0 e ∷ []
-heard_next [] reads e next = absurd cc
-heard_next (x ∷ es) [] e next =
+heard_next : (es : List Event) (reads : List ℕ) (count : ℕ) (e : Event) → slice_get es (length reads) ≡ Some e → heard_of es (reads ++ count ∷ []) ≡ heard_of es reads ++ cut count e ∷ []
+heard_next [] reads count e next = absurd cc
+heard_next (x ∷ es) [] count e next =
     let same : x ≡ e = cc in
-    ap (λ (l : List Event). cut 0 x ∷ l) (nothing_heard es) ∙ ap (λ (z : Event). cut 0 z ∷ []) same
-heard_next (x ∷ es) (n ∷ reads) e next = ap (λ (l : List Event). cut n x ∷ l) (heard_next es reads e next)
+    ap (λ (l : List Event). cut count x ∷ l) (nothing_heard es) ∙ ap (λ (z : Event). cut count z ∷ []) same
+heard_next (x ∷ es) (n ∷ reads) count e next = ap (λ (l : List Event). cut n x ∷ l) (heard_next es reads count e next)
 
--- one more, of which nothing is read
-heard_one : (ear : Ear) (later : Option Ear) (e : Event) → slice_get ear.events (length ear.reads) ≡ Some e → later ≡ Some (came ear) → HeardMore (Some ear) later (cut 0 e ∷ [])
-heard_one ear later e next is =
-    subst (λ (l : Option Ear). HeardMore (Some ear) l (cut 0 e ∷ [])) (sym is) (refl, heard_next ear.events ear.reads e next)
+drop_next : (es : List Event) (n : ℕ) (e : Event) → slice_get es n ≡ Some e → drop n es ≡ e ∷ drop (suc n) es
+drop_next [] n e next = absurd cc
+drop_next (x ∷ es) zero e next = let same : x ≡ e = cc in ap (λ (y : Event). y ∷ es) same
+drop_next (x ∷ es) (suc n) e next = drop_next es n e next
+
+-- no event more
+each_none : (giving gave : ℕ) (es : List Event) → gave ≡ giving → EachRead giving gave es []
+each_none giving gave [] stands = stands
+each_none giving gave (e ∷ es) stands = stands
+
+module _ (ear : Ear) (count : ℕ) (over : Bool) (e : Event) (next : coming ear ≡ Some e) where
+  -- one more, of which so many bytes are read
+  heard_one : (later : Option Ear) → later ≡ Some (read_to ear count over) → HeardMore (Some ear) later (cut count e ∷ [])
+  heard_one later is = subst (λ (l : Option Ear). HeardMore (Some ear) l (cut count e ∷ [])) (sym is) (refl, heard_next ear.events ear.reads count e next)
+
+  read_one : (later : Option Ear) (giving gave : ℕ) → later ≡ Some (read_to ear count over) → IsRead giving gave count e → ReadEach (Some ear) later giving gave
+  read_one later giving gave is read =
+      let each : EachRead giving gave (e ∷ drop (suc (length ear.reads)) ear.events) (count ∷ []) = (gave, read, each_none gave gave (drop (suc (length ear.reads)) ear.events) refl) in
+      let there : EachRead giving gave (to_come ear) (count ∷ []) =
+      subst (λ (es : List Event). EachRead giving gave es (count ∷ [])) (sym (drop_next ear.events (length ear.reads) e next)) each in
+      subst (λ (l : Option Ear). ReadEach (Some ear) l giving gave) (sym is) (count ∷ [], refl, there)
 
 pub heard_nothing : (ear : Option Ear) → HeardMore ear ear []
 heard_nothing None = tt
 heard_nothing (Some ear) = (refl, sym (append-nil (heard ear)))
 
--- the same where what is told is equal
-heard_same : (ear later : Option Ear) → later ≡ ear → HeardMore ear later []
-heard_same ear later e = subst (λ (l : Option Ear). HeardMore ear l []) (sym e) (heard_nothing ear)
+pub read_nothing : (ear : Option Ear) (giving gave : ℕ) → gave ≡ giving → ReadEach ear ear giving gave
+read_nothing None giving gave stands = tt
+read_nothing (Some ear) giving gave stands = ([], sym (append-nil ear.reads), each_none giving gave (to_come ear) stands)
 
 heard_untold : (later : Option Ear) (es : List Event) → later ≡ None → HeardMore None later es
 heard_untold later es e = subst (λ (l : Option Ear). HeardMore None l es) (sym e) tt
 
-pub heard_datagram : (ear later : Option Ear) (from : Addr) (at : ℕ) (bytes : List ℕ) → NextTold ear later (Ok (arrival.Datagram from at bytes)) → HeardMore ear later (event.Datagram from at bytes ∷ [])
-heard_datagram None later from at bytes h = heard_untold later (event.Datagram from at bytes ∷ []) h
-heard_datagram (Some ear) later from at bytes h = heard_one ear later (event.Datagram from at bytes) h.0 h.1
+pub came_datagram : (ear later : Option Ear) (giving : ℕ) (from : Addr) (at : ℕ) (bytes : List ℕ) → NextTold ear later (Ok (arrival.Datagram from at bytes))
+    → HeardMore ear later (event.Datagram from at bytes ∷ []) × ReadEach ear later giving giving
+came_datagram None later giving from at bytes h = (heard_untold later (event.Datagram from at bytes ∷ []) h, tt)
+came_datagram (Some ear) later giving from at bytes h = (
+  heard_one ear 0 false (event.Datagram from at bytes) h.0 later h.1,
+  read_one ear 0 false (event.Datagram from at bytes) h.0 later giving giving h.1 refl,
+)
 
-pub heard_web : (ear later : Option Ear) (at : ℕ) → NextTold ear later (Ok (arrival.Web at)) → HeardMore ear later (event.Web at [] ∷ [])
-heard_web None later at h = heard_untold later (event.Web at [] ∷ []) h
-heard_web (Some ear) later at h = heard_one ear later (event.Web at h.0.0) h.0.1 h.1
+pub came_quiet : (ear later : Option Ear) (giving at : ℕ) → NextTold ear later (Ok (arrival.Quiet at)) → HeardMore ear later (event.Quiet at ∷ []) × ReadEach ear later giving giving
+came_quiet None later giving at h = (heard_untold later (event.Quiet at ∷ []) h, tt)
+came_quiet (Some ear) later giving at h = (
+  heard_one ear 0 false (event.Quiet at) h.0 later h.1,
+  read_one ear 0 false (event.Quiet at) h.0 later giving giving h.1 refl,
+)
 
-pub heard_quiet : (ear later : Option Ear) (at : ℕ) → NextTold ear later (Ok (arrival.Quiet at)) → HeardMore ear later (event.Quiet at ∷ [])
-heard_quiet None later at h = heard_untold later (event.Quiet at ∷ []) h
-heard_quiet (Some ear) later at h = heard_one ear later (event.Quiet at) h.0 h.1
+-- a web connection came, of which these bytes were read
+web_read : (ear : Ear) (later : Option Ear) (giving gave at : ℕ) (whole bytes : List ℕ) → coming ear ≡ Some (event.Web at whole) → HasRead (Some ear) later giving gave (Ok bytes)
+    → HeardMore (Some ear) later (event.Web at bytes ∷ []) × ReadEach (Some ear) later giving gave
+web_read ear later giving gave at whole bytes next read =
+    let all : web_bytes (coming ear) ≡ whole = ap web_bytes next in
+    let these : take (length bytes) whole ≡ bytes = subst (λ (l : List ℕ). take (length bytes) l ≡ bytes) all read.2 in
+    let out = subst (λ (l : List ℕ). (IsReadOut (length bytes) l × (gave ≡ giving)) ⊎ Rose giving gave) all read.3 in (
+      subst (λ (l : List ℕ). HeardMore (Some ear) later (event.Web at l ∷ [])) these (heard_one ear (length bytes) read.0 (event.Web at whole) next later read.1),
+      read_one ear (length bytes) read.0 (event.Web at whole) next later giving gave read.1 out,
+    )
 
-pub heard_closed : (ear later : Option Ear) → NextTold ear later (Ok arrival.Closed) → HeardMore ear later [] × IsAtEnd later
-heard_closed None later h = (heard_same None later h, subst IsAtEnd (sym h) tt)
-heard_closed (Some ear) later h = (heard_same (Some ear) later h.1, subst IsAtEnd (sym h.1) h.0)
+pub came_web : (ear mid later : Option Ear) (giving gave at : ℕ) (bytes : List ℕ) → NextTold ear mid (Ok (arrival.Web at)) → (IsReading ear mid [] → HasRead ear later giving gave (Ok bytes))
+    → HeardMore ear later (event.Web at bytes ∷ []) × ReadEach ear later giving gave
+came_web None mid later giving gave at bytes h read = (heard_untold later (event.Web at bytes ∷ []) (read h), tt)
+came_web (Some ear) mid later giving gave at bytes h read = web_read ear later giving gave at h.0.0 bytes h.0.1 (read (h.1, refl))
 
-pub heard_no_memory : (ear later : Option Ear) → NextTold ear later (Ok arrival.NoMemory) → HeardMore ear later []
-heard_no_memory None later h = heard_same None later h
-heard_no_memory (Some ear) later h = heard_same (Some ear) later h.1
+-- memory ran out in reading it
+one_lost : (ear : Ear) (later : Option Ear) (e : Event) → coming ear ≡ Some e → (over : Bool) × (count : ℕ) × (later ≡ Some (read_to ear count over))
+    → (events : List Event) × (length events ≤ 1) × (HeardMore (Some ear) later events × AddsOne (Some ear) later)
+one_lost ear later e next read =
+    let one : length (read.1 ∷ []) ≤ 1 = omega arith in
+    let adds : AddsOne (Some ear) later = subst (λ (l : Option Ear). AddsOne (Some ear) l) (sym read.2) (read.1 ∷ [], one, refl) in
+    (cut read.1 e ∷ [], omega arith, (heard_one ear read.1 read.0 e next later read.2, adds))
 
-pub heard_fault : (ear later : Option Ear) (e : Failed) → NextTold ear later (Err e) → HeardMore ear later []
-heard_fault None later e h = heard_same None later h
-heard_fault (Some ear) later e h = heard_same (Some ear) later h
+pub lost_web : (ear mid later : Option Ear) (giving gave at : ℕ) (e : NoMemory) → NextTold ear mid (Ok (arrival.Web at)) → (IsReading ear mid [] → HasRead ear later giving gave (Err e))
+    → (events : List Event) × (length events ≤ 1) × (HeardMore ear later events × AddsOne ear later)
+lost_web None mid later giving gave at e h read = ([], omega arith, (heard_untold later [] (read h), tt))
+lost_web (Some ear) mid later giving gave at e h read = one_lost ear later (event.Web at h.0.0) h.0.1 (read (h.1, refl))
 
--- what is taken of an arrival
-pub taken : (ear later : Option Ear) (a : Arrival) (result : Result (Option Event) DriveFault) → NextTold ear later (Ok a) → IsEventOf a result → Takes ear later result
-taken ear later (arrival.Datagram from at bytes) result h is = subst (Takes ear later) (sym is) (heard_datagram ear later from at bytes h)
-taken ear later (arrival.Web at) result h is = subst (Takes ear later) (sym is) (heard_web ear later at h)
-taken ear later (arrival.Quiet at) result h is = subst (Takes ear later) (sym is) (heard_quiet ear later at h)
-taken ear later arrival.Closed result h is = subst (Takes ear later) (sym is) (heard_closed ear later h)
-taken ear later arrival.NoMemory result h is = subst (Takes ear later) (sym is) (heard_no_memory ear later h)
+pub lost_takes : (ear later : Option Ear) (giving gave : ℕ) (r : Result (Option Event) DriveFault) → IsErrAnd r (λ e. e ≡ fault.NoMemory)
+    → (events : List Event) × (length events ≤ 1) × (HeardMore ear later events × AddsOne ear later) → Takes ear later giving gave r
+lost_takes ear later giving gave (Ok x) is lost = absurd is
+lost_takes ear later giving gave (Err fault.LinkFault) is lost = absurd cc
+lost_takes ear later giving gave (Err fault.NoMemory) is lost = lost
 
--- no fault is counted at an arrival
-pub counted : (before now : ℕ) (a : Arrival) (result : Result (Option Event) DriveFault) → now ≡ before → IsEventOf a result → HasDriveCause before now result
-counted before now (arrival.Datagram from at bytes) result e is = let P : Result (Option Event) DriveFault → Type 0 = λ r. HasDriveCause before now r in subst P (sym is) e
-counted before now (arrival.Web at) result e is = let P : Result (Option Event) DriveFault → Type 0 = λ r. HasDriveCause before now r in subst P (sym is) e
-counted before now (arrival.Quiet at) result e is = let P : Result (Option Event) DriveFault → Type 0 = λ r. HasDriveCause before now r in subst P (sym is) e
-counted before now arrival.Closed result e is = let P : Result (Option Event) DriveFault → Type 0 = λ r. HasDriveCause before now r in subst P (sym is) e
-counted before now arrival.NoMemory result e is = let P : Result (Option Event) DriveFault → Type 0 = λ r. HasDriveCause before now r in subst P (sym is) e
+-- ---- one turn after another
 
 pub heard_then : (ear mid later : Option Ear) (xs ys : List Event) → HeardMore ear mid xs → HeardMore mid later ys → HeardMore ear later (xs ++ ys)
 heard_then None None None xs ys h k = tt
@@ -103,6 +127,75 @@ heard_then (Some ear) (Some mid) (Some later) xs ys h k = (
 pub heard_still : (ear mid later : Option Ear) (xs : List Event) → HeardMore ear mid xs → HeardMore mid later [] → HeardMore ear later xs
 heard_still ear mid later xs h k = subst (λ (l : List Event). HeardMore ear later l) (append-nil xs) (heard_then ear mid later xs [] h k)
 
+each_then : (a b c : ℕ) (es : List Event) (reads more : List ℕ) → EachRead a b es reads → EachRead b c (drop (length reads) es) more → EachRead a c es (reads ++ more)
+each_then a b c [] [] more first second = subst (λ (n : ℕ). EachRead n c [] more) first second
+each_then a b c [] (n ∷ reads) more first second = absurd first
+each_then a b c (e ∷ es) [] more first second = subst (λ (n : ℕ). EachRead n c (e ∷ es) more) first second
+each_then a b c (e ∷ es) (n ∷ reads) more first second = (first.0, first.1, each_then first.0 b c es reads more first.2 second)
+
+drop_none : (n : ℕ) → let none : List Event = [] in drop n none ≡ none
+drop_none zero = refl
+drop_none (suc n) = refl
+
+drop_both : (es : List Event) (n m : ℕ) → drop m (drop n es) ≡ drop (n + m) es
+drop_both es zero m = let same : m ≡ zero + m = omega arith in ap (λ (k : ℕ). drop k es) same
+drop_both [] (suc n) m = drop_none m ∙ sym (drop_none (suc n + m))
+drop_both (e ∷ es) (suc n) m = let same : suc (n + m) ≡ suc n + m = omega arith in drop_both es n m ∙ ap (λ (k : ℕ). drop k (e ∷ es)) same
+
+-- what is still to come after so many events more
+to_come_then : (ear mid : Ear) (reads : List ℕ) → mid.events ≡ ear.events → mid.reads ≡ ear.reads ++ reads → to_come mid ≡ drop (length reads) (to_come ear)
+to_come_then ear mid reads same more =
+    let long : length mid.reads ≡ length ear.reads + length reads = ap (λ (l : List ℕ). length l) more ∙ length-append ear.reads reads in
+    ap (λ (es : List Event). drop (length mid.reads) es) same
+    ∙ (ap (λ (n : ℕ). drop n ear.events) long
+    ∙ sym (drop_both ear.events (length ear.reads) (length reads)))
+
+pub read_then : (ear mid later : Option Ear) (a b c : ℕ) (xs : List Event) → HeardMore ear mid xs → ReadEach ear mid a b → ReadEach mid later b c → ReadEach ear later a c
+read_then None mid later a b c xs h first second = tt
+read_then (Some ear) None later a b c xs h first second = absurd first
+read_then (Some ear) (Some mid) None a b c xs h first second = absurd second
+read_then (Some ear) (Some mid) (Some later) a b c xs h first second =
+    let there : EachRead b c (drop (length first.0) (to_come ear)) second.0 =
+    subst (λ (es : List Event). EachRead b c es second.0) (to_come_then ear mid first.0 h.0 first.1) second.2 in (
+      first.0 ++ second.0,
+      second.1 ∙ (ap (λ (l : List ℕ). l ++ second.0) first.1 ∙ append_assoc ear.reads first.0 second.0),
+      each_then a b c (to_come ear) first.0 second.0 first.2 there,
+    )
+
+-- the last of them was not read to its end
+pub read_lost_last : (ear mid later : Option Ear) (a b : ℕ) → ReadEach ear mid a b → AddsOne mid later → ReadButLast ear later a
+read_lost_last None mid later a b first second = tt
+read_lost_last (Some ear) None later a b first second = absurd first
+read_lost_last (Some ear) (Some mid) None a b first second = absurd second
+read_lost_last (Some ear) (Some mid) (Some later) a b first second = (
+  first.0,
+  second.0,
+  b,
+  second.2 ∙ (ap (λ (l : List ℕ). l ++ second.0) first.1 ∙ append_assoc ear.reads first.0 second.0),
+  second.1,
+  first.2,
+)
+
+pub read_all_last : (ear later : Option Ear) (a b : ℕ) → ReadEach ear later a b → ReadButLast ear later a
+read_all_last None later a b first = tt
+read_all_last (Some ear) None a b first = absurd first
+read_all_last (Some ear) (Some later) a b first = (
+  first.0,
+  [],
+  b,
+  first.1 ∙ ap (λ (l : List ℕ). ear.reads ++ l) (sym (append-nil first.0)),
+  omega arith,
+  first.2,
+)
+
+-- ---- counts
+
+pub rise_then : (a b c : ℕ) → StandsOrRose a b → StandsOrRose b c → StandsOrRose a c
+rise_then a b c (inl e) (inl f) = inl (f ∙ e)
+rise_then a b c (inl e) (inr f) = inr (subst (λ (n : ℕ). Rose n c) e f)
+rise_then a b c (inr e) (inl f) = inr (subst (λ (n : ℕ). Rose a n) (sym f) e)
+rise_then a b c (inr e) (inr f) = inr (omega (arith, e, f))
+
 -- ---- the calls of the link
 
 pub no_call : (calls : Option LinkCalls) → CalledTimes calls calls 0
@@ -113,132 +206,28 @@ pub one_call : {T : Type 0} (calls later : Option LinkCalls) (result : Result T 
 one_call None later result made = made
 one_call (Some calls) later result made = made.0
 
-pub call_more : (calls mid later : Option LinkCalls) (count : ℕ) → CalledTimes calls mid count → CalledTimes mid later 1 → CalledTimes calls later (count + 1)
-call_more None mid later count first second = subst (λ (m : Option LinkCalls). CalledTimes m later 1) first second
-call_more (Some calls) mid later count first second =
-    subst (λ (m : Option LinkCalls). CalledTimes m later 1) first second ∙ ap (λ (n : ℕ). Some (called_times n calls)) (sym (add-one count))
+called_both : (n m : ℕ) (calls : LinkCalls) → called_times m (called_times n calls) ≡ called_times (n + m) calls
+called_both n zero calls = let same : n ≡ n + zero = omega arith in ap (λ (k : ℕ). called_times k calls) same
+called_both n (suc m) calls =
+    let same : suc (n + m) ≡ n + suc m = omega arith in
+    ap (λ (c : LinkCalls). called_times 1 c) (called_both n m calls) ∙ ap (λ (k : ℕ). called_times k calls) same
 
-pub within : (calls mid later : Option LinkCalls) (count turns : ℕ) → count < turns → CalledTimes calls mid count → CalledTimes mid later 1 → CalledWithin calls later turns
-within calls mid later count turns less first second = (count + 1, omega (arith, less), call_more calls mid later count first second)
+pub calls_then : (calls mid later : Option LinkCalls) (n m : ℕ) → CalledTimes calls mid n → CalledTimes mid later m → CalledTimes calls later (n + m)
+calls_then None mid later n m first second = subst (λ (o : Option LinkCalls). CalledTimes o later m) first second
+calls_then (Some calls) mid later n m first second =
+    subst (λ (o : Option LinkCalls). CalledTimes o later m) first second ∙ ap (λ (c : LinkCalls). Some c) (called_both n m calls)
 
--- ---- what is done
+-- at most so many, and then at most so many
+pub within_then : (calls mid later : Option LinkCalls) (n m : ℕ) → CalledWithin calls mid n → CalledWithin mid later m → CalledWithin calls later (n + m)
+within_then calls mid later n m first second =
+    let less = first.1 in let few = second.1 in
+    (first.0 + second.0, omega (arith, less, few), calls_then calls mid later first.0 second.0 first.2 second.2)
 
-pub went_nothing : (s : Server) (out : List Offer) → WentOn [] s out s out
-went_nothing s out d token es before went short = subst (λ (l : List Event). Went d token l before s out) (sym (append-nil es)) went
+pub within_more : (calls later : Option LinkCalls) (n m : ℕ) → n ≤ m → CalledWithin calls later n → CalledWithin calls later m
+within_more calls later n m less few = let here = few.1 in (few.0, omega (arith, less, here), few.2)
 
-pub went_then : GivesAlways → (xs ys : List Event) (s t u : Server) (out between now : List Offer) → WentOn xs s out t between → WentOn ys t between u now → WentOn (xs ++ ys) s out u now
-went_then always xs ys s t u out between now first second d token es before went short =
-    let whole : es ++ (xs ++ ys) ≡ (es ++ xs) ++ ys = sym (append_assoc es xs ys) in
-    let few : IsShortRun d token ((es ++ xs) ++ ys) = subst (λ (l : List Event). IsShortRun d token l) whole short in
-    let there : Went d token (es ++ xs) before t between = first d token es before went (short_front d token always (es ++ xs) ys few) in
-    subst (λ (l : List Event). Went d token l before u now) (sym whole) (second d token (es ++ xs) before there few)
+pub one_within : {T : Type 0} (calls later : Option LinkCalls) (result : Result T Failed) → IsCall calls later result → CalledWithin calls later 1
+one_within calls later result made = (1, omega arith, one_call calls later result made)
 
--- where nothing more was done, all that is due was offered
-pub broke_there : (xs : List Event) (s t : Server) (out now : List Offer) → WentOn xs s out t now → BrokeOff xs s out now
-broke_there xs s t out now did = record {
-  done = xs;
-  last = [];
-  parts = sym (append-nil xs);
-  one = omega arith;
-  offered = λ d token es before fuel went short enough.
-      let whole : es ++ (xs ++ []) ≡ es ++ xs = ap (λ (l : List Event). es ++ l) (append-nil xs) in
-      let few : IsShortRun d token (es ++ xs) = subst (λ (l : List Event). IsShortRun d token l) whole short in
-      let fuel_enough : IsEnough d token fuel (es ++ xs) = subst (λ (l : List Event). IsEnough d token fuel l) whole enough in
-      let there : Went d token (es ++ xs) before t now = did d token es before went few in
-      let given : now ≡ before ++ gives d token fuel (es ++ xs) = offers_given d token before (es ++ xs) fuel t now there fuel_enough in (
-        ([], append-nil (before ++ gives d token fuel (es ++ xs)) ∙ sym given),
-        ([], append-nil now ∙ (given ∙ ap (λ (l : List Event). before ++ gives d token fuel l) (sym whole))),
-      );
-}
-
--- where memory ran out in one event more, all that is due before it was offered
-pub broke_then : GivesAlways → (xs : List Event) (e : Event) (s t : Server) (out between now : List Offer) → WentOn xs s out t between → BreaksOff t between now e
-    → BrokeOff (xs ++ e ∷ []) s out now
-broke_then always xs e s t out between now first second = record {
-  done = xs;
-  last = e ∷ [];
-  parts = refl;
-  one = omega arith;
-  offered = λ d token es before fuel went short enough.
-      let whole : es ++ (xs ++ e ∷ []) ≡ (es ++ xs) ++ e ∷ [] = sym (append_assoc es xs (e ∷ [])) in
-      let few : IsShortRun d token ((es ++ xs) ++ e ∷ []) = subst (λ (l : List Event). IsShortRun d token l) whole short in
-      let fuel_enough : IsEnough d token fuel ((es ++ xs) ++ e ∷ []) = subst (λ (l : List Event). IsEnough d token fuel l) whole enough in
-      let there : Went d token (es ++ xs) before t between = first d token es before went (short_front d token always (es ++ xs) (e ∷ []) few) in
-      let given : between ≡ before ++ gives d token fuel (es ++ xs) =
-      offers_given d token before (es ++ xs) fuel t between there (enough_of_front d token fuel (es ++ xs) (e ∷ []) fuel_enough) in
-      let broke = second d token (es ++ xs) before fuel there few fuel_enough in (
-        subst (λ (l : List Offer). IsPrefixOf l now) given broke.0,
-        subst (λ (l : List Event). IsPrefixOf now (before ++ gives d token fuel l)) (sym whole) broke.1,
-      );
-}
-
--- what was offered keeps the secret
-pub kept : WentSeesAlike → (xs : List Event) (s t : Server) (out now : List Offer) → WentOn xs s out t now → KeptTheSecret xs s out now
-kept secret xs s t out now did d token es went short = secret d token (es ++ xs) t now (did d token es [] went short)
-
--- ---- turn after turn
-
-module _ (ear : Option Ear) (old : Server) (out : List Offer) where
-  pub begun : Drove ear ear 0 old out old out
-  begun = record { events = []; told = heard_nothing ear; counted = refl; did = went_nothing old out }
-
-  -- one turn took an event, and it was done
-  pub goes_on : GivesAlways → (mid later : Option Ear) (count : ℕ) (server new : Server) (between now : List Offer) (e : Event) → Drove ear mid count old out server between
-      → HeardMore mid later (e ∷ []) → WentOn (e ∷ []) server between new now → Drove ear later (count + 1) old out new now
-  goes_on always mid later count server new between now e d told did = record {
-    events = d.events ++ e ∷ [];
-    told = heard_then ear mid later d.events (e ∷ []) d.told told;
-    counted = omega (arith, length-append d.events (e ∷ []), d.counted);
-    did = went_then always d.events (e ∷ []) old server new out between now d.did did;
-  }
-
-  -- it was not done to its end
-  pub breaks : GivesAlways → (mid later : Option Ear) (turns count : ℕ) (server new : Server) (between now : List Offer) (e : Event) → Drove ear mid count old out server between
-      → count < turns → HeardMore mid later (e ∷ []) → BreaksOff server between now e → Driven ear later turns old out new now (Err NoMemory)
-  breaks always mid later turns count server new between now e d less told broke = record {
-    events = d.events ++ e ∷ [];
-    told = heard_then ear mid later d.events (e ∷ []) d.told told;
-    ends = omega (arith, length-append d.events (e ∷ []), d.counted, less);
-    did = broke_then always d.events e old server out between now d.did broke;
-    kept = tt;
-  }
-
-  -- the link is closed
-  pub closes : WentSeesAlike → (mid later : Option Ear) (turns count : ℕ) (new : Server) (now : List Offer) → Drove ear mid count old out new now
-      → count < turns → HeardMore mid later [] × IsAtEnd later → Driven ear later turns old out new now (Ok true)
-  closes secret mid later turns count new now d less told = record {
-    events = d.events;
-    told = heard_still ear mid later d.events d.told told.0;
-    ends = (omega (arith, d.counted, less), told.1);
-    did = d.did;
-    kept = kept secret d.events old new out now d.did;
-  }
-
-  -- it failed
-  pub fails : WentSeesAlike → (mid later : Option Ear) (turns count : ℕ) (new : Server) (now : List Offer) (e : DriveFault) → Drove ear mid count old out new now
-      → count < turns → HeardMore mid later [] → Driven ear later turns old out new now (Err e)
-  fails secret mid later turns count new now LinkFault d less told = record {
-    events = d.events;
-    told = heard_still ear mid later d.events d.told told;
-    ends = omega (arith, d.counted, less);
-    did = d.did;
-    kept = kept secret d.events old new out now d.did;
-  }
-  fails secret mid later turns count new now NoMemory d less told = record {
-    events = d.events;
-    told = heard_still ear mid later d.events d.told told;
-    ends = omega (arith, d.counted, less);
-    did = broke_there d.events old new out now d.did;
-    kept = tt;
-  }
-
-  -- the turns were made
-  pub ends : WentSeesAlike → (later : Option Ear) (turns count : ℕ) (new : Server) (now : List Offer) → Drove ear later count old out new now
-      → count ≡ turns → Driven ear later turns old out new now (Ok false)
-  ends secret later turns count new now d all = record {
-    events = d.events;
-    told = d.told;
-    ends = d.counted ∙ all;
-    did = d.did;
-    kept = kept secret d.events old new out now d.did;
-  }
+pub none_within : (calls : Option LinkCalls) (n : ℕ) → CalledWithin calls calls n
+none_within calls n = (0, omega arith, no_call calls)

@@ -5,5 +5,10 @@ mod Openings
 mod Messages
 mod Settling
 mod Runs
-mod Fronts
+pub mod Records
+mod Reading
 mod Heard
+mod Fronts
+mod Keeping
+mod Drives
+mod ReadOut

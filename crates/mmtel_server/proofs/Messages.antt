@@ -65,6 +65,8 @@ goes_on d token before s t out w h did stands = record {
     transactions = stands;
     clock = did.stands.clock;
     steps = did.stands.steps;
+    texts = did.stands.texts;
+    registered = did.stands.registered;
     rows = did.stands.rows;
     whole = did.stands.whole;
   };

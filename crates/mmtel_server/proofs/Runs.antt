@@ -1,15 +1,13 @@
 -- A run of one event more: what it is enough for, and what a server that went through the shorter one has gone through then.
 use Rattle.std.proofs.Common.{◌≡◌, ℕ, max, List, [], ◌∷◌, ◌++◌, false, refl, sym, ap, ◌∙◌, subst}
-use Rattle.std.specs.Prelude.{Bool, OnErr, OnOk, Result, Ok, Err}
-use Rattle.std.specs.Result.{is_err}
 use Rattle.mmtel_directory.specs.declared.directories.Directory.{Directory}
-use Rattle.mmtel_outside.specs.declared.events.Event.{Event}
+use Rattle.mmtel_in_force.specs.Texts.{Texts}
 use Rattle.mmtel_outside.specs.declared.events.Offer.{Offer}
-use Rattle.mmtel_run.specs.Events.{Digest, digest, digests, moment_of}
+use Rattle.mmtel_run.specs.Events.{Digest, Happened, digest, digests, moment_of}
 use Rattle.mmtel_run.specs.Headline.{GivesAlways}
 use Rattle.mmtel_run.specs.Run.{IsEnough, IsEnoughAfter, IsSettled, after, clock_at, one_more, settled}
-use Rattle.mmtel_run.specs.Short.{IsShort}
-use Rattle.mmtel_run.specs.World.{World, begun, came, empty}
+use Rattle.mmtel_run.specs.Short.{IsShort, IsShortRun}
+use Rattle.mmtel_run.specs.World.{World, beginning, begun, came}
 use Rattle.mmtel_server.specs.Follows.{Breaks, BreaksTo, Follows, FollowsTo, IsReady, going}
 use Rattle.mmtel_server.specs.Stands.{BreaksOff, Did, GoesOn, IsCut, Went}
 use Rattle.mmtel_server.specs.declared.servers.Server.{Server}
@@ -18,22 +16,22 @@ use Rattle.mmtel_server.proofs.Settling.{enough_same, settles}
 
 module _ (d : Directory) (token : List ℕ) where
   -- the whole run is the shorter one and this event
-  pub after_last : (fuel : ℕ) (events : List Event) (event : Event) (w : World)
+  pub after_last : (fuel : ℕ) (events : List Happened) (event : Happened) (w : World)
       → after d token fuel (digests d (events ++ event ∷ [])) w ≡ going fuel event d token (after d token fuel (digests d events) w)
   after_last fuel [] event w = refl
-  after_last fuel (x ∷ events) event w = after_last fuel events event (one_more d token fuel (moment_of x) (digest d x) w)
+  after_last fuel (x ∷ events) event w = after_last fuel events event (one_more d token fuel (moment_of x.event) (digest d x) w)
 
   -- what is enough for it is enough for the shorter one,
-  pub enough_front : (fuel : ℕ) (events : List Event) (event : Event) (w : World) → IsEnoughAfter d token fuel (digests d (events ++ event ∷ [])) w
+  pub enough_front : (fuel : ℕ) (events : List Happened) (event : Happened) (w : World) → IsEnoughAfter d token fuel (digests d (events ++ event ∷ [])) w
       → IsEnoughAfter d token fuel (digests d events) w
   enough_front fuel [] event w e = tt
-  enough_front fuel (x ∷ events) event w e = (e.0, enough_front fuel events event (one_more d token fuel (moment_of x) (digest d x) w) e.1)
+  enough_front fuel (x ∷ events) event w e = (e.0, enough_front fuel events event (one_more d token fuel (moment_of x.event) (digest d x) w) e.1)
 
   -- and before this event
-  pub enough_last : (fuel : ℕ) (events : List Event) (event : Event) (w : World) → IsEnoughAfter d token fuel (digests d (events ++ event ∷ [])) w
+  pub enough_last : (fuel : ℕ) (events : List Happened) (event : Happened) (w : World) → IsEnoughAfter d token fuel (digests d (events ++ event ∷ [])) w
       → IsReady fuel event (after d token fuel (digests d events) w)
   enough_last fuel [] event w e = e.0
-  enough_last fuel (x ∷ events) event w e = enough_last fuel events event (one_more d token fuel (moment_of x) (digest d x) w) e.1
+  enough_last fuel (x ∷ events) event w e = enough_last fuel events event (one_more d token fuel (moment_of x.event) (digest d x) w) e.1
 
   -- two counts that are enough leave the same
   pub run_same : (n m : ℕ) (xs : List (ℕ × Digest)) (w : World) → IsEnoughAfter d token n xs w → IsEnoughAfter d token m xs w → after d token n xs w ≡ after d token m xs w
@@ -43,10 +41,10 @@ module _ (d : Directory) (token : List ℕ) where
       ap (after d token n xs) one ∙ run_same n m xs (one_more d token m x.0 x.1 w) (subst (λ (u : World). IsEnoughAfter d token n xs u) one e.1) f.1
 
   -- a server that went through a run stands for it by any count that is enough
-  pub stands_by : (events : List Event) (before out : List Offer) (s : Server) (fuel : ℕ) → Went d token events before s out → IsEnough d token fuel events
-      → Did d token before s out (after d token fuel (digests d events) empty)
-  stands_by events before out s fuel went enough =
-      subst (λ (u : World). Did d token before s out u) (run_same went.fuel fuel (digests d events) empty went.enough enough) went.did
+  pub stands_by : (loaded : Texts) (events : List Happened) (before out : List Offer) (s : Server) (fuel : ℕ) → Went d token loaded events before s out → IsEnough d token loaded fuel events
+      → Did d token before s out (after d token fuel (digests d events) (beginning loaded))
+  stands_by loaded events before out s fuel went enough =
+      subst (λ (u : World). Did d token before s out u) (run_same went.fuel fuel (digests d events) (beginning loaded) went.enough enough) went.did
 
 -- ---- one event
 
@@ -67,6 +65,8 @@ clocked_did d token before out s at w did = record {
     transactions = did.stands.transactions;
     clock = refl;
     steps = did.stands.steps;
+    texts = did.stands.texts;
+    registered = did.stands.registered;
     rows = did.stands.rows;
     whole = did.stands.whole;
   };
@@ -74,17 +74,17 @@ clocked_did d token before out s at w did = record {
 }
 
 -- what the code takes for the clock is that of the world
-pub clock_is : (now clock moment : ℕ) (event : Event) → now ≡ max clock moment → moment ≡ moment_of event → (w : World) → clock ≡ w.clock → now ≡ clock_at w (moment_of event)
+pub clock_is : (now clock moment : ℕ) (event : Happened) → now ≡ max clock moment → moment ≡ moment_of event.event → (w : World) → clock ≡ w.clock → now ≡ clock_at w (moment_of event.event)
 clock_is now clock moment event is at w same = is ∙ (ap (λ (k : ℕ). max k moment) same ∙ ap (λ (k : ℕ). max w.clock k) at)
 
 -- an event at that clock
-pub record AtClock (d : Directory) (token : List ℕ) (fuel now : ℕ) (event : Event) (w : World) : Type 0 where
+pub record AtClock (d : Directory) (token : List ℕ) (fuel now : ℕ) (event : Happened) (w : World) : Type 0 where
   pub ready : IsSettled fuel now w
   pub whole : going fuel event d token w ≡ came d token now (digest d event) (settled fuel now w)
   pub short : IsShort (came d token now (digest d event) (settled fuel now w))
   pub between : IsShort (settled fuel now w)
 
-at_clock : (d : Directory) (token : List ℕ) (fuel now : ℕ) (event : Event) (w : World) → now ≡ clock_at w (moment_of event) → IsReady fuel event w
+at_clock : (d : Directory) (token : List ℕ) (fuel now : ℕ) (event : Happened) (w : World) → now ≡ clock_at w (moment_of event.event) → IsReady fuel event w
     → IsShort (going fuel event d token w) → AtClock d token fuel now event w
 at_clock d token fuel now event w at ready few =
     let whole : going fuel event d token w ≡ came d token now (digest d event) (settled fuel now w) = ap (λ (k : ℕ). came d token k (digest d event) (settled fuel k w)) (sym at) in
@@ -97,7 +97,7 @@ at_clock d token fuel now event w at ready few =
     }
 
 -- the deadlines fire, and then the event comes
-module _ (old mid : Server) (out between : List Offer) (event : Event) (now : ℕ) (clock : (w : World) → old.clock ≡ w.clock → now ≡ clock_at w (moment_of event)) where
+module _ (old mid : Server) (out between : List Offer) (event : Happened) (now : ℕ) (clock : (w : World) → old.clock ≡ w.clock → now ≡ clock_at w (moment_of event.event)) where
   -- the deadlines alone
   pub cut_before : ((fuel : ℕ) → BreaksTo old out between (IsSettled fuel now) (λ d token. settled fuel now)) → (fuel : ℕ) → BreaksTo old out between (IsReady fuel event) (going fuel event)
   cut_before breaks fuel d token before w did ready few =
@@ -118,31 +118,47 @@ module _ (old mid : Server) (out between : List Offer) (event : Event) (now : �
         subst (λ (u : World). IsCut out between (before ++ u.offers)) (sym here.whole)
         (cut_of before out between w v (came d token now (digest d event) v) (settles fuel now w) (came_grows d token now (digest d event) v) did.offered there.offered)
 
-    module _ (new : Server) (after_all : List Offer) (x : Digest) (told : x ≡ digest mid.directory event) where
-      told_in : (d : Directory) → mid.directory ≡ d → x ≡ digest d event
-      told_in d same = told ∙ ap (λ (y : Directory). digest y event) same
-
-      -- and the event
-      pub went_all : Follows mid between new after_all (λ d token. came d token now x) → (fuel : ℕ) → FollowsTo old out new after_all (IsReady fuel event) (going fuel event)
+    module _ (new : Server) (after_all : List Offer) where
+      -- and what happened then
+      pub went_all : Follows mid between new after_all (λ d token. came d token now (digest d event)) → (fuel : ℕ) → FollowsTo old out new after_all (IsReady fuel event) (going fuel event)
       went_all comes fuel d token before w did ready few =
           let here = at_clock d token fuel now event w (clock w did.stands.clock) ready few in
           let v = settled fuel now w in
           let there = settles_all fuel d token before w did here.ready here.between in
-          let is = told_in d there.stands.directory_same in
-          subst (λ (u : World). Did d token before new after_all u) (sym here.whole)
-          (subst (λ (y : Digest). Did d token before new after_all (came d token now y v)) is
-          (comes d token before v there (subst (λ (y : Digest). IsShort (came d token now y v)) (sym is) here.short)))
+          subst (λ (u : World). Did d token before new after_all u) (sym here.whole) (comes d token before v there here.short)
 
-      pub cut_within : Breaks mid between after_all (λ d token. came d token now x) → (fuel : ℕ) → BreaksTo old out after_all (IsReady fuel event) (going fuel event)
+      pub cut_within : Breaks mid between after_all (λ d token. came d token now (digest d event)) → (fuel : ℕ) → BreaksTo old out after_all (IsReady fuel event) (going fuel event)
       cut_within breaks fuel d token before w did ready few =
           let here = at_clock d token fuel now event w (clock w did.stands.clock) ready few in
           let v = settled fuel now w in
           let there = settles_all fuel d token before w did here.ready here.between in
-          let is = told_in d there.stands.directory_same in
-          let cut = breaks d token before v there (subst (λ (y : Digest). IsShort (came d token now y v)) (sym is) here.short) in
+          let cut = breaks d token before v there here.short in
           subst (λ (u : World). IsCut out after_all (before ++ u.offers)) (sym here.whole)
-          (subst (λ (y : Digest). IsCut out after_all (before ++ (came d token now y v).offers)) is
-          (front_on out between after_all (kept_of before out between w v (settles fuel now w) did.offered there.offered) cut.0, cut.1))
+          (front_on out between after_all (kept_of before out between w v (settles fuel now w) did.offered there.offered) cut.0, cut.1)
+
+    -- the configuration is that of the run still
+    pub directory_there : (fuel : ℕ) (d : Directory) (token : List ℕ) (before : List Offer) (w : World) → Did d token before old out w → IsReady fuel event w → IsShort (going fuel event d token w) → mid.directory ≡ d
+    directory_there fuel d token before w did ready few =
+        let here = at_clock d token fuel now event w (clock w did.stands.clock) ready few in
+        (settles_all fuel d token before w did here.ready here.between).stands.directory_same
+
+-- ---- a digest that is read under the server's configuration
+
+module _ (s : Server) (x : Digest) (f : Directory → Digest) (told : x ≡ f s.directory) where
+  told_in : (d : Directory) → s.directory ≡ d → x ≡ f d
+  told_in d same = told ∙ ap f same
+
+  pub told_follows : (out : List Offer) (new : Server) (now : List Offer) (at : ℕ) → Follows s out new now (λ d token. came d token at x) → Follows s out new now (λ d token. came d token at (f d))
+  told_follows out new now at follows d token before w did short =
+      let is = told_in d did.stands.directory_same in
+      subst (λ (y : Digest). Did d token before new now (came d token at y w)) is
+      (follows d token before w did (subst (λ (y : Digest). IsShort (came d token at y w)) (sym is) short))
+
+  pub told_breaks : (out now : List Offer) (at : ℕ) → Breaks s out now (λ d token. came d token at x) → Breaks s out now (λ d token. came d token at (f d))
+  told_breaks out now at breaks d token before w did short =
+      let is = told_in d did.stands.directory_same in
+      subst (λ (y : Digest). IsCut out now (before ++ (came d token at y w).offers)) is
+      (breaks d token before w did (subst (λ (y : Digest). IsShort (came d token at y w)) (sym is) short))
 
 -- ---- a step
 
@@ -155,6 +171,8 @@ whole_again d token before out s w did = record {
     transactions = did.stands.transactions;
     clock = did.stands.clock;
     steps = did.stands.steps;
+    texts = did.stands.texts;
+    registered = did.stands.registered;
     rows = did.stands.rows;
     whole = refl;
   };
@@ -162,45 +180,43 @@ whole_again d token before out s w did = record {
 }
 
 -- what a step does to whatever the server stood for it does to whatever run it went through
-pub goes_on : (old new : Server) (out now : List Offer) (event : Event) → GivesAlways
+pub goes_on : (old new : Server) (out now : List Offer) (event : Happened) → GivesAlways
     → ((fuel : ℕ) → FollowsTo old out new now (IsReady fuel event) (going fuel event)) → GoesOn old out (record new { failed = false }) now event
-goes_on old new out now event always follows d token events before went short =
-    let enough = always d token (events ++ event ∷ []) in
+goes_on old new out now event always follows d token loaded events before went short =
+    let enough = always d token loaded (events ++ event ∷ []) in
     let fuel : ℕ = enough.0 in
-    let last = after_last d token fuel events event empty in
-    let shorter = after d token fuel (digests d events) empty in
+    let last = after_last d token fuel events event (beginning loaded) in
+    let shorter = after d token fuel (digests d events) (beginning loaded) in
     let did = follows fuel d token before shorter
-    (stands_by d token events before out old fuel went (enough_front d token fuel events event empty enough.1))
-    (enough_last d token fuel events event empty enough.1)
+    (stands_by d token loaded events before out old fuel went (enough_front d token fuel events event (beginning loaded) enough.1))
+    (enough_last d token fuel events event (beginning loaded) enough.1)
     (subst IsShort last (short fuel enough.1)) in
     record {
       fuel = fuel;
       enough = enough.1;
-      did = whole_again d token before now new (after d token fuel (digests d (events ++ event ∷ [])) empty) (subst (λ (u : World). Did d token before new now u) (sym last) did);
+      did = whole_again d token before now new (after d token fuel (digests d (events ++ event ∷ [])) (beginning loaded)) (subst (λ (u : World). Did d token before new now u) (sym last) did);
     }
 
-pub breaks_off : (old : Server) (out now : List Offer) (event : Event)
+-- what is so of the configuration under whatever the server stood for is so under whatever run it went through
+pub asked_then : (old : Server) (out : List Offer) (event : Happened) (P : Directory → Type 0) → GivesAlways
+    → ((d : Directory) (token : List ℕ) (before : List Offer) (w : World) (fuel : ℕ) → Did d token before old out w → IsReady fuel event w → IsShort (going fuel event d token w) → P d)
+    → (d : Directory) (token : List ℕ) (loaded : Texts) (events : List Happened) (before : List Offer) → Went d token loaded events before old out
+    → IsShortRun d token loaded (events ++ event ∷ []) → P d
+asked_then old out event P always is_so d token loaded events before went short =
+    let enough = always d token loaded (events ++ event ∷ []) in
+    let fuel : ℕ = enough.0 in
+    is_so d token before (after d token fuel (digests d events) (beginning loaded)) fuel
+    (stands_by d token loaded events before out old fuel went (enough_front d token fuel events event (beginning loaded) enough.1))
+    (enough_last d token fuel events event (beginning loaded) enough.1)
+    (subst IsShort (after_last d token fuel events event (beginning loaded)) (short fuel enough.1))
+
+pub breaks_off : (old : Server) (out now : List Offer) (event : Happened)
     → ((fuel : ℕ) → BreaksTo old out now (IsReady fuel event) (going fuel event)) → BreaksOff old out now event
-breaks_off old out now event breaks d token events before fuel went short enough =
-    let last = after_last d token fuel events event empty in
-    let shorter = after d token fuel (digests d events) empty in
+breaks_off old out now event breaks d token loaded events before fuel went short enough =
+    let last = after_last d token fuel events event (beginning loaded) in
+    let shorter = after d token fuel (digests d events) (beginning loaded) in
     let cut = breaks fuel d token before shorter
-    (stands_by d token events before out old fuel went (enough_front d token fuel events event empty enough))
-    (enough_last d token fuel events event empty enough)
+    (stands_by d token loaded events before out old fuel went (enough_front d token fuel events event (beginning loaded) enough))
+    (enough_last d token fuel events event (beginning loaded) enough)
     (subst IsShort last (short fuel enough)) in
     subst (λ (u : World). IsCut out now (before ++ u.offers)) (sym last) cut
-
--- ---- answers
-
-pub ok_follows : {A E : Type 0} (r : Result A E) (P Q : Type 0) → (P → Q) → OnOk r P → OnOk r Q
-ok_follows (Ok x) P Q f p = f p
-ok_follows (Err e) P Q f p = tt
-
-pub err_follows : {A E : Type 0} (r : Result A E) (P Q : Type 0) → (P → Q) → OnErr r P → OnErr r Q
-err_follows (Ok x) P Q f p = tt
-err_follows (Err e) P Q f p = f p
-
--- where it is Ok it is no error
-pub ok_no_error : {A E : Type 0} (r : Result A E) (b : Bool) (P : Bool → Type 0) → b ≡ is_err r → OnOk r (P false) → OnOk r (P b)
-ok_no_error (Ok x) b P is p = subst P (sym is) p
-ok_no_error (Err e) b P is p = tt

@@ -1,21 +1,32 @@
 -- What `drive` heard of a link and made of it.
-use Rattle.std.specs.Prelude.{◌≡◌, ◌<◌, ◌≤◌, ℕ, zero, suc, Bool, true, false, ⊤, List, [], ◌++◌, length, Option, Some, None, Result, Ok, Err}
+use Rattle.std.specs.Prelude.{◌≡◌, ◌≢◌, ◌⊎◌, ◌+◌, ◌<◌, ◌≤◌, ℕ, zero, suc, Bool, true, false, ⊤, List, [], ◌∷◌, ◌++◌, drop, length, take, Option, Some, None, Result, Ok, Err}
+use Rattle.std.specs.Option.{option_map}
 use Rattle.mmtel_directory.specs.declared.directories.Directory.{Directory}
+use Rattle.mmtel_directory.specs.declared.directories.WebDirectory.{WebDirectory}
+use Rattle.mmtel_http.specs.Requests.{greatest, request_of, whole_of, window}
+use Rattle.mmtel_http.specs.declared.wholes.Whole.TheVariants.{More}
+use Rattle.mmtel_in_force.specs.Texts.{Texts, put_each}
+use Rattle.mmtel_keeper.specs.Kept.{Held, KeeperCalls}
 use Rattle.mmtel_link.specs.Told.{Ear, LinkCalls, called, coming, heard}
 use Rattle.mmtel_outside.specs.Counts.{Rose}
 use Rattle.mmtel_outside.specs.declared.events.Event.{Event}
+use Rattle.mmtel_outside.specs.declared.events.Event.TheVariants as event
 use Rattle.mmtel_outside.specs.declared.events.Offer.{Offer}
+use Rattle.mmtel_run.specs.Events.{Happened, events_in}
 use Rattle.mmtel_run.specs.Headline.{SeesAlike}
+use Rattle.mmtel_run.specs.InForce.{uploads_of}
 use Rattle.mmtel_run.specs.Run.{IsEnough, gives}
 use Rattle.mmtel_run.specs.Short.{IsShortRun}
+use Rattle.mmtel_serving.specs.Calls.{Answers, Counted}
 use Rattle.mmtel_server.specs.Stands.{IsCut, Went}
+use Rattle.mmtel_server.specs.Stepped.{call_of}
 use Rattle.mmtel_server.specs.declared.driving.DriveFault.{DriveFault}
 use Rattle.mmtel_server.specs.declared.driving.DriveFault.TheVariants.{LinkFault, NoMemory}
 use Rattle.mmtel_server.specs.declared.servers.Server.{Server}
 
 -- ---- what was heard
 
--- where the link tells what it hears, it heard these events more, in this order, and no other; where it does not tell, it does not tell after
+-- where the link tells what it hears, it heard these events more, in this order, and no other, of web connections with the bytes that were read
 abbrev pub HeardMore : Option Ear → Option Ear → List Event → Type 0
 HeardMore None None events = ⊤
 HeardMore None (Some later) events = ⊥
@@ -27,12 +38,58 @@ abbrev pub IsAtEnd : Option Ear → Type 0
 IsAtEnd None = ⊤
 IsAtEnd (Some ear) = coming ear ≡ None
 
--- how many events came in so many turns, each of which takes one: true at the end of the link, before the turns were over; false where each turn took one; a link's fault comes in place of an event, and want of memory there or in doing the last
+-- how many events came in so many turns, each of which takes one: true at the end of the link, before the turns were over; false where each turn took one;
+-- a link's fault comes in place of an event, and want of memory there, in reading the last or in doing it
 abbrev pub EndsAfter : (turns : ℕ) → Option Ear → (count : ℕ) → Result Bool DriveFault → Type 0
 EndsAfter turns ear count (Ok true) = (count < turns) × IsAtEnd ear
 EndsAfter turns ear count (Ok false) = count ≡ turns
 EndsAfter turns ear count (Err LinkFault) = count < turns
 EndsAfter turns ear count (Err NoMemory) = count ≤ turns
+
+-- ---- how web connections were read
+
+-- a connection of which so many bytes were read was read out: they are a request, or can be none, or there are no more of them (RFC 9112 §2.2, §6.3)
+abbrev pub IsReadOut : ℕ → List ℕ → Type 0
+IsReadOut count bytes = (whole_of (request_of (take count bytes)) ≢ More) ⊎ (take count bytes ≡ bytes)
+
+-- how an event was read, of which so many bytes were, and what became of the count of giving out: a web connection was read out, but where a read failed, at which the count rose
+abbrev pub IsRead : (giving gave : ℕ) → ℕ → Event → Type 0
+IsRead giving gave count (event.Datagram from at bytes) = gave ≡ giving
+IsRead giving gave count (event.Web at bytes) = (IsReadOut count bytes × (gave ≡ giving)) ⊎ Rose giving gave
+IsRead giving gave count (event.Quiet at) = gave ≡ giving
+
+-- the same of each event that came of these, in order
+abbrev pub EachRead : (giving gave : ℕ) → List Event → (reads : List ℕ) → Type 0
+EachRead giving gave events [] = gave ≡ giving
+EachRead giving gave [] (count ∷ reads) = ⊥
+EachRead giving gave (e ∷ events) (count ∷ reads) = (between : ℕ) × IsRead giving between count e × EachRead between gave events reads
+
+-- the events that a link had still to give
+abbrev pub to_come : Ear → List Event
+to_come ear = drop (length ear.reads) ear.events
+
+-- where the link tells what it hears, each event that came was read so
+abbrev pub ReadEach : Option Ear → Option Ear → (giving gave : ℕ) → Type 0
+ReadEach None later giving gave = ⊤
+ReadEach (Some ear) None giving gave = ⊥
+ReadEach (Some ear) (Some later) giving gave = (reads : List ℕ) × (later.reads ≡ ear.reads ++ reads) × EachRead giving gave (to_come ear) reads
+
+-- each but the last, if that was not read to its end
+abbrev pub ReadButLast : Option Ear → Option Ear → (giving : ℕ) → Type 0
+ReadButLast None later giving = ⊤
+ReadButLast (Some ear) None giving = ⊥
+ReadButLast (Some ear) (Some later) giving =
+    (reads : List ℕ) × (last : List ℕ) × (gave : ℕ) × (later.reads ≡ ear.reads ++ (reads ++ last)) × (length last ≤ 1) × EachRead giving gave (to_come ear) reads
+
+-- memory may have run out in reading the last
+abbrev pub ReadAll : Option Ear → Option Ear → (giving gave : ℕ) → Result Bool DriveFault → Type 0
+ReadAll ear later giving gave (Ok closed) = ReadEach ear later giving gave
+ReadAll ear later giving gave (Err LinkFault) = ReadEach ear later giving gave
+ReadAll ear later giving gave (Err NoMemory) = ReadButLast ear later giving
+
+-- a count stands, or it rose
+abbrev pub StandsOrRose : ℕ → ℕ → Type 0
+StandsOrRose before now = (now ≡ before) ⊎ Rose before now
 
 -- ---- the calls of the link
 
@@ -46,65 +103,117 @@ abbrev pub CalledTimes : Option LinkCalls → Option LinkCalls → ℕ → Type 
 CalledTimes None later count = later ≡ None
 CalledTimes (Some calls) later count = later ≡ Some (called_times count calls)
 
--- at most one a turn
-abbrev pub CalledWithin : Option LinkCalls → Option LinkCalls → (turns : ℕ) → Type 0
-CalledWithin calls later turns = (count : ℕ) × (count ≤ turns) × CalledTimes calls later count
+-- at most so many
+abbrev pub CalledWithin : Option LinkCalls → Option LinkCalls → (most : ℕ) → Type 0
+CalledWithin calls later most = (count : ℕ) × (count ≤ most) × CalledTimes calls later count
+
+-- how often a connection is read at most: each read but the last gives a byte of a request that is not whole yet
+abbrev pub reads_a_turn : ℕ
+reads_a_turn = window + greatest + 1
+
+-- and how many calls a turn makes, with that of `next`
+abbrev pub calls_a_turn : ℕ
+calls_a_turn = reads_a_turn + 1
 
 -- ---- what was made of it
 
--- whatever run the server went through, it has gone through that and these events, and offered all that is due in it
-abbrev pub WentOn : List Event → Server → List Offer → Server → List Offer → Type 0
-WentOn events old out new now =
-    (directory : Directory) (token : List ℕ) (earlier : List Event) (before : List Offer) →
-    Went directory token earlier before old out → IsShortRun directory token (earlier ++ events) →
-    Went directory token (earlier ++ events) before new now
+-- whatever run the server went through, it has gone through that and what happened here, and offered all that is due in it
+abbrev pub WentOn : List Happened → Server → List Offer → Server → List Offer → Type 0
+WentOn happened old out new now =
+    (directory : Directory) (token : List ℕ) (loaded : Texts) (earlier : List Happened) (before : List Offer) →
+    Went directory token loaded earlier before old out → IsShortRun directory token loaded (earlier ++ happened) →
+    Went directory token loaded (earlier ++ happened) before new now
 
 -- nothing of what is due in the run up to the last of these is missing, and nothing stands behind what is due in the whole
-abbrev pub OfferedUpTo : (done last : List Event) → Server → List Offer → List Offer → Type 0
+abbrev pub OfferedUpTo : (done last : List Happened) → Server → List Offer → List Offer → Type 0
 OfferedUpTo done last old out now =
-    (directory : Directory) (token : List ℕ) (earlier : List Event) (before : List Offer) (fuel : ℕ) →
-    Went directory token earlier before old out → IsShortRun directory token (earlier ++ (done ++ last)) → IsEnough directory token fuel (earlier ++ (done ++ last)) →
-    IsCut (before ++ gives directory token fuel (earlier ++ done)) now (before ++ gives directory token fuel (earlier ++ (done ++ last)))
+    (directory : Directory) (token : List ℕ) (loaded : Texts) (earlier : List Happened) (before : List Offer) (fuel : ℕ) →
+    Went directory token loaded earlier before old out → IsShortRun directory token loaded (earlier ++ (done ++ last)) →
+    IsEnough directory token loaded fuel (earlier ++ (done ++ last)) →
+    IsCut (before ++ gives directory token loaded fuel (earlier ++ done)) now (before ++ gives directory token loaded fuel (earlier ++ (done ++ last)))
 
--- all these events were done but for the last, if memory ran out in it: of what that one makes the server offer a front was added
-pub record BrokeOff (events : List Event) (old : Server) (out now : List Offer) : Type 0 where
-  pub done : List Event
-  pub last : List Event
-  pub parts : events ≡ done ++ last
+-- all of these were done but for the last, if memory ran out in it: of what that one makes the server offer a front was added
+pub record BrokeOff (happened : List Happened) (old : Server) (out now : List Offer) : Type 0 where
+  pub done : List Happened
+  pub last : List Happened
+  pub parts : happened ≡ done ++ last
   pub one : length last ≤ 1
   pub offered : OfferedUpTo done last old out now
 
--- the server and the offers stand as after these events, but for want of memory
-abbrev pub DidAll : List Event → Server → List Offer → Server → List Offer → Result Bool DriveFault → Type 0
-DidAll events old out new now (Ok closed) = WentOn events old out new now
-DidAll events old out new now (Err LinkFault) = WentOn events old out new now
-DidAll events old out new now (Err NoMemory) = BrokeOff events old out now
+-- the server and the offers stand as after all of these, but for want of memory
+abbrev pub DidAll : List Happened → Server → List Offer → Server → List Offer → Result Bool DriveFault → Type 0
+DidAll happened old out new now (Ok closed) = WentOn happened old out new now
+DidAll happened old out new now (Err LinkFault) = WentOn happened old out new now
+DidAll happened old out new now (Err NoMemory) = BrokeOff happened old out now
 
 -- of what is offered in a run from its first event on, an untrusted peer sees what it would see of any other run that is equal without its private places
-abbrev pub KeptTheSecret : List Event → Server → List Offer → List Offer → Type 0
-KeptTheSecret events old out now =
-    (directory : Directory) (token : List ℕ) (earlier : List Event) →
-    Went directory token earlier [] old out → IsShortRun directory token (earlier ++ events) → SeesAlike directory token (earlier ++ events) now
+abbrev pub KeptTheSecret : List Happened → Server → List Offer → List Offer → Type 0
+KeptTheSecret happened old out now =
+    (directory : Directory) (token : List ℕ) (loaded : Texts) (earlier : List Happened) →
+    Went directory token loaded earlier [] old out → IsShortRun directory token loaded (earlier ++ happened) → SeesAlike directory token loaded (earlier ++ happened) now
 
-abbrev pub KeptAll : List Event → Server → List Offer → List Offer → Result Bool DriveFault → Type 0
-KeptAll events old out now (Ok closed) = KeptTheSecret events old out now
-KeptAll events old out now (Err LinkFault) = KeptTheSecret events old out now
-KeptAll events old out now (Err NoMemory) = ⊤
+abbrev pub KeptAll : List Happened → Server → List Offer → List Offer → Result Bool DriveFault → Type 0
+KeptAll happened old out now (Ok closed) = KeptTheSecret happened old out now
+KeptAll happened old out now (Err LinkFault) = KeptTheSecret happened old out now
+KeptAll happened old out now (Err NoMemory) = ⊤
+
+-- ---- what was made of the keeper
+
+-- what the keeper answered in each event is the answer of the call that the event asks for, and nothing else was asked of it
+abbrev pub EachAnswers : WebDirectory → List Happened → Option Held → Option Held → Option KeeperCalls → Option KeeperCalls → Type 0
+EachAnswers names [] held left calls after = (left ≡ held) × (after ≡ calls)
+EachAnswers names (one ∷ happened) held left calls after =
+    (between : Option Held) × (midst : Option KeeperCalls) ×
+    Answers (call_of names one.event) one.kept one.rows held between calls midst × EachAnswers names happened between left midst after
+
+abbrev pub AnswersAll : List Happened → Server → List Offer → Option Held → Option Held → Option KeeperCalls → Option KeeperCalls → Type 0
+AnswersAll happened old out held left calls after =
+    (directory : Directory) (token : List ℕ) (loaded : Texts) (earlier : List Happened) (before : List Offer) →
+    Went directory token loaded earlier before old out → IsShortRun directory token loaded (earlier ++ happened) →
+    EachAnswers directory.names happened held left calls after
+
+-- with these uploads put over the sheets
+abbrev pub with_uploads : Texts → Held → Held
+with_uploads uploads held = record held { sheets = put_each uploads held.sheets }
+
+-- where the keeper tells what it holds, each upload that was kept was put over it, in their order, and nothing else changed
+abbrev pub HoldsUploads : List Happened → Server → List Offer → Option Held → Option Held → Type 0
+HoldsUploads happened old out held left =
+    (directory : Directory) (token : List ℕ) (loaded : Texts) (earlier : List Happened) (before : List Offer) →
+    Went directory token loaded earlier before old out → IsShortRun directory token loaded (earlier ++ happened) →
+    left ≡ option_map (with_uploads (uploads_of directory.names happened)) held
+
+-- its count of faults rose in each event in which its call failed, and stood in every other
+abbrev pub EachCounted : List Happened → (faults count : ℕ) → Type 0
+EachCounted [] faults count = count ≡ faults
+EachCounted (one ∷ happened) faults count = (between : ℕ) × Counted one.kept faults between × EachCounted happened between count
+
+-- what the keeper tells and counts, before and after
+pub record KeeperWentOn (happened : List Happened) (old : Server) (out : List Offer) (held left : Option Held) (calls after : Option KeeperCalls)
+    (faults count : ℕ) : Type 0 where
+  pub answers : AnswersAll happened old out held left calls after
+  pub sheets : HoldsUploads happened old out held left
+  pub counted : EachCounted happened faults count
 
 -- ---- the whole
 
--- what the link told before and after, the turns, the server and the offers before and after, and the answer
-pub record Driven (ear later : Option Ear) (turns : ℕ) (old : Server) (out : List Offer) (new : Server) (now : List Offer) (result : Result Bool DriveFault) : Type 0 where
-  -- the events that came, of web connections without their bytes,
-  pub events : List Event
-  -- are those that the link heard, where it tells it,
-  pub told : HeardMore ear later events
+-- what the link told and counted before and after, what the keeper told and counted before and after, the turns, the server and the offers before and after, and the answer
+pub record Driven (ear later : Option Ear) (giving gave : ℕ) (held left : Option Held) (calls after : Option KeeperCalls) (faults count : ℕ)
+    (turns : ℕ) (old : Server) (out : List Offer) (new : Server) (now : List Offer) (result : Result Bool DriveFault) : Type 0 where
+  -- there are events that came, each with what the keeper answered in it,
+  pub happened : List Happened
+  -- which are those that the link heard, where it tells it,
+  pub told : HeardMore ear later (events_in happened)
+  -- the web connections among them read out,
+  pub read : ReadAll ear later giving gave result
   -- one a turn,
-  pub ends : EndsAfter turns later (length events) result
+  pub ends : EndsAfter turns later (length happened) result
   -- the server did them all,
-  pub did : DidAll events old out new now result
-  -- and kept the secret
-  pub kept : KeptAll events old out now result
+  pub did : DidAll happened old out new now result
+  -- the keeper was asked what they ask, and keeps what they say,
+  pub keeper : KeeperWentOn happened old out held left calls after faults count
+  -- and the secret was kept
+  pub kept : KeptAll happened old out now result
 
 -- the count of taking in rose at a link's fault, and is as before at every other answer
 abbrev pub HasDriveCause : {T : Type 0} → ℕ → ℕ → Result T DriveFault → Type 0

@@ -4,9 +4,8 @@ use Rattle.mmtel_directory.specs.declared.directories.Directory.{Directory}
 use Rattle.mmtel_message.specs.Faults.{is_method}
 use Rattle.mmtel_message.specs.Message.{Message}
 use Rattle.mmtel_message.specs.declared.messages.Start.{Start}
-use Rattle.mmtel_outside.specs.declared.events.Event.{Event}
 use Rattle.mmtel_outside.specs.declared.events.Offer.{Offer}
-use Rattle.mmtel_run.specs.Events.{digest, moment_of}
+use Rattle.mmtel_run.specs.Events.{Happened, digest, moment_of}
 use Rattle.mmtel_run.specs.Run.{IsSettled, clock_at, one_more}
 use Rattle.mmtel_run.specs.Short.{IsShort}
 use Rattle.mmtel_run.specs.World.{World}
@@ -39,12 +38,12 @@ BreaksTo old out now P deed =
     Did directory token before old out world → P world → IsShort (deed directory token world) → IsCut out now (before ++ (deed directory token world).offers)
 
 -- before this event so many firings of deadlines are enough
-abbrev pub IsReady : ℕ → Event → World → Type 0
-IsReady fuel event world = IsSettled fuel (clock_at world (moment_of event)) world
+abbrev pub IsReady : ℕ → Happened → World → Type 0
+IsReady fuel one world = IsSettled fuel (clock_at world (moment_of one.event)) world
 
--- the deadlines that are due by it, and this event
-abbrev pub going : ℕ → Event → Directory → List ℕ → World → World
-going fuel event directory token world = one_more directory token fuel (moment_of event) (digest directory event) world
+-- the deadlines that are due by it, and what happened then
+abbrev pub going : ℕ → Happened → Directory → List ℕ → World → World
+going fuel one directory token world = one_more directory token fuel (moment_of one.event) (digest directory one) world
 
 -- what the transactions say of a message: it is handed back where it opened a transaction, and where it is heard again it is known whether it was a CANCEL
 abbrev pub IsTaken : (is_cancel : Bool) → Message Start → Heard → Type 0

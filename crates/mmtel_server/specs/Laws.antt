@@ -1,18 +1,48 @@
--- What is true of the offers of a server that went through a run from its beginning.
-use Rattle.std.specs.Prelude.{ℕ, List, []}
+-- What is true of the offers of a server that went through a run from its beginning, and of the web connections that were read in it.
+use Rattle.std.specs.Prelude.{◌≡◌, ℕ, ⊤, List, [], ◌∷◌}
+use Rattle.mmtel_charging.specs.declared.rows.Row.{Row}
 use Rattle.mmtel_directory.specs.declared.directories.Directory.{Directory}
+use Rattle.mmtel_link.specs.Told.{cut}
+use Rattle.mmtel_outside.specs.Counts.{Rose}
 use Rattle.mmtel_outside.specs.declared.events.Event.{Event}
+use Rattle.mmtel_outside.specs.declared.events.Event.TheVariants as event
 use Rattle.mmtel_outside.specs.declared.events.Offer.{Offer}
+use Rattle.mmtel_in_force.specs.Texts.{Texts}
+use Rattle.mmtel_run.specs.Events.{Happened, digest_event}
 use Rattle.mmtel_run.specs.Headline.{Gives, SeesAlike}
+use Rattle.mmtel_web.specs.Answers.{Kept}
+use Rattle.mmtel_server.specs.Driven.{EachRead, IsReadOut}
 use Rattle.mmtel_server.specs.Stands.{Went}
 use Rattle.mmtel_server.specs.declared.servers.Server.{Server}
 
 -- they are exactly what the run gives,
 abbrev pub WentGives : Type 0
-WentGives = (directory : Directory) (token : List ℕ) (events : List Event) (server : Server) (out : List Offer) →
-    Went directory token events [] server out → Gives directory token events out
+WentGives = (directory : Directory) (token : List ℕ) (loaded : Texts) (happened : List Happened) (server : Server) (out : List Offer) →
+    Went directory token loaded happened [] server out → Gives directory token loaded happened out
 
 -- and an untrusted peer sees of them what it would see of any other run that is equal without its private places
 abbrev pub WentSeesAlike : Type 0
-WentSeesAlike = (directory : Directory) (token : List ℕ) (events : List Event) (server : Server) (out : List Offer) →
-    Went directory token events [] server out → SeesAlike directory token events out
+WentSeesAlike = (directory : Directory) (token : List ℕ) (loaded : Texts) (happened : List Happened) (server : Server) (out : List Offer) →
+    Went directory token loaded happened [] server out → SeesAlike directory token loaded happened out
+
+-- ---- web connections
+
+-- an event of which so many bytes were read was read out, if it is a web connection
+abbrev pub IsEventReadOut : ℕ → Event → Type 0
+IsEventReadOut count (event.Datagram from at bytes) = ⊤
+IsEventReadOut count (event.Web at bytes) = IsReadOut count bytes
+IsEventReadOut count (event.Quiet at) = ⊤
+
+abbrev pub EachReadOut : List Event → (reads : List ℕ) → Type 0
+EachReadOut events [] = ⊤
+EachReadOut [] (count ∷ reads) = ⊥
+EachReadOut (e ∷ events) (count ∷ reads) = IsEventReadOut count e × EachReadOut events reads
+
+-- where the count of giving out did not rise, each was read out,
+abbrev pub UnfailedAreReadOut : Type 0
+UnfailedAreReadOut = (giving gave : ℕ) (events : List Event) (reads : List ℕ) → EachRead giving gave events reads → (Rose giving gave → ⊥) → EachReadOut events reads
+
+-- and what is not read of one that was read out says nothing
+abbrev pub ReadOutSaysAll : Type 0
+ReadOutSaysAll = (directory : Directory) (count : ℕ) (e : Event) (kept : Kept) (rows : List Row) → IsEventReadOut count e →
+    digest_event directory (cut count e) kept rows ≡ digest_event directory e kept rows

@@ -1,5 +1,6 @@
 -- What public clauses cite, which a user of the crate has to believe.
 pub mod Stands
+pub mod Stepped
 pub mod Driven
 pub mod Laws
 -- What private functions alone cite.

@@ -1,12 +1,13 @@
 -- The server that stands for what was done in a run.
 use Rattle.std.specs.Prelude.{◌≡◌, ℕ, false, List, [], ◌∷◌, ◌++◌}
 use Rattle.mmtel_directory.specs.declared.directories.Directory.{Directory}
-use Rattle.mmtel_outside.specs.declared.events.Event.{Event}
 use Rattle.mmtel_outside.specs.declared.events.Offer.{Offer}
-use Rattle.mmtel_run.specs.Events.{digests}
+use Rattle.mmtel_in_force.specs.Held.{IsRegisteredBy}
+use Rattle.mmtel_in_force.specs.Texts.{Texts}
+use Rattle.mmtel_run.specs.Events.{Happened, digests}
 use Rattle.mmtel_run.specs.Run.{IsEnough, after, gives}
 use Rattle.mmtel_run.specs.Short.{IsShortRun}
-use Rattle.mmtel_run.specs.World.{World, empty}
+use Rattle.mmtel_run.specs.World.{World, beginning}
 use Rattle.mmtel_server.specs.declared.servers.Server.{Server}
 use Rattle.mmtel_transaction.specs.Stands as transactions
 
@@ -17,6 +18,9 @@ pub record Stands (directory : Directory) (token : List ℕ) (server : Server) (
   pub transactions : transactions.Stands server.transactions world.acts
   pub clock : server.clock ≡ world.clock
   pub steps : server.steps ≡ world.steps
+  -- the records in force, and the registrations
+  pub texts : server.records.texts.texts ≡ world.texts
+  pub registered : IsRegisteredBy server.records world.registrations
   -- no call is followed to its end yet, so no row is written
   pub rows : server.rows ≡ []
   pub whole : server.failed ≡ false
@@ -26,11 +30,11 @@ pub record Did (directory : Directory) (token : List ℕ) (before : List Offer) 
   pub stands : Stands directory token server world
   pub offered : out ≡ before ++ world.offers
 
--- it went through the run of these events, in which every deadline that was due has fired, and what it offered stands behind what stood there before
-pub record Went (directory : Directory) (token : List ℕ) (events : List Event) (before : List Offer) (server : Server) (out : List Offer) : Type 0 where
+-- it went through the run in which this happened, over the texts that were loaded, in which every deadline that was due has fired, and what it offered stands behind what stood there before
+pub record Went (directory : Directory) (token : List ℕ) (loaded : Texts) (happened : List Happened) (before : List Offer) (server : Server) (out : List Offer) : Type 0 where
   pub fuel : ℕ
-  pub enough : IsEnough directory token fuel events
-  pub did : Did directory token before server out (after directory token fuel (digests directory events) empty)
+  pub enough : IsEnough directory token loaded fuel happened
+  pub did : Did directory token before server out (after directory token fuel (digests directory happened) (beginning loaded))
 
 -- the front of a list
 abbrev pub IsPrefixOf : List Offer → List Offer → Type 0
@@ -40,17 +44,17 @@ IsPrefixOf front whole = (rest : List Offer) × (front ++ rest ≡ whole)
 abbrev pub IsCut : (old now whole : List Offer) → Type 0
 IsCut old now whole = IsPrefixOf old now × IsPrefixOf now whole
 
--- whatever run it went through, it has gone through this event more
-abbrev pub GoesOn : Server → List Offer → Server → List Offer → Event → Type 0
-GoesOn old out new now event =
-    (directory : Directory) (token : List ℕ) (events : List Event) (before : List Offer) →
-    Went directory token events before old out → IsShortRun directory token (events ++ event ∷ []) →
-    Went directory token (events ++ event ∷ []) before new now
+-- whatever run it went through, it has gone through this more
+abbrev pub GoesOn : Server → List Offer → Server → List Offer → Happened → Type 0
+GoesOn old out new now one =
+    (directory : Directory) (token : List ℕ) (loaded : Texts) (happened : List Happened) (before : List Offer) →
+    Went directory token loaded happened before old out → IsShortRun directory token loaded (happened ++ one ∷ []) →
+    Went directory token loaded (happened ++ one ∷ []) before new now
 
--- whatever run it went through, of what this event more makes it offer a front was added
-abbrev pub BreaksOff : Server → List Offer → List Offer → Event → Type 0
-BreaksOff old out now event =
-    (directory : Directory) (token : List ℕ) (events : List Event) (before : List Offer) (fuel : ℕ) →
-    Went directory token events before old out → IsShortRun directory token (events ++ event ∷ []) →
-    IsEnough directory token fuel (events ++ event ∷ []) →
-    IsCut out now (before ++ gives directory token fuel (events ++ event ∷ []))
+-- whatever run it went through, of what this more makes it offer a front was added
+abbrev pub BreaksOff : Server → List Offer → List Offer → Happened → Type 0
+BreaksOff old out now one =
+    (directory : Directory) (token : List ℕ) (loaded : Texts) (happened : List Happened) (before : List Offer) (fuel : ℕ) →
+    Went directory token loaded happened before old out → IsShortRun directory token loaded (happened ++ one ∷ []) →
+    IsEnough directory token loaded fuel (happened ++ one ∷ []) →
+    IsCut out now (before ++ gives directory token loaded fuel (happened ++ one ∷ []))

@@ -1,33 +1,72 @@
 -- What the turns of `drive` so far took of a link and made of it.
-use Rattle.std.specs.Prelude.{◌≡◌, ℕ, List, [], ◌∷◌, length, Option, Some, None, Result, Ok, Err}
-use Rattle.mmtel_link.specs.Told.{Ear}
-use Rattle.mmtel_link.specs.declared.links.Arrival.{Arrival}
-use Rattle.mmtel_link.specs.declared.links.Arrival.TheVariants as arrival
+use Rattle.std.specs.Prelude.{◌≡◌, ◌⊎◌, ◌≤◌, ℕ, Bool, true, false, ⊤, List, [], ◌∷◌, ◌++◌, length, take, Option, Some, None, Result, Ok, Err}
+use Rattle.mmtel_http.specs.Requests.{Request, unfinished, bad, large, asked}
+use Rattle.mmtel_keeper.specs.Kept.{Held, KeeperCalls}
+use Rattle.mmtel_link.specs.Told.{Ear, coming, web_bytes}
+use Rattle.mmtel_outside.specs.Counts.{Rose}
 use Rattle.mmtel_outside.specs.declared.events.Event.{Event}
-use Rattle.mmtel_outside.specs.declared.events.Event.TheVariants as event
 use Rattle.mmtel_outside.specs.declared.events.Offer.{Offer}
-use Rattle.mmtel_server.specs.Driven.{HeardMore, IsAtEnd, WentOn}
+use Rattle.mmtel_run.specs.Events.{Happened, events_in}
+use Rattle.mmtel_scan.specs.declared.memory.NoMemory.{NoMemory}
+use Rattle.mmtel_server.specs.Driven.{AnswersAll, EachCounted, HeardMore, IsAtEnd, IsReadOut, ReadEach, WentOn}
 use Rattle.mmtel_server.specs.declared.driving.DriveFault.{DriveFault}
-use Rattle.mmtel_server.specs.declared.driving.DriveFault.TheVariants.{NoMemory}
+use Rattle.mmtel_server.specs.declared.driving.DriveFault.TheVariants as fault
 use Rattle.mmtel_server.specs.declared.servers.Server.{Server}
 
--- the event that an arrival is; of a web connection nothing is read
-abbrev pub IsEventOf : Arrival → Result (Option Event) DriveFault → Type 0
-IsEventOf (arrival.Datagram from at bytes) result = result ≡ Ok (Some (event.Datagram from at bytes))
-IsEventOf (arrival.Web at) result = result ≡ Ok (Some (event.Web at []))
-IsEventOf (arrival.Quiet at) result = result ≡ Ok (Some (event.Quiet at))
-IsEventOf arrival.Closed result = result ≡ Ok None
-IsEventOf arrival.NoMemory result = result ≡ Err NoMemory
+-- ---- one connection
+
+-- whether more bytes can make a request
+abbrev pub is_unfinished : Request → Bool
+is_unfinished unfinished = true
+is_unfinished bad = false
+is_unfinished large = false
+is_unfinished (asked a) = false
+
+-- it came behind what the ear had heard, and so many of its bytes were read; reading has ended before their end, or not
+abbrev pub read_to : Ear → ℕ → Bool → Ear
+read_to ear count over = record ear { reads = ear.reads ++ count ∷ []; over = over }
+
+-- these of its bytes were read so far
+abbrev pub IsReading : Option Ear → Option Ear → List ℕ → Type 0
+IsReading None later bytes = later ≡ None
+IsReading (Some ear) later bytes = (later ≡ Some (read_to ear (length bytes) false)) × (take (length bytes) (web_bytes (coming ear)) ≡ bytes)
+
+-- these of its bytes were read, to their end or until a read failed; or memory ran out in between
+abbrev pub HasRead : Option Ear → Option Ear → (giving gave : ℕ) → Result (List ℕ) NoMemory → Type 0
+HasRead None later giving gave result = later ≡ None
+HasRead (Some ear) later giving gave (Ok bytes) =
+    (over : Bool) × (later ≡ Some (read_to ear (length bytes) over)) × (take (length bytes) (web_bytes (coming ear)) ≡ bytes)
+    × ((IsReadOut (length bytes) (web_bytes (coming ear)) × (gave ≡ giving)) ⊎ Rose giving gave)
+HasRead (Some ear) later giving gave (Err e) = (over : Bool) × (count : ℕ) × (later ≡ Some (read_to ear count over))
+
+-- after one more read
+abbrev pub ReadsOn : Option Ear → Option Ear → (giving gave : ℕ) → List ℕ → Result Bool NoMemory → Type 0
+ReadsOn ear later giving gave bytes (Ok true) = IsReading ear later bytes
+ReadsOn ear later giving gave bytes (Ok false) = HasRead ear later giving gave (Ok bytes)
+ReadsOn ear later giving gave bytes (Err e) = HasRead ear later giving gave (Err e)
+
+-- ---- one turn
+
+-- at most one event came more
+abbrev pub AddsOne : Option Ear → Option Ear → Type 0
+AddsOne None later = ⊤
+AddsOne (Some ear) None = ⊥
+AddsOne (Some ear) (Some later) = (last : List ℕ) × (length last ≤ 1) × (later.reads ≡ ear.reads ++ last)
 
 -- the event that came, or none at the end
-abbrev pub Takes : Option Ear → Option Ear → Result (Option Event) DriveFault → Type 0
-Takes ear later (Ok (Some event)) = HeardMore ear later (event ∷ [])
-Takes ear later (Ok None) = HeardMore ear later [] × IsAtEnd later
-Takes ear later (Err fault) = HeardMore ear later []
+abbrev pub Takes : Option Ear → Option Ear → (giving gave : ℕ) → Result (Option Event) DriveFault → Type 0
+Takes ear later giving gave (Ok (Some event)) = HeardMore ear later (event ∷ []) × ReadEach ear later giving gave
+Takes ear later giving gave (Ok None) = HeardMore ear later [] × (ReadEach ear later giving gave × IsAtEnd later)
+Takes ear later giving gave (Err fault.LinkFault) = HeardMore ear later [] × ReadEach ear later giving gave
+Takes ear later giving gave (Err fault.NoMemory) = (events : List Event) × (length events ≤ 1) × (HeardMore ear later events × AddsOne ear later)
 
 -- so many events came, and the server did them all
-pub record Drove (ear later : Option Ear) (count : ℕ) (old : Server) (out : List Offer) (new : Server) (now : List Offer) : Type 0 where
-  pub events : List Event
-  pub told : HeardMore ear later events
-  pub counted : length events ≡ count
-  pub did : WentOn events old out new now
+pub record Drove (ear later : Option Ear) (giving gave : ℕ) (held left : Option Held) (calls after : Option KeeperCalls) (faults count : ℕ)
+    (turns : ℕ) (old : Server) (out : List Offer) (new : Server) (now : List Offer) : Type 0 where
+  pub happened : List Happened
+  pub told : HeardMore ear later (events_in happened)
+  pub read : ReadEach ear later giving gave
+  pub each : length happened ≡ turns
+  pub did : WentOn happened old out new now
+  pub answers : AnswersAll happened old out held left calls after
+  pub counted : EachCounted happened faults count

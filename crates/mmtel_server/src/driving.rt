@@ -1,11 +1,19 @@
-//! Driving the server over a link.
-ghost use Rattle.std.specs.Prelude.{◌≡◌, ◌∷◌, [], OnErr, OnOk};
-ghost use Rattle.mmtel_server.specs.Driven.{CalledTimes, CalledWithin, Driven, HasDriveCause, WentOn};
+//! Driving the server over a link and a keeper.
+ghost use Rattle.std.specs.Prelude.{◌≡◌, ◌<◌, ◌*◌, ℕ, [], length, true, IfOk, Ok, OnErr, OnOk, Option, List};
+ghost use Rattle.mmtel_charging.specs.declared.rows.Row.{Row};
+ghost use Rattle.mmtel_http.specs.Requests.{request_of};
+ghost use Rattle.mmtel_link.specs.Told.{Ear, NextTold};
+ghost use Rattle.mmtel_server.specs.Driven.{CalledTimes, CalledWithin, Driven, HasDriveCause, StandsOrRose, calls_a_turn, reads_a_turn};
 ghost use Rattle.mmtel_server.specs.Stands.{BreaksOff};
-ghost use Rattle.mmtel_server.specs.Turns.{IsEventOf, Takes};
+ghost use Rattle.mmtel_server.specs.Stepped.{AskedIn, Stepped, StoppedAt, happened_in};
+ghost use Rattle.mmtel_server.specs.Turns.{HasRead, IsReading, ReadsOn, Takes, is_unfinished};
+ghost use Rattle.mmtel_web.specs.Answers.{Kept};
 
 use crate::laws::servers_offer_what_runs_give;
 use crate::servers::Server;
+use mmtel_http::laws::whole_requests_stand;
+use mmtel_http::{Whole, whole};
+use mmtel_keeper::Keeper;
 use mmtel_link::{Arrival, Event, Link};
 use mmtel_outside::Offer;
 use mmtel_run::enough_comes;
@@ -13,25 +21,98 @@ use mmtel_scan::{List, NoMemory, Text};
 use mmtel_types::Failed;
 use std::alloc::Global;
 
+/// How many bytes one read takes at most.
+const ROOM: usize = 4096;
+
+/// How often one connection is read at most: each read but the last gives a byte of a request that is not whole yet, and such a one is no longer than the greatest head and the greatest body.
+const READS: u64 = 8192 + 65_536 + 1;
+
 /// Why driving ended before its turns were made and before the link was closed.
 #[derive(Clone, Copy, Debug, PartialEq, Eq)]
 pub enum DriveFault {
     /// The link could not take in what comes next. It was counted there.
     LinkFault,
-    /// Memory ran out, in the link or in a step of the server.
+    /// Memory ran out, in the link, in reading a connection or in a step of the server.
     NoMemory,
 }
 
-/// The event that an arrival is, if it is one. Of a web connection nothing is read.
-fn event_of(arrival: Arrival) -> Result<Option<Event>, DriveFault>
-    ensures { IsEventOf arrival result }
+impl From<NoMemory> for DriveFault {
+    ghost use Rattle.mmtel_server.specs.declared.driving.DriveFault.TheVariants as fault;
+
+    ghost from_gives = { λ _ e. e ≡ fault.NoMemory };
+
+    fn from(_error: NoMemory) -> DriveFault {
+        DriveFault::NoMemory
+    }
+}
+
+/// Reads once of the connection that came last, behind what was read of it. False at its end, and where the read fails, which ends it too.
+fn read_more<L: Link>(alloc: Global, link: &mut L, bytes: &mut Text) -> Result<bool, NoMemory>
+    ensures read { (ear : Option Ear) → IsReading ear (L.ear link.old) bytes.old → ReadsOn ear (L.ear link.new) (L.giving link.old) (L.giving link.new) bytes.new result }
+    ensures more { IfOk result (λ more. more ≡ true → length bytes.old < length bytes.new) }
+    ensures stands { IfOk result (λ more. more ≡ true → L.giving link.new ≡ L.giving link.old) }
+    ensures giving { StandsOrRose (L.giving link.old) (L.giving link.new) }
+    ensures given { L.given link.new ≡ L.given link.old }
+    ensures calls { CalledTimes (L.calls link.old) (L.calls link.new) 1 }
+    ensures taking { L.taking link.new ≡ L.taking link.old }
+{
+    let mut room = [0; ROOM];
+    match link.web_read(&mut room) {
+        Ok(0) => Ok(false),
+        Ok(count) => {
+            bytes.push(alloc, &room[..count])?;
+            Ok(true)
+        }
+        Err(Failed) => Ok(false),
+    }
+}
+
+/// Whether more bytes can make a request of these.
+fn is_unfinished(bytes: &[u8]) -> bool
+    ensures { result ≡ is_unfinished (request_of bytes.now) }
+{
+    matches!(whole(bytes), Whole::More)
+}
+
+/// Reads the connection that came last: until its bytes are a request, or can be none, or it is at its end, or a read fails (RFC 9112 §6.3).
+fn read_request<L: Link>(alloc: Global, link: &mut L) -> Result<Text, NoMemory>
+    ensures read { (ear : Option Ear) → IsReading ear (L.ear link.old) [] → HasRead ear (L.ear link.new) (L.giving link.old) (L.giving link.new) result }
+    ensures giving { StandsOrRose (L.giving link.old) (L.giving link.new) }
+    ensures given { L.given link.new ≡ L.given link.old }
+    ensures calls { CalledWithin (L.calls link.old) (L.calls link.new) reads_a_turn }
+    ensures taking { L.taking link.new ≡ L.taking link.old }
+{
+    whole_requests_stand();
+    let mut bytes = Text::new();
+    for _read in 0..READS {
+        if !is_unfinished(bytes.bytes()) {
+            return Ok(bytes);
+        }
+        if !read_more(alloc, link, &mut bytes)? {
+            return Ok(bytes);
+        }
+    }
+    Ok(bytes)
+}
+
+/// The event that an arrival is, if it is one. Of a web connection it has the bytes that are read.
+fn event_of<L: Link>(
+    alloc: Global,
+    link: &mut L,
+    arrival: Arrival,
+) -> Result<Option<Event>, DriveFault>
+    ensures heard { (ear : Option Ear) → NextTold ear (L.ear link.old) (Ok arrival) → Takes ear (L.ear link.new) (L.giving link.old) (L.giving link.new) result }
+    ensures giving { StandsOrRose (L.giving link.old) (L.giving link.new) }
+    ensures given { L.given link.new ≡ L.given link.old }
+    ensures calls { CalledWithin (L.calls link.old) (L.calls link.new) reads_a_turn }
+    ensures cause { HasDriveCause (L.taking link.old) (L.taking link.new) result }
 {
     match arrival {
         Arrival::Datagram { from, at, bytes } => Ok(Some(Event::Datagram { from, at, bytes })),
-        Arrival::Web { at } => Ok(Some(Event::Web {
-            at,
-            bytes: Text::new(),
-        })),
+        Arrival::Web { at } => {
+            let bytes = read_request(alloc, link)?;
+            Ok(Some(Event::Web { at, bytes }))
+        }
         Arrival::Quiet { at } => Ok(Some(Event::Quiet { at })),
         Arrival::Closed => Ok(None),
         Arrival::NoMemory => Err(DriveFault::NoMemory),
@@ -40,54 +121,61 @@ fn event_of(arrival: Arrival) -> Result<Option<Event>, DriveFault>
 
 /// The event that comes next, or None where the link is closed.
 fn take<L: Link>(alloc: Global, link: &mut L) -> Result<Option<Event>, DriveFault>
-    ensures heard { Takes (L.ear link.old) (L.ear link.new) result }
+    ensures heard { Takes (L.ear link.old) (L.ear link.new) (L.giving link.old) (L.giving link.new) result }
+    ensures giving { StandsOrRose (L.giving link.old) (L.giving link.new) }
     ensures given { L.given link.new ≡ L.given link.old }
-    ensures calls { CalledTimes (L.calls link.old) (L.calls link.new) 1 }
-    ensures giving { L.giving link.new ≡ L.giving link.old }
+    ensures calls { CalledWithin (L.calls link.old) (L.calls link.new) calls_a_turn }
     ensures cause { HasDriveCause (L.taking link.old) (L.taking link.new) result }
 {
     match link.next(alloc) {
-        Ok(arrival) => event_of(arrival),
+        Ok(arrival) => event_of(alloc, link, arrival),
         Err(Failed) => Err(DriveFault::LinkFault),
     }
 }
 
 /// Does an event.
-fn meet(
+fn meet<K: Keeper>(
     alloc: Global,
     server: &mut Server,
     event: Event,
+    keeper: &mut K,
     out: &mut List<Offer>,
 ) -> Result<(), NoMemory>
-    ensures done { OnOk result (WentOn (event ∷ []) server.old out.old server.new out.new) }
-    ensures err { OnErr result (BreaksOff server.old out.old out.new event) }
+    ensures done { OnOk result (Stepped server.old out.old server.new out.new event
+        (K.held keeper.old) (K.held keeper.new) (K.calls keeper.old) (K.calls keeper.new) (K.faults keeper.old) (K.faults keeper.new)) }
+    ensures err { OnErr result ((kept : Kept) (rows : List Row) → BreaksOff server.old out.old out.new (happened_in event kept rows)) }
+    ensures met { OnErr result (StoppedAt (λ kept rows. AskedIn server.old out.old event kept rows (K.held keeper.old) (K.held keeper.new) (K.calls keeper.old) (K.calls keeper.new))
+        (K.faults keeper.old) (K.faults keeper.new)) }
 {
-    server.step(alloc, &event, out)
+    server.step(alloc, &event, keeper, out)
 }
 
-/// Takes events of a link and does each of them, until the link is closed or so many turns were made; a turn is one call of the link's `next`. What the server offers is added behind what stands in `out`. True exactly where the link is closed, and false exactly where each turn took an event.
+/// Takes events of a link and does each of them, until the link is closed or so many turns were made; a turn is one call of the link's `next`, and of a web connection the reads until its request is whole. What the server offers, replies on web connections among it, is added behind what stands in `out`; nothing is sent. Records are kept by the keeper. True exactly where the link is closed, and false exactly where each turn took an event.
 ///
 /// # Errors
 ///
-/// `LinkFault` only where the link's count of taking in rose: the first `next` that fails ends it, and the server and the offers stand as after the events that were taken before. `NoMemory` where memory ran out in the link or in a step; a front of the last event's offers may then have been added.
-pub fn drive<L: Link>(
+/// `LinkFault` only where the link's count of taking in rose: the first `next` that fails ends it, and the server, the keeper and the offers stand as after the events that were taken before. `NoMemory` where memory ran out in the link, in reading a connection or in a step; a front of the last event's offers may then have been added, and its record kept. A read that fails is no error: it ends its connection, of which the bytes before it count.
+pub fn drive<L: Link, K: Keeper>(
     alloc: Global,
     server: &mut Server,
     link: &mut L,
+    keeper: &mut K,
     turns: u64,
     out: &mut List<Offer>,
 ) -> Result<bool, DriveFault>
-    ensures driven { Driven (L.ear link.old) (L.ear link.new) turns server.old out.old server.new out.new result }
+    ensures driven { Driven (L.ear link.old) (L.ear link.new) (L.giving link.old) (L.giving link.new)
+        (K.held keeper.old) (K.held keeper.new) (K.calls keeper.old) (K.calls keeper.new) (K.faults keeper.old) (K.faults keeper.new)
+        turns server.old out.old server.new out.new result }
     ensures given { L.given link.new ≡ L.given link.old }
-    ensures calls { CalledWithin (L.calls link.old) (L.calls link.new) turns }
-    ensures giving { L.giving link.new ≡ L.giving link.old }
+    ensures giving { StandsOrRose (L.giving link.old) (L.giving link.new) }
+    ensures calls { CalledWithin (L.calls link.old) (L.calls link.new) (turns * calls_a_turn) }
     ensures cause { HasDriveCause (L.taking link.old) (L.taking link.new) result }
 {
     enough_comes();
     servers_offer_what_runs_give();
     'turns: for _turn in 0..turns {
         match take(alloc, link) {
-            Ok(Some(event)) => match meet(alloc, server, event, out) {
+            Ok(Some(event)) => match meet(alloc, server, event, keeper, out) {
                 Ok(()) => {}
                 Err(NoMemory) => return Err(DriveFault::NoMemory),
             },

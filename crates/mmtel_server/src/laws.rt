@@ -1,6 +1,7 @@
 //! Laws of what a server went through: each is the contract of a function that does nothing.
-ghost use Rattle.mmtel_server.specs.Laws.{WentGives, WentSeesAlike};
+ghost use Rattle.mmtel_server.specs.Laws.{ReadOutSaysAll, UnfailedAreReadOut, WentGives, WentSeesAlike};
 
+use mmtel_http::laws::whole_requests_stand;
 use mmtel_run::runs_keep_the_secret;
 
 /// Whatever a server went through from its beginning, it offered exactly what the run gives.
@@ -10,4 +11,12 @@ pub fn servers_offer_what_runs_give()
     ensures secret { WentSeesAlike }
 {
     runs_keep_the_secret();
+}
+
+/// Where no read of a link failed, each web connection was read out; and what was not read of one that was read out changes nothing of what is asked.
+pub fn connections_are_read_out()
+    ensures unfailed { UnfailedAreReadOut }
+    ensures all { ReadOutSaysAll }
+{
+    whole_requests_stand();
 }

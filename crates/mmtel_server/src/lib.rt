@@ -6,5 +6,5 @@ mod laws;
 mod servers;
 
 pub use driving::{DriveFault, drive};
-pub use laws::servers_offer_what_runs_give;
+pub use laws::{connections_are_read_out, servers_offer_what_runs_give};
 pub use servers::Server;

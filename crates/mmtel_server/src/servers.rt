@@ -3,10 +3,12 @@
 mod deadlines;
 mod deeds;
 mod messages;
+mod requests;
 mod steps;
 
 use mmtel_charging::Row;
 use mmtel_directory::Directory;
+use mmtel_in_force::Records;
 use mmtel_scan::List;
 use mmtel_transaction::{Tokens, Transactions};
 use mmtel_types::Moment;
@@ -20,6 +22,8 @@ pub struct Server {
     tokens: Tokens,
     /// The transactions.
     transactions: Transactions,
+    /// The records in force, and the registrations.
+    records: Records,
     /// The greatest moment so far.
     clock: Moment,
     /// How many events came and deadlines fired.

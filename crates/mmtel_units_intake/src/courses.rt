@@ -1,6 +1,6 @@
 //! What is done with requests.
 
-use crate::heard::{add_request, directory, hearing};
+use crate::heard::{add_request, add_request_to, directory, hearing};
 use crate::told::Told;
 use mmtel_answers::Aim;
 use mmtel_directory::Directory;
@@ -9,7 +9,7 @@ use mmtel_message::Line;
 use mmtel_scan::part;
 use std::test::Fail;
 
-/// A row is a request: `m` where it is merged, `t` where To has a tag, its method and Request-URI, and further lines, each ended by `|`. Below it stands what is done with it.
+/// A row is a request: `m` where it is merged and `u` where its peer is not trusted, `t` where To has a tag and `x` where it names no account, its method and Request-URI, and further lines, each ended by `|`. Below it stands what is done with it.
 const TABLE: &[u8] = br##"> -- INFO sip:bob@home.example
 405 Allow: INVITE, ACK, CANCEL, BYE, OPTIONS, REGISTER, REFER
 > -- INFO sips:bob@home.example
@@ -41,7 +41,25 @@ const TABLE: &[u8] = br##"> -- INFO sip:bob@home.example
 > -- REFER sip:bob@home.example|Refer-To: <sip:vm@far.example>|
 403
 > -- REGISTER sip:home.example
-unbuilt
+register 7 3600
+> -- REGISTER sip:other.example|Expires: 0|
+register 7 0
+> -- REGISTER sip:home.example|Expires: 4294967295|
+register 7 4294967295
+> -- REGISTER sip:home.example|Expires: 4294967296|
+register 7 3600
+> -- REGISTER sip:home.example|Expires: -1|
+register 7 3600
+> -x REGISTER sip:home.example
+404
+> u- REGISTER sip:home.example
+403
+> ux REGISTER sip:home.example
+403
+> -t REGISTER sip:home.example
+481
+> u- REGISTER sip:home.example|Require: path|
+420 Unsupported: path
 > -- INVITE sip:bob@home.example|Require: histinfo|
 open 1 sip:bob@home.example "Bob" <sip:bob@home.example>
 > -- INVITE sip:vm@far.example
@@ -113,18 +131,28 @@ fn tell_course(told: &mut Told, course: &Course) {
     match course {
         Course::Refuse(answer) => tell_answer(told, answer),
         Course::Open(aim) => tell_aim(told, aim),
+        Course::Register { account, seconds } => {
+            told.add(b"register ");
+            told.add_number(u64::from(account.0));
+            told.add(b" ");
+            told.add_number(*seconds);
+        }
         Course::Unbuilt => told.add(b"unbuilt"),
     }
     told.add(b"\n");
 }
 
 /// Tells what is done with the request of a row.
-fn tell_row(told: &mut Told, directory: &Directory, merged: bool, tagged: bool, row: &[u8]) {
+fn tell_row(told: &mut Told, directory: &Directory, whence: u8, to: u8, row: &[u8]) {
     let (start, further) = part(b'|', row).unwrap_or((row, b""));
     let mut text = Told::new(told.alloc);
-    add_request(&mut text, tagged, start, further);
-    if let Some(request) = hearing(told, text.whole(), true) {
-        let course = course(told.alloc, directory, merged, &request);
+    if to == b'x' {
+        add_request_to(&mut text, b"<sip:eve@home.example>", start, further);
+    } else {
+        add_request(&mut text, to == b't', start, further);
+    }
+    if let Some(request) = hearing(told, text.whole(), whence != b'u') {
+        let course = course(told.alloc, directory, whence == b'm', &request);
         if let Some(course) = told.noted(course) {
             tell_course(told, &course);
         }
@@ -133,10 +161,10 @@ fn tell_row(told: &mut Told, directory: &Directory, merged: bool, tagged: bool, 
 
 fn tell_line(told: &mut Told, directory: &Directory, line: &[u8]) {
     match line {
-        [b'>', b' ', merged, tagged, b' ', row @ ..] => {
+        [b'>', b' ', whence, to, b' ', row @ ..] => {
             told.add(line);
             told.add(b"\n");
-            tell_row(told, directory, *merged == b'm', *tagged == b't', row);
+            tell_row(told, directory, *whence, *to, row);
         }
         _ => {}
     }

@@ -49,9 +49,7 @@ CSeq: 7 OPTIONS
 Content-Length: 0
 
 web 14
-unbuilt
 quiet 15
-nothing
 "##;
 
 fn tell_place(report: &mut Report, word: &[u8], peer: Peer, source: Addr) {
@@ -81,19 +79,20 @@ fn tell_told(report: &mut Report, told: &Told) {
                 b"\n"
             });
         }
-        Told::Unbuilt => report.add(b"unbuilt\n"),
     }
 }
 
-/// Tells what is read of an event.
+/// Tells the moment of an event, and what is read of a datagram.
 fn tell(report: &mut Report, directory: &Directory, word: &[u8], event: &Event) {
     report.add(word);
     report.add(b" ");
     report.add_number(moment(event).ms());
     report.add(b"\n");
-    let told = digest(report.alloc, directory, event);
-    if let Some(told) = report.noted(told) {
-        tell_told(report, &told);
+    if let Event::Datagram { from, bytes, .. } = event {
+        let told = digest(report.alloc, directory, *from, bytes.bytes());
+        if let Some(told) = report.noted(told) {
+            tell_told(report, &told);
+        }
     }
 }
 
@@ -187,7 +186,7 @@ fn tell_others(report: &mut Report, directory: &Directory) {
     }
 }
 
-/// A message of a trusted peer and of another one, a datagram of nobody, each fault of reading, and what is not built.
+/// A message of a trusted peer and of another one, a datagram of nobody, each fault of reading, and the moments of all events.
 #[test]
 fn reads(rt: HostRuntime) -> Result<(), Fail> {
     let mut report = Report::new(rt.alloc());

@@ -21,6 +21,7 @@ route home.example 1
 route far.example 2
 route 127.0.0.1 1
 factory sip:conf@home.example
+account 7 sip:bob@home.example
 "##;
 
 /// The configuration of the tests.
@@ -51,14 +52,22 @@ pub fn hearing(told: &mut Told, bytes: &[u8], trusted: bool) -> Option<Hearing> 
 
 /// Adds a request with this start line but its version, a To tag or none, and further lines, each ended by `|`.
 pub fn add_request(told: &mut Told, tagged: bool, start: &[u8], further: &[u8]) {
+    let to: &[u8] = if tagged {
+        b"\"Bob\" <sip:bob@home.example>;tag=b"
+    } else {
+        b"\"Bob\" <sip:bob@home.example>"
+    };
+    add_request_to(told, to, start, further);
+}
+
+/// The same to this party.
+pub fn add_request_to(told: &mut Told, to: &[u8], start: &[u8], further: &[u8]) {
     let (method, _) = part(b' ', start).unwrap_or((start, b""));
     told.add(start);
     told.add(
-        b" SIP/2.0\r\nVia: SIP/2.0/UDP 127.0.0.1:5071;branch=z9hG4bKa1\r\nFrom: <sip:alice@home.example>;tag=a\r\nTo: \"Bob\" <sip:bob@home.example>",
+        b" SIP/2.0\r\nVia: SIP/2.0/UDP 127.0.0.1:5071;branch=z9hG4bKa1\r\nFrom: <sip:alice@home.example>;tag=a\r\nTo: ",
     );
-    if tagged {
-        told.add(b";tag=b");
-    }
+    told.add(to);
     told.add(b"\r\nCall-ID: c1\r\nContact: <sip:alice@127.0.0.1:5071>\r\nCSeq: 7 ");
     told.add(method);
     told.add(b"\r\n");

@@ -1,26 +1,63 @@
 //! A server, and what it hears in the runs of the tests.
 
-use mmtel_directory::read_directory;
+use mmtel_directory::{Directory, read_directory};
+use mmtel_keeper::MemoryKeeper;
 use mmtel_link::Event;
-use mmtel_scan::{List, Text};
+use mmtel_scan::{List, NoMemory, Text};
 use mmtel_server::Server;
-use mmtel_types::{Addr, Moment};
+use mmtel_types::{Account, Addr, Moment};
 use std::alloc::Global;
 
-/// A server with a trusted peer and one that is not.
+/// A trusted peer and one that is not, two accounts and an operator.
 const CONFIG: &str = "sip 127.0.0.1:5060
 home home.example
 peer 1 127.0.0.1:5071 trusted
 peer 2 127.0.0.1:5072 untrusted
 route home.example 1
 route far.example 2
+account 1 sip:alice@home.example tel:+4930111
+account 2 sip:bob@home.example
+operator sip:op@home.example
 ";
 
-/// A server of that configuration; None for want of memory.
-pub fn server(alloc: Global) -> Option<Server> {
-    let directory = read_directory(alloc, CONFIG.as_bytes()).ok()?;
+/// That configuration; None for want of memory.
+pub fn directory(alloc: Global) -> Option<Directory> {
+    read_directory(alloc, CONFIG.as_bytes()).ok()
+}
+
+/// The texts of records, each of an account.
+fn texts(alloc: Global, records: &[(u32, &str)]) -> Result<List<(Account, Text)>, NoMemory> {
+    let mut texts = List::new();
+    for (number, text) in records {
+        texts.push(alloc, (Account(*number), Text::of(alloc, text.as_bytes())?))?;
+    }
+    Ok(texts)
+}
+
+/// A server of a configuration over these loaded records; None for want of memory.
+pub fn server_over(alloc: Global, directory: Directory, records: &[(u32, &str)]) -> Option<Server> {
     let token = Text::of(alloc, b"0123456789abcdef").ok()?;
-    Some(Server::new(directory, token))
+    let texts = texts(alloc, records).ok()?;
+    Server::new(alloc, directory, token, texts.items()).ok()
+}
+
+/// A server of the tests' configuration, for which no record was loaded; None for want of memory.
+pub fn server(alloc: Global) -> Option<Server> {
+    server_over(alloc, directory(alloc)?, &[])
+}
+
+/// These numbers, as a list.
+pub fn numbers(alloc: Global, numbers: &[u64]) -> Result<List<u64>, NoMemory> {
+    let mut list = List::new();
+    for number in numbers {
+        list.push(alloc, *number)?;
+    }
+    Ok(list)
+}
+
+/// A keeper whose calls of these numbers fail; None for want of memory.
+pub fn keeper(alloc: Global, failing: &[u64]) -> Option<MemoryKeeper> {
+    Some(MemoryKeeper::new(numbers(alloc, failing).ok()?))
 }
 
 /// Erin calls bob, and asks that her identity be kept private.
@@ -58,6 +95,14 @@ at 0 to 2
 |CSeq: 1 INVITE
 |Contact: <sip:127.0.0.1:5060>
 |Content-Length: 0
+|
+";
+
+/// What is offered for a web connection on which nothing came.
+pub const UNASKED: &str = "at 200 web
+|HTTP/1.1 400 Bad Request
+|Content-Length: 0
+|Connection: close
 |
 ";
 

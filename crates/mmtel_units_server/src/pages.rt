@@ -21,11 +21,16 @@ impl Page {
         }
     }
 
-    /// Adds a text.
-    pub fn add(&mut self, alloc: Global, text: &str) {
-        if self.text.push(alloc, text.as_bytes()).is_err() {
+    /// Adds bytes.
+    pub fn add_bytes(&mut self, alloc: Global, bytes: &[u8]) {
+        if self.text.push(alloc, bytes).is_err() {
             self.failed = true;
         }
+    }
+
+    /// Adds a text.
+    pub fn add(&mut self, alloc: Global, text: &str) {
+        self.add_bytes(alloc, text.as_bytes());
     }
 
     /// Adds a blank, a number and LF.
@@ -43,11 +48,7 @@ impl Page {
     /// Adds the listing of offers.
     pub fn add_offers(&mut self, alloc: Global, offers: &List<Offer>) {
         match listing(alloc, offers) {
-            Ok(text) => {
-                if self.text.push(alloc, text.bytes()).is_err() {
-                    self.failed = true;
-                }
-            }
+            Ok(text) => self.add_bytes(alloc, text.bytes()),
             Err(_) => self.failed = true,
         }
     }

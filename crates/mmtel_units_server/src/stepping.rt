@@ -1,17 +1,24 @@
 //! Steps of a server.
 
-use crate::events::{AGAIN, Events, OPENING, server};
+use crate::events::{AGAIN, Events, OPENING, UNASKED, keeper, server};
 use crate::pages::Page;
+use mmtel_keeper::MemoryKeeper;
 use mmtel_link::Event;
 use mmtel_scan::List;
 use mmtel_server::Server;
 use std::alloc::Global;
 
 /// Does each of the events, and writes what is offered for all of them.
-fn step_all(alloc: Global, server: &mut Server, events: &[Event], page: &mut Page) {
+pub fn step_all(
+    alloc: Global,
+    server: &mut Server,
+    events: &[Event],
+    keeper: &mut MemoryKeeper,
+    page: &mut Page,
+) {
     let mut out = List::new();
     for event in events {
-        if server.step(alloc, event, &mut out).is_err() {
+        if server.step(alloc, event, keeper, &mut out).is_err() {
             page.fail();
         }
     }
@@ -19,30 +26,30 @@ fn step_all(alloc: Global, server: &mut Server, events: &[Event], page: &mut Pag
 }
 
 /// The same of the run of the tests, with the charging rows that wait.
-fn run_all(alloc: Global, mut server: Server, page: &mut Page) {
+fn run_all(alloc: Global, mut server: Server, mut keeper: MemoryKeeper, page: &mut Page) {
     let mut events = Events::new();
     events.add_run(alloc);
     if events.failed {
         page.fail();
     }
-    step_all(alloc, &mut server, events.list.items(), page);
+    step_all(alloc, &mut server, events.list.items(), &mut keeper, page);
     page.add(alloc, "rows");
     page.add_number(alloc, server.rows_waiting().len());
     server.give_up();
 }
 
-/// An opening, a form that is not built yet, a datagram that is dropped, and a deadline that fires at its own moment.
+/// An opening, a web connection on which nothing came, a datagram that is dropped, and a deadline that fires at its own moment.
 #[test]
 fn steps_of_a_run(rt: HostRuntime) {
     let alloc = rt.alloc();
     let mut page = Page::new();
-    match server(alloc) {
-        None => page.fail(),
-        Some(server) => run_all(alloc, server, &mut page),
+    match (server(alloc), keeper(alloc, &[])) {
+        (Some(server), Some(keeper)) => run_all(alloc, server, keeper, &mut page),
+        _ => page.fail(),
     }
     let mut due = Page::new();
     due.add(alloc, OPENING);
-    due.add(alloc, "at 200 unbuilt\n");
+    due.add(alloc, UNASKED);
     due.add(alloc, AGAIN);
     due.add(alloc, "rows 0\n");
     assert!(rt; due.is_like(&page));

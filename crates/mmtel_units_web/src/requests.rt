@@ -3,13 +3,14 @@
 ghost use Rattle.http.specs.StatusCode.{IsStatusCode};
 
 use crate::pages::{Answers, Page, answered};
-use mmtel_charging::rows_text;
-use mmtel_keeper::{KeepFault, Keeper, MemoryKeeper};
+use mmtel_in_force::Records;
+use mmtel_keeper::MemoryKeeper;
 use mmtel_lex::read_uri;
 use mmtel_scan::{List, Text};
+use mmtel_serving::serve;
 use mmtel_trust::Accounts;
 use mmtel_types::Account;
-use mmtel_web::{SheetTexts, Web, WebDirectory, Whole, answer, reply, whole};
+use mmtel_web::{Web, WebDirectory, Whole, answer, reply, whole};
 use std::alloc::Global;
 use std::test::Fail;
 
@@ -45,7 +46,7 @@ fn directory(alloc: Global) -> (WebDirectory, bool) {
 #[derive(Drop)]
 struct Server {
     directory: WebDirectory,
-    texts: SheetTexts,
+    records: Records,
     keeper: MemoryKeeper,
 }
 
@@ -84,7 +85,7 @@ fn add_web(page: &mut Page, alloc: Global, web: &Web) {
 }
 
 fn add_asked(page: &mut Page, alloc: Global, server: &Server, bytes: &[u8]) {
-    match answer(alloc, &server.directory, &server.texts, bytes) {
+    match answer(alloc, &server.directory, server.records.texts(), bytes) {
         Ok(web) => add_web(page, alloc, &web),
         Err(_) => page.failed = true,
     }
@@ -108,47 +109,29 @@ fn add_reply(page: &mut Page, alloc: Global, code: u16, body: &[u8])
     }
 }
 
+fn add_waiting(page: &mut Page, alloc: Global, waiting: Option<u8>) {
+    match waiting {
+        Some(2) => page.add(alloc, b" two calls"),
+        Some(_) => page.add(alloc, b" more"),
+        None => {}
+    }
+}
+
 impl Server {
-    /// Keeps a record, and puts it in force where it was kept.
-    fn store(&mut self, page: &mut Page, alloc: Global, account: Account, text: Text, kept: &Text) {
-        if self.texts.reserve(alloc).is_err() {
-            page.failed = true;
-            return;
-        }
-        match self.keeper.store(alloc, account, text.bytes()) {
-            Ok(()) => {
-                self.texts.replace(account, text);
-                page.add_shown(alloc, kept.bytes());
-            }
-            Err(KeepFault::Failed) => add_reply(page, alloc, 503, b""),
-            Err(KeepFault::NoMemory) => page.failed = true,
-        }
-    }
-
-    fn charges(&mut self, page: &mut Page, alloc: Global) {
-        match self.keeper.rows(alloc) {
-            Ok(rows) => match rows_text(alloc, rows.items()) {
-                Ok(text) => add_reply(page, alloc, 200, text.bytes()),
-                Err(_) => page.failed = true,
-            },
-            Err(KeepFault::Failed) => add_reply(page, alloc, 503, b""),
-            Err(KeepFault::NoMemory) => page.failed = true,
-        }
-    }
-
+    /// Answers a request; then, where bob's record is not the empty one, how many calls he may have.
     fn serve(&mut self, page: &mut Page, alloc: Global, bytes: &[u8]) {
-        match answer(alloc, &self.directory, &self.texts, bytes) {
-            Ok(Web::Read(text)) => page.add_shown(alloc, text.bytes()),
-            Ok(
-                Web::Store {
-                    account,
-                    text,
-                    reply,
-                    ..
-                },
-            ) => self.store(page, alloc, account, text, &reply),
-            Ok(Web::Charges) => self.charges(page, alloc),
+        match serve(
+            alloc,
+            &self.directory,
+            &mut self.records,
+            &mut self.keeper,
+            bytes,
+        ) {
+            Ok(served) => page.add_shown(alloc, served.reply.bytes()),
             Err(_) => page.failed = true,
+        }
+        if let Some(sheet) = self.records.sheet(Account(2)) {
+            add_waiting(page, alloc, sheet.waiting);
         }
     }
 }
@@ -170,7 +153,7 @@ fn make_server(alloc: Global, one: u64, other: u64) -> (Server, bool) {
     right = failing.push(alloc, other).is_ok() && right;
     let server = Server {
         directory,
-        texts: SheetTexts::new(),
+        records: Records::new(alloc),
         keeper: MemoryKeeper::new(failing),
     };
     (server, right)
@@ -180,7 +163,7 @@ fn make_server(alloc: Global, one: u64, other: u64) -> (Server, bool) {
 fn asked(alloc: Global, table: &[u8]) -> Page {
     let (mut server, right) = make_server(alloc, 1, 2);
     let held = match Text::of(alloc, b"a = 1") {
-        Ok(text) => server.texts.put(alloc, Account(1), text).is_ok(),
+        Ok(text) => server.records.put(alloc, Account(1), text).is_ok(),
         Err(_) => false,
     };
     let mut page = answered(alloc, table, &mut Asking { server });
@@ -409,26 +392,26 @@ fn requests_and_replies(rt: HostRuntime) -> Result<(), Fail> {
     Ok(())
 }
 
-/// Uploads of one account one after another: the record in force is the last that was kept, and a failed call of the keeper leaves it.
+/// Uploads of one account one after another, and behind each answer how many calls bob's record in force lets him have: it is the last that was kept, and a failed call of the keeper leaves it.
 const UPLOADS: &[u8] =
     b"> PUT /simservs/2 HTTP/1.1%~X-3GPP-Asserted-Identity: \"sip:bob@home.example\"%~Content-Type: application/toml%~Content-Length: 38%~%~[communication-waiting]~active = true~
-HTTP/1.1 200 OK%~Content-Length: 0%~Connection: close%~%~
+HTTP/1.1 200 OK%~Content-Length: 0%~Connection: close%~%~ two calls
 > PUT /simservs/2 HTTP/1.1%~X-3GPP-Asserted-Identity: \"sip:bob@home.example\"%~Content-Type: application/toml%~Content-Length: 38%~%~[communication-waiting]~active = true~
-HTTP/1.1 200 OK%~Content-Length: 0%~Connection: close%~%~
+HTTP/1.1 200 OK%~Content-Length: 0%~Connection: close%~%~ two calls
 > GET /simservs/2 HTTP/1.1%~X-3GPP-Asserted-Identity: \"sip:bob@home.example\"%~%~
-HTTP/1.1 200 OK%~Content-Type: application/toml%~Content-Length: 38%~Connection: close%~%~[communication-waiting]~active = true~
+HTTP/1.1 200 OK%~Content-Type: application/toml%~Content-Length: 38%~Connection: close%~%~[communication-waiting]~active = true~ two calls
 > GET /simservs/1 HTTP/1.1%~X-3GPP-Asserted-Identity: \"sip:alice@home.example\"%~%~
-HTTP/1.1 200 OK%~Content-Length: 0%~Connection: close%~%~
+HTTP/1.1 200 OK%~Content-Length: 0%~Connection: close%~%~ two calls
 > PUT /simservs/2 HTTP/1.1%~X-3GPP-Asserted-Identity: \"sip:alice@home.example\"%~Content-Type: application/toml%~Content-Length: 38%~%~[communication-waiting]~active = true~
-HTTP/1.1 403 Forbidden%~Content-Length: 0%~Connection: close%~%~
+HTTP/1.1 403 Forbidden%~Content-Length: 0%~Connection: close%~%~ two calls
 > PUT /simservs/2 HTTP/1.1%~X-3GPP-Asserted-Identity: \"sip:eve@other.example\"%~Content-Type: application/toml%~Content-Length: 38%~%~[communication-waiting]~active = true~
-HTTP/1.1 403 Forbidden%~Content-Length: 0%~Connection: close%~%~
+HTTP/1.1 403 Forbidden%~Content-Length: 0%~Connection: close%~%~ two calls
 > PUT /simservs/2 HTTP/1.1%~X-3GPP-Asserted-Identity: \"sip:bob@home.example\"%~Content-Type: application/toml%~Content-Length: 23%~%~[communication-waitin]~
-HTTP/1.1 409 Conflict%~Content-Type: text/plain%~Content-Length: 29%~Connection: close%~%~unknown communication-waitin~
+HTTP/1.1 409 Conflict%~Content-Type: text/plain%~Content-Length: 29%~Connection: close%~%~unknown communication-waitin~ two calls
 > DELETE /simservs/2 HTTP/1.1%~X-3GPP-Asserted-Identity: \"sip:bob@home.example\"%~%~
-HTTP/1.1 503 Service Unavailable%~Content-Length: 0%~Connection: close%~%~
+HTTP/1.1 503 Service Unavailable%~Content-Length: 0%~Connection: close%~%~ two calls
 > GET /simservs/2 HTTP/1.1%~X-3GPP-Asserted-Identity: \"sip:bob@home.example\"%~%~
-HTTP/1.1 200 OK%~Content-Type: application/toml%~Content-Length: 38%~Connection: close%~%~[communication-waiting]~active = true~
+HTTP/1.1 200 OK%~Content-Type: application/toml%~Content-Length: 38%~Connection: close%~%~[communication-waiting]~active = true~ two calls
 > DELETE /simservs/2 HTTP/1.1%~X-3GPP-Asserted-Identity: \"sip:bob@home.example\"%~%~
 HTTP/1.1 200 OK%~Content-Length: 0%~Connection: close%~%~
 > GET /simservs/2 HTTP/1.1%~X-3GPP-Asserted-Identity: \"sip:bob@home.example\"%~%~
@@ -478,7 +461,7 @@ fn add_early(page: &mut Page, alloc: Global, server: &Server, bytes: &[u8]) {
         Whole::More | Whole::Bad => {}
         _ => page.add(alloc, b"!"),
     }
-    match answer(alloc, &server.directory, &server.texts, bytes) {
+    match answer(alloc, &server.directory, server.records.texts(), bytes) {
         Ok(Web::Read(text)) => {
             if !text.bytes().starts_with(b"HTTP/1.1 400 ".as_slice()) {
                 page.add(alloc, b"!");

@@ -2,5 +2,6 @@
 pub mod Parties
 pub mod Answers
 pub mod Agreed
+pub mod Uploads
 
 -- What private functions alone cite: nothing.

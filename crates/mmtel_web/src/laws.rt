@@ -8,6 +8,7 @@ ghost use Rattle.mmtel_sheet_texts.specs.Texts.{text_at};
 ghost use Rattle.mmtel_web.specs.Agreed.{AgreeOnIdentities, AsksOf};
 ghost use Rattle.mmtel_web.specs.Answers.{Kept, web_of, web_reply};
 ghost use Rattle.mmtel_web.specs.Parties.{identity_of, may_ask};
+ghost use Rattle.mmtel_web.specs.Uploads.{OnlyRepliesSeeTexts, UploadsSayTheirText, UploadsSeeNoText};
 ghost use Rattle.mmtel_web.specs.declared.answers.Web.TheVariants as web;
 ghost use Rattle.mmtel_directory.specs.declared.directories.WebDirectory.{WebDirectory};
 
@@ -27,4 +28,11 @@ pub fn uploads_are_of_one_account()
         → AsksOf account a → web_of d s (asked a) ≡ web.Store b sheet text reply → account ≡ b }
     ensures allowed { (account b : Account) (d : WebDirectory) (s : List (Account × List ℕ)) (a : Asking) (sheet : Sheet) (text reply : List ℕ)
         → AsksOf account a → web_of d s (asked a) ≡ web.Store b sheet text reply → may_ask d.accounts account (identity_of a.identity) ≡ true }
+{}
+
+/// A law, and no code: what is done for a request rests on the texts in force only in what a reply reads, so what it asks to keep does not; and what is to be put in force is what the text says that is kept.
+pub fn uploads_are_what_they_say()
+    ensures replies { OnlyRepliesSeeTexts }
+    ensures any { UploadsSeeNoText }
+    ensures said { UploadsSayTheirText }
 {}

@@ -23,6 +23,7 @@ impl Server {
     /// A step begins: deadlines that are armed in it carry its number.
     pub(super) fn begin(&mut self)
         ensures done { (out : List Offer) → Follows self.old out self.new out (λ d token. begun) }
+        ensures directory { self.new.directory ≡ self.old.directory }
     {
         self.transactions.begin(self.steps);
         self.steps = self.steps.saturating_add(1);

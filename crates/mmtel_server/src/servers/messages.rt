@@ -5,7 +5,8 @@ ghost use Rattle.mmtel_intake.specs.Courses.{answer_in, course_in};
 ghost use Rattle.mmtel_intake.specs.Told.{digest_in};
 ghost use Rattle.mmtel_message.specs.Message.{Message};
 ghost use Rattle.mmtel_message.specs.declared.messages.Start.{Start};
-ghost use Rattle.mmtel_run.specs.World.{answering, met, opening, refusing, repeating, replying, replying_plainly, taking, taking_fresh, told, unbuilt};
+ghost use Rattle.mmtel_run.specs.Records.{until_of};
+ghost use Rattle.mmtel_run.specs.World.{answering, met, opening, refusing, registered, repeating, replying, replying_plainly, taking, taking_fresh, told, unbuilt};
 ghost use Rattle.mmtel_server.specs.Follows.{Breaks, Follows, IsTaken};
 
 use crate::servers::Server;
@@ -19,8 +20,20 @@ use mmtel_outside::Offer;
 use mmtel_scan::{List, NoMemory, Text};
 use mmtel_transaction::laws::numbers_are_distinct;
 use mmtel_transaction::{HearFault, Heard, TKey};
-use mmtel_types::{Addr, Moment, Peer};
+use mmtel_types::limits::LAST_MOMENT;
+use mmtel_types::{Account, Addr, Moment, Peer};
 use std::alloc::Global;
+
+/// The moment so many seconds from now, or the last one that there is.
+fn until(now: Moment, seconds: u64) -> Moment
+    ensures { result ≡ until_of now seconds }
+{
+    let until = now.ms().saturating_add(seconds.saturating_mul(1000));
+    match Moment::new(until.min(LAST_MOMENT)) {
+        Some(moment) => moment,
+        None => unreachable!(),
+    }
+}
 
 /// Answers of the server's own.
 impl Server {
@@ -105,6 +118,24 @@ impl Server {
         Ok(())
     }
 
+    /// Registers an account for so many seconds, and answers (RFC 3261 §10.3).
+    fn register(
+        &mut self,
+        alloc: Global,
+        key: TKey,
+        request: &Hearing,
+        account: Account,
+        seconds: u64,
+        at: Moment,
+        out: &mut List<Offer>,
+    ) -> Result<(), NoMemory>
+        ensures done { OnOk result (Follows self.old out.old self.new out.new (λ d token. registered d token at key request.now account seconds)) }
+        ensures err { OnErr result (out.new ≡ out.old) }
+    {
+        self.records.register(account, until(at, seconds))?;
+        self.replying(alloc, key, request, &plainly(200), at, out)
+    }
+
     /// Notes an event of a form that is not built yet.
     pub(super) fn pass_over(
         &mut self,
@@ -134,6 +165,9 @@ impl Server {
         match course {
             Course::Refuse(answer) => self.replying(alloc, key, request, &answer, at, out),
             Course::Open(aim) => self.open(alloc, key, request, aim, at, out),
+            Course::Register { account, seconds } => {
+                self.register(alloc, key, request, account, seconds, at, out)
+            }
             Course::Unbuilt => self.pass_over(alloc, at, out),
         }
     }
@@ -278,7 +312,7 @@ impl Server {
         }
     }
 
-    /// Meets an event at a moment of the clock, by what was read of it.
+    /// Meets a datagram, or the passing of time, at a moment of the clock, by what was read of it.
     ///
     /// # Errors
     ///
@@ -301,7 +335,6 @@ impl Server {
                 reply,
             } => self.refusing(alloc, peer, source, &reply, at, out),
             Told::Heard(heard) => self.hear(alloc, heard, at, out),
-            Told::Unbuilt => self.pass_over(alloc, at, out),
         }
     }
 }

@@ -1,22 +1,32 @@
 //! The steps of a run: the deadlines that are due by an event fire, and then it is met.
-ghost use Rattle.std.specs.Prelude.{◌≡◌, ℕ, List, IsErr, OnErr, OnOk, [], false, max, true};
+ghost use Rattle.std.specs.Prelude.{◌≡◌, ℕ, List, IfOk, IsErr, OnErr, OnOk, [], false, max, true};
+ghost use Rattle.mmtel_charging.specs.declared.rows.Row.{Row};
 ghost use Rattle.mmtel_directory.specs.declared.directories.Directory.{Directory};
+ghost use Rattle.mmtel_in_force.specs.Texts.{Texts};
 ghost use Rattle.mmtel_intake.specs.Told.{digest_in};
-ghost use Rattle.mmtel_outside.specs.declared.events.Event.{Event};
 ghost use Rattle.mmtel_outside.specs.declared.events.Offer.{Offer};
+ghost use Rattle.mmtel_run.specs.Events.{Happened, digest_datagram};
 ghost use Rattle.mmtel_run.specs.World.{came};
 ghost use Rattle.mmtel_server.specs.Follows.{Breaks, BreaksTo, Follows, FollowsTo, IsReady, going};
-ghost use Rattle.mmtel_server.specs.Stands.{BreaksOff, GoesOn, Went};
+ghost use Rattle.mmtel_server.specs.Stands.{BreaksOff, Went};
+ghost use Rattle.mmtel_run.specs.Events.{digest};
+ghost use Rattle.mmtel_server.specs.Stepped.{AskedAfter, AskedIn, Stepped, StoppedAt, call_of, happened_in};
+ghost use Rattle.mmtel_serving.specs.Calls.{Answers, Counted, Met};
+ghost use Rattle.mmtel_serving.specs.Outcomes.{kept_in};
+ghost use Rattle.mmtel_web.specs.Answers.{Kept};
 
 use super::Server;
+use super::requests::{Answered, unasked};
 use mmtel_charging::Row;
 use mmtel_directory::Directory;
+use mmtel_in_force::Records;
 use mmtel_intake::{Told, digest, moment};
+use mmtel_keeper::Keeper;
 use mmtel_outside::{Event, Offer};
 use mmtel_run::enough_comes;
 use mmtel_scan::{List, NoMemory, Text};
 use mmtel_transaction::{Tokens, Transactions};
-use mmtel_types::Moment;
+use mmtel_types::{Account, Addr, Moment};
 use std::alloc::Global;
 
 /// The moment at which the clock begins.
@@ -41,51 +51,68 @@ fn later(clock: Moment, moment: Moment) -> Moment
 }
 
 impl Server {
-    /// A server of this configuration, which draws identifiers that begin with the token. It takes no memory.
-    pub fn new(directory: Directory, token: Text) -> Server
-        ensures begins { (before : List Offer) → Went directory token [] before result before }
-        ensures whole { result.failed ≡ false }
+    /// A server of this configuration over these loaded texts of records, which draws identifiers that begin with the token. Of an account's texts the last one counts, and one that is no record is kept as it is and counts as the empty record.
+    ///
+    /// # Errors
+    ///
+    /// Want of memory alone.
+    pub fn new(
+        alloc: Global,
+        directory: Directory,
+        token: Text,
+        loaded: &[(Account, Text)],
+    ) -> Result<Server, NoMemory>
+        ensures begins { IfOk result (λ server. (before : List Offer) → Went directory token loaded.now [] before server before) }
+        ensures whole { IfOk result (λ server. server.failed ≡ false) }
     {
-        Server {
+        let records = Records::load(alloc, loaded)?;
+        Ok(Server {
             directory,
             tokens: Tokens::new(token),
             transactions: Transactions::new(),
+            records,
             clock: first_moment(),
             steps: 0,
             rows: List::new(),
             failed: false,
-        }
+        })
     }
 
-    /// One event: the deadlines that are due by then fire, each at its own moment; then the event is met when the clock, the greatest moment so far, stands so (RFC 3261 §17).
+    /// One event: the deadlines that are due by then fire, each at its own moment; then the event is met when the clock, the greatest moment so far, stands so (RFC 3261 §17). An upload is kept by the keeper, and in force from then on exactly where it was kept (3GPP TS 24.623 §5).
     ///
     /// # Errors
     ///
-    /// Want of memory alone. Of what the event makes the server offer a front may then have been added, and from then on nothing is done.
-    pub fn step(
+    /// Want of memory alone, but for what a 507 answers. Of what the event makes the server offer a front may then have been added, a record may have been kept, and from then on nothing is done.
+    #[tactic(auto, using(crate::proofs::Records::stopped_unasked))]
+    pub fn step<K: Keeper>(
         &mut self,
         alloc: Global,
         event: &Event,
+        keeper: &mut K,
         out: &mut List<Offer>,
     ) -> Result<(), NoMemory>
-        ensures done { OnOk result (GoesOn self.old out.old self.new out.new event.now) }
-        ensures err { OnErr result (BreaksOff self.old out.old out.new event.now) }
+        ensures done { OnOk result (Stepped self.old out.old self.new out.new event.now (K.held keeper.old) (K.held keeper.new) (K.calls keeper.old) (K.calls keeper.new) (K.faults keeper.old) (K.faults keeper.new)) }
+        ensures err { OnErr result ((kept : Kept) (rows : List Row) → BreaksOff self.old out.old out.new (happened_in event.now kept rows)) }
+        ensures met { OnErr result (StoppedAt (λ kept rows. AskedIn self.old out.old event.now kept rows (K.held keeper.old) (K.held keeper.new) (K.calls keeper.old) (K.calls keeper.new)) (K.faults keeper.old) (K.faults keeper.new)) }
         ensures fails { OnErr result (self.new.failed ≡ true) }
         ensures keeps { OnOk result (self.new.failed ≡ false) }
-        ensures over { self.old.failed ≡ true → IsErr result × (self.new ≡ self.old) × (out.new ≡ out.old) }
+        ensures over { self.old.failed ≡ true → IsErr result × (self.new ≡ self.old) × (out.new ≡ out.old) × (keeper.new ≡ keeper.old) }
     {
         if self.failed {
             return Err(NoMemory);
         }
         enough_comes();
-        let done = self.step_on(alloc, event, out);
+        let done = self.step_on(alloc, event, keeper, out);
         self.failed = done.is_err();
-        done
+        match done {
+            Ok(_) => Ok(()),
+            Err(NoMemory) => Err(NoMemory),
+        }
     }
 
     /// The charging rows of calls that ended which the keeper has not taken. No call is followed to its end yet.
     pub fn rows_waiting(&self) -> &[Row]
-        ensures waiting { (directory : Directory) (token : List ℕ) (events : List Event) (before out : List Offer) → Went directory token events before self.now out → result.now ≡ [] }
+        ensures waiting { (directory : Directory) (token : List ℕ) (loaded : Texts) (happened : List Happened) (before out : List Offer) → Went directory token loaded happened before self.now out → result.now ≡ [] }
     {
         self.rows.items()
     }
@@ -93,7 +120,7 @@ impl Server {
     /// Spends what is still live, without rows.
     pub fn give_up(self) {}
 
-    /// An event comes when the clock stands so.
+    /// A datagram, or the passing of time, comes when the clock stands so.
     fn come(
         &mut self,
         alloc: Global,
@@ -110,20 +137,66 @@ impl Server {
         Ok(())
     }
 
+    /// A datagram comes when the clock stands so.
+    fn come_from(
+        &mut self,
+        alloc: Global,
+        at: Moment,
+        from: Addr,
+        bytes: &[u8],
+        out: &mut List<Offer>,
+    ) -> Result<(), NoMemory>
+        ensures done { OnOk result (Follows self.old out.old self.new out.new (λ d token. came d token at (digest_datagram d from bytes.now))) }
+        ensures err { OnErr result (Breaks self.old out.old out.new (λ d token. came d token at (digest_datagram d from bytes.now))) }
+    {
+        let told = digest(alloc, &self.directory, from, bytes)?;
+        self.come(alloc, at, told, out)
+    }
+
+    /// An event comes when the clock stands so: what it makes the server offer, and what the keeper answered.
+    fn come_at<K: Keeper>(
+        &mut self,
+        alloc: Global,
+        at: Moment,
+        event: &Event,
+        keeper: &mut K,
+        out: &mut List<Offer>,
+    ) -> Result<Answered, NoMemory>
+        ensures done { IfOk result (λ a. Follows self.old out.old self.new out.new (λ d token. came d token at (digest d (happened_in event.now (kept_in a.kept) a.rows)))) }
+        ensures err { OnErr result ((kept : Kept) (rows : List Row) → Breaks self.old out.old out.new (λ d token. came d token at (digest d (happened_in event.now kept rows)))) }
+        ensures asked { IfOk result (λ a. Answers (call_of self.old.directory.names event.now) (kept_in a.kept) a.rows (K.held keeper.old) (K.held keeper.new) (K.calls keeper.old) (K.calls keeper.new)) }
+        ensures counted { IfOk result (λ a. Counted (kept_in a.kept) (K.faults keeper.old) (K.faults keeper.new)) }
+        ensures met { OnErr result (Met (call_of self.old.directory.names event.now) (K.held keeper.old) (K.held keeper.new) (K.calls keeper.old) (K.calls keeper.new) (K.faults keeper.old) (K.faults keeper.new)) }
+    {
+        match event {
+            Event::Datagram { from, bytes, .. } => {
+                self.come_from(alloc, at, *from, bytes.bytes(), out)?;
+                Ok(unasked())
+            }
+            Event::Web { bytes, .. } => self.come_asking(alloc, at, bytes.bytes(), keeper, out),
+            Event::Quiet { .. } => {
+                self.come(alloc, at, Told::Nothing, out)?;
+                Ok(unasked())
+            }
+        }
+    }
+
     /// One event, where no step has failed.
-    fn step_on(
+    fn step_on<K: Keeper>(
         &mut self,
         alloc: Global,
         event: &Event,
+        keeper: &mut K,
         out: &mut List<Offer>,
-    ) -> Result<(), NoMemory>
-        ensures done { OnOk result ((fuel : ℕ) → FollowsTo self.old out.old self.new out.new (IsReady fuel event.now) (going fuel event.now)) }
-        ensures err { OnErr result ((fuel : ℕ) → BreaksTo self.old out.old out.new (IsReady fuel event.now) (going fuel event.now)) }
+    ) -> Result<Answered, NoMemory>
+        ensures done { IfOk result (λ a. (fuel : ℕ) → FollowsTo self.old out.old self.new out.new (IsReady fuel (happened_in event.now (kept_in a.kept) a.rows)) (going fuel (happened_in event.now (kept_in a.kept) a.rows))) }
+        ensures err { OnErr result ((kept : Kept) (rows : List Row) (fuel : ℕ) → BreaksTo self.old out.old out.new (IsReady fuel (happened_in event.now kept rows)) (going fuel (happened_in event.now kept rows))) }
+        ensures asked { IfOk result (λ a. AskedAfter self.old out.old event.now (kept_in a.kept) a.rows (K.held keeper.old) (K.held keeper.new) (K.calls keeper.old) (K.calls keeper.new)) }
+        ensures counted { IfOk result (λ a. Counted (kept_in a.kept) (K.faults keeper.old) (K.faults keeper.new)) }
+        ensures met { OnErr result (StoppedAt (λ kept rows. AskedAfter self.old out.old event.now kept rows (K.held keeper.old) (K.held keeper.new) (K.calls keeper.old) (K.calls keeper.new)) (K.faults keeper.old) (K.faults keeper.new)) }
     {
         let clock = later(self.clock, moment(event));
         self.settle(alloc, clock, out)?;
-        let told = digest(alloc, &self.directory, event)?;
-        self.come(alloc, clock, told, out)?;
-        Ok(())
+        self.come_at(alloc, clock, event, keeper, out)
     }
 }

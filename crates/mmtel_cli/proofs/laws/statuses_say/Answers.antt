@@ -1,4 +1,4 @@
-use Rattle.mmtel_cli.proofs.Saying.{good_ones_are_listed, good_ones_succeed, no_fault_no_failure, one_is_usage, seven_rose, statuses_are_these, zero_is_listed, zero_kept}
+use Rattle.mmtel_cli.proofs.Saying.{checks_are_told, good_ones_are_listed, good_ones_succeed, good_ones_want_a_keeper, no_fault_no_failure, one_is_usage, seven_rose, six_rose, statuses_are_these, three_is_refused, zero_is_listed, zero_kept}
 use Rattle.mmtel_cli.proofs.laws.statuses_say.Goals as goal
 
 pub returns-clause-good : goal.returns-clause-good
@@ -6,6 +6,12 @@ returns-clause-good c = good_ones_are_listed
 
 pub returns-clause-succeed : goal.returns-clause-succeed
 returns-clause-succeed c = good_ones_succeed
+
+pub returns-clause-unkept : goal.returns-clause-unkept
+returns-clause-unkept c = good_ones_want_a_keeper
+
+pub returns-clause-checked : goal.returns-clause-checked
+returns-clause-checked c = checks_are_told
 
 pub returns-clause-zero : goal.returns-clause-zero
 returns-clause-zero c = zero_is_listed
@@ -15,6 +21,12 @@ returns-clause-kept c = zero_kept
 
 pub returns-clause-usage : goal.returns-clause-usage
 returns-clause-usage c = one_is_usage
+
+pub returns-clause-refused : goal.returns-clause-refused
+returns-clause-refused c = three_is_refused
+
+pub returns-clause-keeper : goal.returns-clause-keeper
+returns-clause-keeper c = six_rose
 
 pub returns-clause-sink : goal.returns-clause-sink
 returns-clause-sink c = seven_rose

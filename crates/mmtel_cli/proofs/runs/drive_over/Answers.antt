@@ -3,7 +3,8 @@ use Rattle.mmtel_cli.proofs.Scripted.{offers_run}
 use Rattle.mmtel_cli.proofs.runs.drive_over.Goals as goal
 
 pub returns-in-Ok : goal.returns-in-Ok
-returns-in-Ok c = record {
-  run = λ directory. λ token. λ went.
-      offers_run directory token c.args.script.now _ _ _ _ _ _ _ c.in-Ok.ensures.driven c.requires.unheard (omega arith) went;
+returns-in-Ok g c = record {
+  run = λ directory. λ token. λ loaded. λ went.
+      offers_run c.connections_are_read_out.ensures.unfailed c.connections_are_read_out.ensures.all directory token loaded
+      c.args.script.now _ _ _ _ _ _ _ _ _ _ _ _ _ c.in-Ok.ensures.driven c.requires.unheard (omega arith) went;
 }

@@ -1,4 +1,4 @@
-use Rattle.std.proofs.Common.{◌∷◌, ℕ, arith, subst}
+use Rattle.std.proofs.Common.{◌∷◌, ℕ, arith, refl, subst}
 use Rattle.mmtel_transaction.specs.Calls.{DidBegin}
 use Rattle.mmtel_transaction.specs.Stands as table
 use Rattle.mmtel_server.proofs.servers.Server.begin.Goals as goal
@@ -12,9 +12,12 @@ returns c = record {
       transactions = subst (λ (n : ℕ). table.Stands c.begin.new.self (DidBegin n ∷ w.acts)) did.stands.steps (c.begin.ensures.done w.acts did.stands.transactions);
       clock = did.stands.clock;
       steps = omega (arith, did.stands.steps, short.steps);
+      texts = did.stands.texts;
+      registered = did.stands.registered;
       rows = did.stands.rows;
       whole = did.stands.whole;
     };
     offered = did.offered;
   };
+  directory = refl;
 }

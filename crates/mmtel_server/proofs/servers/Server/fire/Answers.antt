@@ -23,6 +23,8 @@ returns-clause-done c d token before w did short =
         transactions = due.0;
         clock = begins.stands.clock;
         steps = begins.stands.steps;
+        texts = begins.stands.texts;
+        registered = begins.stands.registered;
         rows = begins.stands.rows;
         whole = begins.stands.whole;
       };

@@ -22,11 +22,3 @@ returns-in-Heard-clause-done c = subst (λ (x : Told). OnOk c.hear.result
 pub returns-in-Heard-clause-err : goal.returns-in-Heard-clause-err
 returns-in-Heard-clause-err c = subst (λ (x : Told). OnErr c.hear.result (Breaks c.args.self.now c.args.out.now c.hear.new.out (λ d token. met d token c.args.at (digest_in x))))
     (sym c.in-Heard.is) c.hear.ensures.err
-
-pub returns-in-Unbuilt-clause-done : goal.returns-in-Unbuilt-clause-done
-returns-in-Unbuilt-clause-done c = subst (λ (x : Told). OnOk c.pass_over.result
-    (Follows c.args.self.now c.args.out.now c.pass_over.new.self c.pass_over.new.out (λ d token. met d token c.args.at (digest_in x)))) (sym c.in-Unbuilt.is) c.pass_over.ensures.done
-
-pub returns-in-Unbuilt-clause-err : goal.returns-in-Unbuilt-clause-err
-returns-in-Unbuilt-clause-err c = stops_on c.pass_over.result (λ d token. met d token c.args.at (digest_in c.args.told)) c.args.self.now c.args.out.now c.pass_over.new.out
-    (λ d token w. met_grows d token c.args.at (digest_in c.args.told) w) c.pass_over.ensures.err

@@ -12,6 +12,8 @@ returns-clause-begins c before = record {
       transactions = c.new-2.ensures.stands;
       clock = c.first_moment.ensures;
       steps = refl;
+      texts = c.in_ok-records.ensures.texts;
+      registered = c.in_ok-records.ensures.registered;
       rows = c.new-3.ensures;
       whole = refl;
     };

@@ -25,6 +25,16 @@ pub returns-in-Open-clause-err : goal.returns-in-Open-clause-err
 returns-in-Open-clause-err c = subst (λ (x : Course). OnErr c.open.result
     (Breaks c.args.self.now c.args.out.now c.open.new.out (λ d token. taking d token c.args.at c.args.key c.args.request.now (course_in x)))) (sym c.in-Open.is) c.open.ensures.err
 
+pub returns-in-Register-clause-done : goal.returns-in-Register-clause-done
+returns-in-Register-clause-done c = subst (λ (x : Course). OnOk c.register.result
+    (Follows c.args.self.now c.args.out.now c.register.new.self c.register.new.out (λ d token. taking d token c.args.at c.args.key c.args.request.now (course_in x))))
+    (sym c.in-Register.is) c.register.ensures.done
+
+pub returns-in-Register-clause-err : goal.returns-in-Register-clause-err
+returns-in-Register-clause-err c = stops_on c.register.result
+    (λ d token. taking d token c.args.at c.args.key c.args.request.now (course_in c.args.course)) c.args.self.now c.args.out.now c.register.new.out
+    (λ d token w. takes d token c.args.at c.args.key c.args.request.now (course_in c.args.course) w) c.register.ensures.err
+
 pub returns-in-Unbuilt-clause-done : goal.returns-in-Unbuilt-clause-done
 returns-in-Unbuilt-clause-done c = subst (λ (x : Course). OnOk c.pass_over.result
     (Follows c.args.self.now c.args.out.now c.pass_over.new.self c.pass_over.new.out (λ d token. taking d token c.args.at c.args.key c.args.request.now (course_in x))))

@@ -1,0 +1,62 @@
+-- What a run asks of its keeper, and what the keeper shows of it: it is bound to the store of the configuration and loaded, each once, and what is uploaded in the run is kept
+-- there (3GPP TS 24.623 §5).
+use Rattle.std.specs.Prelude.{◌≡◌, ◌≢◌, ℕ, ◌||◌, Bool, true, false, List, Option, Some, None, IfSome, IsErrOf, OnOk, if◌then◌else◌}
+use Rattle.std.specs.Option.{option_map}
+use Rattle.std.specs.declared.result.Result.{Result}
+use Rattle.mmtel_in_force.specs.Texts.{Texts}
+use Rattle.mmtel_keeper.specs.Kept.{Held, KeeperCalls, called, fails_next}
+use Rattle.mmtel_keeper.specs.declared.keepers.KeepFault.{KeepFault}
+use Rattle.mmtel_keeper.specs.declared.keepers.KeepFault.TheVariants.{Failed}
+use Rattle.mmtel_outside.specs.Counts.{Rose}
+use Rattle.mmtel_cli.specs.CommandLine.{IsCheck, SpellsNone}
+
+-- what is seen of a keeper: what it holds and its calls, where it tells them, and the count of its faults
+pub record KeeperSeen : Type 0 where
+  pub held : Option Held
+  pub calls : Option KeeperCalls
+  pub faults : ℕ
+
+abbrev pub seen : Option Held → Option KeeperCalls → ℕ → KeeperSeen
+seen held calls faults = record { held = held; calls = calls; faults = faults }
+
+-- ---- binding and loading
+
+-- whether it refuses by the numbers of its calls: the next one, which binds it, fails, or else the one behind that, which loads it
+abbrev pub refuses : KeeperCalls → Bool
+refuses calls = fails_next calls || fails_next (called calls)
+
+-- its calls then; where it cannot be bound it is not asked to load
+abbrev pub opened : (path : List ℕ) → KeeperCalls → KeeperCalls
+opened path calls = if fails_next calls then called calls else called (record (called calls) { path = Some path })
+
+-- these calls were made, where it tells them, and it refused or not
+abbrev pub IsOpened : (path : List ℕ) → Option KeeperCalls → Option KeeperCalls → (refused : Bool) → Type 0
+IsOpened path None after refused = after ≡ None
+IsOpened path (Some calls) after refused = (after ≡ Some (opened path calls)) × (refuses calls ≡ refused)
+
+-- it was bound to the path and loaded, and gave these texts, which are those that it holds, where it tells them
+pub record IsLoaded (path : List ℕ) (loaded : Texts) (keeper later : KeeperSeen) : Type 0 where
+  pub calls : IsOpened path keeper.calls later.calls false
+  pub told : IfSome keeper.held (λ held. loaded ≡ held.sheets)
+  pub held : later.held ≡ keeper.held
+  pub count : later.faults ≡ keeper.faults
+
+-- it could not be bound to the path, or not be loaded: its count of faults rose, and what it holds is as before
+pub record IsNotLoaded (path : List ℕ) (keeper later : KeeperSeen) : Type 0 where
+  pub calls : IsOpened path keeper.calls later.calls true
+  pub held : later.held ≡ keeper.held
+  pub rose : Rose keeper.faults later.faults
+
+-- ---- in a run
+
+-- where it tells its calls, the path that was bound last is as before
+abbrev pub IsBoundStill : Option KeeperCalls → Option KeeperCalls → Type 0
+IsBoundStill calls after = option_map (λ c. c.path) after ≡ option_map (λ c. c.path) calls
+
+-- ---- where nothing is asked of it
+
+-- it is as before without a command, of `check`, and where the status tells of a configuration or a script that cannot be read or is not good
+pub record IsSpared {K : Type 0} (words : List (List ℕ)) (status : ℕ) (before after : K) : Type 0 where
+  pub none : SpellsNone words → after ≡ before
+  pub checked : (records : List ℕ) → IsCheck records words → after ≡ before
+  pub early : status ≢ 0 → status ≢ 6 → status ≢ 7 → status ≢ 8 → after ≡ before

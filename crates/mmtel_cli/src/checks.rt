@@ -1,0 +1,39 @@
+//! Checking a file: whether it is a service record.
+ghost use Rattle.std.specs.Prelude.{◌≡◌, ◌≢◌, IfSome, Some};
+ghost use Rattle.mmtel_cli.specs.Due.{due_of_records};
+ghost use Rattle.mmtel_cli.specs.Found.{CountsFiles, IsDue, IsRead};
+ghost use Rattle.mmtel_cli.specs.Gives.{GivesRecords};
+ghost use Rattle.mmtel_cli.specs.Keeping.{KeeperSeen};
+ghost use Rattle.mmtel_outside.specs.Shelf.{called};
+
+use crate::reports::Report;
+use mmtel_outside::{FileFault, Files};
+use mmtel_scan::{NoMemory, Text};
+use mmtel_uploads::{Upload, upload_of};
+use std::alloc::Global;
+
+/// What is due of a text that is checked.
+fn over_text(alloc: Global, text: &Text) -> Report
+    ensures due { (keeper later : KeeperSeen) → IsDue keeper later result (due_of_records (Some text.now)) }
+    ensures read { IsRead result }
+{
+    match upload_of(alloc, text.bytes()) {
+        Ok(Upload::Accepted(_)) => Report::Sound,
+        Ok(Upload::Refused(line)) => Report::Unsound(line),
+        Err(NoMemory) => Report::Memory,
+    }
+}
+
+/// What is due of the file of this name. The next call is for it.
+pub fn over_records<F: Files>(alloc: Global, records: &[u8], files: &mut F) -> Report
+    ensures gives { GivesRecords (F.told files.old) records.now result }
+    ensures calls { IfSome (F.told files.old) (λ shelf. F.told files.new ≡ Some (called shelf)) }
+    ensures count { CountsFiles result (F.faults files.old) (F.faults files.new) }
+    ensures asked { result ≢ Report.Usage }
+{
+    match files.read(alloc, records) {
+        Ok(text) => over_text(alloc, &text),
+        Err(FileFault::Failed) => Report::File,
+        Err(FileFault::NoMemory) => Report::Memory,
+    }
+}

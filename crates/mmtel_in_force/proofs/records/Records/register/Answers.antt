@@ -1,0 +1,15 @@
+use Rattle.std.proofs.Common.{◌≡◌, ◌∷◌, ℕ, subst, sym}
+use Rattle.std.proofs.lemmas.Result.{on_ok_weaker}
+use Rattle.mmtel_sheet_values.specs.View.{InForce, end_in}
+use Rattle.mmtel_types.specs.declared.numbers.Account.{Account}
+use Rattle.mmtel_in_force.proofs.Puts.{ends_on}
+use Rattle.mmtel_in_force.specs.Held.{Held}
+use Rattle.mmtel_in_force.specs.Texts.{end_at}
+use Rattle.mmtel_in_force.proofs.records.Records.register.Goals as goal
+
+pub returns-clause-registered : goal.returns-clause-registered
+returns-clause-registered c = on_ok_weaker c.set_registered.result (λ is. λ registrations. λ same. λ b.
+    let Q : Held → Type 0 = λ h. (b' : Account) → end_in h.view b'.0 ≡ end_at registrations b' in
+    let P : InForce → Type 0 = λ v. end_in v b.0 ≡ end_at ((c.args.account, c.args.until) ∷ registrations) b in
+    subst P (sym is) (ends_on c.self.inside.view c.args.account c.args.until registrations (subst Q (sym c.self.view_is) same) b))
+    c.set_registered.ensures.ok

@@ -1,0 +1,161 @@
+//! The records in force.
+ghost use Rattle.std.specs.Prelude.{◌≡◌, ◌∷◌, [], IfOk, OnErr, OnOk, IsTrue, None, unwrap_or};
+ghost use Rattle.std.specs.Option.{option_copied};
+ghost use Rattle.mmtel_in_force.specs.Held.{Agrees, IsRegisteredBy, SaysTheSame, may_put, nothing_held};
+ghost use Rattle.mmtel_in_force.specs.Texts.{Registrations, end_at, put_each, record_of};
+ghost use Rattle.mmtel_sheet_grammar.specs.Texts.{kept_sheet};
+ghost use Rattle.mmtel_sheet_texts.specs.Texts.{put, text_at};
+ghost use Rattle.mmtel_sheet_values.specs.Sheets.{empty_sheet};
+ghost use Rattle.mmtel_sheet_values.specs.View.{end_in, is_registered};
+
+use mmtel_scan::{NoMemory, Text};
+use mmtel_sheet_texts::SheetTexts;
+use mmtel_sheet_texts::laws::puts_change_one_account;
+use mmtel_sheet_values::laws::putting_changes_one_account;
+use mmtel_sheet_values::{SharedSheet, Sheet, SheetView};
+use mmtel_types::{Account, Moment};
+use mmtel_uploads::kept_sheet;
+use mmtel_uploads::laws::the_empty_text_is_the_empty_sheet;
+use std::alloc::Global;
+use std::marker::Model;
+
+/// The records that are in force, each with its text and as what it says, and until when each account is registered.
+///
+/// Contracts see both tables. That each account's record is that of its text is so always.
+#[derive(Drop)]
+pub struct Records {
+    texts: SheetTexts,
+    view: SheetView,
+}
+
+impl Model for Records {
+    ghost use Rattle.std.specs.Prelude.{refl};
+    ghost use Rattle.std.specs.Coded.{code_by, coded×};
+    ghost use Rattle.mmtel_in_force.specs.Held.{Agrees, Held};
+    ghost use Rattle.mmtel_sheet_texts.specs.Texts.{Table};
+    ghost use Rattle.mmtel_sheet_texts.specs.contracts.texts.SheetTexts as texts_row;
+    ghost use Rattle.mmtel_sheet_values.specs.View.{InForce};
+    ghost use Rattle.mmtel_sheet_values.specs.contracts.view.SheetView as view_row;
+
+    ghost Value = { Held };
+
+    ghost coded = { code_by (Table × InForce) (coded× texts_row.the_row.coded view_row.the_row.coded) (λ h. (h.texts, h.view)) (λ p. record { texts = p.0; view = p.1 }) (λ _. refl) };
+
+    ghost view = { λ r. record { texts = r.texts; view = r.view } };
+
+    ghost invariant = { λ r. Agrees (record { texts = r.texts; view = r.view }) };
+}
+
+impl Records {
+    /// No text, and no registration that has an end. It takes no memory.
+    pub fn new(alloc: Global) -> Records
+        ensures nothing { result ≡ nothing_held }
+    {
+        the_empty_text_is_the_empty_sheet();
+        Records {
+            texts: SheetTexts::new(),
+            view: SheetView::new(alloc),
+        }
+    }
+
+    /// Puts a text in the place of the account's, and what it says in force.
+    ///
+    /// # Errors
+    ///
+    /// Want of memory alone; nothing that is said has then changed.
+    pub fn put(&mut self, alloc: Global, account: Account, text: Text) -> Result<(), NoMemory>
+        ensures texts { OnOk result (self.new.texts.texts ≡ put account text self.old.texts.texts) }
+        ensures registered { (registrations : Registrations) → IsRegisteredBy self.old registrations → IsRegisteredBy self.new registrations }
+        ensures err { OnErr result (SaysTheSame self.new self.old) }
+    {
+        let sheet = kept_sheet(alloc, text.bytes())?;
+        let sheet = self.make_room(alloc, account, sheet)?;
+        self.replace(account, text, sheet);
+        Ok(())
+    }
+
+    /// Makes room for a text and a record of the account, so that a `replace` takes no memory; the record, to be put there. Nothing that is said changes.
+    ///
+    /// # Errors
+    ///
+    /// Want of memory alone.
+    pub fn make_room(
+        &mut self,
+        alloc: Global,
+        account: Account,
+        sheet: Sheet,
+    ) -> Result<SharedSheet, NoMemory>
+        ensures same { SaysTheSame self.new self.old }
+        ensures room { OnOk result (IsTrue (may_put self.new account)) }
+        ensures its { IfOk result (λ shared. shared ≡ sheet) }
+    {
+        let shared = SharedSheet::of(alloc, sheet)?;
+        self.view.reserve(account)?;
+        self.texts.reserve(alloc)?;
+        Ok(shared)
+    }
+
+    /// Puts a text in the place of the account's, and what it says in force. It takes no memory: `make_room` made room.
+    pub fn replace(&mut self, account: Account, text: Text, sheet: SharedSheet)
+        requires room { IsTrue (may_put self.old account) }
+        requires its { sheet ≡ kept_sheet text }
+        ensures texts { self.new.texts.texts ≡ put account text self.old.texts.texts }
+        ensures registered { (registrations : Registrations) → IsRegisteredBy self.old registrations → IsRegisteredBy self.new registrations }
+    {
+        putting_changes_one_account();
+        puts_change_one_account();
+        let _before = self.view.replace(account, sheet);
+        self.texts.replace(account, text);
+    }
+
+    /// The texts by account, as they are handed out.
+    pub fn texts(&self) -> &SheetTexts
+        ensures all { result.now ≡ self.now.texts }
+    {
+        &self.texts
+    }
+
+    /// The record of the account; None where it has none, which means that of an account which never said anything. It takes no memory.
+    pub fn sheet(&self, account: Account) -> Option<&Sheet>
+        ensures exact { unwrap_or (option_copied result) empty_sheet ≡ record_of self.now.texts.texts account }
+    {
+        self.view.sheet(account)
+    }
+
+    /// Registers an account until a moment.
+    ///
+    /// # Errors
+    ///
+    /// Want of memory alone; nothing that is said has then changed.
+    pub fn register(&mut self, account: Account, until: Moment) -> Result<(), NoMemory>
+        ensures texts { self.new.texts ≡ self.old.texts }
+        ensures registered { OnOk result ((registrations : Registrations) → IsRegisteredBy self.old registrations → IsRegisteredBy self.new ((account, until) ∷ registrations)) }
+        ensures err { OnErr result (self.new ≡ self.old) }
+    {
+        self.view.set_registered(account, Some(until))
+    }
+
+    /// Whether an account is registered at a moment: it never was registered, or until a later one. It takes no memory.
+    pub fn is_registered(&self, account: Account, now: Moment) -> bool
+        ensures exact { (registrations : Registrations) → IsRegisteredBy self.now registrations → result ≡ is_registered (end_at registrations account) now }
+    {
+        self.view.registered(account, now)
+    }
+
+    /// The records of loaded texts, of which an account's last one counts, with no registration that has an end.
+    ///
+    /// # Errors
+    ///
+    /// Want of memory alone.
+    pub fn load(alloc: Global, loaded: &[(Account, Text)]) -> Result<Records, NoMemory>
+        ensures texts { IfOk result (λ records. records.texts.texts ≡ put_each loaded.now []) }
+        ensures registered { IfOk result (λ records. IsRegisteredBy records []) }
+    {
+        let mut records = Records::new(alloc);
+        for (account, text) in loaded {
+            let text = text.copied(alloc)?;
+            records.put(alloc, *account, text)?;
+        }
+        Ok(records)
+    }
+}

@@ -1,0 +1,120 @@
+//! What is done with a REGISTER, by which the core tells of a registration (RFC 3261 §10.3; 3GPP TS 24.229 §5.4.1.7, §5.7.1.1).
+ghost use Rattle.std.specs.Prelude.{◌≡◌, IfOk};
+ghost use Rattle.std.specs.Option.{option_copied};
+ghost use Rattle.mmtel_trust.specs.MaskedMessages.{public_part};
+ghost use Rattle.mmtel_run.specs.Refusals.{account_in, registration, registration_of, seconds_of, to_account};
+ghost use Rattle.mmtel_intake.specs.Accounts.{account_by, account_of_uri};
+ghost use Rattle.mmtel_intake.specs.Courses.{course_in};
+
+use crate::answers::{Course, plainly};
+use mmtel_answers::Hearing;
+use mmtel_directory::Directory;
+use mmtel_lex::{LexFault, UriFault, read_name_addr, read_uri};
+use mmtel_message::{first_of, is_request};
+use mmtel_scan::{NoMemory, number_up_to};
+use mmtel_trust::Accounts;
+use mmtel_types::Account;
+use std::alloc::Global;
+
+/// The seconds of a registration whose request names none.
+const HOUR: u64 = 3600;
+
+/// The greatest number of seconds that Expires can name (RFC 3261 §20.19).
+const MOST_SECONDS: u64 = 4_294_967_295;
+
+/// The account that the bytes of a URI name.
+fn account_of_uri(
+    alloc: Global,
+    accounts: &Accounts,
+    bytes: &[u8],
+) -> Result<Option<Account>, NoMemory>
+    ensures { IfOk result (λ account. account ≡ account_of_uri accounts.now bytes.now) }
+{
+    match read_uri(alloc, bytes) {
+        Ok(uri) => Ok(accounts.find(&uri)),
+        Err(UriFault::Malformed { at: _ }) => Ok(None),
+        Err(UriFault::Scheme) => Ok(None),
+        Err(UriFault::NoMemory) => Err(NoMemory),
+    }
+}
+
+/// The account that a name-addr names.
+fn account_in(alloc: Global, accounts: &Accounts, value: &[u8]) -> Result<Option<Account>, NoMemory>
+    ensures { IfOk result (λ account. account ≡ account_in accounts.now value.now) }
+{
+    match read_name_addr(alloc, value) {
+        Ok(name) => account_of_uri(alloc, accounts, name.uri.bytes()),
+        Err(LexFault::Malformed { at: _ }) => Ok(None),
+        Err(LexFault::NoMemory) => Err(NoMemory),
+    }
+}
+
+/// The account that a To value names, where there is one.
+fn account_by(
+    alloc: Global,
+    accounts: &Accounts,
+    to: Option<&[u8]>,
+) -> Result<Option<Account>, NoMemory>
+    ensures { IfOk result (λ account. account ≡ account_by accounts.now (option_copied to.entry)) }
+{
+    match to {
+        None => Ok(None),
+        Some(to) => account_in(alloc, accounts, to),
+    }
+}
+
+/// The account that To of a request names.
+fn to_account(
+    alloc: Global,
+    accounts: &Accounts,
+    request: &Hearing,
+) -> Result<Option<Account>, NoMemory>
+    ensures { IfOk result (λ account. account ≡ to_account accounts.now (public_part request.now.heard)) }
+{
+    if is_request(request.message.start()) {
+        account_by(alloc, accounts, first_of(request.message.lines(), b"To"))
+    } else {
+        Ok(None)
+    }
+}
+
+/// For how many seconds a request registers: an hour without Expires, or where that is no number (RFC 3261 §10.2.1.1).
+fn seconds(request: &Hearing) -> u64
+    ensures { result ≡ seconds_of request.now.heard.expires }
+{
+    match first_of(request.message.lines(), b"Expires") {
+        None => HOUR,
+        Some(value) => match number_up_to(MOST_SECONDS, value) {
+            None => HOUR,
+            Some(seconds) => seconds,
+        },
+    }
+}
+
+/// What is done with a REGISTER of a trusted peer for this account, if there is one.
+fn registration_of(account: Option<Account>, request: &Hearing) -> Course
+    ensures { course_in result ≡ registration_of account (public_part request.now.heard) }
+{
+    match account {
+        None => Course::Refuse(plainly(404)),
+        Some(account) => Course::Register {
+            account,
+            seconds: seconds(request),
+        },
+    }
+}
+
+/// What is done with a REGISTER that is not refused before: a trusted peer registers the account that To names.
+pub fn registration(
+    alloc: Global,
+    directory: &Directory,
+    request: &Hearing,
+) -> Result<Course, NoMemory>
+    ensures { IfOk result (λ c. course_in c ≡ registration directory.now.names.accounts (public_part request.now.heard)) }
+{
+    if !request.trusted {
+        return Ok(Course::Refuse(plainly(403)));
+    }
+    let account = to_account(alloc, &directory.names.accounts, request)?;
+    Ok(registration_of(account, request))
+}

@@ -1,0 +1,52 @@
+-- Which record is in force, in the words of its rule: at each step that of the account's last upload that was kept before it, else the one that was loaded last, else the empty record (3GPP TS 24.623 §5).
+use Rattle.std.specs.Prelude.{◌≡◌, ℕ, ◌==◌, List, [], ◌∷◌, ◌++◌, Option, Some, None, if◌then◌else◌}
+use Rattle.std.specs.Option.{option_to_list}
+use Rattle.mmtel_directory.specs.declared.directories.Directory.{Directory}
+use Rattle.mmtel_directory.specs.declared.directories.WebDirectory.{WebDirectory}
+use Rattle.mmtel_http.specs.Requests.{request_of}
+use Rattle.mmtel_outside.specs.declared.events.Event.{Event}
+use Rattle.mmtel_outside.specs.declared.events.Event.TheVariants as event
+use Rattle.mmtel_sheet_texts.specs.Texts.{text_at}
+use Rattle.mmtel_types.specs.declared.numbers.Account.{Account}
+use Rattle.mmtel_web.specs.Answers.{Kept}
+use Rattle.mmtel_in_force.specs.Texts.{Texts, put_each}
+use Rattle.mmtel_web.specs.Uploads.{kept_upload, upload_in}
+use Rattle.mmtel_run.specs.Events.{Happened, digests}
+use Rattle.mmtel_run.specs.Run.{after}
+use Rattle.mmtel_run.specs.World.{beginning}
+
+-- ---- what was kept
+
+-- the upload that was kept in an event: of a web request alone
+abbrev pub upload_at : WebDirectory → Event → Kept → Option (Account × List ℕ)
+upload_at names (event.Datagram from at bytes) kept = None
+upload_at names (event.Web at bytes) kept = kept_upload kept (upload_in names (request_of bytes))
+upload_at names (event.Quiet at) kept = None
+
+-- the uploads that were kept in all that happened, in their order
+abbrev pub uploads_of : WebDirectory → List Happened → Texts
+uploads_of names [] = []
+uploads_of names (one ∷ happened) = option_to_list (upload_at names one.event one.kept) ++ uploads_of names happened
+
+-- ---- the last one
+
+abbrev pub last_or : Option (List ℕ) → Option (List ℕ) → Option (List ℕ)
+last_or (Some text) other = Some text
+last_or None other = other
+
+abbrev pub text_for : Account → (Account × List ℕ) → Option (List ℕ)
+text_for account text = if text.0.0 == account.0 then Some text.1 else None
+
+-- the account's last text of these
+abbrev pub last_of : Texts → Account → Option (List ℕ)
+last_of [] account = None
+last_of (text ∷ others) account = last_or (last_of others account) (text_for account text)
+
+-- the texts of a run are those that were loaded, and over them those that were kept,
+abbrev pub TextsAreThoseKept : Type 0
+TextsAreThoseKept = (directory : Directory) (token : List ℕ) (loaded : Texts) (fuel : ℕ) (happened : List Happened) →
+    (after directory token fuel (digests directory happened) (beginning loaded)).texts ≡ put_each (loaded ++ uploads_of directory.names happened) []
+
+-- and of these the account's last one is its text
+abbrev pub LastIsInForce : Type 0
+LastIsInForce = (texts : Texts) (account : Account) → text_at (put_each texts []) account ≡ last_of texts account

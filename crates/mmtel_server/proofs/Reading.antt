@@ -1,0 +1,135 @@
+-- How a web connection is read: what a read adds to what was read of it, and when it is read out.
+use Rattle.std.proofs.Common.{◌≡◌, ◌≢◌, ◌+◌, ◌<◌, ◌≤◌, ℕ, min, Bool, true, false, List, [], ◌∷◌, ◌++◌, length, take, drop, slice_get, refl, sym, ap, ◌∙◌, subst, length-append, Option, Some, None, Result, Ok, Err, arith, inl, inr}
+use Rattle.std.specs.Result.{IsErr}
+use Rattle.std.proofs.Math.Seq.{take-add}
+use Rattle.std.proofs.lemmas.List.{length-drop, length-take-le, take_all}
+use Rattle.mmtel_http.specs.Requests.{Request, unfinished, bad, large, asked, request_of, whole_of}
+use Rattle.mmtel_http.specs.declared.wholes.Whole.TheVariants.{More}
+use Rattle.mmtel_link.specs.Told.{Ear, ReadOf, ReadTold, coming, current, last_or_none, more_of_last, unread, web_bytes}
+use Rattle.mmtel_outside.specs.Counts.{Rose}
+use Rattle.mmtel_outside.specs.declared.events.Event.{Event}
+use Rattle.mmtel_scan.specs.declared.memory.NoMemory.{NoMemory}
+use Rattle.mmtel_types.specs.declared.numbers.Failed.{Failed}
+use Rattle.mmtel_server.specs.Driven.{StandsOrRose}
+use Rattle.mmtel_server.specs.Turns.{HasRead, IsReading, ReadsOn, is_unfinished, read_to}
+
+-- ---- the connection that came last
+
+last_more : (reads : List ℕ) (count : ℕ) → last_or_none (reads ++ count ∷ []) ≡ count
+last_more [] count = refl
+last_more (n ∷ []) count = refl
+last_more (n ∷ m ∷ reads) count = last_more (m ∷ reads) count
+
+adds_more : (reads : List ℕ) (count n : ℕ) → more_of_last n (reads ++ count ∷ []) ≡ reads ++ (count + n) ∷ []
+adds_more [] count n = refl
+adds_more (k ∷ []) count n = refl
+adds_more (k ∷ m ∷ reads) count n = ap (λ (l : List ℕ). k ∷ l) (adds_more (m ∷ reads) count n)
+
+current_more : (events : List Event) (reads : List ℕ) (count : ℕ) → current events (reads ++ count ∷ []) ≡ slice_get events (length reads)
+current_more events [] count = refl
+current_more events (n ∷ reads) count =
+    let long : length (reads ++ count ∷ []) ≡ length (n ∷ reads) = omega (arith, length-append reads (count ∷ [])) in
+    ap (λ (i : ℕ). slice_get events i) long
+
+-- what is still to be read of it
+unread_is : (ear : Ear) (count : ℕ) → unread (read_to ear count false) ≡ drop count (web_bytes (coming ear))
+unread_is ear count =
+    ap (λ (n : ℕ). drop n (web_bytes (current ear.events (ear.reads ++ count ∷ [])))) (last_more ear.reads count)
+    ∙ ap (λ (e : Option Event). drop count (web_bytes e)) (current_more ear.events ear.reads count)
+
+-- ---- one read
+
+module _ (ear : Ear) (bytes room filled : List ℕ) where
+  abbrev all : List ℕ
+  all = web_bytes (coming ear)
+
+  abbrev here : Ear
+  here = read_to ear (length bytes) false
+
+  -- so many more of its bytes were read
+  read_there : (later : Option Ear) (n : ℕ) → later ≡ Some (record here { reads = more_of_last n here.reads }) → later ≡ Some (read_to ear (length bytes + n) false)
+  read_there later n is = is ∙ ap (λ (reads : List ℕ). Some (record here { reads = reads })) (adds_more ear.reads (length bytes) n)
+
+  -- they stand behind those that were read before
+  adds_on : (n : ℕ) → n ≤ length filled → take (length bytes) all ≡ bytes → take n filled ≡ take n (drop (length bytes) all) → take (length (bytes ++ take n filled)) all ≡ bytes ++ take n filled
+  adds_on n less front next =
+      let some : length (take n filled) ≡ n = length-take-le n filled less in
+      let long : length (bytes ++ take n filled) ≡ length bytes + n = omega (arith, length-append bytes (take n filled), some) in
+      ap (λ (k : ℕ). take k all) long
+      ∙ (take-add (length bytes) n all
+      ∙ (ap (λ (l : List ℕ). l ++ take n (drop (length bytes) all)) front
+      ∙ ap (λ (l : List ℕ). bytes ++ l) (sym next)))
+
+  -- a read that gives nothing comes at its end
+  nothing_left : 0 < length room → 0 ≡ min (length room) (length (drop (length bytes) all)) → take (length bytes) all ≡ all
+  nothing_left some none = let l = length-drop (length bytes) all in take_all (length bytes) all (omega (arith, l, some, none))
+
+  read_of : (later : Option Ear) (n : ℕ) → n ≤ length filled → take (length bytes) all ≡ bytes → ReadOf here later room filled (Ok n) → IsReading (Some ear) later (bytes ++ take n filled)
+  read_of later n less front told =
+      let next : take n filled ≡ take n (drop (length bytes) all) = told.1 ∙ ap (λ (l : List ℕ). take n l) (unread_is ear (length bytes)) in
+      let some : length (take n filled) ≡ n = length-take-le n filled less in
+      let long : length bytes + n ≡ length (bytes ++ take n filled) = omega (arith, length-append bytes (take n filled), some) in
+      (read_there later n told.2 ∙ ap (λ (k : ℕ). Some (read_to ear k false)) long, adds_on n less front next)
+
+  end_of : (later : Option Ear) (giving gave : ℕ) → 0 < length room → gave ≡ giving → take (length bytes) all ≡ bytes → ReadOf here later room filled (Ok 0)
+      → HasRead (Some ear) later giving gave (Ok bytes)
+  end_of later giving gave some stands front told =
+      let none : 0 ≡ min (length room) (length (drop (length bytes) all)) = told.0 ∙ ap (λ (l : List ℕ). min (length room) (length l)) (unread_is ear (length bytes)) in
+      let same : length bytes + 0 ≡ length bytes = omega arith in
+      (false, read_there later 0 told.2 ∙ ap (λ (k : ℕ). Some (read_to ear k false)) same, front, inl (inr (nothing_left some none), stands))
+
+pub read_adds : (ear now later : Option Ear) (bytes room filled : List ℕ) (n : ℕ) → n ≤ length filled → ReadTold now later room filled (Ok n) → IsReading ear now bytes → IsReading ear later (bytes ++ take n filled)
+read_adds None now later bytes room filled n less told is = let P : Option Ear → Type 0 = λ o. ReadTold o later room filled (Ok n) in subst P is told
+read_adds (Some ear) now later bytes room filled n less told is =
+    let P : Option Ear → Type 0 = λ o. ReadTold o later room filled (Ok n) in
+    read_of ear bytes room filled later n less is.1 (subst P is.0 told)
+
+pub read_ends : (ear now later : Option Ear) (giving gave : ℕ) (bytes room filled : List ℕ) → 0 < length room → gave ≡ giving → ReadTold now later room filled (Ok 0) → IsReading ear now bytes
+    → HasRead ear later giving gave (Ok bytes)
+read_ends None now later giving gave bytes room filled some stands told is = let P : Option Ear → Type 0 = λ o. ReadTold o later room filled (Ok 0) in subst P is told
+read_ends (Some ear) now later giving gave bytes room filled some stands told is =
+    let P : Option Ear → Type 0 = λ o. ReadTold o later room filled (Ok 0) in
+    end_of ear bytes room filled later giving gave some stands is.1 (subst P is.0 told)
+
+-- memory ran out behind a read
+pub read_lost : (ear now later : Option Ear) (giving gave : ℕ) (bytes more room filled : List ℕ) (n : ℕ) (r : Result Bool NoMemory) → IsErr r → ReadTold now later room filled (Ok n)
+    → IsReading ear now bytes → ReadsOn ear later giving gave more r
+read_lost ear now later giving gave bytes more room filled n (Ok b) e told is = absurd cc
+read_lost None now later giving gave bytes more room filled n (Err x) e told is = let P : Option Ear → Type 0 = λ o. ReadTold o later room filled (Ok n) in subst P is told
+read_lost (Some ear) now later giving gave bytes more room filled n (Err x) e told is =
+    let P : Option Ear → Type 0 = λ o. ReadTold o later room filled (Ok n) in
+    let there : ReadOf (here ear bytes room filled) later room filled (Ok n) = subst P is.0 told in
+    (false, length bytes + n, read_there ear bytes room filled later n there.2)
+
+pub read_failed : (ear now later : Option Ear) (giving gave : ℕ) (bytes room filled : List ℕ) (e : Failed) → Rose giving gave → ReadTold now later room filled (Err e) → IsReading ear now bytes
+    → HasRead ear later giving gave (Ok bytes)
+read_failed None now later giving gave bytes room filled e rose told is = let P : Option Ear → Type 0 = λ o. ReadTold o later room filled (Err e) in subst P is told
+read_failed (Some ear) now later giving gave bytes room filled e rose told is =
+    let P : Option Ear → Type 0 = λ o. ReadTold o later room filled (Err e) in
+    (true, subst P is.0 told, is.1, inr rose)
+
+-- ---- all reads
+
+finished_whole : (r : Request) → false ≡ is_unfinished r → whole_of r ≢ More
+finished_whole unfinished e = absurd cc
+finished_whole bad e = λ is. cc
+finished_whole large e = λ is. cc
+finished_whole (asked a) e = λ is. cc
+
+pub is_more : (r : Request) → true ≡ is_unfinished r → r ≡ unfinished
+is_more unfinished e = refl
+is_more bad e = absurd cc
+is_more large e = absurd cc
+is_more (asked a) e = absurd cc
+
+-- what was read is a request, or can be none
+pub read_whole : (ear now : Option Ear) (giving gave : ℕ) (bytes : List ℕ) → false ≡ is_unfinished (request_of bytes) → gave ≡ giving → IsReading ear now bytes → HasRead ear now giving gave (Ok bytes)
+read_whole None now giving gave bytes whole stands is = is
+read_whole (Some ear) now giving gave bytes whole stands is =
+    let P : List ℕ → Type 0 = λ s. whole_of (request_of s) ≢ More in
+    (false, is.0, is.1, inl (inl (subst P (sym is.1) (finished_whole (request_of bytes) whole)), stands))
+
+-- ---- counts
+
+pub no_rise : (n : ℕ) → StandsOrRose n n
+no_rise n = inl refl

@@ -308,6 +308,7 @@ impl Calls {
         requires { is_away (entry_of call.0 self.old.table.entries) ≡ true }
         ensures done { OnOk result (self.new ≡ after_finishing peers.now accounts.now call.0 now tokens.old self.old) }
         ensures emits { IfOk result (λ out. out ≡ (finished_by (site_of self.old peers.now accounts.now) call.0 now tokens.old self.old.table).desk.out) }
+        ensures tokens { OnOk result (tokens.new ≡ (finished_by (site_of self.old peers.now accounts.now) call.0 now tokens.old self.old.table).desk.tokens) }
     {
         let setting = Setting {
             sip: self.sip,
@@ -329,11 +330,11 @@ impl Calls {
         Ok(out)
     }
 
-    /// Ends a call whose leg is away: BYE to the leg that is left, and its rows are closed. Of the tokens nothing is said, but that they stay where the calls had failed before.
+    /// Ends a call whose leg is away: BYE to the leg that is left, and its rows are closed; the tokens have drawn what that took.
     ///
     /// # Errors
     ///
-    /// Want of memory alone: the calls have failed then, and each later signal answers it and changes nothing.
+    /// Want of memory alone: the calls have failed then, and each later signal answers it and changes nothing. Of the tokens nothing is said then, but that they stay where the calls had failed before; so the layer above draws no more from them.
     pub fn finish(
         &mut self,
         alloc: Global,
@@ -346,6 +347,7 @@ impl Calls {
         requires { is_away (entry_of call.0 self.old.table.entries) ≡ true }
         ensures done { OnOk result ((deeds : List Deed) → Stands peers.now accounts.now self.old deeds → Stands peers.now accounts.now self.new (Finishes call.0 now tokens.old ∷ deeds)) }
         ensures emits { IfOk result (λ out. (deeds : List Deed) → Stands peers.now accounts.now self.old deeds → out ≡ (finished_by (site_of self.old peers.now accounts.now) call.0 now tokens.old (table_after (site_of self.old peers.now accounts.now) deeds)).desk.out) }
+        ensures tokens { OnOk result ((deeds : List Deed) → Stands peers.now accounts.now self.old deeds → tokens.new ≡ (finished_by (site_of self.old peers.now accounts.now) call.0 now tokens.old (table_after (site_of self.old peers.now accounts.now) deeds)).desk.tokens) }
         ensures fails { IfErr result (λ e. (self.old.has_failed ≡ false → self.new.has_failed ≡ true)) }
         ensures stuck { self.old.has_failed ≡ true → IsErr result × ((self.new ≡ self.old) × (tokens.new ≡ tokens.old)) }
     {

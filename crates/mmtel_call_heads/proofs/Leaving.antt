@@ -40,7 +40,7 @@ without_clean P (Some at) items e = without_at_clean P at items e
 
 -- ---- one that was left
 
-record IsCleanRest (rest : Rest) : Type 0 where
+pub record IsCleanRest (rest : Rest) : Type 0 where
   pub left_in : IfSome rest.left IsCleanLoose
   pub desk_in : IsCleanDesk rest.desk
 
@@ -76,7 +76,7 @@ success_clean : (sip : Addr) (l : Loose) (remote : Remote) (desk : Desk) → IsC
 success_clean sip l remote desk is had_remote had =
     success_in_clean sip l remote (ended_before l remote.tag) desk is had_remote (fork_clean l.invitation.forks (position (is_ended l.within remote.tag) l.invitation.forks) is.forks_in) had
 
-late_response_clean : (sip : Addr) (key : TKey) (m : HeardMessage) (l : Loose) (desk : Desk) → IsCleanHeard m → IsCleanLoose l → IsCleanDesk desk → IsCleanRest (on_response sip key m l desk)
+pub late_response_clean : (sip : Addr) (key : TKey) (m : HeardMessage) (l : Loose) (desk : Desk) → IsCleanHeard m → IsCleanLoose l → IsCleanDesk desk → IsCleanRest (on_response sip key m l desk)
 late_response_clean sip key m l desk heard is had =
     let said = with_invitation l (has_said key l.invitation) in
     let known = with_invitation l (knows key l.invitation) in

@@ -1,14 +1,14 @@
-mod Bytes
-mod Splitting
-mod Reading
-mod Building
-mod Hearing
-mod Sending
-mod Keeping
+pub mod Bytes
+pub mod Splitting
+pub mod Reading
+pub mod Building
+pub mod Hearing
+pub mod Sending
+pub mod Keeping
 mod Deciding
-mod Going
+pub mod Going
 mod Ringing
-mod Leaving
+pub mod Leaving
 mod Talking
-mod Stories
+pub mod Stories
 mod Canonical

@@ -233,7 +233,7 @@ emit_lines (emit.Ack key m) is = own_lines m is
 emit_lines (emit.Arm call what at) is = tt
 emit_lines (emit.ArmSeat room seat what at) is = tt
 
-each_lines : (out : List Emit) → Each IsCleanEmit out → Each SendsOwnLines out
+pub each_lines : (out : List Emit) → Each IsCleanEmit out → Each SendsOwnLines out
 each_lines [] each = tt
 each_lines (e ∷ out) each = (emit_lines e each.0, each_lines out each.1)
 

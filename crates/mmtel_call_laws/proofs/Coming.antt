@@ -282,7 +282,7 @@ unfolding moves.moves
 came-after site first o later P before kept rows old s at (n, filed, same, agrees, shown) = (suc n, filed, same, agrees, shown)
 
 -- the move at the target is the turn there
-move-known : (law : TurnsAreMoves) (site : Site) (now first : Standing) (o : Opening) (later : ℕ → Standing) (by : Option DueDiversion) (target : Target) (kept : Kept) →
+pub move-known : (law : TurnsAreMoves) (site : Site) (now first : Standing) (o : Opening) (later : ℕ → Standing) (by : Option DueDiversion) (target : Target) (kept : Kept) →
     IsKnown first o → target.of_number ≡ is_by_number by → standing_after (known_as site first o later) kept.done ≡ now →
     let reach = reach_at site now o (cause_of by) target (service_at site now o (cause_of by) target) (peer_for site o target) in
     on_reaching (known_as site first o later) (reach_of (known_as site first o later) kept.done target.uri by) target.uri by kept
@@ -343,7 +343,7 @@ within-none received done bound e = grind (arith, nat_tests)
 within-some : (received done bound left : ℕ) → suc left + done ≡ bound - received → nat_lt (received + done) bound ≡ true
 within-some received done bound left e = grind (arith, nat_tests)
 
-abbrev by_bound : (received done bound : ℕ) → Cause → Option Cause
+abbrev pub by_bound : (received done bound : ℕ) → Cause → Option Cause
 by_bound received done bound why = if is_within received done bound then None else Some why
 
 told-quiet : (site : Site) (due : DueDiversion) (c : Call) (desk : Desk) → Quiet c.opening.key desk (told_of site due c desk)
@@ -365,7 +365,7 @@ diverting-part site now first later caller c kept service reach target ready div
     ∙ sym (past_parts-more call number 0 (suc kept.done) None kept.targets target place)
 
 -- one more was made
-abbrev more : Kept → Kept
+abbrev pub more : Kept → Kept
 more kept = record kept { done = kept.done + 1 }
 
 coming-by : (left : ℕ) (site : Site) (now first : Standing) (later : ℕ → Standing) (caller : Leg) (c : Call) (kept : Kept) (service : Option Service) (reach : Reach) (due : DueDiversion) →
@@ -389,20 +389,20 @@ coming-by left site now first later caller c kept service reach due ready divert
     }
 
 -- where the diversion is made, things stand then as they stand now
-stands-next : (left : ℕ) (site : Site) (now : Standing) (later : ℕ → Standing) (c : Call) (kept : Kept) (s : Step) → c.diversions.left + kept.done ≡ total site c.opening → c.diversions.left ≡ suc left →
+pub stands-next : (left : ℕ) (site : Site) (now : Standing) (later : ℕ → Standing) (c : Call) (kept : Kept) (s : Step) → c.diversions.left + kept.done ≡ total site c.opening → c.diversions.left ≡ suc left →
     s.call.diversions.left ≤ left → StandsThen site now c.opening later kept s → later kept.done ≡ now
 stands-next left site now later c kept s e few leaves stands = stands kept.done (omega arith) (omega arith)
 
-stands-on : (site : Site) (now : Standing) (later : ℕ → Standing) (c : Call) (kept : Kept) (s : Step) → StandsThen site now c.opening later kept s → StandsThen site now c.opening later (more kept) s
+pub stands-on : (site : Site) (now : Standing) (later : ℕ → Standing) (c : Call) (kept : Kept) (s : Step) → StandsThen site now c.opening later kept s → StandsThen site now c.opening later (more kept) s
 stands-on site now later c kept s stands j least most = stands j (omega arith) most
 
-at-bound : (received done bound : ℕ) (why : Cause) → 0 + done ≡ bound - received → by_bound received done bound why ≡ Some why
+pub at-bound : (received done bound : ℕ) (why : Cause) → 0 + done ≡ bound - received → by_bound received done bound why ≡ Some why
 at-bound received done bound why e = rw (within-none received done bound e) refl
 
-below-bound : (received done bound left : ℕ) (why : Cause) → suc left + done ≡ bound - received → by_bound received done bound why ≡ None
+pub below-bound : (received done bound left : ℕ) (why : Cause) → suc left + done ≡ bound - received → by_bound received done bound why ≡ None
 below-bound received done bound left why e = rw (within-some received done bound left e) refl
 
-abbrev go_on_if : Bool → Option Cause → Option Cause
+abbrev pub go_on_if : Bool → Option Cause → Option Cause
 go_on_if bars rest = if bars then Some causes.OutgoingBarred else rest
 
 pub divert-comes : (law : TurnsAreMoves) (left : ℕ) (site : Site) (now first : Standing) (later : ℕ → Standing) (caller : Leg) (P : Type 0) → DivertComes left site now first later caller P

@@ -32,20 +32,20 @@ use Rattle.mmtel_call_laws.proofs.Telling.{Told, moves-more, tied}
 
 -- ---- moves that come to nothing more
 
-abbrev kept_at : Kept → moves.Phase → Kept
+abbrev pub kept_at : Kept → moves.Phase → Kept
 kept_at kept phase = record kept { phase = phase; endings = [] }
 
-ringing-still : (n : ℕ) (call : precedence.Call) (kept : Kept) (account : AccountState) → moves.moves n call (kept_at kept (moves.Ringing account)) ≡ kept_at kept (moves.Ringing account)
+pub ringing-still : (n : ℕ) (call : precedence.Call) (kept : Kept) (account : AccountState) → moves.moves n call (kept_at kept (moves.Ringing account)) ≡ kept_at kept (moves.Ringing account)
 unfolding moves.moves
 ringing-still zero call kept account = refl
 ringing-still (suc n) call kept account = ringing-still n call kept account
 
-over-still : (n : ℕ) (call : precedence.Call) (kept : Kept) (result : precedence.Result) → moves.moves n call (kept_at kept (moves.Over result)) ≡ kept_at kept (moves.Over result)
+pub over-still : (n : ℕ) (call : precedence.Call) (kept : Kept) (result : precedence.Result) → moves.moves n call (kept_at kept (moves.Over result)) ≡ kept_at kept (moves.Over result)
 unfolding moves.moves
 over-still zero call kept result = refl
 over-still (suc n) call kept result = over-still n call kept result
 
-at-phase : (kept : Kept) (phase : moves.Phase) → kept.phase ≡ phase → kept.endings ≡ [] → kept ≡ kept_at kept phase
+pub at-phase : (kept : Kept) (phase : moves.Phase) → kept.phase ≡ phase → kept.endings ≡ [] → kept ≡ kept_at kept phase
 at-phase kept phase e f = ap (λ es. record kept { endings = es }) f ∙ ap (λ p. record kept { phase = p; endings = [] }) e
 
 still : (site : Site) (first : Standing) (o : Opening) (later : ℕ → Standing) (kept : Kept) (c : Call) (filed : List Row) (at : ℕ) (n : ℕ) (call : precedence.Call) → kept.endings ≡ [] →
@@ -60,12 +60,12 @@ still site first o later kept c filed at n call empty (Ends cause p) =
 -- ---- a story and its Outcome
 
 -- what is kept of the call at the end of the story
-record IsTold (s : Start) (heard : List Heard) (kept : Kept) : Type 0 where
+pub record IsTold (s : Start) (heard : List Heard) (kept : Kept) : Type 0 where
   pub outcome : outcome_so_far kept ≡ outcome_after s heard
   pub agrees : Agrees s.site s.now (opening_in s) (stood_after s heard) kept (call_after s heard) (rows_after s heard) (over_at s heard)
   pub shown : Told s heard kept
 
-told : TurnsAreMoves → EndingsAreMoves → LaterEndingsExtend → MovesGiveTheOutcome → (s : Start) (heard : List Heard) → (kept : Kept) × IsTold s heard kept
+pub told : TurnsAreMoves → EndingsAreMoves → LaterEndingsExtend → MovesGiveTheOutcome → (s : Start) (heard : List Heard) → (kept : Kept) × IsTold s heard kept
 told turn_law end_law extend enough_law s heard =
     let (m, agrees, shown) = tied turn_law end_law extend s heard (stood_after s heard) (λ j most. refl) in
     let call = known_after s heard in

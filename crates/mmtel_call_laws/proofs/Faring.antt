@@ -281,7 +281,7 @@ final-unanswered false false true redirection code target rang f e = cc
 final-unanswered false false false true code target rang f e = redirection-unanswered code target rang e
 final-unanswered false false false false code target rang f e = cc
 
-final-answered : (success busy unreachable redirection : Bool) (code : ℕ) (target : Option Uri) (rang : Bool) → success ≡ true → final_by success busy unreachable redirection code target rang ≡ Answer
+pub final-answered : (success busy unreachable redirection : Bool) (code : ℕ) (target : Option Uri) (rang : Bool) → success ≡ true → final_by success busy unreachable redirection code target rang ≡ Answer
 final-answered true busy unreachable redirection code target rang f = refl
 final-answered false busy unreachable redirection code target rang f = absurd cc
 
@@ -307,10 +307,10 @@ class-fares P site now x key m code c desk false true success s u v e f g = proc
 class-fares P site now x key m code c desk false false true s u v e f g = answers P site now x key m c desk (end_by_final code (redirect_of m) x.attempt.rang) (accepted-sign (status_of m.heard.start) (ap (λ n. nat_lt n 200) (sym s) ∙ sym u) (ap (λ n. nat_lt n 300) (sym s) ∙ sym v)) (f refl refl)
 class-fares P site now x key m code c desk false false false s u v e f g = fails P site now x key m code c desk (g refl)
 
-trying-provisional : (code : ℕ) → nat_lt code 101 ≡ true → nat_lt code 200 ≡ true
+pub trying-provisional : (code : ℕ) → nat_lt code 101 ≡ true → nat_lt code 200 ≡ true
 trying-provisional code e = grind (arith, nat_tests)
 
-success-yes : (code : ℕ) → nat_lt code 200 ≡ false → nat_lt code 300 ≡ true → attempts.is_success code ≡ true
+pub success-yes : (code : ℕ) → nat_lt code 200 ≡ false → nat_lt code 300 ≡ true → attempts.is_success code ≡ true
 success-yes code e f = grind (arith, nat_tests)
 
 success-no : (code : ℕ) → nat_lt code 300 ≡ false → attempts.is_success code ≡ false

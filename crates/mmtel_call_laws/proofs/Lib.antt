@@ -1,14 +1,15 @@
 mod Parts
-mod Falling
-mod Knowing
-mod Agreeing
-mod Coming
-mod Untouched
-mod Faring
-mod Answering
-mod Turning
-mod Telling
-mod Lowering
-mod Concluding
+pub mod Falling
+pub mod Knowing
+pub mod Agreeing
+pub mod Coming
+pub mod Untouched
+pub mod Faring
+pub mod Answering
+pub mod Turning
+pub mod Telling
+pub mod Lowering
+pub mod Concluding
 mod Signs
 mod Moments
+mod GoingOn

@@ -52,7 +52,7 @@ use Rattle.mmtel_call_laws.proofs.Untouched.{Untouched}
 abbrev pub Fits : Start → List Heard → (ℕ → Standing) → Type 0
 Fits s heard later = (j : ℕ) → j < made_after s heard → later j ≡ stood_after s heard j
 
-abbrev call_in : Start → (ℕ → Standing) → precedence.Call
+abbrev pub call_in : Start → (ℕ → Standing) → precedence.Call
 call_in s later = known_as s.site s.now (opening_in s) later
 
 -- what was shown so far is due of the targets that were reached, and of the result
@@ -65,15 +65,15 @@ Tied s heard later =
     (m : ℕ) × Agrees s.site s.now (opening_in s) later (moves.moves m (call_in s later) (at_first (call_in s later) (endings_after s heard))) (call_after s heard) (rows_after s heard) (over_at s heard)
     × Told s heard (moves.moves m (call_in s later) (at_first (call_in s later) (endings_after s heard)))
 
-is-known : (s : Start) → IsKnown s.now (opening_in s)
+pub is-known : (s : Start) → IsKnown s.now (opening_in s)
 is-known s = record { sheet = refl; restricted = refl }
 
 -- ---- as it opens
 
-abbrev empty_kept : moves.Phase → Kept
+abbrev pub empty_kept : moves.Phase → Kept
 empty_kept phase = record { done = 0; targets = []; phase = phase; endings = [] }
 
-plus-zero : (n : ℕ) → n + 0 ≡ n
+pub plus-zero : (n : ℕ) → n + 0 ≡ n
 plus-zero n = omega arith
 
 -- by what refuses it
@@ -110,13 +110,13 @@ begins-came law (Some cause) site now o later desk rows old known same shown sta
     })
     same (λ p. told-shown site c (status_of cause) desk ∙ ap (λ l. l ++ final_sign (status_of cause)) (shown p))
 
-refusal-known : (site : Site) (now : Standing) (o : Opening) (later : ℕ → Standing) → IsKnown now o → refusal_of now.at o ≡ refusal_at_opening (known_as site now o later)
+pub refusal-known : (site : Site) (now : Standing) (o : Opening) (later : ℕ → Standing) → IsKnown now o → refusal_of now.at o ≡ refusal_at_opening (known_as site now o later)
 refusal-known site now o later known =
     ap (λ sheet. refusal_by o.invite.heard.wants o.served sheet (Rattle.mmtel_call.specs.Decisions.of_target o now.at (first_of o).uri)) known.sheet
     ∙ ap (λ (k : Circumstances). refusal_by o.invite.heard.wants o.served (option_map (Rattle.mmtel_precedence.specs.Calls.sheet_at now) o.served.origin) k) (of_target-known site now o later now.at (first_of o).uri known)
 
 -- what stands behind what was there
-added-is : {A : Type 0} (before behind after : List A) → after ≡ before ++ behind → added before after ≡ behind
+pub added-is : {A : Type 0} (before behind after : List A) → after ≡ before ++ behind → added before after ≡ behind
 added-is before behind after e = ap (λ l. drop (length before) l) e ∙ drop_at before behind (length before) refl
 
 opens-came : (law : TurnsAreMoves) (s : Start) (later : ℕ → Standing) → Fits s [] later →
@@ -172,7 +172,7 @@ rows-of : (before : List Row) (filed old new : List Row) → before ≡ [] → n
 rows-of before filed old new e f = ap (λ l. l ++ added old new) e ∙ added-is old filed new f
 
 -- the call is as its phase is said to be
-in-phase : (c : Call) (phase : Phase) → c.phase ≡ phase → c ≡ record c { phase = phase }
+pub in-phase : (c : Call) (phase : Phase) → c.phase ≡ phase → c ≡ record c { phase = phase }
 in-phase c phase e = ap (λ p. record c { phase = p }) e
 
 abbrev at_if_over : Phase → ℕ → ℕ → ℕ
@@ -345,13 +345,13 @@ stood-now made j then_ now_ e = go (nat_lt j made) (lt-false made j e)
     go false f = refl
 
 -- what fits a story fits what was heard of it before
-fits-earlier : (s : Start) (x : Heard) (earlier : List Heard) (later : ℕ → Standing) → Fits s (x ∷ earlier) later → Fits s earlier later
+pub fits-earlier : (s : Start) (x : Heard) (earlier : List Heard) (later : ℕ → Standing) → Fits s (x ∷ earlier) later → Fits s earlier later
 unfolding call_after stood_after
 fits-earlier s x earlier later fits j most =
     let leaves = step-leaves s.site x.now x.signal (call_after s earlier) x.desk in
     fits j (omega arith) ∙ stood-before (made_after s earlier) j (stood_after s earlier j) x.now most
 
-fits-now : (s : Start) (x : Heard) (earlier : List Heard) (later : ℕ → Standing) (done : ℕ) → Fits s (x ∷ earlier) later → (call_after s earlier).diversions.left + done ≡ total s.site (opening_in s) →
+pub fits-now : (s : Start) (x : Heard) (earlier : List Heard) (later : ℕ → Standing) (done : ℕ) → Fits s (x ∷ earlier) later → (call_after s earlier).diversions.left + done ≡ total s.site (opening_in s) →
     (j : ℕ) → done ≤ j → j < total s.site (opening_in s) - (next_step s x (call_after s earlier)).call.diversions.left → later j ≡ x.now
 unfolding call_after stood_after
 fits-now s x earlier later done fits e j least most = fits j most ∙ stood-now (made_after s earlier) j (stood_after s earlier j) x.now (omega arith)

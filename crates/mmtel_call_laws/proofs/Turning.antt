@@ -55,10 +55,10 @@ ends_by at end = option_to_list (option_map (ended_at at) end)
 -- ---- the move on the end of an attempt
 
 -- while it rings, nothing is still to come
-abbrev ringing : Kept → Reach → Kept
+abbrev pub ringing : Kept → Reach → Kept
 ringing kept reach = record kept { phase = moves.Ringing (account_at reach); endings = [] }
 
-is-ringing : (kept : Kept) (reach : Reach) → kept.phase ≡ moves.Ringing (account_at reach) → kept.endings ≡ [] → ringing kept reach ≡ kept
+pub is-ringing : (kept : Kept) (reach : Reach) → kept.phase ≡ moves.Ringing (account_at reach) → kept.endings ≡ [] → ringing kept reach ≡ kept
 is-ringing kept reach e f = ap (λ p. record kept { phase = p; endings = [] }) (sym e) ∙ ap (λ es. record kept { endings = es }) (sym f)
 
 turn-came : (law : EndingsAreMoves) (site : Site) (first : Standing) (o : Opening) (later : ℕ → Standing) (kept : Kept) (reach : Reach) (at : ℕ) (how : End) (rows : List Row) (P : Type 0) (old : List Sign) (s : Step) (moment : ℕ) →
@@ -151,7 +151,7 @@ ready-by site now first later kept c d filed x reach s step made same =
       past = ap (λ past. past ++ option_to_list x.callee.leg.meter) (same.past ∙ p.past) ∙ ap (λ last. past_parts call number 0 None kept.targets ++ option_to_list last) p.last;
     }
 
-turn-known : (site : Site) (first : Standing) (o : Opening) (later : ℕ → Standing) (at : ℕ) (x : Trial) (reach : Reach) (how : End) → IsKnown first o → turns.sheet_of reach ≡ its_sheet x.attempt.service →
+pub turn-known : (site : Site) (first : Standing) (o : Opening) (later : ℕ → Standing) (at : ℕ) (x : Trial) (reach : Reach) (how : End) → IsKnown first o → turns.sheet_of reach ≡ its_sheet x.attempt.service →
     turn_on (targets.of_caller (known_as site first o later) at) (turns.sheet_of reach) how ≡ decided_after o at x.attempt.service how
 turn-known site first o later at x reach how known e =
     ap (λ (k : Circumstances). turn_on k (turns.sheet_of reach) how) (sym (of_caller-known site first o later at known))

@@ -5,3 +5,4 @@ pub mod Known
 pub mod Charged
 pub mod Shown
 pub mod Laws
+pub mod GoingOn

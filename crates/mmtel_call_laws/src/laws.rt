@@ -1,4 +1,5 @@
 //! What every story of a call comes to. These are laws, and no code.
+ghost use Rattle.mmtel_call_laws.specs.GoingOn.{CallsGoOn};
 ghost use Rattle.mmtel_call_laws.specs.Laws.{ChargingIsExact, ComesToItsOutcome, DiversionsAreCounted, ShowsItsOutcome};
 
 use mmtel_precedence::laws::{
@@ -38,6 +39,16 @@ pub fn diversions_are_counted()
 /// Of each account that a call reaches, of the one that it is made by, and of each that diverts it, one part begins, at its moment; it runs as long as the call, and has one row then, in the order begun (TS 32.260 §5).
 pub fn charging_is_exact()
     ensures law { ChargingIsExact }
+{
+    turns_are_moves();
+    endings_are_moves();
+    later_endings_extend();
+    moves_give_the_outcome();
+}
+
+/// A call stays the one that was opened, and what began runs while it is not over. Whatever an answered call hears, it stands with its parts as they were, or both sides leave and each part has its row; one that is over stays so.
+pub fn calls_go_on()
+    ensures law { CallsGoOn }
 {
     turns_are_moves();
     endings_are_moves();

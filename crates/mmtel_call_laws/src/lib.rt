@@ -4,6 +4,6 @@
 mod laws;
 
 pub use laws::{
-    calls_come_to_their_outcome, calls_show_their_outcome, charging_is_exact,
+    calls_come_to_their_outcome, calls_go_on, calls_show_their_outcome, charging_is_exact,
     diversions_are_counted,
 };

@@ -16,7 +16,6 @@ use Rattle.mmtel_transaction.specs.declared.words.DueWord.{DueWord}
 use Rattle.mmtel_transaction.specs.declared.words.DueWord.TheVariants as due
 use Rattle.mmtel_transaction.specs.declared.words.Emit.TheVariants as emit
 use Rattle.mmtel_transaction.specs.declared.words.TKey.{TKey}
-use Rattle.mmtel_trust.specs.Digest.{HeardMessage}
 use Rattle.mmtel_types.specs.Sides.{other_of}
 use Rattle.mmtel_types.specs.declared.numbers.Peer.{Peer}
 use Rattle.mmtel_types.specs.declared.sides.Side.{Side}
@@ -44,7 +43,7 @@ use Rattle.mmtel_call_secret.specs.Seen.{AlikeDesks, AlikeSteps, Trust, trust_of
 use Rattle.mmtel_call_secret.proofs.Absorbing.{request_absorbs}
 use Rattle.mmtel_call_secret.proofs.Once.{call_once, request_again}
 use Rattle.mmtel_call_secret.proofs.Rows.{across-alike, both-alike, bye-alike, cancelled-alike, ended-alike, leaves-alike, left_by-alike, on-alike, on-alike-by, once_public, own-reply, step-if, unheard-alike, unlisted-alike}
-use Rattle.mmtel_call_secret.proofs.Sent.{Heads, emitted-alike, final_acked-alike, if-alike, relayed-alike, untouched, whole}
+use Rattle.mmtel_call_secret.proofs.Sent.{Heads, emitted-alike, final_acked-alike, if-alike, relayed-alike, untouched}
 use Rattle.mmtel_call_secret.proofs.Shown.{shown-foreign, shown-same}
 
 module _ (heads : Heads) (site : Site) (keys : TKey → Bool) where
@@ -212,13 +211,13 @@ module _ (heads : Heads) (site : Site) (keys : TKey → Bool) where
       (shown-foreign site (public_opening who c.opening) (public_diverted (masks_all c.opening) c.diversions) x.service (other_of side) q.request.peer (without_private role m)) (shown-foreign site c.opening c.diversions x.service (other_of side) q.request.peer m)
       (λ strange. shown-same site who c.opening c.diversions x.service (other_of side) q.request.peer role m fits (sym asked.known ∙ strange)) a
 
-  pub acked-final : (key : TKey) (i : Invitation) (role : Role) (m : Said) (one other : Desk) → IsAnswer T key i.dialogue.peer m → AlikeDesks T one other →
+  pub acked-final : (key : TKey) (i : Invitation) (role : Role) (m : Said) (one other : Desk) → IsAnswer T key i.dialogue.peer role m → AlikeDesks T one other →
       AlikeDesks T (final_acked site.sip key (public_invitation known i) (without_private role m).heard one) (final_acked site.sip key i m.heard other)
   acked-final key i role m one other answer a =
       final_acked-alike heads T site.sip key i (without_private role m).heard m.heard (public_dialog_by (known i.dialogue.peer) i.dialogue) one other
-      (λ e. (untouched (known i.dialogue.peer) i.dialogue (sym answer.known ∙ e), ap (λ (h : HeardMessage). field (codes "To") h.lines) (whole m.heard.trusted (private_places role m.heard) m.heard (answer.told ∙ (sym answer.known ∙ e))))) a
+      (λ e. (untouched (known i.dialogue.peer) i.dialogue (sym answer.known ∙ e), ap (λ (z : Said). field (codes "To") z.heard.lines) (answer.whole (sym answer.known ∙ e)))) a
 
-  refused-alike : (who : Identities2) (x : Pair) (side : Side) (q : Reinvite) (key : TKey) (role : Role) (m : Said) (c : Call) (one other : Desk) → IsAsked T q.key q.request → IsAnswer T key q.invitation.dialogue.peer m → Fits c.opening x.service (other_of side) m role → AlikeDesks T one other →
+  refused-alike : (who : Identities2) (x : Pair) (side : Side) (q : Reinvite) (key : TKey) (role : Role) (m : Said) (c : Call) (one other : Desk) → IsAsked T q.key q.request → IsAnswer T key q.invitation.dialogue.peer role m → Fits c.opening x.service (other_of side) m role → AlikeDesks T one other →
       AlikeDesks T (refused_back site (public_pair known x) side (public_reinvite known q) key (without_private role m) (public_call known who c) one) (refused_back site x side q key m c other)
   refused-alike who x side q key role m c one other asked answer fits a =
       back-alike who x side q role m c (final_acked site.sip key (public_invitation known q.invitation) (without_private role m).heard one) (final_acked site.sip key q.invitation m.heard other) asked fits (acked-final key q.invitation role m one other answer a)
@@ -249,7 +248,7 @@ module _ (heads : Heads) (site : Site) (keys : TKey → Bool) where
     desk = awaits-alike who at c (relayed_back site (public_pair known x) side (public_reinvite known q) (without_private role m) (public_call known who c) one) (relayed_back site x side q m c other) (back-alike who x side q role m c one other asked fits a);
   }
 
-  answers-alike : (asking : Side) (q : Reinvite) (who : Identities2) (at : ℕ) (x : Pair) (key : TKey) (role : Role) (m : Said) (code : ℕ) (c : Call) (one other : Desk) → IsAsked T q.key q.request → IsAnswer T key q.invitation.dialogue.peer m → Fits c.opening x.service (other_of asking) m role → AlikeDesks T one other →
+  answers-alike : (asking : Side) (q : Reinvite) (who : Identities2) (at : ℕ) (x : Pair) (key : TKey) (role : Role) (m : Said) (code : ℕ) (c : Call) (one other : Desk) → IsAsked T q.key q.request → IsAnswer T key q.invitation.dialogue.peer role m → Fits c.opening x.service (other_of asking) m role → AlikeDesks T one other →
       AlikeSteps T (on_response_across site at (public_pair known x) asking (public_reinvite known q) key (without_private role m) code (public_call known who c) one) (on_response_across site at x asking q key m code c other)
   answers-alike asking q who at x key role m code c one other asked answer fits a =
       let z : Pair = public_pair known x in

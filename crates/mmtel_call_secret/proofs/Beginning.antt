@@ -37,7 +37,7 @@ use Rattle.mmtel_call.specs.Opening.{begins, caller_of, first_of, new_call, open
 use Rattle.mmtel_call.specs.Sending.{masks_all, told_caller}
 use Rattle.mmtel_call.specs.Site.{Site, trusts}
 use Rattle.mmtel_call.specs.declared.openings.Arrival.{Arrival}
-use Rattle.mmtel_call_secret.specs.Opening.{OpeningsKeepAlike, OpeningsSeePublicParts, public_arrival}
+use Rattle.mmtel_call_secret.specs.Opening.{OpeningsGiveAlike, OpeningsKeepAlike, OpeningsSeePublicParts, public_arrival}
 use Rattle.mmtel_call_secret.specs.Parts.{public_call, public_dialog_by, public_leg, public_opening}
 use Rattle.mmtel_call_secret.specs.Premises.{AreAsked, DecideAlike, IsAsked}
 use Rattle.mmtel_call_secret.specs.Roles.{hidden_by, opening_role, private_places, without_private}
@@ -48,6 +48,7 @@ use Rattle.mmtel_call_secret.proofs.Offering.{step-brings}
 use Rattle.mmtel_call_secret.proofs.Once.{call_once}
 use Rattle.mmtel_call_secret.proofs.Rows.{told-alike}
 use Rattle.mmtel_call_secret.proofs.Sent.{Heads, same_desk}
+use Rattle.mmtel_call_secret.proofs.Staying.{opened-keeps}
 
 -- ---- the list that came with it
 
@@ -191,3 +192,11 @@ openings_keep_alike heads law records site keys now a b one other first then sta
     let e : public_arrival now who a ≡ public_arrival now who b = ap (λ (x : Arrival). record x { identities = who }) same in
     let moved : AlikeSteps T q (opened site now a one) = subst (λ (x : Arrival). AlikeSteps T (opened site now x one) (opened site now a one)) e left in
     steps-then T (opened site now a one) q (opened site now b other) (steps-back T q (opened site now a one) moved) right
+
+pub openings_give_alike : Heads → VerdictsSeeAnswersAlone → OpeningsGiveAlike
+openings_give_alike heads law records site keys now a b one other first then stand alike same d = record {
+  same = (openings_keep_alike heads law records site keys now a b one other first then stand alike same d).call;
+  callers =
+      subst (λ (o : Opening). DecideAlike records o.identities (opened site now b other).call.opening.identities) (sym (opened-keeps site now a one))
+      (subst (λ (o : Opening). DecideAlike records a.identities o.identities) (sym (opened-keeps site now b other)) alike);
+}

@@ -33,7 +33,7 @@ use Rattle.mmtel_call.specs.Closing.{Step, onward}
 use Rattle.mmtel_call.specs.Leaving.{acked_again, answered_at, answered_loose, answered_other, answered_taken, answered_taken_at, as_loose, forked, is_fork, is_success, is_taken, is_talking, repeated, taken_again, with_rest, with_taken, without_at}
 use Rattle.mmtel_call.specs.Site.{Site, trusts}
 use Rattle.mmtel_call_secret.specs.Parts.{nobody, public_call, public_dialog, public_invitation, public_loose, public_part, public_phase, public_taken}
-use Rattle.mmtel_call_secret.specs.Premises.{HearsOther, IsAnswer}
+use Rattle.mmtel_call_secret.specs.Premises.{HearsOther, IsAnswer, IsWhole}
 use Rattle.mmtel_call_secret.specs.Roles.{Role, private_places, without_private}
 use Rattle.mmtel_call_secret.specs.Rows.{AnswersOfOthers}
 use Rattle.mmtel_call_secret.specs.Seen.{AlikeDesks, AlikeSteps, Sent, Trust, trust_of}
@@ -51,7 +51,7 @@ tried : {A : Type 0} (f : A → A) (p : A → Bool) → ((x : A) → p (f x) ≡
 tried f p same [] = refl
 tried f p same (x ∷ xs) = rw (same x, tried f p same xs) refl
 
-long : {A : Type 0} (f : A → A) (xs : List A) → length (map f xs) ≡ length xs
+pub long : {A : Type 0} (f : A → A) (xs : List A) → length (map f xs) ≡ length xs
 long f [] = refl
 long f (x ∷ xs) = ap suc (long f xs)
 
@@ -64,7 +64,7 @@ found f p same xs =
     ap (λ (n : ℕ). found_at n (length (map f xs))) (tried f p same xs)
     ∙ ap (λ (n : ℕ). found_at (prefix_len (λ x. not (p x)) xs) n) (long f xs)
 
-got : {A : Type 0} (f : A → A) (xs : List A) (i : ℕ) → slice_get (map f xs) i ≡ option_map f (slice_get xs i)
+pub got : {A : Type 0} (f : A → A) (xs : List A) (i : ℕ) → slice_get (map f xs) i ≡ option_map f (slice_get xs i)
 got f [] i = refl
 got f (x ∷ xs) zero = refl
 got f (x ∷ xs) (suc i) = got f xs i
@@ -75,12 +75,12 @@ rest_of f at xs =
     ∙ (ap (λ l. map f (take at xs) ++ l) (drop-map f (at + 1) xs)
     ∙ sym (map-append f (take at xs) (drop (at + 1) xs)))
 
-listed : {A : Type 0} (f : A → A) (o : Option A) → map f (option_to_list o) ≡ option_to_list (option_map f o)
+pub listed : {A : Type 0} (f : A → A) (o : Option A) → map f (option_to_list o) ≡ option_to_list (option_map f o)
 listed f None = refl
 listed f (Some x) = refl
 
 -- a list of which one item is taken out, and perhaps another one stands last
-left_over : {A : Type 0} (f : A → A) → ((x : A) → f (f x) ≡ f x) → (at : ℕ) (xs : List A) (o p : Option A) → option_map f o ≡ option_map f p →
+pub left_over : {A : Type 0} (f : A → A) → ((x : A) → f (f x) ≡ f x) → (at : ℕ) (xs : List A) (o p : Option A) → option_map f o ≡ option_map f p →
     map f (without_at at (map f xs) ++ option_to_list o) ≡ map f (without_at at xs ++ option_to_list p)
 left_over f again at xs o p e =
     map-append f (without_at at (map f xs)) (option_to_list o)
@@ -91,10 +91,10 @@ left_over f again at xs o p e =
 
 -- ---- desks in turn
 
-desks-back : (t : Trust) (x y : Desk) → AlikeDesks t x y → AlikeDesks t y x
+pub desks-back : (t : Trust) (x y : Desk) → AlikeDesks t x y → AlikeDesks t y x
 desks-back t x y a = record { tokens = sym a.tokens; rows = sym a.rows; out = sym a.out }
 
-desks-then : (t : Trust) (x y z : Desk) → AlikeDesks t x y → AlikeDesks t y z → AlikeDesks t x z
+pub desks-then : (t : Trust) (x y z : Desk) → AlikeDesks t x y → AlikeDesks t y z → AlikeDesks t x z
 desks-then t x y z a b = record { tokens = a.tokens ∙ b.tokens; rows = a.rows ∙ b.rows; out = a.out ∙ b.out }
 
 -- what is left of an INVITE, and the desk
@@ -129,7 +129,7 @@ module _ (heads : Heads) (site : Site) (keys : TKey → Bool) where
 
   -- ---- a 2xx
 
-  made_same : (within : Bool) (d : Dialogue) (role : Role) (m : Said) → m.heard.trusted ≡ known d.peer →
+  made_same : (within : Bool) (d : Dialogue) (role : Role) (m : Said) → (known d.peer ≡ false → IsWhole role m) →
       public_dialog known (made_from within (public_dialog known d) (remote_of Callee (without_private role m).heard.lines)) ≡ public_dialog known (made_from within d (remote_of Callee m.heard.lines))
   made_same true d role m told = dialog_again known d
   made_same false d role m told = met_alike heads site keys (called d) role m told
@@ -149,7 +149,7 @@ module _ (heads : Heads) (site : Site) (keys : TKey → Bool) where
         desk = bye-like d e (acked site.sip d one) (acked site.sip e other) same (acked-like d e one other same a);
       }
 
-  success-by : (o : Option Dialogue) (l : Loose) (role : Role) (m : Said) (one other : Desk) → m.heard.trusted ≡ known l.invitation.dialogue.peer → AlikeDesks T one other →
+  success-by : (o : Option Dialogue) (l : Loose) (role : Role) (m : Said) (one other : Desk) → (known l.invitation.dialogue.peer ≡ false → IsWhole role m) → AlikeDesks T one other →
       RestsAlike T (on_success_in site.sip (public_loose known l) (remote_of Callee (without_private role m).heard.lines) (option_map (public_dialog known) o) one) (on_success_in site.sip l (remote_of Callee m.heard.lines) o other)
   success-by None l role m one other told a =
       ends-alike l (made_from l.within (public_dialog known l.invitation.dialogue) (remote_of Callee (without_private role m).heard.lines)) (made_from l.within l.invitation.dialogue (remote_of Callee m.heard.lines)) one other (made_same l.within l.invitation.dialogue role m told) a
@@ -167,7 +167,7 @@ module _ (heads : Heads) (site : Site) (keys : TKey → Bool) where
       forked_at None = refl
       forked_at (Some at) = got (public_dialog known) l.invitation.forks at
 
-  success-alike : (l : Loose) (role : Role) (m : Said) (one other : Desk) → m.heard.trusted ≡ known l.invitation.dialogue.peer → AlikeDesks T one other →
+  success-alike : (l : Loose) (role : Role) (m : Said) (one other : Desk) → (known l.invitation.dialogue.peer ≡ false → IsWhole role m) → AlikeDesks T one other →
       RestsAlike T (on_success site.sip (public_loose known l) (remote_of Callee (without_private role m).heard.lines) one) (on_success site.sip l (remote_of Callee m.heard.lines) other)
   success-alike l role m one other told a =
       let r : Remote = remote_of Callee (without_private role m).heard.lines in
@@ -187,7 +187,7 @@ module _ (heads : Heads) (site : Site) (keys : TKey → Bool) where
       (record { left = ap (λ (x : Loose). Some x) (loose_again known l); desk = a })
       (record { left = ap (λ (x : Loose). Some x) (loose_again known m); desk = cancel-alike heads T site.sip i one other a })
 
-  response-alike : (key : TKey) (l : Loose) (role : Role) (m : Said) (one other : Desk) → IsAnswer T key l.invitation.dialogue.peer m → AlikeDesks T one other →
+  pub response-alike : (key : TKey) (l : Loose) (role : Role) (m : Said) (one other : Desk) → IsAnswer T key l.invitation.dialogue.peer role m → AlikeDesks T one other →
       RestsAlike T (on_response site.sip key (without_private role m).heard (public_loose known l) one) (on_response site.sip key m.heard l other)
   response-alike key l role m one other answer a =
       let n : Said = without_private role m in
@@ -200,10 +200,10 @@ module _ (heads : Heads) (site : Site) (keys : TKey → Bool) where
       rest-if (nat_lt (status_of m.heard.start) 200) (late_cancelled site.sip (public_loose known said) one) (cond (nat_lt (status_of m.heard.start) 300) p gone) (late_cancelled site.sip said other) (cond (nat_lt (status_of m.heard.start) 300) q over)
       (late-alike said one other a)
       (rest-if (nat_lt (status_of m.heard.start) 300) p gone q over
-      (success-alike told role m one other answer.told a)
+      (success-alike told role m one other answer.whole a)
       (record { left = refl; desk = acked-final heads site keys key l.invitation role m one other answer a }))
 
-  loose-alike : (at : ℕ) (o : Option Loose) (who : Identities2) (key : TKey) (role : Role) (m : Said) (c : Call) (one other : Desk) → ((l : Loose) → o ≡ Some l → IsAnswer T key l.invitation.dialogue.peer m) → AlikeDesks T one other →
+  loose-alike : (at : ℕ) (o : Option Loose) (who : Identities2) (key : TKey) (role : Role) (m : Said) (c : Call) (one other : Desk) → ((l : Loose) → o ≡ Some l → IsAnswer T key l.invitation.dialogue.peer role m) → AlikeDesks T one other →
       AlikeSteps T (answered_loose site key (without_private role m) at (option_map (public_loose known) o) (public_call known who c) one) (answered_loose site key m at o c other)
   loose-alike at None who key role m c one other answer a = on-alike heads site keys who c one other a
   loose-alike at (Some l) who key role m c one other answer a =
@@ -251,7 +251,7 @@ module _ (heads : Heads) (site : Site) (keys : TKey → Bool) where
       subst (λ (b : Bool). AlikeSteps T (onward (public_call known who c) (cond b (acked_again (public_taken known t) (public_taken known t).invitation.ack one) one)) (repeated t c other)) (sym (talking_same c.phase))
       (on-alike heads site keys who c (cond (is_talking c.phase) (acked_again (public_taken known t) (public_taken known t).invitation.ack one) one) (cond (is_talking c.phase) (acked_again t t.invitation.ack other) other) (again-if (is_talking c.phase) t one other a))
 
-  forks-alike : (at : ℕ) (t : Taken) (who : Identities2) (key : TKey) (role : Role) (m : Said) (c : Call) (one other : Desk) → IsAnswer T key t.invitation.dialogue.peer m → AlikeDesks T one other →
+  forks-alike : (at : ℕ) (t : Taken) (who : Identities2) (key : TKey) (role : Role) (m : Said) (c : Call) (one other : Desk) → IsAnswer T key t.invitation.dialogue.peer role m → AlikeDesks T one other →
       AlikeSteps T (forked site key (without_private role m) at (public_taken known t) (public_call known who c) one) (forked site key m at t c other)
   forks-alike at t who key role m c one other answer a =
       let rests : RestsAlike T (on_response site.sip key (without_private role m).heard (public_loose known (as_loose t)) one) (on_response site.sip key m.heard (as_loose t) other) = response-alike key (as_loose t) role m one other answer a in
@@ -264,7 +264,7 @@ module _ (heads : Heads) (site : Site) (keys : TKey → Bool) where
         desk = rests.desk;
       }
 
-  taken-alike : (at : ℕ) (o : Option Taken) (who : Identities2) (key : TKey) (role : Role) (m : Said) (c : Call) (one other : Desk) → ((t : Taken) → o ≡ Some t → IsAnswer T key t.invitation.dialogue.peer m) → AlikeDesks T one other →
+  taken-alike : (at : ℕ) (o : Option Taken) (who : Identities2) (key : TKey) (role : Role) (m : Said) (c : Call) (one other : Desk) → ((t : Taken) → o ≡ Some t → IsAnswer T key t.invitation.dialogue.peer role m) → AlikeDesks T one other →
       AlikeSteps T (answered_taken site key (without_private role m) at (option_map (public_taken known) o) (public_call known who c) one) (answered_taken site key m at o c other)
   taken-alike at None who key role m c one other answer a = on-alike heads site keys who c one other a
   taken-alike at (Some t) who key role m c one other answer a =
@@ -280,7 +280,7 @@ module _ (heads : Heads) (site : Site) (keys : TKey → Bool) where
 
   -- ---- by the branch
 
-  taken_at-alike : (o : Option ℕ) (who : Identities2) (key : TKey) (role : Role) (m : Said) (c : Call) (one other : Desk) → ((at : ℕ) (t : Taken) → o ≡ Some at → slice_get c.taken at ≡ Some t → IsAnswer T key t.invitation.dialogue.peer m) → AlikeDesks T one other →
+  taken_at-alike : (o : Option ℕ) (who : Identities2) (key : TKey) (role : Role) (m : Said) (c : Call) (one other : Desk) → ((at : ℕ) (t : Taken) → o ≡ Some at → slice_get c.taken at ≡ Some t → IsAnswer T key t.invitation.dialogue.peer role m) → AlikeDesks T one other →
       AlikeSteps T (answered_taken_at site key (without_private role m) o (public_call known who c) one) (answered_taken_at site key m o c other)
   taken_at-alike None who key role m c one other answer a = on-alike heads site keys who c one other a
   taken_at-alike (Some at) who key role m c one other answer a =
@@ -288,8 +288,8 @@ module _ (heads : Heads) (site : Site) (keys : TKey → Bool) where
       (taken-alike at (slice_get c.taken at) who key role m c one other (λ t e. answer at t refl e) a)
 
   at-alike : (o : Option ℕ) (who : Identities2) (key : TKey) (role : Role) (m : Said) (branch : List ℕ) (c : Call) (one other : Desk) →
-      ((at : ℕ) (l : Loose) → o ≡ Some at → slice_get c.loose at ≡ Some l → IsAnswer T key l.invitation.dialogue.peer m) →
-      ((at : ℕ) (t : Taken) → position (is_taken branch) c.taken ≡ Some at → slice_get c.taken at ≡ Some t → IsAnswer T key t.invitation.dialogue.peer m) → AlikeDesks T one other →
+      ((at : ℕ) (l : Loose) → o ≡ Some at → slice_get c.loose at ≡ Some l → IsAnswer T key l.invitation.dialogue.peer role m) →
+      ((at : ℕ) (t : Taken) → position (is_taken branch) c.taken ≡ Some at → slice_get c.taken at ≡ Some t → IsAnswer T key t.invitation.dialogue.peer role m) → AlikeDesks T one other →
       AlikeSteps T (answered_at site key (without_private role m) branch o (public_call known who c) one) (answered_at site key m branch o c other)
   at-alike None who key role m branch c one other loose taken a =
       subst (λ (o : Option ℕ). AlikeSteps T (answered_taken_at site key (without_private role m) o (public_call known who c) one) (answered_taken_at site key m (position (is_taken branch) c.taken) c other)) (sym (found (public_taken known) (is_taken branch) (λ t. refl) c.taken))
@@ -298,7 +298,7 @@ module _ (heads : Heads) (site : Site) (keys : TKey → Bool) where
       subst (λ (o : Option Loose). AlikeSteps T (answered_loose site key (without_private role m) at o (public_call known who c) one) (answered_loose site key m at (slice_get c.loose at) c other)) (sym (got (public_loose known) c.loose at))
       (loose-alike at (slice_get c.loose at) who key role m c one other (λ l e. loose at l refl e) a)
 
-  other-alike : (who : Identities2) (key : TKey) (role : Role) (m : Said) (branch : List ℕ) (c : Call) (one other : Desk) → HearsOther T key branch m c → AlikeDesks T one other →
+  other-alike : (who : Identities2) (key : TKey) (role : Role) (m : Said) (branch : List ℕ) (c : Call) (one other : Desk) → HearsOther T key branch role m c → AlikeDesks T one other →
       AlikeSteps T (answered_other site key (without_private role m) branch (public_call known who c) one) (answered_other site key m branch c other)
   unfolding answered_other
   other-alike who key role m branch c one other hears a =

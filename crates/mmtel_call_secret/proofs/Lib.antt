@@ -1,18 +1,25 @@
-mod Once
-mod Sent
-mod Shown
+pub mod Once
+pub mod Sent
+pub mod Shown
 mod Rows
 mod Absorbing
-mod Across
-mod Ringing
+pub mod Across
+pub mod Ringing
 mod Deciding
 mod Offering
 mod Diverting
 mod Failing
-mod Leaving
+pub mod Leaving
 mod Acks
 mod Stepping
 mod Staying
 mod Keeping
 mod Beginning
 mod Telling
+mod Leading
+mod LookingUp
+mod Both
+mod Lending
+mod Whose
+mod Kept
+mod Wholes

@@ -28,8 +28,8 @@ use Rattle.mmtel_call.specs.Ringing.{armed_in, met_by, next_success, noted, pair
 use Rattle.mmtel_call.specs.Sending.{masks_all, relayed_to_caller, shown_to}
 use Rattle.mmtel_call.specs.Site.{Site, trusts}
 use Rattle.mmtel_call_secret.specs.Parts.{nobody, public_attempt, public_call, public_dialog, public_diverted, public_leg, public_opening, public_pair, public_part, public_tried, public_trial}
-use Rattle.mmtel_call_secret.specs.Premises.{Fits, IsAsked}
-use Rattle.mmtel_call_secret.specs.Roles.{Role, hidden_by, opening_role, private_places, without_private}
+use Rattle.mmtel_call_secret.specs.Premises.{Fits, IsAsked, IsWhole}
+use Rattle.mmtel_call_secret.specs.Roles.{Role, opening_role, private_places, without_private}
 use Rattle.mmtel_call_secret.specs.Rows.{AnswersToAttempt, ProvisionalToAttempt}
 use Rattle.mmtel_call_secret.specs.Seen.{AlikeDesks, AlikeSteps, Trust, trust_of}
 use Rattle.mmtel_call_secret.proofs.Across.{awaits-alike, taken_more}
@@ -59,15 +59,13 @@ module _ (heads : Heads) (site : Site) (keys : TKey → Bool) where
 
   -- ---- the target's dialog
 
-  pub met_alike : (d : Dialogue) (role : Role) (m : Said) → m.heard.trusted ≡ known d.peer → public_dialog known (met (public_dialog known d) (remote_of Callee (without_private role m).heard.lines)) ≡ public_dialog known (met d (remote_of Callee m.heard.lines))
-  met_alike d role m told =
-      ap (λ (b : Bool). public_dialog known (met (public_dialog known d) (remote_of Callee (hidden_by b (private_places role m.heard) m.heard).lines))) told
-      ∙ met-same (known d.peer) d (private_places role m.heard) m.heard
+  pub met_alike : (d : Dialogue) (role : Role) (m : Said) → (known d.peer ≡ false → IsWhole role m) → public_dialog known (met (public_dialog known d) (remote_of Callee (without_private role m).heard.lines)) ≡ public_dialog known (met d (remote_of Callee m.heard.lines))
+  met_alike d role m told = met-same (known d.peer) m.heard.trusted d (private_places role m.heard) m.heard (λ e. ap (λ (z : Said). z.heard) (told e))
 
   abbrev early_if : Bool → TriedView → HeardMessage → TriedView
   early_if b callee h = met_by (cond b None (Some (remote_of Callee h.lines))) callee
 
-  tried_if : (b : Bool) (callee : TriedView) (role : Role) (m : Said) → m.heard.trusted ≡ known callee.leg.dialogue.peer →
+  tried_if : (b : Bool) (callee : TriedView) (role : Role) (m : Said) → (known callee.leg.dialogue.peer ≡ false → IsWhole role m) →
       public_tried known (early_if b (public_tried known callee) (without_private role m).heard) ≡ public_tried known (early_if b callee m.heard)
   tried_if true callee role m told = tried_again known callee
   tried_if false callee role m told = ap (λ (d : Dialogue). record { leg = with_dialogue callee.leg d; is_early = true }) (met_alike callee.leg.dialogue role m told)
@@ -93,7 +91,7 @@ module _ (heads : Heads) (site : Site) (keys : TKey → Bool) where
       ∙ (ap (λ (v : TriedView). record (public_part known c) { phase = Offered (record { caller = public_leg known caller; callee = v; attempt = public_attempt known (public_attempt known attempt) }) }) e
       ∙ ap (λ (y : Attempt). record (public_part known c) { phase = Offered (record { caller = public_leg known caller; callee = public_tried known tried; attempt = y }) }) (attempt_again known attempt)))
 
-  pub proceeds-alike : (who : Identities2) (at : ℕ) (x : Trial) (key : TKey) (role : Role) (m : Said) (code : ℕ) (c : Call) (one other : Desk) → IsAsked T c.opening.key c.opening.invite → Fits c.opening x.attempt.service Callee m role → m.heard.trusted ≡ known x.callee.leg.dialogue.peer → AlikeDesks T one other →
+  pub proceeds-alike : (who : Identities2) (at : ℕ) (x : Trial) (key : TKey) (role : Role) (m : Said) (code : ℕ) (c : Call) (one other : Desk) → IsAsked T c.opening.key c.opening.invite → Fits c.opening x.attempt.service Callee m role → (known x.callee.leg.dialogue.peer ≡ false → IsWhole role m) → AlikeDesks T one other →
       AlikeSteps T (proceeding site at (public_trial known x) key (without_private role m) code (public_call known who c) one) (proceeding site at x key m code c other)
   proceeds-alike who at x key role m code c one other asked fits told a = record {
     call = trial_call who c x.caller (callee_after (public_tried known x.callee) (without_private role m)) (callee_after x.callee m) (ringing code (noted key x.attempt))
@@ -105,7 +103,7 @@ module _ (heads : Heads) (site : Site) (keys : TKey → Bool) where
 
   -- ---- 2xx
 
-  answers-alike : (who : Identities2) (at : ℕ) (x : Trial) (key : TKey) (role : Role) (m : Said) (c : Call) (one other : Desk) → IsAsked T c.opening.key c.opening.invite → Fits c.opening x.attempt.service Callee m role → m.heard.trusted ≡ known x.callee.leg.dialogue.peer → AlikeDesks T one other →
+  answers-alike : (who : Identities2) (at : ℕ) (x : Trial) (key : TKey) (role : Role) (m : Said) (c : Call) (one other : Desk) → IsAsked T c.opening.key c.opening.invite → Fits c.opening x.attempt.service Callee m role → (known x.callee.leg.dialogue.peer ≡ false → IsWhole role m) → AlikeDesks T one other →
       AlikeSteps T (answered site at (public_trial known x) key (without_private role m) (public_call known who c) one) (answered site at x key m c other)
   answers-alike who at x key role m c one other asked fits told a =
       let t : Taken = taken_by key m false x.attempt.invitation in
@@ -119,7 +117,7 @@ module _ (heads : Heads) (site : Site) (keys : TKey → Bool) where
         desk = awaits-alike heads site keys who at c (relayed_to_caller site (public_call known who c) x.attempt.service (without_private role m) one) (relayed_to_caller site c x.attempt.service m other) (to_caller-alike who x.attempt.service role m c one other asked fits a);
       }
 
-  provisional-alike : (who : Identities2) (at : ℕ) (x : Trial) (key : TKey) (role : Role) (m : Said) (code : ℕ) (c : Call) (one other : Desk) → IsAsked T c.opening.key c.opening.invite → Fits c.opening x.attempt.service Callee m role → m.heard.trusted ≡ known x.callee.leg.dialogue.peer → AlikeDesks T one other →
+  provisional-alike : (who : Identities2) (at : ℕ) (x : Trial) (key : TKey) (role : Role) (m : Said) (code : ℕ) (c : Call) (one other : Desk) → IsAsked T c.opening.key c.opening.invite → Fits c.opening x.attempt.service Callee m role → (known x.callee.leg.dialogue.peer ≡ false → IsWhole role m) → AlikeDesks T one other →
       AlikeSteps T (cond (nat_lt code 101) (tried key (public_trial known x) (public_call known who c) one) (proceeding site at (public_trial known x) key (without_private role m) code (public_call known who c) one))
       (cond (nat_lt code 101) (tried key x c other) (proceeding site at x key m code c other))
   provisional-alike who at x key role m code c one other asked fits told a =

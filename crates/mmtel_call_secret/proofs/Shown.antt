@@ -110,8 +110,9 @@ target_by false r s v e = ap (λ (u : List ℕ). said_or u v) (e refl)
 met_by : (b : Bool) (d : Dialogue) (r s : Remote) → r.tag ≡ s.tag → r.routes ≡ s.routes → (b ≡ false → r.target ≡ s.target) → public_dialog_by b (met (public_dialog_by b d) r) ≡ public_dialog_by b (met d s)
 met_by b d r s tag routes target = rw (tag, routes, target_by b r.target s.target d.target target, remote_again b d.side d.remote) refl
 
--- what a response says of its sender, where it is hidden as the dialog's peer is trusted
-pub met-same : (b : Bool) (d : Dialogue) (p : Places) (h : HeardMessage) → public_dialog_by b (met (public_dialog_by b d) (remote_of Callee (hidden_by b p h).lines)) ≡ public_dialog_by b (met d (remote_of Callee h.lines))
-met-same b d p h =
-    met_by b d (remote_of Callee (hidden_by b p h).lines) (remote_of Callee h.lines) (tag_by b (places_in h.start p) h.lines) (route_by b (places_in h.start p) h.lines)
-    (λ e. ap (λ (x : Bool). contact_uri (hidden_by x p h).lines) e)
+-- what a response says of its sender, of which nothing is hidden where the dialog's peer is not trusted
+pub met-same : (b trusted : Bool) (d : Dialogue) (p : Places) (h : HeardMessage) → (b ≡ false → hidden_by trusted p h ≡ h) →
+    public_dialog_by b (met (public_dialog_by b d) (remote_of Callee (hidden_by trusted p h).lines)) ≡ public_dialog_by b (met d (remote_of Callee h.lines))
+met-same b trusted d p h same =
+    met_by b d (remote_of Callee (hidden_by trusted p h).lines) (remote_of Callee h.lines) (tag_by trusted (places_in h.start p) h.lines) (route_by trusted (places_in h.start p) h.lines)
+    (λ e. ap (λ (x : HeardMessage). contact_uri x.lines) (same e))

@@ -2,6 +2,7 @@
 use Rattle.std.proofs.Common.{◌≡◌, ℕ, zero, suc, Bool, true, false, not, List, refl, cond, Option, Some, None}
 use Rattle.std.specs.Prelude.{Result, Ok, Err, nat_lt, position, slice_get}
 use Rattle.mmtel_answers.specs.Said.{Said, status_of}
+use Rattle.mmtel_desk.specs.Desks.{drew, token}
 use Rattle.mmtel_desk.specs.Loose.{is_of}
 use Rattle.mmtel_desk.specs.declared.desks.Desk.{Desk}
 use Rattle.mmtel_desk.specs.declared.invitations.Loose.{Loose}
@@ -36,14 +37,16 @@ use Rattle.mmtel_call.specs.Closing.{Step, onward, over_stood}
 use Rattle.mmtel_call.specs.Decisions.{decided_after, decided_at, is_barred, peer_for, service_at}
 use Rattle.mmtel_call.specs.Diverting.{at_target, divert, diverted, goes_on, offer_where, on_end, on_turn, passed_by, refused, refused_by, target_of, told_of, too_many}
 use Rattle.mmtel_call.specs.Leaving.{answered_at, answered_loose, answered_other, answered_taken, answered_taken_at, forked, is_fork, is_success, is_taken, repeated, without_silent}
+use Rattle.mmtel_call.specs.Opening.{caller_of, first_of, new_call, opened, opening_of, refusal_of, unless_refused}
 use Rattle.mmtel_call.specs.Reinvites.{agreed, bye_to_both, ends_dialog, on_response_across, proceeding_across, refused_back}
 use Rattle.mmtel_call.specs.Ringing.{heard_by, on_due, on_heard, on_request_if, on_response, says_offered}
 use Rattle.mmtel_call.specs.Requests.{having_heard, is_bye, is_invite, says, unlisted}
-use Rattle.mmtel_call.specs.Sending.{replied_to}
+use Rattle.mmtel_call.specs.Sending.{replied_to, told_caller}
 use Rattle.mmtel_call.specs.Site.{Site}
 use Rattle.mmtel_call.specs.Stages.{busy_in, has_left, is_due_at, left_by, on_ack_at, on_bye, on_cancel_at, on_heard_at, on_invite, on_request_at_if, on_response_at, on_silence_at, rung_out}
 use Rattle.mmtel_call.specs.Table.{ack_in, answer_to, cancel_in, due_in, invite_answered, invite_silent, is_current, request_in, response_in, silence_in, silence_of, step}
 use Rattle.mmtel_call.specs.declared.signals.Signal.TheVariants as signal
+use Rattle.mmtel_call.specs.declared.openings.Arrival.{Arrival}
 use Rattle.mmtel_call_secret.specs.Alike.{OpeningsStay}
 
 -- the step leaves this opening
@@ -251,6 +254,19 @@ module _ (site : Site) (now : Standing) where
   to-silence : (o : Option (List ℕ)) (c : Call) (desk : Desk) → Keeps c.opening (silence_of o site now c desk)
   to-silence None c desk = refl
   to-silence (Some branch) c desk = keep-if c.opening (is_current branch c) (silence_in c.phase site now c desk) (onward (without_silent branch c) desk) (in-silence c.phase c desk) refl
+
+  -- ---- the opening
+
+  unless-stays : (refusal : Option Cause) (caller : Leg) (c : Call) (desk : Desk) → Keeps c.opening (unless_refused refusal site now caller c desk)
+  unless-stays None caller c desk = target-stays (divert c.diversions.left site now caller) (divert-stays c.diversions.left caller) caller None (first_of c.opening) c desk
+  unless-stays (Some cause) caller c desk = refl
+
+  -- a call that opens has what was read of its INVITE
+  pub opened-keeps : (a : Arrival) (desk : Desk) → Keeps (opening_of site now (token desk) a) (opened site now a desk)
+  unfolding opened
+  opened-keeps a desk =
+      let c : Call = new_call site (opening_of site now (token desk) a) in
+      unless-stays (refusal_of now.at c.opening) (caller_of now.at c) c (told_caller site c 100 (drew desk))
 
 pub openings_stay : OpeningsStay
 unfolding step

@@ -9,3 +9,6 @@ pub mod Table
 pub mod Alike
 pub mod Opening
 pub mod Stories
+pub mod Directories
+pub mod Lending
+pub mod Kept

@@ -7,8 +7,9 @@ use Rattle.mmtel_rules.specs.declared.values.Identities2.{Identities2}
 use Rattle.mmtel_sheet_values.specs.declared.values.Sheet.{Sheet}
 use Rattle.mmtel_transaction.specs.declared.words.TKey.{TKey}
 use Rattle.mmtel_call.specs.Opening.{opened, origin_sheet}
-use Rattle.mmtel_call.specs.Site.{Site}
+use Rattle.mmtel_call.specs.Site.{Site, trusts}
 use Rattle.mmtel_call.specs.declared.openings.Arrival.{Arrival}
+use Rattle.mmtel_call_secret.specs.Alike.{AlikeCalls}
 use Rattle.mmtel_call_secret.specs.Parts.{nobody}
 use Rattle.mmtel_call_secret.specs.Premises.{AreAsked, DecideAlike, IsAsked}
 use Rattle.mmtel_call_secret.specs.Roles.{opening_role, without_private}
@@ -32,3 +33,10 @@ OpeningsKeepAlike = (records : List Sheet) (site : Site) (keys : TKey → Bool) 
     IsAsked (trust_of site keys) a.key a.invite → IsAsked (trust_of site keys) b.key b.invite → AreAsked records now → DecideAlike records a.identities b.identities →
     public_arrival now nobody a ≡ public_arrival now nobody b → AlikeDesks (trust_of site keys) one other →
     AlikeSteps (trust_of site keys) (opened site now a one) (opened site now b other)
+
+-- alike calls they are: of the callers that are known of them the same is decided
+abbrev pub OpeningsGiveAlike : Type 0
+OpeningsGiveAlike = (records : List Sheet) (site : Site) (keys : TKey → Bool) (now : Standing) (a b : Arrival) (one other : Desk) →
+    IsAsked (trust_of site keys) a.key a.invite → IsAsked (trust_of site keys) b.key b.invite → AreAsked records now → DecideAlike records a.identities b.identities →
+    public_arrival now nobody a ≡ public_arrival now nobody b → AlikeDesks (trust_of site keys) one other →
+    AlikeCalls records (trusts site) (opened site now a one).call (opened site now b other).call

@@ -32,7 +32,7 @@ use Rattle.mmtel_call.specs.Decisions.{its_sheet}
 use Rattle.mmtel_call.specs.Leaving.{is_taken}
 use Rattle.mmtel_call.specs.declared.calls.Taken.{Taken}
 use Rattle.mmtel_call.specs.Sending.{facing}
-use Rattle.mmtel_call_secret.specs.Roles.{Role, hides, private_places}
+use Rattle.mmtel_call_secret.specs.Roles.{Role, hides, private_places, without_private}
 use Rattle.mmtel_call_secret.specs.Seen.{Trust}
 
 -- the request of a server transaction: its peer is the one who said it
@@ -65,9 +65,13 @@ pub record CallIsAsked (t : Trust) (c : Call) : Type 0 where
 
 -- ---- answers
 
--- the response that a client transaction heard: its peer is the one that was asked
-pub record IsAnswer (t : Trust) (key : TKey) (asked : Peer) (m : Said) : Type 0 where
-  pub told : m.heard.trusted ≡ t.peer asked
+-- nothing of it is private
+abbrev pub IsWhole : Role → Said → Type 0
+IsWhole role m = without_private role m ≡ m
+
+-- the response that a client transaction heard, which is known by the peer that was asked. Where that one is not trusted nothing of it is private: what that peer says is not, nor what another one says that is of no side of the call
+pub record IsAnswer (t : Trust) (key : TKey) (asked : Peer) (role : Role) (m : Said) : Type 0 where
+  pub whole : t.peer asked ≡ false → IsWhole role m
   pub known : t.key key ≡ t.peer asked
 
 -- ---- who the caller is
@@ -96,19 +100,19 @@ pub record CanGoOn (records : List Sheet) (t : Trust) (now : Standing) (who : Id
   pub caller : DecideAlike records who c.opening.identities
   pub stand : AreAsked records now
 
--- the target's response to an attempt: it comes from the peer that was asked, hides the target only where it is restricted, and never where it redirects to
+-- the target's response to an attempt: it hides the target only where it is restricted and trusted, and never where it redirects to
 pub record IsTargets (t : Trust) (key : TKey) (x : Trial) (role : Role) (m : Said) (o : Opening) : Type 0 where
-  pub answer : IsAnswer t key x.attempt.invitation.dialogue.peer m
-  pub leg : m.heard.trusted ≡ t.peer x.callee.leg.dialogue.peer
+  pub answer : IsAnswer t key x.attempt.invitation.dialogue.peer role m
+  pub leg : t.peer x.callee.leg.dialogue.peer ≡ false → IsWhole role m
   pub fits : Fits o x.attempt.service Callee m role
   pub redirect : (private_places role m.heard).redirect ≡ false
 
 -- ---- an INVITE that the call does not wait on
 
--- a response to one comes from the peer that was asked
-pub record HearsOther (t : Trust) (key : TKey) (branch : List ℕ) (m : Said) (c : Call) : Type 0 where
-  pub loose : (at : ℕ) (l : Loose) → position (is_of branch) c.loose ≡ Some at → slice_get c.loose at ≡ Some l → IsAnswer t key l.invitation.dialogue.peer m
-  pub taken : (at : ℕ) (x : Taken) → position (is_taken branch) c.taken ≡ Some at → slice_get c.taken at ≡ Some x → IsAnswer t key x.invitation.dialogue.peer m
+-- a response to one
+pub record HearsOther (t : Trust) (key : TKey) (branch : List ℕ) (role : Role) (m : Said) (c : Call) : Type 0 where
+  pub loose : (at : ℕ) (l : Loose) → position (is_of branch) c.loose ≡ Some at → slice_get c.loose at ≡ Some l → IsAnswer t key l.invitation.dialogue.peer role m
+  pub taken : (at : ℕ) (x : Taken) → position (is_taken branch) c.taken ≡ Some at → slice_get c.taken at ≡ Some x → IsAnswer t key x.invitation.dialogue.peer role m
 
 -- the INVITE whose 2xx waits for its ACK went to a peer who is trusted as that of the other leg is
 abbrev pub SentAcross : Trust → Call → Pair → Side → Success → Type 0

@@ -1,5 +1,5 @@
 -- What each row of the step table sees of a call and of a message: their public parts alone. With these in the place of the call and of the message, and on a desk of which the same is seen, it leaves a call of the same public part, and the same is seen of what it brings forth.
-use Rattle.std.specs.Prelude.{◌≡◌, ℕ, Bool, if◌then◌else◌, nat_lt, Option, Some, List}
+use Rattle.std.specs.Prelude.{◌≡◌, ℕ, Bool, false, if◌then◌else◌, nat_lt, Option, Some, List}
 use Rattle.std.specs.Option.{option_map}
 use Rattle.mmtel_answers.specs.Said.{Said}
 use Rattle.mmtel_desk.specs.declared.desks.Desk.{Desk}
@@ -23,7 +23,7 @@ use Rattle.mmtel_call.specs.Ringing.{answered, on_cancel, on_due, on_request, on
 use Rattle.mmtel_call.specs.Site.{Site, trusts}
 use Rattle.mmtel_call.specs.Stages.{on_ack_at, on_cancel_at, on_due_at, on_request_at, on_response_at, on_silence_at}
 use Rattle.mmtel_call_secret.specs.Parts.{public_call, public_pair, public_stage, public_trial}
-use Rattle.mmtel_call_secret.specs.Premises.{AreAsked, CanGoOn, DecideAlike, Fits, HearsOther, IsAnswer, IsAsked, IsTargets, ServiceIsAsked, stage_is_asked, stage_is_sent}
+use Rattle.mmtel_call_secret.specs.Premises.{AreAsked, CanGoOn, DecideAlike, Fits, HearsOther, IsAnswer, IsAsked, IsTargets, IsWhole, ServiceIsAsked, stage_is_asked, stage_is_sent}
 use Rattle.mmtel_call_secret.specs.Roles.{Role, without_private}
 use Rattle.mmtel_call_secret.specs.Seen.{AlikeDesks, AlikeSteps, trust_of}
 
@@ -57,7 +57,7 @@ CancelsOnceAnswered = (stage : Stage) (site : Site) (keys : TKey → Bool) (who 
 -- the other side's response to that INVITE, and its silence
 abbrev pub AnswersAcross : Type 0
 AnswersAcross = (asking : Side) (q : Reinvite) (site : Site) (keys : TKey → Bool) (who : Identities2) (at : ℕ) (x : Pair) (key : TKey) (role : Role) (m : Said) (c : Call) (one other : Desk) →
-    IsAsked (trust_of site keys) q.key q.request → IsAnswer (trust_of site keys) key q.invitation.dialogue.peer m → Fits c.opening x.service (other_of asking) m role → AlikeDesks (trust_of site keys) one other →
+    IsAsked (trust_of site keys) q.key q.request → IsAnswer (trust_of site keys) key q.invitation.dialogue.peer role m → Fits c.opening x.service (other_of asking) m role → AlikeDesks (trust_of site keys) one other →
     AlikeSteps (trust_of site keys) (on_response_at (public_stage (trusts site) (Asking asking q)) site at (public_pair (trusts site) x) key (without_private role m) (public_call (trusts site) who c) one) (on_response_at (Asking asking q) site at x key m c other)
 
 abbrev pub SilenceOnceAnswered : Type 0
@@ -75,7 +75,7 @@ DeadlinesOnceAnswered = (stage : Stage) (site : Site) (keys : TKey → Bool) (wh
 -- 100, which stays here, and other provisional responses, which go to the caller
 abbrev pub ProvisionalToAttempt : Type 0
 ProvisionalToAttempt = (site : Site) (keys : TKey → Bool) (who : Identities2) (at : ℕ) (x : Trial) (key : TKey) (role : Role) (m : Said) (code : ℕ) (c : Call) (one other : Desk) →
-    IsAsked (trust_of site keys) c.opening.key c.opening.invite → Fits c.opening x.attempt.service Callee m role → m.heard.trusted ≡ trusts site x.callee.leg.dialogue.peer → AlikeDesks (trust_of site keys) one other →
+    IsAsked (trust_of site keys) c.opening.key c.opening.invite → Fits c.opening x.attempt.service Callee m role → (trusts site x.callee.leg.dialogue.peer ≡ false → IsWhole role m) → AlikeDesks (trust_of site keys) one other →
     AlikeSteps (trust_of site keys)
     (if nat_lt code 101 then tried key (public_trial (trusts site) x) (public_call (trusts site) who c) one else proceeding site at (public_trial (trusts site) x) key (without_private role m) code (public_call (trusts site) who c) one)
     (if nat_lt code 101 then tried key x c other else proceeding site at x key m code c other)
@@ -83,7 +83,7 @@ ProvisionalToAttempt = (site : Site) (keys : TKey → Bool) (who : Identities2) 
 -- the 2xx
 abbrev pub AnswersToAttempt : Type 0
 AnswersToAttempt = (site : Site) (keys : TKey → Bool) (who : Identities2) (at : ℕ) (x : Trial) (key : TKey) (role : Role) (m : Said) (c : Call) (one other : Desk) →
-    IsAsked (trust_of site keys) c.opening.key c.opening.invite → Fits c.opening x.attempt.service Callee m role → m.heard.trusted ≡ trusts site x.callee.leg.dialogue.peer → AlikeDesks (trust_of site keys) one other →
+    IsAsked (trust_of site keys) c.opening.key c.opening.invite → Fits c.opening x.attempt.service Callee m role → (trusts site x.callee.leg.dialogue.peer ≡ false → IsWhole role m) → AlikeDesks (trust_of site keys) one other →
     AlikeSteps (trust_of site keys) (answered site at (public_trial (trusts site) x) key (without_private role m) (public_call (trusts site) who c) one) (answered site at x key m c other)
 
 -- ---- how a call goes on after an attempt (TS 24.604 §4.5.2.6, RFC 7044 §7)
@@ -117,7 +117,7 @@ DeadlinesWhileOffered = (records : List Sheet) (site : Site) (keys : TKey → Bo
 -- a response to one that was left, or had a 2xx
 abbrev pub AnswersOfOthers : Type 0
 AnswersOfOthers = (site : Site) (keys : TKey → Bool) (who : Identities2) (key : TKey) (role : Role) (m : Said) (branch : List ℕ) (c : Call) (one other : Desk) →
-    HearsOther (trust_of site keys) key branch m c → AlikeDesks (trust_of site keys) one other →
+    HearsOther (trust_of site keys) key branch role m c → AlikeDesks (trust_of site keys) one other →
     AlikeSteps (trust_of site keys) (answered_other site key (without_private role m) branch (public_call (trusts site) who c) one) (answered_other site key m branch c other)
 
 -- the ACK of a 2xx: it goes across, and is kept; or a parting call ends

@@ -57,14 +57,14 @@ AnswersIn (Offered x) t key role m c = IsTargets t key x role m c.opening
 AnswersIn (Stood x (Answered side success)) t key role m c = Unit {0}
 AnswersIn (Stood x (Parting side success)) t key role m c = Unit {0}
 AnswersIn (Stood x Talking) t key role m c = Unit {0}
-AnswersIn (Stood x (Asking side q)) t key role m c = IsAnswer t key q.invitation.dialogue.peer m × Fits c.opening x.service (other_of side) m role
+AnswersIn (Stood x (Asking side q)) t key role m c = IsAnswer t key q.invitation.dialogue.peer role m × Fits c.opening x.service (other_of side) m role
 AnswersIn (Lent loan) t key role m c = Unit {0}
 AnswersIn (Over cause) t key role m c = Unit {0}
 
 -- by the INVITE that it answers: the one that the call waits on, or another one
 abbrev pub AnswersOne : Option (List ℕ) → Trust → TKey → Role → Said → Call → Type 0
 AnswersOne None t key role m c = Unit {0}
-AnswersOne (Some branch) t key role m c = AnswersIn c.phase t key role m c × HearsOther t key branch m c
+AnswersOne (Some branch) t key role m c = AnswersIn c.phase t key role m c × HearsOther t key branch role m c
 
 abbrev pub Hears : Signal → Trust → Role → Call → Type 0
 Hears (signal.Request side key request) t role c = IsAsked t key request × FitsIn c.phase c side request role

@@ -1,7 +1,10 @@
 //! What nobody may learn from a call. These are laws, and no code.
 ghost use Rattle.mmtel_call_secret.specs.Alike.{CallsStayAlike, OpeningsStay, StepsKeepAlike};
-ghost use Rattle.mmtel_call_secret.specs.Common.{PublicPartsAreOnce};
-ghost use Rattle.mmtel_call_secret.specs.Opening.{OpeningsKeepAlike, OpeningsSeePublicParts};
+ghost use Rattle.mmtel_call_secret.specs.Common.{MessagesAreWhole, PublicPartsAreOnce, PublicPartsTell};
+ghost use Rattle.mmtel_call_secret.specs.Directories.{CallsStayAlikeInBoth, EndsLookUpNone, OneIsAlike, OpeningsKeepAlikeInBoth, OpeningsSeeLookUpsAlone, StepsKeepAlikeInBoth, StepsSeeLookUpsAlone, StoriesStayAlikeInBoth};
+ghost use Rattle.mmtel_call_secret.specs.Kept.{CallsKeep};
+ghost use Rattle.mmtel_call_secret.specs.Lending.{LendingKeepsAlike};
+ghost use Rattle.mmtel_call_secret.specs.Opening.{OpeningsGiveAlike, OpeningsKeepAlike, OpeningsSeePublicParts};
 ghost use Rattle.mmtel_call_secret.specs.Rows.{AcksOnceAnswered, AnswersAcross, AnswersOfOthers, AnswersToAttempt, AnswersWhileOffered, CancelsOnceAnswered, CancelsWhileOffered, DeadlinesOnceAnswered, DeadlinesWhileOffered, EndsOfAttempts, ProvisionalToAttempt, RequestsOnceAnswered, RequestsWhileOffered, SilenceOnceAnswered, SilenceWhileOffered};
 ghost use Rattle.mmtel_call_secret.specs.Stories.{StoriesStayAlike};
 ghost use Rattle.mmtel_call_secret.specs.Table.{StepsSeePublicParts};
@@ -12,6 +15,16 @@ use mmtel_transaction::laws::heads_rest_on_five_names;
 /// What is blank in the public part of a call is blank once.
 pub fn public_parts_are_once()
     ensures law { PublicPartsAreOnce }
+{}
+
+/// Nothing is private of what a peer says who is not trusted, nor of a response that is of no restricted side: so where the peer that was asked is not trusted, nothing is of its own response, nor of another peer's.
+pub fn messages_are_whole()
+    ensures law { MessagesAreWhole }
+{}
+
+/// The public part of a call tells whether it is over, whether anything may still be heard of it, and which INVITEs and client transactions are its.
+pub fn public_parts_tell_what_is_asked()
+    ensures law { PublicPartsTell }
 {}
 
 /// While a call is offered, a request of a side and a CANCEL see of the call and of the message their public parts alone: what is answered, and who gives up (RFC 3261 §9.2, §12.2.2, §15.1.2).
@@ -82,6 +95,7 @@ pub fn alike_calls_go_on_alike()
 pub fn openings_see_public_parts()
     ensures alone { OpeningsSeePublicParts }
     ensures alike { OpeningsKeepAlike }
+    ensures calls { OpeningsGiveAlike }
 {
     heads_rest_on_five_names();
     verdicts_see_answers_alone();
@@ -94,3 +108,34 @@ pub fn stories_stay_alike()
     heads_rest_on_five_names();
     verdicts_see_answers_alone();
 }
+
+/// Of the URIs of accounts a step of a call, and its opening, see the answers alone where an account is looked up: at the Request-URI, at the targets to which records divert the call, and at those to which responses redirect it. Under two configurations that are equal but for these URIs they come to the same where the answers are the same (TS 24.604 §4.5.2.6).
+pub fn look_ups_alone_are_seen()
+    ensures steps { StepsSeeLookUpsAlone }
+    ensures openings { OpeningsSeeLookUpsAlone }
+    ensures ends { EndsLookUpNone }
+{}
+
+/// So two alike calls, each under its configuration, go on alike and stay alike, through every two stories, and two INVITEs that are the same but for private places open alike calls. All that is asked of two configurations holds of one and itself.
+pub fn calls_are_alike_in_both()
+    ensures steps { StepsKeepAlikeInBoth }
+    ensures calls { CallsStayAlikeInBoth }
+    ensures openings { OpeningsKeepAlikeInBoth }
+    ensures stories { StoriesStayAlikeInBoth }
+    ensures one { OneIsAlike }
+{
+    heads_rest_on_five_names();
+    verdicts_see_answers_alone();
+}
+
+/// Two alike calls stay alike when a leg is taken out of them, which is the same but for private places, when such legs are put back, and when they end without it (RFC 4579 §5.6, RFC 3891 §3).
+pub fn lent_calls_stay_alike()
+    ensures law { LendingKeepsAlike }
+{
+    heads_rest_on_five_names();
+}
+
+/// Whatever a call hears, how it opened and the request that it keeps are asked by their own peers, where the requests that it hears are; and the account that is served where it is offered has one of the records that stood.
+pub fn what_calls_keep()
+    ensures law { CallsKeep }
+{}

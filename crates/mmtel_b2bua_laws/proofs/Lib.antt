@@ -1,0 +1,9 @@
+mod Tables
+mod Moving
+mod Living
+mod Concluding
+mod Own
+mod Tabling
+mod Cleaning
+mod Filing
+mod Keys

@@ -1,0 +1,13 @@
+use Rattle.mmtel_b2bua_laws.proofs.Concluding.{lives_charged, lives_come, lives_counted, lives_show}
+use Rattle.mmtel_b2bua_laws.proofs.laws.lives_come_to_their_outcome.Goals as goal
+
+pub returns : goal.returns
+returns c =
+    let law = c.calls_go_on.ensures.law in
+    let charged = c.charging_is_exact.ensures.law in
+    record {
+      result = lives_come law charged c.calls_come_to_their_outcome.ensures.law;
+      shown = lives_show law charged c.calls_show_their_outcome.ensures.law;
+      counted = lives_counted law charged c.diversions_are_counted.ensures.law;
+      charged = lives_charged law charged;
+    }

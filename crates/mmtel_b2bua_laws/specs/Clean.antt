@@ -1,0 +1,64 @@
+-- What goes out of a table of calls is clean, where what its calls are given is: messages of clean lines, records with clean URIs, tokens of a clean text.
+use Rattle.std.specs.Prelude.{◌≡◌, ℕ, List, ◌∷◌, Some, IfSome, map}
+use Rattle.mmtel_desk.specs.declared.desks.Desk.{Desk}
+use Rattle.mmtel_leg.specs.Dialogues.{request_uri}
+use Rattle.mmtel_sheet_values.specs.View.{InForce, sheet_in}
+use Rattle.mmtel_types.specs.declared.sides.Side.{Side}
+use Rattle.mmtel_call.specs.Site.{Site}
+use Rattle.mmtel_call_heads.specs.Clean.{IsClean}
+use Rattle.mmtel_call_heads.specs.Emits.{Each, IsCleanEmit}
+use Rattle.mmtel_call_heads.specs.Heard.{IsCleanSheet, IsOfClean}
+use Rattle.mmtel_call_heads.specs.Stories.{SendsOwnLines}
+use Rattle.mmtel_call_laws.specs.Story as story
+use Rattle.mmtel_b2bua.specs.Histories.{Deed, Drops, Finishes, Heard, Hears, Releases, Restores}
+use Rattle.mmtel_b2bua.specs.declared.signals.Signal.{Signal}
+use Rattle.mmtel_b2bua.specs.declared.signals.Signal.TheVariants as signal
+use Rattle.mmtel_b2bua_laws.specs.Deeds.{HasNumbers, emits_of, life_of}
+use Rattle.mmtel_b2bua_laws.specs.Lives as lives
+use Rattle.mmtel_b2bua_laws.specs.Lives.{Event}
+
+-- ---- what the table is given
+
+-- each message that is heard is of a clean one; the Request-URI of an INVITE that opens a call is clean
+abbrev pub IsCleanSignal : Signal → Type 0
+IsCleanSignal (signal.Arrived key invite served registration identities) = IsOfClean invite.heard × IsClean (request_uri invite.heard.start)
+IsCleanSignal (signal.Request call side key request) = IsOfClean request.heard
+IsCleanSignal (signal.Ack call side ack) = IsOfClean ack.heard
+IsCleanSignal (signal.Cancel call key cancel invite) = IsOfClean cancel.heard
+IsCleanSignal (signal.Answer key response) = IsOfClean response.heard
+IsCleanSignal (signal.Silent branch method) = Unit {0}
+IsCleanSignal (signal.Due call what) = Unit {0}
+IsCleanSignal (signal.Over key) = Unit {0}
+
+-- the records in force have clean URIs
+abbrev pub AreCleanRecords : InForce → Type 0
+AreCleanRecords view = (number : ℕ) → IfSome (sheet_in view number) IsCleanSheet
+
+pub record IsCleanHearing (x : Heard) : Type 0 where
+  pub records : AreCleanRecords x.view
+  pub signal : IsCleanSignal x.signal
+  pub token : IsClean x.tokens.token
+
+abbrev pub IsCleanDeed : Deed → Type 0
+IsCleanDeed (Hears x) = IsCleanHearing x
+IsCleanDeed (Releases number side) = Unit {0}
+IsCleanDeed (Restores number away) = Unit {0}
+IsCleanDeed (Finishes number at tokens) = IsClean tokens.token
+IsCleanDeed (Drops count) = Unit {0}
+
+-- ---- what goes out
+
+-- lives of signals alone
+abbrev pub signals : List story.Heard → List Event
+signals heard = map lives.Hears heard
+
+-- of a call of which no leg was taken out, and of one that ended in the deed after that
+pub record CallsSendCleanMessages : Type 0 where
+  pub clean : (site : Site) (deeds : List Deed) (number : ℕ) (start : story.Start) (heard : List story.Heard) → HasNumbers site deeds → IsClean site.home → Each IsCleanDeed deeds →
+      life_of site number deeds ≡ Some (record { start = start; events = signals heard }) → Each IsCleanEmit (emits_of site number deeds)
+  pub lines : (site : Site) (deeds : List Deed) (number : ℕ) (start : story.Start) (heard : List story.Heard) → HasNumbers site deeds → IsClean site.home → Each IsCleanDeed deeds →
+      life_of site number deeds ≡ Some (record { start = start; events = signals heard }) → Each SendsOwnLines (emits_of site number deeds)
+  pub finished : (site : Site) (deeds : List Deed) (number : ℕ) (start : story.Start) (heard : List story.Heard) (side : Side) (at : ℕ) (desk : Desk) →
+      HasNumbers site deeds → IsClean site.home → Each IsCleanDeed deeds →
+      life_of site number deeds ≡ Some (record { start = start; events = lives.Finishes at desk ∷ lives.Releases side ∷ signals heard }) →
+      Each IsCleanEmit (emits_of site number deeds)

@@ -1,0 +1,100 @@
+-- What is said of every table of calls, in the subject's words.
+use Rattle.std.specs.Prelude.{◌++◌, ◌≡◌, ◌+◌, ◌==◌, ℕ, Bool, false, List, [], Some, None, filter, find}
+use Rattle.mmtel_charging.specs.declared.rows.Row.{Row}
+use Rattle.mmtel_precedence.specs.Laws.{diversions_made}
+use Rattle.mmtel_types.specs.declared.causes.Cause.{Cause}
+use Rattle.mmtel_call.specs.Site.{Site}
+use Rattle.mmtel_call.specs.declared.calls.Phase.TheVariants.{Over}
+use Rattle.mmtel_call_laws.specs.Charged.{running}
+use Rattle.mmtel_call_laws.specs.Endings.{answer_in}
+use Rattle.mmtel_call_laws.specs.Known.{left_at_first, result_of}
+use Rattle.mmtel_call_laws.specs.Shown.{sign_of_result, signs_of, signs_of_targets}
+use Rattle.mmtel_call_laws.specs.Story.{Start, is_over, opening_in}
+use Rattle.mmtel_b2bua.specs.Entries.{is_numbered}
+use Rattle.mmtel_b2bua.specs.Histories.{Deed, table_after}
+use Rattle.mmtel_b2bua_laws.specs.Deeds.{ArePutBack, HasNumbers, HaveOwnKeys, call_of, emits_of, entry_in, handed_after, life_of, out_by, rows_after as rows_of_all, rows_by, rows_of}
+use Rattle.mmtel_b2bua_laws.specs.Known.{AreFitting, AreOthers, HaveOwnDesks, charges_after, endings_after, outcome_after, parts_after}
+use Rattle.mmtel_b2bua_laws.specs.Lives.{Event, Life, call_after, emits_after, emits_while_offered, rows_after}
+
+-- ---- a life, as a story of its call
+
+-- the result so far is that of Outcome
+abbrev pub LivesComeToTheirOutcome : Type 0
+LivesComeToTheirOutcome = (s : Start) (events : List Event) → result_of (call_after s events) ≡ (outcome_after s events).result
+
+-- while it is offered the targets have the INVITEs that Outcome says, in order, and then the caller has one final, by the result
+abbrev pub LivesShowTheirOutcome : Type 0
+LivesShowTheirOutcome = (s : Start) (events : List Event) → AreOthers s.arrival.key events → HaveOwnDesks s events →
+    signs_of s.arrival.key (emits_while_offered s events) ≡ signs_of_targets (opening_in s) (outcome_after s events).targets ++ sign_of_result (outcome_after s events).result
+
+-- so many diversions are left as the bound leaves after those that the call came with and those that were made
+abbrev pub LivesAreCounted : Type 0
+LivesAreCounted = (s : Start) (events : List Event) → (call_after s events).diversions.left + diversions_made (outcome_after s events) ≡ left_at_first s
+
+-- of a life in which each leg that is put back is of the side that is away
+pub record LivesAreCharged : Type 0 where
+  -- it was answered when an attempt was
+  pub answered : (s : Start) (events : List Event) → (call_after s events).answered ≡ answer_in (endings_after s events)
+  -- while it is not over no row is filed, and what began runs
+  pub runs : (s : Start) (events : List Event) → AreFitting s events → is_over (call_after s events).phase ≡ false →
+      (running (call_after s events) ≡ parts_after s events) × (rows_after s events ≡ [])
+  -- once it is over nothing runs, and of each part that began a row was filed, in the order begun
+  pub filed : (s : Start) (events : List Event) (cause : Cause) → AreFitting s events → (call_after s events).phase ≡ Over cause →
+      (running (call_after s events) ≡ []) × (rows_after s events ≡ charges_after s events cause)
+
+-- ---- a table
+
+-- each call takes just the steps of its own signals: it stands in the table as its life has it, until nothing may be heard of it any more
+abbrev pub CallsTakeTheirSteps : Type 0
+CallsTakeTheirSteps = (site : Site) (deeds : List Deed) (number : ℕ) → HasNumbers site deeds →
+    find (is_numbered number) (table_after site deeds).entries ≡ entry_in (life_of site number deeds)
+
+-- what its deeds bring forth is what its life does
+pub record BringForthTheirOwn (site : Site) (deeds : List Deed) (number : ℕ) (life : Life) : Type 0 where
+  pub opening : (life.start.site ≡ site) × (life.start.arrival.number.0 ≡ number)
+  pub desks : HaveOwnDesks life.start life.events
+  pub emits : emits_of site number deeds ≡ emits_after life.start life.events
+  pub rows : rows_of site number deeds ≡ rows_after life.start life.events
+
+abbrev pub CallsBringForthTheirOwn : Type 0
+CallsBringForthTheirOwn = (site : Site) (deeds : List Deed) (number : ℕ) (life : Life) → HasNumbers site deeds → life_of site number deeds ≡ Some life →
+    BringForthTheirOwn site deeds number life
+
+-- a deed that is of no call brings forth nothing
+abbrev pub NothingIsOfNobody : Type 0
+NothingIsOfNobody = (site : Site) (deed : Deed) (earlier : List Deed) → call_of site deed (table_after site earlier) ≡ None →
+    (out_by site deed (table_after site earlier) ≡ []) × (rows_by site deed (table_after site earlier) ≡ [])
+
+-- the rows that were handed over and those that wait are all that were filed, in the order of the deeds
+abbrev pub RowsAreInOrder : Type 0
+RowsAreInOrder = (site : Site) (deeds : List Deed) → handed_after site deeds ++ (table_after site deeds).rows ≡ rows_of_all site deeds
+
+-- a row of the call of this number
+abbrev pub is_row_of : (number : ℕ) → Row → Bool
+is_row_of number row = row.call.0 == number
+
+-- of all rows those of a call are the rows of its deeds
+abbrev pub RowsAreOfTheirCalls : Type 0
+RowsAreOfTheirCalls = (site : Site) (deeds : List Deed) (number : ℕ) → HasNumbers site deeds → ArePutBack site deeds →
+    filter (is_row_of number) (rows_of_all site deeds) ≡ rows_of site number deeds
+
+-- ---- a call of a table
+
+-- ready to become clauses of whatever holds a table: what the call of a number comes to, what its deeds show of it, and its rows
+pub record CallIsExact (site : Site) (deeds : List Deed) (number : ℕ) (life : Life) : Type 0 where
+  pub stands : find (is_numbered number) (table_after site deeds).entries ≡ entry_in (Some life)
+  pub result : result_of (call_after life.start life.events) ≡ (outcome_after life.start life.events).result
+  pub emits : emits_of site number deeds ≡ emits_after life.start life.events
+  pub shown : HaveOwnKeys deeds →
+      signs_of life.start.arrival.key (emits_while_offered life.start life.events)
+      ≡ signs_of_targets (opening_in life.start) (outcome_after life.start life.events).targets ++ sign_of_result (outcome_after life.start life.events).result
+  pub counted : (call_after life.start life.events).diversions.left + diversions_made (outcome_after life.start life.events) ≡ left_at_first life.start
+  pub answered : (call_after life.start life.events).answered ≡ answer_in (endings_after life.start life.events)
+  pub runs : ArePutBack site deeds → is_over (call_after life.start life.events).phase ≡ false →
+      (running (call_after life.start life.events) ≡ parts_after life.start life.events) × (rows_of site number deeds ≡ [])
+  pub filed : (cause : Cause) → ArePutBack site deeds → (call_after life.start life.events).phase ≡ Over cause →
+      (running (call_after life.start life.events) ≡ []) × (rows_of site number deeds ≡ charges_after life.start life.events cause)
+
+abbrev pub CallsOfTablesAreExact : Type 0
+CallsOfTablesAreExact = (site : Site) (deeds : List Deed) (number : ℕ) (life : Life) → HasNumbers site deeds → life_of site number deeds ≡ Some life →
+    CallIsExact site deeds number life

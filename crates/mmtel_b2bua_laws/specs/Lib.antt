@@ -1,0 +1,6 @@
+-- What the laws cite.
+pub mod Lives
+pub mod Known
+pub mod Deeds
+pub mod Laws
+pub mod Clean

@@ -1,0 +1,71 @@
+//! What each call of a table comes to. These are laws, and no code.
+ghost use Rattle.mmtel_b2bua_laws.specs.Clean.{CallsSendCleanMessages};
+ghost use Rattle.mmtel_b2bua_laws.specs.Laws.{CallsBringForthTheirOwn, CallsOfTablesAreExact, CallsTakeTheirSteps, LivesAreCharged, LivesAreCounted};
+ghost use Rattle.mmtel_b2bua_laws.specs.Laws.{LivesComeToTheirOutcome, LivesShowTheirOutcome, NothingIsOfNobody, RowsAreInOrder, RowsAreOfTheirCalls};
+
+use mmtel_call_heads::calls_send_clean_messages;
+use mmtel_call_laws::{
+    calls_come_to_their_outcome, calls_go_on, calls_show_their_outcome, charging_is_exact,
+    diversions_are_counted,
+};
+
+/// A call of which legs are taken out and put back, or that is ended without one, comes to what a call comes to that only hears signals: its Outcome, what goes out while it
+/// is offered, the bound on diversions, and charging (TS 24.604 §4.5.2.6, TS 32.260 §5, RFC 4579 §5.6).
+pub fn lives_come_to_their_outcome()
+    ensures result { LivesComeToTheirOutcome }
+    ensures shown { LivesShowTheirOutcome }
+    ensures counted { LivesAreCounted }
+    ensures charged { LivesAreCharged }
+{
+    calls_go_on();
+    charging_is_exact();
+    calls_come_to_their_outcome();
+    calls_show_their_outcome();
+    diversions_are_counted();
+}
+
+/// Each call of a table takes just the steps of its own signals: it stands there as its life has it, and what goes out and is filed in its deeds is what its life brings forth.
+pub fn calls_take_their_steps()
+    ensures law { CallsTakeTheirSteps }
+    ensures own { CallsBringForthTheirOwn }
+{
+    calls_go_on();
+    charging_is_exact();
+}
+
+/// A deed that is of no call brings forth nothing.
+pub fn nothing_is_of_nobody()
+    ensures law { NothingIsOfNobody }
+{}
+
+/// The rows that were handed over and those that wait are all that were filed, in the order of the deeds; and of these the rows of a call are those of its deeds, where each
+/// leg that is put back is of the side that is away.
+pub fn rows_are_in_order()
+    ensures law { RowsAreInOrder }
+    ensures calls { RowsAreOfTheirCalls }
+{
+    calls_go_on();
+    charging_is_exact();
+}
+
+/// What each call of a table comes to, what its deeds show of it, and its rows.
+pub fn calls_of_tables_are_exact()
+    ensures law { CallsOfTablesAreExact }
+{
+    calls_go_on();
+    charging_is_exact();
+    calls_come_to_their_outcome();
+    calls_show_their_outcome();
+    diversions_are_counted();
+}
+
+/// What goes out of a table is clean, and each message has its own lines, where what the calls are given is clean: messages of clean lines, records with clean URIs, and
+/// tokens of a clean text. It is said of each call of which no leg was taken out, and of one that ended in the deed after that; of a call to which a leg was put back nothing
+/// is said.
+pub fn tables_send_clean_messages()
+    ensures law { CallsSendCleanMessages }
+{
+    calls_send_clean_messages();
+    calls_go_on();
+    charging_is_exact();
+}

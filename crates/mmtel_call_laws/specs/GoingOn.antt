@@ -1,0 +1,103 @@
+-- What a call keeps from step to step: how it opened, in every story; and, once it stands or a leg of it is away, its parts, until both sides have left (TS 32.260 §5). With these laws whoever knows more of a call than signals tells what it comes to.
+use Rattle.std.specs.Prelude.{◌≡◌, true, false, ℕ, Bool, List, [], ◌++◌, Option, None, is_some}
+use Rattle.mmtel_charging.specs.Meters.{Noted}
+use Rattle.mmtel_charging.specs.declared.rows.Row.{Row}
+use Rattle.mmtel_desk.specs.declared.desks.Desk.{Desk}
+use Rattle.mmtel_precedence.specs.Calls.{Standing}
+use Rattle.mmtel_types.specs.declared.causes.Cause.{Cause}
+use Rattle.mmtel_types.specs.declared.causes.Cause.TheVariants.{Ended}
+use Rattle.mmtel_call.specs.Closing.{Step, rows_by}
+use Rattle.mmtel_call.specs.Lending.{first_of, last_of}
+use Rattle.mmtel_call.specs.Site.{Site}
+use Rattle.mmtel_call.specs.Table.{step}
+use Rattle.mmtel_call.specs.declared.calls.Call.{Call}
+use Rattle.mmtel_call.specs.declared.calls.Phase.{Phase}
+use Rattle.mmtel_call.specs.declared.calls.Phase.TheVariants.{Lent, Offered, Over, Stood}
+use Rattle.mmtel_call.specs.declared.closing.Ending.{Ending}
+use Rattle.mmtel_call.specs.declared.signals.Signal.{Signal}
+use Rattle.mmtel_call_laws.specs.Charged.{last_part, origin_part, past_parts}
+use Rattle.mmtel_call_laws.specs.Known.{known_after, outcome_after}
+use Rattle.mmtel_call_laws.specs.Story.{Heard, Start, call_after, is_over, opening_in}
+
+-- ---- the parts of a call that run
+
+-- its caller's, those that are past, and that of the target which it came to last
+pub record Parts : Type 0 where
+  pub first : Option Noted
+  pub past : List Noted
+  pub last : Option Noted
+
+abbrev pub parts_in : Phase → (past : List Noted) → Parts
+parts_in (Offered x) past = record { first = x.caller.meter; past = past; last = x.callee.leg.meter }
+parts_in (Stood x stage) past = record { first = x.caller.meter; past = past; last = x.callee.meter }
+parts_in (Lent loan) past = record { first = first_of loan.left loan.meter; past = past; last = last_of loan.left loan.meter }
+parts_in (Over cause) past = record { first = None; past = past; last = None }
+
+abbrev pub parts_now : Call → Parts
+parts_now c = parts_in c.phase c.past
+
+-- those that Outcome says began
+abbrev pub parts_begun : Start → List Heard → Parts
+parts_begun s heard = record {
+  first = origin_part (known_after s heard) s.arrival.number;
+  past = past_parts (known_after s heard) s.arrival.number 0 None (outcome_after s heard).targets;
+  last = last_part (known_after s heard) s.arrival.number 0 (outcome_after s heard).targets;
+}
+
+-- ---- one step
+
+-- what stays of a call
+pub record StaysSame (c d : Call) : Type 0 where
+  pub opening : d.opening ≡ c.opening
+  pub diversions : d.diversions ≡ c.diversions
+  pub answered : d.answered ≡ c.answered
+
+-- it was answered and is not over
+abbrev pub stands_in : Phase → Bool
+stands_in (Offered x) = false
+stands_in (Stood x stage) = true
+stands_in (Lent loan) = true
+stands_in (Over cause) = false
+
+-- it stands, and its parts run on
+pub record StillStands (c : Call) (rows : List Row) (s : Step) : Type 0 where
+  pub same : StaysSame c s.call
+  pub stands : stands_in s.call.phase ≡ true
+  pub parts : parts_now s.call ≡ parts_now c
+  pub none : s.desk.rows ≡ rows
+
+-- how it ended at this moment
+abbrev pub ended_at : Call → (at : ℕ) → Ending
+ended_at c at = record { answered = c.answered; at = at; holds = c.hold.holds; cause = Ended }
+
+-- both sides have left, and of each part a row was filed
+pub record HasLeft (at : ℕ) (c : Call) (rows : List Row) (s : Step) : Type 0 where
+  pub same : StaysSame c s.call
+  pub over : s.call.phase ≡ Over Ended
+  pub past : s.call.past ≡ []
+  pub filed : s.desk.rows ≡ rows ++ rows_by (ended_at s.call at) (parts_now c).past (parts_now c).first (parts_now c).last
+
+pub data GoesOn (at : ℕ) (c : Call) (rows : List Row) (s : Step) : Type 0 where
+  Stands : StillStands c rows s → GoesOn at c rows s
+  Leaves : HasLeft at c rows s → GoesOn at c rows s
+
+-- it is over, and stays so
+pub record StaysOver (c : Call) (rows : List Row) (s : Step) : Type 0 where
+  pub same : StaysSame c s.call
+  pub phase : s.call.phase ≡ c.phase
+  pub past : s.call.past ≡ c.past
+  pub hold : s.call.hold ≡ c.hold
+  pub none : s.desk.rows ≡ rows
+
+-- ---- the laws
+
+pub record CallsGoOn : Type 0 where
+  -- a call stays the one that was opened
+  pub opening : (s : Start) (heard : List Heard) → (call_after s heard).opening ≡ opening_in s
+  -- while it is not over, those parts run that Outcome says began
+  pub parts : (s : Start) (heard : List Heard) → is_over (call_after s heard).phase ≡ false → parts_now (call_after s heard) ≡ parts_begun s heard
+  -- one that stands was answered
+  pub answered : (s : Start) (heard : List Heard) → stands_in (call_after s heard).phase ≡ true → is_some (call_after s heard).answered ≡ true
+  -- on whatever it hears a call that stands goes on to stand, or ends; one that is over stays so
+  pub standing : (site : Site) (now : Standing) (heard : Signal) (c : Call) (desk : Desk) → stands_in c.phase ≡ true → GoesOn now.at c desk.rows (step site now heard c desk)
+  pub ended : (site : Site) (now : Standing) (heard : Signal) (c : Call) (desk : Desk) → is_over c.phase ≡ true → StaysOver c desk.rows (step site now heard c desk)

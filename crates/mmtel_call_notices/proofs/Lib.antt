@@ -1,0 +1,6 @@
+mod Adding
+mod Owning
+mod Coming
+mod Hearing
+mod Standing
+mod Telling

@@ -1,0 +1,126 @@
+-- A call that is refused has no 181 as its final.
+use Rattle.std.proofs.Common.{◌≡◌, ℕ, ◌==◌, Bool, true, false, [], ◌∷◌, refl, arith}
+use Rattle.std.proofs.lemmas.Bool.Decides.{nat_tests}
+use Rattle.std.specs.Prelude.{nat_lt, not, ◌&&◌, Option, Some, None, if◌then◌else◌}
+use Rattle.mmtel_lex.specs.declared.values.Uri.{Uri}
+use Rattle.mmtel_precedence.specs.Attempts.{end_by_final, end_by_redirection, is_redirection, is_success, is_unreachable, is_user_busy}
+use Rattle.mmtel_precedence.specs.Calls.{Answer, Cancel, Deflection, End, NoReply, NotReachable, Other, Reach, UserBusy}
+use Rattle.mmtel_precedence.specs.Moves.{account_at}
+use Rattle.mmtel_precedence.specs.Opening.{refusal_by}
+use Rattle.mmtel_precedence.specs.Services.{DueDiversion, diverts_by, first_said, refuses_if}
+use Rattle.mmtel_precedence.specs.Turns.{AfterEnd, EndAnswered, EndDivert, EndRefuse, Turn, TurnDivert, TurnOffer, TurnRefuse, divert_or_refuse, turn_at, turn_by, turn_on}
+use Rattle.mmtel_precedence.specs.Verdicts.{decision_by}
+use Rattle.mmtel_rules.specs.Circumstances.{Circumstances}
+use Rattle.mmtel_sheet_values.specs.declared.values.Sheet.{Sheet}
+use Rattle.mmtel_targets.specs.declared.served.Served.{Served}
+use Rattle.mmtel_types.specs.Causes.{status_of}
+use Rattle.mmtel_types.specs.declared.causes.Cause.{Cause}
+use Rattle.mmtel_types.specs.declared.causes.Cause.TheVariants as causes
+use Rattle.mmtel_types.specs.declared.privacy.PrivacySet.{PrivacySet}
+
+abbrev pub IsNoNotice : ℕ → Type 0
+IsNoNotice code = (code == 181) ≡ false
+
+-- ---- at a target
+
+abbrev pub IsTurn : Turn → Type 0
+IsTurn (TurnOffer waiting) = Unit {0}
+IsTurn (TurnDivert due) = Unit {0}
+IsTurn (TurnRefuse cause) = IsNoNotice (status_of cause)
+
+offered-turn : (unknown no_peer waiting : Bool) → IsTurn (Rattle.mmtel_precedence.specs.Turns.offer_turn unknown no_peer waiting)
+offered-turn true no_peer waiting = refl
+offered-turn false true waiting = refl
+offered-turn false false waiting = tt
+
+-- by what each service says
+said-turn : (anonymous barred unregistered busy : Bool) (always when_busy : Option DueDiversion) (live : ℕ) (unknown no_peer : Bool) →
+    IsTurn (turn_by (decision_by (first_said (
+    refuses_if anonymous causes.AnonymousRejected ∷ refuses_if barred causes.IncomingBarred ∷ diverts_by always ∷ refuses_if unregistered causes.NotRegistered
+    ∷ diverts_by when_busy ∷ refuses_if busy causes.NetworkBusy ∷ [])) live) unknown no_peer)
+said-turn true barred unregistered busy always when_busy live unknown no_peer = refl
+said-turn false true unregistered busy always when_busy live unknown no_peer = refl
+said-turn false false unregistered busy (Some due) when_busy live unknown no_peer = tt
+said-turn false false true busy None when_busy live unknown no_peer = refl
+said-turn false false false busy None (Some due) live unknown no_peer = tt
+said-turn false false false true None None live unknown no_peer = refl
+said-turn false false false false None None live unknown no_peer = offered-turn unknown no_peer (nat_lt 0 live)
+
+pub its-turn : (c : Circumstances) (reach : Reach) → IsTurn (turn_at c reach)
+its-turn c reach = said-turn _ _ _ _ _ _ (account_at reach).live reach.is_unknown reach.has_no_peer
+
+-- ---- after an attempt
+
+abbrev pub IsAfter : AfterEnd → Type 0
+IsAfter EndAnswered = Unit {0}
+IsAfter (EndDivert due) = Unit {0}
+IsAfter (EndRefuse cause) = IsNoNotice (status_of cause)
+
+-- it has no 181 as its final
+abbrev pub IsFinal : End → Type 0
+IsFinal Answer = Unit {0}
+IsFinal Cancel = Unit {0}
+IsFinal (UserBusy code) = IsNoNotice code
+IsFinal (NotReachable code) = IsNoNotice code
+IsFinal NoReply = Unit {0}
+IsFinal (Deflection target rang) = Unit {0}
+IsFinal (Other code) = IsNoNotice code
+
+diverted-or : (due : Option DueDiversion) (cause : Cause) → IsNoNotice (status_of cause) → IsAfter (divert_or_refuse due cause)
+diverted-or None cause e = e
+diverted-or (Some due) cause e = tt
+
+pub its-after : (c : Circumstances) (sheet : Option Sheet) (how : End) → IsFinal how → IsAfter (turn_on c sheet how)
+its-after c sheet Answer e = tt
+its-after c sheet Cancel e = refl
+its-after c sheet (UserBusy code) e = diverted-or _ (causes.Relayed code) e
+its-after c sheet (NotReachable code) e = diverted-or _ (causes.Unreachable code) e
+its-after c sheet NoReply e = diverted-or _ causes.NoReply refl
+its-after c sheet (Deflection target rang) e = diverted-or _ (causes.Relayed 480) refl
+its-after c sheet (Other code) e = e
+
+redirection-final : (code : ℕ) (target : Option Uri) (rang : Bool) → IsFinal (end_by_redirection code target rang)
+redirection-final code None rang = refl
+redirection-final code (Some target) rang = go (code == 302)
+  where
+    go : (b : Bool) → IsFinal (if b then Deflection target rang else Other 480)
+    go true = tt
+    go false = refl
+
+final-by : (success busy unreachable redirection : Bool) (code : ℕ) (target : Option Uri) (rang : Bool) → IsNoNotice code →
+    IsFinal (if success then Answer else if busy then UserBusy code else if unreachable then NotReachable code else if redirection then end_by_redirection code target rang else Other code)
+final-by true busy unreachable redirection code target rang e = tt
+final-by false true unreachable redirection code target rang e = e
+final-by false false true redirection code target rang e = e
+final-by false false false true code target rang e = redirection-final code target rang
+final-by false false false false code target rang e = e
+
+pub its-final : (code : ℕ) (target : Option Uri) (rang : Bool) → IsNoNotice code → IsFinal (end_by_final code target rang)
+its-final code target rang e = final-by (is_success code) (is_user_busy code) (is_unreachable code && not rang) (is_redirection code) code target rang e
+
+pub time-final : (rang : Bool) → IsFinal (Rattle.mmtel_precedence.specs.Attempts.end_by_time rang)
+time-final true = tt
+time-final false = refl
+
+-- a status from 300
+pub high-notice : (code : ℕ) → nat_lt code 300 ≡ false → IsNoNotice code
+high-notice code e = grind (arith, nat_tests)
+
+-- ---- as it opens
+
+abbrev pub IsRefusal : Option Cause → Type 0
+IsRefusal None = Unit {0}
+IsRefusal (Some cause) = IsNoNotice (status_of cause)
+
+refusal-of : (critical nobody barred : Bool) → IsRefusal (if critical then Some causes.Critical else if nobody then Some causes.NoAccount else if barred then Some causes.OutgoingBarred else None)
+refusal-of true nobody barred = refl
+refusal-of false true barred = refl
+refusal-of false false true = refl
+refusal-of false false false = tt
+
+pub its-refusal : (words : PrivacySet) (served : Served) (sheet : Option Sheet) (c : Circumstances) → IsRefusal (refusal_by words served sheet c)
+its-refusal words served sheet c = refusal-of _ _ _
+
+pub too-many-notice : (busy : Bool) → IsNoNotice (status_of (causes.TooManyDiversions busy))
+too-many-notice true = refl
+too-many-notice false = refl

@@ -1,0 +1,2 @@
+mod FirstVia
+mod Places

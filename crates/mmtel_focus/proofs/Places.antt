@@ -1,0 +1,28 @@
+-- Items at their places.
+use Rattle.std.proofs.Common.{◌≡◌, ◌<◌, ◌+◌, ◌++◌, append-nil, ℕ, zero, suc, List, [], ◌∷◌, Some, length, slice_get, slice_set, drop, refl, ap, arith, ◌∙◌, slice_index_or}
+use Rattle.std.proofs.lemmas.List.{drop-drop}
+use Rattle.std.proofs.lemmas.Option.{slice_get_read}
+use Rattle.std.specs.Prelude.{insert, remove}
+
+pub and_nothing : {A : Type 0} → (l : List A) → l ++ [] ≡ l
+and_nothing l = append-nil l
+
+-- the item that stands at a place is put there
+pub set_back : {A : Type 0} → (l : List A) (i : ℕ) (b : A) → slice_get l i ≡ Some b → slice_set l i b ≡ l
+set_back [] i b there = cc
+set_back (x ∷ l) zero b there = cc
+set_back (x ∷ l) (suc i) b there = ap (λ r. x ∷ r) (set_back l i b there)
+
+-- what is read at a place stands there
+pub stands_at : {A : Type 0} (l : List A) (i : ℕ) (a : A) → i < length l → a ≡ slice_index_or l i a → slice_get l i ≡ Some a
+stands_at l i a within is = slice_get_read l (length l) i a refl within is
+
+-- an item was taken out, and another one stands in its place
+pub put_in : {A : Type 0} → (l : List A) (i : ℕ) (x : A) → i < length l → insert (remove l i) i x ≡ slice_set l i x
+put_in [] i x below = absurd (omega arith)
+put_in (z ∷ l) zero x below = refl
+put_in (z ∷ l) (suc i) x below = ap (λ r. z ∷ r) (put_in l i x (omega arith))
+
+-- what is taken off one by one
+pub dropped : {A : Type 0} (k : ℕ) (xs : List A) → drop 1 (drop k xs) ≡ drop (k + 1) xs
+dropped k xs = drop-drop 1 k xs ∙ ap (λ n. drop n xs) (omega arith)

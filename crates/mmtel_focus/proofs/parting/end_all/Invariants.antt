@@ -1,0 +1,11 @@
+use Rattle.std.proofs.Common.{◌≡◌, ◌++◌, ◌≤◌, ◌+◌, map, vec_len}
+use Rattle.std.specs.Prelude.{vec_capacity}
+use Rattle.mmtel_focus.specs.Names.{ended}
+use Rattle.mmtel_focus.proofs.parting.end_all.Given as goal
+
+-- what has ended, and what is still to end; and there is room for all of it
+abbrev pub invariant-seats : goal.invariant-seats
+invariant-seats l = (l.all.items ++ map ended l.seats.items ≡ map ended l.fn.room.seats) × (vec_len l.all + vec_len l.seats ≤ vec_capacity l.all)
+
+abbrev pub decreases-seats : goal.decreases-seats
+decreases-seats l = vec_len l.seats

@@ -1,0 +1,156 @@
+-- How a seat is taken: by an INVITE that comes to the factory or to the room (RFC 4579 §5.4, §5.1), by an invitation (§5.5), and by a leg out of a call (§5.6).
+use Rattle.std.specs.Prelude.{ℕ, ◌+◌, Bool, false, true, if◌then◌else◌, Option, Some, None, List, [], ◌∷◌, ◌++◌, codes}
+use Rattle.mmtel_answers.specs.Attempts.{bracketed, called, calling}
+use Rattle.mmtel_answers.specs.Said.{Said}
+use Rattle.mmtel_charging.specs.Meters.{Noted}
+use Rattle.mmtel_desk.specs.Desks.{drew, emitted, token}
+use Rattle.mmtel_desk.specs.Invitations.{sent}
+use Rattle.mmtel_desk.specs.Sending.{answered_at, asked_with}
+use Rattle.mmtel_desk.specs.declared.desks.Desk.{Desk}
+use Rattle.mmtel_leg.specs.Dialogues.{after_request}
+use Rattle.mmtel_leg.specs.Legs.{Leg, with_dialogue}
+use Rattle.mmtel_leg.specs.Releases.{released_leg}
+use Rattle.mmtel_leg.specs.declared.dialogues.Dialogue.{Dialogue}
+use Rattle.mmtel_leg.specs.declared.legs.Released.{Released}
+use Rattle.mmtel_leg.specs.declared.legs.Released.TheVariants as released
+use Rattle.mmtel_lex.specs.Grammar.{uri_text}
+use Rattle.mmtel_lex.specs.declared.values.Uri.{Uri}
+use Rattle.mmtel_scan.specs.Numbers.{next_number}
+use Rattle.mmtel_sdp.specs.Mixing.{offer_text}
+use Rattle.mmtel_transaction.specs.declared.words.Emit.TheVariants as emit
+use Rattle.mmtel_transaction.specs.declared.words.RoomWord.TheVariants as due
+use Rattle.mmtel_transaction.specs.declared.words.TKey.{TKey}
+use Rattle.mmtel_trust.specs.Accounts.{account_of}
+use Rattle.mmtel_trust.specs.Peers.{route_of}
+use Rattle.mmtel_types.specs.declared.numbers.Account.{Account}
+use Rattle.mmtel_types.specs.declared.numbers.Peer.{Peer}
+use Rattle.mmtel_types.specs.declared.numbers.RoomNo.{RoomNo}
+use Rattle.mmtel_focus.specs.Referrals.{target_of}
+use Rattle.mmtel_focus.specs.Rooms.{Brought, Came, Invited, Party, Room, Seat, Step, Waiting, with_desk}
+use Rattle.mmtel_focus.specs.Seats.{is_full, meter_of, told_to}
+use Rattle.mmtel_focus.specs.Site.{Site}
+use Rattle.mmtel_focus.specs.Texts.{answer_in, contact_value, described, own_status, room_from, sdp_lines}
+
+-- for so long a 2xx waits for its ACK (RFC 3261 §13.3.1.4), and so long an invitation may ring, in milliseconds
+abbrev pub ack_time : ℕ
+ack_time = 32000
+
+abbrev pub longest_ringing : ℕ
+longest_ringing = 180000
+
+-- ---- a leg that comes to a room without a meter
+
+abbrev pub metered : Option Noted → Leg → Leg
+metered meter leg = record leg { meter = meter }
+
+-- who it is of, with a participant's meter
+abbrev pub party_of : Option Noted → Released → Party
+party_of meter (released.Caller leg) = Came (metered meter leg)
+party_of meter (released.Callee leg) = Brought (metered meter leg)
+
+-- a new seat stands last, and has counted an invitation or a 2xx
+abbrev pub with_new : Seat → Room → Room
+with_new seat room = record room { taken = next_number room.taken; counted = next_number room.counted; seats = room.seats ++ seat ∷ [] }
+
+-- ---- an INVITE that is heard has the mixer's answer
+
+-- the 200, and the deadline of its ACK, which has this number in the room
+abbrev pub agreed : Site → (now : ℕ) → RoomNo → (seat number : ℕ) → TKey → Said → (tag : List ℕ) → Desk → Desk
+agreed site now room seat number key m tag desk =
+    emitted (emit.ArmSeat room seat (due.NoAck number) (now + ack_time))
+    (answered_at (contact_value site.sip room) key m tag 200 [] sdp_lines (answer_in site.mixer m.heard.body) desk)
+
+-- the ACK has the number of the INVITE, which is the last request that was heard
+abbrev pub new_seat : (now : ℕ) → Room → Released → Option Account → Seat
+new_seat now room leg account = record {
+  number = next_number room.taken;
+  by = None;
+  account = account;
+  awaited = Some (record { number = next_number room.counted; cseq = (released_leg leg).dialogue.last });
+  invite = None;
+  party = party_of (meter_of room.number now account) leg;
+}
+
+-- somebody comes to a room
+unfoldable pub come : Site → (now : ℕ) → Released → Option Account → TKey → Said → Step → Step
+come site now leg account key m s =
+    with_desk (agreed site now s.room.number (next_number s.room.taken) (next_number s.room.counted) key m (released_leg leg).dialogue.local_tag s.effects.desk)
+    (record s { room = with_new (new_seat now s.room leg account) s.room })
+
+abbrev pub new_room : RoomNo → Room
+new_room number = record { number = number; taken = 0; counted = 0; seats = [] }
+
+-- ---- somebody is invited
+
+-- the dialog of the INVITE to this URI, whose Call-ID and tag are drawn
+abbrev pub invitation_dialog : Site → RoomNo → Peer → (uri : List ℕ) → Desk → Dialogue
+invitation_dialog site room peer uri desk =
+    calling (record { peer = peer; uri = uri; to = bracketed uri; routes = [] }) (token desk) (token (drew desk)) (room_from site.sip room (token (drew desk)))
+
+abbrev pub invited_seat : Room → (by : ℕ) → Option Account → Dialogue → (branch : List ℕ) → Seat
+invited_seat room by account d branch = record {
+  number = next_number room.taken;
+  by = Some by;
+  account = account;
+  awaited = None;
+  invite = Some (Waiting (next_number room.counted) (sent d 1 branch));
+  party = Invited (record { dialogue = called d; meter = None });
+}
+
+-- the INVITE in this dialog, and the deadline of its ringing
+abbrev pub invite_sent : Site → (now : ℕ) → RoomNo → (seat number : ℕ) → Dialogue → Desk → Desk
+invite_sent site now room seat number d desk =
+    emitted (emit.ArmSeat room seat (due.Cap number) (now + longest_ringing))
+    (asked_with site.sip (codes "INVITE") d (described site.sip room) (offer_text site.mixer) desk)
+
+-- in this dialog, for which two tokens were drawn
+abbrev pub invited_in : Site → (now by : ℕ) → Option Account → Dialogue → Step → Step
+invited_in site now by account d s =
+    with_desk (invite_sent site now s.room.number (next_number s.room.taken) (next_number s.room.counted) d (drew (drew s.effects.desk)))
+    (record s { room = with_new (invited_seat s.room by account d (token (drew (drew s.effects.desk)))) s.room })
+
+abbrev pub invited : Site → (now by : ℕ) → Peer → Uri → Step → Step
+invited site now by peer u s = invited_in site now by (account_of site.accounts u) (invitation_dialog site s.room.number peer (uri_text (target_of u)) s.effects.desk) s
+
+-- the seat that asked is told where no peer leads to the URI, and else where no seat is free
+abbrev pub told_failure : Site → (by code : ℕ) → Step → Step
+told_failure site by code s = told_to site false (own_status code) by s
+
+abbrev pub invited_at : Site → (now by : ℕ) → Option Peer → Uri → Step → Step
+invited_at site now by None u s = told_failure site by 404 s
+invited_at site now by (Some peer) u s = if is_full s.room then told_failure site by 503 s else invited site now by peer u s
+
+unfoldable pub bidden : Site → (now by : ℕ) → Option Uri → Step → Step
+bidden site now by None s = told_failure site by 404 s
+bidden site now by (Some u) s = invited_at site now by (route_of u site.peers.routes) u s
+
+-- ---- a leg out of a call is asked in, and has a seat from then on
+
+abbrev pub having_invited : Leg → Leg
+having_invited leg = with_dialogue leg (after_request leg.dialogue (codes "INVITE"))
+
+abbrev pub having_invited_by : Released → Released
+having_invited_by (released.Caller leg) = released.Caller (having_invited leg)
+having_invited_by (released.Callee leg) = released.Callee (having_invited leg)
+
+abbrev pub adopted_seat : (now : ℕ) → Room → Released → Option Account → (by : ℕ) → (branch : List ℕ) → Seat
+adopted_seat now room leg account by branch = record {
+  number = next_number room.taken;
+  by = Some by;
+  account = account;
+  awaited = None;
+  invite = Some (Waiting (next_number room.counted) (sent (having_invited (released_leg leg)).dialogue (next_number (released_leg leg).dialogue.own) branch));
+  party = party_of (meter_of room.number now account) (having_invited_by leg);
+}
+
+unfoldable pub adopted : Site → (now : ℕ) → Released → Option Account → (by : ℕ) → Step → Step
+adopted site now leg account by s =
+    with_desk (asked_with site.sip (codes "INVITE") (released_leg leg).dialogue (described site.sip s.room.number) (offer_text site.mixer) s.effects.desk)
+    (record s { room = with_new (adopted_seat now s.room leg account by (token s.effects.desk)) s.room })
+
+-- two legs are of one side of their calls
+abbrev pub is_same_side : Released → Released → Bool
+is_same_side (released.Caller leg) (released.Caller other) = true
+is_same_side (released.Caller leg) (released.Callee other) = false
+is_same_side (released.Callee leg) (released.Caller other) = false
+is_same_side (released.Callee leg) (released.Callee other) = true

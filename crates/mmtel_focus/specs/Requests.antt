@@ -1,0 +1,145 @@
+-- What a seat asks in its dialog: INVITE, BYE (RFC 3261 §14, §15), REFER (RFC 3515), OPTIONS (RFC 3261 §11), and what no row lists; and the ACK of a 2xx (§13.2.2.4).
+use Rattle.std.specs.Prelude.{ℕ, ◌==◌, Bool, true, false, if◌then◌else◌, Option, Some, None, List, [], codes, Result, Ok, Err}
+use Rattle.mmtel_scan.specs.Chain.{◌>>=◌}
+use Rattle.mmtel_scan.specs.Numbers.{next_number}
+use Rattle.mmtel_answers.specs.Answers.{allowed, retry_after}
+use Rattle.mmtel_answers.specs.Said.{Said}
+use Rattle.mmtel_desk.specs.Sending.{answered, answered_at, replied}
+use Rattle.mmtel_leg.specs.Dialogues.{last_after, number_at, unless_busy, unless_old}
+use Rattle.mmtel_leg.specs.Legs.{Leg, with_dialogue}
+use Rattle.mmtel_leg.specs.declared.dialogues.DialogueFault.{DialogueFault}
+use Rattle.mmtel_leg.specs.declared.dialogues.DialogueFault.TheVariants.{OldCSeq, Pending, Unfinished}
+use Rattle.mmtel_leg.specs.declared.dialogues.InFlight.{InFlight}
+use Rattle.mmtel_leg.specs.declared.dialogues.InFlight.TheVariants as in_flight
+use Rattle.mmtel_message.specs.Faults.{is_method}
+use Rattle.mmtel_message.specs.Message.{Line}
+use Rattle.mmtel_sdp.specs.Offers.{offers_audio}
+use Rattle.mmtel_transaction.specs.declared.words.TKey.{TKey}
+use Rattle.mmtel_focus.specs.Joining.{agreed, bidden}
+use Rattle.mmtel_focus.specs.Referrals.{referral_in}
+use Rattle.mmtel_focus.specs.Rooms.{Agreed, Awaited, Invite, Seat, Step, Waiting, with_desk}
+use Rattle.mmtel_focus.specs.Seats.{at_seat, closed_with, is_seated, left, leg_of, put, tag_of, told_to, with_leg}
+use Rattle.mmtel_focus.specs.Site.{Site}
+use Rattle.mmtel_focus.specs.Texts.{contact_value, own_status}
+use Rattle.mmtel_focus.specs.declared.referrals.Referral.{Referral}
+use Rattle.mmtel_focus.specs.declared.referrals.Referral.TheVariants as referral
+
+-- ---- answers, with the tag of the seat's dialog
+
+abbrev pub refused : Site → TKey → Said → (code : ℕ) → (place : ℕ) → Seat → Step → Step
+refused site key m code place seat s = with_desk (replied site.sip key m (tag_of seat) code s.effects.desk) s
+
+-- with named lines
+abbrev pub answered_with : Site → TKey → Said → (code : ℕ) → (named : List Line) → (place : ℕ) → Seat → Step → Step
+answered_with site key m code named place seat s = with_desk (answered site.sip key m (tag_of seat) code [] named [] s.effects.desk) s
+
+-- ---- INVITE: the mixer's answer to an offer of audio, and 488 to any other
+
+-- its ACK is due
+abbrev pub awaiting : (number : ℕ) → Seat → Seat
+awaiting number seat = record seat { awaited = Some (record { number = number; cseq = (leg_of seat.party).dialogue.last }) }
+
+abbrev pub counting : Step → Step
+counting s = record s { room = record s.room { counted = next_number s.room.counted } }
+
+abbrev pub agreed_again : Site → (now : ℕ) → TKey → Said → (place : ℕ) → Seat → Step → Step
+agreed_again site now key m place seat s =
+    with_desk (agreed site now s.room.number seat.number (next_number s.room.counted) key m (tag_of seat) s.effects.desk)
+    (counting (put place (awaiting (next_number s.room.counted) seat) s))
+
+abbrev pub on_invite : Site → (now : ℕ) → TKey → Said → (place : ℕ) → Seat → Step → Step
+on_invite site now key m place seat s = if offers_audio m.heard.body then agreed_again site now key m place seat s else refused site key m 488 place seat s
+
+-- ---- BYE: 200, and the seat is left
+
+abbrev pub on_bye : Site → (now : ℕ) → TKey → Said → (place : ℕ) → Seat → Step → Step
+on_bye site now key m place seat s = closed_with site now seat.number (left now false place seat (refused site key m 200 place seat s))
+
+-- ---- REFER
+
+-- 202 names the room (RFC 3515 §2.2)
+abbrev pub accepted : Site → TKey → Said → (place : ℕ) → Seat → Step → Step
+accepted site key m place seat s = with_desk (answered_at (contact_value site.sip s.room.number) key m (tag_of seat) 202 [] [] [] s.effects.desk) s
+
+-- somebody is to be invited: the seat is told that it is tried, and then what came of it at once
+abbrev pub trying : Site → (number : ℕ) → Step → Step
+trying site number s = told_to site true (own_status 100) number s
+
+-- where a dialog is to be replaced, 202 alone: what follows is of the calls and of the rooms
+abbrev pub on_referral : Site → (now : ℕ) → TKey → Said → Referral → (place : ℕ) → Seat → Step → Step
+on_referral site now key m referral.Missing place seat s = refused site key m 400 place seat s
+on_referral site now key m referral.OtherMethod place seat s = refused site key m 403 place seat s
+on_referral site now key m (referral.Invite u) place seat s = bidden site now seat.number u (trying site seat.number (accepted site key m place seat s))
+on_referral site now key m (referral.Replace r) place seat s = accepted site key m place seat s
+
+-- ---- a request that was heard
+
+abbrev pub on_heard : Site → (now : ℕ) → TKey → Said → (place : ℕ) → Seat → Step → Step
+on_heard site now key m place seat s =
+    if is_method (codes "INVITE") m.heard.start then on_invite site now key m place seat s
+    else if is_method (codes "BYE") m.heard.start then on_bye site now key m place seat s
+    else if is_method (codes "REFER") m.heard.start then on_referral site now key m (referral_in m.heard.refer_to) place seat s
+    else if is_method (codes "OPTIONS") m.heard.start then answered_with site key m 200 allowed place seat s
+    else refused site key m 481 place seat s
+
+-- ---- whether it is heard (RFC 3261 §12.2.2, §14.2)
+
+-- an INVITE of the server's own without a final, or a 2xx without its ACK
+abbrev pub is_waiting : Option Invite → Bool
+is_waiting None = false
+is_waiting (Some (Waiting number i)) = true
+is_waiting (Some (Agreed branch tag ack)) = false
+
+abbrev pub busy_by : Option Awaited → (waiting : Bool) → InFlight
+busy_by None false = in_flight.None
+busy_by None true = in_flight.Own
+busy_by (Some awaited) waiting = in_flight.Own
+
+abbrev pub busy : Seat → InFlight
+busy seat = busy_by seat.awaited (is_waiting seat.invite)
+
+-- the number of its CSeq
+abbrev pub number_of : Said → Option ℕ
+number_of m = m.heard.cseq >>= number_at
+
+abbrev pub says : Leg → Said → InFlight → Result (Unit {0}) DialogueFault
+says leg m busy = unless_old (number_of m) leg.dialogue.last (unless_busy (is_method (codes "INVITE") m.heard.start) busy)
+
+abbrev pub having_heard : Said → Leg → Leg
+having_heard m leg = with_dialogue leg (record leg.dialogue { last = last_after (number_of m) leg.dialogue.last })
+
+abbrev pub heard_seat : Said → Seat → Seat
+heard_seat m seat = record seat { party = with_leg (having_heard m (leg_of seat.party)) seat.party }
+
+-- what is out of order, or crosses an INVITE
+abbrev pub unheard : Site → TKey → Said → DialogueFault → (place : ℕ) → Seat → Step → Step
+unheard site key m (OldCSeq last) place seat s = refused site key m 500 place seat s
+unheard site key m Pending place seat s = refused site key m 491 place seat s
+unheard site key m Unfinished place seat s = answered_with site key m 500 retry_after place seat s
+
+abbrev pub on_hearing : Site → (now : ℕ) → TKey → Said → Result (Unit {0}) DialogueFault → (place : ℕ) → Seat → Step → Step
+on_hearing site now key m (Err fault) place seat s = unheard site key m fault place seat s
+on_hearing site now key m (Ok heard) place seat s = at_seat (on_heard site now key m) place (put place (heard_seat m seat) s)
+
+-- somebody who is invited and has not answered has no dialog
+unfoldable pub on_request : Site → (now : ℕ) → TKey → Said → (place : ℕ) → Seat → Step → Step
+on_request site now key m place seat s =
+    if is_seated seat then on_hearing site now key m (says (leg_of seat.party) m (busy seat)) place seat s
+    else refused site key m 481 place seat s
+
+-- ---- ACK: that of the 2xx that waits for one, which has the number of its INVITE; nothing goes out
+
+abbrev pub is_number : ℕ → Option ℕ → Bool
+is_number n None = false
+is_number n (Some m) = n == m
+
+abbrev pub is_same_number : Option ℕ → Option ℕ → Bool
+is_same_number None other = false
+is_same_number (Some n) other = is_number n other
+
+abbrev pub acknowledges : Said → Option Awaited → Bool
+acknowledges m None = false
+acknowledges m (Some awaited) = is_same_number (number_of m) awaited.cseq
+
+unfoldable pub on_ack : Said → (place : ℕ) → Seat → Step → Step
+on_ack m place seat s = if acknowledges m seat.awaited then put place (record seat { awaited = None }) s else s

@@ -1,0 +1,589 @@
+//! What comes of the server's INVITE to a seat, and of its deadlines.
+ghost use Rattle.std.specs.Prelude.{◌≡◌, ◌<◌, IfOk, OnOk, Some, length, slice_get};
+ghost use Rattle.mmtel_answers.specs.Requests.{bare};
+ghost use Rattle.mmtel_answers.specs.Said.{phrase_in, status_of};
+ghost use Rattle.mmtel_desk.specs.Desks.{token};
+ghost use Rattle.mmtel_desk.specs.Sending.{ack_text, acked};
+ghost use Rattle.mmtel_leg.specs.Remotes.{remote_of};
+ghost use Rattle.mmtel_leg.specs.Requests.{ack_of};
+ghost use Rattle.mmtel_types.specs.declared.sides.Side.TheVariants.{Callee};
+ghost use Rattle.mmtel_focus.specs.Answers.{acknowledged, agreed_by, cancelled_in, ended_unasked, ended_without, failure_acked, is_awaited, is_success, noted, on_answer, on_cap, on_due, on_failure, on_no_ack, on_provisional, on_repeat, on_response, on_silence, on_success, once_cancelled_in, seated, stood, stood_in, tag_given, too_long, unacknowledged, waits};
+ghost use Rattle.mmtel_focus.specs.Requests.{is_waiting};
+ghost use Rattle.mmtel_focus.specs.Seats.{at_seat};
+ghost use Rattle.mmtel_focus.specs.Texts.{status_line};
+
+use crate::joining::{meter_of, metered};
+use crate::rooms::{Effects, Room};
+use crate::seats::{Invite, Party, Seat};
+use crate::settings::Setting;
+use crate::texts::{own_status, status_line};
+use mmtel_answers::{Hearing, bare, status_of};
+use mmtel_desk::{Desk, Invitation, once_cancelled};
+use mmtel_leg::{Dialogue, Remote};
+use mmtel_message::{Msg, Start};
+use mmtel_scan::{NoMemory, Text};
+use mmtel_transaction::{Emit, RoomWord, TKey};
+use mmtel_types::{Account, Addr, Moment, RoomNo, Side};
+use std::alloc::Global;
+
+/// What the callee says of itself in a response.
+#[tactic(auto, unfolding(mmtel_leg::specs::Remotes::tag_in))]
+fn said_by_callee(alloc: Global, response: &Hearing) -> Result<Remote, NoMemory>
+    ensures remote { IfOk result (λ r. r ≡ remote_of Callee response.now.heard.lines) }
+    ensures tag { IfOk result (λ r. r.tag ≡ tag_given response.now) }
+{
+    Remote::read(alloc, &response.message, Side::Callee)
+}
+
+/// The status line of a response, as it was heard.
+fn line_of(alloc: Global, response: &Hearing) -> Result<Text, NoMemory>
+    ensures { IfOk result (λ t. t ≡ status_line (status_of response.now.heard.start) (phrase_in response.now.heard.start)) }
+{
+    match response.message.start() {
+        Start::Request { method: _, uri: _ } => status_line(alloc, 0, b""),
+        Start::Status { code, phrase } => status_line(alloc, *code, phrase.bytes()),
+    }
+}
+
+fn is_success(code: u16) -> bool
+    ensures { result ≡ is_success code }
+{
+    200 <= code && code < 300
+}
+
+/// The ACK of a dialog's 2xx.
+fn own_ack(alloc: Global, sip: Addr, dialogue: &Dialogue, branch: &Text) -> Result<Msg, NoMemory>
+    ensures { IfOk result (λ m. m ≡ ack_of dialogue.now (bare sip branch.now)) }
+{
+    dialogue.ack(alloc, &bare(sip, branch))
+}
+
+/// Its text.
+#[tactic(auto, unfolding(mmtel_desk::specs::Sending::ack_text))]
+fn ack_text(alloc: Global, sip: Addr, dialogue: &Dialogue, branch: &Text) -> Result<Text, NoMemory>
+    ensures { IfOk result (λ t. t ≡ ack_text sip dialogue.now branch.now) }
+{
+    let message = own_ack(alloc, sip, dialogue, branch)?;
+    message.text(alloc)
+}
+
+/// Acknowledges the 2xx of a dialog (RFC 3261 §13.2.2.4). Gives the text of the ACK.
+fn acknowledge(
+    alloc: Global,
+    sip: Addr,
+    dialogue: &Dialogue,
+    desk: &mut Desk,
+) -> Result<Text, NoMemory>
+    ensures text { IfOk result (λ t. t ≡ ack_text sip dialogue.now (token desk.old)) }
+    ensures desk { OnOk result (desk.new ≡ acked sip dialogue.now desk.old) }
+{
+    let branch = desk.draw(alloc)?;
+    let text = ack_text(alloc, sip, dialogue, &branch)?;
+    let kept = text.copied(alloc)?;
+    let peer = dialogue.peer;
+    desk.emit(alloc, Emit::Plain { peer, text })?;
+    Ok(kept)
+}
+
+/// An INVITE of which a provisional response came by this client transaction.
+fn noted(key: TKey, invite: Option<Invite>) -> Option<Invite>
+    ensures { result ≡ noted key invite }
+{
+    match invite {
+        None => None,
+        Some(Invite::Waiting(number, invitation)) => {
+            let invitation = Invitation {
+                key: Some(key),
+                provisional: true,
+                ..invitation
+            };
+            Some(Invite::Waiting(number, invitation))
+        }
+        Some(Invite::Agreed(branch, tag, ack)) => Some(Invite::Agreed(branch, tag, ack)),
+    }
+}
+
+/// An INVITE that had a 2xx with this tag, and this ACK.
+fn agreed_by(tag: Text, ack: Text, invite: Option<Invite>) -> Option<Invite>
+    ensures { result ≡ agreed_by tag ack invite }
+{
+    match invite {
+        None => None,
+        Some(Invite::Waiting(_, invitation)) => {
+            let Invitation { branch, .. } = invitation;
+            Some(Invite::Agreed(branch, tag, ack))
+        }
+        Some(Invite::Agreed(branch, before, sent)) => Some(Invite::Agreed(branch, before, sent)),
+    }
+}
+
+/// An INVITE that was cancelled, where that was due.
+fn once_cancelled_in(invite: Option<Invite>) -> Option<Invite>
+    ensures { result ≡ once_cancelled_in invite }
+{
+    match invite {
+        None => None,
+        Some(Invite::Waiting(number, invitation)) => {
+            Some(Invite::Waiting(number, once_cancelled(invitation)))
+        }
+        Some(Invite::Agreed(branch, tag, ack)) => Some(Invite::Agreed(branch, tag, ack)),
+    }
+}
+
+impl Invite {
+    /// Acknowledges a final from 300, where there was none.
+    fn acknowledge_failure(
+        &self,
+        alloc: Global,
+        sip: Addr,
+        key: TKey,
+        m: &Hearing,
+        desk: &mut Desk,
+    ) -> Result<(), NoMemory>
+        ensures { OnOk result (desk.new ≡ failure_acked sip key m.now (Some self.now) desk.old) }
+    {
+        match self {
+            Invite::Waiting(_, invitation) => desk.acknowledge_final(
+                alloc, sip, key, invitation, m,
+            ),
+            Invite::Agreed(_, _, _) => Ok(()),
+        }
+    }
+}
+
+impl Party {
+    /// Whoever is invited is seated, and has a participant's meter from now on.
+    fn stand(self, room: RoomNo, now: Moment, account: Option<Account>, remote: Remote) -> Party
+        ensures { result ≡ stood room now account remote self }
+    {
+        match self {
+            Party::Invited(leg) => {
+                let meter = meter_of(room, now, account);
+                Party::Brought(metered(leg.stand(remote), meter, now))
+            }
+            Party::Came(leg) => Party::Came(leg),
+            Party::Brought(leg) => Party::Brought(leg),
+        }
+    }
+}
+
+impl Seat {
+    /// Whether the server's INVITE to it has no final.
+    fn is_waiting(&self) -> bool
+        ensures { result ≡ is_waiting self.now.invite }
+    {
+        match &self.invite {
+            Some(Invite::Waiting(_, _)) => true,
+            _ => false,
+        }
+    }
+
+    /// Whether that INVITE has this number in its room.
+    fn waits(&self, due: u64) -> bool
+        ensures { result ≡ waits due self.now.invite }
+    {
+        match &self.invite {
+            Some(Invite::Waiting(number, _)) => *number == due,
+            _ => false,
+        }
+    }
+
+    /// Whether the ACK of the 2xx of this number is due.
+    fn is_awaited(&self, due: u64) -> bool
+        ensures { result ≡ is_awaited due self.now.awaited }
+    {
+        match self.awaited {
+            None => false,
+            Some(awaited) => awaited.number == due,
+        }
+    }
+
+    /// Acknowledges a final from 300 of the server's INVITE to it.
+    fn acknowledge_failure(
+        &self,
+        alloc: Global,
+        sip: Addr,
+        key: TKey,
+        m: &Hearing,
+        desk: &mut Desk,
+    ) -> Result<(), NoMemory>
+        ensures { OnOk result (desk.new ≡ failure_acked sip key m.now self.now.invite desk.old) }
+    {
+        match &self.invite {
+            None => Ok(()),
+            Some(invite) => invite.acknowledge_failure(alloc, sip, key, m, desk),
+        }
+    }
+
+    /// Cancels the server's INVITE to it, where that is due.
+    fn cancel(&self, alloc: Global, sip: Addr, desk: &mut Desk) -> Result<(), NoMemory>
+        ensures { OnOk result (desk.new ≡ cancelled_in sip self.now.invite desk.old) }
+    {
+        match &self.invite {
+            Some(Invite::Waiting(_, invitation)) => desk.cancel(alloc, sip, invitation),
+            _ => Ok(()),
+        }
+    }
+
+    /// Notes a provisional response of that INVITE, by its client transaction.
+    fn note(&mut self, key: TKey)
+        ensures { self.new ≡ record self.old { invite = noted key self.old.invite } }
+    {
+        let invite = self.invite.take();
+        self.invite = noted(key, invite);
+    }
+
+    /// Keeps the tag of the 2xx of that INVITE, and the ACK that it had.
+    fn agree(&mut self, tag: Text, ack: Text)
+        ensures { self.new ≡ record self.old { invite = agreed_by tag ack self.old.invite } }
+    {
+        let invite = self.invite.take();
+        self.invite = agreed_by(tag, ack, invite);
+    }
+
+    /// Notes that the INVITE was cancelled, where that was due.
+    fn note_cancelled(&mut self)
+        ensures { self.new ≡ record self.old { invite = once_cancelled_in self.old.invite } }
+    {
+        let invite = self.invite.take();
+        self.invite = once_cancelled_in(invite);
+    }
+
+    /// The seat once whoever is invited is seated.
+    fn stand(self, room: RoomNo, now: Moment, remote: Remote) -> Seat
+        ensures { result ≡ seated room now remote self }
+    {
+        let Seat {
+            number,
+            by,
+            account,
+            awaited,
+            invite,
+            party,
+        } = self;
+        let party = party.stand(room, now, account, remote);
+        Seat {
+            number,
+            by,
+            account,
+            awaited,
+            invite,
+            party,
+        }
+    }
+}
+
+/// Whoever is invited to the seat at this place is seated.
+fn stand_at(seats: &mut Vec<Seat>, room: RoomNo, now: Moment, remote: Remote, place: usize)
+    requires { place < length seats.old.items }
+    ensures { seats.new.items ≡ stood_in room now remote place (slice_get seats.old.items place) seats.old.items }
+{
+    let seat = seats.remove(place).stand(room, now, remote);
+    match seats.insert(place, seat) {
+        Ok(()) => {}
+        _ => unreachable!(),
+    }
+}
+
+impl Room {
+    /// Acknowledges the 2xx of the seat at this place, and keeps its tag and the ACK.
+    fn acknowledge_at(
+        &mut self,
+        alloc: Global,
+        setting: &Setting<'_>,
+        tag: Text,
+        place: usize,
+        effects: &mut Effects,
+    ) -> Result<(), NoMemory>
+        requires { place < length self.old.seats }
+        ensures room { OnOk result (self.new ≡ (at_seat (acknowledged setting.now tag) place (record { room = self.old; effects = effects.old })).room) }
+        ensures effects { OnOk result (effects.new ≡ (at_seat (acknowledged setting.now tag) place (record { room = self.old; effects = effects.old })).effects) }
+    {
+        let dialogue = self.seats[place].dialogue();
+        let ack = acknowledge(alloc, setting.sip, dialogue, &mut effects.desk)?;
+        self.seats[place].agree(tag, ack);
+        Ok(())
+    }
+
+    /// A 2xx: it has its ACK, whoever is invited is seated, and the seat that asked is told.
+    fn hear_success(
+        &mut self,
+        alloc: Global,
+        setting: &Setting<'_>,
+        now: Moment,
+        m: &Hearing,
+        place: usize,
+        effects: &mut Effects,
+    ) -> Result<(), NoMemory>
+        requires { place < length self.old.seats }
+        ensures room { OnOk result (self.new ≡ (at_seat (on_success setting.now now m.now) place (record { room = self.old; effects = effects.old })).room) }
+        ensures effects { OnOk result (effects.new ≡ (at_seat (on_success setting.now now m.now) place (record { room = self.old; effects = effects.old })).effects) }
+    {
+        let by = self.seats[place].by;
+        let remote = said_by_callee(alloc, m)?;
+        let tag = remote.tag.copied(alloc)?;
+        stand_at(&mut self.seats, self.number, now, remote, place);
+        self.acknowledge_at(alloc, setting, tag, place, effects)?;
+        let line = own_status(alloc, 200)?;
+        self.tell_by(alloc, setting, false, line.bytes(), by, effects)
+    }
+
+    /// The seat at this place is left, with BYE where somebody is seated, and the seat that asked for it is told this status line.
+    fn end_at(
+        &mut self,
+        alloc: Global,
+        setting: &Setting<'_>,
+        now: Moment,
+        line: &[u8],
+        place: usize,
+        effects: &mut Effects,
+    ) -> Result<(), NoMemory>
+        requires { place < length self.old.seats }
+        ensures room { OnOk result (self.new ≡ (at_seat (ended_without setting.now now line.now) place (record { room = self.old; effects = effects.old })).room) }
+        ensures effects { OnOk result (effects.new ≡ (at_seat (ended_without setting.now now line.now) place (record { room = self.old; effects = effects.old })).effects) }
+    {
+        let seat = self.seats.remove(place);
+        let by = seat.by;
+        seat.dismiss(alloc, setting, now, effects)?;
+        self.tell_by(alloc, setting, false, line, by, effects)
+    }
+
+    /// The same, where the server's INVITE to it has ended.
+    fn end_unasked(
+        &mut self,
+        alloc: Global,
+        setting: &Setting<'_>,
+        now: Moment,
+        line: &[u8],
+        place: usize,
+        effects: &mut Effects,
+    ) -> Result<(), NoMemory>
+        requires { place < length self.old.seats }
+        ensures room { OnOk result (self.new ≡ (at_seat (ended_unasked setting.now now line.now) place (record { room = self.old; effects = effects.old })).room) }
+        ensures effects { OnOk result (effects.new ≡ (at_seat (ended_unasked setting.now now line.now) place (record { room = self.old; effects = effects.old })).effects) }
+    {
+        self.seats[place].invite = None;
+        self.end_at(alloc, setting, now, line, place, effects)
+    }
+
+    /// A final from 300: it has its ACK, and the seat is left.
+    fn hear_failure(
+        &mut self,
+        alloc: Global,
+        setting: &Setting<'_>,
+        now: Moment,
+        key: TKey,
+        m: &Hearing,
+        place: usize,
+        effects: &mut Effects,
+    ) -> Result<(), NoMemory>
+        requires { place < length self.old.seats }
+        ensures room { OnOk result (self.new ≡ (at_seat (on_failure setting.now now key m.now) place (record { room = self.old; effects = effects.old })).room) }
+        ensures effects { OnOk result (effects.new ≡ (at_seat (on_failure setting.now now key m.now) place (record { room = self.old; effects = effects.old })).effects) }
+    {
+        let line = line_of(alloc, m)?;
+        let desk = &mut effects.desk;
+        self.seats[place].acknowledge_failure(alloc, setting.sip, key, m, desk)?;
+        self.end_unasked(alloc, setting, now, line.bytes(), place, effects)
+    }
+
+    /// A response of an INVITE that has no final.
+    fn hear_response(
+        &mut self,
+        alloc: Global,
+        setting: &Setting<'_>,
+        now: Moment,
+        key: TKey,
+        m: &Hearing,
+        place: usize,
+        effects: &mut Effects,
+    ) -> Result<(), NoMemory>
+        requires { place < length self.old.seats }
+        ensures room { OnOk result (self.new ≡ (at_seat (on_response setting.now now key m.now) place (record { room = self.old; effects = effects.old })).room) }
+        ensures effects { OnOk result (effects.new ≡ (at_seat (on_response setting.now now key m.now) place (record { room = self.old; effects = effects.old })).effects) }
+    {
+        let code = status_of(m.message.start());
+        if code < 200 {
+            self.seats[place].note(key);
+            return Ok(());
+        }
+        if code < 300 {
+            return self.hear_success(alloc, setting, now, m, place, effects);
+        }
+        self.hear_failure(alloc, setting, now, key, m, place, effects)
+    }
+
+    /// A response of an INVITE whose 2xx had this tag and this ACK: another 2xx with this tag has the ACK again.
+    fn hear_repeat(
+        &self,
+        alloc: Global,
+        m: &Hearing,
+        tag: &[u8],
+        ack: &Text,
+        place: usize,
+        effects: &mut Effects,
+    ) -> Result<(), NoMemory>
+        requires { place < length self.now.seats }
+        ensures room { (at_seat (on_repeat m.now tag.now ack.now) place (record { room = self.now; effects = effects.old })).room ≡ self.now }
+        ensures effects { OnOk result (effects.new ≡ (at_seat (on_repeat m.now tag.now ack.now) place (record { room = self.now; effects = effects.old })).effects) }
+    {
+        if !is_success(status_of(m.message.start())) {
+            return Ok(());
+        }
+        let remote = said_by_callee(alloc, m)?;
+        if remote.tag.bytes() != tag {
+            return Ok(());
+        }
+        let text = ack.copied(alloc)?;
+        let peer = self.seats[place].dialogue().peer;
+        effects.desk.emit(alloc, Emit::Plain { peer, text })
+    }
+
+    /// A response to the server's INVITE to the seat at this place.
+    #[tactic(auto, unfolding(crate::specs::Answers::on_answer))]
+    pub fn hear_answer(
+        &mut self,
+        alloc: Global,
+        setting: &Setting<'_>,
+        now: Moment,
+        key: TKey,
+        m: &Hearing,
+        place: usize,
+        effects: &mut Effects,
+    ) -> Result<(), NoMemory>
+        requires { place < length self.old.seats }
+        ensures room { OnOk result (self.new ≡ (at_seat (on_answer setting.now now key m.now) place (record { room = self.old; effects = effects.old })).room) }
+        ensures effects { OnOk result (effects.new ≡ (at_seat (on_answer setting.now now key m.now) place (record { room = self.old; effects = effects.old })).effects) }
+    {
+        match &self.seats[place].invite {
+            None => Ok(()),
+            Some(Invite::Waiting(_, _)) => {
+                self.hear_response(alloc, setting, now, key, m, place, effects)
+            }
+            Some(Invite::Agreed(_, tag, ack)) => {
+                self.hear_repeat(alloc, m, tag.bytes(), ack, place, effects)
+            }
+        }
+    }
+
+    /// The server's INVITE to the seat at this place had no response at all.
+    #[tactic(auto, unfolding(crate::specs::Answers::on_silence))]
+    pub fn hear_silence(
+        &mut self,
+        alloc: Global,
+        setting: &Setting<'_>,
+        now: Moment,
+        place: usize,
+        effects: &mut Effects,
+    ) -> Result<(), NoMemory>
+        requires { place < length self.old.seats }
+        ensures room { OnOk result (self.new ≡ (at_seat (on_silence setting.now now) place (record { room = self.old; effects = effects.old })).room) }
+        ensures effects { OnOk result (effects.new ≡ (at_seat (on_silence setting.now now) place (record { room = self.old; effects = effects.old })).effects) }
+    {
+        if !self.seats[place].is_waiting() {
+            return Ok(());
+        }
+        let line = own_status(alloc, 408)?;
+        self.end_unasked(alloc, setting, now, line.bytes(), place, effects)
+    }
+
+    /// An invitation rang too long.
+    fn end_ringing(
+        &mut self,
+        alloc: Global,
+        setting: &Setting<'_>,
+        now: Moment,
+        place: usize,
+        effects: &mut Effects,
+    ) -> Result<(), NoMemory>
+        requires { place < length self.old.seats }
+        ensures room { OnOk result (self.new ≡ (at_seat (too_long setting.now now) place (record { room = self.old; effects = effects.old })).room) }
+        ensures effects { OnOk result (effects.new ≡ (at_seat (too_long setting.now now) place (record { room = self.old; effects = effects.old })).effects) }
+    {
+        let line = own_status(alloc, 408)?;
+        self.seats[place].cancel(alloc, setting.sip, &mut effects.desk)?;
+        self.seats[place].note_cancelled();
+        self.end_at(alloc, setting, now, line.bytes(), place, effects)
+    }
+
+    /// The deadline of the ringing of the invitation of this number.
+    fn hear_cap(
+        &mut self,
+        alloc: Global,
+        setting: &Setting<'_>,
+        now: Moment,
+        due: u64,
+        place: usize,
+        effects: &mut Effects,
+    ) -> Result<(), NoMemory>
+        requires { place < length self.old.seats }
+        ensures room { OnOk result (self.new ≡ (at_seat (on_cap setting.now now due) place (record { room = self.old; effects = effects.old })).room) }
+        ensures effects { OnOk result (effects.new ≡ (at_seat (on_cap setting.now now due) place (record { room = self.old; effects = effects.old })).effects) }
+    {
+        let seat = &self.seats[place];
+        if !seat.is_seated() && seat.waits(due) {
+            return self.end_ringing(alloc, setting, now, place, effects);
+        }
+        Ok(())
+    }
+
+    /// No ACK came: the seat is left, with BYE.
+    fn end_unacknowledged(
+        &mut self,
+        alloc: Global,
+        setting: &Setting<'_>,
+        now: Moment,
+        place: usize,
+        effects: &mut Effects,
+    ) -> Result<(), NoMemory>
+        requires { place < length self.old.seats }
+        ensures room { OnOk result (self.new ≡ (at_seat (unacknowledged setting.now now) place (record { room = self.old; effects = effects.old })).room) }
+        ensures effects { OnOk result (effects.new ≡ (at_seat (unacknowledged setting.now now) place (record { room = self.old; effects = effects.old })).effects) }
+    {
+        let seat = self.seats.remove(place);
+        let number = seat.number;
+        seat.dismiss(alloc, setting, now, effects)?;
+        self.close_with(alloc, setting, now, number, effects)
+    }
+
+    /// The deadline of the ACK of the 2xx of this number.
+    fn hear_no_ack(
+        &mut self,
+        alloc: Global,
+        setting: &Setting<'_>,
+        now: Moment,
+        due: u64,
+        place: usize,
+        effects: &mut Effects,
+    ) -> Result<(), NoMemory>
+        requires { place < length self.old.seats }
+        ensures room { OnOk result (self.new ≡ (at_seat (on_no_ack setting.now now due) place (record { room = self.old; effects = effects.old })).room) }
+        ensures effects { OnOk result (effects.new ≡ (at_seat (on_no_ack setting.now now due) place (record { room = self.old; effects = effects.old })).effects) }
+    {
+        if self.seats[place].is_awaited(due) {
+            return self.end_unacknowledged(alloc, setting, now, place, effects);
+        }
+        Ok(())
+    }
+
+    /// A deadline of the seat at this place.
+    #[tactic(auto, unfolding(crate::specs::Answers::on_due))]
+    pub fn hear_due(
+        &mut self,
+        alloc: Global,
+        setting: &Setting<'_>,
+        now: Moment,
+        what: RoomWord,
+        place: usize,
+        effects: &mut Effects,
+    ) -> Result<(), NoMemory>
+        requires { place < length self.old.seats }
+        ensures room { OnOk result (self.new ≡ (at_seat (on_due setting.now now what) place (record { room = self.old; effects = effects.old })).room) }
+        ensures effects { OnOk result (effects.new ≡ (at_seat (on_due setting.now now what) place (record { room = self.old; effects = effects.old })).effects) }
+    {
+        match what {
+            RoomWord::Cap(due) => self.hear_cap(alloc, setting, now, due, place, effects),
+            RoomWord::NoAck(due) => self.hear_no_ack(alloc, setting, now, due, place, effects),
+        }
+    }
+}

@@ -1,0 +1,138 @@
+//! A leg enters a room of the table, and a seat of one is told.
+ghost use Rattle.std.specs.Prelude.{◌≡◌, ◌<◌, IfErr, IfOk, None, OnOk, length, slice_get, true};
+ghost use Rattle.mmtel_leg.specs.Releases.{released_leg};
+ghost use Rattle.mmtel_sdp.specs.Offers.{offers_audio};
+ghost use Rattle.mmtel_focus.specs.Joining.{adopted, come, is_same_side};
+ghost use Rattle.mmtel_focus.specs.Seats.{told_to};
+ghost use Rattle.mmtel_focus.specs.Table.{access, is_provisional, notified, stays_at};
+ghost use Rattle.mmtel_focus.specs.Texts.{own_status};
+
+use crate::faults::RoomFault;
+use crate::moves::place_of;
+use crate::rooms::{Effects, Room};
+use crate::settings::Setting;
+use crate::texts::own_status;
+use mmtel_answers::Hearing;
+use mmtel_leg::Released;
+use mmtel_scan::NoMemory;
+use mmtel_transaction::TKey;
+use mmtel_types::limits::SEATS;
+use mmtel_types::{Account, Moment, RoomNo};
+use std::alloc::Global;
+
+/// The place of the room of this number, where it takes another seat.
+pub fn access(live: &[Room], room: RoomNo) -> Result<usize, RoomFault>
+    ensures access { result ≡ access room.0 live.now }
+    ensures place { IfOk result (λ place. place < length live.now) }
+{
+    match place_of(live, room) {
+        None => Err(RoomFault::Gone),
+        Some(place) => {
+            let asked = &live[place];
+            if asked.seats.len() >= SEATS {
+                return Err(RoomFault::RoomFull);
+            }
+            Ok(place)
+        }
+    }
+}
+
+/// A leg comes to the room at this place by an INVITE that offers audio.
+///
+/// # Errors
+///
+/// Want of memory alone; the leg is handed back, and the rooms are as before.
+pub fn join_at(
+    live: &mut Vec<Room>,
+    alloc: Global,
+    setting: &Setting<'_>,
+    now: Moment,
+    place: usize,
+    leg: Released,
+    account: Option<Account>,
+    key: TKey,
+    invite: &Hearing,
+    effects: &mut Effects,
+) -> Result<(), Released>
+    requires unmetered { (released_leg leg).meter ≡ None }
+    requires audio { offers_audio invite.now.heard.body ≡ true }
+    requires place { place < length live.old.items }
+    ensures live { OnOk result (live.new.items ≡ (stays_at (come setting.now now leg account key invite.now) place (slice_get live.old.items place) live.old.items effects.old).live) }
+    ensures effects { OnOk result (effects.new ≡ (stays_at (come setting.now now leg account key invite.now) place (slice_get live.old.items place) live.old.items effects.old).effects) }
+    ensures loose { OnOk result (effects.new.loose ≡ effects.old.loose) }
+    ensures rows { OnOk result (effects.new.desk.rows ≡ effects.old.desk.rows) }
+    ensures handed_back { IfErr result (λ l. l ≡ leg) }
+{
+    live[place].come(alloc, setting, now, leg, account, key, invite, effects)
+}
+
+/// A leg comes to the room at this place out of a call.
+///
+/// # Errors
+///
+/// Want of memory alone; a leg of the same side without a meter is handed back.
+pub fn adopt_at(
+    live: &mut Vec<Room>,
+    alloc: Global,
+    setting: &Setting<'_>,
+    now: Moment,
+    place: usize,
+    leg: Released,
+    account: Option<Account>,
+    by: u64,
+    effects: &mut Effects,
+) -> Result<(), Released>
+    requires unmetered { (released_leg leg).meter ≡ None }
+    requires place { place < length live.old.items }
+    ensures live { OnOk result (live.new.items ≡ (stays_at (adopted setting.now now leg account by) place (slice_get live.old.items place) live.old.items effects.old).live) }
+    ensures effects { OnOk result (effects.new ≡ (stays_at (adopted setting.now now leg account by) place (slice_get live.old.items place) live.old.items effects.old).effects) }
+    ensures loose { OnOk result (effects.new.loose ≡ effects.old.loose) }
+    ensures rows { OnOk result (effects.new.desk.rows ≡ effects.old.desk.rows) }
+    ensures meter { IfErr result (λ l. (released_leg l).meter ≡ None) }
+    ensures side { IfErr result (λ l. is_same_side l leg ≡ true) }
+{
+    live[place].adopt(alloc, setting, now, leg, account, by, effects)
+}
+
+/// Tells a seat of the room at this place a status line.
+fn tell_at(
+    live: &mut Vec<Room>,
+    alloc: Global,
+    setting: &Setting<'_>,
+    place: usize,
+    goes_on: bool,
+    line: &[u8],
+    seat: u64,
+    effects: &mut Effects,
+) -> Result<(), NoMemory>
+    requires { place < length live.old.items }
+    ensures live { OnOk result (live.new.items ≡ (stays_at (told_to setting.now goes_on line.now seat) place (slice_get live.old.items place) live.old.items effects.old).live) }
+    ensures effects { OnOk result (effects.new ≡ (stays_at (told_to setting.now goes_on line.now seat) place (slice_get live.old.items place) live.old.items effects.old).effects) }
+{
+    live[place].tell(alloc, setting, goes_on, line, seat, effects)
+}
+
+/// Tells a seat the status of this code; nothing goes out once it has left.
+#[tactic(auto, unfolding(crate::specs::Table::notified))]
+pub fn notify(
+    live: &mut Vec<Room>,
+    alloc: Global,
+    setting: &Setting<'_>,
+    room: RoomNo,
+    seat: u64,
+    code: u16,
+    effects: &mut Effects,
+) -> Result<(), NoMemory>
+    ensures live { OnOk result (live.new.items ≡ (notified setting.now room.0 seat code live.old.items effects.old).live) }
+    ensures effects { OnOk result (effects.new ≡ (notified setting.now room.0 seat code live.old.items effects.old).effects) }
+{
+    let line = own_status(alloc, code)?;
+    match place_of(live, room) {
+        None => Ok(()),
+        Some(place) => {
+            let goes_on = code < 200;
+            let line = line.bytes();
+            tell_at(live, alloc, setting, place, goes_on, line, seat, effects)
+        }
+    }
+}

@@ -1,0 +1,106 @@
+//! Which seat has a dialog, and how many seats of a room are taken.
+ghost use Rattle.std.specs.Prelude.{◌≡◌, Some, position};
+ghost use Rattle.std.specs.Option.{option_copied};
+ghost use Rattle.mmtel_focus.specs.Names.{found, found_in, has_dialog, has_name, is_named, number_at, seat_named, seats_taken};
+
+use crate::moves::place_of;
+use crate::rooms::Room;
+use crate::seats::Seat;
+use mmtel_leg::Dialogue;
+use mmtel_types::RoomNo;
+
+/// The names of a dialog: its Call-ID, the server's tag and the other side's.
+#[derive(Clone, Copy)]
+pub struct DialogName<'a> {
+    pub call_id: &'a [u8],
+    pub local: &'a [u8],
+    pub remote: &'a [u8],
+}
+
+/// Whether the dialog has these names.
+fn has_name(dialogue: &Dialogue, name: DialogName<'_>) -> bool
+    ensures { result ≡ has_name name.entry.call_id.now name.entry.local.now name.entry.remote.now dialogue.now }
+{
+    dialogue.call_id.bytes() == name.call_id
+        && dialogue.local_tag.bytes() == name.local
+        && dialogue.remote_tag.bytes() == name.remote
+}
+
+/// Whether somebody is seated there whose dialog has these names.
+fn is_named(seat: &Seat, name: DialogName<'_>) -> bool
+    ensures { result ≡ is_named name.entry.call_id.now name.entry.local.now name.entry.remote.now seat.now }
+{
+    seat.is_seated() && has_name(seat.dialogue(), name)
+}
+
+fn number_at(seats: &[Seat], place: Option<usize>) -> Option<u64>
+    ensures { result ≡ number_at place seats.now }
+{
+    match place {
+        None => None,
+        Some(place) => match seats.get(place) {
+            None => None,
+            Some(seat) => Some(seat.number),
+        },
+    }
+}
+
+fn place_named(seats: &[Seat], name: DialogName<'_>) -> Option<usize>
+    ensures { result ≡ position (is_named name.entry.call_id.now name.entry.local.now name.entry.remote.now) seats.now }
+{
+    seats.iter().position(|seat| is_named(seat, name))
+}
+
+/// The seat of a room whose dialog has these names.
+fn seat_named(room: &Room, name: DialogName<'_>) -> Option<u64>
+    ensures { result ≡ seat_named name.entry.call_id.now name.entry.local.now name.entry.remote.now room.now }
+{
+    number_at(&room.seats, place_named(&room.seats, name))
+}
+
+fn has_dialog(room: &Room, name: DialogName<'_>) -> bool
+    ensures { result ≡ has_dialog name.entry.call_id.now name.entry.local.now name.entry.remote.now room.now }
+{
+    seat_named(room, name).is_some()
+}
+
+fn place_having(live: &[Room], name: DialogName<'_>) -> Option<usize>
+    ensures { result ≡ position (has_dialog name.entry.call_id.now name.entry.local.now name.entry.remote.now) live.now }
+{
+    live.iter().position(|room| has_dialog(room, name))
+}
+
+fn found_in(room: &Room, name: DialogName<'_>) -> Option<(RoomNo, u64)>
+    ensures { result ≡ found_in name.entry.call_id.now name.entry.local.now name.entry.remote.now (Some room.now) }
+{
+    match seat_named(room, name) {
+        None => None,
+        Some(seat) => Some((room.number, seat)),
+    }
+}
+
+/// The room and the seat whose dialog has these names.
+pub fn find(live: &[Room], name: DialogName<'_>) -> Option<(RoomNo, u64)>
+    ensures { result ≡ found name.entry.call_id.now name.entry.local.now name.entry.remote.now live.now }
+{
+    match place_having(live, name) {
+        None => None,
+        Some(place) => match live.get(place) {
+            None => None,
+            Some(room) => found_in(room, name),
+        },
+    }
+}
+
+/// How many seats of a room are taken; none where it is not live.
+pub fn seats_taken(live: &[Room], room: RoomNo) -> u32
+    ensures { result ≡ seats_taken room.0 live.now }
+{
+    match place_of(live, room) {
+        None => 0,
+        Some(place) => {
+            let asked = &live[place];
+            u32::try_from(asked.seats.len()).unwrap_or(u32::MAX)
+        }
+    }
+}

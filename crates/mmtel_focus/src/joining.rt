@@ -1,0 +1,311 @@
+//! How a seat is taken: by an INVITE to the room, and by a leg out of a call.
+ghost use Rattle.std.specs.Prelude.{◌≡◌, IfErr, IfOk, None, OnErr, OnOk, Some, codes, true};
+ghost use Rattle.mmtel_desk.specs.Desks.{token};
+ghost use Rattle.mmtel_desk.specs.Invitations.{sent};
+ghost use Rattle.mmtel_desk.specs.Sending.{asked_with};
+ghost use Rattle.mmtel_leg.specs.Releases.{released_leg};
+ghost use Rattle.mmtel_scan.specs.Numbers.{next_number};
+ghost use Rattle.mmtel_sdp.specs.Mixing.{offer_text};
+ghost use Rattle.mmtel_sdp.specs.Offers.{offers_audio};
+ghost use Rattle.mmtel_focus.specs.Joining.{adopted, agreed, come, having_invited, having_invited_by, is_same_side, metered, new_room, new_seat, party_of};
+ghost use Rattle.mmtel_focus.specs.Rooms.{Waiting};
+ghost use Rattle.mmtel_focus.specs.Seats.{meter_of};
+ghost use Rattle.mmtel_focus.specs.Texts.{described};
+
+use crate::rooms::{Effects, Room};
+use crate::seats::{Awaited, Invite, Party, Seat, give_up_meter};
+use crate::settings::Setting;
+use crate::texts::{answer_in, contact_value, described, sdp_lines};
+use mmtel_answers::Hearing;
+use mmtel_charging::{Kind, Meter};
+use mmtel_desk::{Desk, Invitation};
+use mmtel_leg::{LegOf, Released, Standing};
+use mmtel_scan::NoMemory;
+use mmtel_sdp::mixer_offer;
+use mmtel_transaction::{Emit, RoomWord, TKey};
+use mmtel_types::{Account, CallNo, Moment, RoomNo};
+use std::alloc::Global;
+
+/// For so long a 2xx waits for its ACK, in milliseconds (RFC 3261 §13.3.1.4).
+const ACK_TIME: u64 = 32_000;
+
+/// A participant's meter, which begins, and is answered, when it is seated.
+pub fn meter_of(room: RoomNo, now: Moment, account: Option<Account>) -> Option<Meter>
+    ensures { result ≡ meter_of room now account }
+{
+    match account {
+        None => None,
+        Some(account) => {
+            let mut meter = Meter::start(Kind::Participant, account, CallNo(room.0), now);
+            meter.answered(now);
+            Some(meter)
+        }
+    }
+}
+
+/// Keeps this meter in a leg; one that ran there gives no row.
+pub fn metered<P, S>(leg: LegOf<P, S>, meter: Option<Meter>, now: Moment) -> LegOf<P, S>
+    ensures { result ≡ metered meter leg }
+{
+    let mut leg = leg;
+    give_up_meter(leg.swap_meter(meter), now);
+    leg
+}
+
+/// Who a leg is of, with a participant's meter.
+fn party_of(leg: Released, meter: Option<Meter>, now: Moment) -> Party
+    ensures { result ≡ party_of meter leg }
+{
+    match leg {
+        Released::Caller(leg) => Party::Came(metered(leg, meter, now)),
+        Released::Callee(leg) => Party::Brought(metered(leg, meter, now)),
+    }
+}
+
+/// Answers an INVITE to a room with the mixer's answer, and arms the deadline of its ACK.
+pub fn agree(
+    alloc: Global,
+    setting: &Setting<'_>,
+    now: Moment,
+    room: RoomNo,
+    seat: u64,
+    number: u64,
+    key: TKey,
+    invite: &Hearing,
+    tag: &[u8],
+    desk: &mut Desk,
+) -> Result<(), NoMemory>
+    requires { offers_audio invite.now.heard.body ≡ true }
+    ensures { OnOk result (desk.new ≡ agreed setting.now now room seat number key invite.now tag.now desk.old) }
+{
+    let contact = contact_value(alloc, setting.sip, room)?;
+    let named = sdp_lines(alloc)?;
+    let body = answer_in(alloc, setting.mixer, invite.message.body())?;
+    desk.answer_at(
+        alloc,
+        contact.bytes(),
+        key,
+        invite,
+        tag,
+        200,
+        &[],
+        named.items(),
+        body.bytes(),
+    )?;
+    let at = now.ms() + ACK_TIME;
+    let what = RoomWord::NoAck(number);
+    desk.emit(
+        alloc,
+        Emit::ArmSeat {
+            room,
+            seat,
+            what,
+            at,
+        },
+    )
+}
+
+/// The seat of somebody who comes to a room.
+fn new_seat(room: &Room, leg: Released, account: Option<Account>, now: Moment) -> Seat
+    ensures { result ≡ new_seat now room.now leg account }
+{
+    let cseq = leg.dialogue().last;
+    let meter = meter_of(room.number, now, account);
+    Seat {
+        number: room.taken.saturating_add(1),
+        by: None,
+        account,
+        awaited: Some(Awaited {
+            number: room.counted.saturating_add(1),
+            cseq,
+        }),
+        invite: None,
+        party: party_of(leg, meter, now),
+    }
+}
+
+/// The seat of a leg that was asked in by the REFER of a seat.
+fn adopted_seat(
+    room: &Room,
+    leg: Released,
+    account: Option<Account>,
+    by: u64,
+    invitation: Invitation,
+    now: Moment,
+) -> Seat
+    ensures { result ≡ record { number = next_number room.now.taken; by = Some by; account = account; awaited = None; invite = Some (Waiting (next_number room.now.counted) invitation); party = party_of (meter_of room.now.number now account) leg } }
+{
+    let meter = meter_of(room.number, now, account);
+    Seat {
+        number: room.taken.saturating_add(1),
+        by: Some(by),
+        account,
+        awaited: None,
+        invite: Some(Invite::Waiting(room.counted.saturating_add(1), invitation)),
+        party: party_of(leg, meter, now),
+    }
+}
+
+/// Asks a leg into a room by an INVITE with the mixer's offer.
+fn ask<P>(
+    alloc: Global,
+    setting: &Setting<'_>,
+    room: RoomNo,
+    leg: &mut LegOf<P, Standing>,
+    desk: &mut Desk,
+) -> Result<Invitation, NoMemory>
+    ensures desk { OnOk result (desk.new ≡ asked_with setting.now.sip (codes "INVITE") leg.old.dialogue (described setting.now.sip room) (offer_text setting.now.mixer) desk.old) }
+    ensures counted { OnOk result (leg.new ≡ having_invited leg.old) }
+    ensures meter { leg.new.meter ≡ leg.old.meter }
+    ensures sent { IfOk result (λ i. i ≡ sent (having_invited leg.old).dialogue (next_number leg.old.dialogue.own) (token desk.old)) }
+{
+    let named = described(alloc, setting.sip, room)?;
+    let body = mixer_offer(alloc, setting.mixer)?;
+    let branch = desk.ask_with(alloc, setting.sip, b"INVITE", leg, &named, body.bytes())?;
+    let dialogue = leg.dialogue().copied(alloc)?;
+    let number = dialogue.own;
+    Ok(Invitation::sent(dialogue, number, branch))
+}
+
+/// The same of a leg that was taken out of a call, which is handed back in any case.
+fn ask_in(
+    alloc: Global,
+    setting: &Setting<'_>,
+    room: RoomNo,
+    leg: Released,
+    desk: &mut Desk,
+) -> (Released, Result<Invitation, NoMemory>)
+    requires { (released_leg leg).meter ≡ None }
+    ensures desk { OnOk result.1 (desk.new ≡ asked_with setting.now.sip (codes "INVITE") (released_leg leg).dialogue (described setting.now.sip room) (offer_text setting.now.mixer) desk.old) }
+    ensures counted { OnOk result.1 (result.0 ≡ having_invited_by leg) }
+    ensures meter { (released_leg result.0).meter ≡ None }
+    ensures side { is_same_side result.0 leg ≡ true }
+    ensures sent { IfOk result.1 (λ i. i ≡ sent (having_invited (released_leg leg)).dialogue (next_number (released_leg leg).dialogue.own) (token desk.old)) }
+{
+    match leg {
+        Released::Caller(leg) => {
+            let mut leg = leg;
+            let sent = ask(alloc, setting, room, &mut leg, desk);
+            (Released::Caller(leg), sent)
+        }
+        Released::Callee(leg) => {
+            let mut leg = leg;
+            let sent = ask(alloc, setting, room, &mut leg, desk);
+            (Released::Callee(leg), sent)
+        }
+    }
+}
+
+impl Room {
+    /// A room that nobody has come to.
+    pub fn new(alloc: Global, number: RoomNo) -> Room
+        ensures { result ≡ new_room number }
+    {
+        Room {
+            number,
+            taken: 0,
+            counted: 0,
+            seats: Vec::new(alloc),
+        }
+    }
+
+    /// Counts a seat that was taken, and with it an invitation or a 2xx.
+    pub fn count(&mut self)
+        ensures { self.new ≡ record self.old { taken = next_number self.old.taken; counted = next_number self.old.counted } }
+    {
+        self.taken = self.taken.saturating_add(1);
+        self.counted = self.counted.saturating_add(1);
+    }
+
+    /// A leg comes to the room by an INVITE that offers audio: it has the mixer's answer, and a seat.
+    ///
+    /// # Errors
+    ///
+    /// Want of memory alone; the leg is handed back, and the room is as before.
+    #[tactic(auto, unfolding(crate::specs::Joining::come))]
+    pub fn come(
+        &mut self,
+        alloc: Global,
+        setting: &Setting<'_>,
+        now: Moment,
+        leg: Released,
+        account: Option<Account>,
+        key: TKey,
+        invite: &Hearing,
+        effects: &mut Effects,
+    ) -> Result<(), Released>
+        requires unmetered { (released_leg leg).meter ≡ None }
+        requires audio { offers_audio invite.now.heard.body ≡ true }
+        ensures room { OnOk result (self.new ≡ (come setting.now now leg account key invite.now (record { room = self.old; effects = effects.old })).room) }
+        ensures effects { OnOk result (effects.new ≡ (come setting.now now leg account key invite.now (record { room = self.old; effects = effects.old })).effects) }
+        ensures loose { OnOk result (effects.new.loose ≡ effects.old.loose) }
+        ensures rows { OnOk result (effects.new.desk.rows ≡ effects.old.desk.rows) }
+        ensures refused { OnErr result (self.new ≡ self.old) }
+        ensures handed_back { IfErr result (λ l. l ≡ leg) }
+    {
+        if self.seats.reserve(1).is_err() {
+            return Err(leg);
+        }
+        let seat = self.taken.saturating_add(1);
+        let number = self.counted.saturating_add(1);
+        let tag = leg.dialogue().local_tag.bytes();
+        let agreed = agree(
+            alloc,
+            setting,
+            now,
+            self.number,
+            seat,
+            number,
+            key,
+            invite,
+            tag,
+            &mut effects.desk,
+        );
+        if agreed.is_err() {
+            return Err(leg);
+        }
+        let seat = new_seat(self, leg, account, now);
+        self.seats.push_reserved(seat);
+        self.count();
+        Ok(())
+    }
+
+    /// Takes a leg out of a call: it is asked in by an INVITE, and has a seat from now on.
+    ///
+    /// # Errors
+    ///
+    /// Want of memory alone; a leg of the same side without a meter is handed back, and the room is as before.
+    #[tactic(auto, unfolding(crate::specs::Joining::adopted))]
+    pub fn adopt(
+        &mut self,
+        alloc: Global,
+        setting: &Setting<'_>,
+        now: Moment,
+        leg: Released,
+        account: Option<Account>,
+        by: u64,
+        effects: &mut Effects,
+    ) -> Result<(), Released>
+        requires { (released_leg leg).meter ≡ None }
+        ensures room { OnOk result (self.new ≡ (adopted setting.now now leg account by (record { room = self.old; effects = effects.old })).room) }
+        ensures effects { OnOk result (effects.new ≡ (adopted setting.now now leg account by (record { room = self.old; effects = effects.old })).effects) }
+        ensures loose { OnOk result (effects.new.loose ≡ effects.old.loose) }
+        ensures rows { OnOk result (effects.new.desk.rows ≡ effects.old.desk.rows) }
+        ensures refused { OnErr result (self.new ≡ self.old) }
+        ensures meter { IfErr result (λ l. (released_leg l).meter ≡ None) }
+        ensures side { IfErr result (λ l. is_same_side l leg ≡ true) }
+    {
+        if self.seats.reserve(1).is_err() {
+            return Err(leg);
+        }
+        match ask_in(alloc, setting, self.number, leg, &mut effects.desk) {
+            (leg, Err(_)) => Err(leg),
+            (leg, Ok(invitation)) => {
+                let seat = adopted_seat(self, leg, account, by, invitation, now);
+                self.seats.push_reserved(seat);
+                self.count();
+                Ok(())
+            }
+        }
+    }
+}

@@ -1,0 +1,31 @@
+//! Conference rooms (RFC 4579): seats that the server holds together with a mixer, by the room table; who comes, who is invited by REFER (RFC 3515), and whose leg comes out of a call (RFC 3891).
+#![tactic(auto)]
+
+mod answers;
+mod branches;
+mod entering;
+mod faults;
+mod finding;
+mod inviting;
+mod joining;
+mod leaving;
+mod moves;
+mod parting;
+mod referrals;
+mod requests;
+mod rooms;
+mod seats;
+mod settings;
+mod signals;
+mod tables;
+mod telling;
+mod texts;
+
+pub use faults::RoomFault;
+pub use referrals::{Referral, Replaces, referral_of};
+pub use rooms::{Effects, Room};
+pub use seats::{Awaited, Invite, Party, Seat};
+pub use settings::Setting;
+pub use signals::{Joining, RoomSignal, SeatSignal};
+pub use tables::Rooms;
+pub use texts::room_named;

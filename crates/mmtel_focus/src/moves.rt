@@ -1,0 +1,350 @@
+//! A signal moves the rooms: the seat that it is of takes its row, or something is heard of an INVITE that was left.
+ghost use Rattle.std.specs.Prelude.{◌≡◌, ◌<◌, ℕ, List, OnOk, Some, length, position, slice_get};
+ghost use Rattle.mmtel_desk.specs.Loose.{is_of};
+ghost use Rattle.mmtel_focus.specs.Rooms.{Room};
+ghost use Rattle.mmtel_focus.specs.Seats.{at_place, at_seat};
+ghost use Rattle.mmtel_focus.specs.Table.{answered_at, answered_loose, asks, heard_by, heard_in, heard_of, hears, is_asked, is_key, is_loose_key, place_of, silenced_at, stepped_at, stepped_in, taken, without};
+
+use crate::branches::{invite_answered, invite_silent};
+use crate::rooms::{Effects, Room};
+use crate::seats::Seat;
+use crate::settings::Setting;
+use crate::signals::{RoomSignal, SeatSignal};
+use crate::telling;
+use mmtel_answers::Hearing;
+use mmtel_desk::{Loose, file, loose_at};
+use mmtel_scan::{List, NoMemory};
+use mmtel_transaction::TKey;
+use mmtel_types::{Addr, Moment, RoomNo};
+use std::alloc::Global;
+
+/// The place of the room of this number.
+pub fn place_of(live: &[Room], number: RoomNo) -> Option<usize>
+    ensures { result ≡ place_of number.0 live.now }
+{
+    live.iter().position(|room| room.number.0 == number.0)
+}
+
+/// Spends a room and all its seats, without rows.
+pub fn give_up_room(room: Room, at: Moment) {
+    let Room {
+        number: _,
+        taken: _,
+        counted: _,
+        seats,
+    } = room;
+    let mut seats = seats;
+    'given: while let Some(seat) = seats.pop() {
+        seat.give_up(at);
+    }
+    seats.destroy_empty();
+}
+
+/// The place of the seat of a room to which the INVITE of this branch went.
+fn asked_at(seats: &[Seat], branch: &[u8]) -> Option<usize>
+    ensures { result ≡ position (is_asked branch.now) seats.now }
+{
+    seats.iter().position(|seat| seat.is_asked(branch))
+}
+
+impl Room {
+    /// Whether the INVITE of this branch went to a seat of the room.
+    fn asks(&self, branch: &[u8]) -> bool
+        ensures { result ≡ asks branch.now self.now }
+    {
+        self.seats.iter().any(|seat| seat.is_asked(branch))
+    }
+
+    /// The seat at this place hears.
+    #[tactic(auto, unfolding(crate::specs::Table::hears))]
+    fn hear_at(
+        &mut self,
+        alloc: Global,
+        setting: &Setting<'_>,
+        now: Moment,
+        signal: SeatSignal,
+        place: usize,
+        effects: &mut Effects,
+    ) -> Result<(), NoMemory>
+        requires { place < length self.old.seats }
+        ensures room { OnOk result (self.new ≡ (at_seat (hears setting.now now signal) place (record { room = self.old; effects = effects.old })).room) }
+        ensures effects { OnOk result (effects.new ≡ (at_seat (hears setting.now now signal) place (record { room = self.old; effects = effects.old })).effects) }
+    {
+        match signal {
+            SeatSignal::Request { key, request } => {
+                self.hear_request(alloc, setting, now, key, &request, place, effects)
+            }
+            SeatSignal::Ack { ack } => self.hear_ack(alloc, &ack, place, effects),
+            SeatSignal::Answer { key, response } => {
+                self.hear_answer(alloc, setting, now, key, &response, place, effects)
+            }
+            SeatSignal::Silent => self.hear_silence(alloc, setting, now, place, effects),
+            SeatSignal::Due { what } => self.hear_due(alloc, setting, now, what, place, effects),
+        }
+    }
+
+    /// The seat at a place hears, if there is one.
+    fn hear(
+        &mut self,
+        alloc: Global,
+        setting: &Setting<'_>,
+        now: Moment,
+        signal: SeatSignal,
+        place: Option<usize>,
+        effects: &mut Effects,
+    ) -> Result<(), NoMemory>
+        requires { (n : ℕ) → place ≡ Some n → n < length self.old.seats }
+        ensures room { OnOk result (self.new ≡ (at_place (hears setting.now now signal) place (record { room = self.old; effects = effects.old })).room) }
+        ensures effects { OnOk result (effects.new ≡ (at_place (hears setting.now now signal) place (record { room = self.old; effects = effects.old })).effects) }
+    {
+        match place {
+            None => Ok(()),
+            Some(place) => self.hear_at(alloc, setting, now, signal, place, effects),
+        }
+    }
+}
+
+/// The room at this place hears, by its seat at that place; it leaves the table where it closes.
+fn step_at(
+    live: &mut Vec<Room>,
+    alloc: Global,
+    setting: &Setting<'_>,
+    now: Moment,
+    signal: SeatSignal,
+    place: usize,
+    seat: Option<usize>,
+    effects: &mut Effects,
+) -> Result<(), NoMemory>
+    requires place { place < length live.old.items }
+    requires seat { (room : Room) → slice_get live.old.items place ≡ Some room → (n : ℕ) → seat ≡ Some n → n < length room.seats }
+    ensures live { OnOk result (live.new.items ≡ (stepped_at (at_place (hears setting.now now signal) seat) place (slice_get live.old.items place) live.old.items effects.old).live) }
+    ensures effects { OnOk result (effects.new ≡ (stepped_at (at_place (hears setting.now now signal) seat) place (slice_get live.old.items place) live.old.items effects.old).effects) }
+{
+    live[place].hear(alloc, setting, now, signal, seat, effects)?;
+    if effects.closes {
+        give_up_room(live.remove(place), now);
+    }
+    Ok(())
+}
+
+/// The seat of this number in the room of this number hears.
+fn hear_in(
+    live: &mut Vec<Room>,
+    alloc: Global,
+    setting: &Setting<'_>,
+    now: Moment,
+    room: RoomNo,
+    seat: u64,
+    signal: SeatSignal,
+    effects: &mut Effects,
+) -> Result<(), NoMemory>
+    ensures live { OnOk result (live.new.items ≡ (heard_in setting.now now room.0 seat signal live.old.items effects.old).live) }
+    ensures effects { OnOk result (effects.new ≡ (heard_in setting.now now room.0 seat signal live.old.items effects.old).effects) }
+{
+    match place_of(live, room) {
+        None => Ok(()),
+        Some(place) => {
+            let asked = &live[place];
+            let seat = telling::place_of(&asked.seats, seat);
+            step_at(live, alloc, setting, now, signal, place, seat, effects)
+        }
+    }
+}
+
+/// The place of the room to a seat of which the INVITE of this branch went.
+fn asking_at(live: &[Room], branch: &[u8]) -> Option<usize>
+    ensures { result ≡ position (asks branch.now) live.now }
+{
+    live.iter().position(|room| room.asks(branch))
+}
+
+/// The seat to which the INVITE of this branch went hears.
+fn hear_of(
+    live: &mut Vec<Room>,
+    alloc: Global,
+    setting: &Setting<'_>,
+    now: Moment,
+    branch: &[u8],
+    signal: SeatSignal,
+    effects: &mut Effects,
+) -> Result<(), NoMemory>
+    ensures live { OnOk result (live.new.items ≡ (heard_of setting.now now branch.now signal live.old.items effects.old).live) }
+    ensures effects { OnOk result (effects.new ≡ (heard_of setting.now now branch.now signal live.old.items effects.old).effects) }
+{
+    match asking_at(live, branch) {
+        None => Ok(()),
+        Some(place) => {
+            let asking = &live[place];
+            let seat = asked_at(&asking.seats, branch);
+            step_at(live, alloc, setting, now, signal, place, seat, effects)
+        }
+    }
+}
+
+/// A response to the INVITE at this place, which was left.
+fn hear_loose_at(
+    loose: &mut List<Loose>,
+    alloc: Global,
+    sip: Addr,
+    key: TKey,
+    m: &Hearing,
+    place: usize,
+    effects: &mut Effects,
+) -> Result<(), NoMemory>
+    requires { place < length loose.old }
+    ensures loose { OnOk result ((live : List Room) → loose.new ≡ (answered_loose sip key m.now place (slice_get loose.old place) live loose.old effects.old).loose) }
+    ensures effects { OnOk result ((live : List Room) → effects.new ≡ (answered_loose sip key m.now place (slice_get loose.old place) live loose.old effects.old).effects) }
+{
+    let one = loose.remove(place);
+    match effects.desk.hear_loose(alloc, sip, key, one, m)? {
+        None => Ok(()),
+        Some(left) => file(alloc, loose, left),
+    }
+}
+
+/// A response to the INVITE of this branch: one that was left, or that of a seat.
+fn hear_answer(
+    live: &mut Vec<Room>,
+    loose: &mut List<Loose>,
+    alloc: Global,
+    setting: &Setting<'_>,
+    now: Moment,
+    key: TKey,
+    m: Hearing,
+    branch: &[u8],
+    effects: &mut Effects,
+) -> Result<(), NoMemory>
+    ensures live { OnOk result (live.new.items ≡ (answered_at setting.now now key m branch.now (position (is_of branch.now) loose.old) live.old.items loose.old effects.old).live) }
+    ensures loose { OnOk result (loose.new ≡ (answered_at setting.now now key m branch.now (position (is_of branch.now) loose.old) live.old.items loose.old effects.old).loose) }
+    ensures effects { OnOk result (effects.new ≡ (answered_at setting.now now key m branch.now (position (is_of branch.now) loose.old) live.old.items loose.old effects.old).effects) }
+{
+    match loose_at(loose.items(), branch) {
+        Some(place) => hear_loose_at(loose, alloc, setting.sip, key, &m, place, effects),
+        None => {
+            let signal = SeatSignal::Answer { key, response: m };
+            hear_of(live, alloc, setting, now, branch, signal, effects)
+        }
+    }
+}
+
+/// The INVITE of this branch had no response at all: one that was left has ended.
+fn hear_silence(
+    live: &mut Vec<Room>,
+    loose: &mut List<Loose>,
+    alloc: Global,
+    setting: &Setting<'_>,
+    now: Moment,
+    branch: &[u8],
+    effects: &mut Effects,
+) -> Result<(), NoMemory>
+    ensures live { OnOk result (live.new.items ≡ (silenced_at setting.now now branch.now (position (is_of branch.now) loose.old) live.old.items loose.old effects.old).live) }
+    ensures loose { OnOk result (loose.new ≡ (silenced_at setting.now now branch.now (position (is_of branch.now) loose.old) live.old.items loose.old effects.old).loose) }
+    ensures effects { OnOk result (effects.new ≡ (silenced_at setting.now now branch.now (position (is_of branch.now) loose.old) live.old.items loose.old effects.old).effects) }
+{
+    match loose_at(loose.items(), branch) {
+        Some(place) => {
+            drop(loose.remove(place));
+            Ok(())
+        }
+        None => hear_of(
+            live,
+            alloc,
+            setting,
+            now,
+            branch,
+            SeatSignal::Silent,
+            effects,
+        ),
+    }
+}
+
+/// Whether it is an INVITE of this client transaction.
+fn is_key(key: TKey, other: Option<TKey>) -> bool
+    ensures { result ≡ is_key key other }
+{
+    match other {
+        None => false,
+        Some(other) => other.0 == key.0,
+    }
+}
+
+/// The place of the one of this client transaction.
+fn loose_of(loose: &[Loose], key: TKey) -> Option<usize>
+    ensures { result ≡ position (is_loose_key key) loose.now }
+{
+    loose.iter().position(|one| is_key(key, one.invitation.key))
+}
+
+/// The items without the one at a place.
+fn without<T: Drop>(items: &mut List<T>, place: Option<usize>)
+    requires { (n : ℕ) → place ≡ Some n → n < length items.old }
+    ensures { items.new ≡ without place items.old }
+{
+    match place {
+        None => {}
+        Some(place) => drop(items.remove(place)),
+    }
+}
+
+/// No more is heard of the INVITE of this client transaction, which has ended.
+fn drop_ended(loose: &mut List<Loose>, key: TKey)
+    ensures { loose.new ≡ without (position (is_loose_key key) loose.old) loose.old }
+{
+    let place = loose_of(loose.items(), key);
+    without(loose, place);
+}
+
+/// The rooms once they heard a signal, and the INVITEs that were left.
+#[tactic(auto, unfolding(crate::specs::Table::taken))]
+pub fn take(
+    live: &mut Vec<Room>,
+    loose: &mut List<Loose>,
+    alloc: Global,
+    setting: &Setting<'_>,
+    now: Moment,
+    signal: RoomSignal,
+    effects: &mut Effects,
+) -> Result<(), NoMemory>
+    ensures live { OnOk result (live.new.items ≡ (taken setting.now now signal live.old.items loose.old effects.old).live) }
+    ensures loose { OnOk result (loose.new ≡ (taken setting.now now signal live.old.items loose.old effects.old).loose) }
+    ensures effects { OnOk result (effects.new ≡ (taken setting.now now signal live.old.items loose.old effects.old).effects) }
+{
+    match signal {
+        RoomSignal::Request {
+            room,
+            seat,
+            key,
+            request,
+        } => {
+            let signal = SeatSignal::Request { key, request };
+            hear_in(live, alloc, setting, now, room, seat, signal, effects)
+        }
+        RoomSignal::Ack { room, seat, ack } => {
+            let signal = SeatSignal::Ack { ack };
+            hear_in(live, alloc, setting, now, room, seat, signal, effects)
+        }
+        RoomSignal::Answer { key, response } => match invite_answered(alloc, &response)? {
+            None => Ok(()),
+            Some(branch) => {
+                let branch = branch.bytes();
+                hear_answer(
+                    live, loose, alloc, setting, now, key, response, branch, effects,
+                )
+            }
+        },
+        RoomSignal::Silent { branch, method } => {
+            match invite_silent(branch.bytes(), method.bytes()) {
+                None => Ok(()),
+                Some(branch) => hear_silence(live, loose, alloc, setting, now, branch, effects),
+            }
+        }
+        RoomSignal::Due { room, seat, what } => {
+            let signal = SeatSignal::Due { what };
+            hear_in(live, alloc, setting, now, room, seat, signal, effects)
+        }
+        RoomSignal::Over { key } => {
+            drop_ended(loose, key);
+            Ok(())
+        }
+    }
+}

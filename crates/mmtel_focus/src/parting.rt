@@ -1,0 +1,144 @@
+//! A seat is left, and a room closes, without a signal: nothing goes out.
+ghost use Rattle.std.specs.Prelude.{◌≡◌, ◌≤◌, ◌<◌, [], IfOk, OnErr, OnOk, length, map, remove, slice_get, vec_capacity};
+ghost use Rattle.mmtel_focus.specs.Names.{all_ended, ended, seats_in};
+ghost use Rattle.mmtel_focus.specs.Seats.{place_of};
+ghost use Rattle.mmtel_focus.specs.Table.{closed, left, left_at, room_left, row_by, row_in, row_in_room, row_left, row_of_seat, seat_left};
+
+use crate::moves::place_of;
+use crate::rooms::Room;
+use crate::seats::Seat;
+use crate::telling;
+use mmtel_charging::{Meter, Row};
+use mmtel_leg::Ended;
+use mmtel_scan::NoMemory;
+use mmtel_types::{Cause, Moment, RoomNo};
+use std::alloc::Global;
+
+/// The row of a meter that ends now.
+fn row_by(meter: Option<Meter>, now: Moment) -> Option<Row>
+    ensures { result ≡ row_by now meter }
+{
+    match meter {
+        None => None,
+        Some(meter) => Some(meter.close(now, 0, Cause::Ended)),
+    }
+}
+
+impl Seat {
+    /// Lets the seat go, and gives what is left of its leg.
+    pub fn end(self) -> Ended
+        ensures { result ≡ ended self }
+    {
+        let Seat {
+            number: _,
+            by: _,
+            account: _,
+            awaited: _,
+            invite: _,
+            party,
+        } = self;
+        party.leave()
+    }
+}
+
+impl Room {
+    /// Leaves the seat at this place, where somebody is seated, and gives its row.
+    fn leave_at(&mut self, place: usize, now: Moment) -> Option<Row>
+        requires { place < length self.old.seats }
+        ensures room { self.new ≡ left_at place (slice_get self.old.seats place) self.old }
+        ensures row { result ≡ row_of_seat now (slice_get self.old.seats place) }
+    {
+        if !self.seats[place].is_seated() {
+            return None;
+        }
+        let Ended { meter } = self.seats.remove(place).end();
+        row_by(meter, now)
+    }
+
+    /// Leaves the seat of this number, where somebody is seated, and gives its row.
+    fn leave(&mut self, seat: u64, now: Moment) -> Option<Row>
+        ensures room { self.new ≡ seat_left seat self.old }
+        ensures row { result ≡ row_in now (place_of seat self.old.seats) self.old.seats }
+    {
+        match telling::place_of(&self.seats, seat) {
+            None => None,
+            Some(place) => self.leave_at(place, now),
+        }
+    }
+}
+
+/// Leaves a seat of the room at this place.
+fn leave_at(live: &mut Vec<Room>, place: usize, seat: u64, now: Moment) -> Option<Row>
+    requires { place < length live.old.items }
+    ensures live { live.new.items ≡ room_left seat place (slice_get live.old.items place) live.old.items }
+    ensures row { result ≡ row_in_room now seat (slice_get live.old.items place) }
+{
+    live[place].leave(seat, now)
+}
+
+/// Leaves a seat, where somebody is seated, and gives its row.
+#[tactic(auto, unfolding(crate::specs::Table::left, crate::specs::Table::row_left))]
+pub fn leave(live: &mut Vec<Room>, room: RoomNo, seat: u64, now: Moment) -> Option<Row>
+    ensures live { live.new.items ≡ left room.0 seat live.old.items }
+    ensures row { result ≡ row_left now room.0 seat live.old.items }
+{
+    match place_of(live, room) {
+        None => None,
+        Some(place) => leave_at(live, place, seat, now),
+    }
+}
+
+/// What is left of the seats of a room, in their order.
+fn end_all(room: Room, blank: Vec<Ended>) -> Vec<Ended>
+    requires empty { blank.items ≡ [] }
+    requires capacity { length room.seats ≤ vec_capacity blank }
+    ensures { result.items ≡ map ended room.seats }
+{
+    let Room {
+        number: _,
+        taken: _,
+        counted: _,
+        seats,
+    } = room;
+    let mut seats = seats;
+    let mut all = blank;
+    'seats: while !seats.is_empty() {
+        all.push_reserved(seats.remove(0).end());
+    }
+    seats.destroy_empty();
+    all
+}
+
+/// Closes the room at this place.
+fn close_at(live: &mut Vec<Room>, alloc: Global, place: usize) -> Result<Vec<Ended>, NoMemory>
+    requires { place < length live.old.items }
+    ensures ended { IfOk result (λ all. all.items ≡ map ended (seats_in (slice_get live.old.items place))) }
+    ensures live { OnOk result (live.new.items ≡ remove live.old.items place) }
+    ensures refused { OnErr result (live.new.items ≡ live.old.items) }
+{
+    let closing = &live[place];
+    let count = closing.seats.len();
+    let mut blank = Vec::new(alloc);
+    if blank.reserve(count).is_err() {
+        blank.destroy_empty();
+        return Err(NoMemory);
+    }
+    Ok(end_all(live.remove(place), blank))
+}
+
+/// Closes a room, and gives what is left of its seats, in their order; none where it is not live.
+///
+/// # Errors
+///
+/// Want of memory alone; the rooms are then as before.
+#[tactic(auto, unfolding(crate::specs::Table::closed))]
+pub fn close(live: &mut Vec<Room>, alloc: Global, room: RoomNo) -> Result<Vec<Ended>, NoMemory>
+    ensures ended { IfOk result (λ all. all.items ≡ all_ended room.0 live.old.items) }
+    ensures live { OnOk result (live.new.items ≡ closed room.0 live.old.items) }
+    ensures refused { OnErr result (live.new.items ≡ live.old.items) }
+{
+    match place_of(live, room) {
+        None => Ok(Vec::new(alloc)),
+        Some(place) => close_at(live, alloc, place),
+    }
+}

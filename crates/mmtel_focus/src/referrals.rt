@@ -1,0 +1,240 @@
+//! What a REFER asks for.
+ghost use Rattle.std.specs.Prelude.{◌≡◌, ◌++◌, IfOk, OnOk, None, Some, filter, find};
+ghost use Rattle.std.specs.Option.{option_copied, option_map};
+ghost use Rattle.mmtel_lex.specs.UriPlaces.{behind, is_named, parts};
+ghost use Rattle.mmtel_lex.specs.Reading.{uri_of};
+ghost use Rattle.mmtel_trust.specs.Asserted.{or_no_uri, uri_in};
+ghost use Rattle.mmtel_focus.specs.Referrals.{asks_invite, is_invite, is_method, is_no_method, referral_in, referral_to, replaces_at, replaces_by, replaces_in, replaces_of, target_of, value_named};
+
+use mmtel_answers::Hearing;
+use mmtel_lex::{
+    LexFault, Param, Params, Uri, UriFault, cut, find_named, first_part, percent_decoded,
+    read_name_addr, read_uri,
+};
+use mmtel_message::line_texts;
+use mmtel_scan::{List, NoMemory, Text};
+use std::alloc::Global;
+
+/// The dialog that is to be replaced (RFC 3891 §3), its escapes read.
+#[derive(Drop)]
+pub struct Replaces {
+    /// Its Call-ID.
+    pub call_id: Text,
+    /// The tag of the side that is asked, here the server; None where none is said.
+    pub to_tag: Option<Text>,
+    /// The other side's tag; None where none is said.
+    pub from_tag: Option<Text>,
+}
+
+/// What a REFER asks for (RFC 3515 §2.1).
+#[derive(Drop)]
+pub enum Referral {
+    /// Nothing: it has no Refer-To.
+    Missing,
+    /// A request of another method than INVITE.
+    OtherMethod,
+    /// An INVITE to this URI; None where it is of no scheme that the server knows.
+    Invite(Option<Uri>),
+    /// An INVITE in the place of this dialog.
+    Replace(Replaces),
+}
+
+/// What stands behind the `=` of the first of these words that has the name.
+fn value_named(alloc: Global, byte: u8, name: &[u8], bytes: &[u8]) -> Result<Option<Text>, NoMemory>
+    ensures { IfOk result (λ v. v ≡ value_named name.now (parts byte bytes.now)) }
+{
+    match find_named(byte, name, bytes) {
+        None => Ok(None),
+        Some(word) => {
+            let (_, value) = cut(b'=', word);
+            Ok(Some(Text::of(alloc, value)?))
+        }
+    }
+}
+
+/// The dialog that a Replaces names, its escapes read.
+fn replaces_in(alloc: Global, value: &[u8]) -> Result<Replaces, NoMemory>
+    ensures { IfOk result (λ r. r ≡ replaces_in (parts 59 value.now)) }
+{
+    match first_part(b';', value) {
+        None => Ok(Replaces {
+            call_id: Text::of(alloc, value)?,
+            to_tag: None,
+            from_tag: None,
+        }),
+        Some((call_id, params)) => {
+            let call_id = Text::of(alloc, call_id)?;
+            let to_tag = value_named(alloc, b';', b"to-tag", params)?;
+            let from_tag = value_named(alloc, b';', b"from-tag", params)?;
+            Ok(Replaces {
+                call_id,
+                to_tag,
+                from_tag,
+            })
+        }
+    }
+}
+
+/// The dialog that a Replaces names, as it is escaped.
+fn replaces_at(alloc: Global, value: &[u8]) -> Result<Replaces, NoMemory>
+    ensures { IfOk result (λ r. r ≡ replaces_at value.now) }
+{
+    match percent_decoded(alloc, value)? {
+        None => replaces_in(alloc, b""),
+        Some(value) => replaces_in(alloc, value.bytes()),
+    }
+}
+
+/// That of the first Replaces in the header part of a URI.
+#[tactic(auto, unfolding(crate::specs::Referrals::replaces_of))]
+fn replaces_of(alloc: Global, headers: &[u8]) -> Result<Option<Replaces>, NoMemory>
+    ensures { IfOk result (λ r. r ≡ replaces_of headers.now) }
+{
+    match value_named(alloc, b'&', b"Replaces", headers)? {
+        None => Ok(None),
+        Some(value) => Ok(Some(replaces_at(alloc, value.bytes())?)),
+    }
+}
+
+fn replaces_by(alloc: Global, uri: &Uri) -> Result<Option<Replaces>, NoMemory>
+    ensures { IfOk result (λ r. r ≡ replaces_by uri.now) }
+{
+    match uri {
+        Uri::Sip { headers, .. } => replaces_of(alloc, headers.bytes()),
+        Uri::Tel { .. } => Ok(None),
+    }
+}
+
+fn is_method(param: &Param) -> bool
+    ensures { result ≡ is_method param.now }
+{
+    param.name.bytes().eq_ignore_ascii_case(b"method")
+}
+
+/// The first parameter that names a method.
+fn method_of(params: &[Param]) -> Option<&Param>
+    ensures { option_copied result ≡ find is_method params.now }
+{
+    params.iter().find(|param| is_method(param))
+}
+
+fn is_invite(param: Option<&Param>) -> bool
+    ensures { result ≡ is_invite (option_copied param.entry) }
+{
+    match param {
+        None => true,
+        Some(param) => match &param.value {
+            None => false,
+            Some(value) => value.bytes() == b"INVITE".as_slice(),
+        },
+    }
+}
+
+fn asks_invite(uri: &Uri) -> bool
+    ensures { result ≡ asks_invite uri.now }
+{
+    match uri {
+        Uri::Sip { params, .. } => is_invite(method_of(params.items())),
+        Uri::Tel { params, .. } => is_invite(method_of(params.items())),
+    }
+}
+
+fn uri_of(alloc: Global, bytes: &[u8]) -> Result<Option<Uri>, NoMemory>
+    ensures { IfOk result (λ u. u ≡ or_no_uri (uri_of bytes.now)) }
+{
+    match read_uri(alloc, bytes) {
+        Ok(uri) => Ok(Some(uri)),
+        Err(UriFault::Malformed { at: _ }) => Ok(None),
+        Err(UriFault::Scheme) => Ok(None),
+        Err(UriFault::NoMemory) => Err(NoMemory),
+    }
+}
+
+/// The URI of a name-addr; None where it cannot be read, or is of a scheme that the server does not know.
+fn uri_in(alloc: Global, value: &[u8]) -> Result<Option<Uri>, NoMemory>
+    ensures { IfOk result (λ u. u ≡ uri_in value.now) }
+{
+    match read_name_addr(alloc, value) {
+        Ok(name) => uri_of(alloc, name.uri.bytes()),
+        Err(LexFault::Malformed { at: _ }) => Ok(None),
+        Err(LexFault::NoMemory) => Err(NoMemory),
+    }
+}
+
+fn referral_to(alloc: Global, uri: Option<Uri>) -> Result<Referral, NoMemory>
+    ensures { IfOk result (λ r. r ≡ referral_to uri) }
+{
+    match uri {
+        None => Ok(Referral::Invite(None)),
+        Some(uri) => {
+            if !asks_invite(&uri) {
+                return Ok(Referral::OtherMethod);
+            }
+            match replaces_by(alloc, &uri)? {
+                None => Ok(Referral::Invite(Some(uri))),
+                Some(replaces) => Ok(Referral::Replace(replaces)),
+            }
+        }
+    }
+}
+
+/// The parameters but those that name a method.
+fn without_method(alloc: Global, params: Params) -> Result<Params, NoMemory>
+    ensures { IfOk result (λ ps. ps ≡ filter is_no_method params) }
+{
+    let mut rest = params;
+    let mut kept = List::new();
+    'params: while let Some(param) = rest.pop_first() {
+        if !is_method(&param) {
+            kept.push(alloc, param)?;
+        }
+    }
+    Ok(kept)
+}
+
+/// What is left of a URI as the target of a request (RFC 3261 §19.1.5).
+pub fn target_of(alloc: Global, uri: Uri) -> Result<Uri, NoMemory>
+    ensures { IfOk result (λ u. u ≡ target_of uri) }
+{
+    match uri {
+        Uri::Sip {
+            user,
+            host,
+            port,
+            params,
+            headers: _,
+        } => {
+            let params = without_method(alloc, params)?;
+            Ok(Uri::Sip {
+                user,
+                host,
+                port,
+                params,
+                headers: Text::new(),
+            })
+        }
+        Uri::Tel { number, params } => {
+            let params = without_method(alloc, params)?;
+            Ok(Uri::Tel { number, params })
+        }
+    }
+}
+
+/// What a REFER asks for by its first Refer-To (RFC 3515 §2.1): an INVITE, by name or because its URI names no method, in the place of a dialog where the header part of that URI has a Replaces (RFC 3891 §3); or a request of another method.
+///
+/// # Errors
+///
+/// Want of memory alone.
+#[tactic(auto, unfolding(crate::specs::Referrals::referral_in))]
+pub fn referral_of(alloc: Global, request: &Hearing) -> Result<Referral, NoMemory>
+    ensures referral { IfOk result (λ r. r ≡ referral_in request.now.heard.refer_to) }
+{
+    let values = line_texts(alloc, request.message.lines(), b"Refer-To")?;
+    match values.items() {
+        [] => Ok(Referral::Missing),
+        [value, ..] => {
+            let uri = uri_in(alloc, value.bytes())?;
+            referral_to(alloc, uri)
+        }
+    }
+}

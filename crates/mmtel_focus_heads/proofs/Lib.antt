@@ -1,0 +1,4 @@
+mod Texts
+mod Steps
+mod Rows
+mod Tables

@@ -1,0 +1,4 @@
+mod Books
+mod Steps
+mod Rows
+mod Tables

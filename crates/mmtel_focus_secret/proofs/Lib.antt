@@ -1,0 +1,6 @@
+mod Lists
+mod Likes
+mod Alike
+mod Steps
+mod Rows
+mod Tables

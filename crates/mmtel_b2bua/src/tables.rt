@@ -1,5 +1,5 @@
 //! The table of calls.
-ghost use Rattle.std.specs.Prelude.{◌≡◌, ◌≤◌, ◌<◌, ◌∷◌, ◌++◌, [], ℕ, true, false, drop, length, List, IfErr, IfOk, IsErr, None, OnErr, OnOk, Some, Err, MatchResult, count_by};
+ghost use Rattle.std.specs.Prelude.{◌≡◌, ◌≤◌, ◌<◌, ◌∷◌, ◌++◌, [], ℕ, true, false, drop, length, List, IfErr, IfOk, IsErr, None, OnErr, OnOk, Some, Err, MatchResult, count_by, nat_le};
 ghost use Rattle.mmtel_b2bua.specs.Entries.{is_live};
 ghost use Rattle.mmtel_b2bua.specs.Histories.{CallsView, Deed, Drops, Finishes, Heard, Hears, Releases, Restores, Stands, after_finishing, after_hearing, brought_forth, finished_by, hears_after, heard_by, site_of, table_after};
 ghost use Rattle.mmtel_b2bua.specs.Lending.{ended, entry_of, is_away, leg_out, takes_back};
@@ -202,6 +202,7 @@ impl Calls {
         ensures done { OnOk result ((deeds : List Deed) → Stands peers.now accounts.now self.old deeds → Stands peers.now accounts.now self.new (Hears (record { at = now; view = sheets.now; tokens = tokens.old; signal = signal }) ∷ deeds)) }
         ensures emits { IfOk result (λ out. (deeds : List Deed) → Stands peers.now accounts.now self.old deeds → out ≡ (hears_after (site_of self.old peers.now accounts.now) deeds (record { at = now; view = sheets.now; tokens = tokens.old; signal = signal })).desk.out) }
         ensures tokens { OnOk result ((deeds : List Deed) → Stands peers.now accounts.now self.old deeds → tokens.new ≡ (hears_after (site_of self.old peers.now accounts.now) deeds (record { at = now; view = sheets.now; tokens = tokens.old; signal = signal })).desk.tokens) }
+        ensures site { OnOk result ((peers : Peers) (accounts : List AccountIdentity) → site_of self.new peers accounts ≡ site_of self.old peers accounts) }
         ensures full { self.old.has_failed ≡ false → is_full signal self.old.table.entries ≡ true → (result ≡ Err (CallFault.Full signal)) × ((self.new ≡ self.old) × (tokens.new ≡ tokens.old)) }
         ensures fails { self.old.has_failed ≡ false → is_full signal self.old.table.entries ≡ false → IfErr result (λ e. (e ≡ CallFault.NoMemory) × (self.new.has_failed ≡ true)) }
         ensures stuck { self.old.has_failed ≡ true → (result ≡ Err CallFault.NoMemory) × ((self.new ≡ self.old) × (tokens.new ≡ tokens.old)) }
@@ -226,6 +227,13 @@ impl Calls {
         ensures { (peers : Peers) (accounts : List AccountIdentity) (deeds : List Deed) → Stands peers accounts self.now deeds → result ≡ live account.0 (table_after (site_of self.now peers accounts) deeds).entries }
     {
         live_among(&self.entries, account)
+    }
+
+    /// Whether as many calls live as may, so that an INVITE opens none and is handed back.
+    pub fn is_full(&self) -> bool
+        ensures { result ≡ nat_le most_calls (count_by is_live self.now.table.entries) }
+    {
+        live_calls(&self.entries) >= MOST_CALLS
     }
 
     /// The call and the side whose dialog has this Call-ID, this tag of the server and this tag of the other side (RFC 3261 §12.2.2).
@@ -265,7 +273,8 @@ impl Calls {
     /// So many of the rows that wait were handed over.
     pub fn drop_rows(&mut self, count: usize)
         requires { count ≤ length self.old.table.rows }
-        ensures { (peers : Peers) (accounts : List AccountIdentity) (deeds : List Deed) → Stands peers accounts self.old deeds → Stands peers accounts self.new (Drops count ∷ deeds) }
+        ensures done { (peers : Peers) (accounts : List AccountIdentity) (deeds : List Deed) → Stands peers accounts self.old deeds → Stands peers accounts self.new (Drops count ∷ deeds) }
+        ensures site { (peers : Peers) (accounts : List AccountIdentity) → site_of self.new peers accounts ≡ site_of self.old peers accounts }
     {
         drop_first(&mut self.rows, count);
     }

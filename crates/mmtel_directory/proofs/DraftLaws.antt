@@ -37,7 +37,7 @@ draft_of said = record {
 
 -- ---- one line more
 
-one_more : {A : Type 0} (f : Line → List A) (said : List Line) (l : Line) → flat_map f (said ++ l ∷ []) ≡ flat_map f said ++ f l
+pub one_more : {A : Type 0} (f : Line → List A) (said : List Line) (l : Line) → flat_map f (said ++ l ∷ []) ≡ flat_map f said ++ f l
 one_more f said l = flat_map-append f said (l ∷ []) ∙ ap (λ (xs : List _). flat_map f said ++ xs) (append-nil (f l))
 
 none_first : {A : Type 0} (xs : List A) → is_none (first_of xs) ≡ (length xs == 0)

@@ -1,2 +1,3 @@
+pub mod BoundLaws
 pub mod DraftLaws
 pub mod LineLaws

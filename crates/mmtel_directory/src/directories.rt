@@ -1,5 +1,5 @@
 //! Configurations.
-ghost use Rattle.std.specs.Prelude.{◌≡◌};
+ghost use Rattle.std.specs.Prelude.{◌≡◌, ◌≤◌, IfOk};
 ghost use Rattle.mmtel_directory.specs.Directory.{Answers, directory_of};
 ghost use Rattle.mmtel_directory.specs.Drafts.{Reads};
 ghost use Rattle.mmtel_directory.specs.Lines.{lines_of};
@@ -102,6 +102,7 @@ fn read_lines(alloc: Global, draft: &mut Draft, bytes: &[u8]) -> Result<u64, Dir
 /// `BadLine` exactly with the first line that breaks this, or with one past the last where `sip` or `home` is absent; else want of memory alone.
 pub fn read_directory(alloc: Global, bytes: &[u8]) -> Result<Directory, DirectoryFault>
     ensures exact { Answers result (directory_of bytes.now) }
+    ensures bounded { IfOk result (λ directory. directory.bound ≤ 16) }
 {
     let mut draft = Draft::new();
     match read_lines(alloc, &mut draft, bytes) {

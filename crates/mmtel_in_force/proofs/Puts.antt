@@ -1,6 +1,7 @@
 -- A text that is put is one account's, and so is the record that it says.
-use Rattle.std.proofs.Common.{◌≡◌, ◌≢◌, ◌==◌, ◌++◌, ◌∙◌, true, false, ℕ, suc, ◌+◌, List, [], ◌∷◌, ◌<◌, take, get_or, length, add-one, Option, Some, None, refl, sym, ap, subst, inl, inr, arith}
+use Rattle.std.proofs.Common.{◌≡◌, ◌≢◌, ◌==◌, ◌++◌, ◌∙◌, true, false, ℕ, ◌+◌, List, [], ◌∷◌, ◌<◌, take, get_or, length, add-one, Option, Some, None, refl, sym, ap, subst, inl, inr}
 use Rattle.std.specs.Prelude.{cond, unwrap_or}
+use Rattle.std.specs.Option.{option_map}
 use Rattle.std.specs.Cmp.{nat_cmp_total, tied_itself}
 use Rattle.std.specs.FinMap.{get-empty, get-insert, nat_cmp-IsAntisymmetric}
 use Rattle.std.specs.Ordering.{is_eq, nat_cmp}
@@ -10,11 +11,9 @@ use Rattle.std.proofs.Math.Seq.{take-suc}
 use Rattle.std.proofs.lemmas.Bool.{cases_Bool, eq-eqb, eqb-true, eqb-false, ne_eqb}
 use Rattle.mmtel_sheet_grammar.specs.Texts.{kept_sheet}
 use Rattle.mmtel_sheet_texts.specs.Texts.{put, text_at}
-use Rattle.mmtel_sheet_values.specs.Sheets.{empty_sheet}
 use Rattle.mmtel_sheet_values.specs.View.{InForce, end_in, nothing_in_force, sheet_in, with_end, with_sheet}
 use Rattle.mmtel_sheet_values.specs.declared.values.Sheet.{Sheet}
 use Rattle.mmtel_types.specs.declared.numbers.Account.{Account}
-use Rattle.mmtel_in_force.specs.Held.{record_in}
 use Rattle.mmtel_in_force.specs.Texts.{Registrations, Texts, end_at, put_each, record_of}
 
 abbrev pub PutsItsOwn : Type 0
@@ -31,21 +30,21 @@ module _ (its : PutsItsOwn) (others : PutsNoOther) where
   record_kept a b text s apart = ap (λ (o : Option (List ℕ)). kept_sheet (unwrap_or o [])) (others a b text s apart)
 
   -- of an account that has the number
-  record_of_number : (a b : Account) (text : List ℕ) (s : Texts) → a.0 ≡ b.0 → record_of (put a text s) b ≡ kept_sheet text
-  record_of_number a b text s same = let P : ℕ → Type 0 = λ n. record_of (put a text s) (record { 0 = n }) ≡ kept_sheet text in subst P same (record_put a text s)
+  text_of_number : (a b : Account) (text : List ℕ) (s : Texts) → a.0 ≡ b.0 → text_at (put a text s) b ≡ Some text
+  text_of_number a b text s same = let P : ℕ → Type 0 = λ n. text_at (put a text s) (record { 0 = n }) ≡ Some text in subst P same (its a text s)
 
   -- tables that agree go on agreeing
   pub agree_on : (a : Account) (text : List ℕ) (s : Texts) (v : InForce) (sheet : Sheet)
       → ((b : ℕ) → a.0 ≢ b → sheet_in (with_sheet v a.0 sheet) b ≡ sheet_in v b) → sheet_in (with_sheet v a.0 sheet) a.0 ≡ Some sheet
-      → sheet ≡ kept_sheet text → ((b : Account) → record_in v b ≡ record_of s b) → (b : Account) → record_in (with_sheet v a.0 sheet) b ≡ record_of (put a text s) b
+      → sheet ≡ kept_sheet text → ((b : Account) → sheet_in v b.0 ≡ option_map kept_sheet (text_at s b)) → (b : Account) → sheet_in (with_sheet v a.0 sheet) b.0 ≡ option_map kept_sheet (text_at (put a text s) b)
   agree_on a text s v sheet apart own is agree b = elim (cases_Bool (a.0 == b.0)) [
     | inl y ↦
         let same : a.0 ≡ b.0 = eqb-true a.0 b.0 y in
         let mine : sheet_in (with_sheet v a.0 sheet) b.0 ≡ Some sheet = subst (λ (n : ℕ). sheet_in (with_sheet v a.0 sheet) n ≡ Some sheet) same own in
-        ap (λ (o : Option Sheet). unwrap_or o empty_sheet) mine ∙ (is ∙ sym (record_of_number a b text s same))
+        mine ∙ (ap (λ (x : Sheet). Some x) is ∙ sym (ap (option_map kept_sheet) (text_of_number a b text s same)))
     | inr n ↦
         let other : a.0 ≢ b.0 = eqb-false a.0 b.0 n in
-        ap (λ (o : Option Sheet). unwrap_or o empty_sheet) (apart b.0 other) ∙ (agree b ∙ sym (record_kept a b text s other))
+        apart b.0 other ∙ (agree b ∙ sym (ap (option_map kept_sheet) (others a b text s other)))
   ]
 
 -- one more is put over those before it
@@ -79,8 +78,8 @@ loads_one xs i x t less is e =
     ap (put x.0 x.1) e ∙ (sym (each_last (take i xs) [] x) ∙ ap (λ (l : Texts). put_each l []) (sym next))
 
 -- where nothing was ever said
-pub no_sheet : (account : Account) → record_in nothing_in_force account ≡ empty_sheet
-no_sheet account = ap (λ (o : Option Sheet). unwrap_or o empty_sheet) (get-empty nat_cmp account.0)
+pub no_sheet : (account : Account) → sheet_in nothing_in_force account.0 ≡ None
+no_sheet account = get-empty nat_cmp account.0
 
 pub no_end : (account : Account) → end_in nothing_in_force account.0 ≡ None
 no_end account = get-empty nat_cmp account.0

@@ -1,11 +1,13 @@
 -- The records in force, as the server keeps them: each with its text and as what it says, and the registrations.
-use Rattle.std.specs.Prelude.{◌≡◌, ℕ, ◌&&◌, Bool, [], nat_lt, unwrap_or}
-use Rattle.mmtel_sheet_texts.specs.Texts.{Table}
+use Rattle.std.specs.Prelude.{◌≡◌, ◌&&◌, Bool, [], nat_lt, unwrap_or}
+use Rattle.mmtel_sheet_grammar.specs.Texts.{kept_sheet}
+use Rattle.mmtel_sheet_texts.specs.Texts.{Table, text_at}
+use Rattle.std.specs.Option.{option_map}
 use Rattle.mmtel_sheet_values.specs.Sheets.{empty_sheet}
 use Rattle.mmtel_sheet_values.specs.View.{InForce, end_in, has_room, nothing_in_force, sheet_in}
 use Rattle.mmtel_sheet_values.specs.declared.values.Sheet.{Sheet}
 use Rattle.mmtel_types.specs.declared.numbers.Account.{Account}
-use Rattle.mmtel_in_force.specs.Texts.{Registrations, Texts, end_at, record_of}
+use Rattle.mmtel_in_force.specs.Texts.{Registrations, end_at}
 
 pub record Held : Type 0 where
   pub texts : Table
@@ -19,9 +21,9 @@ nothing_held = record { texts = record { texts = []; room = 0 }; view = nothing_
 abbrev pub record_in : InForce → Account → Sheet
 record_in view account = unwrap_or (sheet_in view account.0) empty_sheet
 
--- each account's record is that of its text
+-- each account that has a text has the record that the text is, and no other account has one
 abbrev pub Agrees : Held → Type 0
-Agrees held = (account : Account) → record_in held.view account ≡ record_of held.texts.texts account
+Agrees held = (account : Account) → sheet_in held.view account.0 ≡ option_map kept_sheet (text_at held.texts.texts account)
 
 -- there is room for a text and a record of the account, so that both are put without memory
 abbrev pub may_put : Held → Account → Bool

@@ -51,7 +51,6 @@ impl Records {
     pub fn new(alloc: Global) -> Records
         ensures nothing { result ≡ nothing_held }
     {
-        the_empty_text_is_the_empty_sheet();
         Records {
             texts: SheetTexts::new(),
             view: SheetView::new(alloc),
@@ -119,7 +118,16 @@ impl Records {
     pub fn sheet(&self, account: Account) -> Option<&Sheet>
         ensures exact { unwrap_or (option_copied result) empty_sheet ≡ record_of self.now.texts.texts account }
     {
+        the_empty_text_is_the_empty_sheet();
         self.view.sheet(account)
+    }
+
+    /// The records and the registrations, as calls are told them: each account that has a text has the record that the text is, and no other has one. It takes no memory.
+    pub fn view(&self) -> &SheetView
+        ensures all { result.now ≡ self.now.view }
+        ensures agrees { Agrees self.now }
+    {
+        &self.view
     }
 
     /// Registers an account until a moment.

@@ -1,4 +1,4 @@
-use Rattle.std.proofs.Common.{◌≡◌, ◌∷◌, ℕ, subst, sym}
+use Rattle.std.proofs.Common.{◌≡◌, ◌∷◌, subst, sym}
 use Rattle.std.proofs.lemmas.Result.{on_ok_weaker}
 use Rattle.mmtel_sheet_values.specs.View.{InForce, end_in}
 use Rattle.mmtel_types.specs.declared.numbers.Account.{Account}

@@ -1,8 +1,10 @@
-use Rattle.std.proofs.Common.{List, ℕ, ap, sym, ◌∙◌}
-use Rattle.mmtel_sheet_values.specs.View.{InForce}
+use Rattle.std.proofs.Common.{ap, sym, ◌∙◌}
+use Rattle.std.specs.Option.{option_map}
+use Rattle.mmtel_sheet_grammar.specs.Texts.{kept_sheet}
+use Rattle.mmtel_sheet_texts.specs.Texts.{text_at}
+use Rattle.mmtel_sheet_values.specs.View.{InForce, sheet_in}
 use Rattle.mmtel_in_force.proofs.Puts.{agree_on}
-use Rattle.mmtel_in_force.specs.Held.{record_in}
-use Rattle.mmtel_in_force.specs.Texts.{Texts, record_of}
+use Rattle.mmtel_in_force.specs.Texts.{Texts}
 use Rattle.mmtel_in_force.proofs.records.Records.replace.Goals as goal
 
 pub invariant_of-self : goal.invariant_of-self
@@ -10,8 +12,8 @@ invariant_of-self c = λ account.
     let a = c.args.account in
     let v = c.self.inside.view in
     let s = c.self.inside.texts.texts in
-    ap (λ (x : InForce). record_in x account) c.replace-before.ensures.put
+    ap (λ (x : InForce). sheet_in x account.0) c.replace-before.ensures.put
     ∙ (agree_on c.puts_change_one_account.ensures.its c.puts_change_one_account.ensures.others a c.args.text s v c.args.sheet
     (λ b apart. c.putting_changes_one_account.ensures.others v a.0 b c.args.sheet apart) (c.putting_changes_one_account.ensures.its v a.0 c.args.sheet)
     c.requires.its c.self.invariant account
-    ∙ ap (λ (t : Texts). record_of t account) (sym c.replace.ensures.put))
+    ∙ ap (λ (t : Texts). option_map kept_sheet (text_at t account)) (sym c.replace.ensures.put))

@@ -1,5 +1,5 @@
 -- The step table as a whole sees public parts alone.
-use Rattle.std.proofs.Common.{◌≡◌, ℕ, Bool, List, refl, ap, sym, ◌∙◌, map, cond, subst, Option, Some, None}
+use Rattle.std.proofs.Common.{◌≡◌, ℕ, Bool, true, false, List, refl, ap, sym, ◌∙◌, map, cond, subst, Option, Some, None}
 use Rattle.std.specs.Prelude.{position}
 use Rattle.mmtel_answers.specs.Said.{Said, status_of}
 use Rattle.mmtel_desk.specs.Loose.{is_of}
@@ -30,7 +30,7 @@ use Rattle.mmtel_call_secret.specs.Premises.{CanGoOn, IsAsked, phase_is_asked}
 use Rattle.mmtel_call_secret.specs.Roles.{Role, private_places, without_private}
 use Rattle.mmtel_call_secret.specs.Seen.{AlikeDesks, AlikeSteps, Trust, trust_of}
 use Rattle.mmtel_call_secret.specs.Table.{AnswersIn, AnswersOne, FitsIn, Hears, SentIn, ServedIn, StepsSeePublicParts, public_signal}
-use Rattle.mmtel_call_secret.proofs.Acks.{acks_once_answered}
+use Rattle.mmtel_call_secret.proofs.Acks.{acks_once_answered, step-where}
 use Rattle.mmtel_call_secret.proofs.Across.{answers_across, cancels_once_answered, deadlines_once_answered, requests_once_answered, silence_once_answered}
 use Rattle.mmtel_call_secret.proofs.Failing.{answers_while_offered, deadlines_while_offered, silence_while_offered}
 use Rattle.mmtel_call_secret.proofs.Leaving.{answers_of_others, found, rest_of}
@@ -71,7 +71,7 @@ module _ (heads : Heads) (law : VerdictsSeeAnswersAlone) (records : List Sheet) 
   request-alike (Lent loan) who side key role m c one other opening kept asked fits a = on-alike heads site keys who c one other a
   request-alike (Over cause) who side key role m c one other opening kept asked fits a = on-alike heads site keys who c one other a
 
-  ack-alike : (p : Phase) (who : Identities2) (side : Side) (role : Role) (m : Said) (c : Call) (one other : Desk) → FitsIn p c side m role → SentIn p T c side → AlikeDesks T one other →
+  ack-alike : (p : Phase) (who : Identities2) (side : Side) (role : Role) (m : Said) (c : Call) (one other : Desk) → FitsIn p c side m role → SentIn p T c side m → AlikeDesks T one other →
       AlikeSteps T (ack_in (public_phase known p) site now.at side (without_private role m) (public_call known who c) one) (ack_in p site now.at side m c other)
   ack-alike (Offered x) who side role m c one other fits sent a = on-alike heads site keys who c one other a
   ack-alike (Stood x stage) who side role m c one other fits sent a = acks_once_answered heads stage site keys who now.at x side role m c one other fits sent a
@@ -123,9 +123,9 @@ module _ (heads : Heads) (law : VerdictsSeeAnswersAlone) (records : List Sheet) 
       let v : Step = response_in c.phase site now key m c other in
       let w : Step = answered_other site key m branch c other in
       subst (λ (b : Bool). AlikeSteps T (cond b p q) (cond (is_current branch c) v w)) (sym (current_same branch who c c.phase refl))
-      (step-if T (is_current branch c) p q v w
-      (response-alike c.phase who key role m c one other can kept served answer.0 a)
-      (answers_of_others heads site keys who key role m branch c one other answer.1 a))
+      (step-where heads site keys (is_current branch c) p q v w
+      (λ is. response-alike c.phase who key role m c one other can kept served (answer.0 is) a)
+      (λ is. answers_of_others heads site keys who key role m branch c one other (answer.1 is) a))
 
   silent_public : (branch : List ℕ) (who : Identities2) (c : Call) → without_silent branch (public_call known who c) ≡ public_call known who (without_silent branch c)
   silent_public branch who c = ap (λ (ls : List Loose). record (public_call known who c) { loose = ls }) (without_found (public_loose known) (is_of branch) (λ l. refl) c.loose)

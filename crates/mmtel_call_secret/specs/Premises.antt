@@ -25,7 +25,7 @@ use Rattle.mmtel_call.specs.declared.calls.Stage.{Stage}
 use Rattle.mmtel_call.specs.declared.calls.Phase.TheVariants.{Lent, Offered, Over, Stood}
 use Rattle.mmtel_call.specs.declared.calls.Stage.TheVariants.{Answered, Asking, Parting, Talking}
 use Rattle.mmtel_types.specs.Sides.{other_of}
-use Rattle.mmtel_call.specs.Answered.{leg_of}
+use Rattle.mmtel_call.specs.Answered.{acknowledges, leg_of}
 use Rattle.mmtel_call.specs.declared.calls.Pair.{Pair}
 use Rattle.mmtel_call.specs.declared.calls.Success.{Success}
 use Rattle.mmtel_call.specs.Decisions.{its_sheet}
@@ -118,9 +118,9 @@ pub record HearsOther (t : Trust) (key : TKey) (branch : List ℕ) (role : Role)
 abbrev pub SentAcross : Trust → Call → Pair → Side → Success → Type 0
 SentAcross t c x side success = (taken : Taken) → IsIn taken c.taken → is_taken success.branch taken ≡ true → t.peer taken.invitation.dialogue.peer ≡ t.peer (leg_of (other_of side) x).dialogue.peer
 
--- so it is at this stage
-abbrev pub stage_is_sent : Trust → Call → Pair → Side → Stage → Type 0
-stage_is_sent t c x side (Answered waiting success) = SentAcross t c x side success
-stage_is_sent t c x side (Parting waiting success) = Unit {0}
-stage_is_sent t c x side Talking = Unit {0}
-stage_is_sent t c x side (Asking asking q) = Unit {0}
+-- so it is at this stage, where this ACK of the side is the one that is waited for
+abbrev pub stage_is_sent : Trust → Call → Pair → Side → Said → Stage → Type 0
+stage_is_sent t c x side m (Answered waiting success) = acknowledges waiting success side m ≡ true → SentAcross t c x side success
+stage_is_sent t c x side m (Parting waiting success) = Unit {0}
+stage_is_sent t c x side m Talking = Unit {0}
+stage_is_sent t c x side m (Asking asking q) = Unit {0}

@@ -123,5 +123,5 @@ AnswersOfOthers = (site : Site) (keys : TKey → Bool) (who : Identities2) (key 
 -- the ACK of a 2xx: it goes across, and is kept; or a parting call ends
 abbrev pub AcksOnceAnswered : Type 0
 AcksOnceAnswered = (stage : Stage) (site : Site) (keys : TKey → Bool) (who : Identities2) (at : ℕ) (x : Pair) (side : Side) (role : Role) (m : Said) (c : Call) (one other : Desk) →
-    Fits c.opening x.service side m role → stage_is_sent (trust_of site keys) c x side stage → AlikeDesks (trust_of site keys) one other →
+    Fits c.opening x.service side m role → stage_is_sent (trust_of site keys) c x side m stage → AlikeDesks (trust_of site keys) one other →
     AlikeSteps (trust_of site keys) (on_ack_at (public_stage (trusts site) stage) site at (public_pair (trusts site) x) side (without_private role m) (public_call (trusts site) who c) one) (on_ack_at stage site at x side m c other)

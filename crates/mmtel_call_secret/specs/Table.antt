@@ -1,5 +1,5 @@
 -- The step table as a whole: what it sees of a call and of a signal is their public parts.
-use Rattle.std.specs.Prelude.{ℕ, Bool, Option, Some, None, List}
+use Rattle.std.specs.Prelude.{◌≡◌, ℕ, Bool, true, false, Option, Some, None, List}
 use Rattle.mmtel_answers.specs.Said.{Said}
 use Rattle.mmtel_desk.specs.declared.desks.Desk.{Desk}
 use Rattle.mmtel_precedence.specs.Calls.{Standing}
@@ -13,7 +13,7 @@ use Rattle.mmtel_call.specs.declared.calls.Phase.{Phase}
 use Rattle.mmtel_call.specs.declared.calls.Phase.TheVariants.{Lent, Offered, Over, Stood}
 use Rattle.mmtel_call.specs.declared.calls.Stage.TheVariants.{Answered, Asking, Parting, Talking}
 use Rattle.mmtel_call.specs.Site.{Site, trusts}
-use Rattle.mmtel_call.specs.Table.{invite_answered, step}
+use Rattle.mmtel_call.specs.Table.{invite_answered, is_current, step}
 use Rattle.mmtel_call.specs.declared.signals.Signal.{Signal}
 use Rattle.mmtel_call.specs.declared.signals.Signal.TheVariants as signal
 use Rattle.mmtel_call_secret.specs.Parts.{public_call}
@@ -39,11 +39,11 @@ FitsIn (Stood x stage) c side m role = Fits c.opening x.service side m role
 FitsIn (Lent loan) c side m role = Unit {0}
 FitsIn (Over cause) c side m role = Unit {0}
 
-abbrev pub SentIn : Phase → Trust → Call → Side → Type 0
-SentIn (Offered x) t c side = Unit {0}
-SentIn (Stood x stage) t c side = stage_is_sent t c x side stage
-SentIn (Lent loan) t c side = Unit {0}
-SentIn (Over cause) t c side = Unit {0}
+abbrev pub SentIn : Phase → Trust → Call → Side → Said → Type 0
+SentIn (Offered x) t c side m = Unit {0}
+SentIn (Stood x stage) t c side m = stage_is_sent t c x side m stage
+SentIn (Lent loan) t c side m = Unit {0}
+SentIn (Over cause) t c side m = Unit {0}
 
 abbrev pub ServedIn : Phase → (records : List Sheet) → Type 0
 ServedIn (Offered x) records = ServiceIsAsked records x.attempt.service
@@ -64,11 +64,11 @@ AnswersIn (Over cause) t key role m c = Unit {0}
 -- by the INVITE that it answers: the one that the call waits on, or another one
 abbrev pub AnswersOne : Option (List ℕ) → Trust → TKey → Role → Said → Call → Type 0
 AnswersOne None t key role m c = Unit {0}
-AnswersOne (Some branch) t key role m c = AnswersIn c.phase t key role m c × HearsOther t key branch role m c
+AnswersOne (Some branch) t key role m c = (is_current branch c ≡ true → AnswersIn c.phase t key role m c) × (is_current branch c ≡ false → HearsOther t key branch role m c)
 
 abbrev pub Hears : Signal → Trust → Role → Call → Type 0
 Hears (signal.Request side key request) t role c = IsAsked t key request × FitsIn c.phase c side request role
-Hears (signal.Ack side ack) t role c = FitsIn c.phase c side ack role × SentIn c.phase t c side
+Hears (signal.Ack side ack) t role c = FitsIn c.phase c side ack role × SentIn c.phase t c side ack
 Hears (signal.Cancel key cancel invite) t role c = IsAsked t key cancel
 Hears (signal.Answer key response) t role c = AnswersOne (invite_answered response) t key role response c
 Hears (signal.Silent branch method) t role c = Unit {0}

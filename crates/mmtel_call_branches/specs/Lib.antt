@@ -1,0 +1,3 @@
+-- What the laws cite.
+pub mod Sent
+pub mod Laws

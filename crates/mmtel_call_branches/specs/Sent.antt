@@ -1,0 +1,109 @@
+-- Which INVITEs were sent, and to whom; and that the INVITEs of a call are of these (RFC 3261 §8.1.1.7, §13.2.1, §17.1.3).
+use Rattle.std.specs.Prelude.{◌≡◌, ◌<◌, ◌≤◌, ◌⊎◌, ℕ, false, List, [], ◌∷◌, Option, codes}
+use Rattle.mmtel_call.specs.Answered.{leg_of}
+use Rattle.mmtel_call.specs.declared.calls.Call.{Call}
+use Rattle.mmtel_call.specs.declared.calls.Pair.{Pair}
+use Rattle.mmtel_call.specs.declared.calls.Phase.{Phase}
+use Rattle.mmtel_call.specs.declared.calls.Phase.TheVariants.{Lent, Offered, Over, Stood}
+use Rattle.mmtel_call.specs.declared.calls.Stage.{Stage}
+use Rattle.mmtel_call.specs.declared.calls.Stage.TheVariants.{Answered, Asking, Parting, Talking}
+use Rattle.mmtel_call.specs.declared.calls.Taken.{Taken}
+use Rattle.mmtel_desk.specs.declared.invitations.Invitation.{Invitation}
+use Rattle.mmtel_desk.specs.declared.invitations.Loose.{Loose}
+use Rattle.mmtel_leg.specs.Requests.{Given, numbered}
+use Rattle.mmtel_leg.specs.declared.dialogues.Dialogue.{Dialogue}
+use Rattle.mmtel_message.specs.Message.{Message}
+use Rattle.mmtel_message.specs.declared.fields.Five.{Five}
+use Rattle.mmtel_message.specs.declared.messages.Start.{Start}
+use Rattle.mmtel_scan.specs.Numbers.{token_text}
+use Rattle.mmtel_transaction.specs.Heads.{head_with, is_invite}
+use Rattle.mmtel_transaction.specs.declared.words.Emit.{Emit}
+use Rattle.mmtel_transaction.specs.declared.words.Emit.TheVariants as emit
+use Rattle.mmtel_types.specs.Sides.{other_of}
+use Rattle.mmtel_types.specs.declared.addrs.Addr.{Addr}
+use Rattle.mmtel_types.specs.declared.numbers.Peer.{Peer}
+
+-- it holds of each
+abbrev pub Each : {A : Type 0} → (A → Type 0) → List A → Type 0
+Each P [] = Unit {0}
+Each P (x ∷ xs) = P x × Each P xs
+
+-- ---- what is asked
+
+-- the server's INVITE of this branch, in a dialog
+pub record IsInvite (sip : Addr) (branch : List ℕ) (m : Message Start) : Type 0 where
+  pub dialogue : Dialogue
+  pub number : ℕ
+  pub given : Given
+  pub is : m ≡ numbered dialogue number (codes "INVITE") given
+  pub from_there : given.sip ≡ sip
+  pub has_it : given.branch ≡ branch
+
+-- it is no INVITE, and answers none
+abbrev pub IsNoInvite : Message Start → Type 0
+IsNoInvite m = (five : Option Five) → is_invite (head_with m.start five) ≡ false
+
+-- what is asked of peers, of all that goes out
+abbrev pub asks_in : List Emit → List (Peer × Message Start)
+asks_in [] = []
+asks_in (emit.Ask peer m ∷ out) = (peer, m) ∷ asks_in out
+asks_in (emit.Reply key m ∷ out) = asks_in out
+asks_in (emit.Plain peer text ∷ out) = asks_in out
+asks_in (emit.Ack key m ∷ out) = asks_in out
+asks_in (emit.Arm call what at ∷ out) = asks_in out
+asks_in (emit.ArmSeat room seat what at ∷ out) = asks_in out
+
+-- among what was asked is an INVITE of this branch, which went to this peer
+abbrev pub WasSent : Addr → List (Peer × Message Start) → (branch : List ℕ) → Peer → Type 0
+WasSent sip [] branch peer = ⊥
+WasSent sip (ask ∷ asks) branch peer = ((ask.0 ≡ peer) × IsInvite sip branch ask.1) ⊎ WasSent sip asks branch peer
+
+-- ---- the INVITEs of a call, where this says which were sent
+
+abbrev pub InvitationWasSent : (List ℕ → Peer → Type 0) → Invitation → Type 0
+InvitationWasSent sent i = sent i.branch i.dialogue.peer
+
+abbrev pub LooseWasSent : (List ℕ → Peer → Type 0) → Loose → Type 0
+LooseWasSent sent l = InvitationWasSent sent l.invitation
+
+abbrev pub TakenWasSent : (List ℕ → Peer → Type 0) → Taken → Type 0
+TakenWasSent sent t = InvitationWasSent sent t.invitation
+
+-- the one whose 2xx waits for an ACK went to the peer of the other leg; and so did the one that was relayed
+abbrev pub StageWasSent : (List ℕ → Peer → Type 0) → Pair → Stage → Type 0
+StageWasSent sent x (Answered waiting success) = sent success.branch (leg_of (other_of waiting) x).dialogue.peer
+StageWasSent sent x (Parting waiting success) = Unit {0}
+StageWasSent sent x Talking = Unit {0}
+StageWasSent sent x (Asking asking q) = InvitationWasSent sent q.invitation × sent q.invitation.branch (leg_of (other_of asking) x).dialogue.peer
+
+-- that of an attempt went to the peer of its leg
+abbrev pub PhaseWasSent : (List ℕ → Peer → Type 0) → Phase → Type 0
+PhaseWasSent sent (Offered x) = InvitationWasSent sent x.attempt.invitation × sent x.attempt.invitation.branch x.callee.leg.dialogue.peer
+PhaseWasSent sent (Stood x stage) = StageWasSent sent x stage
+PhaseWasSent sent (Lent loan) = Unit {0}
+PhaseWasSent sent (Over cause) = Unit {0}
+
+-- those that the call does not wait on
+pub record OthersWereSent (sent : List ℕ → Peer → Type 0) (loose : List Loose) (taken : List Taken) : Type 0 where
+  pub loose_in : Each (LooseWasSent sent) loose
+  pub taken_in : Each (TakenWasSent sent) taken
+
+pub record CallWasSent (sent : List ℕ → Peer → Type 0) (c : Call) : Type 0 where
+  pub phase_in : PhaseWasSent sent c.phase
+  pub others_in : OthersWereSent sent c.loose c.taken
+
+-- ---- each that goes out has a number of its own
+
+-- between these numbers: an INVITE has the token of the greater one, and for all else they are equal
+abbrev pub IsNumbered : Addr → (token : List ℕ) → (low next : ℕ) → Emit → Type 0
+IsNumbered sip token low next (emit.Ask peer m) = ((low ≡ next) × IsNoInvite m) ⊎ ((low < next) × IsInvite sip (token_text token next) m)
+IsNumbered sip token low next (emit.Reply key m) = low ≡ next
+IsNumbered sip token low next (emit.Plain peer text) = low ≡ next
+IsNumbered sip token low next (emit.Ack key m) = low ≡ next
+IsNumbered sip token low next (emit.Arm call what at) = low ≡ next
+IsNumbered sip token low next (emit.ArmSeat room seat what at) = low ≡ next
+
+-- the numbers of INVITEs rise, from above the lower of these numbers to the greater one
+abbrev pub AreNumbered : Addr → (token : List ℕ) → (low high : ℕ) → List Emit → Type 0
+AreNumbered sip token low high [] = low ≤ high
+AreNumbered sip token low high (e ∷ out) = (next : ℕ) × IsNumbered sip token low next e × AreNumbered sip token next high out

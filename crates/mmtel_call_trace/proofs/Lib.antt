@@ -1,0 +1,6 @@
+mod Reading
+mod Sending
+mod Going
+mod Hearing
+mod Stories
+mod Targets

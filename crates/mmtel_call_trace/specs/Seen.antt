@@ -1,0 +1,223 @@
+-- What is seen of a call from outside, while it is offered: the INVITEs to its targets and the deadlines that go out, and what is heard. By these alone it is told which attempt is on its way, and how attempts ended (RFC 3261 §9, §13.2.1, §15, §17.1.1, §17.1.3 and §21, TS 24.604 §4.5.2.6).
+use Rattle.std.specs.Prelude.{ℕ, ◌==◌, ◌&&◌, ◌||◌, not, Bool, false, if◌then◌else◌, Option, Some, None, List, [], ◌∷◌, ◌++◌, codes, is_ok, option_to_list}
+use Rattle.std.specs.List.{list_any}
+use Rattle.std.specs.Option.{option_map, unwrap_or}
+use Rattle.std.specs.Str.{bytes_eq}
+use Rattle.mmtel_answers.specs.Said.{Said, status_of}
+use Rattle.mmtel_leg.specs.Dialogues.{last_after, number_in, request_uri, unless_busy, unless_old}
+use Rattle.mmtel_leg.specs.Remotes.{field}
+use Rattle.mmtel_leg.specs.declared.dialogues.InFlight.TheVariants as in_flight
+use Rattle.mmtel_message.specs.Addresses.{via_text}
+use Rattle.mmtel_message.specs.Faults.{is_method}
+use Rattle.mmtel_message.specs.Message.{Message}
+use Rattle.mmtel_message.specs.declared.messages.Start.{Start as StartLine}
+use Rattle.mmtel_precedence.specs.Attempts.{end_by, end_by_response, rings}
+use Rattle.mmtel_precedence.specs.Calls.{End, Ended}
+use Rattle.mmtel_precedence.specs.declared.attempts.AttemptEvent.TheVariants as events
+use Rattle.mmtel_scan.specs.Scanning.{after_text}
+use Rattle.mmtel_transaction.specs.declared.words.DueWord.{DueWord}
+use Rattle.mmtel_transaction.specs.declared.words.DueWord.TheVariants as due
+use Rattle.mmtel_transaction.specs.declared.words.Emit.{Emit}
+use Rattle.mmtel_transaction.specs.declared.words.Emit.TheVariants as emit
+use Rattle.mmtel_transaction.specs.declared.words.TKey.{TKey}
+use Rattle.mmtel_types.specs.declared.addrs.Addr.{Addr}
+use Rattle.mmtel_types.specs.declared.numbers.CallNo.{CallNo}
+use Rattle.mmtel_types.specs.declared.numbers.Peer.{Peer}
+use Rattle.mmtel_types.specs.declared.sides.Side.{Side}
+use Rattle.mmtel_types.specs.declared.sides.Side.TheVariants.{Caller, Callee}
+use Rattle.mmtel_call.specs.Decisions.{redirect_of}
+use Rattle.mmtel_call.specs.Requests.{is_bye, is_invite, number_of}
+use Rattle.mmtel_call.specs.Table.{invite_answered, invite_silent}
+use Rattle.mmtel_call.specs.declared.signals.Signal.{Signal}
+use Rattle.mmtel_call.specs.declared.signals.Signal.TheVariants as signal
+use Rattle.mmtel_call_laws.specs.Endings.{ended_at}
+use Rattle.mmtel_call_laws.specs.Story.{Heard, Start, added, call_after, first_step, next_step}
+
+-- ---- what is seen of what goes out
+
+-- an INVITE, to this peer, with this Request-URI and this branch; and a deadline of an attempt
+pub data Mark : Type 0 where
+  Invited : (peer : Peer) → (uri branch : List ℕ) → Mark
+  Armed : (what : DueWord) → Mark
+
+-- the branch of a request of the server, behind its cookie: what stands behind all else of the server's Via (RFC 3261 §8.1.1.7)
+abbrev pub branch_of : Addr → Message StartLine → List ℕ
+branch_of sip m = unwrap_or (after_text (via_text sip []) (field (codes "Via") m.lines)) []
+
+-- the no-reply time and the longest time are those of an attempt
+abbrev pub mark_of_deadline : DueWord → List Mark
+mark_of_deadline (due.NoReply number) = Armed (due.NoReply number) ∷ []
+mark_of_deadline (due.Cap number) = Armed (due.Cap number) ∷ []
+mark_of_deadline (due.NoAck number) = []
+
+-- where the call has this number
+abbrev pub mark_of : Addr → CallNo → Emit → List Mark
+mark_of sip own (emit.Ask peer m) = if is_method (codes "INVITE") m.start then Invited peer (request_uri m.start) (branch_of sip m) ∷ [] else []
+mark_of sip own (emit.Reply asked m) = []
+mark_of sip own (emit.Plain peer text) = []
+mark_of sip own (emit.Ack asked m) = []
+mark_of sip own (emit.Arm call what at) = if call.0 == own.0 then mark_of_deadline what else []
+mark_of sip own (emit.ArmSeat room seat what at) = []
+
+abbrev pub marks_of : Addr → CallNo → List Emit → List Mark
+marks_of sip own [] = []
+marks_of sip own (e ∷ later) = mark_of sip own e ++ marks_of sip own later
+
+-- ---- the attempt that is on its way
+
+pub record Going : Type 0 where
+  -- of its INVITE: to whom it went, with which Request-URI and which branch
+  pub peer : Peer
+  pub uri : List ℕ
+  pub branch : List ℕ
+  -- the deadlines that went out since, in order
+  pub armed : List DueWord
+  -- a response that says that the target rings was heard since
+  pub rang : Bool
+
+pub record Watch : Type 0 where
+  -- the deadlines of those before
+  pub earlier : List DueWord
+  -- the one that is on its way, if one is
+  pub going : Option Going
+
+abbrev pub armed_in : Option Going → List DueWord
+armed_in None = []
+armed_in (Some g) = g.armed
+
+abbrev pub with_armed : DueWord → Going → Going
+with_armed what g = record g { armed = g.armed ++ what ∷ [] }
+
+-- an INVITE that goes out begins one
+abbrev pub on_mark : Watch → Mark → Watch
+on_mark w (Invited peer uri branch) = record { earlier = w.earlier ++ armed_in w.going; going = Some (record { peer = peer; uri = uri; branch = branch; armed = []; rang = false }) }
+on_mark w (Armed what) = record w { going = option_map (with_armed what) w.going }
+
+abbrev pub on_marks : Watch → List Mark → Watch
+on_marks w [] = w
+on_marks w (mark ∷ later) = on_marks (on_mark w mark) later
+
+-- ---- what is heard of it
+
+-- a response to its INVITE says that the target rings
+abbrev pub rings_by_answer : Going → Said → Option (List ℕ) → Bool
+rings_by_answer g m None = false
+rings_by_answer g m (Some branch) = bytes_eq g.branch branch && rings (status_of m.heard.start)
+
+abbrev pub rings_by : Going → Signal → Bool
+rings_by g (signal.Request side key request) = false
+rings_by g (signal.Ack side ack) = false
+rings_by g (signal.Cancel key cancel invite) = false
+rings_by g (signal.Answer key response) = rings_by_answer g response (invite_answered response)
+rings_by g (signal.Silent branch method) = false
+rings_by g (signal.Due what) = false
+rings_by g (signal.Ended key) = false
+
+-- ---- the requests of the caller that are in order: its last number, and what it is after one more (RFC 3261 §12.2.2)
+
+abbrev pub in_order : Option ℕ → Said → Bool
+in_order last m = is_ok (unless_old (number_of m) last (unless_busy (is_invite m) in_flight.Theirs))
+
+abbrev pub last_by_request : Option ℕ → Side → Said → Option ℕ
+last_by_request last Caller m = if in_order last m then last_after (number_of m) last else last
+last_by_request last Callee m = last
+
+abbrev pub last_by : Option ℕ → Signal → Option ℕ
+last_by last (signal.Request side key request) = last_by_request last side request
+last_by last (signal.Ack side ack) = last
+last_by last (signal.Cancel key cancel invite) = last
+last_by last (signal.Answer key response) = last
+last_by last (signal.Silent branch method) = last
+last_by last (signal.Due what) = last
+last_by last (signal.Ended key) = last
+
+-- that of the INVITE that opened the call
+abbrev pub first_last : Start → Option ℕ
+first_last s = number_in s.arrival.invite.heard.lines
+
+unfoldable pub last_after_all : Start → List Heard → Option ℕ
+last_after_all s [] = first_last s
+last_after_all s (x ∷ earlier) = last_by (last_after_all s earlier) x.signal
+
+-- ---- what ends it, if it does
+
+-- a response to its INVITE, by its status
+abbrev pub ends_by_answer : Going → Said → Option (List ℕ) → Option End
+ends_by_answer g m None = None
+ends_by_answer g m (Some branch) = if bytes_eq g.branch branch then end_by_response (status_of m.heard.start) (redirect_of m) g.rang else None
+
+-- no response at all to it; one that rang had one
+abbrev pub ends_by_silence : Going → Option (List ℕ) → Option End
+ends_by_silence g None = None
+ends_by_silence g (Some branch) = if bytes_eq g.branch branch && not g.rang then end_by events.Silence g.rang else None
+
+-- a deadline that has the number of one that went out for it
+abbrev pub carries : ℕ → DueWord → Bool
+carries number (due.NoReply other) = number == other
+carries number (due.Cap other) = number == other
+carries number (due.NoAck other) = false
+
+abbrev pub is_armed : ℕ → List DueWord → Bool
+is_armed number armed = list_any (carries number) armed
+
+abbrev pub ends_by_deadline : Going → DueWord → Option End
+ends_by_deadline g (due.NoReply number) = if is_armed number g.armed then end_by events.NoReplyTime g.rang else None
+ends_by_deadline g (due.Cap number) = if is_armed number g.armed then end_by events.LongestTime g.rang else None
+ends_by_deadline g (due.NoAck number) = None
+
+-- the BYE of the caller, where it is in order
+abbrev pub ends_by_request : (last : Option ℕ) → Going → Side → Said → Option End
+ends_by_request last g Caller m = if in_order last m && is_bye m then end_by events.CallerGaveUp g.rang else None
+ends_by_request last g Callee m = None
+
+-- where the INVITE that opened the call is of this server transaction, and this was the last number of its caller
+abbrev pub ends_by : (key : TKey) → (last : Option ℕ) → Going → Signal → Option End
+ends_by key last g (signal.Request side asked request) = ends_by_request last g side request
+ends_by key last g (signal.Ack side ack) = None
+ends_by key last g (signal.Cancel asked cancel invite) = if invite.0 == key.0 then end_by events.CallerGaveUp g.rang else None
+ends_by key last g (signal.Answer asked response) = ends_by_answer g response (invite_answered response)
+ends_by key last g (signal.Silent branch method) = ends_by_silence g (invite_silent branch method)
+ends_by key last g (signal.Due what) = ends_by_deadline g what
+ends_by key last g (signal.Ended asked) = None
+
+-- while none is on its way, none ends
+abbrev pub ends_watched : (key : TKey) → (last : Option ℕ) → Option Going → Signal → Option End
+ends_watched key last None heard = None
+ends_watched key last (Some g) heard = ends_by key last g heard
+
+-- ---- in a story: what was heard, and then what went out in that step
+
+abbrev pub after_hearing : Watch → Going → Signal → Option End → Watch
+after_hearing w g heard None = record w { going = Some (record g { rang = g.rang || rings_by g heard }) }
+after_hearing w g heard (Some how) = record { earlier = w.earlier ++ g.armed; going = None }
+
+-- once none is on its way, none comes
+abbrev pub watched_from : Watch → Option Going → (key : TKey) → (last : Option ℕ) → Signal → List Mark → Watch
+watched_from w None key last heard marks = w
+watched_from w (Some g) key last heard marks = on_marks (after_hearing w g heard (ends_by key last g heard)) marks
+
+abbrev pub watched_next : Watch → (key : TKey) → (last : Option ℕ) → Signal → List Mark → Watch
+watched_next w key last heard marks = watched_from w w.going key last heard marks
+
+abbrev pub nothing_yet : Watch
+nothing_yet = record { earlier = []; going = None }
+
+-- what went out as it opened, and in one more step
+abbrev pub marks_first : Start → List Mark
+marks_first s = marks_of s.site.sip s.arrival.number (added s.desk.out (first_step s).desk.out)
+
+abbrev pub marks_next : Start → Heard → List Heard → List Mark
+marks_next s x earlier = marks_of s.site.sip s.arrival.number (added x.desk.out (next_step s x (call_after s earlier)).desk.out)
+
+unfoldable pub watch_after : Start → List Heard → Watch
+watch_after s [] = on_marks nothing_yet (marks_first s)
+watch_after s (x ∷ earlier) = watched_next (watch_after s earlier) s.arrival.key (last_after_all s earlier) x.signal (marks_next s x earlier)
+
+-- ---- how attempts ended, one after the other
+
+abbrev pub ended_in : Start → Heard → List Heard → Option End
+ended_in s x earlier = ends_watched s.arrival.key (last_after_all s earlier) (watch_after s earlier).going x.signal
+
+unfoldable pub endings_seen : Start → List Heard → List Ended
+endings_seen s [] = []
+endings_seen s (x ∷ earlier) = endings_seen s earlier ++ option_to_list (option_map (ended_at x.now.at) (ended_in s x earlier))

@@ -3,10 +3,10 @@ ghost use Rattle.std.specs.Prelude.{◌≡◌, IfOk};
 ghost use Rattle.mmtel_run.specs.Answers.{allowing, plainly};
 ghost use Rattle.mmtel_intake.specs.Courses.{answer_in};
 
-use mmtel_answers::{Aim, allowed};
+use mmtel_answers::allowed;
 use mmtel_message::Line;
 use mmtel_scan::{List, NoMemory};
-use mmtel_types::Account;
+use mmtel_types::{Account, CallNo, Side};
 use std::alloc::Global;
 
 /// An answer of the server's own: its status, and the lines that it has of its own.
@@ -23,8 +23,15 @@ pub struct Answer {
 pub enum Course {
     /// It is answered.
     Refuse(Answer),
-    /// It opens a call, whose first attempt goes there.
-    Open(Aim),
+    /// It is heard in the dialog of this side of a call.
+    Enter {
+        /// The call.
+        call: CallNo,
+        /// The side.
+        side: Side,
+    },
+    /// It opens a call.
+    Open,
     /// It registers an account for so many seconds.
     Register {
         /// The account.

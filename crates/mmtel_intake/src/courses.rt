@@ -1,11 +1,10 @@
 //! What is done with a request that opens a transaction.
-ghost use Rattle.std.specs.Prelude.{◌≡◌, ◌==◌, not, length, IfOk, is_some, true};
-ghost use Rattle.mmtel_history.specs.HistoryInfo.{entries_of, entry_of};
+ghost use Rattle.std.specs.Prelude.{◌≡◌, IfOk, Some, true};
 ghost use Rattle.mmtel_leg.specs.Dialogues.{request_uri};
 ghost use Rattle.mmtel_lex.specs.Reading.{uri_of};
 ghost use Rattle.mmtel_trust.specs.MaskedMessages.{public_part};
-ghost use Rattle.mmtel_run.specs.Refusals.{by_method, course, invited, is_known_method, is_diverted, opening_by, opening_to};
-ghost use Rattle.mmtel_run.specs.Refusals.{is_factory, is_of_conference, is_room, is_room_number, is_room_user, peer_for};
+ghost use Rattle.mmtel_run.specs.Refusals.{by_method, course, course_in as course_in_dialog, invited, is_known_method};
+ghost use Rattle.mmtel_run.specs.Refusals.{is_factory, is_for_conference, is_of_conference, is_room, is_room_number, is_room_user};
 ghost use Rattle.mmtel_intake.specs.Courses.{course_in};
 ghost use Rattle.mmtel_intake.specs.Targets.{target_in};
 
@@ -15,15 +14,25 @@ use crate::refusals::{
 };
 use crate::registrations::registration;
 use crate::replies::is_untagged;
-use mmtel_answers::{Hearing, first_aim};
+use mmtel_answers::Hearing;
 use mmtel_directory::Directory;
-use mmtel_history::{HistoryFault, read_values};
 use mmtel_lex::{Uri, same_identity};
-use mmtel_message::{is_method, line_texts};
-use mmtel_parties::{kept_routes, names_server, next_hop};
-use mmtel_scan::{Class, List, NoMemory, Text, is_all, leads_zero, skip_text};
-use mmtel_types::{Addr, Peer};
+use mmtel_message::is_method;
+use mmtel_parties::names_server;
+use mmtel_scan::{Class, NoMemory, is_all, leads_zero, skip_text};
+use mmtel_types::{Addr, CallNo, Side};
 use std::alloc::Global;
+
+/// What is known of a request beside the message: of transactions and of calls.
+#[derive(Clone, Copy)]
+pub struct Standing {
+    /// Another live transaction has its From tag, Call-ID and CSeq (RFC 3261 §8.2.2.2).
+    pub merged: bool,
+    /// As many calls live as may.
+    pub full: bool,
+    /// The call and the side whose dialog it names (§12.2.2).
+    pub named: Option<(CallNo, Side)>,
+}
 
 /// Whether the digits are the number of a conference room, without leading zeros.
 fn is_room_number(digits: &[u8]) -> bool
@@ -76,93 +85,39 @@ fn is_of_conference(alloc: Global, directory: &Directory, target: &Uri) -> Resul
     Ok(is_factory(&directory.factory, target))
 }
 
-/// The peer to which a target leads, with these Route values; None where none does, or where the target is of a conference.
-fn peer_for(
+/// Whether a target is of a conference; one that cannot be read is of none.
+fn is_for_conference(
     alloc: Global,
     directory: &Directory,
-    routes: &[Text],
     target: &Target,
-) -> Result<Option<Peer>, NoMemory>
-    ensures { IfOk result (λ peer. peer ≡ peer_for directory.now routes.now (target_in target.now)) }
+) -> Result<bool, NoMemory>
+    ensures { IfOk result (λ b. b ≡ is_for_conference directory.now (target_in target.now)) }
 {
     match target {
-        Target::Known(uri) => {
-            if is_of_conference(alloc, directory, uri)? {
-                return Ok(None);
-            }
-            next_hop(alloc, &directory.peers, routes, uri)
-        }
-        Target::Malformed => Ok(None),
-        Target::Foreign => Ok(None),
+        Target::Known(uri) => is_of_conference(alloc, directory, uri),
+        Target::Malformed => Ok(false),
+        Target::Foreign => Ok(false),
     }
 }
 
-/// Whether a value of History-Info can be read.
-#[tactic(auto, using(crate::proofs::Entries::read_alone, crate::proofs::Entries::refused_alone))]
-fn is_entry(alloc: Global, value: &Text) -> Result<bool, NoMemory>
-    ensures { IfOk result (λ b. b ≡ is_some (entry_of value.now)) }
-{
-    let mut values = List::new();
-    let value = value.copied(alloc)?;
-    values.push(alloc, value)?;
-    match read_values(alloc, &values) {
-        Ok(_) => Ok(true),
-        Err(HistoryFault::Malformed { at: _ }) => Ok(false),
-        Err(HistoryFault::NoMemory) => Err(NoMemory),
-    }
-}
-
-fn has_entry(alloc: Global, values: &[Text]) -> Result<bool, NoMemory>
-    ensures { IfOk result (λ b. b ≡ not (length (entries_of values.now) == 0)) }
-{
-    for value in values {
-        if is_entry(alloc, value)? {
-            return Ok(true);
-        }
-    }
-    Ok(false)
-}
-
-/// Whether a request was diverted before: it has an entry of History-Info (RFC 7044 §5).
-fn is_diverted(alloc: Global, request: &Hearing) -> Result<bool, NoMemory>
-    ensures { IfOk result (λ b. b ≡ is_diverted request.now.heard) }
-{
-    let values = line_texts(alloc, request.message.lines(), b"History-Info")?;
-    has_entry(alloc, values.items())
-}
-
-/// The call that an INVITE with these Route values opens, where its target has a peer.
-fn opening_to(
-    alloc: Global,
-    routes: &[Text],
-    request: &Hearing,
-    peer: Option<Peer>,
-) -> Result<Course, NoMemory>
-    ensures { IfOk result (λ c. course_in c ≡ opening_to routes.now (public_part request.now.heard) peer) }
-{
-    match peer {
-        None => Ok(Course::Unbuilt),
-        Some(peer) => Ok(Course::Open(first_aim(alloc, peer, routes, request)?)),
-    }
-}
-
-/// What is done with an INVITE that is not refused.
+/// What is done with an INVITE that is not refused: it opens a call, unless as many live as may.
 fn invited(
     alloc: Global,
     directory: &Directory,
     target: &Target,
+    full: bool,
     request: &Hearing,
 ) -> Result<Course, NoMemory>
     requires { target_in target.now ≡ uri_of (request_uri request.now.heard.start) }
-    ensures { IfOk result (λ c. course_in c ≡ invited directory.now (is_diverted request.now.heard) (public_part request.now.heard)) }
+    ensures { IfOk result (λ c. course_in c ≡ invited directory.now full (public_part request.now.heard)) }
 {
-    if is_diverted(alloc, request)? {
+    if is_for_conference(alloc, directory, target)? {
         return Ok(Course::Unbuilt);
     }
-    let routes = line_texts(alloc, request.message.lines(), b"Route")?;
-    let routes = kept_routes(alloc, directory.sip, routes)?;
-    let peer = peer_for(alloc, directory, routes.items(), target)?;
-    opening_to(alloc, routes.items(), request, peer)
+    if full {
+        return Ok(Course::Refuse(plainly(503)));
+    }
+    Ok(Course::Open)
 }
 
 /// What is done with a request that is not refused, by its method.
@@ -170,10 +125,11 @@ fn by_method(
     alloc: Global,
     directory: &Directory,
     target: &Target,
+    full: bool,
     request: &Hearing,
 ) -> Result<Course, NoMemory>
     requires { target_in target.now ≡ uri_of (request_uri request.now.heard.start) }
-    ensures { IfOk result (λ c. course_in c ≡ by_method directory.now (is_diverted request.now.heard) (public_part request.now.heard)) }
+    ensures { IfOk result (λ c. course_in c ≡ by_method directory.now full (public_part request.now.heard)) }
 {
     let start = request.message.start();
     if is_method(b"OPTIONS", start) {
@@ -183,11 +139,28 @@ fn by_method(
     } else if is_method(b"REFER", start) {
         Ok(Course::Refuse(plainly(403)))
     } else if is_method(b"INVITE", start) {
-        invited(alloc, directory, target, request)
+        invited(alloc, directory, target, full, request)
     } else if is_method(b"REGISTER", start) {
         registration(alloc, directory, request)
     } else {
         Ok(Course::Unbuilt)
+    }
+}
+
+/// What is done with a request that is not refused: its dialog decides, or else its method.
+fn course_in_dialog(
+    alloc: Global,
+    directory: &Directory,
+    target: &Target,
+    standing: &Standing,
+    request: &Hearing,
+) -> Result<Course, NoMemory>
+    requires { target_in target.now ≡ uri_of (request_uri request.now.heard.start) }
+    ensures { IfOk result (λ c. course_in c ≡ course_in_dialog directory.now standing.now.full standing.now.named (public_part request.now.heard)) }
+{
+    match standing.named {
+        None => by_method(alloc, directory, target, standing.full, request),
+        Some((call, side)) => Ok(Course::Enter { call, side }),
     }
 }
 
@@ -197,12 +170,12 @@ fn course_to(
     alloc: Global,
     directory: &Directory,
     target: &Target,
-    merged: bool,
+    standing: &Standing,
     request: &Hearing,
 ) -> Result<Course, NoMemory>
     requires known { is_known_method request.now.heard.start ≡ true }
     requires target { target_in target.now ≡ uri_of (request_uri request.now.heard.start) }
-    ensures { IfOk result (λ c. course_in c ≡ course directory.now merged request.now.heard) }
+    ensures { IfOk result (λ c. course_in c ≡ course directory.now standing.now.merged standing.now.full standing.now.named request.now.heard) }
 {
     if is_foreign(target) {
         return Ok(Course::Refuse(plainly(416)));
@@ -210,22 +183,21 @@ fn course_to(
     if is_last_hop(request) {
         return Ok(Course::Refuse(plainly(483)));
     }
-    if !is_untagged(alloc, &request.message)? {
+    let is_untagged = is_untagged(alloc, &request.message)?;
+    if !is_untagged && standing.named.is_none() {
         return Ok(Course::Refuse(plainly(481)));
     }
-    if merged {
+    if is_untagged && standing.merged {
         return Ok(Course::Refuse(plainly(482)));
     }
     let lines = unsupported_lines(alloc, request)?;
     if !lines.items().is_empty() {
         return Ok(Course::Refuse(without_extension(lines)));
     }
-    by_method(alloc, directory, target, request)
+    course_in_dialog(alloc, directory, target, standing, request)
 }
 
-/// What is done with a request that opens a transaction: the first refusal that applies decides (RFC 3261 §8.2), and without one the method.
-///
-/// `merged` says that another live transaction has its From tag, Call-ID and CSeq (§8.2.2.2).
+/// What is done with a request that opens a transaction: the first refusal that applies decides (RFC 3261 §8.2), without one its dialog, and else its method.
 ///
 /// # Errors
 ///
@@ -234,14 +206,14 @@ fn course_to(
 pub fn course(
     alloc: Global,
     directory: &Directory,
-    merged: bool,
+    standing: &Standing,
     request: &Hearing,
 ) -> Result<Course, NoMemory>
-    ensures course { IfOk result (λ c. course_in c ≡ course directory.now merged request.now.heard) }
+    ensures course { IfOk result (λ c. course_in c ≡ course directory.now standing.now.merged standing.now.full standing.now.named request.now.heard) }
 {
     if !is_known_method(request.message.start()) {
         return Ok(Course::Refuse(allowing(alloc, 405)?));
     }
     let target = read_target(alloc, request.message.start())?;
-    course_to(alloc, directory, &target, merged, request)
+    course_to(alloc, directory, &target, standing, request)
 }

@@ -4,10 +4,9 @@ ghost use Rattle.std.specs.Option.{option_copied};
 ghost use Rattle.mmtel_answers.specs.Said.{phrase_in};
 ghost use Rattle.mmtel_trust.specs.Digest.{tag_of};
 ghost use Rattle.mmtel_run.specs.Answers.{completed_reply, response_to, to_tag_in};
-ghost use Rattle.mmtel_run.specs.Openings.{trying};
 ghost use Rattle.mmtel_intake.specs.Courses.{answer_in};
 
-use crate::answers::{Answer, plainly};
+use crate::answers::Answer;
 use mmtel_answers::{Hearing, own_answer, status_of};
 use mmtel_lex::{LexFault, param_value, read_name_addr};
 use mmtel_message::{Msg, Reply, Start, first_of, response};
@@ -101,15 +100,4 @@ pub fn completed_reply(
         body: &[],
     };
     response(alloc, reply.start(), reply.lines(), &said)
-}
-
-/// The 100 to a request, which has no tag of the server (RFC 3261 §8.2.6.1).
-///
-/// # Errors
-///
-/// Want of memory alone.
-pub fn trying(alloc: Global, sip: Addr, request: &Hearing) -> Result<Msg, NoMemory>
-    ensures message { IfOk result (λ m. m ≡ trying sip request.now) }
-{
-    response_to(alloc, sip, b"", request, &plainly(100))
 }

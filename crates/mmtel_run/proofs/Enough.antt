@@ -1,104 +1,247 @@
 -- Enough firings of deadlines exist before each event, and more of them change nothing.
-use Rattle.std.proofs.Common.{◌≡◌, ℕ, zero, suc, ◌+◌, ◌≤◌, List, [], ◌∷◌, refl, sym, ap, ◌∙◌, Option, Some, None, arith, subst}
+use Rattle.std.proofs.Common.{◌≡◌, ℕ, zero, suc, ◌+◌, ◌≤◌, List, [], ◌∷◌, ◌++◌, length, refl, sym, ap, ◌∙◌, Bool, true, false, Option, Some, None, inl, inr, arith, subst}
+use Rattle.std.specs.Prelude.{◌⊎◌, ◌==◌, nat_le, if◌then◌else◌}
+use Rattle.mmtel_b2bua.specs.Histories.{Deed, Hears, hears_after}
+use Rattle.mmtel_b2bua.specs.Tables.{Moved}
+use Rattle.mmtel_b2bua.specs.declared.signals.Signal.{Signal}
+use Rattle.mmtel_b2bua.specs.declared.signals.Signal.TheVariants as signal
+use Rattle.mmtel_desk.specs.Desks.{fresh}
 use Rattle.mmtel_directory.specs.declared.directories.Directory.{Directory}
+use Rattle.mmtel_in_force.specs.Texts.{Texts}
+use Rattle.mmtel_scan.specs.Numbers.{next_number}
 use Rattle.mmtel_transaction.specs.Answers.{Next, fires, next_due, says_due}
 use Rattle.mmtel_transaction.specs.Calls.{Done, DidBegin, live}
 use Rattle.mmtel_transaction.specs.Settling.{BeginsChangeNothing, FiringsUseUp, all_left}
 use Rattle.mmtel_transaction.specs.declared.words.Due.{Due}
 use Rattle.mmtel_transaction.specs.declared.words.Due.TheVariants as due
-use Rattle.mmtel_run.specs.Events.{Digest, digests}
+use Rattle.mmtel_transaction.specs.Tokens.{Drawn}
+use Rattle.mmtel_transaction.specs.declared.words.Emit.{Emit}
+use Rattle.mmtel_run.specs.Calls.{calls_after, site_of}
+use Rattle.mmtel_run.specs.Deadlines.{Armed, Chosen, Deadline, OfCall, OfMessage, choose, chosen, comes_before, first_armed, first_of, is_sooner, sooner}
+use Rattle.mmtel_run.specs.Events.{Happened, Notice, notices}
 use Rattle.mmtel_run.specs.Headline.{GivesAlways, GivesOnce, MoreChangesNothing}
-use Rattle.mmtel_run.specs.Run.{IsEnoughAfter, IsSettled, after, clock_at, due_in, fire_one, fired_if, gives, one_more, settled}
-use Rattle.mmtel_run.specs.World.{World, beginning, came, fired, rung}
+use Rattle.mmtel_run.specs.Records.{in_force}
+use Rattle.mmtel_run.specs.Run.{IsEnough, IsEnoughAfter, IsSettled, after, clock_at, due_in, fire_one, fired_if, gives, one_more, settled, world_after}
+use Rattle.mmtel_run.specs.World.{World, beginning, begun, calls_in, came, emitted, fired, heard_now, rung, signalled}
+use Rattle.mmtel_run.proofs.Earlier.{emitted_deeds}
+use Rattle.mmtel_run.proofs.Lasting.{Fades, all_ways, fades, is_rung}
+
+-- ---- the first deadline of calls
+
+-- the others are one fewer
+sooner_length : (b : Bool) (armed : Armed) (others : List Armed) (behind : Chosen) → suc (length behind.others) ≡ length others
+    → suc (length (if b then choose behind.first (armed ∷ behind.others) else choose armed others).others) ≡ suc (length others)
+sooner_length true armed others behind same = ap suc same
+sooner_length false armed others behind same = refl
+
+-- whatever is chosen
+abbrev IsFewer : List Armed → Option Chosen → Type 0
+IsFewer armed None = Unit {0}
+IsFewer armed (Some call) = suc (length call.others) ≡ length armed
+
+chosen_length : (b : Bool) (armed : Armed) (others : List Armed) (behind : Option Chosen) → IsFewer others behind → IsFewer (armed ∷ others) (chosen b armed others behind)
+chosen_length false armed others None same = tt
+chosen_length false armed others (Some behind) same = ap suc same
+chosen_length true armed others None same = refl
+chosen_length true armed others (Some behind) same = sooner_length (is_sooner behind.first armed) armed others behind same
+
+first_length : (now : ℕ) (armed : List Armed) → IsFewer armed (first_armed now armed)
+first_length now [] = tt
+first_length now (x ∷ xs) = chosen_length (nat_le x.at now) x xs (first_armed now xs) (first_length now xs)
 
 -- ---- more changes nothing
 
-pub done_stays : (more now : ℕ) (w : World) → due_in now w ≡ None → settled more now w ≡ w
-done_stays zero now w e = refl
-done_stays (suc more) now w e = ap (λ (o : Option Next). settled more now (fired_if now o w)) e ∙ done_stays more now w e
+module _ (d : Directory) (token : List ℕ) where
+  done_stays : (more now : ℕ) (w : World) → due_in now w ≡ None → settled d token more now w ≡ w
+  done_stays zero now w e = refl
+  done_stays (suc more) now w e = ap (λ (o : Option Deadline). settled d token more now (fired_if d token now o w)) e ∙ done_stays more now w e
 
-pub settled_more : (n more now : ℕ) (w : World) → IsSettled n now w → settled (n + more) now w ≡ settled n now w
-settled_more zero more now w e = let zero_more : zero + more ≡ more = omega arith in rw zero_more (done_stays more now w e)
-settled_more (suc n) more now w e = let one_further : suc n + more ≡ suc (n + more) = omega arith in rw one_further (settled_more n more now (fire_one now w) e)
+  settled_more : (n more now : ℕ) (w : World) → IsSettled d token n now w → settled d token (n + more) now w ≡ settled d token n now w
+  settled_more zero more now w e = let zero_more : zero + more ≡ more = omega arith in rw zero_more (done_stays more now w e)
+  settled_more (suc n) more now w e = let one_further : suc n + more ≡ suc (n + more) = omega arith in rw one_further (settled_more n more now (fire_one d token now w) e)
 
--- ---- enough
+  -- ---- what a deadline leaves
 
-rung_acts : (x : Due) (w : World) → (rung x w).acts ≡ w.acts
-rung_acts (due.Again peer at text) w = refl
-rung_acts (due.Silent key branch method at) w = refl
-rung_acts (due.Over key at) w = refl
-rung_acts due.Nothing w = refl
+  -- so many ways to go the calls have; and so long what is under way may go on, where nothing is brought forth
+  abbrev ways_left : World → ℕ
+  ways_left w = all_ways (calls_in d w).entries
 
-module _ (use_up : FiringsUseUp) (begins : BeginsChangeNothing) where
-  -- a deadline that fires leaves less
-  fired_leaves : (now : ℕ) (w : World) (n : Next) → due_in now w ≡ Some n → suc (all_left (live (fired now w).acts)) ≤ all_left (live w.acts)
-  fired_leaves now w n e =
-      let begun_acts : List Done = DidBegin w.steps ∷ w.acts in
-      let same : live begun_acts ≡ live w.acts = begins w.acts w.steps in
-      let first : next_due now (live begun_acts) ≡ Some n = ap (next_due now) same ∙ e in
-      let fewer : suc (all_left (live (fires begun_acts (Some n)))) ≤ all_left (live begun_acts) = use_up begun_acts now n first in
-      let acts : (fired now w).acts ≡ fires begun_acts (Some n) = rung_acts (says_due (next_due now (live begun_acts))) _ ∙ ap (fires begun_acts) first in
-      let left : all_left (live begun_acts) ≡ all_left (live w.acts) = ap all_left same in
-      let there : all_left (live (fired now w).acts) ≡ all_left (live (fires begun_acts (Some n))) = ap (λ (h : List Done). all_left (live h)) acts in
-      omega (arith, fewer, left, there)
+  abbrev waits : World → ℕ
+  waits w = all_left (live w.acts) + length w.armed
 
-  by_none : (now : ℕ) (w : World) (o : Option Next) → due_in now w ≡ o → all_left (live w.acts) ≤ 0 → due_in now w ≡ None
-  by_none now w None e less = e
-  by_none now w (Some n) e less = let fewer = fired_leaves now w n e in absurd (omega (arith, fewer, less))
+  -- where calls hear of a deadline, what waits and the ways stay the same, or the ways are fewer
+  abbrev Quietens : World → World → Type 0
+  Quietens v w = ((waits v ≤ waits w) × (ways_left v ≤ ways_left w)) ⊎ (suc (ways_left v) ≤ ways_left w)
 
-  by_more : (fuel now : ℕ) (w : World) (o : Option Next) → due_in now w ≡ o → ((u : World) → all_left (live u.acts) ≤ fuel → IsSettled fuel now u) → all_left (live w.acts) ≤ suc fuel → IsSettled (suc fuel) now w
-  by_more fuel now w None e rest less = ap (due_in now) (done_stays (suc fuel) now w e) ∙ e
-  by_more fuel now w (Some n) e rest less =
-      let fewer = fired_leaves now w n e in
-      subst (λ (o : Option Next). due_in now (settled fuel now (fired_if now o w)) ≡ None) (sym e) (rest (fired now w) (omega (arith, fewer, less)))
+  -- the calls, and the world, once a signal was heard and before anything is emitted
+  abbrev moved_by : ℕ → Signal → World → Moved
+  moved_by at x w = hears_after (site_of d) w.deeds (heard_now token at x w)
 
-  enough_at : (fuel now : ℕ) (w : World) → all_left (live w.acts) ≤ fuel → IsSettled fuel now w
-  enough_at zero now w less = by_none now w (due_in now w) refl less
-  enough_at (suc fuel) now w less = by_more fuel now w (due_in now w) refl (λ u. enough_at fuel now u) less
+  abbrev heard_in : ℕ → Signal → World → World
+  heard_in at x w = record w { deeds = Hears (heard_now token at x w) ∷ w.deeds; drawn = (moved_by at x w).desk.tokens.drawn }
+
+  signalled_quietens : (at : ℕ) (x : Signal) (w : World) → is_rung x ≡ true → Quietens (signalled d token at x w) w
+  signalled_quietens at x w is =
+      let view = in_force w.texts w.registrations in
+      let drawn : Drawn = record { token = token; drawn = w.drawn } in
+      let calls = calls_in d w in
+      let left : ways_left (signalled d token at x w) ≡ all_ways (moved_by at x w).entries = ap (λ (ds : List Deed). all_ways (calls_after d ds).entries) (emitted_deeds at (moved_by at x w).desk.out (heard_in at x w)) in
+      elim (fades (site_of d) at view (next_number calls.opened) x calls.entries (fresh drawn) is) [
+        | inl quiet ↦
+            let same : waits (signalled d token at x w) ≡ waits w = ap (λ (out : List Emit). waits (emitted at out (heard_in at x w))) quiet.0 in
+            let few : all_ways (moved_by at x w).entries ≤ ways_left w = quiet.1 in
+            inl (omega (arith, same), omega (arith, left, few))
+        | inr less ↦
+            let few : suc (all_ways (moved_by at x w).entries) ≤ ways_left w = less in
+            inr (omega (arith, left, few))
+      ]
+
+  rung_quietens : (x : Due) (w : World) → Quietens (rung d token x w) w
+  rung_quietens (due.Again peer at text) w = inl (omega arith, omega arith)
+  rung_quietens (due.Silent key branch method at) w = signalled_quietens at (signal.Silent branch method) w refl
+  rung_quietens (due.Over key at) w = signalled_quietens at (signal.Over key) w refl
+  rung_quietens due.Nothing w = inl (omega arith, omega arith)
+
+  -- ---- the deadline that fires
+
+  -- less waits, or there are fewer ways
+  abbrev Falls : World → World → Type 0
+  Falls v w = ((suc (waits v) ≤ waits w) × (ways_left v ≤ ways_left w)) ⊎ (suc (ways_left v) ≤ ways_left w)
+
+  falls_by : (v u w : World) → suc (waits u) ≤ waits w → ways_left u ≡ ways_left w → Quietens v u → Falls v w
+  falls_by v u w less same (inl quiet) =
+      let fewer : waits v ≤ waits u = quiet.0 in
+      let few : ways_left v ≤ ways_left u = quiet.1 in
+      inl (omega (arith, less, fewer), omega (arith, few, same))
+  falls_by v u w less same (inr fewer) = let few : suc (ways_left v) ≤ ways_left u = fewer in inr (omega (arith, few, same))
+
+  -- which one is first
+  abbrev IsFirstOf : Option Next → Option Chosen → Option Deadline → Type 0
+  IsFirstOf message call None = Unit {0}
+  IsFirstOf message call (Some OfMessage) = (next : Next) × (message ≡ Some next)
+  IsFirstOf message call (Some (OfCall armed others)) = (first : Chosen) × (call ≡ Some first) × (others ≡ first.others)
+
+  either_first : (b : Bool) (next : Next) (call : Chosen) → IsFirstOf (Some next) (Some call) (if b then Some OfMessage else Some (OfCall call.first call.others))
+  either_first true next call = (next, refl)
+  either_first false next call = (call, refl, refl)
+
+  is_first : (message : Option Next) (call : Option Chosen) → IsFirstOf message call (first_of message call)
+  is_first None None = tt
+  is_first (Some next) None = (next, refl)
+  is_first None (Some call) = (call, refl, refl)
+  is_first (Some next) (Some call) = either_first (comes_before next call.first) next call
+
+  module _ (use_up : FiringsUseUp) (begins : BeginsChangeNothing) where
+    begun_left : (w : World) → all_left (live (begun w).acts) ≡ all_left (live w.acts)
+    begun_left w = ap all_left (begins w.acts w.steps)
+
+    -- a deadline of a message
+    message_falls : (now : ℕ) (w : World) (next : Next) → next_due now (live w.acts) ≡ Some next → Falls (fired d token now OfMessage w) w
+    message_falls now w next is =
+        let begun_acts : List Done = DidBegin w.steps ∷ w.acts in
+        let u : World = record (begun w) { acts = fires begun_acts (next_due now (live begun_acts)) } in
+        let first : next_due now (live begun_acts) ≡ Some next = ap (next_due now) (begins w.acts w.steps) ∙ is in
+        let fewer : suc (all_left (live (fires begun_acts (Some next)))) ≤ all_left (live begun_acts) = use_up begun_acts now next first in
+        let there : all_left (live u.acts) ≡ all_left (live (fires begun_acts (Some next))) = ap (λ (o : Option Next). all_left (live (fires begun_acts o))) first in
+        let same : all_left (live begun_acts) ≡ all_left (live w.acts) = begun_left w in
+        falls_by (fired d token now OfMessage w) u w (omega (arith, fewer, there, same)) refl (rung_quietens (says_due (next_due now (live begun_acts))) u)
+
+    -- one of a call
+    call_falls : (now : ℕ) (armed : Armed) (others : List Armed) (w : World) → suc (length others) ≡ length w.armed → Falls (fired d token now (OfCall armed others) w) w
+    call_falls now armed others w fewer =
+        let u : World = record (begun w) { armed = others } in
+        let same : all_left (live u.acts) ≡ all_left (live w.acts) = begun_left w in
+        falls_by (fired d token now (OfCall armed others) w) u w (omega (arith, fewer, same)) refl (signalled_quietens armed.at (signal.Due armed.call armed.what) u refl)
+
+    first_falls : (now : ℕ) (x : Deadline) (w : World) → IsFirstOf (next_due now (live w.acts)) (first_armed now w.armed) (Some x) → Falls (fired d token now x w) w
+    first_falls now OfMessage w is = message_falls now w is.0 is.1
+    first_falls now (OfCall armed others) w is =
+        let fewer : suc (length is.0.others) ≡ length w.armed = subst (IsFewer w.armed) is.1 (first_length now w.armed) in
+        call_falls now armed others w (ap (λ (l : List Armed). suc (length l)) is.2 ∙ fewer)
+
+    fired_falls : (now : ℕ) (x : Deadline) (w : World) → due_in now w ≡ Some x → Falls (fired d token now x w) w
+    fired_falls now x w e = first_falls now x w (subst (IsFirstOf (next_due now (live w.acts)) (first_armed now w.armed)) e (is_first (next_due now (live w.acts)) (first_armed now w.armed)))
+
+    -- ---- enough
+
+    abbrev Settles : ℕ → World → Type 0
+    Settles now w = (fuel : ℕ) × IsSettled d token fuel now w
+
+    one_more_settles : (now : ℕ) (x : Deadline) (w : World) → due_in now w ≡ Some x → Settles now (fired d token now x w) → Settles now w
+    one_more_settles now x w e rest = (suc rest.0, subst (λ (o : Option Deadline). due_in now (settled d token rest.0 now (fired_if d token now o w)) ≡ None) (sym e) rest.1)
+
+    module _ (most : ℕ) (fewer_settle : (now : ℕ) (w : World) → suc (ways_left w) ≤ most → Settles now w) where
+      falls_settle : (n now : ℕ) (v w : World) → ((u : World) → ways_left u ≤ most → suc (waits u) ≤ n → Settles now u) → ways_left w ≤ most → waits w ≤ n → Falls v w → Settles now v
+      falls_settle n now v w rest ways few (inl less) =
+          let waiting : suc (waits v) ≤ waits w = less.0 in
+          let left : ways_left v ≤ ways_left w = less.1 in
+          rest v (omega (arith, left, ways)) (omega (arith, waiting, few))
+      falls_settle n now v w rest ways few (inr less) = let left : suc (ways_left v) ≤ ways_left w = less in fewer_settle now v (omega (arith, left, ways))
+
+      settles_at : (n now : ℕ) (w : World) (o : Option Deadline) → due_in now w ≡ o → ((u : World) → ways_left u ≤ most → suc (waits u) ≤ n → Settles now u) → ways_left w ≤ most → waits w ≤ n → Settles now w
+      settles_at n now w None e rest ways few = (0, e)
+      settles_at n now w (Some x) e rest ways few = one_more_settles now x w e (falls_settle n now (fired d token now x w) w rest ways few (fired_falls now x w e))
+
+      by_waits : (n now : ℕ) (w : World) → ways_left w ≤ most → waits w ≤ n → Settles now w
+      by_waits zero now w ways few = settles_at zero now w (due_in now w) refl (λ u left none. absurd (omega (arith, none))) ways few
+      by_waits (suc n) now w ways few = settles_at (suc n) now w (due_in now w) refl (λ u left less. by_waits n now u left (omega (arith, less))) ways few
+
+    by_ways : (most now : ℕ) (w : World) → ways_left w ≤ most → Settles now w
+    by_ways zero now w ways = by_waits zero (λ now w none. absurd (omega (arith, none))) (waits w) now w ways (omega arith)
+    by_ways (suc most) now w ways = by_waits (suc most) (λ now w fewer. by_ways most now w (omega (arith, fewer))) (waits w) now w ways (omega arith)
+
+    settles : (now : ℕ) (w : World) → Settles now w
+    settles now w = by_ways (ways_left w) now w (omega arith)
 
   -- ---- whole runs
 
-  module _ (d : Directory) (token : List ℕ) where
-    more_one : (n more moment : ℕ) (x : Digest) (w : World) → IsSettled n (clock_at w moment) w → one_more d token (n + more) moment x w ≡ one_more d token n moment x w
-    more_one n more moment x w e = ap (came d token (clock_at w moment) x) (settled_more n more (clock_at w moment) w e)
+  more_one : (n more : ℕ) (x : Notice) (w : World) → IsSettled d token n (clock_at w x.at) w → one_more d token (n + more) x w ≡ one_more d token n x w
+  more_one n more x w e = ap (came d token (clock_at w x.at) x.digest x.took) (settled_more n more (clock_at w x.at) w e)
 
-    enough_more : (n more : ℕ) (xs : List (ℕ × Digest)) (w : World) → IsEnoughAfter d token n xs w → IsEnoughAfter d token (n + more) xs w
-    enough_more n more [] w e = e
-    enough_more n more (x ∷ xs) w e = (
-      ap (due_in (clock_at w x.0)) (settled_more n more (clock_at w x.0) w e.0) ∙ e.0,
-      subst (λ (u : World). IsEnoughAfter d token (n + more) xs u) (sym (more_one n more x.0 x.1 w e.0)) (enough_more n more xs (one_more d token n x.0 x.1 w) e.1),
-    )
+  enough_more : (n more : ℕ) (xs : List Notice) (w : World) → IsEnoughAfter d token n xs w → IsEnoughAfter d token (n + more) xs w
+  enough_more n more [] w e = e
+  enough_more n more (x ∷ xs) w e = (
+    ap (due_in (clock_at w x.at)) (settled_more n more (clock_at w x.at) w e.0) ∙ e.0,
+    subst (λ (u : World). IsEnoughAfter d token (n + more) xs u) (sym (more_one n more x w e.0)) (enough_more n more xs (one_more d token n x w) e.1),
+  )
 
-    after_more : (n more : ℕ) (xs : List (ℕ × Digest)) (w : World) → IsEnoughAfter d token n xs w → after d token (n + more) xs w ≡ after d token n xs w
-    after_more n more [] w e = refl
-    after_more n more (x ∷ xs) w e =
-        ap (after d token (n + more) xs) (more_one n more x.0 x.1 w e.0)
-        ∙ after_more n more xs (one_more d token n x.0 x.1 w) e.1
+  after_more : (n more : ℕ) (xs : List Notice) (w : World) → IsEnoughAfter d token n xs w → after d token (n + more) xs w ≡ after d token n xs w
+  after_more n more [] w e = refl
+  after_more n more (x ∷ xs) w e =
+      ap (after d token (n + more) xs) (more_one n more x w e.0)
+      ∙ after_more n more xs (one_more d token n x w) e.1
 
-    enough_after : (xs : List (ℕ × Digest)) (w : World) → (fuel : ℕ) × IsEnoughAfter d token fuel xs w
+  module _ (use_up : FiringsUseUp) (begins : BeginsChangeNothing) where
+    enough_after : (xs : List Notice) (w : World) → (fuel : ℕ) × IsEnoughAfter d token fuel xs w
     enough_after [] w = (0, tt)
     enough_after (x ∷ xs) w =
-        let n : ℕ = all_left (live w.acts) in
-        let first : IsSettled n (clock_at w x.0) w = enough_at n (clock_at w x.0) w (omega arith) in
-        let rest = enough_after xs (one_more d token n x.0 x.1 w) in
+        let some = settles use_up begins (clock_at w x.at) w in
+        let n : ℕ = some.0 in
+        let first : IsSettled d token n (clock_at w x.at) w = some.1 in
+        let rest = enough_after xs (one_more d token n x w) in
         let turned : rest.0 + n ≡ n + rest.0 = omega arith in (
           n + rest.0,
           (
-            ap (due_in (clock_at w x.0)) (settled_more n rest.0 (clock_at w x.0) w first) ∙ first,
-            subst (λ (u : World). IsEnoughAfter d token (n + rest.0) xs u) (sym (more_one n rest.0 x.0 x.1 w first))
-                (subst (λ (k : ℕ). IsEnoughAfter d token k xs (one_more d token n x.0 x.1 w)) turned (enough_more rest.0 n xs (one_more d token n x.0 x.1 w) rest.1)),
+            ap (due_in (clock_at w x.at)) (settled_more n rest.0 (clock_at w x.at) w first) ∙ first,
+            subst (λ (u : World). IsEnoughAfter d token (n + rest.0) xs u) (sym (more_one n rest.0 x w first))
+                (subst (λ (k : ℕ). IsEnoughAfter d token k xs (one_more d token n x w)) turned (enough_more rest.0 n xs (one_more d token n x w) rest.1)),
           ),
         )
 
-  pub always : GivesAlways
-  always d token loaded happened = enough_after d token (digests d happened) (beginning loaded)
+pub always : FiringsUseUp → BeginsChangeNothing → GivesAlways
+always use_up begins d token loaded happened = enough_after d token use_up begins (notices d happened) (beginning loaded)
 
-  pub more_changes_nothing : MoreChangesNothing
-  more_changes_nothing d token loaded happened fuel more e = ap (λ (w : World). w.offers) (after_more d token fuel more (digests d happened) (beginning loaded) e)
+-- more of them change nothing of what was done
+pub same_world : (d : Directory) (token : List ℕ) (loaded : Texts) (happened : List Happened) (fuel more : ℕ) → IsEnough d token loaded fuel happened
+    → world_after d token loaded (fuel + more) happened ≡ world_after d token loaded fuel happened
+same_world d token loaded happened fuel more e = after_more d token fuel more (notices d happened) (beginning loaded) e
 
-  pub once : GivesOnce
-  once d token loaded happened offers others g h =
-      let turned : g.fuel + h.fuel ≡ h.fuel + g.fuel = omega arith in
-      g.exact ∙ (sym (more_changes_nothing d token loaded happened g.fuel h.fuel g.enough)
-      ∙ (ap (λ (k : ℕ). gives d token loaded k happened) turned
-      ∙ (more_changes_nothing d token loaded happened h.fuel g.fuel h.enough ∙ sym h.exact)))
+pub more_changes_nothing : MoreChangesNothing
+more_changes_nothing d token loaded happened fuel more e = ap (λ (w : World). w.offers) (same_world d token loaded happened fuel more e)
+
+pub once : GivesOnce
+once d token loaded happened offers others g h =
+    let turned : g.fuel + h.fuel ≡ h.fuel + g.fuel = omega arith in
+    g.exact ∙ (sym (more_changes_nothing d token loaded happened g.fuel h.fuel g.enough)
+    ∙ (ap (λ (k : ℕ). gives d token loaded k happened) turned
+    ∙ (more_changes_nothing d token loaded happened h.fuel g.fuel h.enough ∙ sym h.exact)))

@@ -1,13 +1,20 @@
 -- The texts of a run are those that were loaded and, over them, those that were kept; and the last one counts.
 use Rattle.std.proofs.Common.{◌≡◌, ℕ, zero, suc, List, [], ◌∷◌, ◌++◌, refl, sym, ap, ◌∙◌, Bool, true, false, Option, Some, None, Ok, Err, inl, inr, subst, codes}
-use Rattle.std.specs.Prelude.{◌==◌, ◌≢◌, if◌then◌else◌}
-use Rattle.std.specs.Option.{option_to_list}
+use Rattle.std.specs.Prelude.{◌==◌, ◌≢◌, cond, if◌then◌else◌}
+use Rattle.std.specs.Cmp.{nat_cmp_total, tied_itself}
+use Rattle.std.specs.FinMap.{FinMap, empty, get, get-empty, get-insert, insert, nat_cmp-IsAntisymmetric}
+use Rattle.std.specs.Ordering.{is_eq, nat_cmp}
+use Rattle.std.specs.declared.cmp.Ordering.{Ordering}
+use Rattle.std.specs.declared.cmp.Ordering.TheVariants.{Less, Equal, Greater}
+use Rattle.std.specs.Option.{option_map, option_to_list}
 use Rattle.std.proofs.lemmas.Bool.{cases_Bool, eqb-true, eqb-false}
 use Rattle.mmtel_answers.specs.Said.{Said}
 use Rattle.mmtel_directory.specs.declared.directories.Directory.{Directory}
 use Rattle.mmtel_directory.specs.declared.directories.WebDirectory.{WebDirectory}
 use Rattle.mmtel_charging.specs.declared.rows.Row.{Row}
-use Rattle.mmtel_message.specs.Faults.{is_method}
+use Rattle.mmtel_b2bua.specs.Histories.{Hears, hears_after}
+use Rattle.mmtel_b2bua.specs.declared.signals.Signal.{Signal}
+use Rattle.mmtel_b2bua.specs.declared.signals.Signal.TheVariants as signal
 use Rattle.mmtel_message.specs.Message.{Message}
 use Rattle.mmtel_message.specs.Reads.{Read, reads}
 use Rattle.mmtel_message.specs.declared.messages.Start.{Start}
@@ -15,26 +22,36 @@ use Rattle.mmtel_message.specs.declared.reading.ReadFault.TheVariants as fault
 use Rattle.mmtel_outside.specs.declared.events.Event.{Event}
 use Rattle.mmtel_outside.specs.declared.events.Event.TheVariants as event
 use Rattle.mmtel_sheet_texts.specs.Texts.{put, text_at}
-use Rattle.mmtel_transaction.specs.Answers.{Next, fires, hear_says, is_merged, next_due, says_due}
+use Rattle.mmtel_transaction.specs.Answers.{fires, hear_says, is_merged, next_due, says_due}
 use Rattle.mmtel_transaction.specs.Calls.{live}
 use Rattle.mmtel_transaction.specs.declared.words.Due.{Due}
 use Rattle.mmtel_transaction.specs.declared.words.Due.TheVariants as due
+use Rattle.mmtel_transaction.specs.declared.words.Emit.{Emit}
+use Rattle.mmtel_transaction.specs.declared.words.Emit.TheVariants as emit
 use Rattle.mmtel_transaction.specs.declared.words.Heard as transaction
 use Rattle.mmtel_transaction.specs.declared.words.Heard.TheVariants as heard
 use Rattle.mmtel_transaction.specs.declared.words.TKey.{TKey}
 use Rattle.mmtel_trust.specs.Peers.{peer_at}
 use Rattle.mmtel_types.specs.declared.addrs.Addr.{Addr}
 use Rattle.mmtel_types.specs.declared.numbers.Account.{Account}
+use Rattle.mmtel_types.specs.declared.numbers.CallNo.{CallNo}
 use Rattle.mmtel_types.specs.declared.numbers.Peer.{Peer}
+use Rattle.mmtel_types.specs.declared.sides.Side.{Side}
 use Rattle.mmtel_web.specs.Answers.{Kept}
-use Rattle.mmtel_in_force.specs.Texts.{Texts, put_each, put_kept}
+use Rattle.mmtel_in_force.specs.Texts.{Registrations, Texts, end_at, put_each, put_kept}
+use Rattle.mmtel_sheet_grammar.specs.Texts.{kept_sheet}
+use Rattle.mmtel_sheet_values.specs.View.{InForce, end_in, nothing_in_force, sheet_in}
+use Rattle.mmtel_sheet_values.specs.declared.values.Sheet.{Sheet}
 use Rattle.mmtel_web.specs.Uploads.{kept_upload, upload_in}
-use Rattle.mmtel_run.specs.Events.{Digest, Nothing, Refused, Heard, Asked, Happened, digest, digest_datagram, digest_event, digest_from, digest_read, digests, message_in, refused_by}
-use Rattle.mmtel_run.specs.InForce.{LastIsInForce, TextsAreThoseKept, last_of, last_or, text_for, upload_at, uploads_of}
-use Rattle.mmtel_run.specs.Refusals.{Course, Refuse, Open, Register, course}
+use Rattle.mmtel_run.specs.Calls.{are_full, arrived, asked_by, named_by, site_of}
+use Rattle.mmtel_run.specs.Deadlines.{Deadline, OfCall, OfMessage}
+use Rattle.mmtel_run.specs.Events.{Digest, Nothing, Refused, Heard, Asked, Happened, Notice, digest_datagram, digest_event, digest_from, digest_read, message_in, notice_of, notices, refused_by}
+use Rattle.mmtel_run.specs.InForce.{CallsAreToldWhatIsInForce, LastIsInForce, TextsAreThoseKept, last_of, last_or, text_for, upload_at, uploads_of}
+use Rattle.mmtel_run.specs.Records.{in_force, with_ends, with_records}
+use Rattle.mmtel_run.specs.Refusals.{Course, Refuse, Enter, Open, Register, course}
 use Rattle.mmtel_run.specs.Refusals as refusals
 use Rattle.mmtel_run.specs.Run.{after, clock_at, due_in, fire_one, fired_if, one_more, settled}
-use Rattle.mmtel_run.specs.World.{World, answering, beginning, begun, came, fired, heard_again, hearing, met, repeating, rung, taking, told, unbuilt}
+use Rattle.mmtel_run.specs.World.{World, answering, beginning, begun, calls_in, came, cancelling, cancelling_call, emit_one, emitted, entering, fired, handing, heard_now, hearing, met, repeating, rows_waiting, rung, signalled, taking, told}
 
 -- ---- the last one counts
 
@@ -75,24 +92,52 @@ module _ (its : PutsItsOwn) (others : PutsNoOther) where
 
 -- ---- what each deed leaves
 
-rung_texts : (x : Due) (w : World) → (rung x w).texts ≡ w.texts
-rung_texts (due.Again peer at text) w = refl
-rung_texts (due.Silent key branch method at) w = refl
-rung_texts (due.Over key at) w = refl
-rung_texts due.Nothing w = refl
+emit_texts : (at : ℕ) (x : Emit) (w : World) → (emit_one at x w).texts ≡ w.texts
+emit_texts at (emit.Ask peer message) w = refl
+emit_texts at (emit.Reply key message) w = refl
+emit_texts at (emit.Plain peer text) w = refl
+emit_texts at (emit.Ack key message) w = refl
+emit_texts at (emit.Arm call what when) w = refl
+emit_texts at (emit.ArmSeat room seat what when) w = refl
 
-if_fired_texts : (now : ℕ) (o : Option Next) (w : World) → (fired_if now o w).texts ≡ w.texts
-if_fired_texts now None w = refl
-if_fired_texts now (Some n) w = rung_texts (says_due (next_due now (live (begun w).acts))) _
+emitted_texts : (at : ℕ) (xs : List Emit) (w : World) → (emitted at xs w).texts ≡ w.texts
+emitted_texts at [] w = refl
+emitted_texts at (x ∷ xs) w = emitted_texts at xs (emit_one at x w) ∙ emit_texts at x w
 
-settled_texts : (fuel now : ℕ) (w : World) → (settled fuel now w).texts ≡ w.texts
-settled_texts zero now w = refl
-settled_texts (suc fuel) now w = settled_texts fuel now (fire_one now w) ∙ if_fired_texts now (due_in now w) w
+handing_texts : (took : Bool) (rows : List Row) (w : World) → (handing took rows w).texts ≡ w.texts
+handing_texts took [] w = refl
+handing_texts true (row ∷ rows) w = refl
+handing_texts false (row ∷ rows) w = refl
+
+module _ (d : Directory) (token : List ℕ) where
+  signalled_texts : (at : ℕ) (x : Signal) (w : World) → (signalled d token at x w).texts ≡ w.texts
+  signalled_texts at x w =
+      emitted_texts at (hears_after (site_of d) w.deeds (heard_now token at x w)).desk.out
+      (record w { deeds = Hears (heard_now token at x w) ∷ w.deeds; drawn = (hears_after (site_of d) w.deeds (heard_now token at x w)).desk.tokens.drawn })
+
+  rung_texts : (x : Due) (w : World) → (rung d token x w).texts ≡ w.texts
+  rung_texts (due.Again peer at text) w = refl
+  rung_texts (due.Silent key branch method at) w = signalled_texts at (signal.Silent branch method) w
+  rung_texts (due.Over key at) w = signalled_texts at (signal.Over key) w
+  rung_texts due.Nothing w = refl
+
+  fired_texts : (now : ℕ) (x : Deadline) (w : World) → (fired d token now x w).texts ≡ w.texts
+  fired_texts now OfMessage w = rung_texts (says_due (next_due now (live (begun w).acts))) (record (begun w) { acts = fires (begun w).acts (next_due now (live (begun w).acts)) })
+  fired_texts now (OfCall armed others) w = signalled_texts armed.at (signal.Due armed.call armed.what) (record (begun w) { armed = others })
+
+  if_fired_texts : (now : ℕ) (o : Option Deadline) (w : World) → (fired_if d token now o w).texts ≡ w.texts
+  if_fired_texts now None w = refl
+  if_fired_texts now (Some x) w = fired_texts now x w
+
+  settled_texts : (fuel now : ℕ) (w : World) → (settled d token fuel now w).texts ≡ w.texts
+  settled_texts zero now w = refl
+  settled_texts (suc fuel) now w = settled_texts fuel now (fire_one d token now w) ∙ if_fired_texts now (due_in now w) w
 
 module _ (d : Directory) (token : List ℕ) (at : ℕ) (s : Said) where
   taking_texts : (key : TKey) (c : Course) (w : World) → (taking d token at key s c w).texts ≡ w.texts
   taking_texts key (Refuse answer) w = refl
-  taking_texts key (Open aim) w = refl
+  taking_texts key (Enter call side) w = signalled_texts d token at (signal.Request call side key s) w
+  taking_texts key Open w = signalled_texts d token at (arrived d.names.accounts key s) w
   taking_texts key (Register account seconds) w = refl
   taking_texts key refusals.Unbuilt w = refl
 
@@ -100,18 +145,26 @@ module _ (d : Directory) (token : List ℕ) (at : ℕ) (s : Said) where
   repeating_texts None w = refl
   repeating_texts (Some sent) w = refl
 
-  again_texts : (b : Bool) (o : Option (Peer × List ℕ)) (w : World) → (if b then unbuilt at w else repeating at o w).texts ≡ w.texts
-  again_texts true o w = refl
-  again_texts false o w = repeating_texts o w
+  cancelling_call_texts : (key invite : TKey) (o : Option (CallNo × Side)) (w : World) → (cancelling_call d token at key s invite o w).texts ≡ w.texts
+  cancelling_call_texts key invite None w = refl
+  cancelling_call_texts key invite (Some asked) w = signalled_texts d token at (signal.Cancel asked.0 key s invite) w
+
+  cancelling_texts : (key : TKey) (invite : Option TKey) (w : World) → (cancelling d token at key s invite w).texts ≡ w.texts
+  cancelling_texts key None w = refl
+  cancelling_texts key (Some invite) w = cancelling_call_texts key invite (asked_by invite (calls_in d w).entries) w
+
+  entering_texts : (f : CallNo → Side → Signal) (o : Option (CallNo × Side)) (w : World) → (entering d token at f o w).texts ≡ w.texts
+  entering_texts f None w = refl
+  entering_texts f (Some x) w = signalled_texts d token at (f x.0 x.1) w
 
   answering_texts : (o : Option transaction.Heard) (w : World) → (answering d token at s o w).texts ≡ w.texts
   answering_texts None w = refl
-  answering_texts (Some (heard.Fresh key message)) w = taking_texts key (course d (is_merged key.0 (live w.acts)) s.heard) w
-  answering_texts (Some (heard.Answer key message)) w = refl
-  answering_texts (Some (heard.Repeat sent)) w = again_texts (is_method (codes "CANCEL") s.heard.start) sent w
+  answering_texts (Some (heard.Fresh key message)) w = taking_texts key (course d (is_merged key.0 (live w.acts)) (are_full (calls_in d w).entries) (named_by s.heard (calls_in d w).entries) s.heard) w
+  answering_texts (Some (heard.Answer key message)) w = signalled_texts d token at (signal.Answer key s) w
+  answering_texts (Some (heard.Repeat sent)) w = repeating_texts sent w
   answering_texts (Some (heard.Acked key)) w = refl
-  answering_texts (Some (heard.Cancel key invite message)) w = refl
-  answering_texts (Some (heard.AckOf2xx message)) w = refl
+  answering_texts (Some (heard.Cancel key invite message)) w = cancelling_texts key invite w
+  answering_texts (Some (heard.AckOf2xx message)) w = entering_texts (λ call side. signal.Ack call side s) (named_by s.heard (calls_in d w).entries) w
   answering_texts (Some heard.Stray) w = refl
 
   hearing_texts : (o : Option transaction.Heard) (w : World) → (hearing at s o w).texts ≡ w.texts
@@ -137,9 +190,14 @@ module _ (d : Directory) (token : List ℕ) where
   met_texts at (Heard said) w = told_texts d token at said w
   met_texts at (Asked request kept rows) w = refl
 
-  more_texts : (fuel moment : ℕ) (x : Digest) (w : World) → (one_more d token fuel moment x w).texts ≡ put_kept (kept_in d.names x) w.texts
-  more_texts fuel moment x w =
-      met_texts (clock_at w moment) x _ ∙ ap (put_kept (kept_in d.names x)) (settled_texts fuel (clock_at w moment) w)
+  came_texts : (at : ℕ) (x : Digest) (took : Bool) (w : World) → (came d token at x took w).texts ≡ put_kept (kept_in d.names x) w.texts
+  came_texts at x took w =
+      let left : World = met d token at x (record (begun w) { clock = at }) in
+      handing_texts took (rows_waiting d left) left ∙ met_texts at x (record (begun w) { clock = at })
+
+  more_texts : (fuel : ℕ) (x : Notice) (w : World) → (one_more d token fuel x w).texts ≡ put_kept (kept_in d.names x.digest) w.texts
+  more_texts fuel x w =
+      came_texts (clock_at w x.at) x.digest x.took (settled d token fuel (clock_at w x.at) w) ∙ ap (put_kept (kept_in d.names x.digest)) (settled_texts d token fuel (clock_at w x.at) w)
 
   -- nothing is kept of a datagram
   refused_keeps : (peer : Peer) (source : Addr) (o : Option (Message Start)) → kept_in d.names (refused_by peer source o) ≡ None
@@ -172,11 +230,11 @@ module _ (d : Directory) (token : List ℕ) where
   each_text None xs t = refl
   each_text (Some x) xs t = refl
 
-  after_texts : (fuel : ℕ) (hs : List Happened) (w : World) → (after d token fuel (digests d hs) w).texts ≡ put_each (uploads_of d.names hs) w.texts
+  after_texts : (fuel : ℕ) (hs : List Happened) (w : World) → (after d token fuel (notices d hs) w).texts ≡ put_each (uploads_of d.names hs) w.texts
   after_texts fuel [] w = refl
   after_texts fuel (h ∷ hs) w =
       after_texts fuel hs _
-      ∙ (ap (put_each (uploads_of d.names hs)) (more_texts fuel _ (digest d h) w)
+      ∙ (ap (put_each (uploads_of d.names hs)) (more_texts fuel (notice_of d h) w)
       ∙ (ap (λ (o : Option (Account × List ℕ)). put_each (uploads_of d.names hs) (put_kept o w.texts)) (event_keeps h.event h.kept h.rows)
       ∙ sym (each_text (upload_at d.names h.event h.kept) (uploads_of d.names hs) w.texts)))
 
@@ -187,3 +245,48 @@ each_append (x ∷ xs) ys t = each_append xs ys (put x.0 x.1 t)
 pub texts_are_those_kept : TextsAreThoseKept
 texts_are_those_kept d token loaded fuel happened =
     after_texts d token fuel happened (beginning loaded) ∙ sym (each_append loaded (uploads_of d.names happened) [])
+
+-- ---- what calls are told
+
+-- of a map of numbers: what was put is found, and nothing else changes
+put_found : {X : Type 0} (m : FinMap nat_cmp X) (a b : ℕ) (x : X) → a ≡ b → get (insert m a x) b ≡ Some x
+put_found {X} m a b x same =
+    let P : ℕ → Type 0 = λ n. get (insert m a x) n ≡ Some x in
+    subst P same (get-insert nat_cmp_total m a x a ∙ ap (λ (r : Ordering). cond (is_eq r) (Some x) (get m a)) (tied_itself nat_cmp_total a))
+
+put_apart : {X : Type 0} (m : FinMap nat_cmp X) (a b : ℕ) (x : X) → a ≢ b → get (insert m a x) b ≡ get m b
+put_apart {X} m a b x apart =
+    get-insert nat_cmp_total m a x b
+    ∙ elim (nat_cmp b a) as (λ r. nat_cmp b a ≡ r → cond (is_eq r) (Some x) (get m b) ≡ get m b) [
+      | Less ↦ λ e. refl
+      | Equal ↦ λ e. absurd (apart (sym (nat_cmp-IsAntisymmetric b a e)))
+      | Greater ↦ λ e. refl
+    ] refl
+
+sheets_stay : (rs : Registrations) (v : InForce) → (with_ends rs v).sheets ≡ v.sheets
+sheets_stay [] v = refl
+sheets_stay (r ∷ rs) v = sheets_stay rs v
+
+none_ends : (ts : Texts) → (with_records ts nothing_in_force).ends ≡ empty
+none_ends [] = refl
+none_ends (t ∷ ts) = none_ends ts
+
+told_sheet : (ts : Texts) (a : Account) → sheet_in (with_records ts nothing_in_force) a.0 ≡ option_map kept_sheet (text_at ts a)
+told_sheet [] a = get-empty nat_cmp a.0
+told_sheet (t ∷ ts) a = elim (cases_Bool (t.0.0 == a.0)) [
+  | inl y ↦ rw y (put_found (with_records ts nothing_in_force).sheets t.0.0 a.0 (kept_sheet t.1) (eqb-true t.0.0 a.0 y))
+  | inr n ↦ rw n (put_apart (with_records ts nothing_in_force).sheets t.0.0 a.0 (kept_sheet t.1) (eqb-false t.0.0 a.0 n) ∙ told_sheet ts a)
+]
+
+told_end : (rs : Registrations) (v : InForce) (a : Account) → v.ends ≡ empty → end_in (with_ends rs v) a.0 ≡ end_at rs a
+told_end [] v a none = ap (λ (m : FinMap nat_cmp ℕ). get m a.0) none ∙ get-empty nat_cmp a.0
+told_end (r ∷ rs) v a none = elim (cases_Bool (r.0.0 == a.0)) [
+  | inl y ↦ rw y (put_found (with_ends rs v).ends r.0.0 a.0 r.1 (eqb-true r.0.0 a.0 y))
+  | inr n ↦ rw n (put_apart (with_ends rs v).ends r.0.0 a.0 r.1 (eqb-false r.0.0 a.0 n) ∙ told_end rs v a none)
+]
+
+pub told_what_is_in_force : CallsAreToldWhatIsInForce
+told_what_is_in_force texts registrations account = record {
+  sheet = ap (λ (m : FinMap nat_cmp Sheet). get m account.0) (sheets_stay registrations (with_records texts nothing_in_force)) ∙ told_sheet texts account;
+  ends = told_end registrations (with_records texts nothing_in_force) account (none_ends texts);
+}

@@ -1,5 +1,9 @@
-mod Deeds
+mod Drawing
+mod Earlier
 mod Enough
+mod Filed
 mod InForce
 mod Kinship
-mod Secret
+mod Lasting
+mod Seen
+mod Waning

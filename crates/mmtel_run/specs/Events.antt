@@ -1,5 +1,5 @@
 -- What a run hears: what happened, and of it what the rules of a run read, with its moment. `digest` is the only word that sees bytes.
-use Rattle.std.specs.Prelude.{ℕ, Option, Some, None, List, Ok, Err, map}
+use Rattle.std.specs.Prelude.{ℕ, Bool, Option, Some, None, List, Ok, Err, map}
 use Rattle.mmtel_answers.specs.Said.{Said, said}
 use Rattle.mmtel_charging.specs.declared.rows.Row.{Row}
 use Rattle.mmtel_directory.specs.declared.directories.Directory.{Directory}
@@ -18,11 +18,12 @@ use Rattle.mmtel_web.specs.Answers.{Kept}
 
 -- ---- what happened
 
--- an event, and what the keeper answered in it: whether its call was made, failed, or was given up for want of memory before anything changed, and the charging rows that it gave. Of an event that asks nothing of the keeper nobody reads these
+-- an event, and what the keeper answered in it: whether its call was made, failed, or was given up for want of memory before anything changed, and the charging rows that it gave; and whether it took the rows that were handed to it at the end. Of what was not asked of the keeper nobody reads these
 pub record Happened : Type 0 where
   pub event : Event
   pub kept : Kept
   pub rows : List Row
+  pub took : Bool
 
 -- ---- what is read of it
 
@@ -75,9 +76,18 @@ moment_of (event.Datagram from at bytes) = at
 moment_of (event.Web at bytes) = at
 moment_of (event.Quiet at) = at
 
--- what is read of all that happened in a run, each with its moment
-abbrev pub digests : Directory → List Happened → List (ℕ × Digest)
-digests directory happened = map (λ came. (moment_of came.event, digest directory came)) happened
+-- what a run notices of one event: its moment, what is read of it, and whether the keeper took the rows at its end
+pub record Notice : Type 0 where
+  pub at : ℕ
+  pub digest : Digest
+  pub took : Bool
+
+abbrev pub notice_of : Directory → Happened → Notice
+notice_of directory came = record { at = moment_of came.event; digest = digest directory came; took = came.took }
+
+-- of all that happened in a run
+abbrev pub notices : Directory → List Happened → List Notice
+notices directory happened = map (λ came. notice_of directory came) happened
 
 -- the events alone
 abbrev pub events_in : List Happened → List Event

@@ -1,6 +1,11 @@
 -- Which record is in force, in the words of its rule: at each step that of the account's last upload that was kept before it, else the one that was loaded last, else the empty record (3GPP TS 24.623 §5).
 use Rattle.std.specs.Prelude.{◌≡◌, ℕ, ◌==◌, List, [], ◌∷◌, ◌++◌, Option, Some, None, if◌then◌else◌}
-use Rattle.std.specs.Option.{option_to_list}
+use Rattle.std.specs.Option.{option_map, option_to_list}
+use Rattle.mmtel_b2bua.specs.Tables.{taken}
+use Rattle.mmtel_b2bua.specs.declared.entries.Entry.{Entry}
+use Rattle.mmtel_b2bua.specs.declared.signals.Signal.{Signal}
+use Rattle.mmtel_call.specs.Site.{Site}
+use Rattle.mmtel_desk.specs.declared.desks.Desk.{Desk}
 use Rattle.mmtel_directory.specs.declared.directories.Directory.{Directory}
 use Rattle.mmtel_directory.specs.declared.directories.WebDirectory.{WebDirectory}
 use Rattle.mmtel_http.specs.Requests.{request_of}
@@ -9,11 +14,13 @@ use Rattle.mmtel_outside.specs.declared.events.Event.TheVariants as event
 use Rattle.mmtel_sheet_texts.specs.Texts.{text_at}
 use Rattle.mmtel_types.specs.declared.numbers.Account.{Account}
 use Rattle.mmtel_web.specs.Answers.{Kept}
-use Rattle.mmtel_in_force.specs.Texts.{Texts, put_each}
+use Rattle.mmtel_in_force.specs.Texts.{Registrations, Texts, end_at, put_each}
+use Rattle.mmtel_sheet_grammar.specs.Texts.{kept_sheet}
+use Rattle.mmtel_sheet_values.specs.View.{InForce, end_in, sheet_in}
 use Rattle.mmtel_web.specs.Uploads.{kept_upload, upload_in}
-use Rattle.mmtel_run.specs.Events.{Happened, digests}
-use Rattle.mmtel_run.specs.Run.{after}
-use Rattle.mmtel_run.specs.World.{beginning}
+use Rattle.mmtel_run.specs.Events.{Happened}
+use Rattle.mmtel_run.specs.Records.{in_force}
+use Rattle.mmtel_run.specs.Run.{world_after}
 
 -- ---- what was kept
 
@@ -45,8 +52,28 @@ last_of (text ∷ others) account = last_or (last_of others account) (text_for a
 -- the texts of a run are those that were loaded, and over them those that were kept,
 abbrev pub TextsAreThoseKept : Type 0
 TextsAreThoseKept = (directory : Directory) (token : List ℕ) (loaded : Texts) (fuel : ℕ) (happened : List Happened) →
-    (after directory token fuel (digests directory happened) (beginning loaded)).texts ≡ put_each (loaded ++ uploads_of directory.names happened) []
+    (world_after directory token loaded fuel happened).texts ≡ put_each (loaded ++ uploads_of directory.names happened) []
 
 -- and of these the account's last one is its text
 abbrev pub LastIsInForce : Type 0
 LastIsInForce = (texts : Texts) (account : Account) → text_at (put_each texts []) account ≡ last_of texts account
+
+-- what calls are told of an account: the record that its text is, if it has one, and until when it is registered
+pub record ToldOf (texts : Texts) (registrations : Registrations) (account : Account) : Type 0 where
+  pub sheet : sheet_in (in_force texts registrations) account.0 ≡ option_map kept_sheet (text_at texts account)
+  pub ends : end_in (in_force texts registrations) account.0 ≡ end_at registrations account
+
+abbrev pub CallsAreToldWhatIsInForce : Type 0
+CallsAreToldWhatIsInForce = (texts : Texts) (registrations : Registrations) (account : Account) → ToldOf texts registrations account
+
+-- ---- and of that calls see no more
+
+-- two views in which each account has the same record and the same end of its registration
+pub record SaySame (one other : InForce) : Type 0 where
+  pub sheets : (account : ℕ) → sheet_in one account ≡ sheet_in other account
+  pub ends : (account : ℕ) → end_in one account ≡ end_in other account
+
+-- what a signal brings forth is the same by both
+abbrev pub CallsSeeWhatIsSaid : Type 0
+CallsSeeWhatIsSaid = (site : Site) (at number : ℕ) (one other : InForce) (signal : Signal) (entries : List Entry) (desk : Desk) → SaySame one other →
+    taken site at one number signal entries desk ≡ taken site at other number signal entries desk

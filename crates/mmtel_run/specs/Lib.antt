@@ -4,18 +4,22 @@ pub mod Headline
 -- What it hears, what was done in it, and what each deed adds:
 pub mod Events
 pub mod World
+-- Which deadline comes first, and to which call a message belongs:
+pub mod Deadlines
+pub mod Calls
 -- The records in force, and the registrations:
 pub mod Records
 pub mod InForce
--- What is done with a request, and what is answered and built:
+-- What is done with a request, and what is answered:
 pub mod Refusals
 pub mod Answers
-pub mod Openings
 -- The run:
 pub mod Run
 pub mod Short
 pub mod View
--- What two runs are compared by, and in what they are alike:
+-- The charging rows:
+pub mod Filed
+-- A message without its private places, and what does not rest on them:
 pub mod Mask
 pub mod Alike
 

@@ -1,7 +1,25 @@
--- What becomes of registrations: each stands until a moment (RFC 3261 §10.3).
-use Rattle.std.specs.Prelude.{ℕ, ◌+◌, ◌*◌, min}
+-- What becomes of registrations, each of which stands until a moment (RFC 3261 §10.3); and what the calls are told of records and registrations.
+use Rattle.std.specs.Prelude.{ℕ, ◌+◌, ◌*◌, min, List, [], ◌∷◌, Some}
+use Rattle.mmtel_in_force.specs.Texts.{Registrations, Texts}
+use Rattle.mmtel_sheet_grammar.specs.Texts.{kept_sheet}
+use Rattle.mmtel_sheet_values.specs.View.{InForce, nothing_in_force, with_end, with_sheet}
 use Rattle.mmtel_types.specs.Moments.{last_moment}
 
 -- the moment so many seconds from now, or the last one that there is, in milliseconds since 1970-01-01T00:00:00Z
 abbrev pub until_of : (now seconds : ℕ) → ℕ
 until_of now seconds = min (now + seconds * 1000) last_moment
+
+-- ---- what the calls are told (`specs/InForce` says of it that it is what is in force)
+
+-- the record that each text is, for its account; of an account's texts the first one counts
+abbrev pub with_records : Texts → InForce → InForce
+with_records [] view = view
+with_records (text ∷ others) view = with_sheet (with_records others view) text.0.0 (kept_sheet text.1)
+
+-- until when each account is registered, by the first one of its registrations
+abbrev pub with_ends : Registrations → InForce → InForce
+with_ends [] view = view
+with_ends (one ∷ others) view = with_end (with_ends others view) one.0.0 (Some one.1)
+
+abbrev pub in_force : Texts → Registrations → InForce
+in_force texts registrations = with_ends registrations (with_records texts nothing_in_force)

@@ -1,9 +1,7 @@
--- What is done with a request that opens a transaction: the first refusal that applies (RFC 3261 §8.2), or what its method asks for. It reads public parts alone.
+-- What is done with a request that opens a transaction: the first refusal that applies (RFC 3261 §8.2), or what its dialog or its method asks for. It reads public parts alone.
 use Rattle.std.specs.Prelude.{ℕ, Bool, true, false, not, ◌&&◌, ◌||◌, ◌==◌, if◌then◌else◌, List, [], ◌∷◌, length, codes, Option, Some, None, is_none, is_some, Ok, Err}
 use Rattle.std.specs.List.{list_all, list_any}
 use Rattle.std.specs.declared.result.Result.{Result}
-use Rattle.mmtel_answers.specs.Attempts.{first_aim}
-use Rattle.mmtel_answers.specs.declared.attempts.Aim.{Aim}
 use Rattle.mmtel_directory.specs.declared.directories.Directory.{Directory}
 use Rattle.mmtel_leg.specs.Dialogues.{request_uri}
 use Rattle.mmtel_lex.specs.Reading.{uri_of, Refusal, foreign, malformed}
@@ -12,7 +10,7 @@ use Rattle.mmtel_lex.specs.declared.values.Uri.{Uri}
 use Rattle.mmtel_lex.specs.declared.values.Uri.TheVariants.{Sip, Tel}
 use Rattle.mmtel_message.specs.Faults.{is_method}
 use Rattle.mmtel_message.specs.declared.messages.Start.{Start}
-use Rattle.mmtel_parties.specs.Routing.{kept_routes, names_server, next_hop}
+use Rattle.mmtel_parties.specs.Routing.{names_server}
 use Rattle.mmtel_scan.specs.Chain.{◌>>=◌}
 use Rattle.mmtel_scan.specs.Classes.{in_class}
 use Rattle.mmtel_scan.specs.Numbers.{leads_zero}
@@ -25,7 +23,8 @@ use Rattle.mmtel_trust.specs.Asserted.{uri_in}
 use Rattle.mmtel_trust.specs.declared.accounts.AccountIdentity.{AccountIdentity}
 use Rattle.mmtel_types.specs.declared.addrs.Addr.{Addr}
 use Rattle.mmtel_types.specs.declared.numbers.Account.{Account}
-use Rattle.mmtel_types.specs.declared.numbers.Peer.{Peer}
+use Rattle.mmtel_types.specs.declared.numbers.CallNo.{CallNo}
+use Rattle.mmtel_types.specs.declared.sides.Side.{Side}
 use Rattle.mmtel_run.specs.Answers.{Answer, allowing, plainly, unsupported, without_extension}
 
 -- ---- what may be done
@@ -33,8 +32,10 @@ use Rattle.mmtel_run.specs.Answers.{Answer, allowing, plainly, unsupported, with
 pub data Course : Type 0 where
   -- it is answered
   Refuse : (answer : Answer) → Course
-  -- it opens a call, whose first attempt goes there
-  Open : (aim : Aim) → Course
+  -- it is heard in the dialog of this side of a call
+  Enter : (call : CallNo) → (side : Side) → Course
+  -- it opens a call
+  Open : Course
   -- it registers an account for so many seconds
   Register : (account : Account) → (seconds : ℕ) → Course
   -- it is of a form that is not built yet
@@ -62,13 +63,13 @@ abbrev pub is_last_hop : Option ℕ → Bool
 is_last_hop None = false
 is_last_hop (Some hops) = hops == 0
 
--- each refusal with its condition, in their order. `merged` says that another live transaction has its From tag, Call-ID and CSeq (§8.2.2.2); no dialog is live yet, so a To tag is of none
-abbrev pub refusals : (merged : Bool) → HeardMessage → List (Bool × Answer)
-refusals merged message =
+-- each refusal with its condition, in their order. `merged` says that another live transaction has its From tag, Call-ID and CSeq (§8.2.2.2), `named` that its dialog is that of a call (§12.2.2)
+abbrev pub refusals : (merged named : Bool) → HeardMessage → List (Bool × Answer)
+refusals merged named message =
     (not (is_known_method message.start), allowing 405) ∷
     (is_foreign message.start, plainly 416) ∷
     (is_last_hop message.hops, plainly 483) ∷
-    (is_some message.to_tag, plainly 481) ∷
+    (is_some message.to_tag && not named, plainly 481) ∷
     (is_none message.to_tag && merged, plainly 482) ∷
     (not (length (unsupported message) == 0), without_extension message) ∷ []
 
@@ -96,26 +97,21 @@ abbrev pub is_factory : (factory : Option Uri) → Uri → Bool
 is_factory None target = false
 is_factory (Some uri) target = is_same_identity uri target
 
--- a conference room of the server, or the factory of rooms (RFC 4579 §5.4): neither is built yet
+-- a conference room of the server, or the factory of rooms (RFC 4579 §5.4): an INVITE to one is not built yet
 abbrev pub is_of_conference : Directory → Uri → Bool
 is_of_conference directory target = is_room directory.sip target || is_factory directory.factory target
 
--- the peer to which a target leads, by the first Route value that is kept or else by itself; None where none does, or where the target is of a conference
-abbrev pub peer_for : Directory → (routes : List (List ℕ)) → Result Uri Refusal → Option Peer
-peer_for directory routes (Ok target) = if is_of_conference directory target then None else next_hop directory.peers.routes routes target
-peer_for directory routes (Err refusal) = None
+-- a Request-URI that cannot be read is of none
+abbrev pub is_for_conference : Directory → Result Uri Refusal → Bool
+is_for_conference directory (Ok target) = is_of_conference directory target
+is_for_conference directory (Err refusal) = false
 
-abbrev pub opening_to : (routes : List (List ℕ)) → HeardMessage → Option Peer → Course
-opening_to routes message None = Unbuilt
-opening_to routes message (Some peer) = Open (first_aim peer routes message)
-
--- where the Request-URI leads, with the Route values behind a first one that names the server
-abbrev pub opening_by : Directory → (routes : List (List ℕ)) → HeardMessage → Course
-opening_by directory routes message = opening_to routes message (peer_for directory routes (uri_of (request_uri message.start)))
-
--- it opens a call where its target has a peer; a diverted one is not built yet
-abbrev pub invited : Directory → (diverted : Bool) → HeardMessage → Course
-invited directory diverted message = if diverted then Unbuilt else opening_by directory (kept_routes directory.sip message.routes) message
+-- it opens a call, unless as many live as may (`full`)
+abbrev pub invited : Directory → (full : Bool) → HeardMessage → Course
+invited directory full message =
+    if is_for_conference directory (uri_of (request_uri message.start)) then Unbuilt
+    else if full then Refuse (plainly 503)
+    else Open
 
 -- ---- REGISTER (§10.3), by which the core tells of a registration (3GPP TS 24.229 §5.4.1.7, §5.7.1.1)
 
@@ -150,27 +146,28 @@ registrant accounts message = if message.trusted && is_register message then to_
 -- ---- what is not refused
 
 -- by its method: OPTIONS is answered, BYE and REFER are of a dialog
-abbrev pub by_method : Directory → (diverted : Bool) → HeardMessage → Course
-by_method directory diverted message =
+abbrev pub by_method : Directory → (full : Bool) → HeardMessage → Course
+by_method directory full message =
     if is_method (codes "OPTIONS") message.start then Refuse (allowing 200)
     else if is_method (codes "BYE") message.start then Refuse (plainly 481)
     else if is_method (codes "REFER") message.start then Refuse (plainly 403)
-    else if is_method (codes "INVITE") message.start then invited directory diverted message
+    else if is_method (codes "INVITE") message.start then invited directory full message
     else if is_register message then registration directory.names.accounts message
     else Unbuilt
 
-abbrev pub course_by : Directory → (diverted : Bool) → HeardMessage → Option Answer → Course
-course_by directory diverted message None = by_method directory diverted message
-course_by directory diverted message (Some answer) = Refuse answer
+-- in its dialog, where it has one
+abbrev pub course_in : Directory → (full : Bool) → (named : Option (CallNo × Side)) → HeardMessage → Course
+course_in directory full None message = by_method directory full message
+course_in directory full (Some named) message = Enter named.0 named.1
 
--- the first refusal that applies decides, and without one the method
-abbrev pub course_of : Directory → (merged diverted : Bool) → HeardMessage → Course
-course_of directory merged diverted message = course_by directory diverted message (first_that_applies (refusals merged message))
+abbrev pub course_by : Directory → (full : Bool) → (named : Option (CallNo × Side)) → HeardMessage → Option Answer → Course
+course_by directory full named message None = course_in directory full named message
+course_by directory full named message (Some answer) = Refuse answer
 
--- it has History-Info: it was diverted before (RFC 7044 §5)
-abbrev pub is_diverted : HeardMessage → Bool
-is_diverted message = not (length message.history == 0)
+-- the first refusal that applies decides, and without one its dialog or its method
+abbrev pub course_of : Directory → (merged full : Bool) → (named : Option (CallNo × Side)) → HeardMessage → Course
+course_of directory merged full named message = course_by directory full named message (first_that_applies (refusals merged (is_some named) message))
 
--- of its public part, and of whether it was diverted
-unfoldable pub course : Directory → (merged : Bool) → HeardMessage → Course
-course directory merged message = course_of directory merged (is_diverted message) (public_part message)
+-- of its public part
+unfoldable pub course : Directory → (merged full : Bool) → (named : Option (CallNo × Side)) → HeardMessage → Course
+course directory merged full named message = course_of directory merged full named (public_part message)

@@ -1,10 +1,13 @@
 -- Runs that are not longer than numbers count: fewer than 2^60 steps, calls on a layer and numbers drawn. At one per nanosecond such a run takes 36 years.
-use Rattle.std.specs.Prelude.{◌<◌, ◌^◌, ℕ, List, length}
+use Rattle.std.specs.Prelude.{◌≡◌, ◌<◌, ◌≤◌, ◌^◌, ℕ, List, length}
+use Rattle.mmtel_b2bua.specs.Histories.{Deed, Heard, hears_after}
+use Rattle.mmtel_call.specs.Site.{Site}
 use Rattle.mmtel_directory.specs.declared.directories.Directory.{Directory}
 use Rattle.mmtel_in_force.specs.Texts.{Texts}
-use Rattle.mmtel_run.specs.Events.{Happened, digests}
-use Rattle.mmtel_run.specs.Run.{IsEnough, after}
-use Rattle.mmtel_run.specs.World.{World, beginning}
+use Rattle.mmtel_transaction.specs.Tokens.{Drawn}
+use Rattle.mmtel_run.specs.Events.{Happened}
+use Rattle.mmtel_run.specs.Run.{IsEnough, world_after}
+use Rattle.mmtel_run.specs.World.{World}
 
 pub record IsShort (world : World) : Type 0 where
   pub acts : length world.acts < 2 ^ 60
@@ -14,4 +17,15 @@ pub record IsShort (world : World) : Type 0 where
 -- of the whole run in which this happened, after which every deadline that was due has fired
 abbrev pub IsShortRun : Directory → (token : List ℕ) → (loaded : Texts) → List Happened → Type 0
 IsShortRun directory token loaded happened =
-    (fuel : ℕ) → IsEnough directory token loaded fuel happened → IsShort (after directory token fuel (digests directory happened) (beginning loaded))
+    (fuel : ℕ) → IsEnough directory token loaded fuel happened → IsShort (world_after directory token loaded fuel happened)
+
+-- ---- numbers are drawn on
+
+-- tokens of the same text, of which no number was drawn back, as long as these are not too many
+pub record DrawsOn (before after : Drawn) : Type 0 where
+  pub same : after.token ≡ before.token
+  pub on : after.drawn < 2 ^ 60 → before.drawn ≤ after.drawn
+
+-- so it is with whatever calls hear
+abbrev pub CallsDrawOn : Type 0
+CallsDrawOn = (site : Site) (deeds : List Deed) (heard : Heard) → DrawsOn heard.tokens (hears_after site deeds heard).desk.tokens

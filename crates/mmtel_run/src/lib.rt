@@ -3,4 +3,6 @@
 
 mod laws;
 
-pub use laws::{enough_comes, equal_masks_are_kin, records_are_those_kept, runs_keep_the_secret};
+pub use laws::{
+    calls_draw_on, enough_comes, equal_masks_are_kin, records_are_those_kept, rows_are_filed,
+};

@@ -2,14 +2,14 @@
 
 use crate::heard::{add_request, add_request_to, directory, hearing};
 use crate::told::Told;
-use mmtel_answers::Aim;
 use mmtel_directory::Directory;
-use mmtel_intake::{Answer, Course, course};
+use mmtel_intake::{Answer, Course, Standing, course};
 use mmtel_message::Line;
 use mmtel_scan::part;
+use mmtel_types::{CallNo, Side};
 use std::test::Fail;
 
-/// A row is a request: `m` where it is merged and `u` where its peer is not trusted, `t` where To has a tag and `x` where it names no account, its method and Request-URI, and further lines, each ended by `|`. Below it stands what is done with it.
+/// A row is a request: `m` where it is merged, `f` where as many calls live as may and `u` where its peer is not trusted; `t` where To has a tag of no dialog, `d` and `e` where it names that of the caller and of the callee of call 3, and `x` where it names no account; its method and Request-URI, and further lines, each ended by `|`. Below it stands what is done with it.
 const TABLE: &[u8] = br##"> -- INFO sip:bob@home.example
 405 Allow: INVITE, ACK, CANCEL, BYE, OPTIONS, REGISTER, REFER
 > -- INFO sips:bob@home.example
@@ -60,28 +60,56 @@ register 7 3600
 481
 > u- REGISTER sip:home.example|Require: path|
 420 Unsupported: path
+> -d BYE sip:bob@home.example
+enter 3 caller
+> -e BYE sip:bob@home.example
+enter 3 callee
+> md BYE sip:bob@home.example
+enter 3 caller
+> -d BYE sip:bob@home.example|Require: 100rel|
+420 Unsupported: 100rel
+> -d INFO sip:bob@home.example
+405 Allow: INVITE, ACK, CANCEL, BYE, OPTIONS, REGISTER, REFER
+> -d BYE sips:bob@home.example
+416
+> -d BYE sip:bob@home.example|Max-Forwards: 0|
+483
+> -d INVITE sip:conf@home.example
+enter 3 caller
+> -t INVITE sip:bob@home.example
+481
+> f- INVITE sip:bob@home.example
+503
+> f- INVITE sip:conf@home.example
+unbuilt
+> f- INVITE sip:bob@home.example|Require: 100rel|
+420 Unsupported: 100rel
+> fd INVITE sip:bob@home.example
+enter 3 caller
+> f- OPTIONS sip:bob@home.example
+200 Allow: INVITE, ACK, CANCEL, BYE, OPTIONS, REGISTER, REFER
 > -- INVITE sip:bob@home.example|Require: histinfo|
-open 1 sip:bob@home.example "Bob" <sip:bob@home.example>
+open
 > -- INVITE sip:vm@far.example
-open 2 sip:vm@far.example "Bob" <sip:bob@home.example>
+open
 > -- INVITE sip:vm@nowhere.example
-unbuilt
+open
 > -- INVITE tel:+4930111
-unbuilt
+open
 > -- INVITE sip:vm@far.example|Route: <sip:127.0.0.1:5060;lr>, <sip:p@home.example;lr>|
-open 1 sip:vm@far.example "Bob" <sip:bob@home.example> <sip:p@home.example;lr>
+open
 > -- INVITE sip:bob@home.example|Route: <sip:127.0.0.1;lr>|
-open 1 sip:bob@home.example "Bob" <sip:bob@home.example>
+open
 > -- INVITE sip:bob@home.example|Route: <sip:127.0.0.1:5071;lr>, <sip:p@far.example;lr>|
-open 1 sip:bob@home.example "Bob" <sip:bob@home.example> <sip:127.0.0.1:5071;lr> <sip:p@far.example;lr>
+open
 > -- INVITE sip:bob@home.example|Route: <sip:p@nowhere.example;lr>|
-unbuilt
+open
 > -- INVITE sip:bob@home.example|Route: <tel:+4930111>|
-unbuilt
+open
 > -- INVITE sip:conf@home.example
 unbuilt
 > -- INVITE sip:conf@far.example
-open 2 sip:conf@far.example "Bob" <sip:bob@home.example>
+open
 > -- INVITE sip:room-1@127.0.0.1
 unbuilt
 > -- INVITE sip:room-0@127.0.0.1:5060
@@ -89,19 +117,19 @@ unbuilt
 > -- INVITE sip:room-1@127.0.0.1:5060|Route: <sip:p@home.example;lr>|
 unbuilt
 > -- INVITE sip:room-01@127.0.0.1:5060
-open 1 sip:room-01@127.0.0.1:5060 "Bob" <sip:bob@home.example>
+open
 > -- INVITE sip:room-@127.0.0.1
-open 1 sip:room-@127.0.0.1 "Bob" <sip:bob@home.example>
+open
 > -- INVITE sip:room-1a@127.0.0.1
-open 1 sip:room-1a@127.0.0.1 "Bob" <sip:bob@home.example>
+open
 > -- INVITE sip:Room-1@127.0.0.1
-open 1 sip:Room-1@127.0.0.1 "Bob" <sip:bob@home.example>
+open
 > -- INVITE sip:room-1@127.0.0.1:5071
-open 1 sip:room-1@127.0.0.1:5071 "Bob" <sip:bob@home.example>
+open
 > -- INVITE sip:127.0.0.1
-open 1 sip:127.0.0.1 "Bob" <sip:bob@home.example>
+open
 > -- INVITE sip:bob@home.example|History-Info: <sip:carol@home.example>;index=1|
-unbuilt
+open
 > -- OPTIONS sip:bob@home.example|History-Info: <sip:carol@home.example>;index=1|
 200 Allow: INVITE, ACK, CANCEL, BYE, OPTIONS, REGISTER, REFER
 "##;
@@ -114,23 +142,20 @@ fn tell_answer(told: &mut Told, answer: &Answer) {
     }
 }
 
-fn tell_aim(told: &mut Told, aim: &Aim) {
-    told.add(b"open ");
-    told.add_number(u64::from(aim.peer.0));
-    told.add(b" ");
-    told.add(aim.uri.bytes());
-    told.add(b" ");
-    told.add(aim.to.bytes());
-    for route in aim.routes.items() {
-        told.add(b" ");
-        told.add(route.bytes());
+fn tell_dialog(told: &mut Told, call: CallNo, side: Side) {
+    told.add(b"enter ");
+    told.add_number(u64::from(call.0));
+    match side {
+        Side::Caller => told.add(b" caller"),
+        Side::Callee => told.add(b" callee"),
     }
 }
 
 fn tell_course(told: &mut Told, course: &Course) {
     match course {
         Course::Refuse(answer) => tell_answer(told, answer),
-        Course::Open(aim) => tell_aim(told, aim),
+        Course::Enter { call, side } => tell_dialog(told, *call, *side),
+        Course::Open => told.add(b"open"),
         Course::Register { account, seconds } => {
             told.add(b"register ");
             told.add_number(u64::from(account.0));
@@ -142,6 +167,20 @@ fn tell_course(told: &mut Told, course: &Course) {
     told.add(b"\n");
 }
 
+/// What is known of the request of a row beside its message.
+fn standing(whence: u8, to: u8) -> Standing {
+    let named = match to {
+        b'd' => Some((CallNo(3), Side::Caller)),
+        b'e' => Some((CallNo(3), Side::Callee)),
+        _ => None,
+    };
+    Standing {
+        merged: whence == b'm',
+        full: whence == b'f',
+        named,
+    }
+}
+
 /// Tells what is done with the request of a row.
 fn tell_row(told: &mut Told, directory: &Directory, whence: u8, to: u8, row: &[u8]) {
     let (start, further) = part(b'|', row).unwrap_or((row, b""));
@@ -149,10 +188,10 @@ fn tell_row(told: &mut Told, directory: &Directory, whence: u8, to: u8, row: &[u
     if to == b'x' {
         add_request_to(&mut text, b"<sip:eve@home.example>", start, further);
     } else {
-        add_request(&mut text, to == b't', start, further);
+        add_request(&mut text, to != b'-', start, further);
     }
     if let Some(request) = hearing(told, text.whole(), whence != b'u') {
-        let course = course(told.alloc, directory, whence == b'm', &request);
+        let course = course(told.alloc, directory, &standing(whence, to), &request);
         if let Some(course) = told.noted(course) {
             tell_course(told, &course);
         }
@@ -170,7 +209,7 @@ fn tell_line(told: &mut Told, directory: &Directory, line: &[u8]) {
     }
 }
 
-/// Each refusal and the order between them, each method, and where an INVITE leads.
+/// Each refusal and the order between them, each method, what enters a dialog, and which INVITEs open a call.
 #[test]
 fn decides(rt: HostRuntime) -> Result<(), Fail> {
     let mut told = Told::new(rt.alloc());

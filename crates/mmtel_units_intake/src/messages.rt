@@ -2,16 +2,13 @@
 
 use crate::heard::{SIP, address, hearing};
 use crate::told::Told;
-use mmtel_answers::{Hearing, first_aim};
-use mmtel_intake::{
-    Answer, Names, attempt, completed_reply, is_untagged, plainly, response_to, trying,
-};
+use mmtel_answers::Hearing;
+use mmtel_intake::{Answer, completed_reply, dialog_name, is_untagged, plainly, response_to};
 use mmtel_message::{Msg, add_bytes, reply_with};
 use mmtel_scan::{List, NoMemory};
-use mmtel_types::Peer;
 use std::test::Fail;
 
-/// The INVITE of a caller who asks for privacy, whose Via names another address than it came from, with lines that are not passed on.
+/// An INVITE whose Via names another address than it came from.
 const OPENING: &[u8] = br##"INVITE sip:bob@far.example SIP/2.0
 Via: SIP/2.0/UDP 10.0.0.9:5071;branch=z9hG4bKa1;rport
 Max-Forwards: 68
@@ -31,7 +28,7 @@ Content-Length: 2
 
 hi"##;
 
-/// The same of a caller who asks for none, with a To tag.
+/// One with a To tag.
 const OPEN: &[u8] = br##"INVITE sip:bob@far.example SIP/2.0
 Via: SIP/2.0/UDP 127.0.0.1:5071;branch=z9hG4bKa1
 From: "Erin" <sip:erin@other.example>;tag=a
@@ -54,14 +51,6 @@ CSeq: 7 INVITE
 Unsupported: 100rel
 Content-Length: 0
 
-SIP/2.0 100 Trying
-Via: SIP/2.0/UDP 10.0.0.9:5071;branch=z9hG4bKa1;rport=5071;received=127.0.0.1
-From: "Erin" <sip:erin@other.example>;tag=a
-To: "Bob" <sip:bob@far.example>
-Call-ID: c1
-CSeq: 7 INVITE
-Content-Length: 0
-
 SIP/2.0 420 Bad Extension
 Via: SIP/2.0/UDP 10.0.0.9:5071;branch=z9hG4bKa1;rport=5072;received=127.0.0.1
 From: "Erin" <sip:erin@other.example>;tag=a
@@ -70,20 +59,8 @@ Call-ID: c1
 CSeq: 7 INVITE
 Content-Length: 0
 
-INVITE sip:bob@far.example SIP/2.0
-Via: SIP/2.0/UDP 127.0.0.1:5060;branch=z9hG4bKt4
-Route: <sip:p@far.example;lr>
-Max-Forwards: 67
-From: "Anonymous" <sip:anonymous@anonymous.invalid>;tag=t3
-To: "Bob" <sip:bob@far.example>
-Call-ID: t2
-CSeq: 1 INVITE
-Contact: <sip:127.0.0.1:5060>
-Supported: histinfo
-Content-Type: text/plain
-Content-Length: 2
-
-hitagged
+no dialog
+tagged
 SIP/2.0 503 Service Unavailable
 Via: SIP/2.0/UDP 127.0.0.1:5071;branch=z9hG4bKa1
 From: "Erin" <sip:erin@other.example>;tag=a
@@ -92,26 +69,8 @@ Call-ID: c1
 CSeq: 7 INVITE
 Content-Length: 0
 
-INVITE sip:bob@far.example SIP/2.0
-Via: SIP/2.0/UDP 127.0.0.1:5060;branch=z9hG4bKt4
-Max-Forwards: 69
-From: "Erin" <sip:erin@other.example>;tag=t3
-To: "Bob" <sip:bob@far.example>
-Call-ID: t2
-CSeq: 1 INVITE
-Contact: <sip:127.0.0.1:5060>
-P-Asserted-Identity: <sip:erin@other.example>
-Content-Length: 0
-
+dialog c1 b a
 "##;
-
-fn names(told: &mut Told) -> Names {
-    Names {
-        call_id: told.copy(b"t2"),
-        tag: told.copy(b"t3"),
-        branch: told.copy(b"t4"),
-    }
-}
 
 /// Tells a message that was built.
 fn tell(told: &mut Told, built: Result<Msg, NoMemory>) {
@@ -143,15 +102,20 @@ fn refusal(told: &mut Told) -> Answer {
     Answer { code: 420, named }
 }
 
-/// The INVITE of the first attempt that relays it along these Route values, to a peer who is trusted or not.
-fn tell_attempt(told: &mut Told, request: &Hearing, trusted: bool) {
-    let routes = request.message.values(told.alloc, b"Route");
-    if let Some(routes) = told.noted(routes) {
-        let aim = first_aim(told.alloc, Peer(2), routes.items(), request);
-        if let Some(aim) = told.noted(aim) {
-            let names = names(told);
-            let built = attempt(told.alloc, SIP, names, aim, trusted, request);
-            tell(told, built);
+/// The dialog that a request names.
+fn tell_dialog(told: &mut Told, request: &Hearing) {
+    let name = dialog_name(told.alloc, request);
+    match told.noted(name) {
+        None => {}
+        Some(None) => told.add(b"no dialog\n"),
+        Some(Some(name)) => {
+            told.add(b"dialog ");
+            told.add(name.call_id.bytes());
+            told.add(b" ");
+            told.add(name.local.bytes());
+            told.add(b" ");
+            told.add(name.remote.bytes());
+            told.add(b"\n");
         }
     }
 }
@@ -170,20 +134,18 @@ fn tell_hidden(told: &mut Told, request: &Hearing) {
     let refusal = refusal(told);
     let built = response_to(told.alloc, SIP, b"t1", request, &refusal);
     tell(told, built);
-    let built = trying(told.alloc, SIP, request);
-    tell(told, built);
     tell_completed(told, request);
-    tell_attempt(told, request, false);
+    tell_dialog(told, request);
 }
 
 fn tell_open(told: &mut Told, request: &Hearing) {
     tell_tag(told, request);
     let built = response_to(told.alloc, SIP, b"t1", request, &plainly(503));
     tell(told, built);
-    tell_attempt(told, request, true);
+    tell_dialog(told, request);
 }
 
-/// A refusal with its line and the server's tag, a 100, a reply that is completed, and attempts of a hidden and of an open caller.
+/// A refusal with its line and the server's tag, a reply that is completed, an answer within a dialog, and the dialogs that both requests name.
 #[test]
 fn builds(rt: HostRuntime) -> Result<(), Fail> {
     let mut told = Told::new(rt.alloc());

@@ -1,0 +1,44 @@
+//! An INVITE that opens a call, with what is read of its parties.
+ghost use Rattle.std.specs.Prelude.{◌≡◌, IfOk};
+ghost use Rattle.mmtel_run.specs.Calls.{arrived, caller_of};
+
+use mmtel_answers::Hearing;
+use mmtel_b2bua::Signal;
+use mmtel_parties::Parties;
+use mmtel_rules::Identities2;
+use mmtel_scan::NoMemory;
+use mmtel_transaction::TKey;
+use mmtel_trust::{Accounts, Identities, asserted};
+use std::alloc::Global;
+
+/// Who the caller is, where the sender is believed (RFC 3325 §9.1).
+fn caller_of(alloc: Global, invite: &Hearing) -> Result<Identities2, NoMemory>
+    ensures { IfOk result (λ caller. caller ≡ caller_of invite.now.heard) }
+{
+    let Identities { sip, tel } = asserted(alloc, &invite.message, invite.trusted)?;
+    Ok(Identities2 { sip, tel })
+}
+
+/// The signal of an INVITE that opens a call, in this server transaction: whom the server serves, what was said of the registration of its target, and who the caller is (RFC 5502 §6).
+///
+/// # Errors
+///
+/// Want of memory alone.
+pub fn arrived(
+    alloc: Global,
+    accounts: &Accounts,
+    key: TKey,
+    invite: Hearing,
+) -> Result<Signal, NoMemory>
+    ensures signal { IfOk result (λ signal. signal ≡ arrived accounts.now key invite) }
+{
+    let parties = Parties::of(alloc, accounts, &invite.message, invite.trusted)?;
+    let identities = caller_of(alloc, &invite)?;
+    Ok(Signal::Arrived {
+        key,
+        invite,
+        served: parties.served_accounts(),
+        registration: parties.registration,
+        identities,
+    })
+}

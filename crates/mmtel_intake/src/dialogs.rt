@@ -1,0 +1,74 @@
+//! The name of the dialog that a message names.
+ghost use Rattle.std.specs.Prelude.{◌≡◌, IfOk, codes};
+ghost use Rattle.std.specs.Option.{option_copied, option_map};
+ghost use Rattle.mmtel_lex.specs.Params.{param_value};
+ghost use Rattle.mmtel_trust.specs.Digest.{tag_of};
+ghost use Rattle.mmtel_run.specs.Calls.{dialog_name, name_by};
+ghost use Rattle.mmtel_intake.specs.Dialogs.{name_in};
+
+use mmtel_answers::Hearing;
+use mmtel_lex::{LexFault, Param, param_value, read_name_addr};
+use mmtel_message::first_of;
+use mmtel_scan::{NoMemory, Text};
+use std::alloc::Global;
+
+/// The name of a dialog (RFC 3261 §12).
+#[derive(Drop)]
+pub struct DialogName {
+    /// Call-ID.
+    pub call_id: Text,
+    /// The server's tag.
+    pub local: Text,
+    /// The tag of the other side.
+    pub remote: Text,
+}
+
+/// These bytes, where there are any.
+fn copied(alloc: Global, value: Option<&[u8]>) -> Result<Option<Text>, NoMemory>
+    ensures { IfOk result (λ text. text ≡ option_copied value.entry) }
+{
+    match value {
+        None => Ok(None),
+        Some(value) => Ok(Some(Text::of(alloc, value)?)),
+    }
+}
+
+/// The tag of a From or To value (RFC 3261 §19.3), where it has one.
+fn tag_of(alloc: Global, value: Option<&[u8]>) -> Result<Option<Text>, NoMemory>
+    ensures { IfOk result (λ tag. tag ≡ tag_of (option_copied value.entry)) }
+{
+    match value {
+        None => Ok(None),
+        Some(value) => match read_name_addr(alloc, value) {
+            Ok(name) => copied(alloc, param_value(name.params.items(), b"tag")),
+            Err(LexFault::Malformed { at: _ }) => Ok(None),
+            Err(LexFault::NoMemory) => Err(NoMemory),
+        },
+    }
+}
+
+/// The name of a dialog of this Call-ID and these tags, where none of them is absent.
+fn name_by(call_id: Option<Text>, local: Option<Text>, remote: Option<Text>) -> Option<DialogName>
+    ensures { option_map name_in result ≡ name_by call_id local remote }
+{
+    Some(DialogName {
+        call_id: call_id?,
+        local: local?,
+        remote: remote?,
+    })
+}
+
+/// The name of the dialog that a message of a peer names: its Call-ID, the tag of To, which is the server's, and that of From (RFC 3261 §12.2.2).
+///
+/// # Errors
+///
+/// Want of memory alone.
+pub fn dialog_name(alloc: Global, message: &Hearing) -> Result<Option<DialogName>, NoMemory>
+    ensures name { IfOk result (λ name. option_map name_in name ≡ dialog_name message.now.heard) }
+{
+    let lines = message.message.lines();
+    let call_id = copied(alloc, first_of(lines, b"Call-ID"))?;
+    let local = tag_of(alloc, first_of(lines, b"To"))?;
+    let remote = tag_of(alloc, first_of(lines, b"From"))?;
+    Ok(name_by(call_id, local, remote))
+}

@@ -1,0 +1,444 @@
+-- What calls bring forth keeps the text that tokens are drawn of, and draws on: no number is drawn back.
+use Rattle.std.proofs.Common.{◌≡◌, ℕ, zero, suc, ◌+◌, ◌≤◌, ◌<◌, ◌^◌, List, [], ◌∷◌, refl, sym, ap, ◌∙◌, Bool, true, false, Option, Some, None, Result, Ok, Err, arith, codes}
+use Rattle.std.specs.Prelude.{◌==◌, nat_lt, not, position, slice_get, if◌then◌else◌}
+use Rattle.mmtel_answers.specs.Said.{Said, status_of}
+use Rattle.mmtel_b2bua.specs.Entries.{busy_beside, heard_by, is_numbered, sent_it}
+use Rattle.mmtel_b2bua.specs.Histories as histories
+use Rattle.mmtel_b2bua.specs.Histories.{Deed, hears_after, table_after}
+use Rattle.mmtel_b2bua.specs.Tables.{Moved, Table, arrived, busy_with, heard, invites_by, moved_at, moved_in, open_of, standing, step_of, taken}
+use Rattle.mmtel_b2bua.specs.declared.entries.Entry.{Entry}
+use Rattle.mmtel_b2bua.specs.declared.entries.InviteKey.{InviteKey}
+use Rattle.mmtel_b2bua.specs.declared.signals.Signal as table
+use Rattle.mmtel_b2bua.specs.declared.signals.Signal.TheVariants as of_table
+use Rattle.mmtel_call.specs.Answered.{acknowledges, acked_across, bye_before_ack, is_due, parted}
+use Rattle.mmtel_call.specs.Closing.{Step, onward, over, over_stood, with_past}
+use Rattle.mmtel_call.specs.Decisions.{decided_after, decided_at, is_barred, its_sheet, peer_for, service_at}
+use Rattle.mmtel_call.specs.Diverting.{at_target, divert, diverted, goes_on, handed_on, is_status, made, on_end, on_turn, passed_by, refused, refused_by, target_of, told_of, too_many, unless_barred}
+use Rattle.mmtel_call.specs.Leaving.{acked_again, answered_at, answered_loose, answered_other, answered_taken, answered_taken_at, as_loose, forked, is_fork, is_success, is_taken, is_talking, repeated, without_key, without_silent}
+use Rattle.mmtel_call.specs.Opening.{begins, caller_of, first_of, new_call, opened, opening_of, refusal_of, unless_refused}
+use Rattle.mmtel_call.specs.Reinvites.{agreed, cancelled_across, cancelled_if_due, ends_dialog, on_response_across, proceeding_across, refused_back}
+use Rattle.mmtel_call.specs.Requests.{is_bye, is_invite, is_same_side, says, unheard, unlisted}
+use Rattle.mmtel_call.specs.Ringing.{answered, armed, armed_in, cancelled_attempt, failed, given_up, heard_by as trial_heard, left, on_cancel, on_due, on_heard, on_request, on_request_if, on_response, proceeding, says_offered, silenced, time_of, timed_out, tried}
+use Rattle.mmtel_call.specs.Sending.{relayed_to_caller, replied_to, told_caller}
+use Rattle.mmtel_call.specs.Site.{Site}
+use Rattle.mmtel_call.specs.Stages.{busy_in, has_left, is_due_at, left_by, on_ack_at, on_bye, on_cancel_at, on_due_at, on_heard_at, on_invite, on_request_at, on_request_at_if, on_response_at, on_silence_at, rung_out}
+use Rattle.mmtel_call.specs.Table.{ack_in, answer_to, cancel_in, due_in, invite_answered, invite_silent, is_current, request_in, response_in, silence_in, silence_of, step}
+use Rattle.mmtel_call.specs.declared.calls.Attempt.{Attempt}
+use Rattle.mmtel_call.specs.declared.calls.Call.{Call}
+use Rattle.mmtel_call.specs.declared.calls.Pair.{Pair}
+use Rattle.mmtel_call.specs.declared.calls.Phase.{Phase}
+use Rattle.mmtel_call.specs.declared.calls.Phase.TheVariants.{Lent, Offered, Over, Stood}
+use Rattle.mmtel_call.specs.declared.calls.Reinvite.{Reinvite}
+use Rattle.mmtel_call.specs.declared.calls.Service.{Service}
+use Rattle.mmtel_call.specs.declared.calls.Stage.{Stage}
+use Rattle.mmtel_call.specs.declared.calls.Stage.TheVariants.{Answered, Asking, Parting, Talking}
+use Rattle.mmtel_call.specs.declared.calls.Success.{Success}
+use Rattle.mmtel_call.specs.declared.calls.Taken.{Taken}
+use Rattle.mmtel_call.specs.declared.calls.Trial.{Trial}
+use Rattle.mmtel_call.specs.declared.openings.Arrival.{Arrival}
+use Rattle.mmtel_call.specs.declared.signals.Signal.{Signal}
+use Rattle.mmtel_call.specs.declared.signals.Signal.TheVariants as signal
+use Rattle.mmtel_desk.specs.Desks.{drew, fresh, token}
+use Rattle.mmtel_desk.specs.Invitations.{has_said, is_cancellable, knows}
+use Rattle.mmtel_desk.specs.Loose.{ended_before, is_of, late_cancelled, on_response as loose_response, on_success_in, with_invitation}
+use Rattle.mmtel_desk.specs.Sending.{cancel_sent, cancelled, final_acked}
+use Rattle.mmtel_desk.specs.declared.desks.Desk.{Desk}
+use Rattle.mmtel_desk.specs.declared.invitations.Invitation.{Invitation}
+use Rattle.mmtel_desk.specs.declared.invitations.Loose.{Loose}
+use Rattle.mmtel_leg.specs.Legs.{Leg}
+use Rattle.mmtel_leg.specs.Remotes.{remote_of}
+use Rattle.mmtel_leg.specs.declared.dialogues.Dialogue.{Dialogue}
+use Rattle.mmtel_leg.specs.declared.dialogues.DialogueFault.{DialogueFault}
+use Rattle.mmtel_leg.specs.declared.dialogues.DialogueFault.TheVariants.{OldCSeq, Pending, Unfinished}
+use Rattle.mmtel_leg.specs.declared.remotes.Remote.{Remote}
+use Rattle.mmtel_message.specs.Faults.{is_method}
+use Rattle.mmtel_precedence.specs.Attempts.{end_by_final, end_by_time, rings}
+use Rattle.mmtel_precedence.specs.Calls.{End, NoReply, NotReachable, Standing}
+use Rattle.mmtel_precedence.specs.Services.{DueDiversion}
+use Rattle.mmtel_precedence.specs.Turns.{AfterEnd, EndAnswered, EndDivert, EndRefuse, Turn, TurnDivert, TurnOffer, TurnRefuse}
+use Rattle.mmtel_sheet_values.specs.View.{InForce}
+use Rattle.mmtel_targets.specs.declared.targets.Target.{Target}
+use Rattle.mmtel_transaction.specs.declared.words.DueWord.{DueWord}
+use Rattle.mmtel_transaction.specs.declared.words.DueWord.TheVariants as due
+use Rattle.mmtel_transaction.specs.declared.words.TKey.{TKey}
+use Rattle.mmtel_trust.specs.Digest.{HeardMessage}
+use Rattle.mmtel_types.specs.declared.addrs.Addr.{Addr}
+use Rattle.mmtel_types.specs.declared.causes.Cause.{Cause}
+use Rattle.mmtel_types.specs.declared.numbers.Account.{Account}
+use Rattle.mmtel_types.specs.declared.numbers.Peer.{Peer}
+use Rattle.mmtel_types.specs.declared.sides.Side.{Side}
+use Rattle.mmtel_types.specs.declared.sides.Side.TheVariants.{Caller, Callee}
+use Rattle.mmtel_run.specs.Short.{CallsDrawOn, DrawsOn}
+
+-- from one desk to another
+abbrev On : Desk → Desk → Type 0
+On d e = DrawsOn d.tokens e.tokens
+
+-- nothing is drawn; so many numbers are drawn
+none : (d : Desk) → On d d
+none d = record { same = refl; on = λ less. omega arith }
+
+once : (d : Desk) → On d (drew d)
+once d = record { same = refl; on = λ less. omega (arith, less) }
+
+then_on : (c d e : Desk) → On c d → On d e → On c e
+then_on c d e a b = record {
+  same = b.same ∙ a.same;
+  on = λ less.
+      let later : d.tokens.drawn ≤ e.tokens.drawn = b.on less in
+      let small : d.tokens.drawn < 2 ^ 60 = omega (arith, later, less) in
+      let first : c.tokens.drawn ≤ d.tokens.drawn = a.on small in
+      omega (arith, first, later);
+}
+
+twice : (d : Desk) → On d (drew (drew d))
+twice d = then_on d (drew d) (drew (drew d)) (once d) (once (drew d))
+
+thrice : (d : Desk) → On d (drew (drew (drew d)))
+thrice d = then_on d (drew d) (drew (drew (drew d))) (once d) (twice (drew d))
+
+either : (b : Bool) (d e f : Desk) → On d e → On d f → On d (if b then e else f)
+either true d e f x y = x
+either false d e f x y = y
+
+either_step : (b : Bool) (d : Desk) (s t : Step) → On d s.desk → On d t.desk → On d (if b then s else t).desk
+either_step true d s t x y = x
+either_step false d s t x y = y
+
+-- ---- what is sent where it is due
+
+cancelled-on : (sip : Addr) (i : Invitation) (d : Desk) → On d (cancelled sip i d)
+cancelled-on sip i d = either (is_cancellable i) d (cancel_sent sip i d) d (none d) (none d)
+
+attempt-on : (site : Site) (x : Trial) (d : Desk) → On d (cancelled_attempt site x d)
+attempt-on site x d = cancelled-on site.sip x.attempt.invitation d
+
+unlisted-on : (b c : Bool) (d e f g : Desk) → On d e → On d f → On d g → On d (if b then e else if c then f else g)
+unlisted-on true c d e f g x y z = x
+unlisted-on false true d e f g x y z = y
+unlisted-on false false d e f g x y z = z
+
+unheard-on : (site : Site) (c : Call) (key : TKey) (m : Said) (fault : DialogueFault) (d : Desk) → On d (unheard site c key m fault d)
+unheard-on site c key m (OldCSeq last) d = none d
+unheard-on site c key m Pending d = none d
+unheard-on site c key m Unfinished d = none d
+
+in_order-on : (site : Site) (c : Call) (key : TKey) (m : Said) (d : Desk) → On d (unlisted site c key m d)
+in_order-on site c key m d = unlisted-on (is_method (codes "OPTIONS") m.heard.start) (is_method (codes "REFER") m.heard.start) d _ _ _ (none d) (none d) (none d)
+
+-- ---- the way on
+
+told-on : (b : Bool) (d e : Desk) → On d e → On d (if b then e else d)
+told-on b d e x = either b d e d x (none d)
+
+abbrev DivertsOn : (left : ℕ) → Site → Standing → Leg → Type 0
+DivertsOn left site now caller = (service : Option Service) (due : DueDiversion) (c : Call) (d : Desk) → On d (divert left site now caller service due c d).desk
+
+turn-on : (left : ℕ) (site : Site) (now : Standing) (caller : Leg) → DivertsOn left site now caller →
+    (service : Option Service) (peer : Option Peer) (cause : Option ℕ) (target : Target) (turn : Turn) (c : Call) (d : Desk) →
+    On d (on_turn (divert left site now caller) site now.at caller service peer cause target turn c d).desk
+turn-on left site now caller later service None cause target (TurnOffer waiting) c d = none d
+turn-on left site now caller later service (Some peer) cause target (TurnOffer waiting) c d = thrice d
+turn-on left site now caller later service peer cause target (TurnDivert due) c d = later service due (passed_by now.at service c) d
+turn-on left site now caller later service peer cause target (TurnRefuse why) c d = none d
+
+target-on : (left : ℕ) (site : Site) (now : Standing) (caller : Leg) → DivertsOn left site now caller →
+    (cause : Option ℕ) (target : Target) (c : Call) (d : Desk) → On d (at_target (divert left site now caller) site now caller cause target c d).desk
+target-on left site now caller later cause target c d =
+    turn-on left site now caller later (service_at site now c.opening cause target) (peer_for site c.opening target) cause target
+    (decided_at site now c.opening cause target (service_at site now c.opening cause target) (peer_for site c.opening target)) c d
+
+unless-on : (barred : Bool) (onward : Call → Desk → Step) (site : Site) (at : ℕ) (caller : Leg) (c : Call) (d : Desk) → On d (onward c d).desk → On d (unless_barred barred onward site at caller c d).desk
+unless-on true onward site at caller c d on = none d
+unless-on false onward site at caller c d on = on
+
+divert-on : (left : ℕ) (site : Site) (now : Standing) (caller : Leg) → DivertsOn left site now caller
+unfolding divert
+divert-on zero site now caller service due c d =
+    unless-on (is_barred site c.opening now.at service due) (refused site now.at caller (too_many due)) site now.at caller c d (none d)
+divert-on (suc left) site now caller service due c d =
+    let target = target_of site due in
+    let next = diverted target now.at left service due c in
+    let told : On d (told_of site due next d) = told-on due.forward.notify_caller d _ (none d) in
+    let inner : On (told_of site due next d) (at_target (divert left site now caller) site now caller (Some due.cause) target next (told_of site due next d)).desk =
+    target-on left site now caller (divert-on left site now caller) (Some due.cause) target next (told_of site due next d) in
+    unless-on (is_barred site c.opening now.at service due) (made (at_target (divert left site now caller) site now caller (Some due.cause) target) site target now.at left service due) site now.at caller c d
+    (then_on d (told_of site due next d) (at_target (divert left site now caller) site now caller (Some due.cause) target next (told_of site due next d)).desk told inner)
+
+refused-on : (site : Site) (at : ℕ) (caller : Leg) (service : Option Service) (m : Option Said) (cause : Cause) (c : Call) (d : Desk) → On d (refused_by site at caller service m cause c d).desk
+refused-on site at caller service None cause c d = none d
+refused-on site at caller service (Some m) cause c d =
+    either_step (is_status (status_of m.heard.start) (handed_on cause)) d (over at cause caller.meter None c (relayed_to_caller site c service m d)) (refused site at caller cause c d) (none d) (none d)
+
+end-on : (site : Site) (now : Standing) (caller : Leg) (service : Option Service) (m : Option Said) (end : AfterEnd) (c : Call) (d : Desk) → On d (on_end site now caller service m end c d).desk
+end-on site now caller service m EndAnswered c d = none d
+end-on site now caller service m (EndDivert due) c d = divert-on c.diversions.left site now caller service due c d
+end-on site now caller service m (EndRefuse cause) c d = refused-on site now.at caller service m cause c d
+
+goes-on : (site : Site) (now : Standing) (x : Trial) (how : End) (m : Option Said) (c : Call) (d : Desk) → On d (goes_on site now x how m c d).desk
+goes-on site now x how m c d = end-on site now x.caller x.attempt.service m (decided_after c.opening now.at x.attempt.service how) (with_past x.callee.leg.meter c) d
+
+-- ---- while it is offered
+
+armed_in-on : (time : Option ℕ) (at : ℕ) (attempt : Attempt) (c : Call) (d : Desk) → On d (armed_in time at attempt c d)
+armed_in-on None at attempt c d = none d
+armed_in-on (Some time) at attempt c d = none d
+
+proceeding-on : (site : Site) (at : ℕ) (x : Trial) (key : TKey) (m : Said) (code : ℕ) (c : Call) (d : Desk) → On d (proceeding site at x key m code c d).desk
+proceeding-on site at x key m code c d =
+    let relayed = relayed_to_caller site c x.attempt.service m d in
+    either (Rattle.std.specs.Prelude.◌&&◌ (rings code) (not x.attempt.rang)) d (armed_in (time_of (its_sheet x.attempt.service)) at x.attempt c relayed) relayed
+    (armed_in-on (time_of (its_sheet x.attempt.service)) at x.attempt c relayed) (none d)
+
+response-on : (site : Site) (now : Standing) (x : Trial) (key : TKey) (m : Said) (code : ℕ) (c : Call) (d : Desk) → On d (on_response site now x key m code c d).desk
+response-on site now x key m code c d =
+    either_step (nat_lt code 101) d (tried key x c d) _ (none d)
+    (either_step (nat_lt code 200) d (proceeding site now.at x key m code c d) _ (proceeding-on site now.at x key m code c d)
+    (either_step (nat_lt code 300) d (answered site now.at x key m c d) (failed site now x key m code c d) (none d)
+    (goes-on site now x _ (Some m) c (final_acked site.sip key x.attempt.invitation m.heard d))))
+
+silenced-on : (site : Site) (now : Standing) (x : Trial) (c : Call) (d : Desk) → On d (silenced site now x c d).desk
+silenced-on site now x c d = either_step x.attempt.rang d (onward c d) (goes_on site now x (NotReachable 408) None c d) (none d) (goes-on site now x (NotReachable 408) None c d)
+
+timed-on : (site : Site) (now : Standing) (x : Trial) (how : End) (c : Call) (d : Desk) → On d (timed_out site now x how c d).desk
+timed-on site now x how c d =
+    then_on d (cancelled_attempt site x d) (timed_out site now x how c d).desk (attempt-on site x d) (goes-on site now x how None (left x c) (cancelled_attempt site x d))
+
+due-on : (what : DueWord) (site : Site) (now : Standing) (x : Trial) (c : Call) (d : Desk) → On d (on_due site now x what c d).desk
+due-on (due.NoReply number) site now x c d = either_step (number == x.attempt.number) d (timed_out site now x NoReply c d) (onward c d) (timed-on site now x NoReply c d) (none d)
+due-on (due.Cap number) site now x c d = either_step (number == x.attempt.number) d (timed_out site now x (end_by_time x.attempt.rang) c d) (onward c d) (timed-on site now x (end_by_time x.attempt.rang) c d) (none d)
+due-on (due.NoAck number) site now x c d = none d
+
+given_up-on : (site : Site) (at : ℕ) (x : Trial) (c : Call) (d : Desk) → On d (given_up site at x c d).desk
+given_up-on site at x c d = attempt-on site x (told_caller site c 487 d)
+
+cancel-on : (site : Site) (at : ℕ) (x : Trial) (key : TKey) (m : Said) (invite : TKey) (c : Call) (d : Desk) → On d (on_cancel site at x key m invite c d).desk
+cancel-on site at x key m invite c d =
+    either_step (invite.0 == c.opening.key.0) d (given_up site at x c (replied_to site c key m 200 d)) (onward c (replied_to site c key m 200 d)) (given_up-on site at x c (replied_to site c key m 200 d)) (none d)
+
+heard-on : (site : Site) (at : ℕ) (x : Trial) (side : Side) (key : TKey) (m : Said) (c : Call) (d : Desk) → On d (on_heard site at x side key m c d).desk
+heard-on site at x Caller key m c d =
+    either_step (is_bye m) d (given_up site at x c (replied_to site c key m 200 d)) (onward c (unlisted site c key m d)) (given_up-on site at x c (replied_to site c key m 200 d)) (in_order-on site c key m d)
+heard-on site at x Callee key m c d = in_order-on site c key m d
+
+request_if-on : (r : Result (Unit {0}) DialogueFault) (site : Site) (at : ℕ) (x : Trial) (side : Side) (key : TKey) (m : Said) (c : Call) (d : Desk) → On d (on_request_if r site at x side key m c d).desk
+request_if-on (Ok heard) site at x side key m c d = heard-on site at (trial_heard side m x) side key m (record c { phase = Offered (trial_heard side m x) }) d
+request_if-on (Err fault) site at x side key m c d = unheard-on site c key m fault d
+
+-- ---- once it is answered
+
+invite-on : (stage : Stage) (site : Site) (x : Pair) (side : Side) (key : TKey) (m : Said) (c : Call) (d : Desk) → On d (on_invite stage site x side key m c d).desk
+invite-on (Answered waiting success) site x side key m c d = none d
+invite-on (Parting waiting success) site x side key m c d = none d
+invite-on Talking site x side key m c d = once d
+invite-on (Asking asking q) site x side key m c d = none d
+
+left-on : (stage : Stage) (site : Site) (at : ℕ) (x : Pair) (side : Side) (m : Said) (c : Call) (d : Desk) → On d (left_by stage site at x side m c d).desk
+left-on (Answered waiting success) site at x side m c d = either_step (is_same_side waiting side) d _ _ (twice d) (none d)
+left-on (Parting waiting success) site at x side m c d = none d
+left-on Talking site at x side m c d = once d
+left-on (Asking asking q) site at x side m c d = once d
+
+bye-on : (stage : Stage) (site : Site) (at : ℕ) (x : Pair) (side : Side) (key : TKey) (m : Said) (c : Call) (d : Desk) → On d (on_bye stage site at x side key m c d).desk
+bye-on stage site at x side key m c d =
+    either_step (has_left stage side) d (onward c (replied_to site c key m 481 d)) (left_by stage site at x side m c (replied_to site c key m 200 d)) (none d) (left-on stage site at x side m c (replied_to site c key m 200 d))
+
+heard_at-on : (stage : Stage) (site : Site) (at : ℕ) (x : Pair) (side : Side) (key : TKey) (m : Said) (c : Call) (d : Desk) → On d (on_heard_at stage site at x side key m c d).desk
+heard_at-on stage site at x side key m c d =
+    either_step (is_invite m) d (on_invite stage site x side key m c d) _ (invite-on stage site x side key m c d)
+    (either_step (is_bye m) d (on_bye stage site at x side key m c d) (onward c (unlisted site c key m d)) (bye-on stage site at x side key m c d) (in_order-on site c key m d))
+
+request_at_if-on : (r : Result (Unit {0}) DialogueFault) (stage : Stage) (site : Site) (at : ℕ) (x : Pair) (side : Side) (key : TKey) (m : Said) (c : Call) (d : Desk) → On d (on_request_at_if r stage site at x side key m c d).desk
+request_at_if-on (Ok heard) stage site at x side key m c d = heard_at-on stage site at _ side key m _ d
+request_at_if-on (Err fault) stage site at x side key m c d = unheard-on site c key m fault d
+
+ack_at-on : (stage : Stage) (site : Site) (at : ℕ) (x : Pair) (side : Side) (m : Said) (c : Call) (d : Desk) → On d (on_ack_at stage site at x side m c d).desk
+ack_at-on (Answered waiting success) site at x side m c d = either_step (acknowledges waiting success side m) d (acked_across site x side success m c d) (onward c d) (once d) (none d)
+ack_at-on (Parting waiting success) site at x side m c d = either_step (acknowledges waiting success side m) d (parted site at x side c d) (onward c d) (once d) (none d)
+ack_at-on Talking site at x side m c d = none d
+ack_at-on (Asking asking q) site at x side m c d = none d
+
+cancel_at-on : (stage : Stage) (site : Site) (x : Pair) (invite : TKey) (c : Call) (d : Desk) → On d (on_cancel_at stage site x invite c d).desk
+cancel_at-on (Answered waiting success) site x invite c d = none d
+cancel_at-on (Parting waiting success) site x invite c d = none d
+cancel_at-on Talking site x invite c d = none d
+cancel_at-on (Asking asking q) site x invite c d = either_step (invite.0 == q.key.0) d (cancelled_across site x asking q c d) (onward c d) (cancelled-on site.sip q.invitation d) (none d)
+
+across-on : (site : Site) (at : ℕ) (x : Pair) (side : Side) (q : Reinvite) (key : TKey) (m : Said) (code : ℕ) (c : Call) (d : Desk) → On d (on_response_across site at x side q key m code c d).desk
+across-on site at x side q key m code c d =
+    either_step (nat_lt code 200) d (proceeding_across site x side q key c d) _ (told-on q.cancel_due d (cancelled site.sip (has_said key q.invitation) d) (cancelled-on site.sip (has_said key q.invitation) d))
+    (either_step (nat_lt code 300) d (agreed site at x side q key m c d) _ (none d)
+    (either_step (ends_dialog code) d _ _ (twice d) (none d)))
+
+response_at-on : (stage : Stage) (site : Site) (at : ℕ) (x : Pair) (key : TKey) (m : Said) (c : Call) (d : Desk) → On d (on_response_at stage site at x key m c d).desk
+response_at-on (Answered waiting success) site at x key m c d = none d
+response_at-on (Parting waiting success) site at x key m c d = none d
+response_at-on Talking site at x key m c d = none d
+response_at-on (Asking asking q) site at x key m c d = across-on site at x asking q key m (status_of m.heard.start) c d
+
+silence_at-on : (stage : Stage) (site : Site) (at : ℕ) (x : Pair) (c : Call) (d : Desk) → On d (on_silence_at stage site at x c d).desk
+silence_at-on (Answered waiting success) site at x c d = none d
+silence_at-on (Parting waiting success) site at x c d = none d
+silence_at-on Talking site at x c d = none d
+silence_at-on (Asking asking q) site at x c d = twice d
+
+rung-on : (stage : Stage) (site : Site) (at : ℕ) (x : Pair) (c : Call) (d : Desk) → On d (rung_out stage site at x c d).desk
+rung-on (Answered waiting success) site at x c d = thrice d
+rung-on (Parting waiting success) site at x c d = once d
+rung-on Talking site at x c d = none d
+rung-on (Asking asking q) site at x c d = none d
+
+-- ---- other INVITEs
+
+success-on : (sip : Addr) (l : Loose) (remote : Remote) (o : Option Dialogue) (d : Desk) → On d (on_success_in sip l remote o d).desk
+success-on sip l remote (Some x) d = once d
+success-on sip l remote None d = twice d
+
+late-on : (b : Bool) (sip : Addr) (l : Loose) (d : Desk) → l.invitation.cancelled ≡ b → On d (late_cancelled sip l d).desk
+late-on true sip l d e = rw e (none d)
+late-on false sip l d e = rw e (none d)
+
+loose_by : (b c : Bool) (d : Desk) (r s t : Rattle.mmtel_desk.specs.Loose.Rest) → On d r.desk → On d s.desk → On d t.desk → On d (if b then r else if c then s else t).desk
+loose_by true c d r s t x y z = x
+loose_by false true d r s t x y z = y
+loose_by false false d r s t x y z = z
+
+loose-on : (sip : Addr) (key : TKey) (m : HeardMessage) (l : Loose) (d : Desk) → On d (loose_response sip key m l d).desk
+loose-on sip key m l d =
+    loose_by (nat_lt (status_of m.start) 200) (nat_lt (status_of m.start) 300) d _ _ _
+    (late-on l.invitation.cancelled sip (with_invitation l (has_said key l.invitation)) d refl)
+    (success-on sip (with_invitation l (knows key l.invitation)) (remote_of Callee m.lines) _ d)
+    (none d)
+
+answered_loose-on : (site : Site) (key : TKey) (m : Said) (at : ℕ) (o : Option Loose) (c : Call) (d : Desk) → On d (answered_loose site key m at o c d).desk
+answered_loose-on site key m at None c d = none d
+answered_loose-on site key m at (Some l) c d = loose-on site.sip key m.heard l d
+
+again-on : (t : Taken) (o : Option (List ℕ)) (d : Desk) → On d (acked_again t o d)
+again-on t None d = none d
+again-on t (Some text) d = none d
+
+taken-on : (site : Site) (key : TKey) (m : Said) (at : ℕ) (o : Option Taken) (c : Call) (d : Desk) → On d (answered_taken site key m at o c d).desk
+taken-on site key m at None c d = none d
+taken-on site key m at (Some t) c d =
+    either_step (not (is_success (status_of m.heard.start))) d (onward c d) _ (none d)
+    (either_step (is_fork t m) d (forked site key m at t c d) (repeated t c d) (loose-on site.sip key m.heard (as_loose t) d)
+    (told-on (is_talking c.phase) d (acked_again t t.invitation.ack d) (again-on t t.invitation.ack d)))
+
+taken_at-on : (site : Site) (key : TKey) (m : Said) (o : Option ℕ) (c : Call) (d : Desk) → On d (answered_taken_at site key m o c d).desk
+taken_at-on site key m None c d = none d
+taken_at-on site key m (Some at) c d = taken-on site key m at (slice_get c.taken at) c d
+
+answered_at-on : (site : Site) (key : TKey) (m : Said) (branch : List ℕ) (o : Option ℕ) (c : Call) (d : Desk) → On d (answered_at site key m branch o c d).desk
+answered_at-on site key m branch None c d = taken_at-on site key m (position (is_taken branch) c.taken) c d
+answered_at-on site key m branch (Some at) c d = answered_loose-on site key m at (slice_get c.loose at) c d
+
+other-on : (site : Site) (key : TKey) (m : Said) (branch : List ℕ) (c : Call) (d : Desk) → On d (answered_other site key m branch c d).desk
+unfolding answered_other
+other-on site key m branch c d = answered_at-on site key m branch (position (is_of branch) c.loose) c d
+
+-- ---- by phase
+
+response_in-on : (p : Phase) (site : Site) (now : Standing) (key : TKey) (m : Said) (c : Call) (d : Desk) → On d (response_in p site now key m c d).desk
+response_in-on (Offered x) site now key m c d = response-on site now x key m (status_of m.heard.start) c d
+response_in-on (Stood x stage) site now key m c d = response_at-on stage site now.at x key m c d
+response_in-on (Lent loan) site now key m c d = none d
+response_in-on (Over cause) site now key m c d = none d
+
+silence_in-on : (p : Phase) (site : Site) (now : Standing) (c : Call) (d : Desk) → On d (silence_in p site now c d).desk
+silence_in-on (Offered x) site now c d = silenced-on site now x c d
+silence_in-on (Stood x stage) site now c d = silence_at-on stage site now.at x c d
+silence_in-on (Lent loan) site now c d = none d
+silence_in-on (Over cause) site now c d = none d
+
+request_in-on : (p : Phase) (site : Site) (at : ℕ) (side : Side) (key : TKey) (m : Said) (c : Call) (d : Desk) → On d (request_in p site at side key m c d).desk
+request_in-on (Offered x) site at side key m c d = request_if-on (says_offered x side m) site at x side key m c d
+request_in-on (Stood x stage) site at side key m c d = request_at_if-on _ stage site at x side key m c d
+request_in-on (Lent loan) site at side key m c d = none d
+request_in-on (Over cause) site at side key m c d = none d
+
+ack_in-on : (p : Phase) (site : Site) (at : ℕ) (side : Side) (m : Said) (c : Call) (d : Desk) → On d (ack_in p site at side m c d).desk
+ack_in-on (Offered x) site at side m c d = none d
+ack_in-on (Stood x stage) site at side m c d = ack_at-on stage site at x side m c d
+ack_in-on (Lent loan) site at side m c d = none d
+ack_in-on (Over cause) site at side m c d = none d
+
+cancel_in-on : (p : Phase) (site : Site) (at : ℕ) (key : TKey) (m : Said) (invite : TKey) (c : Call) (d : Desk) → On d (cancel_in p site at key m invite c d).desk
+cancel_in-on (Offered x) site at key m invite c d = cancel-on site at x key m invite c d
+cancel_in-on (Stood x stage) site at key m invite c d = cancel_at-on stage site x invite c (replied_to site c key m 200 d)
+cancel_in-on (Lent loan) site at key m invite c d = none d
+cancel_in-on (Over cause) site at key m invite c d = none d
+
+due_in-on : (p : Phase) (site : Site) (now : Standing) (what : DueWord) (c : Call) (d : Desk) → On d (due_in p site now what c d).desk
+due_in-on (Offered x) site now what c d = due-on what site now x c d
+due_in-on (Stood x stage) site now what c d = either_step (is_due_at stage what) d (rung_out stage site now.at x c d) (onward c d) (rung-on stage site now.at x c d) (none d)
+due_in-on (Lent loan) site now what c d = none d
+due_in-on (Over cause) site now what c d = none d
+
+answer_to-on : (o : Option (List ℕ)) (site : Site) (now : Standing) (key : TKey) (m : Said) (c : Call) (d : Desk) → On d (answer_to o site now key m c d).desk
+answer_to-on None site now key m c d = none d
+answer_to-on (Some branch) site now key m c d =
+    either_step (is_current branch c) d (response_in c.phase site now key m c d) (answered_other site key m branch c d) (response_in-on c.phase site now key m c d) (other-on site key m branch c d)
+
+silence_of-on : (o : Option (List ℕ)) (site : Site) (now : Standing) (c : Call) (d : Desk) → On d (silence_of o site now c d).desk
+silence_of-on None site now c d = none d
+silence_of-on (Some branch) site now c d =
+    either_step (is_current branch c) d (silence_in c.phase site now c d) (onward (without_silent branch c) d) (silence_in-on c.phase site now c d) (none d)
+
+step-on : (site : Site) (now : Standing) (x : Signal) (c : Call) (d : Desk) → On d (step site now x c d).desk
+unfolding step
+step-on site now (signal.Request side key request) c d = request_in-on c.phase site now.at side key request c d
+step-on site now (signal.Ack side ack) c d = ack_in-on c.phase site now.at side ack c d
+step-on site now (signal.Cancel key cancel invite) c d = cancel_in-on c.phase site now.at key cancel invite c d
+step-on site now (signal.Answer key response) c d = answer_to-on (invite_answered response) site now key response c d
+step-on site now (signal.Silent branch method) c d = silence_of-on (invite_silent branch method) site now c d
+step-on site now (signal.Due what) c d = due_in-on c.phase site now what c d
+step-on site now (signal.Ended key) c d = none d
+
+-- ---- how it opens
+
+unless_refused-on : (o : Option Cause) (site : Site) (now : Standing) (caller : Leg) (c : Call) (d : Desk) → On d (unless_refused o site now caller c d).desk
+unless_refused-on None site now caller c d = target-on c.diversions.left site now caller (divert-on c.diversions.left site now caller) None (first_of c.opening) c d
+unless_refused-on (Some cause) site now caller c d = none d
+
+opened-on : (site : Site) (now : Standing) (a : Arrival) (d : Desk) → On d (opened site now a d).desk
+unfolding opened
+opened-on site now a d =
+    let c = new_call site (opening_of site now (token d) a) in
+    then_on d (told_caller site c 100 (drew d)) (opened site now a d).desk (once d)
+    (unless_refused-on (refusal_of now.at c.opening) site now (caller_of now.at c) c (told_caller site c 100 (drew d)))
+
+-- ---- the table
+
+module _ (site : Site) (at : ℕ) (view : InForce) where
+  step_of-on : (busy : List Account) (x : Signal) (d : Desk) (e : Entry) → On d (step_of site at view busy x d e).desk
+  unfolding step_of
+  step_of-on busy x d e = step-on site (standing at view busy) x e.call d
+
+  open_of-on : (busy : List Account) (a : Arrival) (d : Desk) → On d (open_of site at view busy a d).desk
+  unfolding open_of
+  open_of-on busy a d = opened-on site (standing at view busy) a d
+
+  at-on : (x : Signal) (invites : List InviteKey) (place : ℕ) (o : Option Entry) (es : List Entry) (d : Desk) → On d (moved_at site at view x invites place o es d).desk
+  at-on x invites place None es d = none d
+  at-on x invites place (Some e) es d = step_of-on (busy_beside e.call.opening.number.0 es) x d e
+
+  in-on : (x : Signal) (invites : List InviteKey) (o : Option ℕ) (es : List Entry) (d : Desk) → On d (moved_in site at view x invites o es d).desk
+  in-on x invites None es d = none d
+  in-on x invites (Some place) es d = at-on x invites place (slice_get es place) es d
+
+  taken_by-on : (number : ℕ) (x : table.Signal) (es : List Entry) (d : Desk) → On d (taken site at view number x es d).desk
+  unfolding taken
+  taken_by-on number (of_table.Arrived key invite served registration identities) es d =
+      let a : Arrival = record { number = record { 0 = number }; key = key; invite = invite; served = served; registration = registration; identities = identities } in
+      open_of-on (busy_with a es) a d
+  taken_by-on number (of_table.Request call side key request) es d = in-on (signal.Request side key request) (invites_by side key request) (position (is_numbered call.0) es) es d
+  taken_by-on number (of_table.Ack call side ack) es d = in-on (signal.Ack side ack) [] (position (is_numbered call.0) es) es d
+  taken_by-on number (of_table.Cancel call key cancel invite) es d = in-on (signal.Cancel key cancel invite) [] (position (is_numbered call.0) es) es d
+  taken_by-on number (of_table.Answer key response) es d = in-on (signal.Answer key response) [] (position (sent_it (invite_answered response)) es) es d
+  taken_by-on number (of_table.Silent branch method) es d = in-on (signal.Silent branch method) [] (position (sent_it (invite_silent branch method)) es) es d
+  taken_by-on number (of_table.Due call what) es d = in-on (signal.Due what) [] (position (is_numbered call.0) es) es d
+  taken_by-on number (of_table.Over key) es d = in-on (signal.Ended key) [] (position (heard_by key) es) es d
+
+pub draw_on : CallsDrawOn
+draw_on site deeds x = taken_by-on site x.at x.view _ x.signal (table_after site deeds).entries (fresh x.tokens)

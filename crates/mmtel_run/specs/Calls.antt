@@ -1,0 +1,81 @@
+-- To which call a message belongs, whether it is over or not and from whichever peer it comes, and what the calls are told (RFC 3261 §9.2, §12.2.2, §17.1.3; RFC 5502 §6).
+use Rattle.std.specs.Prelude.{ℕ, nat_le, Bool, List, [], ◌∷◌, Option, Some, None, count_by}
+use Rattle.mmtel_answers.specs.Said.{Said}
+use Rattle.mmtel_b2bua.specs.Entries.{is_live}
+use Rattle.mmtel_b2bua.specs.Histories.{Deed, table_after}
+use Rattle.mmtel_b2bua.specs.Names.{first_side, side_asking, side_named}
+use Rattle.mmtel_b2bua.specs.Tables.{Table, most_calls}
+use Rattle.mmtel_b2bua.specs.declared.entries.Entry.{Entry}
+use Rattle.mmtel_b2bua.specs.declared.signals.Signal.{Signal}
+use Rattle.mmtel_b2bua.specs.declared.signals.Signal.TheVariants as signal
+use Rattle.mmtel_call.specs.Site.{Site}
+use Rattle.mmtel_directory.specs.declared.directories.Directory.{Directory}
+use Rattle.mmtel_parties.specs.Parties.{parties_of, served_accounts}
+use Rattle.mmtel_parties.specs.declared.parties.Parties.{Parties}
+use Rattle.mmtel_rules.specs.declared.values.Identities2.{Identities2}
+use Rattle.mmtel_transaction.specs.declared.words.TKey.{TKey}
+use Rattle.mmtel_trust.specs.Asserted.{asserted}
+use Rattle.mmtel_trust.specs.Digest.{HeardMessage}
+use Rattle.mmtel_trust.specs.declared.accounts.AccountIdentity.{AccountIdentity}
+use Rattle.mmtel_trust.specs.declared.identities.Identities.{Identities}
+use Rattle.mmtel_types.specs.declared.numbers.CallNo.{CallNo}
+use Rattle.mmtel_types.specs.declared.sides.Side.{Side}
+
+-- the configuration, as calls know it
+abbrev pub site_of : Directory → Site
+site_of directory = record { sip = directory.sip; home = directory.home; bound = directory.bound; peers = directory.peers; accounts = directory.names.accounts }
+
+-- the calls, after what was done on them
+abbrev pub calls_after : Directory → List Deed → Table
+calls_after directory deeds = table_after (site_of directory) deeds
+
+-- ---- to which call a message belongs
+
+-- the name of a dialog: its Call-ID, the server's tag, and that of the other side (§12)
+pub record DialogName : Type 0 where
+  pub call_id : List ℕ
+  pub local : List ℕ
+  pub remote : List ℕ
+
+abbrev pub name_by : Option (List ℕ) → Option (List ℕ) → Option (List ℕ) → Option DialogName
+name_by None local remote = None
+name_by (Some call_id) None remote = None
+name_by (Some call_id) (Some local) None = None
+name_by (Some call_id) (Some local) (Some remote) = Some (record { call_id = call_id; local = local; remote = remote })
+
+-- the one that a message of a peer names: To has the server's tag
+abbrev pub dialog_name : HeardMessage → Option DialogName
+dialog_name message = name_by message.call_id message.to_tag message.from_tag
+
+-- the call that lives and the side whose dialog has this name
+abbrev pub find_dialog : Option DialogName → List Entry → Option (CallNo × Side)
+find_dialog None entries = None
+find_dialog (Some name) entries = first_side (side_named name.call_id name.local name.remote) entries
+
+-- the call that lives and the side whose dialog a message names
+abbrev pub named_by : HeardMessage → List Entry → Option (CallNo × Side)
+named_by message entries = find_dialog (dialog_name message) entries
+
+-- the call that lives and the side whose INVITE opened a server transaction
+abbrev pub asked_by : TKey → List Entry → Option (CallNo × Side)
+asked_by invite entries = first_side (side_asking invite) entries
+
+-- ---- an INVITE that opens a call
+
+-- so many live that no more is opened
+abbrev pub are_full : List Entry → Bool
+are_full entries = nat_le most_calls (count_by is_live entries)
+
+-- who its caller is, where its sender is believed
+abbrev pub both_of : Identities → Identities2
+both_of identities = record { sip = identities.sip; tel = identities.tel }
+
+abbrev pub caller_of : HeardMessage → Identities2
+caller_of message = both_of (asserted message.trusted message.lines)
+
+abbrev pub arrived_by : Parties → TKey → Said → Signal
+arrived_by parties key said = signal.Arrived key said (served_accounts parties) parties.registration (caller_of said.heard)
+
+-- with what is read of its parties
+abbrev pub arrived : List AccountIdentity → TKey → Said → Signal
+arrived accounts key said = arrived_by (parties_of accounts said.heard) key said

@@ -1,0 +1,66 @@
+-- The deadlines of calls, and which of all deadlines comes first (RFC 3261 §17; §13.3.1.4, TS 24.604 §4.8).
+use Rattle.std.specs.Prelude.{ℕ, ◌==◌, ◌&&◌, ◌||◌, nat_lt, nat_le, Bool, true, false, if◌then◌else◌, List, [], ◌∷◌, Option, Some, None}
+use Rattle.mmtel_transaction.specs.Answers.{Next}
+use Rattle.mmtel_transaction.specs.declared.words.DueWord.{DueWord}
+use Rattle.mmtel_transaction.specs.declared.words.DueWord.TheVariants as due
+use Rattle.mmtel_types.specs.declared.numbers.CallNo.{CallNo}
+
+-- ---- deadlines of calls
+
+-- what is due of a call, its moment, and the step in which it was armed
+pub record Armed : Type 0 where
+  pub call : CallNo
+  pub what : DueWord
+  pub at : ℕ
+  pub step : ℕ
+
+-- the order of those of one call that were armed in one step for one moment
+abbrev pub rank : DueWord → ℕ
+rank (due.NoReply attempt) = 0
+rank (due.Cap attempt) = 1
+rank (due.NoAck success) = 2
+
+-- by moment, then by the step that armed them, then by that order
+abbrev pub is_sooner : Armed → Armed → Bool
+is_sooner one other = nat_lt one.at other.at || (one.at == other.at && (nat_lt one.step other.step || (one.step == other.step && nat_lt (rank one.what) (rank other.what))))
+
+-- a deadline, and the others
+pub record Chosen : Type 0 where
+  pub first : Armed
+  pub others : List Armed
+
+abbrev pub choose : Armed → List Armed → Chosen
+choose first others = record { first = first; others = others }
+
+-- it, or the one that is chosen of those behind it, where that is sooner
+abbrev pub sooner : Armed → (others : List Armed) → Chosen → Chosen
+sooner armed others behind = if is_sooner behind.first armed then choose behind.first (armed ∷ behind.others) else choose armed others
+
+-- of one that is due or not, and what is chosen of those behind it
+abbrev pub chosen : (is_due : Bool) → Armed → (others : List Armed) → Option Chosen → Option Chosen
+chosen false armed others None = None
+chosen false armed others (Some behind) = Some (choose behind.first (armed ∷ behind.others))
+chosen true armed others None = Some (choose armed others)
+chosen true armed others (Some behind) = Some (sooner armed others behind)
+
+-- the one that comes first of those that are due, and of equal ones the one that was armed first; the others stand as they stood
+abbrev pub first_armed : ℕ → List Armed → Option Chosen
+first_armed now [] = None
+first_armed now (armed ∷ others) = chosen (nat_le armed.at now) armed others (first_armed now others)
+
+-- ---- all deadlines
+
+-- the first one: of a message, or of a call, with the other ones of calls
+pub data Deadline : Type 0 where
+  OfMessage : Deadline
+  OfCall : (armed : Armed) → (others : List Armed) → Deadline
+
+-- that of a message comes before that of a call, unless its moment is later, or of one moment its step
+abbrev pub comes_before : Next → Armed → Bool
+comes_before next armed = nat_lt next.at armed.at || (next.at == armed.at && nat_le next.entry.step armed.step)
+
+abbrev pub first_of : Option Next → Option Chosen → Option Deadline
+first_of None None = None
+first_of (Some next) None = Some OfMessage
+first_of None (Some call) = Some (OfCall call.first call.others)
+first_of (Some next) (Some call) = if comes_before next call.first then Some OfMessage else Some (OfCall call.first call.others)

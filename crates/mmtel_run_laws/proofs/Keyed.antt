@@ -1,0 +1,231 @@
+-- Calls are opened and asked by requests that each have a server transaction of their own, so fewer are opened than there are transactions.
+use Rattle.std.proofs.Common.{◌≡◌, ℕ, ◌+◌, ◌≤◌, ◌<◌, List, [], ◌∷◌, length, refl, arith, length-append, le_trans}
+use Rattle.std.proofs.lemmas.Bool.{ne_eqb}
+use Rattle.mmtel_b2bua.specs.Histories.{Deed, Drops, Finishes, Heard, Hears, Releases, Restores, table_after}
+use Rattle.mmtel_b2bua.specs.Tables.{opened_after}
+use Rattle.mmtel_b2bua.specs.declared.signals.Signal.{Signal}
+use Rattle.mmtel_b2bua.specs.declared.signals.Signal.TheVariants as signal
+use Rattle.mmtel_b2bua_laws.specs.Deeds.{HasOwnKey, HaveOwnKeys, IsOtherDeed, OpensOther}
+use Rattle.mmtel_call.specs.Site.{Site}
+use Rattle.mmtel_call_heads.specs.Emits.{Each}
+use Rattle.mmtel_message.specs.Message.{Message}
+use Rattle.mmtel_message.specs.declared.messages.Start.{Start}
+use Rattle.mmtel_transaction.specs.Calls.{Done, DidAck, DidAsk, DidBegin, DidFire, DidHear, DidReply, heard_opens, offers, opened, opens, step_of}
+use Rattle.mmtel_transaction.specs.declared.parts.Part.{Part}
+use Rattle.mmtel_transaction.specs.declared.parts.Part.TheVariants as part
+use Rattle.mmtel_transaction.specs.declared.words.TKey.{TKey}
+use Rattle.mmtel_types.specs.declared.numbers.Peer.{Peer}
+
+-- ---- how many transactions were opened
+
+abbrev pub keys : List Done → ℕ
+keys h = length (opened h)
+
+-- of one call one at most
+one-heard : (step key : ℕ) (p : Peer) (m : Message Start) (now : ℕ) (taken : Part) → length (heard_opens step key p m now taken) ≤ 1
+one-heard step key p m now part.Fresh = omega arith
+one-heard step key p m now part.Full = omega arith
+one-heard step key p m now (part.Repeat k) = omega arith
+one-heard step key p m now (part.Same k) = omega arith
+one-heard step key p m now (part.Answer k) = omega arith
+one-heard step key p m now (part.Acked k) = omega arith
+one-heard step key p m now part.AckOf2xx = omega arith
+one-heard step key p m now part.Stray = omega arith
+
+one-more : (step order key : ℕ) (x : Done) → length (opens step order key x) ≤ 1
+one-more step order key (DidBegin n) = omega arith
+one-more step order key (DidHear p m now taken) = one-heard step key p m now taken
+one-more step order key (DidAsk p m now) = omega arith
+one-more step order key (DidReply k m now) = omega arith
+one-more step order key (DidAck k m) = omega arith
+one-more step order key (DidFire k) = omega arith
+
+pub keys_grow : (x : Done) (h : List Done) → keys h ≤ keys (x ∷ h)
+keys_grow x h = omega (arith, length-append (opened h) (opens (step_of h) (offers h) (length (opened h)) x))
+
+pub keys_few : (h : List Done) → keys h ≤ length h
+keys_few [] = omega arith
+keys_few (x ∷ h) =
+    omega (arith, keys_few h, length-append (opened h) (opens (step_of h) (offers h) (length (opened h)) x), one-more (step_of h) (offers h) (length (opened h)) x)
+
+-- a request that is fresh opens one
+pub keys_fresh : (p : Peer) (m : Message Start) (now : ℕ) (h : List Done) → keys (DidHear p m now part.Fresh ∷ h) ≡ keys h + 1
+keys_fresh p m now h = length-append (opened h) (opens (step_of h) (offers h) (length (opened h)) (DidHear p m now part.Fresh))
+
+-- ---- deeds of which each opens or asks by a server transaction of its own, of so many
+
+abbrev pub OpensBelow : ℕ → Signal → Type 0
+OpensBelow n (signal.Arrived key invite served registration identities) = key.0 < n
+OpensBelow n (signal.Request call side key request) = Unit {0}
+OpensBelow n (signal.Ack call side ack) = Unit {0}
+OpensBelow n (signal.Cancel call key cancel invite) = Unit {0}
+OpensBelow n (signal.Answer key response) = Unit {0}
+OpensBelow n (signal.Silent branch method) = Unit {0}
+OpensBelow n (signal.Due call what) = Unit {0}
+OpensBelow n (signal.Over key) = Unit {0}
+
+abbrev pub IsBelow : ℕ → Deed → Type 0
+IsBelow n (Hears x) = OpensBelow n x.signal
+IsBelow n (Releases number side) = Unit {0}
+IsBelow n (Restores number away) = Unit {0}
+IsBelow n (Finishes number at tokens) = Unit {0}
+IsBelow n (Drops count) = Unit {0}
+
+pub record Keyed (site : Site) (n : ℕ) (deeds : List Deed) : Type 0 where
+  pub opened : (table_after site deeds).opened ≤ n
+  pub below : Each (IsBelow n) deeds
+  pub own : HaveOwnKeys deeds
+
+-- ---- of more transactions
+
+signal-below : (n m : ℕ) (s : Signal) → n ≤ m → OpensBelow n s → OpensBelow m s
+signal-below n m (signal.Arrived key invite served registration identities) le h = omega (arith, le, h)
+signal-below n m (signal.Request call side key request) le h = tt
+signal-below n m (signal.Ack call side ack) le h = tt
+signal-below n m (signal.Cancel call key cancel invite) le h = tt
+signal-below n m (signal.Answer key response) le h = tt
+signal-below n m (signal.Silent branch method) le h = tt
+signal-below n m (signal.Due call what) le h = tt
+signal-below n m (signal.Over key) le h = tt
+
+deed-below : (n m : ℕ) (deed : Deed) → n ≤ m → IsBelow n deed → IsBelow m deed
+deed-below n m (Hears x) le h = signal-below n m x.signal le h
+deed-below n m (Releases number side) le h = tt
+deed-below n m (Restores number away) le h = tt
+deed-below n m (Finishes number at tokens) le h = tt
+deed-below n m (Drops count) le h = tt
+
+all-below : (n m : ℕ) (deeds : List Deed) → n ≤ m → Each (IsBelow n) deeds → Each (IsBelow m) deeds
+all-below n m [] le h = tt
+all-below n m (deed ∷ deeds) le h = (deed-below n m deed le h.0, all-below n m deeds le h.1)
+
+pub more_keyed : (site : Site) (n m : ℕ) (deeds : List Deed) → n ≤ m → Keyed site n deeds → Keyed site m deeds
+more_keyed site n m deeds le k = record { opened = le_trans k.opened le; below = all-below n m deeds le k.below; own = k.own }
+
+-- ---- another transaction than those
+
+signal-other : (n : ℕ) (key : TKey) (s : Signal) → key.0 ≡ n → OpensBelow n s → OpensOther key s
+signal-other n key (signal.Arrived other invite served registration identities) is h = ne_eqb key.0 other.0 (λ e. omega (arith, e, is, h))
+signal-other n key (signal.Request call side other request) is h = tt
+signal-other n key (signal.Ack call side ack) is h = tt
+signal-other n key (signal.Cancel call other cancel invite) is h = tt
+signal-other n key (signal.Answer other response) is h = tt
+signal-other n key (signal.Silent branch method) is h = tt
+signal-other n key (signal.Due call what) is h = tt
+signal-other n key (signal.Over other) is h = tt
+
+deed-other : (n : ℕ) (key : TKey) (deed : Deed) → key.0 ≡ n → IsBelow n deed → IsOtherDeed key deed
+deed-other n key (Hears x) is h = signal-other n key x.signal is h
+deed-other n key (Releases number side) is h = tt
+deed-other n key (Restores number away) is h = tt
+deed-other n key (Finishes number at tokens) is h = tt
+deed-other n key (Drops count) is h = tt
+
+all-other : (n : ℕ) (key : TKey) (deeds : List Deed) → key.0 ≡ n → Each (IsBelow n) deeds → Each (IsOtherDeed key) deeds
+all-other n key [] is h = tt
+all-other n key (deed ∷ deeds) is h = (deed-other n key deed is h.0, all-other n key deeds is h.1)
+
+-- ---- one more deed
+
+-- a signal of a request has this transaction
+abbrev pub HasKey : ℕ → Signal → Type 0
+HasKey n (signal.Arrived key invite served registration identities) = key.0 ≡ n
+HasKey n (signal.Request call side key request) = key.0 ≡ n
+HasKey n (signal.Ack call side ack) = Unit {0}
+HasKey n (signal.Cancel call key cancel invite) = key.0 ≡ n
+HasKey n (signal.Answer key response) = Unit {0}
+HasKey n (signal.Silent branch method) = Unit {0}
+HasKey n (signal.Due call what) = Unit {0}
+HasKey n (signal.Over key) = Unit {0}
+
+-- a signal of no request
+abbrev pub HasNoKey : Signal → Type 0
+HasNoKey (signal.Arrived key invite served registration identities) = ⊥
+HasNoKey (signal.Request call side key request) = ⊥
+HasNoKey (signal.Ack call side ack) = Unit {0}
+HasNoKey (signal.Cancel call key cancel invite) = ⊥
+HasNoKey (signal.Answer key response) = Unit {0}
+HasNoKey (signal.Silent branch method) = Unit {0}
+HasNoKey (signal.Due call what) = Unit {0}
+HasNoKey (signal.Over key) = Unit {0}
+
+-- one more is opened at most
+next-opened : (s : Signal) (n : ℕ) → opened_after s n ≤ n + 1
+next-opened (signal.Arrived key invite served registration identities) n = omega arith
+next-opened (signal.Request call side key request) n = omega arith
+next-opened (signal.Ack call side ack) n = omega arith
+next-opened (signal.Cancel call key cancel invite) n = omega arith
+next-opened (signal.Answer key response) n = omega arith
+next-opened (signal.Silent branch method) n = omega arith
+next-opened (signal.Due call what) n = omega arith
+next-opened (signal.Over key) n = omega arith
+
+same-opened : (s : Signal) (n : ℕ) → HasNoKey s → opened_after s n ≡ n
+same-opened (signal.Arrived key invite served registration identities) n h = absurd h
+same-opened (signal.Request call side key request) n h = absurd h
+same-opened (signal.Ack call side ack) n h = refl
+same-opened (signal.Cancel call key cancel invite) n h = absurd h
+same-opened (signal.Answer key response) n h = refl
+same-opened (signal.Silent branch method) n h = refl
+same-opened (signal.Due call what) n h = refl
+same-opened (signal.Over key) n h = refl
+
+key-below : (n : ℕ) (s : Signal) → HasKey n s → OpensBelow (n + 1) s
+key-below n (signal.Arrived key invite served registration identities) h = omega (arith, h)
+key-below n (signal.Request call side key request) h = tt
+key-below n (signal.Ack call side ack) h = tt
+key-below n (signal.Cancel call key cancel invite) h = tt
+key-below n (signal.Answer key response) h = tt
+key-below n (signal.Silent branch method) h = tt
+key-below n (signal.Due call what) h = tt
+key-below n (signal.Over key) h = tt
+
+no-below : (n : ℕ) (s : Signal) → HasNoKey s → OpensBelow n s
+no-below n (signal.Arrived key invite served registration identities) h = absurd h
+no-below n (signal.Request call side key request) h = absurd h
+no-below n (signal.Ack call side ack) h = tt
+no-below n (signal.Cancel call key cancel invite) h = absurd h
+no-below n (signal.Answer key response) h = tt
+no-below n (signal.Silent branch method) h = tt
+no-below n (signal.Due call what) h = tt
+no-below n (signal.Over key) h = tt
+
+key-own : (n : ℕ) (s : Signal) (deeds : List Deed) → HasKey n s → Each (IsBelow n) deeds → HasOwnKey s deeds
+key-own n (signal.Arrived key invite served registration identities) deeds h below = tt
+key-own n (signal.Request call side key request) deeds h below = all-other n key deeds h below
+key-own n (signal.Ack call side ack) deeds h below = tt
+key-own n (signal.Cancel call key cancel invite) deeds h below = all-other n key deeds h below
+key-own n (signal.Answer key response) deeds h below = tt
+key-own n (signal.Silent branch method) deeds h below = tt
+key-own n (signal.Due call what) deeds h below = tt
+key-own n (signal.Over key) deeds h below = tt
+
+no-own : (s : Signal) (deeds : List Deed) → HasNoKey s → HasOwnKey s deeds
+no-own (signal.Arrived key invite served registration identities) deeds h = absurd h
+no-own (signal.Request call side key request) deeds h = absurd h
+no-own (signal.Ack call side ack) deeds h = tt
+no-own (signal.Cancel call key cancel invite) deeds h = absurd h
+no-own (signal.Answer key response) deeds h = tt
+no-own (signal.Silent branch method) deeds h = tt
+no-own (signal.Due call what) deeds h = tt
+no-own (signal.Over key) deeds h = tt
+
+-- a request of a fresh transaction is heard
+pub fresh_keyed : (site : Site) (n : ℕ) (deeds : List Deed) (x : Heard) → HasKey n x.signal → Keyed site n deeds → Keyed site (n + 1) (Hears x ∷ deeds)
+fresh_keyed site n deeds x h k = record {
+  opened = omega (arith, next-opened x.signal (table_after site deeds).opened, k.opened);
+  below = (key-below n x.signal h, all-below n (n + 1) deeds (omega arith) k.below);
+  own = (key-own n x.signal deeds h k.below, k.own);
+}
+
+-- what is no request is heard
+pub quiet_keyed : (site : Site) (n : ℕ) (deeds : List Deed) (x : Heard) → HasNoKey x.signal → Keyed site n deeds → Keyed site n (Hears x ∷ deeds)
+quiet_keyed site n deeds x h k = record {
+  opened = omega (arith, same-opened x.signal (table_after site deeds).opened h, k.opened);
+  below = (no-below n x.signal h, k.below);
+  own = (no-own x.signal deeds h, k.own);
+}
+
+-- rows are handed over
+pub dropped_keyed : (site : Site) (n count : ℕ) (deeds : List Deed) → Keyed site n deeds → Keyed site n (Drops count ∷ deeds)
+dropped_keyed site n count deeds k = record { opened = k.opened; below = (tt, k.below); own = (tt, k.own) }

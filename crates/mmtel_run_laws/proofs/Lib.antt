@@ -1,0 +1,16 @@
+mod Keyed
+mod Keeping
+mod Hearing
+mod Telling
+mod Standing
+mod Stories
+mod Bounded
+mod Charged
+mod Received
+mod Sheets
+mod Transacted
+mod Courses
+mod Plain
+mod Sending
+mod Concluding
+mod Homes

@@ -1,0 +1,197 @@
+-- The records in force have clean URIs: each URI of a record is read of a text by the grammar of URIs.
+use Rattle.std.proofs.Common.{◌≡◌, ℕ, Bool, true, false, List, [], ◌∷◌, ◌++◌, length, Option, Some, None, refl, IfOk, IfSome, Result, Ok, Err}
+use Rattle.std.specs.Prelude.{if◌then◌else◌, nat_lt, nat_le, not, ◌&&◌, ◌+◌, ℤ, int_lt, codes}
+use Rattle.std.specs.List.{list_all}
+use Rattle.std.specs.Str.{bytes_eq, is_utf8}
+use Rattle.toml.specs.Data.{Data, Items, Members, as_array, as_table, item, member, no_items, no_members}
+use Rattle.toml.specs.Parse.{parse_document}
+use Rattle.mmtel_call_heads.specs.Heard.{AreCleanRules, IsCleanSheet, IsCleanUri, is_clean_action, is_clean_rule}
+use Rattle.mmtel_call_heads.proofs.Bytes.{all_append, all_cons}
+use Rattle.mmtel_call_heads.proofs.Hearing.{read_uri_clean}
+use Rattle.mmtel_lex.specs.Reading.{Refusal, uri_of}
+use Rattle.mmtel_lex.specs.declared.values.Uri.{Uri}
+use Rattle.mmtel_sheet_grammar.specs.Answers.{Read, or_wrong, then_do}
+use Rattle.mmtel_sheet_grammar.specs.Elements.{is_target, target_at, target_or_wrong, text_at, time_at, tokens_at, truth_at, uri_read, uris_at, domain_at, number_at}
+use Rattle.mmtel_sheet_grammar.specs.Keys.{dotted, rule_key_of, rule_path}
+use Rattle.mmtel_sheet_grammar.specs.Rules.{action_of, allow_read, are_tables, event_read, forward_read, has_key, items_count, key_read, keys_of_rule, listed, listed_read, members_from, no_keys, rule_from, rule_key_read, rule_of, rules_at, rules_from, rules_of, rules_within, until_read, with_event}
+use Rattle.mmtel_sheet_grammar.specs.Texts.{document_read, kept_sheet, sheet_or_empty, sheet_read}
+use Rattle.mmtel_sheet_grammar.specs.Walk.{bar_of, diversion_key, diversion_of, diversion_part, named_read, no_diversion_keys, presentation_of, restriction_of, sheet_from, table_key_of, table_read, waiting_of}
+use Rattle.mmtel_sheet_grammar.specs.declared.drafts.DiversionDraft.{DiversionDraft}
+use Rattle.mmtel_sheet_grammar.specs.declared.drafts.Notices.{Notices}
+use Rattle.mmtel_sheet_grammar.specs.declared.drafts.RuleDraft.{RuleDraft}
+use Rattle.mmtel_sheet_grammar.specs.declared.keys.RuleKey.{RuleKey}
+use Rattle.mmtel_sheet_grammar.specs.declared.keys.RuleKey.TheVariants as key
+use Rattle.mmtel_sheet_grammar.specs.declared.keys.Service.{Service}
+use Rattle.mmtel_sheet_grammar.specs.declared.keys.Service.TheVariants as service
+use Rattle.mmtel_sheet_grammar.specs.declared.keys.TableKey.{TableKey}
+use Rattle.mmtel_sheet_grammar.specs.declared.keys.TableKey.TheVariants as table
+use Rattle.mmtel_sheet_values.specs.Sheets.{empty_sheet}
+use Rattle.mmtel_sheet_values.specs.declared.values.Action.{Action}
+use Rattle.mmtel_sheet_values.specs.declared.values.EventWord.{EventWord}
+use Rattle.mmtel_sheet_values.specs.declared.values.Rule.{Rule}
+use Rattle.mmtel_sheet_values.specs.declared.values.Sheet.{Sheet}
+use Rattle.mmtel_trust.specs.Asserted.{or_no_uri}
+
+-- ---- what is read, if it is
+
+module _ {A B : Type 0} where
+  then_ok : (P : A → Type 0) (Q : B → Type 0) (r : Read A) (next : A → Read B) → IfOk r P → ((a : A) → P a → IfOk (next a) Q) → IfOk (then_do r next) Q
+  then_ok P Q (Ok a) next h f = f a h
+  then_ok P Q (Err e) next h f = tt
+
+  -- whatever the first is
+  any_ok : (Q : B → Type 0) (r : Read A) (next : A → Read B) → ((a : A) → IfOk (next a) Q) → IfOk (then_do r next) Q
+  any_ok Q (Ok a) next f = f a
+  any_ok Q (Err e) next f = tt
+
+if_ok : {A : Type 0} (Q : A → Type 0) (b : Bool) (x y : Read A) → IfOk x Q → IfOk y Q → IfOk (if b then x else y) Q
+if_ok Q true x y h g = h
+if_ok Q false x y h g = g
+
+-- ---- the keys of a rule
+
+abbrev IsCleanDraft : RuleDraft → Type 0
+IsCleanDraft r = IfSome r.target IsCleanUri
+
+uri_ok : (at : List ℕ) (o : Result Uri Refusal) → IfSome (or_no_uri o) IsCleanUri → IfOk (or_wrong at (uri_read o)) IsCleanUri
+uri_ok at (Ok u) h = h
+uri_ok at (Err e) h = tt
+
+target_ok : (at : List ℕ) (d : Data) → IfOk (target_at at d) IsCleanUri
+target_ok at d =
+    any_ok IsCleanUri (text_at at d) (λ s. then_do (or_wrong at (uri_read (uri_of s))) (λ u. target_or_wrong at s u))
+    (λ s. then_ok IsCleanUri IsCleanUri (or_wrong at (uri_read (uri_of s))) (λ u. target_or_wrong at s u) (uri_ok at (uri_of s) (read_uri_clean s))
+    (λ u h. if_ok IsCleanUri (is_target u && nat_le (length s) 256) _ _ h tt))
+
+event_ok : (at : List ℕ) (e : EventWord) (r : RuleDraft) (o : Option EventWord) → IsCleanDraft r → IfOk (with_event at e r o) IsCleanDraft
+event_ok at e r None h = h
+event_ok at e r (Some f) h = tt
+
+event_read_ok : (at : List ℕ) (e : EventWord) (r : RuleDraft) (b : Bool) → IsCleanDraft r → IfOk (event_read at e r b) IsCleanDraft
+event_read_ok at e r true h = event_ok at e r r.event h
+event_read_ok at e r false h = h
+
+until_ok : (at : List ℕ) (r : RuleDraft) (t : ℤ) (o : Option ℤ) → IsCleanDraft r → IfOk (until_read at r t o) IsCleanDraft
+until_ok at r t None h = tt
+until_ok at r t (Some f) h = if_ok IsCleanDraft (int_lt f t) _ _ h tt
+
+key_ok : (ms : Members) (at : List ℕ) (r : RuleDraft) (k : RuleKey) (d : Data) → IsCleanDraft r → IfOk (key_read ms at r k d) IsCleanDraft
+key_ok ms at r key.Allow d h = any_ok IsCleanDraft (truth_at at d) _ (λ b. h)
+key_ok ms at r key.Anonymous d h = any_ok IsCleanDraft (truth_at at d) _ (λ b. h)
+key_ok ms at r (key.Event e) d h = any_ok IsCleanDraft (truth_at at d) _ (λ b. event_read_ok at e r b h)
+key_ok ms at r key.Except d h =
+    any_ok IsCleanDraft (uris_at at d) _ (λ uris. if_ok IsCleanDraft (has_key (codes "many") ms) _ _ (if_ok IsCleanDraft (nat_lt 64 (length uris) && not (has_key (codes "one") ms)) _ _ tt h) tt)
+key_ok ms at r key.From d h = any_ok IsCleanDraft (time_at at d) _ (λ t. if_ok IsCleanDraft (has_key (codes "until") ms) _ _ h tt)
+key_ok ms at r key.Id d h = any_ok IsCleanDraft (text_at at d) _ (λ s. h)
+key_ok ms at r key.Many d h = any_ok IsCleanDraft (domain_at at d) _ (λ s. h)
+key_ok ms at r key.Media d h = any_ok IsCleanDraft (tokens_at at d) _ (λ ts. h)
+key_ok ms at r (key.Notice n) d h = any_ok IsCleanDraft (truth_at at d) _ (λ b. h)
+key_ok ms at r key.One d h = any_ok IsCleanDraft (uris_at at d) _ (λ uris. if_ok IsCleanDraft (nat_lt 64 (length uris + length r.except)) _ _ tt h)
+key_ok ms at r key.Target d h = then_ok IsCleanUri IsCleanDraft (target_at at d) _ (target_ok at d) (λ u clean. clean)
+key_ok ms at r key.Until d h = any_ok IsCleanDraft (time_at at d) _ (λ t. until_ok at r t r.from h)
+
+listed_ok : (ms : Members) (at : List ℕ) (r : RuleDraft) (o : Option RuleKey) (d : Data) → IsCleanDraft r → IfOk (listed_read ms at r o d) IsCleanDraft
+listed_ok ms at r None d h = tt
+listed_ok ms at r (Some k) d h = key_ok ms at r k d h
+
+members_ok : {A : Type 0} (P : A → Type 0) (path : List ℕ) (read : List ℕ → A → List ℕ → Data → Read A) →
+    ((at : List ℕ) (a : A) (k : List ℕ) (d : Data) → P a → IfOk (read at a k d) P) → (a : A) (ms : Members) → P a → IfOk (members_from path read a ms) P
+members_ok P path read each a no_members h = h
+members_ok P path read each a (member k d ms) h =
+    then_ok P P (read (dotted path k) a k d) (λ b. members_from path read b ms) (each (dotted path k) a k d h) (λ b clean. members_ok P path read each b ms clean)
+
+-- ---- rules
+
+abbrev IsCleanRule : Rule → Type 0
+IsCleanRule r = is_clean_rule r ≡ true
+
+abbrev IsCleanAction : Action → Type 0
+IsCleanAction a = is_clean_action a ≡ true
+
+forward_ok : (path : List ℕ) (o : Option Uri) (n : Notices) → IfSome o IsCleanUri → IfOk (forward_read path o n) IsCleanAction
+forward_ok path None n h = tt
+forward_ok path (Some u) n h = h
+
+allow_ok : (path : List ℕ) (o : Option Bool) → IfOk (allow_read path o) IsCleanAction
+allow_ok path None = tt
+allow_ok path (Some b) = refl
+
+action_ok : (s : Service) (path : List ℕ) (target : Option Uri) (n : Notices) (allow : Option Bool) → IfSome target IsCleanUri → IfOk (action_of s path target n allow) IsCleanAction
+action_ok service.Diversion path target n allow h = forward_ok path target n h
+action_ok service.Incoming path target n allow h = allow_ok path allow
+action_ok service.Outgoing path target n allow h = allow_ok path allow
+
+rule_ok : (s : Service) (path : List ℕ) (ms : Members) → IfOk (rule_of s path ms) IsCleanRule
+rule_ok s path ms =
+    then_ok IsCleanDraft IsCleanRule (keys_of_rule s path ms) _
+    (members_ok IsCleanDraft path (λ at d k v. rule_key_read s ms at d k v) (λ at r k d h. listed_ok ms at r (listed s (rule_key_of k)) d h) no_keys ms tt)
+    (λ r h. then_ok IsCleanAction IsCleanRule (action_of s path r.target r.notices r.allow) (λ a. Ok (rule_from r a)) (action_ok s path r.target r.notices r.allow h) (λ a clean. clean))
+
+abbrev AreCleanOnes : List Rule → Type 0
+AreCleanOnes rules = list_all is_clean_rule rules ≡ true
+
+rules_from_ok : (s : Service) (path : List ℕ) (done : List Rule) (ds : Items) → AreCleanOnes done → IfOk (rules_from s path done ds) AreCleanOnes
+rules_from_ok s path done no_items h = h
+rules_from_ok s path done (item d ds) h =
+    any_ok AreCleanOnes (or_wrong path (as_table d)) _
+    (λ ms. then_ok IsCleanRule AreCleanOnes (rule_of s (rule_path path (length done)) ms) (λ r. rules_from s path (done ++ r ∷ []) ds) (rule_ok s (rule_path path (length done)) ms)
+    (λ r clean. rules_from_ok s path (done ++ r ∷ []) ds (all_append is_clean_rule done (r ∷ []) h (all_cons is_clean_rule r [] clean refl))))
+
+rules_ok : (s : Service) (at : List ℕ) (d : Data) → IfOk (rules_at s at d) AreCleanOnes
+rules_ok s at d =
+    any_ok AreCleanOnes (or_wrong at (as_array d)) (λ ds. rules_of s at ds)
+    (λ ds. if_ok AreCleanOnes (are_tables ds) (rules_within s at ds) _ (if_ok AreCleanOnes (nat_lt 64 (items_count ds)) _ (rules_from s at [] ds) tt (rules_from_ok s at [] ds refl)) tt)
+
+-- ---- tables
+
+abbrev IsCleanTable : DiversionDraft → Type 0
+IsCleanTable r = AreCleanOnes r.rules
+
+diversion_key_ok : (at : List ℕ) (r : DiversionDraft) (k : List ℕ) (d : Data) → IsCleanTable r → IfOk (diversion_key at r k d) IsCleanTable
+diversion_key_ok at r k d h =
+    if_ok IsCleanTable (bytes_eq k (codes "active")) _ _ (any_ok IsCleanTable (truth_at at d) _ (λ b. h))
+    (if_ok IsCleanTable (bytes_eq k (codes "deflection")) _ _ (any_ok IsCleanTable (truth_at at d) _ (λ b. h))
+    (if_ok IsCleanTable (bytes_eq k (codes "no-reply-time")) _ _ (any_ok IsCleanTable (number_at 5 180 at d) _ (λ n. h))
+    (if_ok IsCleanTable (bytes_eq k (codes "rule")) _ _ (then_ok AreCleanOnes IsCleanTable (rules_at service.Diversion at d) _ (rules_ok service.Diversion at d) (λ rs clean. clean)) tt)))
+
+part_ok : (b : Bool) (r : DiversionDraft) → IsCleanTable r → IfSome (diversion_part (record r { active = b })) AreCleanRules
+part_ok true r h = h
+part_ok false r h = tt
+
+diversion_ok : (path : List ℕ) (ms : Members) → IfOk (diversion_of path ms) (λ o. IfSome o AreCleanRules)
+diversion_ok path ms =
+    then_ok IsCleanTable (λ o. IfSome o AreCleanRules) (members_from path diversion_key no_diversion_keys ms) _
+    (members_ok IsCleanTable path diversion_key diversion_key_ok no_diversion_keys ms refl) (λ r h. part_ok r.active r h)
+
+table_ok : (at : List ℕ) (s : Sheet) (k : TableKey) (ms : Members) → IsCleanSheet s → IfOk (table_read at s k ms) IsCleanSheet
+table_ok at s table.Diversion ms h = then_ok (λ o. IfSome o AreCleanRules) IsCleanSheet (diversion_of at ms) _ (diversion_ok at ms) (λ p clean. clean)
+table_ok at s table.Incoming ms h = any_ok IsCleanSheet (bar_of service.Incoming at ms) _ (λ p. h)
+table_ok at s table.Outgoing ms h = any_ok IsCleanSheet (bar_of service.Outgoing at ms) _ (λ p. h)
+table_ok at s table.Oip ms h = any_ok IsCleanSheet (presentation_of at ms) _ (λ b. h)
+table_ok at s table.Oir ms h = any_ok IsCleanSheet (restriction_of at ms) _ (λ r. h)
+table_ok at s table.Tip ms h = any_ok IsCleanSheet (presentation_of at ms) _ (λ b. h)
+table_ok at s table.Tir ms h = any_ok IsCleanSheet (restriction_of at ms) _ (λ r. h)
+table_ok at s table.Waiting ms h = any_ok IsCleanSheet (waiting_of at ms) _ (λ n. h)
+
+named_ok : (at : List ℕ) (s : Sheet) (o : Option TableKey) (d : Data) → IsCleanSheet s → IfOk (named_read at s o d) IsCleanSheet
+named_ok at s None d h = tt
+named_ok at s (Some t) d h = any_ok IsCleanSheet (or_wrong at (as_table d)) (λ ms. table_read at s t ms) (λ ms. table_ok at s t ms h)
+
+-- ---- records
+
+sheet_from_ok : (s : Sheet) (ms : Members) → IsCleanSheet s → IfOk (sheet_from s ms) IsCleanSheet
+sheet_from_ok s no_members h = h
+sheet_from_ok s (member k d ms) h =
+    then_ok IsCleanSheet IsCleanSheet (named_read k s (table_key_of k) d) (λ t. sheet_from t ms) (named_ok k s (table_key_of k) d h) (λ t clean. sheet_from_ok t ms clean)
+
+document_ok : (o : Option Members) → IfOk (document_read o) IsCleanSheet
+document_ok None = tt
+document_ok (Some ms) = sheet_from_ok empty_sheet ms tt
+
+or_empty_ok : (r : Read Sheet) → IfOk r IsCleanSheet → IsCleanSheet (sheet_or_empty r)
+or_empty_ok (Ok s) h = h
+or_empty_ok (Err e) h = tt
+
+pub kept_clean : (bytes : List ℕ) → IsCleanSheet (kept_sheet bytes)
+unfolding sheet_read
+kept_clean bytes = or_empty_ok (sheet_read bytes) (if_ok IsCleanSheet (is_utf8 bytes) (document_read (parse_document bytes)) _ (document_ok (parse_document bytes)) tt)

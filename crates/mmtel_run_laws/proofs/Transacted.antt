@@ -1,0 +1,445 @@
+-- The texts that transactions keep, and send again, are those of requests and responses that were offered: where these are clean, so are they.
+use Rattle.std.proofs.Common.{◌≡◌, ℕ, zero, suc, ◌+◌, ◌==◌, Bool, true, false, not, ◌&&◌, ◌||◌, List, [], ◌∷◌, ◌++◌, length, Option, Some, None, refl, sym, ap, ◌∙◌, subst, IfSome, map, cond, arith}
+use Rattle.std.specs.Prelude.{if◌then◌else◌, nat_lt, nat_le, filter, find, is_some, IsSome, option_map, slice_get}
+use Rattle.std.specs.Option.{unwrap_or}
+use Rattle.std.specs.Str.{bytes_eq}
+use Rattle.std.proofs.lemmas.Bool.Decides.{nat_tests}
+use Rattle.std.proofs.lemmas.Bool.{eqb-true}
+use Rattle.std.proofs.lemmas.List.{map-append}
+use Rattle.std.proofs.lemmas.Option.{none-some, same_Some}
+use Rattle.mmtel_call_heads.specs.Clean.{IsCleanMessage}
+use Rattle.mmtel_call_heads.specs.Emits.{Each, IsTextOfClean}
+use Rattle.mmtel_call_heads.proofs.Sending.{each_append}
+use Rattle.mmtel_message.specs.Message.{Message}
+use Rattle.mmtel_message.specs.Texts.{message_text}
+use Rattle.mmtel_message.specs.declared.messages.Start.{Start}
+use Rattle.mmtel_transaction.specs.Answers.{Next, by_key, due_one, gives_again, gives_same, is_client_of, is_of, is_server_of, is_before, next_due, part_ack, part_of, part_request, part_response, says_due, sooner, text_again, then_gives, is_full}
+use Rattle.mmtel_transaction.specs.Calls.{Done, DidAck, DidAsk, DidBegin, DidFire, DidHear, DidReply, change, entry_of, heard_change, heard_opens, is_live, live, offers, opened, opens, step_of}
+use Rattle.mmtel_transaction.specs.Changes.{acked, acked_2xx, answered, finished, fired, hit, is_ack_of, kept, rang, replied}
+use Rattle.mmtel_transaction.specs.Deadlines.{deadline, ends, resend_at, resend_by}
+use Rattle.mmtel_transaction.specs.Heads.{head_of, is_ack, is_invite, is_provisional, is_refusal}
+use Rattle.mmtel_transaction.specs.declared.entries.Entry.{Entry}
+use Rattle.mmtel_transaction.specs.declared.entries.Plan.{Plan}
+use Rattle.mmtel_transaction.specs.declared.entries.Plan.TheVariants.{Idle, Invite, Other, Slow, Final, End}
+use Rattle.mmtel_transaction.specs.declared.entries.Plan.TheVariants as plan
+use Rattle.mmtel_transaction.specs.declared.heads.Head.{Head}
+use Rattle.mmtel_transaction.specs.declared.parts.Part.{Part}
+use Rattle.mmtel_transaction.specs.declared.parts.Part.TheVariants as part
+use Rattle.mmtel_transaction.specs.declared.words.Due.{Due}
+use Rattle.mmtel_transaction.specs.declared.words.Due.TheVariants as due
+use Rattle.mmtel_types.specs.declared.numbers.Peer.{Peer}
+
+-- ---- what was done on transactions
+
+-- what is offered is clean, and what is heard is taken for what the transactions make of it
+abbrev pub IsGoodAct : Done → List Done → Type 0
+IsGoodAct (DidBegin step) h = Unit {0}
+IsGoodAct (DidHear p m now taken) h = taken ≡ part_of (head_of m) (live h)
+IsGoodAct (DidAsk p m now) h = IsCleanMessage m
+IsGoodAct (DidReply key m now) h = IsCleanMessage m
+IsGoodAct (DidAck key m) h = IsCleanMessage m
+IsGoodAct (DidFire key) h = Unit {0}
+
+abbrev pub AreGoodActs : List Done → Type 0
+AreGoodActs [] = Unit {0}
+AreGoodActs (c ∷ h) = IsGoodAct c h × AreGoodActs h
+
+text_of : (m : Message Start) → IsCleanMessage m → IsTextOfClean (message_text m)
+text_of m clean = record { message = m; clean = clean; is = refl }
+
+-- ---- what a transaction keeps
+
+-- a server transaction sends only a final response again, and that it has
+abbrev Waits : Plan → Option (List ℕ) → Type 0
+Waits Idle last = Unit {0}
+Waits Invite last = ⊥
+Waits Other last = ⊥
+Waits Slow last = ⊥
+Waits Final last = IsSome last
+Waits End last = Unit {0}
+Waits plan.Acked last = Unit {0}
+
+pub record Keeps (K : ℕ → Bool → Type 0) (e : Entry) : Type 0 where
+  pub kind : K e.key e.is_server
+  pub request : e.is_server ≡ false → IsTextOfClean e.request
+  pub last : IfSome e.last IsTextOfClean
+  pub waits : e.is_server ≡ true → Waits e.plan e.last
+
+still-waits : (p : Plan) (last : Option (List ℕ)) (text : List ℕ) → Waits p last → Waits p (Some text)
+still-waits Idle last text w = tt
+still-waits Invite last text w = w
+still-waits Other last text w = w
+still-waits Slow last text w = w
+still-waits Final last text w = refl
+still-waits End last text w = tt
+still-waits plan.Acked last text w = tt
+
+module _ (K : ℕ → Bool → Type 0) where
+  either : (b : Bool) (x y : Entry) → Keeps K x → Keeps K y → Keeps K (if b then x else y)
+  either true x y h g = h
+  either false x y h g = g
+
+  -- the same transaction, in what is kept of it
+  as-before : (e x : Entry) → x.key ≡ e.key → x.is_server ≡ e.is_server → x.request ≡ e.request → x.last ≡ e.last → x.plan ≡ e.plan → Keeps K e → Keeps K x
+  as-before e x key server request last plan k = record {
+    kind = subst (λ (b : Bool). K x.key b) (sym server) (subst (λ (n : ℕ). K n e.is_server) (sym key) k.kind);
+    request = λ s. subst IsTextOfClean (sym request) (k.request (sym server ∙ s));
+    last = subst (λ (o : Option (List ℕ)). IfSome o IsTextOfClean) (sym last) k.last;
+    waits = λ s. subst (λ (o : Option (List ℕ)). Waits x.plan o) (sym last) (subst (λ (p : Plan). Waits p e.last) (sym plan) (k.waits (sym server ∙ s)));
+  }
+
+  fired-keeps : (step : ℕ) (e : Entry) → Keeps K e → Keeps K (fired step e)
+  fired-keeps step e k =
+      either (is_some (resend_at e)) (record e { shots = e.shots + 1; step = step }) (record e { is_over = true }) (as-before e _ refl refl refl refl refl k)
+      (as-before e _ refl refl refl refl refl k)
+
+  final-waits : (b : Bool) (text : List ℕ) → Waits (if b then Final else End) (Some text)
+  final-waits true text = refl
+  final-waits false text = tt
+
+  replied-keeps : (step order status : ℕ) (text to_tag : List ℕ) (now : ℕ) (e : Entry) → IsTextOfClean text → Keeps K e → Keeps K (replied step order status text to_tag now e)
+  replied-keeps step order status text to_tag now e clean k =
+      either (not e.is_server || not (e.done == 0)) e _ k
+      (either (is_provisional status) (record e { last = Some text }) _
+      (record { kind = k.kind; request = k.request; last = clean; waits = λ s. still-waits e.plan e.last text (k.waits s) })
+      (record { kind = k.kind; request = k.request; last = clean; waits = λ s. final-waits (is_invite e.asked) text }))
+
+  kept-keeps : (text : List ℕ) (e : Entry) → IsTextOfClean text → Keeps K e → Keeps K (kept text e)
+  kept-keeps text e clean k =
+      either (not e.is_server && e.is_refused) (record e { last = Some text }) e
+      (record { kind = k.kind; request = k.request; last = clean; waits = λ s. still-waits e.plan e.last text (k.waits s) }) k
+
+  acked-keeps : (step now : ℕ) (e : Entry) → Keeps K e → Keeps K (acked step now e)
+  acked-keeps step now e k =
+      either e.is_acked e (record e { is_acked = true; plan = plan.Acked; start = now; shots = 0; step = step }) k
+      (record { kind = k.kind; request = k.request; last = k.last; waits = λ s. tt })
+
+  acked-2xx-keeps : (step : ℕ) (m : Head) (e : Entry) → Keeps K e → Keeps K (acked_2xx step m e)
+  acked-2xx-keeps step m e k =
+      either (is_ack_of m e) (record e { is_acked = true; plan = End; step = step }) e (record { kind = k.kind; request = k.request; last = k.last; waits = λ s. tt }) k
+
+  -- a client transaction, whatever it waits for
+  client-keeps : (e x : Entry) → e.is_server ≡ false → x.key ≡ e.key → x.is_server ≡ e.is_server → x.request ≡ e.request → x.last ≡ e.last → Keeps K e → Keeps K x
+  client-keeps e x client key server request last k = record {
+    kind = subst (λ (b : Bool). K x.key b) (sym server) (subst (λ (n : ℕ). K n e.is_server) (sym key) k.kind);
+    request = λ s. subst IsTextOfClean (sym request) (k.request client);
+    last = subst (λ (o : Option (List ℕ)). IfSome o IsTextOfClean) (sym last) k.last;
+    waits = λ s. absurd (let f : true ≡ false = sym s ∙ (server ∙ client) in cc);
+  }
+
+  answered-keeps : (step status now : ℕ) (e : Entry) → e.is_server ≡ false → Keeps K e → Keeps K (answered step status now e)
+  answered-keeps step status now e client k =
+      either (is_provisional status) (rang step now e) (finished step status now e)
+      (either (e.is_early || not (e.done == 0)) e _ k (client-keeps e _ client refl refl refl refl k))
+      (either (not (is_invite e.asked)) _ _ (client-keeps e _ client refl refl refl refl k)
+      (either (not (e.done == 0)) _ _ (client-keeps e _ client refl refl refl refl k) (client-keeps e _ client refl refl refl refl k)))
+
+  hit-keeps : (key : ℕ) (f : Entry → Entry) (e : Entry) → (e.key ≡ key → Keeps K e → Keeps K (f e)) → Keeps K e → Keeps K (hit key f e)
+  hit-keeps key f e each k = go (e.key == key) refl
+    where
+      go : (b : Bool) → (e.key == key) ≡ b → Keeps K (if b then f e else e)
+      go true is = each (eqb-true e.key key is) k
+      go false is = k
+
+  -- one kind for each key; and an answer is heard by a client transaction
+  module _ (one : (n : ℕ) (a b : Bool) → K n a → K n b → a ≡ b) where
+    abbrev IsOfClient : Part → Type 0
+    IsOfClient part.Fresh = Unit {0}
+    IsOfClient part.Full = Unit {0}
+    IsOfClient (part.Repeat key) = Unit {0}
+    IsOfClient (part.Same key) = Unit {0}
+    IsOfClient (part.Answer key) = K key false
+    IsOfClient (part.Acked key) = Unit {0}
+    IsOfClient part.AckOf2xx = Unit {0}
+    IsOfClient part.Stray = Unit {0}
+
+    heard-keeps : (step : ℕ) (m : Message Start) (now : ℕ) (taken : Part) (e : Entry) → IsOfClient taken → Keeps K e → Keeps K (heard_change step m now taken e)
+    heard-keeps step m now part.Fresh e c k = k
+    heard-keeps step m now part.Full e c k = k
+    heard-keeps step m now (part.Repeat key) e c k = k
+    heard-keeps step m now (part.Same key) e c k = k
+    heard-keeps step m now (part.Answer key) e c k =
+        hit-keeps key (answered step (head_of m).status now) e
+        (λ same k. answered-keeps step (head_of m).status now e (one e.key e.is_server false k.kind (subst (λ (n : ℕ). K n false) (sym same) c)) k) k
+    heard-keeps step m now (part.Acked key) e c k = hit-keeps key (acked step now) e (λ same k. acked-keeps step now e k) k
+    heard-keeps step m now part.AckOf2xx e c k = acked-2xx-keeps step (head_of m) e k
+    heard-keeps step m now part.Stray e c k = k
+
+    abbrev IsGoodChange : Done → Type 0
+    IsGoodChange (DidBegin step) = Unit {0}
+    IsGoodChange (DidHear p m now taken) = IsOfClient taken
+    IsGoodChange (DidAsk p m now) = Unit {0}
+    IsGoodChange (DidReply key m now) = IsCleanMessage m
+    IsGoodChange (DidAck key m) = IsCleanMessage m
+    IsGoodChange (DidFire key) = Unit {0}
+
+    change-keeps : (step order : ℕ) (c : Done) (e : Entry) → IsGoodChange c → Keeps K e → Keeps K (change step order c e)
+    change-keeps step order (DidBegin n) e g k = k
+    change-keeps step order (DidHear p m now taken) e g k = heard-keeps step m now taken e g k
+    change-keeps step order (DidAsk p m now) e g k = k
+    change-keeps step order (DidReply key m now) e g k =
+        hit-keeps key (replied step order (head_of m).status (message_text m) (head_of m).to_tag now) e
+        (λ same k. replied-keeps step order (head_of m).status (message_text m) (head_of m).to_tag now e (text_of m g) k) k
+    change-keeps step order (DidAck key m) e g k = hit-keeps key (kept (message_text m)) e (λ same k. kept-keeps (message_text m) e (text_of m g) k) k
+    change-keeps step order (DidFire key) e g k = hit-keeps key (fired step) e (λ same k. fired-keeps step e k) k
+
+-- ---- of which kind the transaction of a number is
+
+abbrev Kind : List Done → ℕ → Bool → Type 0
+Kind h n b = (x : Entry) × (slice_get (opened h) n ≡ Some x) × (x.is_server ≡ b)
+
+one-kind : (h : List Done) (n : ℕ) (a b : Bool) → Kind h n a → Kind h n b → a ≡ b
+one-kind h n a b k l = let same : k.0 ≡ l.0 = same_Some k.0 l.0 (sym k.1 ∙ l.1) in sym k.2 ∙ (ap (λ (x : Entry). x.is_server) same ∙ l.2)
+
+get-left : (xs ys : List Entry) (n : ℕ) (x : Entry) → slice_get xs n ≡ Some x → slice_get (xs ++ ys) n ≡ Some x
+get-left [] ys n x h = absurd (none-some x h)
+get-left (y ∷ xs) ys zero x h = h
+get-left (y ∷ xs) ys (suc n) x h = get-left xs ys n x h
+
+get-next : (xs : List Entry) (x : Entry) → slice_get (xs ++ x ∷ []) (length xs) ≡ Some x
+get-next [] x = refl
+get-next (y ∷ xs) x = get-next xs x
+
+later-kind : (c : Done) (h : List Done) (n : ℕ) (b : Bool) → Kind h n b → Kind (c ∷ h) n b
+later-kind c h n b k = (k.0, get-left (opened h) (opens (step_of h) (offers h) (length (opened h)) c) n k.0 k.1, k.2)
+
+later : (c : Done) (h : List Done) (e : Entry) → Keeps (Kind h) e → Keeps (Kind (c ∷ h)) e
+later c h e k = record { kind = later-kind c h e.key e.is_server k.kind; request = k.request; last = k.last; waits = k.waits }
+
+all-later : (c : Done) (h : List Done) (es : List Entry) → Each (Keeps (Kind h)) es → Each (Keeps (Kind (c ∷ h))) es
+all-later c h [] k = tt
+all-later c h (e ∷ es) k = (later c h e k.0, all-later c h es k.1)
+
+-- ---- an answer is heard by a client transaction
+
+find-each : (P : Entry → Type 0) (p : Entry → Bool) (es : List Entry) → Each P es → IfSome (find p es) P
+find-each P p [] k = tt
+find-each P p (e ∷ es) k = go (p e) (find-each P p es k.1)
+  where
+    go : (b : Bool) → IfSome (find p es) P → IfSome (cond b (Some e) (find p es)) P
+    go true f = k.0
+    go false f = f
+
+find-passes : (p : Entry → Bool) (es : List Entry) → IfSome (find p es) (λ e. p e ≡ true)
+find-passes p [] = tt
+find-passes p (e ∷ es) = go (p e) refl (find-passes p es)
+  where
+    go : (b : Bool) → p e ≡ b → IfSome (find p es) (λ e. p e ≡ true) → IfSome (cond b (Some e) (find p es)) (λ e. p e ≡ true)
+    go true is f = is
+    go false is f = f
+
+is-client : (b c d : Bool) → (not b && c && d) ≡ true → b ≡ false
+is-client true c d e = absurd (let f : false ≡ true = e in cc)
+is-client false c d e = refl
+
+module _ (K : ℕ → Bool → Type 0) (one : (n : ℕ) (a b : Bool) → K n a → K n b → a ≡ b) where
+  -- of an ACK and of any other request
+  ack-part : (o : Option Entry) → IsOfClient K one (part_ack o)
+  ack-part None = tt
+  ack-part (Some e) = go e.is_refused
+    where
+      go : (b : Bool) → IsOfClient K one (if b then part.Acked e.key else part.AckOf2xx)
+      go true = tt
+      go false = tt
+
+  request-part : (full : Bool) (o : Option Entry) → IsOfClient K one (part_request full o)
+  request-part full (Some e) = tt
+  request-part true None = tt
+  request-part false None = tt
+
+  response-part : (m : Head) (o : Option Entry) → IfSome o (Keeps K) → IfSome o (λ e. is_client_of m e ≡ true) → IsOfClient K one (part_response m o)
+  response-part m None k c = tt
+  response-part m (Some e) k c = go (is_invite e.asked && e.is_refused && is_refusal m.status)
+    where
+      go : (b : Bool) → IsOfClient K one (if b then part.Same e.key else part.Answer e.key)
+      go true = tt
+      go false = subst (K e.key) (is-client e.is_server (bytes_eq e.asked.branch m.branch) (bytes_eq e.asked.method m.method) c) k.kind
+
+  either-part : (b : Bool) (x y : Part) → IsOfClient K one x → IsOfClient K one y → IsOfClient K one (if b then x else y)
+  either-part true x y h g = h
+  either-part false x y h g = g
+
+  taken-part : (m : Head) (es : List Entry) → Each (Keeps K) es → IsOfClient K one (part_of m es)
+  taken-part m es k =
+      either-part m.is_request _ _ (either-part (is_ack m) _ _ (ack-part (find (is_server_of m) es)) (request-part (is_full es) (find (is_server_of m) es)))
+      (response-part m (find (is_client_of m) es) (find-each (Keeps K) (is_client_of m) es k) (find-passes (is_client_of m) es))
+
+-- ---- all transactions
+
+filter-each : (P : Entry → Type 0) (p : Entry → Bool) (es : List Entry) → Each P es → Each P (filter p es)
+filter-each P p [] k = tt
+filter-each P p (e ∷ es) k = go (p e) (filter-each P p es k.1)
+  where
+    go : (b : Bool) → Each P (filter p es) → Each P (cond b (e ∷ filter p es) (filter p es))
+    go true f = (k.0, f)
+    go false f = f
+
+pub record AllKeep (h : List Done) : Type 0 where
+  pub firsts : Each (Keeps (Kind h)) (opened h)
+  pub now : Each (Keeps (Kind h)) (map (entry_of h) (opened h))
+
+live-keep : (h : List Done) → AllKeep h → Each (Keeps (Kind h)) (live h)
+live-keep h k = filter-each (Keeps (Kind h)) is_live (map (entry_of h) (opened h)) k.now
+
+good-change : (c : Done) (h : List Done) → IsGoodAct c h → AllKeep h → IsGoodChange (Kind h) (one-kind h) c
+good-change (DidBegin step) h g k = tt
+good-change (DidHear p m now taken) h g k = subst (IsOfClient (Kind h) (one-kind h)) (sym g) (taken-part (Kind h) (one-kind h) (head_of m) (live h) (live-keep h k))
+good-change (DidAsk p m now) h g k = tt
+good-change (DidReply key m now) h g k = g
+good-change (DidAck key m) h g k = g
+good-change (DidFire key) h g k = tt
+
+old-keep : (c : Done) (h : List Done) → IsGoodChange (Kind h) (one-kind h) c → (es : List Entry) → Each (Keeps (Kind h)) es → Each (Keeps (Kind h)) (map (entry_of h) es) →
+    Each (Keeps (Kind h)) (map (entry_of (c ∷ h)) es)
+old-keep c h g [] f k = tt
+old-keep c h g (e ∷ es) f k = (
+  either (Kind h) (nat_lt e.key (length (opened h))) _ e (change-keeps (Kind h) (one-kind h) (step_of h) (offers h) c (entry_of h e) g k.0) f.0,
+  old-keep c h g es f.1 k.1,
+)
+
+-- what one more call opens
+abbrev OpensKept : List Done → Done → List Entry → Type 0
+OpensKept h c new = Each (Keeps (λ n b. (x : Entry) × (slice_get (opened h ++ new) n ≡ Some x) × (x.is_server ≡ b))) new × Each (λ e. e.key ≡ length (opened h)) new
+
+server-opens : (h : List Done) (p : Peer) (m : Message Start) (now : ℕ) (taken : Part) → OpensKept h (DidHear p m now taken) (heard_opens (step_of h) (length (opened h)) p m now taken)
+server-opens h p m now part.Fresh = (
+  (record { kind = (_, get-next (opened h) _, refl); request = λ s. absurd (let f : true ≡ false = s in cc); last = tt; waits = λ s. tt }, tt),
+  (refl, tt),
+)
+server-opens h p m now part.Full = (tt, tt)
+server-opens h p m now (part.Repeat key) = (tt, tt)
+server-opens h p m now (part.Same key) = (tt, tt)
+server-opens h p m now (part.Answer key) = (tt, tt)
+server-opens h p m now (part.Acked key) = (tt, tt)
+server-opens h p m now part.AckOf2xx = (tt, tt)
+server-opens h p m now part.Stray = (tt, tt)
+
+new-keep : (c : Done) (h : List Done) → IsGoodAct c h → OpensKept h c (opens (step_of h) (offers h) (length (opened h)) c)
+new-keep (DidBegin step) h g = (tt, tt)
+new-keep (DidHear p m now taken) h g = server-opens h p m now taken
+new-keep (DidAsk p m now) h g = (
+  (record { kind = (_, get-next (opened h) _, refl); request = λ s. text_of m g; last = tt; waits = λ s. absurd (let f : false ≡ true = s in cc) }, tt),
+  (refl, tt),
+)
+new-keep (DidReply key m now) h g = (tt, tt)
+new-keep (DidAck key m) h g = (tt, tt)
+new-keep (DidFire key) h g = (tt, tt)
+
+not-before : (n : ℕ) → nat_lt n n ≡ false
+not-before n = grind (arith, nat_tests)
+
+new-stay : (c : Done) (h : List Done) (P : Entry → Type 0) (new : List Entry) → Each P new → Each (λ e. e.key ≡ length (opened h)) new → Each P (map (entry_of (c ∷ h)) new)
+new-stay c h P [] k is = tt
+new-stay c h P (e ∷ new) k is =
+    let test : nat_lt e.key (length (opened h)) ≡ false = ap (λ (n : ℕ). nat_lt n (length (opened h))) is.0 ∙ not-before (length (opened h)) in (
+      subst (λ (b : Bool). P (if b then change (step_of h) (offers h) c (entry_of h e) else e)) (sym test) k.0,
+      new-stay c h P new k.1 is.1,
+    )
+
+pub all_keep : (h : List Done) → AreGoodActs h → AllKeep h
+all_keep [] g = record { firsts = tt; now = tt }
+all_keep (c ∷ h) g =
+    let before = all_keep h g.1 in
+    let new = opens (step_of h) (offers h) (length (opened h)) c in
+    let opens_kept = new-keep c h g.0 in
+    let old : Each (Keeps (Kind (c ∷ h))) (map (entry_of (c ∷ h)) (opened h)) =
+    all-later c h (map (entry_of (c ∷ h)) (opened h)) (old-keep c h (good-change c h g.0 before) (opened h) before.firsts before.now) in
+    record {
+      firsts = each_append (Keeps (Kind (c ∷ h))) (opened h) new (all-later c h (opened h) before.firsts) opens_kept.0;
+      now = subst (Each (Keeps (Kind (c ∷ h)))) (sym (map-append (entry_of (c ∷ h)) (opened h) new))
+          (each_append (Keeps (Kind (c ∷ h))) (map (entry_of (c ∷ h)) (opened h)) (map (entry_of (c ∷ h)) new) old (new-stay c h (Keeps (Kind (c ∷ h))) new opens_kept.0 opens_kept.1));
+    }
+
+-- ---- what is sent again
+
+module _ (K : ℕ → Bool → Type 0) where
+  abbrev IsOwnAgain : Option (Peer × List ℕ) → Type 0
+  IsOwnAgain o = IfSome o (λ sent. IsTextOfClean sent.1)
+
+  same-last : (p : Peer) (o : Option (List ℕ)) → IfSome o IsTextOfClean → IsOwnAgain (option_map (λ t. (p, t)) o)
+  same-last p None h = tt
+  same-last p (Some text) h = h
+
+  pub same_own : (o : Option Entry) → IfSome o (Keeps K) → IsOwnAgain (then_gives gives_same o)
+  same_own None k = tt
+  same_own (Some e) k = same-last e.peer e.last k.last
+
+  pub again_own : (p : Peer) (o : Option Entry) → IfSome o (Keeps K) → IsOwnAgain (then_gives (gives_again p) o)
+  again_own p None k = tt
+  again_own p (Some e) k = go _
+    where
+      go : (b : Bool) → IsOwnAgain (if b then gives_same e else None)
+      go true = same-last e.peer e.last k.last
+      go false = tt
+
+  -- ---- deadlines
+
+  abbrev IsOwnNext : Option Next → Type 0
+  IsOwnNext o = IfSome o (λ n. Keeps K n.entry)
+
+  one-own : (now : ℕ) (e : Entry) (o : Option ℕ) → Keeps K e → IsOwnNext (due_one now e o)
+  one-own now e None k = tt
+  one-own now e (Some at) k = go (nat_le at now)
+    where
+      go : (b : Bool) → IsOwnNext (if b then Some (record { at = at; entry = e }) else None)
+      go true = k
+      go false = tt
+
+  sooner-own : (x y : Option Next) → IsOwnNext x → IsOwnNext y → IsOwnNext (sooner x y)
+  sooner-own None y h g = g
+  sooner-own (Some x) None h g = h
+  sooner-own (Some x) (Some y) h g = go (is_before y.at y.entry x.at x.entry)
+    where
+      go : (b : Bool) → IsOwnNext (Some (if b then y else x))
+      go true = g
+      go false = h
+
+  next-own : (now : ℕ) (es : List Entry) → Each (Keeps K) es → IsOwnNext (next_due now es)
+  next-own now [] k = tt
+  next-own now (e ∷ es) k = sooner-own (due_one now e (deadline e)) (next_due now es) (one-own now e (deadline e) k.0) (next-own now es k.1)
+
+  unwrapped : (o : Option (List ℕ)) → IfSome o IsTextOfClean → IsSome o → IsTextOfClean (unwrap_or o [])
+  unwrapped None h s = absurd (let f : false ≡ true = s in cc)
+  unwrapped (Some text) h s = h
+
+  -- a server transaction that sends again sends its last response
+  server-text : (p : Plan) (start at shots : ℕ) (last : Option (List ℕ)) → Waits p last → is_some (resend_by p start at shots) ≡ true → IfSome last IsTextOfClean → IsTextOfClean (unwrap_or last [])
+  server-text Idle start at shots last w s h = absurd (let f : false ≡ true = s in cc)
+  server-text Invite start at shots last w s h = absurd w
+  server-text Other start at shots last w s h = absurd w
+  server-text Slow start at shots last w s h = absurd w
+  server-text Final start at shots last w s h = unwrapped last h w
+  server-text End start at shots last w s h = absurd (let f : false ≡ true = s in cc)
+  server-text plan.Acked start at shots last w s h = absurd (let f : false ≡ true = s in cc)
+
+  resent-own : (e : Entry) → Keeps K e → is_some (resend_at e) ≡ true → IsTextOfClean (text_again e)
+  resent-own e k s = go e.is_server refl
+    where
+      go : (b : Bool) → e.is_server ≡ b → IsTextOfClean (if b then unwrap_or e.last [] else e.request)
+      go true is = server-text e.plan e.start e.at e.shots e.last (k.waits is) s k.last
+      go false is = k.request is
+
+abbrev pub IsOwnDue : Due → Type 0
+IsOwnDue (due.Again peer at text) = IsTextOfClean text
+IsOwnDue (due.Silent key branch method at) = Unit {0}
+IsOwnDue (due.Over key at) = Unit {0}
+IsOwnDue due.Nothing = Unit {0}
+
+due-by : (K : ℕ → Bool → Type 0) (o : Option Next) → IsOwnNext K o → IsOwnDue (says_due o)
+due-by K None k = tt
+due-by K (Some n) k = go (is_some (resend_at n.entry)) refl (ends n.entry.plan)
+  where
+    go : (b : Bool) → is_some (resend_at n.entry) ≡ b → (c : Bool) →
+        IsOwnDue (if b then due.Again n.entry.peer n.at (text_again n.entry) else if c then due.Over (record { 0 = n.entry.key }) n.at else due.Silent (record { 0 = n.entry.key }) n.entry.asked.branch n.entry.asked.method n.at)
+    go true is c = resent-own K n.entry k is
+    go false is true = tt
+    go false is false = tt
+
+pub due_own : (h : List Done) (now : ℕ) → AreGoodActs h → IsOwnDue (says_due (next_due now (live h)))
+due_own h now g = due-by (Kind h) (next_due now (live h)) (next-own (Kind h) now (live h) (live-keep h (all_keep h g)))
+
+pub repeat_own : (h : List Done) (p : Peer) (key : ℕ) → AreGoodActs h → IsOwnAgain (Kind h) (then_gives (gives_again p) (by_key key (live h)))
+repeat_own h p key g = again_own (Kind h) p (by_key key (live h)) (find-each (Keeps (Kind h)) (is_of key) (live h) (live-keep h (all_keep h g)))
+
+pub same_again : (h : List Done) (key : ℕ) → AreGoodActs h → IsOwnAgain (Kind h) (then_gives gives_same (by_key key (live h)))
+same_again h key g = same_own (Kind h) (by_key key (live h)) (find-each (Keeps (Kind h)) (is_of key) (live h) (live-keep h (all_keep h g)))

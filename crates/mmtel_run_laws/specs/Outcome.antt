@@ -1,0 +1,95 @@
+-- What each call of a run comes to: the precedence of services over how its attempts ended and over the records, registrations and live calls as they stood in the run when it reached each target; the bound on diversions; the 181s; and its rows (TS 24.604 §4.5.2.6, TS 24.611 §4.5.2, TS 24.615 §4.5.5, TS 32.260 §5).
+use Rattle.std.specs.Prelude.{◌≡◌, ◌≤◌, ◌⊎◌, ℕ, ◌+◌, max, Bool, true, false, List, [], ◌++◌, None, Some, count_by, filter, length}
+use Rattle.mmtel_call.specs.Opening.{received_list}
+use Rattle.mmtel_call.specs.declared.calls.Phase.TheVariants.{Over}
+use Rattle.mmtel_call_laws.specs.Charged.{running}
+use Rattle.mmtel_call_laws.specs.Known.{received_in}
+use Rattle.mmtel_call_laws.specs.Shown.{Accepted, Invited, Refused, Sign, sign_of_result, signs_of, signs_of_targets}
+use Rattle.mmtel_call_laws.specs.Story as story
+use Rattle.mmtel_call_laws.specs.Story.{is_over, opening_in}
+use Rattle.mmtel_call_notices.specs.Notices.{notices_after, notices_due}
+use Rattle.mmtel_charging.specs.declared.rows.Row.{Row}
+use Rattle.mmtel_directory.specs.declared.directories.Directory.{Directory}
+use Rattle.mmtel_in_force.specs.Texts.{Texts}
+use Rattle.mmtel_precedence.specs.Laws.{diversions_made}
+use Rattle.mmtel_types.specs.declared.causes.Cause.{Cause}
+use Rattle.mmtel_b2bua_laws.specs.Clean.{signals}
+use Rattle.mmtel_b2bua_laws.specs.Deeds.{life_of}
+use Rattle.mmtel_b2bua_laws.specs.Known.{charges_after, outcome_after, parts_after, stood_after}
+use Rattle.mmtel_b2bua_laws.specs.Laws.{CallIsExact, is_row_of}
+use Rattle.mmtel_b2bua_laws.specs.Lives.{Life, call_after, emits_while_offered}
+use Rattle.mmtel_run.specs.Calls.{site_of}
+use Rattle.mmtel_run.specs.Events.{Happened}
+use Rattle.mmtel_run.specs.Run.{IsEnough, world_after}
+use Rattle.mmtel_run.specs.Short.{IsShortRun}
+use Rattle.mmtel_run.specs.World.{World, rows_waiting}
+use Rattle.mmtel_run_laws.specs.Stood.{StoodIn}
+
+-- ---- what is seen of a call
+
+-- what was seen while it was offered: INVITEs to its targets, and a final to its caller
+abbrev pub seen_of : Life → List Sign
+seen_of life = signs_of life.start.arrival.key (emits_while_offered life.start life.events)
+
+abbrev pub is_invited : Sign → Bool
+is_invited (Invited uri) = true
+is_invited Accepted = false
+is_invited (Refused code) = false
+
+-- the rows of the call of this number, of those that the keeper took and those that wait
+abbrev pub rows_of_call : Directory → World → (number : ℕ) → List Row
+rows_of_call directory world number = filter (is_row_of number) (world.filed ++ rows_waiting directory world)
+
+-- ---- what the call of a number comes to, where its life in the run is this
+
+-- it heard signals alone
+pub record HasToldDiversions (directory : Directory) (life : Life) : Type 0 where
+  pub heard : List story.Heard
+  pub signals_alone : life.events ≡ signals heard
+  -- the server's own 181s to its caller are those of the diversions that its Outcome says were made, in order (TS 24.604 §4.5.2.6)
+  pub told : notices_after life.start heard ≡ notices_due (site_of directory) (opening_in life.start) (received_list life.start.arrival.invite) (outcome_after life.start life.events).targets
+
+-- in the words of the bound, that a configuration sets (RFC 7044 §7)
+pub record StaysWithinTheBound (directory : Directory) (life : Life) : Type 0 where
+  -- the diversions that it came with and those that were made are together at most the bound, or what it came with where that is more
+  pub diversions : received_in (opening_in life.start) + diversions_made (outcome_after life.start life.events) ≤ max directory.bound (received_in (opening_in life.start))
+  -- it reaches at most one target more than the bound, and has no more INVITEs
+  pub targets : length (outcome_after life.start life.events).targets ≤ directory.bound + 1
+  pub attempts : count_by is_invited (seen_of life) ≤ directory.bound + 1
+
+-- in the words of whoever reads the rows
+pub record IsChargedExactly (directory : Directory) (world : World) (number : ℕ) (life : Life) : Type 0 where
+  -- while it is not over it has no row, and what began runs
+  pub runs : is_over (call_after life.start life.events).phase ≡ false →
+      (running (call_after life.start life.events) ≡ parts_after life.start life.events) × (rows_of_call directory world number ≡ [])
+  -- once it is over nothing runs, and its rows are those of the parts that began, in that order, each once
+  pub filed : (cause : Cause) → (call_after life.start life.events).phase ≡ Over cause →
+      (running (call_after life.start life.events) ≡ []) × (rows_of_call directory world number ≡ charges_after life.start life.events cause)
+
+-- by its Outcome, which is over how its attempts ended and how things stood
+pub record CallComesToOutcome (directory : Directory) (token : List ℕ) (loaded : Texts) (fuel : ℕ) (happened : List Happened) (number : ℕ) (life : Life) : Type 0 where
+  -- how it stands in the table, its result, what went out for it, and what was counted of it
+  pub exact : CallIsExact (site_of directory) (world_after directory token loaded fuel happened).deeds number life
+  -- the INVITEs to its targets, each by the diversion that led there, and its final are those of Outcome, in order
+  pub shown : seen_of life ≡ signs_of_targets (opening_in life.start) (outcome_after life.start life.events).targets ++ sign_of_result (outcome_after life.start life.events).result
+  pub told : HasToldDiversions directory life
+  pub bounded : StaysWithinTheBound directory life
+  pub charged : IsChargedExactly directory (world_after directory token loaded fuel happened) number life
+  -- things stood as they stood in the run when it opened,
+  pub opened : StoodIn directory token loaded fuel happened number life.start.arrival.served.origin life.start.now
+  -- and when it reached the target of its next diversion after k others: in a later step, or in that in which it opened
+  pub reached : (k : ℕ) → StoodIn directory token loaded fuel happened number None (stood_after life.start life.events k) ⊎ (stood_after life.start life.events k ≡ life.start.now)
+
+-- ---- of a run
+
+-- so it is with each of its calls
+abbrev pub CallsComeToOutcome : Directory → (token : List ℕ) → (loaded : Texts) → List Happened → Type 0
+CallsComeToOutcome directory token loaded happened =
+    (fuel : ℕ) (number : ℕ) (life : Life) → IsEnough directory token loaded fuel happened →
+    life_of (site_of directory) number (world_after directory token loaded fuel happened).deeds ≡ Some life →
+    CallComesToOutcome directory token loaded fuel happened number life
+
+-- of every run that is not longer than numbers count
+abbrev pub CallsOfRunsComeToOutcome : Type 0
+CallsOfRunsComeToOutcome = (directory : Directory) (token : List ℕ) (loaded : Texts) (happened : List Happened) → IsShortRun directory token loaded happened →
+    CallsComeToOutcome directory token loaded happened

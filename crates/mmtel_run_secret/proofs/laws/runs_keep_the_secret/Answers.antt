@@ -1,0 +1,32 @@
+use Rattle.mmtel_run_secret.proofs.Offers.{masks_once, offers_keep, offers_keep_in_one, seen_by_notices}
+use Rattle.mmtel_run_secret.proofs.Secret.{both, one}
+use Rattle.mmtel_run_secret.proofs.Telling.{Below}
+use Rattle.mmtel_run_secret.proofs.laws.runs_keep_the_secret.Goals as goal
+
+pub returns : goal.returns
+returns c =
+    let below : Below = record {
+      texts = c.texts_decide_nothing.ensures.alike;
+      new = c.transactions_are_of_one_peer.ensures.heard;
+      heads = c.heads_see_no_private_place.ensures.heard;
+      responses = c.responses_are_masked.ensures.one_head;
+      kin = c.equal_masks_are_kin.ensures.kin;
+      wholes = c.messages_are_whole.ensures.law;
+      tables = c.tables_stay_alike.ensures.law;
+      answers = c.alike_tables_answer_alike.ensures.law;
+      told = c.records_are_those_kept.ensures.told;
+    } in
+    let keeps = c.transactions_are_of_one_peer.ensures.kept in
+    let its = c.puts_change_one_account.ensures.its in
+    let others = c.puts_change_one_account.ensures.others in
+    let tied = c.runs_are_tied.ensures.tied in
+    let secret = both below keeps its others tied in
+    let once = c.calls_send_once.ensures in
+    record {
+      both = secret;
+      one = one below keeps its others tied;
+      masked = masks_once;
+      offers = offers_keep once.step once.opening secret;
+      offers_in_one = offers_keep_in_one once.step once.opening secret;
+      seen = seen_by_notices;
+    }

@@ -36,7 +36,8 @@ drew d token before s t out w n did e = record {
     steps = did.stands.steps;
     texts = did.stands.texts;
     registered = did.stands.registered;
-    rows = did.stands.rows;
+    calls = did.stands.calls;
+    armed = did.stands.armed;
     whole = did.stands.whole;
   };
   offered = did.offered;
@@ -84,7 +85,8 @@ asked few s t out out2 peer m at text P opens is offered d token before w did sh
     steps = did.stands.steps;
     texts = did.stands.texts;
     registered = did.stands.registered;
-    rows = did.stands.rows;
+    calls = did.stands.calls;
+    armed = did.stands.armed;
     whole = did.stands.whole;
   };
   offered = offered ∙ (ap (λ (os : List Offer). os ++ offer.To peer at text ∷ []) did.offered

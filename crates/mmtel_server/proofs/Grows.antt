@@ -1,25 +1,26 @@
 -- Nothing that was done is undone: each deed only adds. So what was few enough in the end was few enough before, and what was offered before stands in front of what is offered in the end.
-use Rattle.std.proofs.Common.{◌≡◌, ℕ, ◌≤◌, List, [], ◌∷◌, ◌++◌, length, refl, sym, ap, ◌∙◌, arith, append-nil, append_assoc, subst, Option, Some, None}
-use Rattle.std.specs.Prelude.{Bool, true, false, codes, if◌then◌else◌, OnErr, Result, Ok, Err}
+use Rattle.std.proofs.Common.{◌≡◌, ℕ, ◌≤◌, ◌<◌, ◌^◌, List, [], ◌∷◌, ◌++◌, length, refl, sym, ap, ◌∙◌, arith, append-nil, append_assoc, subst, Option, Some, None}
+use Rattle.std.specs.Prelude.{Bool, true, false, OnErr, Result, Ok, Err}
 use Rattle.mmtel_answers.specs.Said.{Said}
-use Rattle.mmtel_answers.specs.declared.attempts.Aim.{Aim}
+use Rattle.mmtel_b2bua.specs.Histories.{Hears, hears_after}
+use Rattle.mmtel_b2bua.specs.declared.signals.Signal.{Signal}
+use Rattle.mmtel_b2bua.specs.declared.signals.Signal.TheVariants as signal
 use Rattle.mmtel_charging.specs.declared.rows.Row.{Row}
 use Rattle.mmtel_directory.specs.declared.directories.Directory.{Directory}
 use Rattle.mmtel_http.specs.Requests.{Request}
-use Rattle.mmtel_message.specs.Faults.{is_method}
 use Rattle.mmtel_message.specs.Message.{Message}
 use Rattle.mmtel_message.specs.Texts.{message_text}
 use Rattle.mmtel_message.specs.declared.messages.Start.{Start}
 use Rattle.mmtel_outside.specs.declared.events.Offer.{Offer}
 use Rattle.mmtel_outside.specs.declared.events.Offer.TheVariants as offer
 use Rattle.mmtel_run.specs.Answers.{Answer, completed_reply, plainly, response_to, tag_for, tags_due, to_tag_in}
+use Rattle.mmtel_run.specs.Calls.{are_full, arrived, asked_by, named_by, site_of}
 use Rattle.mmtel_run.specs.Events.{Digest, Nothing, Refused, Heard, Asked, message_in}
-use Rattle.mmtel_run.specs.Openings.{attempt, names, opening_draws, trying}
 use Rattle.mmtel_run.specs.Records.{until_of}
-use Rattle.mmtel_run.specs.Refusals.{Course, Refuse, Open, Register, course}
+use Rattle.mmtel_run.specs.Refusals.{Course, Refuse, Enter, Open, Register, course}
 use Rattle.mmtel_run.specs.Refusals as refusals
-use Rattle.mmtel_run.specs.Short.{IsShort}
-use Rattle.mmtel_run.specs.World.{World, answering, begun, came, drawing, emit_one, emitted, hearing, met, offering, opening, refusing, registering, repeating, replying, replying_plainly, serving, taking, taking_fresh, told, told_as, unbuilt}
+use Rattle.mmtel_run.specs.Short.{CallsDrawOn, IsShort}
+use Rattle.mmtel_run.specs.World.{World, acknowledging, answering, begun, calls_in, came, cancelling, cancelling_call, drawing, emit_one, emitted, ended, entering, handing, heard_now, hearing, met, offering, refusing, registering, repeating, replying, replying_plainly, rows_waiting, serving, signalled, taking, taking_fresh, told, told_as}
 use Rattle.mmtel_transaction.specs.Answers.{hear_says, is_merged}
 use Rattle.mmtel_transaction.specs.Calls.{Done, live}
 use Rattle.mmtel_transaction.specs.declared.words.Emit.{Emit}
@@ -27,9 +28,10 @@ use Rattle.mmtel_transaction.specs.declared.words.Emit.TheVariants as emit
 use Rattle.mmtel_transaction.specs.declared.words.Heard as transaction
 use Rattle.mmtel_transaction.specs.declared.words.Heard.TheVariants as heard
 use Rattle.mmtel_transaction.specs.declared.words.TKey.{TKey}
-use Rattle.mmtel_trust.specs.Peers.{is_trusted}
 use Rattle.mmtel_types.specs.declared.addrs.Addr.{Addr}
+use Rattle.mmtel_types.specs.declared.numbers.CallNo.{CallNo}
 use Rattle.mmtel_types.specs.declared.numbers.Peer.{Peer}
+use Rattle.mmtel_types.specs.declared.sides.Side.{Side}
 use Rattle.mmtel_web.specs.Answers.{Kept}
 use Rattle.mmtel_server.specs.Follows.{Breaks, Follows}
 use Rattle.mmtel_server.specs.Stands.{IsCut, IsPrefixOf}
@@ -39,45 +41,57 @@ use Rattle.mmtel_server.specs.declared.servers.Server.{Server}
 pub record Grows (v w : World) : Type 0 where
   pub acts : length v.acts ≤ length w.acts
   pub steps : v.steps ≤ w.steps
-  pub drawn : v.drawn ≤ w.drawn
+  -- where not too many were drawn, as the calls count no further than numbers go
+  pub drawn : w.drawn < 2 ^ 60 → v.drawn ≤ w.drawn
   pub front : IsPrefixOf v.offers w.offers
 
 pub same : (w : World) → Grows w w
-same w = record { acts = omega arith; steps = omega arith; drawn = omega arith; front = ([], append-nil w.offers) }
+same w = record { acts = omega arith; steps = omega arith; drawn = λ less. omega arith; front = ([], append-nil w.offers) }
 
 pub grows_on : (u v w : World) → Grows u v → Grows v w → Grows u w
 grows_on u v w a b = record {
   acts = omega (arith, a.acts, b.acts);
   steps = omega (arith, a.steps, b.steps);
-  drawn = omega (arith, a.drawn, b.drawn);
+  drawn = λ less.
+      let later : v.drawn ≤ w.drawn = b.drawn less in
+      let small : v.drawn < 2 ^ 60 = omega (arith, later, less) in
+      let first : u.drawn ≤ v.drawn = a.drawn small in
+      omega (arith, first, later);
   front = (a.front.0 ++ b.front.0, sym (append_assoc u.offers a.front.0 b.front.0) ∙ (ap (λ (os : List Offer). os ++ b.front.0) a.front.1 ∙ b.front.1));
 }
 
 -- ---- single deeds
 
 pub adds : (os : List Offer) (w : World) → Grows w (offering os w)
-adds os w = record { acts = omega arith; steps = omega arith; drawn = omega arith; front = (os, refl) }
+adds os w = record { acts = omega arith; steps = omega arith; drawn = λ less. omega arith; front = (os, refl) }
 
 pub acts_more : (xs : List Done) (w : World) → length w.acts ≤ length xs → Grows w (record w { acts = xs })
-acts_more xs w l = record { acts = l; steps = omega arith; drawn = omega arith; front = ([], append-nil w.offers) }
+acts_more xs w l = record { acts = l; steps = omega arith; drawn = λ less. omega arith; front = ([], append-nil w.offers) }
 
 pub draws : (n : ℕ) (w : World) → Grows w (drawing n w)
-draws n w = record { acts = omega arith; steps = omega arith; drawn = omega arith; front = ([], append-nil w.offers) }
+draws n w = record { acts = omega arith; steps = omega arith; drawn = λ less. omega arith; front = ([], append-nil w.offers) }
 
 pub begins : (w : World) → Grows w (begun w)
-begins w = record { acts = omega arith; steps = omega arith; drawn = omega arith; front = ([], append-nil w.offers) }
+begins w = record { acts = omega arith; steps = omega arith; drawn = λ less. omega arith; front = ([], append-nil w.offers) }
 
 pub emits : (at : ℕ) (e : Emit) (w : World) → Grows w (emit_one at e w)
-emits at (emit.Ask peer m) w = record { acts = omega arith; steps = omega arith; drawn = omega arith; front = (_, refl) }
-emits at (emit.Reply key m) w = record { acts = omega arith; steps = omega arith; drawn = omega arith; front = (_, refl) }
-emits at (emit.Plain peer text) w = record { acts = omega arith; steps = omega arith; drawn = omega arith; front = (_, refl) }
-emits at (emit.Ack key m) w = record { acts = omega arith; steps = omega arith; drawn = omega arith; front = (_, refl) }
-emits at (emit.Arm call what when) w = same w
+emits at (emit.Ask peer m) w = record { acts = omega arith; steps = omega arith; drawn = λ less. omega arith; front = (_, refl) }
+emits at (emit.Reply key m) w = record { acts = omega arith; steps = omega arith; drawn = λ less. omega arith; front = (_, refl) }
+emits at (emit.Plain peer text) w = record { acts = omega arith; steps = omega arith; drawn = λ less. omega arith; front = (_, refl) }
+emits at (emit.Ack key m) w = record { acts = omega arith; steps = omega arith; drawn = λ less. omega arith; front = (_, refl) }
+emits at (emit.Arm call what when) w = record { acts = omega arith; steps = omega arith; drawn = λ less. omega arith; front = ([], append-nil w.offers) }
 emits at (emit.ArmSeat room seat what when) w = same w
 
 pub emits_all : (at : ℕ) (es : List Emit) (w : World) → Grows w (emitted at es w)
 emits_all at [] w = same w
 emits_all at (e ∷ es) w = grows_on w (emit_one at e w) (emitted at es (emit_one at e w)) (emits at e w) (emits_all at es (emit_one at e w))
+
+-- calls hear a signal
+pub signals : CallsDrawOn → (d : Directory) (token : List ℕ) (at : ℕ) (x : Signal) (w : World) → Grows w (signalled d token at x w)
+signals law d token at x w =
+    let v : World = record w { deeds = Hears (heard_now token at x w) ∷ w.deeds; drawn = (hears_after (site_of d) w.deeds (heard_now token at x w)).desk.tokens.drawn } in
+    let first : Grows w v = record { acts = omega arith; steps = omega arith; drawn = (law (site_of d) w.deeds (heard_now token at x w)).on; front = ([], append-nil w.offers) } in
+    grows_on w v (signalled d token at x w) first (emits_all at (hears_after (site_of d) w.deeds (heard_now token at x w)).desk.out v)
 
 -- numbers are drawn, and then something is done
 pub draws_emits : (n at : ℕ) (es : List Emit) (w : World) → Grows w (emitted at es (drawing n w))
@@ -94,73 +108,92 @@ replies_plainly d token at s a w = draws_emits (tags_due s.heard.to_tag) at (emi
 pub refuses : (token : List ℕ) (at : ℕ) (peer : Peer) (source : Addr) (m : Message Start) (w : World) → Grows w (refusing token at peer source m w)
 refuses token at peer source m w = draws_emits (tags_due (to_tag_in m.lines)) at (emit.Plain peer (message_text (completed_reply (tag_for token w.drawn (to_tag_in m.lines)) source m)) ∷ []) w
 
-pub opens_call : (d : Directory) (token : List ℕ) (at : ℕ) (key : TKey) (s : Said) (aim : Aim) (w : World) → Grows w (opening d token at key s aim w)
-opens_call d token at key s aim w = draws_emits opening_draws at
-    (emit.Reply key (trying d.sip s) ∷ emit.Ask aim.peer (attempt d.sip (names token w.drawn) aim (is_trusted aim.peer d.peers.known) s.heard) ∷ []) w
+module _ (law : CallsDrawOn) (d : Directory) (token : List ℕ) (at : ℕ) where
+  pub enters : (f : CallNo → Side → Signal) (o : Option (CallNo × Side)) (w : World) → Grows w (entering d token at f o w)
+  enters f None w = same w
+  enters f (Some x) w = signals law d token at (f x.0 x.1) w
 
-pub takes : (d : Directory) (token : List ℕ) (at : ℕ) (key : TKey) (s : Said) (c : Course) (w : World) → Grows w (taking d token at key s c w)
-takes d token at key s (Refuse a) w = replies d token at key s a w
-takes d token at key s (Open aim) w = opens_call d token at key s aim w
-takes d token at key s (Register account seconds) w =
-    let v = registering account (until_of at seconds) w in
-    let g = replies d token at key s (plainly 200) v in
-    record { acts = g.acts; steps = g.steps; drawn = g.drawn; front = g.front }
-takes d token at key s refusals.Unbuilt w = adds (offer.Unbuilt at ∷ []) w
+  pub takes : (key : TKey) (s : Said) (c : Course) (w : World) → Grows w (taking d token at key s c w)
+  takes key s (Refuse a) w = replies d token at key s a w
+  takes key s (Enter call side) w = signals law d token at (signal.Request call side key s) w
+  takes key s Open w = signals law d token at (arrived d.names.accounts key s) w
+  takes key s (Register account seconds) w =
+      let v = registering account (until_of at seconds) w in
+      let g = replies d token at key s (plainly 200) v in
+      record { acts = g.acts; steps = g.steps; drawn = g.drawn; front = g.front }
+  takes key s refusals.Unbuilt w = adds (offer.Unbuilt at ∷ []) w
 
-pub takes_fresh : (d : Directory) (token : List ℕ) (at : ℕ) (key : TKey) (s : Said) (w : World) → Grows w (taking_fresh d token at key s w)
-takes_fresh d token at key s w = takes d token at key s (course d (is_merged key.0 (live w.acts)) s.heard) w
+  pub takes_fresh : (key : TKey) (s : Said) (w : World) → Grows w (taking_fresh d token at key s w)
+  takes_fresh key s w = takes key s (course d (is_merged key.0 (live w.acts)) (are_full (calls_in d w).entries) (named_by s.heard (calls_in d w).entries) s.heard) w
 
-pub repeats : (at : ℕ) (o : Option (Peer × List ℕ)) (w : World) → Grows w (repeating at o w)
-repeats at None w = same w
-repeats at (Some sent) w = emits_all at (emit.Plain sent.0 sent.1 ∷ []) w
+  pub repeats : (o : Option (Peer × List ℕ)) (w : World) → Grows w (repeating at o w)
+  repeats None w = same w
+  repeats (Some sent) w = emits_all at (emit.Plain sent.0 sent.1 ∷ []) w
 
-repeats_unless : (b : Bool) (at : ℕ) (o : Option (Peer × List ℕ)) (w : World) → Grows w (if b then unbuilt at w else repeating at o w)
-repeats_unless true at o w = adds (offer.Unbuilt at ∷ []) w
-repeats_unless false at o w = repeats at o w
+  pub cancels_call : (key : TKey) (s : Said) (invite : TKey) (o : Option (CallNo × Side)) (w : World) → Grows w (cancelling_call d token at key s invite o w)
+  cancels_call key s invite None w = replies d token at key s (plainly 200) w
+  cancels_call key s invite (Some asked) w = signals law d token at (signal.Cancel asked.0 key s invite) w
 
-pub answers : (d : Directory) (token : List ℕ) (at : ℕ) (s : Said) (o : Option transaction.Heard) (w : World) → Grows w (answering d token at s o w)
-answers d token at s None w = replies_plainly d token at s (plainly 503) w
-answers d token at s (Some (heard.Fresh key x)) w = takes_fresh d token at key s w
-answers d token at s (Some (heard.Answer key x)) w = adds (offer.Unbuilt at ∷ []) w
-answers d token at s (Some (heard.Repeat sent)) w = repeats_unless (is_method (codes "CANCEL") s.heard.start) at sent w
-answers d token at s (Some (heard.Acked key)) w = same w
-answers d token at s (Some (heard.Cancel key invite x)) w = adds (offer.Unbuilt at ∷ []) w
-answers d token at s (Some (heard.AckOf2xx x)) w = same w
-answers d token at s (Some heard.Stray) w = same w
+  pub cancels : (key : TKey) (s : Said) (invite : Option TKey) (w : World) → Grows w (cancelling d token at key s invite w)
+  cancels key s None w = replies d token at key s (plainly 481) w
+  cancels key s (Some invite) w = cancels_call key s invite (asked_by invite (calls_in d w).entries) w
 
-pub hears_one : (at : ℕ) (s : Said) (o : Option transaction.Heard) (w : World) → Grows w (hearing at s o w)
-hears_one at s None w = same w
-hears_one at s (Some taken) w = acts_more _ w (omega arith)
+  pub acknowledges : (s : Said) (w : World) → Grows w (acknowledging d token at s w)
+  acknowledges s w = enters (λ call side. signal.Ack call side s) (named_by s.heard (calls_in d w).entries) w
 
-pub told_grows : (d : Directory) (token : List ℕ) (at : ℕ) (s : Said) (w : World) → Grows w (told d token at s w)
-told_grows d token at s w =
-    let taken = hear_says w.acts s.peer (message_in s.heard) in
-    grows_on w (hearing at s taken w) (told_as d token at s taken w) (hears_one at s taken w) (answers d token at s taken (hearing at s taken w))
+  pub answers : (s : Said) (o : Option transaction.Heard) (w : World) → Grows w (answering d token at s o w)
+  answers s None w = replies_plainly d token at s (plainly 503) w
+  answers s (Some (heard.Fresh key x)) w = takes_fresh key s w
+  answers s (Some (heard.Answer key x)) w = signals law d token at (signal.Answer key s) w
+  answers s (Some (heard.Repeat sent)) w = repeats sent w
+  answers s (Some (heard.Acked key)) w = same w
+  answers s (Some (heard.Cancel key invite x)) w = cancels key s invite w
+  answers s (Some (heard.AckOf2xx x)) w = acknowledges s w
+  answers s (Some heard.Stray) w = same w
 
--- ---- web requests
+  pub hears_one : (s : Said) (o : Option transaction.Heard) (w : World) → Grows w (hearing at s o w)
+  hears_one s None w = same w
+  hears_one s (Some taken) w = acts_more _ w (omega arith)
 
-pub serves : (d : Directory) (at : ℕ) (request : Request) (kept : Kept) (rows : List Row) (w : World) → Grows w (serving d at request kept rows w)
-serves d at request kept rows w = record { acts = omega arith; steps = omega arith; drawn = omega arith; front = (_, refl) }
+  pub told_grows : (s : Said) (w : World) → Grows w (told d token at s w)
+  told_grows s w =
+      let taken = hear_says w.acts s.peer (message_in s.heard) in
+      grows_on w (hearing at s taken w) (told_as d token at s taken w) (hears_one s taken w) (answers s taken (hearing at s taken w))
 
--- ---- events
+  -- ---- web requests
 
-pub met_grows : (d : Directory) (token : List ℕ) (at : ℕ) (x : Digest) (w : World) → Grows w (met d token at x w)
-met_grows d token at Nothing w = same w
-met_grows d token at (Refused peer source reply) w = refuses token at peer source reply w
-met_grows d token at (Heard s) w = told_grows d token at s w
-met_grows d token at (Asked request kept rows) w = serves d at request kept rows w
+  pub serves : (request : Request) (kept : Kept) (rows : List Row) (w : World) → Grows w (serving d at request kept rows w)
+  serves request kept rows w = record { acts = omega arith; steps = omega arith; drawn = λ less. omega arith; front = (_, refl) }
 
-clocked : (at : ℕ) (w : World) → Grows w (record (begun w) { clock = at })
-clocked at w = let g = begins w in record { acts = g.acts; steps = g.steps; drawn = g.drawn; front = g.front }
+  -- ---- events
 
-pub came_grows : (d : Directory) (token : List ℕ) (at : ℕ) (x : Digest) (w : World) → Grows w (came d token at x w)
-came_grows d token at x w =
-    grows_on w (record (begun w) { clock = at }) (came d token at x w) (clocked at w) (met_grows d token at x (record (begun w) { clock = at }))
+  pub met_grows : (x : Digest) (w : World) → Grows w (met d token at x w)
+  met_grows Nothing w = same w
+  met_grows (Refused peer source reply) w = refuses token at peer source reply w
+  met_grows (Heard s) w = told_grows s w
+  met_grows (Asked request kept rows) w = serves request kept rows w
+
+  clocked : (w : World) → Grows w (record (begun w) { clock = at })
+  clocked w = let g = begins w in record { acts = g.acts; steps = g.steps; drawn = g.drawn; front = g.front }
+
+  hands : (took : Bool) (rows : List Row) (w : World) → Grows w (handing took rows w)
+  hands took [] w = same w
+  hands true (row ∷ rows) w = record { acts = omega arith; steps = omega arith; drawn = λ less. omega arith; front = ([], append-nil w.offers) }
+  hands false (row ∷ rows) w = same w
+
+  pub ends : (took : Bool) (w : World) → Grows w (ended d took w)
+  ends took w = hands took (rows_waiting d w) w
+
+  pub came_grows : (x : Digest) (took : Bool) (w : World) → Grows w (came d token at x took w)
+  came_grows x took w =
+      let there : World = record (begun w) { clock = at } in
+      let done : World = met d token at x there in
+      grows_on w there (came d token at x took w) (clocked w) (grows_on there done (ended d took done) (met_grows x there) (ends took done))
 
 -- ---- what follows for the code
 
 pub short_of : (v w : World) → Grows v w → IsShort w → IsShort v
-short_of v w g s = record { acts = omega (arith, g.acts, s.acts); steps = omega (arith, g.steps, s.steps); drawn = omega (arith, g.drawn, s.drawn) }
+short_of v w g s = record { acts = omega (arith, g.acts, s.acts); steps = omega (arith, g.steps, s.steps); drawn = let less : v.drawn ≤ w.drawn = g.drawn s.drawn in omega (arith, less, s.drawn) }
 
 pub front_of : (before out : List Offer) (v w : World) → Grows v w → out ≡ before ++ v.offers → IsPrefixOf out (before ++ w.offers)
 front_of before out v w g e = (g.front.0, ap (λ (os : List Offer). os ++ g.front.0) e ∙ (append_assoc before v.offers g.front.0 ∙ ap (λ (os : List Offer). before ++ os) g.front.1))

@@ -1,23 +1,34 @@
 -- What the keeper was asked, event after event, and what it holds then.
-use Rattle.std.proofs.Common.{◌≡◌, ℕ, suc, List, [], ◌∷◌, ◌++◌, length, refl, sym, ap, ◌∙◌, subst, Option, Some, None, inl}
+use Rattle.std.proofs.Common.{◌≡◌, ◌≤◌, ℕ, suc, Bool, true, false, List, [], ◌∷◌, ◌++◌, length, refl, sym, ap, ◌∙◌, subst, append-nil, append_assoc, Option, Some, None, arith, inl}
+use Rattle.std.proofs.lemmas.Bool.{false≢true}
 use Rattle.std.specs.Option.{option_map, option_to_list}
 use Rattle.mmtel_charging.specs.declared.rows.Row.{Row}
+use Rattle.mmtel_directory.specs.declared.directories.Directory.{Directory}
 use Rattle.mmtel_directory.specs.declared.directories.WebDirectory.{WebDirectory}
 use Rattle.mmtel_http.specs.Requests.{request_of}
 use Rattle.mmtel_in_force.specs.Texts.{Texts, put_each}
-use Rattle.mmtel_keeper.specs.Kept.{Held, KeeperCalls, with_sheet}
+use Rattle.mmtel_keeper.specs.Kept.{Held, KeeperCalls, with_rows, with_sheet}
 use Rattle.mmtel_outside.specs.declared.events.Event.{Event}
 use Rattle.mmtel_outside.specs.declared.events.Event.TheVariants as event
-use Rattle.mmtel_run.specs.Events.{Happened, events_in}
+use Rattle.mmtel_outside.specs.declared.events.Offer.{Offer}
+use Rattle.mmtel_run.specs.Events.{Happened, events_in, notices}
 use Rattle.mmtel_run.specs.InForce.{upload_at, uploads_of}
-use Rattle.mmtel_serving.specs.Calls.{Answers, Call, call_by, none, stores, asks}
+use Rattle.mmtel_run.specs.Run.{after}
+use Rattle.mmtel_run.specs.Short.{IsShortRun}
+use Rattle.mmtel_run.specs.World.{World, beginning}
+use Rattle.mmtel_serving.specs.Calls.{Answers, Call, Counted, MayBeCalled, call_by, none, stores, asks}
 use Rattle.mmtel_types.specs.declared.numbers.Account.{Account}
 use Rattle.mmtel_web.specs.Answers.{Kept, made, failed, no_memory, web_of}
 use Rattle.mmtel_web.specs.Uploads.{kept_upload, upload_by}
 use Rattle.mmtel_web.specs.declared.answers.Web.{Web}
 use Rattle.mmtel_web.specs.declared.answers.Web.TheVariants as web
-use Rattle.mmtel_server.specs.Driven.{EachAnswers, EachCounted, with_uploads}
+use Rattle.mmtel_server.specs.Driven.{EachAnswers, EachAnswersButLast, EachCounted, EachCountedButLast, HoldsUploads, LastAnswers, LastCounted, with_all}
+use Rattle.mmtel_server.specs.Handed.{Handed, HandedCounted, taken_of}
+use Rattle.mmtel_server.specs.Stands.{Went}
 use Rattle.mmtel_server.specs.Stepped.{call_of, happened_in}
+use Rattle.mmtel_server.specs.declared.servers.Server.{Server}
+use Rattle.mmtel_server.proofs.Charging.{untaken}
+use Rattle.mmtel_server.proofs.Runs.{after_last}
 
 -- ---- one event more
 
@@ -26,16 +37,36 @@ pub answers_then : (names : WebDirectory) (xs ys : List Happened) (held mid left
 answers_then names [] ys held mid left calls midst after first second =
     let P : Option Held → Option KeeperCalls → Type 0 = λ h c. EachAnswers names ys h left c after in
     subst (λ (h : Option Held). P h calls) first.0 (subst (λ (c : Option KeeperCalls). P mid c) first.1 second)
-answers_then names (x ∷ xs) ys held mid left calls midst after first second =
-    (first.0, first.1, first.2, answers_then names xs ys first.0 mid left first.1 midst after first.3 second)
+answers_then names (x ∷ xs) ys held mid left calls midst after first second = (
+  first.0,
+  first.1,
+  first.2,
+  first.3,
+  first.4,
+  first.5,
+  (first.6.0, answers_then names xs ys first.1 mid left first.3 midst after first.6.1 second),
+)
 
-pub answers_one : (names : WebDirectory) (one : Happened) (held left : Option Held) (calls after : Option KeeperCalls)
-    → Answers (call_of names one.event) one.kept one.rows held left calls after → EachAnswers names (one ∷ []) held left calls after
-answers_one names one held left calls after answers = (left, after, answers, (refl, refl))
+pub answers_one : (names : WebDirectory) (one : Happened) (waiting : List Row) (held asked left : Option Held) (calls midst after : Option KeeperCalls)
+    → Answers (call_of names one.event) one.kept one.rows held asked calls midst → Handed one.took waiting asked left midst after → EachAnswers names (one ∷ []) held left calls after
+answers_one names one waiting held asked left calls midst after answers handed = (asked, left, midst, after, waiting, answers, (handed, (refl, refl)))
 
 pub counted_then : (xs ys : List Happened) (faults between count : ℕ) → EachCounted xs faults between → EachCounted ys between count → EachCounted (xs ++ ys) faults count
 counted_then [] ys faults between count first second = subst (λ (n : ℕ). EachCounted ys n count) first second
-counted_then (x ∷ xs) ys faults between count first second = (first.0, first.1, counted_then xs ys first.0 between count first.2 second)
+counted_then (x ∷ xs) ys faults between count first second = (first.0, first.1, first.2, (first.3.0, counted_then xs ys first.1 between count first.3.1 second))
+
+pub counted_one : (one : Happened) (faults asked count : ℕ) → Counted one.kept faults asked → HandedCounted one.took asked count → EachCounted (one ∷ []) faults count
+counted_one one faults asked count counted handed = (asked, count, counted, (handed, refl))
+
+-- ---- one that was not done to its end
+
+pub answers_last : (names : WebDirectory) (xs : List Happened) (one : Happened) (held mid left : Option Held) (calls asked midst after : Option KeeperCalls)
+    → one.took ≡ false → EachAnswers names xs held mid calls asked → Answers (call_of names one.event) one.kept one.rows mid left asked midst → MayBeCalled midst after
+    → EachAnswersButLast names (xs ++ one ∷ []) held left calls after
+answers_last names xs one held mid left calls asked midst after took first answers may = (xs, one ∷ [], mid, asked, refl, (first, (midst, took, (answers, may))))
+
+pub counted_last : (xs : List Happened) (one : Happened) (faults between count : ℕ) → EachCounted xs faults between → Counted one.kept between count → EachCountedButLast (xs ++ one ∷ []) faults count
+counted_last xs one faults between count first counted = (xs, one ∷ [], between, refl, (first, counted))
 
 -- ---- events that were lost as they were read
 
@@ -45,9 +76,13 @@ lost_answers none held calls = (λ same. cc, (refl, refl))
 lost_answers (stores account text) held calls = (refl, inl refl)
 lost_answers asks held calls = (refl, inl refl)
 
+-- and no row was taken
+abbrev pub lost_event : Event → Happened
+lost_event e = happened_in e no_memory [] false
+
 abbrev pub lost_events : List Event → List Happened
 lost_events [] = []
-lost_events (e ∷ es) = happened_in e no_memory [] ∷ lost_events es
+lost_events (e ∷ es) = lost_event e ∷ lost_events es
 
 pub events_lost : (es : List Event) → events_in (lost_events es) ≡ es
 events_lost [] = refl
@@ -57,36 +92,56 @@ pub length_lost : (es : List Event) → length (lost_events es) ≡ length es
 length_lost [] = refl
 length_lost (e ∷ es) = ap suc (length_lost es)
 
-pub answers_lost : (names : WebDirectory) (es : List Event) (held : Option Held) (calls : Option KeeperCalls) → EachAnswers names (lost_events es) held held calls calls
-answers_lost names [] held calls = (refl, refl)
-answers_lost names (e ∷ es) held calls = (held, calls, lost_answers (call_of names e) held calls, answers_lost names es held calls)
+last_lost : (names : WebDirectory) (es : List Event) (held : Option Held) (calls : Option KeeperCalls) → length es ≤ 1 → LastAnswers names (lost_events es) held held calls calls
+last_lost names [] held calls one = (refl, refl)
+last_lost names (e ∷ []) held calls one = (calls, refl, (lost_answers (call_of names e) held calls, inl refl))
+last_lost names (e ∷ f ∷ es) held calls one = absurd (omega (arith, one))
 
-pub counted_lost : (es : List Event) (faults : ℕ) → EachCounted (lost_events es) faults faults
-counted_lost [] faults = refl
-counted_lost (e ∷ es) faults = (faults, refl, counted_lost es faults)
+pub answers_lost : (names : WebDirectory) (xs : List Happened) (es : List Event) (held left : Option Held) (calls after : Option KeeperCalls) → length es ≤ 1
+    → EachAnswers names xs held left calls after → EachAnswersButLast names (xs ++ lost_events es) held left calls after
+answers_lost names xs es held left calls after one first = (xs, lost_events es, left, after, refl, (first, last_lost names es left after one))
+
+last_counted : (es : List Event) (faults : ℕ) → length es ≤ 1 → LastCounted (lost_events es) faults faults
+last_counted [] faults one = refl
+last_counted (e ∷ []) faults one = refl
+last_counted (e ∷ f ∷ es) faults one = absurd (omega (arith, one))
+
+pub counted_lost : (xs : List Happened) (es : List Event) (faults count : ℕ) → length es ≤ 1 → EachCounted xs faults count → EachCountedButLast (xs ++ lost_events es) faults count
+counted_lost xs es faults count one first = (xs, lost_events es, count, refl, (first, last_counted es count one))
 
 -- ---- what it holds
 
--- nothing was put over it
-unchanged : (held : Option Held) → held ≡ option_map (with_uploads []) held
-unchanged None = refl
-unchanged (Some h) = refl
+-- such sheets and such rows
+abbrev holding : Texts → List Row → Option Held
+holding sheets rows = let h : Held = record { sheets = sheets; rows = rows } in Some h
 
-puts_one : (account : Account) (text : List ℕ) (held : Option Held) → option_map (with_sheet account text) held ≡ option_map (with_uploads ((account, text) ∷ [])) held
+-- nothing was put over it
+pub unchanged : (held : Option Held) → held ≡ option_map (with_all [] []) held
+unchanged None = refl
+unchanged (Some h) = ap (λ (rows : List Row). holding h.sheets rows) (sym (append-nil h.rows))
+
+puts_one : (account : Account) (text : List ℕ) (held : Option Held) → option_map (with_sheet account text) held ≡ option_map (with_all ((account, text) ∷ []) []) held
 puts_one account text None = refl
-puts_one account text (Some h) = refl
+puts_one account text (Some h) = ap (λ (rows : List Row). holding (put_each ((account, text) ∷ []) h.sheets) rows) (sym (append-nil h.rows))
+
+adds_rows : (rows : List Row) (held : Option Held) → option_map (with_rows rows) held ≡ option_map (with_all [] rows) held
+adds_rows rows None = refl
+adds_rows rows (Some h) = refl
 
 puts_then : (xs ys : Texts) (texts : Texts) → put_each (xs ++ ys) texts ≡ put_each ys (put_each xs texts)
 puts_then [] ys texts = refl
 puts_then (x ∷ xs) ys texts = puts_then xs ys _
 
-uploads_then : (xs ys : Texts) (held : Option Held) → option_map (with_uploads ys) (option_map (with_uploads xs) held) ≡ option_map (with_uploads (xs ++ ys)) held
-uploads_then xs ys None = refl
-uploads_then xs ys (Some h) = ap (λ (sheets : Texts). Some (record h { sheets = sheets })) (sym (puts_then xs ys h.sheets))
+-- and then more
+pub all_then : (xs ys : Texts) (rows more : List Row) (held : Option Held) → option_map (with_all ys more) (option_map (with_all xs rows) held) ≡ option_map (with_all (xs ++ ys) (rows ++ more)) held
+all_then xs ys rows more None = refl
+all_then xs ys rows more (Some h) =
+    ap (λ (sheets : Texts). holding sheets ((h.rows ++ rows) ++ more)) (sym (puts_then xs ys h.sheets))
+    ∙ ap (λ (l : List Row). holding (put_each (xs ++ ys) h.sheets) l) (append_assoc h.rows rows more)
 
 -- by what is done for a web request
 by_web : (w : Web) (kept : Kept) (rows : List Row) (held left : Option Held) (calls after : Option KeeperCalls) → Answers (call_by w) kept rows held left calls after
-    → left ≡ option_map (with_uploads (option_to_list (kept_upload kept (upload_by w)))) held
+    → left ≡ option_map (with_all (option_to_list (kept_upload kept (upload_by w))) []) held
 by_web (web.Read text) made rows held left calls after a = a.1.0 ∙ unchanged held
 by_web (web.Read text) failed rows held left calls after a = a.1.0 ∙ unchanged held
 by_web (web.Read text) no_memory rows held left calls after a = a.1.0 ∙ unchanged held
@@ -97,17 +152,63 @@ by_web web.Charges made rows held left calls after a = a.0 ∙ unchanged held
 by_web web.Charges failed rows held left calls after a = a.0 ∙ unchanged held
 by_web web.Charges no_memory rows held left calls after a = a.0 ∙ unchanged held
 
-holds_one : (names : WebDirectory) (e : Event) (kept : Kept) (rows : List Row) (held left : Option Held) (calls after : Option KeeperCalls) → Answers (call_of names e) kept rows held left calls after
-    → left ≡ option_map (with_uploads (option_to_list (upload_at names e kept))) held
-holds_one names (event.Datagram from at bytes) kept rows held left calls after a = a.1.0 ∙ unchanged held
-holds_one names (event.Web at bytes) kept rows held left calls after a = by_web (web_of names [] (request_of bytes)) kept rows held left calls after a
-holds_one names (event.Quiet at) kept rows held left calls after a = a.1.0 ∙ unchanged held
+-- by what was asked of it in an event
+holds_asked : (names : WebDirectory) (e : Event) (kept : Kept) (rows : List Row) (held left : Option Held) (calls after : Option KeeperCalls) → Answers (call_of names e) kept rows held left calls after
+    → left ≡ option_map (with_all (option_to_list (upload_at names e kept)) []) held
+holds_asked names (event.Datagram from at bytes) kept rows held left calls after a = a.1.0 ∙ unchanged held
+holds_asked names (event.Web at bytes) kept rows held left calls after a = by_web (web_of names [] (request_of bytes)) kept rows held left calls after a
+holds_asked names (event.Quiet at) kept rows held left calls after a = a.1.0 ∙ unchanged held
 
--- each upload that was kept was put over what it held, and nothing else changed
-pub holds_each : (names : WebDirectory) (happened : List Happened) (held left : Option Held) (calls after : Option KeeperCalls) → EachAnswers names happened held left calls after
-    → left ≡ option_map (with_uploads (uploads_of names happened)) held
-holds_each names [] held left calls after a = a.0 ∙ unchanged held
-holds_each names (x ∷ xs) held left calls after a =
-    holds_each names xs a.0 left a.1 after a.3
-    ∙ (ap (λ (h : Option Held). option_map (with_uploads (uploads_of names xs)) h) (holds_one names x.event x.kept x.rows held a.0 calls a.1 a.2)
-    ∙ uploads_then (option_to_list (upload_at names x.event x.kept)) (uploads_of names xs) held)
+-- of the rows that were handed to it, it holds those that it took
+holds_handed : (took : Bool) (waiting : List Row) (held left : Option Held) (calls after : Option KeeperCalls) → Handed took waiting held left calls after
+    → left ≡ option_map (with_all [] (taken_of took waiting)) held
+holds_handed true [] held left calls after handed = handed.1.0 ∙ unchanged held
+holds_handed false [] held left calls after handed = absurd (false≢true handed.0)
+holds_handed true (row ∷ rows) held left calls after handed = handed.0 ∙ adds_rows (row ∷ rows) held
+holds_handed false (row ∷ rows) held left calls after handed = handed.0 ∙ unchanged held
+
+-- in one event
+pub holds_one : (names : WebDirectory) (one : Happened) (waiting : List Row) (held asked left : Option Held) (calls midst after : Option KeeperCalls)
+    → Answers (call_of names one.event) one.kept one.rows held asked calls midst → Handed one.took waiting asked left midst after
+    → left ≡ option_map (with_all (uploads_of names (one ∷ [])) (taken_of one.took waiting)) held
+holds_one names one waiting held asked left calls midst after answers handed =
+    let put = option_to_list (upload_at names one.event one.kept) in
+    holds_handed one.took waiting asked left midst after handed
+    ∙ (ap (λ (h : Option Held). option_map (with_all [] (taken_of one.took waiting)) h) (holds_asked names one.event one.kept one.rows held asked calls midst answers)
+    ∙ all_then put [] [] (taken_of one.took waiting) held)
+
+-- in one event in which it took no rows
+holds_no_more : (names : WebDirectory) (one : Happened) (held left : Option Held) (calls midst : Option KeeperCalls) → Answers (call_of names one.event) one.kept one.rows held left calls midst
+    → left ≡ option_map (with_all (uploads_of names (one ∷ [])) []) held
+holds_no_more names one held left calls midst answers =
+    let put = option_to_list (upload_at names one.event one.kept) in
+    holds_asked names one.event one.kept one.rows held left calls midst answers ∙ ap (λ (uploads : Texts). option_map (with_all uploads []) held) (sym (append-nil put))
+
+pub uploads_both : (names : WebDirectory) (xs ys : List Happened) → uploads_of names (xs ++ ys) ≡ uploads_of names xs ++ uploads_of names ys
+uploads_both names [] ys = refl
+uploads_both names (x ∷ xs) ys =
+    ap (λ (l : Texts). option_to_list (upload_at names x.event x.kept) ++ l) (uploads_both names xs ys)
+    ∙ sym (append_assoc (option_to_list (upload_at names x.event x.kept)) (uploads_of names xs) (uploads_of names ys))
+
+-- ---- in a run
+
+pub holds_nothing : (s : Server) (out : List Offer) (held : Option Held) → HoldsUploads [] s out held held
+holds_nothing s out held d token loaded es before fuel enough went short =
+    ([], ap (λ (l : List Happened). (after d token fuel (notices d l) (beginning loaded)).filed) (append-nil es) ∙ sym (append-nil (after d token fuel (notices d es) (beginning loaded)).filed), unchanged held)
+
+pub holds_untaken : (one : Happened) (s : Server) (out : List Offer) (held left : Option Held) (calls midst : Option KeeperCalls) → one.took ≡ false
+    → ((d : Directory) (token : List ℕ) (loaded : Texts) (es : List Happened) (before : List Offer) → Went d token loaded es before s out → IsShortRun d token loaded (es ++ one ∷ [])
+    → Answers (call_of d.names one.event) one.kept one.rows held left calls midst)
+    → HoldsUploads (one ∷ []) s out held left
+holds_untaken one s out held left calls midst took answers d token loaded es before fuel enough went short =
+    let w : World = after d token fuel (notices d es) (beginning loaded) in (
+      [],
+      ap (λ (u : World). u.filed) (after_last d token fuel es one (beginning loaded)) ∙ (untaken d token fuel one w took ∙ sym (append-nil w.filed)),
+      holds_no_more d.names one held left calls midst (answers d token loaded es before went short),
+    )
+
+pub holds_lost : (es : List Event) (s : Server) (out : List Offer) (held : Option Held) (calls : Option KeeperCalls) → length es ≤ 1 → HoldsUploads (lost_events es) s out held held
+holds_lost [] s out held calls one = holds_nothing s out held
+holds_lost (e ∷ []) s out held calls one =
+    holds_untaken (lost_event e) s out held held calls calls refl (λ d token loaded es before went short. lost_answers (call_of d.names e) held calls)
+holds_lost (e ∷ f ∷ es) s out held calls one = absurd (omega (arith, one))

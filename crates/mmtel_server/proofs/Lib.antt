@@ -1,10 +1,18 @@
 pub mod Grows
+mod Arming
 mod Counts
 mod Deeds
-mod Openings
+mod Asked
+mod Calls
+mod Courses
+mod Filing
+mod Charging
+mod Firing
+mod Handing
 mod Messages
 mod Settling
 mod Runs
+mod Coming
 pub mod Records
 mod Reading
 mod Heard

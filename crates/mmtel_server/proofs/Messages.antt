@@ -1,15 +1,14 @@
 -- A message that is heard, told by what the transactions gave.
-use Rattle.std.proofs.Common.{◌≡◌, ℕ, ◌++◌, List, Bool, true, false, refl, ap, ◌∙◌, sym, subst, length, Option, Some, None}
+use Rattle.std.proofs.Common.{◌≡◌, ℕ, ◌++◌, Bool, List, true, false, refl, ap, ◌∙◌, sym, subst, length, Option, Some, None}
 use Rattle.std.proofs.lemmas.Option.{none-some, same_Some}
 use Rattle.std.specs.List.{find}
-use Rattle.std.specs.Prelude.{codes, option_map}
+use Rattle.std.specs.Prelude.{option_map}
 use Rattle.mmtel_answers.specs.Said.{said}
 use Rattle.mmtel_directory.specs.declared.directories.Directory.{Directory}
-use Rattle.mmtel_message.specs.Faults.{is_method}
 use Rattle.mmtel_message.specs.Message.{Message}
 use Rattle.mmtel_message.specs.declared.messages.Start.{Start}
 use Rattle.mmtel_outside.specs.declared.events.Offer.{Offer}
-use Rattle.mmtel_run.specs.Short.{IsShort}
+use Rattle.mmtel_run.specs.Short.{CallsDrawOn, IsShort}
 use Rattle.mmtel_run.specs.World.{World, answering, told, told_as}
 use Rattle.mmtel_transaction.specs.Answers.{by_key, gives_again, gives_same, hear_says, hears, is_invite_of, key_of, part_of, says, says_opened, then_gives, tkey}
 use Rattle.mmtel_transaction.specs.Calls.{Done, live, opened}
@@ -35,22 +34,22 @@ use Rattle.mmtel_server.specs.declared.servers.Server.{Server}
 
 -- ---- what is said of a message is said of it
 
-module _ (peer : Peer) (m : Message Start) (b : Bool) (cancels : b ≡ is_method (codes "CANCEL") m.start) (taken : Heard) where
-  by : (x : Heard) → Some taken ≡ Some x → IsTaken b m x → IsTaken b m taken
-  by x e so = subst (λ (y : Heard). IsTaken b m y) (sym (same_Some taken x e)) so
+module _ (peer : Peer) (m : Message Start) (taken : Heard) where
+  by : (x : Heard) → Some taken ≡ Some x → IsTaken m x → IsTaken m taken
+  by x e so = subst (λ (y : Heard). IsTaken m y) (sym (same_Some taken x e)) so
 
-  taken_open : (c : Bool) (k : ℕ) (i : Option TKey) → Some taken ≡ Some (says_opened c k i m) → IsTaken b m taken
-  taken_open true k i e = by (heard.Cancel (tkey k) i m) e tt
+  taken_open : (c : Bool) (k : ℕ) (i : Option TKey) → Some taken ≡ Some (says_opened c k i m) → IsTaken m taken
+  taken_open true k i e = by (heard.Cancel (tkey k) i m) e refl
   taken_open false k i e = by (heard.Fresh (tkey k) m) e refl
 
-  pub taken_so : (k : ℕ) (es : List Entry) (t : Part) → Some taken ≡ says k es peer m t → IsTaken b m taken
+  pub taken_so : (k : ℕ) (es : List Entry) (t : Part) → Some taken ≡ says k es peer m t → IsTaken m taken
   taken_so k es part.Fresh e = taken_open (is_cancel (head_of m)) k (option_map key_of (find (is_invite_of (head_of m)) es)) e
   taken_so k es part.Full e = absurd (none-some taken (sym e))
-  taken_so k es (part.Repeat j) e = by (heard.Repeat (then_gives (gives_again peer) (by_key j es))) e cancels
-  taken_so k es (part.Same j) e = by (heard.Repeat (then_gives gives_same (by_key j es))) e cancels
-  taken_so k es (part.Answer j) e = by (heard.Answer (tkey j) m) e tt
+  taken_so k es (part.Repeat j) e = by (heard.Repeat (then_gives (gives_again peer) (by_key j es))) e tt
+  taken_so k es (part.Same j) e = by (heard.Repeat (then_gives gives_same (by_key j es))) e tt
+  taken_so k es (part.Answer j) e = by (heard.Answer (tkey j) m) e refl
   taken_so k es (part.Acked j) e = by (heard.Acked (tkey j)) e tt
-  taken_so k es part.AckOf2xx e = by (heard.AckOf2xx m) e tt
+  taken_so k es part.AckOf2xx e = by (heard.AckOf2xx m) e refl
   taken_so k es part.Stray e = by heard.Stray e tt
 
 -- ---- the server hears
@@ -67,22 +66,22 @@ goes_on d token before s t out w h did stands = record {
     steps = did.stands.steps;
     texts = did.stands.texts;
     registered = did.stands.registered;
-    rows = did.stands.rows;
+    calls = did.stands.calls;
+    armed = did.stands.armed;
     whole = did.stands.whole;
   };
   offered = did.offered;
 }
 
-module _ (few : FewAreOpened) (s : Server) (t : Transactions) (out : List Offer) (at : ℕ) (peer : Peer) (source : Addr) (trusted : Bool) (m : Message Start) (b : Bool)
-    (cancels : b ≡ is_method (codes "CANCEL") m.start) (taken : Heard)
+module _ (law : CallsDrawOn) (few : FewAreOpened) (s : Server) (t : Transactions) (out : List Offer) (at : ℕ) (peer : Peer) (source : Addr) (trusted : Bool) (m : Message Start) (taken : Heard)
     (hears_it : MayOpen s.transactions t (λ h. hears h peer m at) (λ h. Some taken ≡ hear_says h peer m)) (d : Directory) (token : List ℕ) (before : List Offer) (w : World)
     (did : Did d token before s out w) (short : IsShort (told d token at (said peer source trusted m) w)) where
   heard_so : Stands t (hears w.acts peer m at) × (Some taken ≡ hear_says w.acts peer m)
   heard_so = hears_it w.acts did.stands.transactions
-      (has_room few w.acts (short_of w (told d token at (said peer source trusted m) w) (told_grows d token at (said peer source trusted m) w) short).acts)
+      (has_room few w.acts (short_of w (told d token at (said peer source trusted m) w) (told_grows law d token at (said peer source trusted m) w) short).acts)
 
-  back : IsTaken b m taken
-  back = taken_so peer m b cancels taken (length (opened w.acts)) (live w.acts) (part_of (head_of m) (live w.acts)) heard_so.1
+  back : IsTaken m taken
+  back = taken_so peer m taken (length (opened w.acts)) (live w.acts) (part_of (head_of m) (live w.acts)) heard_so.1
 
   same : answering d token at (said peer source trusted m) (Some taken) (record w { acts = hears w.acts peer m at }) ≡ told d token at (said peer source trusted m) w
   same = ap (λ (o : Option Heard). told_as d token at (said peer source trusted m) o w) heard_so.1
@@ -91,13 +90,13 @@ module _ (few : FewAreOpened) (s : Server) (t : Transactions) (out : List Offer)
   went = goes_on d token before s t out w (hears w.acts peer m at) did heard_so.0
 
   pub heard_done : (s2 : Server) (out2 : List Offer)
-      → ((x : Message Start) → IsTaken b x taken → Follows (record s { transactions = t }) out s2 out2 (λ d token. answering d token at (said peer source trusted x) (Some taken)))
+      → ((x : Message Start) → IsTaken x taken → Follows (record s { transactions = t }) out s2 out2 (λ d token. answering d token at (said peer source trusted x) (Some taken)))
       → Did d token before s2 out2 (told d token at (said peer source trusted m) w)
   heard_done s2 out2 follows = subst (λ (x : World). Did d token before s2 out2 x) same
       (follows m back d token before (record w { acts = hears w.acts peer m at }) went (subst IsShort (sym same) short))
 
   pub heard_cut : (out2 : List Offer)
-      → ((x : Message Start) → IsTaken b x taken → Breaks (record s { transactions = t }) out out2 (λ d token. answering d token at (said peer source trusted x) (Some taken)))
+      → ((x : Message Start) → IsTaken x taken → Breaks (record s { transactions = t }) out out2 (λ d token. answering d token at (said peer source trusted x) (Some taken)))
       → IsCut out out2 (before ++ (told d token at (said peer source trusted m) w).offers)
   heard_cut out2 breaks = subst (λ (x : World). IsCut out out2 (before ++ x.offers)) same
       (breaks m back d token before (record w { acts = hears w.acts peer m at }) went (subst IsShort (sym same) short))

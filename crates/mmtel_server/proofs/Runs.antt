@@ -1,59 +1,65 @@
 -- A run of one event more: what it is enough for, and what a server that went through the shorter one has gone through then.
-use Rattle.std.proofs.Common.{◌≡◌, ℕ, max, List, [], ◌∷◌, ◌++◌, false, refl, sym, ap, ◌∙◌, subst}
+use Rattle.std.proofs.Common.{◌≡◌, ℕ, max, Bool, List, [], ◌∷◌, ◌++◌, false, refl, sym, ap, ◌∙◌, subst}
 use Rattle.mmtel_directory.specs.declared.directories.Directory.{Directory}
+use Rattle.mmtel_charging.specs.declared.rows.Row.{Row}
 use Rattle.mmtel_in_force.specs.Texts.{Texts}
 use Rattle.mmtel_outside.specs.declared.events.Offer.{Offer}
-use Rattle.mmtel_run.specs.Events.{Digest, Happened, digest, digests, moment_of}
+use Rattle.mmtel_run.specs.Events.{Digest, Happened, Notice, digest, moment_of, notice_of, notices}
 use Rattle.mmtel_run.specs.Headline.{GivesAlways}
 use Rattle.mmtel_run.specs.Run.{IsEnough, IsEnoughAfter, IsSettled, after, clock_at, one_more, settled}
-use Rattle.mmtel_run.specs.Short.{IsShort, IsShortRun}
-use Rattle.mmtel_run.specs.World.{World, beginning, begun, came}
-use Rattle.mmtel_server.specs.Follows.{Breaks, BreaksTo, Follows, FollowsTo, IsReady, going}
+use Rattle.mmtel_run.specs.Short.{CallsDrawOn, IsShort, IsShortRun}
+use Rattle.mmtel_run.specs.World.{World, beginning, begun, came, ended, met, rows_waiting}
+use Rattle.mmtel_server.specs.Follows.{Breaks, BreaksTo, Follows, FollowsTo, IsReady, IsSettledBy, going}
+use Rattle.mmtel_server.specs.Handed.{left_of, taken_of}
 use Rattle.mmtel_server.specs.Stands.{BreaksOff, Did, GoesOn, IsCut, Went}
+use Rattle.mmtel_server.specs.Stepped.{WaitedAfter, WaitedIn}
 use Rattle.mmtel_server.specs.declared.servers.Server.{Server}
-use Rattle.mmtel_server.proofs.Grows.{Grows, came_grows, cut_of, front_of, front_on, grows_on, kept_of, met_grows, same, short_of}
+use Rattle.mmtel_server.proofs.Filing.{settled_none}
+use Rattle.mmtel_server.proofs.Grows.{Grows, came_grows, cut_of, ends, front_of, front_on, grows_on, kept_of, met_grows, same, short_of}
 use Rattle.mmtel_server.proofs.Settling.{enough_same, settles}
 
 module _ (d : Directory) (token : List ℕ) where
   -- the whole run is the shorter one and this event
   pub after_last : (fuel : ℕ) (events : List Happened) (event : Happened) (w : World)
-      → after d token fuel (digests d (events ++ event ∷ [])) w ≡ going fuel event d token (after d token fuel (digests d events) w)
+      → after d token fuel (notices d (events ++ event ∷ [])) w ≡ going fuel event d token (after d token fuel (notices d events) w)
   after_last fuel [] event w = refl
-  after_last fuel (x ∷ events) event w = after_last fuel events event (one_more d token fuel (moment_of x.event) (digest d x) w)
+  after_last fuel (x ∷ events) event w = after_last fuel events event (one_more d token fuel (notice_of d x) w)
 
   -- what is enough for it is enough for the shorter one,
-  pub enough_front : (fuel : ℕ) (events : List Happened) (event : Happened) (w : World) → IsEnoughAfter d token fuel (digests d (events ++ event ∷ [])) w
-      → IsEnoughAfter d token fuel (digests d events) w
+  pub enough_front : (fuel : ℕ) (events : List Happened) (event : Happened) (w : World) → IsEnoughAfter d token fuel (notices d (events ++ event ∷ [])) w
+      → IsEnoughAfter d token fuel (notices d events) w
   enough_front fuel [] event w e = tt
-  enough_front fuel (x ∷ events) event w e = (e.0, enough_front fuel events event (one_more d token fuel (moment_of x.event) (digest d x) w) e.1)
+  enough_front fuel (x ∷ events) event w e = (e.0, enough_front fuel events event (one_more d token fuel (notice_of d x) w) e.1)
 
   -- and before this event
-  pub enough_last : (fuel : ℕ) (events : List Happened) (event : Happened) (w : World) → IsEnoughAfter d token fuel (digests d (events ++ event ∷ [])) w
-      → IsReady fuel event (after d token fuel (digests d events) w)
+  pub enough_last : (fuel : ℕ) (events : List Happened) (event : Happened) (w : World) → IsEnoughAfter d token fuel (notices d (events ++ event ∷ [])) w
+      → IsReady fuel event d token (after d token fuel (notices d events) w)
   enough_last fuel [] event w e = e.0
-  enough_last fuel (x ∷ events) event w e = enough_last fuel events event (one_more d token fuel (moment_of x.event) (digest d x) w) e.1
+  enough_last fuel (x ∷ events) event w e = enough_last fuel events event (one_more d token fuel (notice_of d x) w) e.1
 
   -- two counts that are enough leave the same
-  pub run_same : (n m : ℕ) (xs : List (ℕ × Digest)) (w : World) → IsEnoughAfter d token n xs w → IsEnoughAfter d token m xs w → after d token n xs w ≡ after d token m xs w
+  pub run_same : (n m : ℕ) (xs : List Notice) (w : World) → IsEnoughAfter d token n xs w → IsEnoughAfter d token m xs w → after d token n xs w ≡ after d token m xs w
   run_same n m [] w e f = refl
   run_same n m (x ∷ xs) w e f =
-      let one : one_more d token n x.0 x.1 w ≡ one_more d token m x.0 x.1 w = ap (came d token (clock_at w x.0) x.1) (enough_same n m (clock_at w x.0) w e.0 f.0) in
-      ap (after d token n xs) one ∙ run_same n m xs (one_more d token m x.0 x.1 w) (subst (λ (u : World). IsEnoughAfter d token n xs u) one e.1) f.1
+      let one : one_more d token n x w ≡ one_more d token m x w = ap (came d token (clock_at w x.at) x.digest x.took) (enough_same d token n m (clock_at w x.at) w e.0 f.0) in
+      ap (after d token n xs) one ∙ run_same n m xs (one_more d token m x w) (subst (λ (u : World). IsEnoughAfter d token n xs u) one e.1) f.1
 
   -- a server that went through a run stands for it by any count that is enough
   pub stands_by : (loaded : Texts) (events : List Happened) (before out : List Offer) (s : Server) (fuel : ℕ) → Went d token loaded events before s out → IsEnough d token loaded fuel events
-      → Did d token before s out (after d token fuel (digests d events) (beginning loaded))
+      → Did d token before s out (after d token fuel (notices d events) (beginning loaded))
   stands_by loaded events before out s fuel went enough =
-      subst (λ (u : World). Did d token before s out u) (run_same went.fuel fuel (digests d events) (beginning loaded) went.enough enough) went.did
+      subst (λ (u : World). Did d token before s out u) (run_same went.fuel fuel (notices d events) (beginning loaded) went.enough enough) went.did
 
 -- ---- one event
 
 -- from the beginning of the step on it only adds
-pub begun_came : (d : Directory) (token : List ℕ) (at : ℕ) (x : Digest) (w : World) → Grows (begun w) (came d token at x w)
-begun_came d token at x w =
+pub begun_came : CallsDrawOn → (d : Directory) (token : List ℕ) (at : ℕ) (x : Digest) (took : Bool) (w : World) → Grows (begun w) (came d token at x took w)
+begun_came law d token at x took w =
     let there : World = record (begun w) { clock = at } in
+    let done : World = met d token at x there in
     let still = same (begun w) in
-    grows_on (begun w) there (came d token at x w) (record { acts = still.acts; steps = still.steps; drawn = still.drawn; front = still.front }) (met_grows d token at x there)
+    grows_on (begun w) there (came d token at x took w) (record { acts = still.acts; steps = still.steps; drawn = still.drawn; front = still.front })
+    (grows_on there done (ended d took done) (met_grows law d token at x there) (ends law d token at took done))
 
 -- the clock is set
 pub clocked_did : (d : Directory) (token : List ℕ) (before out : List Offer) (s : Server) (at : ℕ) (w : World) → Did d token before s out w
@@ -67,7 +73,8 @@ clocked_did d token before out s at w did = record {
     steps = did.stands.steps;
     texts = did.stands.texts;
     registered = did.stands.registered;
-    rows = did.stands.rows;
+    calls = did.stands.calls;
+    armed = did.stands.armed;
     whole = did.stands.whole;
   };
   offered = did.offered;
@@ -79,67 +86,84 @@ clock_is now clock moment event is at w same = is ∙ (ap (λ (k : ℕ). max k m
 
 -- an event at that clock
 pub record AtClock (d : Directory) (token : List ℕ) (fuel now : ℕ) (event : Happened) (w : World) : Type 0 where
-  pub ready : IsSettled fuel now w
-  pub whole : going fuel event d token w ≡ came d token now (digest d event) (settled fuel now w)
-  pub short : IsShort (came d token now (digest d event) (settled fuel now w))
-  pub between : IsShort (settled fuel now w)
+  pub ready : IsSettled d token fuel now w
+  pub whole : going fuel event d token w ≡ came d token now (digest d event) event.took (settled d token fuel now w)
+  pub short : IsShort (came d token now (digest d event) event.took (settled d token fuel now w))
+  pub between : IsShort (settled d token fuel now w)
 
-at_clock : (d : Directory) (token : List ℕ) (fuel now : ℕ) (event : Happened) (w : World) → now ≡ clock_at w (moment_of event.event) → IsReady fuel event w
+at_clock : CallsDrawOn → (d : Directory) (token : List ℕ) (fuel now : ℕ) (event : Happened) (w : World) → now ≡ clock_at w (moment_of event.event) → IsReady fuel event d token w
     → IsShort (going fuel event d token w) → AtClock d token fuel now event w
-at_clock d token fuel now event w at ready few =
-    let whole : going fuel event d token w ≡ came d token now (digest d event) (settled fuel now w) = ap (λ (k : ℕ). came d token k (digest d event) (settled fuel k w)) (sym at) in
+at_clock law d token fuel now event w at ready few =
+    let whole : going fuel event d token w ≡ came d token now (digest d event) event.took (settled d token fuel now w) = ap (λ (k : ℕ). came d token k (digest d event) event.took (settled d token fuel k w)) (sym at) in
     let short = subst IsShort whole few in
     record {
-      ready = subst (λ (k : ℕ). IsSettled fuel k w) (sym at) ready;
+      ready = subst (λ (k : ℕ). IsSettled d token fuel k w) (sym at) ready;
       whole = whole;
       short = short;
-      between = short_of (settled fuel now w) (came d token now (digest d event) (settled fuel now w)) (came_grows d token now (digest d event) (settled fuel now w)) short;
+      between = short_of (settled d token fuel now w) (came d token now (digest d event) event.took (settled d token fuel now w)) (came_grows law d token now (digest d event) event.took (settled d token fuel now w)) short;
     }
 
--- the deadlines fire, and then the event comes
-module _ (old mid : Server) (out between : List Offer) (event : Happened) (now : ℕ) (clock : (w : World) → old.clock ≡ w.clock → now ≡ clock_at w (moment_of event.event)) where
-  -- the deadlines alone
-  pub cut_before : ((fuel : ℕ) → BreaksTo old out between (IsSettled fuel now) (λ d token. settled fuel now)) → (fuel : ℕ) → BreaksTo old out between (IsReady fuel event) (going fuel event)
-  cut_before breaks fuel d token before w did ready few =
-      let here = at_clock d token fuel now event w (clock w did.stands.clock) ready few in
-      let cut = breaks fuel d token before w did here.ready here.between in
-      let v = settled fuel now w in
-      let more = came_grows d token now (digest d event) v in
-      subst (λ (u : World). IsCut out between (before ++ u.offers)) (sym here.whole)
-      (cut.0, front_on between (before ++ v.offers) (before ++ (came d token now (digest d event) v).offers) cut.1 (front_of before (before ++ v.offers) v (came d token now (digest d event) v) more refl))
+-- of the rows that waited, these were filed, and those wait still
+abbrev pub WaitsBy : Directory → World → World → Bool → List Row → Type 0
+WaitsBy d w later took waiting = (later.filed ≡ w.filed ++ taken_of took waiting) × (rows_waiting d later ≡ left_of took waiting)
 
-  module _ (settles_all : (fuel : ℕ) → FollowsTo old out mid between (IsSettled fuel now) (λ d token. settled fuel now)) where
+-- the deadlines fire, and then the event comes
+module _ (law : CallsDrawOn) (old mid : Server) (out between : List Offer) (event : Happened) (now : ℕ) (clock : (w : World) → old.clock ≡ w.clock → now ≡ clock_at w (moment_of event.event)) where
+  -- the deadlines alone
+  pub cut_before : ((fuel : ℕ) → BreaksTo old out between (IsSettledBy fuel now) (λ d token. settled d token fuel now)) → (fuel : ℕ) → BreaksTo old out between (IsReady fuel event) (going fuel event)
+  cut_before breaks fuel d token before w did ready few =
+      let here = at_clock law d token fuel now event w (clock w did.stands.clock) ready few in
+      let cut = breaks fuel d token before w did here.ready here.between in
+      let v = settled d token fuel now w in
+      let more = came_grows law d token now (digest d event) event.took v in
+      subst (λ (u : World). IsCut out between (before ++ u.offers)) (sym here.whole)
+      (cut.0, front_on between (before ++ v.offers) (before ++ (came d token now (digest d event) event.took v).offers) cut.1 (front_of before (before ++ v.offers) v (came d token now (digest d event) event.took v) more refl))
+
+  module _ (settles_all : (fuel : ℕ) → FollowsTo old out mid between (IsSettledBy fuel now) (λ d token. settled d token fuel now)) where
     -- and nothing of the event
     pub cut_between : (fuel : ℕ) → BreaksTo old out between (IsReady fuel event) (going fuel event)
     cut_between fuel d token before w did ready few =
-        let here = at_clock d token fuel now event w (clock w did.stands.clock) ready few in
-        let v = settled fuel now w in
+        let here = at_clock law d token fuel now event w (clock w did.stands.clock) ready few in
+        let v = settled d token fuel now w in
         let there = settles_all fuel d token before w did here.ready here.between in
         subst (λ (u : World). IsCut out between (before ++ u.offers)) (sym here.whole)
-        (cut_of before out between w v (came d token now (digest d event) v) (settles fuel now w) (came_grows d token now (digest d event) v) did.offered there.offered)
+        (cut_of before out between w v (came d token now (digest d event) event.took v) (settles d token law fuel now w) (came_grows law d token now (digest d event) event.took v) did.offered there.offered)
 
     module _ (new : Server) (after_all : List Offer) where
       -- and what happened then
-      pub went_all : Follows mid between new after_all (λ d token. came d token now (digest d event)) → (fuel : ℕ) → FollowsTo old out new after_all (IsReady fuel event) (going fuel event)
+      pub went_all : Follows mid between new after_all (λ d token. came d token now (digest d event) event.took) → (fuel : ℕ) → FollowsTo old out new after_all (IsReady fuel event) (going fuel event)
       went_all comes fuel d token before w did ready few =
-          let here = at_clock d token fuel now event w (clock w did.stands.clock) ready few in
-          let v = settled fuel now w in
+          let here = at_clock law d token fuel now event w (clock w did.stands.clock) ready few in
+          let v = settled d token fuel now w in
           let there = settles_all fuel d token before w did here.ready here.between in
           subst (λ (u : World). Did d token before new after_all u) (sym here.whole) (comes d token before v there here.short)
 
-      pub cut_within : Breaks mid between after_all (λ d token. came d token now (digest d event)) → (fuel : ℕ) → BreaksTo old out after_all (IsReady fuel event) (going fuel event)
+      pub cut_within : Breaks mid between after_all (λ d token. came d token now (digest d event) event.took) → (fuel : ℕ) → BreaksTo old out after_all (IsReady fuel event) (going fuel event)
       cut_within breaks fuel d token before w did ready few =
-          let here = at_clock d token fuel now event w (clock w did.stands.clock) ready few in
-          let v = settled fuel now w in
+          let here = at_clock law d token fuel now event w (clock w did.stands.clock) ready few in
+          let v = settled d token fuel now w in
           let there = settles_all fuel d token before w did here.ready here.between in
           let cut = breaks d token before v there here.short in
           subst (λ (u : World). IsCut out after_all (before ++ u.offers)) (sym here.whole)
-          (front_on out between after_all (kept_of before out between w v (settles fuel now w) did.offered there.offered) cut.0, cut.1)
+          (front_on out between after_all (kept_of before out between w v (settles d token law fuel now w) did.offered there.offered) cut.0, cut.1)
+
+    -- the deadlines file no row
+    pub waited_there : (waiting : List Row)
+        → ((d : Directory) (token : List ℕ) (before : List Offer) (w : World) → Did d token before mid between w → IsShort (came d token now (digest d event) event.took w)
+        → WaitsBy d w (came d token now (digest d event) event.took w) event.took waiting)
+        → WaitedAfter old out event waiting
+    waited_there waiting waits d token before w fuel did ready few =
+        let here = at_clock law d token fuel now event w (clock w did.stands.clock) ready few in
+        let v = settled d token fuel now w in
+        let there = settles_all fuel d token before w did here.ready here.between in
+        let left = waits d token before v there here.short in
+        let filed = left.0 ∙ ap (λ (rows : List Row). rows ++ taken_of event.took waiting) (settled_none d token fuel now w) in
+        subst (λ (u : World). WaitsBy d w u event.took waiting) (sym here.whole) (filed, left.1)
 
     -- the configuration is that of the run still
-    pub directory_there : (fuel : ℕ) (d : Directory) (token : List ℕ) (before : List Offer) (w : World) → Did d token before old out w → IsReady fuel event w → IsShort (going fuel event d token w) → mid.directory ≡ d
+    pub directory_there : (fuel : ℕ) (d : Directory) (token : List ℕ) (before : List Offer) (w : World) → Did d token before old out w → IsReady fuel event d token w → IsShort (going fuel event d token w) → mid.directory ≡ d
     directory_there fuel d token before w did ready few =
-        let here = at_clock d token fuel now event w (clock w did.stands.clock) ready few in
+        let here = at_clock law d token fuel now event w (clock w did.stands.clock) ready few in
         (settles_all fuel d token before w did here.ready here.between).stands.directory_same
 
 -- ---- a digest that is read under the server's configuration
@@ -148,17 +172,17 @@ module _ (s : Server) (x : Digest) (f : Directory → Digest) (told : x ≡ f s.
   told_in : (d : Directory) → s.directory ≡ d → x ≡ f d
   told_in d same = told ∙ ap f same
 
-  pub told_follows : (out : List Offer) (new : Server) (now : List Offer) (at : ℕ) → Follows s out new now (λ d token. came d token at x) → Follows s out new now (λ d token. came d token at (f d))
+  pub told_follows : (out : List Offer) (new : Server) (now : List Offer) (at : ℕ) → Follows s out new now (λ d token. met d token at x) → Follows s out new now (λ d token. met d token at (f d))
   told_follows out new now at follows d token before w did short =
       let is = told_in d did.stands.directory_same in
-      subst (λ (y : Digest). Did d token before new now (came d token at y w)) is
-      (follows d token before w did (subst (λ (y : Digest). IsShort (came d token at y w)) (sym is) short))
+      subst (λ (y : Digest). Did d token before new now (met d token at y w)) is
+      (follows d token before w did (subst (λ (y : Digest). IsShort (met d token at y w)) (sym is) short))
 
-  pub told_breaks : (out now : List Offer) (at : ℕ) → Breaks s out now (λ d token. came d token at x) → Breaks s out now (λ d token. came d token at (f d))
+  pub told_breaks : (out now : List Offer) (at : ℕ) → Breaks s out now (λ d token. met d token at x) → Breaks s out now (λ d token. met d token at (f d))
   told_breaks out now at breaks d token before w did short =
       let is = told_in d did.stands.directory_same in
-      subst (λ (y : Digest). IsCut out now (before ++ (came d token at y w).offers)) is
-      (breaks d token before w did (subst (λ (y : Digest). IsShort (came d token at y w)) (sym is) short))
+      subst (λ (y : Digest). IsCut out now (before ++ (met d token at y w).offers)) is
+      (breaks d token before w did (subst (λ (y : Digest). IsShort (met d token at y w)) (sym is) short))
 
 -- ---- a step
 
@@ -173,7 +197,8 @@ whole_again d token before out s w did = record {
     steps = did.stands.steps;
     texts = did.stands.texts;
     registered = did.stands.registered;
-    rows = did.stands.rows;
+    calls = did.stands.calls;
+    armed = did.stands.armed;
     whole = refl;
   };
   offered = did.offered;
@@ -186,7 +211,7 @@ goes_on old new out now event always follows d token loaded events before went s
     let enough = always d token loaded (events ++ event ∷ []) in
     let fuel : ℕ = enough.0 in
     let last = after_last d token fuel events event (beginning loaded) in
-    let shorter = after d token fuel (digests d events) (beginning loaded) in
+    let shorter = after d token fuel (notices d events) (beginning loaded) in
     let did = follows fuel d token before shorter
     (stands_by d token loaded events before out old fuel went (enough_front d token fuel events event (beginning loaded) enough.1))
     (enough_last d token fuel events event (beginning loaded) enough.1)
@@ -194,18 +219,18 @@ goes_on old new out now event always follows d token loaded events before went s
     record {
       fuel = fuel;
       enough = enough.1;
-      did = whole_again d token before now new (after d token fuel (digests d (events ++ event ∷ [])) (beginning loaded)) (subst (λ (u : World). Did d token before new now u) (sym last) did);
+      did = whole_again d token before now new (after d token fuel (notices d (events ++ event ∷ [])) (beginning loaded)) (subst (λ (u : World). Did d token before new now u) (sym last) did);
     }
 
 -- what is so of the configuration under whatever the server stood for is so under whatever run it went through
 pub asked_then : (old : Server) (out : List Offer) (event : Happened) (P : Directory → Type 0) → GivesAlways
-    → ((d : Directory) (token : List ℕ) (before : List Offer) (w : World) (fuel : ℕ) → Did d token before old out w → IsReady fuel event w → IsShort (going fuel event d token w) → P d)
+    → ((d : Directory) (token : List ℕ) (before : List Offer) (w : World) (fuel : ℕ) → Did d token before old out w → IsReady fuel event d token w → IsShort (going fuel event d token w) → P d)
     → (d : Directory) (token : List ℕ) (loaded : Texts) (events : List Happened) (before : List Offer) → Went d token loaded events before old out
     → IsShortRun d token loaded (events ++ event ∷ []) → P d
 asked_then old out event P always is_so d token loaded events before went short =
     let enough = always d token loaded (events ++ event ∷ []) in
     let fuel : ℕ = enough.0 in
-    is_so d token before (after d token fuel (digests d events) (beginning loaded)) fuel
+    is_so d token before (after d token fuel (notices d events) (beginning loaded)) fuel
     (stands_by d token loaded events before out old fuel went (enough_front d token fuel events event (beginning loaded) enough.1))
     (enough_last d token fuel events event (beginning loaded) enough.1)
     (subst IsShort (after_last d token fuel events event (beginning loaded)) (short fuel enough.1))
@@ -214,9 +239,19 @@ pub breaks_off : (old : Server) (out now : List Offer) (event : Happened)
     → ((fuel : ℕ) → BreaksTo old out now (IsReady fuel event) (going fuel event)) → BreaksOff old out now event
 breaks_off old out now event breaks d token loaded events before fuel went short enough =
     let last = after_last d token fuel events event (beginning loaded) in
-    let shorter = after d token fuel (digests d events) (beginning loaded) in
+    let shorter = after d token fuel (notices d events) (beginning loaded) in
     let cut = breaks fuel d token before shorter
     (stands_by d token loaded events before out old fuel went (enough_front d token fuel events event (beginning loaded) enough))
     (enough_last d token fuel events event (beginning loaded) enough)
     (subst IsShort last (short fuel enough)) in
     subst (λ (u : World). IsCut out now (before ++ u.offers)) (sym last) cut
+
+pub waited_in : (old : Server) (out : List Offer) (event : Happened) (waiting : List Row) → WaitedAfter old out event waiting → WaitedIn old out event waiting
+waited_in old out event waiting waits d token loaded events before fuel went short enough =
+    let last = after_last d token fuel events event (beginning loaded) in
+    let shorter = after d token fuel (notices d events) (beginning loaded) in
+    let here = waits d token before shorter fuel
+    (stands_by d token loaded events before out old fuel went (enough_front d token fuel events event (beginning loaded) enough))
+    (enough_last d token fuel events event (beginning loaded) enough)
+    (subst IsShort last (short fuel enough)) in
+    subst (λ (u : World). WaitsBy d shorter u event.took waiting) (sym last) here

@@ -1,6 +1,7 @@
 -- What `drive` heard of a link and made of it.
 use Rattle.std.specs.Prelude.{◌≡◌, ◌≢◌, ◌⊎◌, ◌+◌, ◌<◌, ◌≤◌, ℕ, zero, suc, Bool, true, false, ⊤, List, [], ◌∷◌, ◌++◌, drop, length, take, Option, Some, None, Result, Ok, Err}
 use Rattle.std.specs.Option.{option_map}
+use Rattle.mmtel_charging.specs.declared.rows.Row.{Row}
 use Rattle.mmtel_directory.specs.declared.directories.Directory.{Directory}
 use Rattle.mmtel_directory.specs.declared.directories.WebDirectory.{WebDirectory}
 use Rattle.mmtel_http.specs.Requests.{greatest, request_of, whole_of, window}
@@ -13,12 +14,16 @@ use Rattle.mmtel_outside.specs.declared.events.Event.{Event}
 use Rattle.mmtel_outside.specs.declared.events.Event.TheVariants as event
 use Rattle.mmtel_outside.specs.declared.events.Offer.{Offer}
 use Rattle.mmtel_run.specs.Events.{Happened, events_in}
-use Rattle.mmtel_run.specs.Headline.{SeesAlike}
 use Rattle.mmtel_run.specs.InForce.{uploads_of}
-use Rattle.mmtel_run.specs.Run.{IsEnough, gives}
+use Rattle.mmtel_run.specs.Run.{IsEnough, gives, world_after}
 use Rattle.mmtel_run.specs.Short.{IsShortRun}
-use Rattle.mmtel_serving.specs.Calls.{Answers, Counted}
+use Rattle.mmtel_call_heads.specs.Clean.{IsClean}
+use Rattle.mmtel_run_laws.specs.Clean.{SendsCleanMessages}
+use Rattle.mmtel_run_laws.specs.Outcome.{CallsComeToOutcome}
+use Rattle.mmtel_run_secret.specs.Headline.{SeesAlike}
+use Rattle.mmtel_serving.specs.Calls.{Answers, Counted, MayBeCalled}
 use Rattle.mmtel_server.specs.Stands.{IsCut, Went}
+use Rattle.mmtel_server.specs.Handed.{Charged, Handed, HandedCounted}
 use Rattle.mmtel_server.specs.Stepped.{call_of}
 use Rattle.mmtel_server.specs.declared.driving.DriveFault.{DriveFault}
 use Rattle.mmtel_server.specs.declared.driving.DriveFault.TheVariants.{LinkFault, NoMemory}
@@ -157,14 +162,27 @@ KeptAll happened old out now (Ok closed) = KeptTheSecret happened old out now
 KeptAll happened old out now (Err LinkFault) = KeptTheSecret happened old out now
 KeptAll happened old out now (Err NoMemory) = ⊤
 
+-- whatever run the server went through, each call of that and of what happened here comes to what the precedence of services makes of how its attempts ended, and of how things stood when it reached each target, within the bound on diversions and with its rows
+abbrev pub CameToOutcome : List Happened → Server → List Offer → Type 0
+CameToOutcome happened old out =
+    (directory : Directory) (token : List ℕ) (loaded : Texts) (earlier : List Happened) (before : List Offer) →
+    Went directory token loaded earlier before old out → IsShortRun directory token loaded (earlier ++ happened) → CallsComeToOutcome directory token loaded (earlier ++ happened)
+
+-- and each text that is offered to a peer in it has its own lines and nobody else's, under a home domain and a token of one line each
+abbrev pub SentClean : List Happened → Server → List Offer → Type 0
+SentClean happened old out =
+    (directory : Directory) (token : List ℕ) (loaded : Texts) (earlier : List Happened) (before : List Offer) →
+    Went directory token loaded earlier before old out → IsShortRun directory token loaded (earlier ++ happened) →
+    IsClean directory.home → IsClean token → SendsCleanMessages directory token loaded (earlier ++ happened)
+
 -- ---- what was made of the keeper
 
--- what the keeper answered in each event is the answer of the call that the event asks for, and nothing else was asked of it
+-- what the keeper answered to each event is the answer of the call that the event asks for; then the rows that waited were handed to it, where there were any; and nothing else was asked of it
 abbrev pub EachAnswers : WebDirectory → List Happened → Option Held → Option Held → Option KeeperCalls → Option KeeperCalls → Type 0
 EachAnswers names [] held left calls after = (left ≡ held) × (after ≡ calls)
 EachAnswers names (one ∷ happened) held left calls after =
-    (between : Option Held) × (midst : Option KeeperCalls) ×
-    Answers (call_of names one.event) one.kept one.rows held between calls midst × EachAnswers names happened between left midst after
+    (asked : Option Held) × (between : Option Held) × (midst : Option KeeperCalls) × (past : Option KeeperCalls) × (waiting : List Row) ×
+    Answers (call_of names one.event) one.kept one.rows held asked calls midst × (Handed one.took waiting asked between midst past × EachAnswers names happened between left past after)
 
 abbrev pub AnswersAll : List Happened → Server → List Offer → Option Held → Option Held → Option KeeperCalls → Option KeeperCalls → Type 0
 AnswersAll happened old out held left calls after =
@@ -172,28 +190,73 @@ AnswersAll happened old out held left calls after =
     Went directory token loaded earlier before old out → IsShortRun directory token loaded (earlier ++ happened) →
     EachAnswers directory.names happened held left calls after
 
--- with these uploads put over the sheets
-abbrev pub with_uploads : Texts → Held → Held
-with_uploads uploads held = record held { sheets = put_each uploads held.sheets }
+-- with these uploads put over the sheets, and these rows behind the others
+abbrev pub with_all : Texts → List Row → Held → Held
+with_all uploads rows held = record { sheets = put_each uploads held.sheets; rows = held.rows ++ rows }
 
--- where the keeper tells what it holds, each upload that was kept was put over it, in their order, and nothing else changed
+-- where the keeper tells what it holds, each upload that was kept was put over it, in their order, the rows that were filed in these events stand behind those that it held, and nothing else changed
 abbrev pub HoldsUploads : List Happened → Server → List Offer → Option Held → Option Held → Type 0
 HoldsUploads happened old out held left =
     (directory : Directory) (token : List ℕ) (loaded : Texts) (earlier : List Happened) (before : List Offer) →
+    (fuel : ℕ) → IsEnough directory token loaded fuel (earlier ++ happened) →
     Went directory token loaded earlier before old out → IsShortRun directory token loaded (earlier ++ happened) →
-    left ≡ option_map (with_uploads (uploads_of directory.names happened)) held
+    (rows : List Row) × ((world_after directory token loaded fuel (earlier ++ happened)).filed ≡ (world_after directory token loaded fuel earlier).filed ++ rows)
+    × (left ≡ option_map (with_all (uploads_of directory.names happened) rows) held)
 
--- its count of faults rose in each event in which its call failed, and stood in every other
+-- its count of faults rose in each event in which its call failed, and where it did not take the rows at the end, and stood otherwise
 abbrev pub EachCounted : List Happened → (faults count : ℕ) → Type 0
 EachCounted [] faults count = count ≡ faults
-EachCounted (one ∷ happened) faults count = (between : ℕ) × Counted one.kept faults between × EachCounted happened between count
+EachCounted (one ∷ happened) faults count = (asked : ℕ) × (between : ℕ) × Counted one.kept faults asked × (HandedCounted one.took asked between × EachCounted happened between count)
+
+-- ---- the same where memory ran out, in the last of these events or behind it
+
+-- of the last one, if memory ran out in it: what the keeper answered is the answer of the call that the event asks for; the rows that waited then may have been handed to it, and it took none of them
+abbrev pub LastAnswers : WebDirectory → List Happened → Option Held → Option Held → Option KeeperCalls → Option KeeperCalls → Type 0
+LastAnswers names [] held left calls after = (left ≡ held) × (after ≡ calls)
+LastAnswers names (one ∷ []) held left calls after =
+    (midst : Option KeeperCalls) × (one.took ≡ false) × (Answers (call_of names one.event) one.kept one.rows held left calls midst × MayBeCalled midst after)
+LastAnswers names (one ∷ other ∷ happened) held left calls after = ⊥
+
+-- and of all before it as above
+abbrev pub EachAnswersButLast : WebDirectory → List Happened → Option Held → Option Held → Option KeeperCalls → Option KeeperCalls → Type 0
+EachAnswersButLast names happened held left calls after =
+    (done : List Happened) × (last : List Happened) × (between : Option Held) × (midst : Option KeeperCalls) ×
+    (happened ≡ done ++ last) × (EachAnswers names done held between calls midst × LastAnswers names last between left midst after)
+
+abbrev pub AnswersButLast : List Happened → Server → List Offer → Option Held → Option Held → Option KeeperCalls → Option KeeperCalls → Type 0
+AnswersButLast happened old out held left calls after =
+    (directory : Directory) (token : List ℕ) (loaded : Texts) (earlier : List Happened) (before : List Offer) →
+    Went directory token loaded earlier before old out → IsShortRun directory token loaded (earlier ++ happened) →
+    EachAnswersButLast directory.names happened held left calls after
+
+-- the count of faults rose in it where its call failed, and stood otherwise
+abbrev pub LastCounted : List Happened → (faults count : ℕ) → Type 0
+LastCounted [] faults count = count ≡ faults
+LastCounted (one ∷ []) faults count = Counted one.kept faults count
+LastCounted (one ∷ other ∷ happened) faults count = ⊥
+
+abbrev pub EachCountedButLast : List Happened → (faults count : ℕ) → Type 0
+EachCountedButLast happened faults count =
+    (done : List Happened) × (last : List Happened) × (between : ℕ) × (happened ≡ done ++ last) × (EachCounted done faults between × LastCounted last between count)
+
+-- ---- by the answer
+
+abbrev pub AnsweredAll : List Happened → Server → List Offer → Option Held → Option Held → Option KeeperCalls → Option KeeperCalls → Result Bool DriveFault → Type 0
+AnsweredAll happened old out held left calls after (Ok closed) = AnswersAll happened old out held left calls after
+AnsweredAll happened old out held left calls after (Err LinkFault) = AnswersAll happened old out held left calls after
+AnsweredAll happened old out held left calls after (Err NoMemory) = AnswersButLast happened old out held left calls after
+
+abbrev pub CountedAll : List Happened → (faults count : ℕ) → Result Bool DriveFault → Type 0
+CountedAll happened faults count (Ok closed) = EachCounted happened faults count
+CountedAll happened faults count (Err LinkFault) = EachCounted happened faults count
+CountedAll happened faults count (Err NoMemory) = EachCountedButLast happened faults count
 
 -- what the keeper tells and counts, before and after
 pub record KeeperWentOn (happened : List Happened) (old : Server) (out : List Offer) (held left : Option Held) (calls after : Option KeeperCalls)
-    (faults count : ℕ) : Type 0 where
-  pub answers : AnswersAll happened old out held left calls after
+    (faults count : ℕ) (result : Result Bool DriveFault) : Type 0 where
+  pub answers : AnsweredAll happened old out held left calls after result
   pub sheets : HoldsUploads happened old out held left
-  pub counted : EachCounted happened faults count
+  pub counted : CountedAll happened faults count result
 
 -- ---- the whole
 
@@ -211,7 +274,12 @@ pub record Driven (ear later : Option Ear) (giving gave : ℕ) (held left : Opti
   -- the server did them all,
   pub did : DidAll happened old out new now result
   -- the keeper was asked what they ask, and keeps what they say,
-  pub keeper : KeeperWentOn happened old out held left calls after faults count
+  pub keeper : KeeperWentOn happened old out held left calls after faults count result
+  -- the charging rows that it took in the whole run, and behind them those that wait, are all that were closed in it, in their order,
+  pub charged : Charged happened old out
+  -- each call comes to its outcome, and what is offered has its own lines,
+  pub outcome : CameToOutcome happened old out
+  pub clean : SentClean happened old out
   -- and the secret was kept
   pub kept : KeptAll happened old out now result
 

@@ -9,7 +9,8 @@ use Rattle.mmtel_outside.specs.declared.events.Event.TheVariants as event
 use Rattle.mmtel_outside.specs.declared.events.Offer.{Offer}
 use Rattle.mmtel_in_force.specs.Texts.{Texts}
 use Rattle.mmtel_run.specs.Events.{Happened, digest_event}
-use Rattle.mmtel_run.specs.Headline.{Gives, SeesAlike}
+use Rattle.mmtel_run.specs.Headline.{Gives}
+use Rattle.mmtel_run_secret.specs.Headline.{SeesAlike}
 use Rattle.mmtel_web.specs.Answers.{Kept}
 use Rattle.mmtel_server.specs.Driven.{EachRead, IsReadOut}
 use Rattle.mmtel_server.specs.Stands.{Went}

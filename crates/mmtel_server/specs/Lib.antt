@@ -1,8 +1,11 @@
 -- What public clauses cite, which a user of the crate has to believe.
 pub mod Stands
+pub mod Arming
+pub mod Handed
 pub mod Stepped
 pub mod Driven
 pub mod Laws
 -- What private functions alone cite.
 pub mod Follows
+pub mod Calling
 pub mod Turns

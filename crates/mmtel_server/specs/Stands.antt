@@ -1,15 +1,21 @@
 -- The server that stands for what was done in a run.
 use Rattle.std.specs.Prelude.{◌≡◌, ℕ, false, List, [], ◌∷◌, ◌++◌}
+use Rattle.mmtel_b2bua.specs.Histories.{CallsView}
 use Rattle.mmtel_directory.specs.declared.directories.Directory.{Directory}
 use Rattle.mmtel_outside.specs.declared.events.Offer.{Offer}
 use Rattle.mmtel_in_force.specs.Held.{IsRegisteredBy}
 use Rattle.mmtel_in_force.specs.Texts.{Texts}
-use Rattle.mmtel_run.specs.Events.{Happened, digests}
-use Rattle.mmtel_run.specs.Run.{IsEnough, after, gives}
+use Rattle.mmtel_run.specs.Events.{Happened}
+use Rattle.mmtel_run.specs.Run.{IsEnough, gives, world_after}
 use Rattle.mmtel_run.specs.Short.{IsShortRun}
-use Rattle.mmtel_run.specs.World.{World, beginning}
+use Rattle.mmtel_run.specs.World.{World, calls_in}
+use Rattle.mmtel_server.specs.Arming.{queue_of}
 use Rattle.mmtel_server.specs.declared.servers.Server.{Server}
 use Rattle.mmtel_transaction.specs.Stands as transactions
+
+-- the calls of a server of this configuration
+abbrev pub calls_of : Directory → World → CallsView
+calls_of directory world = record { sip = directory.sip; home = directory.home; bound = directory.bound; table = calls_in directory world; has_failed = false }
 
 -- what a server keeps of what was done; one that has failed for want of memory stands for nothing
 pub record Stands (directory : Directory) (token : List ℕ) (server : Server) (world : World) : Type 0 where
@@ -21,8 +27,10 @@ pub record Stands (directory : Directory) (token : List ℕ) (server : Server) (
   -- the records in force, and the registrations
   pub texts : server.records.texts.texts ≡ world.texts
   pub registered : IsRegisteredBy server.records world.registrations
-  -- no call is followed to its end yet, so no row is written
-  pub rows : server.rows ≡ []
+  -- the calls, as they stand after what was done on them, with the rows that wait
+  pub calls : server.calls ≡ calls_of directory world
+  -- their deadlines
+  pub armed : queue_of server.armed ≡ world.armed
   pub whole : server.failed ≡ false
 
 -- it stands for that, and this was offered behind what stood there before
@@ -34,7 +42,7 @@ pub record Did (directory : Directory) (token : List ℕ) (before : List Offer) 
 pub record Went (directory : Directory) (token : List ℕ) (loaded : Texts) (happened : List Happened) (before : List Offer) (server : Server) (out : List Offer) : Type 0 where
   pub fuel : ℕ
   pub enough : IsEnough directory token loaded fuel happened
-  pub did : Did directory token before server out (after directory token fuel (digests directory happened) (beginning loaded))
+  pub did : Did directory token before server out (world_after directory token loaded fuel happened)
 
 -- the front of a list
 abbrev pub IsPrefixOf : List Offer → List Offer → Type 0

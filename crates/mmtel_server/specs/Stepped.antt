@@ -1,5 +1,5 @@
 -- What one event made of a server and of a keeper.
-use Rattle.std.specs.Prelude.{◌++◌, ◌∷◌, [], ℕ, List, Option}
+use Rattle.std.specs.Prelude.{◌≡◌, ◌++◌, ◌∷◌, [], ℕ, Bool, List, Option}
 use Rattle.mmtel_charging.specs.declared.rows.Row.{Row}
 use Rattle.mmtel_directory.specs.declared.directories.Directory.{Directory}
 use Rattle.mmtel_directory.specs.declared.directories.WebDirectory.{WebDirectory}
@@ -9,13 +9,15 @@ use Rattle.mmtel_keeper.specs.Kept.{Held, KeeperCalls}
 use Rattle.mmtel_outside.specs.declared.events.Event.{Event}
 use Rattle.mmtel_outside.specs.declared.events.Event.TheVariants as event
 use Rattle.mmtel_outside.specs.declared.events.Offer.{Offer}
-use Rattle.mmtel_run.specs.Events.{Happened}
+use Rattle.mmtel_run.specs.Events.{Happened, digest_event}
+use Rattle.mmtel_run.specs.Run.{IsEnough, world_after}
 use Rattle.mmtel_run.specs.Short.{IsShortRun}
 use Rattle.mmtel_serving.specs.Calls.{Answers, Call, Counted, call_in, none}
 use Rattle.mmtel_web.specs.Answers.{Kept}
 use Rattle.mmtel_run.specs.Short.{IsShort}
-use Rattle.mmtel_run.specs.World.{World}
-use Rattle.mmtel_server.specs.Follows.{IsReady, going}
+use Rattle.mmtel_run.specs.World.{World, came, rows_waiting}
+use Rattle.mmtel_server.specs.Follows.{Follows, IsReady, going}
+use Rattle.mmtel_server.specs.Handed.{Charged, Handed, HandedCounted, StoppedHanding, left_of, taken_of}
 use Rattle.mmtel_server.specs.Stands.{Did, GoesOn, Went}
 use Rattle.mmtel_server.specs.declared.servers.Server.{Server}
 
@@ -25,39 +27,108 @@ call_of names (event.Datagram from at bytes) = none
 call_of names (event.Web at bytes) = call_in names (request_of bytes)
 call_of names (event.Quiet at) = none
 
--- what happened: the event, and what the keeper answered in it
-abbrev pub happened_in : Event → Kept → List Row → Happened
-happened_in event kept rows = record { event = event; kept = kept; rows = rows }
+-- what happened: the event, what the keeper answered to it, and whether it took the rows that waited at its end
+abbrev pub happened_in : Event → Kept → List Row → (took : Bool) → Happened
+happened_in event kept rows took = record { event = event; kept = kept; rows = rows; took = took }
 
--- whatever run the server went through, the keeper answered what the event asks in it, and nothing else was asked of it
-abbrev pub AskedIn : Server → List Offer → Event → Kept → List Row → Option Held → Option Held → Option KeeperCalls → Option KeeperCalls → Type 0
-AskedIn old out event kept rows held later calls after =
+-- whatever run the server went through, the keeper answered what the event asks in it, and nothing else was asked of it until its end
+abbrev pub AskedIn : Server → List Offer → Happened → Option Held → Option Held → Option KeeperCalls → Option KeeperCalls → Type 0
+AskedIn old out one held later calls after =
     (directory : Directory) (token : List ℕ) (loaded : Texts) (happened : List Happened) (before : List Offer) →
-    Went directory token loaded happened before old out → IsShortRun directory token loaded (happened ++ happened_in event kept rows ∷ []) →
-    Answers (call_of directory.names event) kept rows held later calls after
+    Went directory token loaded happened before old out → IsShortRun directory token loaded (happened ++ one ∷ []) →
+    Answers (call_of directory.names one.event) one.kept one.rows held later calls after
+
+-- whatever run it went through, so many rows waited at the end of the event: they were filed, or wait still
+abbrev pub WaitedIn : Server → List Offer → Happened → List Row → Type 0
+WaitedIn old out one waiting =
+    (directory : Directory) (token : List ℕ) (loaded : Texts) (happened : List Happened) (before : List Offer) (fuel : ℕ) →
+    Went directory token loaded happened before old out → IsShortRun directory token loaded (happened ++ one ∷ []) →
+    IsEnough directory token loaded fuel (happened ++ one ∷ []) →
+    let world : World = world_after directory token loaded fuel happened in
+    let later : World = world_after directory token loaded fuel (happened ++ one ∷ []) in
+    (later.filed ≡ world.filed ++ taken_of one.took waiting) × (rows_waiting directory later ≡ left_of one.took waiting)
 
 -- the server and the offers before and after, and what the keeper tells and counts before and after
 pub record Stepped (old : Server) (out : List Offer) (new : Server) (now : List Offer) (event : Event) (held later : Option Held) (calls after : Option KeeperCalls) (faults count : ℕ) : Type 0 where
-  -- there is an answer of the keeper
+  -- there is an answer of the keeper, and rows that waited at the end, which it took or not,
   pub kept : Kept
   pub rows : List Row
-  -- by which the server has gone on,
-  pub went : GoesOn old out new now (happened_in event kept rows)
-  -- which is that of the call that the event asks for, and nothing else was asked of it,
-  pub asked : AskedIn old out event kept rows held later calls after
-  -- and the count of its faults rose exactly where that failed
-  pub counted : Counted kept faults count
+  pub waiting : List Row
+  pub took : Bool
+  -- by which the server has gone on;
+  pub went : GoesOn old out new now (happened_in event kept rows took)
+  -- what it tells and counts in between
+  pub between : Option Held
+  pub midst : Option KeeperCalls
+  pub mid : ℕ
+  -- its answer is that of the call that the event asks for, and nothing else was asked of it,
+  pub asked : AskedIn old out (happened_in event kept rows took) held between calls midst
+  -- and the count of its faults rose exactly where that failed;
+  pub counted : Counted kept faults mid
+  -- then the rows that waited were handed to it, where there were any,
+  pub waited : WaitedIn old out (happened_in event kept rows took) waiting
+  pub handed : Handed took waiting between later midst after
+  -- and the count rose exactly where it did not take them;
+  pub handed_counted : HandedCounted took mid count
+  -- so those that it took in the whole run, and behind them those that wait, are all that were closed in it
+  pub charged : Charged (happened_in event kept rows took ∷ []) old out
 
--- the keeper where memory ran out in an event: there is an answer that it gave, at most one, as was asked; and the count of its faults rose exactly where that failed
-pub record StoppedAt (Asked : Kept → List Row → Type 0) (faults count : ℕ) : Type 0 where
+-- the offers and the keeper where memory ran out in an event: there is an answer that the keeper gave, at most one,
+pub record StoppedAt (Broke : Kept → List Row → Type 0) (Asked : Kept → List Row → Option Held → Option KeeperCalls → Type 0) (later : Option Held) (after : Option KeeperCalls) (faults count : ℕ) : Type 0 where
   pub kept : Kept
   pub rows : List Row
-  pub asked : Asked kept rows
-  pub counted : Counted kept faults count
+  -- by which a front of what the event makes the server offer was added;
+  pub broke : Broke kept rows
+  -- it is that of the call that the event asks for,
+  pub between : Option Held
+  pub midst : Option KeeperCalls
+  pub mid : ℕ
+  pub asked : Asked kept rows between midst
+  -- and the count of its faults rose exactly where that failed;
+  pub counted : Counted kept faults mid
+  -- then memory may have run out over the rows that waited, and they wait still
+  pub handed : StoppedHanding between later midst after mid count
 
 -- used between the functions of this crate alone: where the deadlines before an event leave the configuration as it is, the keeper answers what the event asks
-abbrev pub AskedAfter : Server → List Offer → Event → Kept → List Row → Option Held → Option Held → Option KeeperCalls → Option KeeperCalls → Type 0
-AskedAfter old out event kept rows held later calls after =
+abbrev pub AskedAfter : Server → List Offer → Happened → Option Held → Option Held → Option KeeperCalls → Option KeeperCalls → Type 0
+AskedAfter old out one held later calls after =
     (directory : Directory) (token : List ℕ) (before : List Offer) (world : World) (fuel : ℕ) →
-    Did directory token before old out world → IsReady fuel (happened_in event kept rows) world → IsShort (going fuel (happened_in event kept rows) directory token world) →
-    Answers (call_of directory.names event) kept rows held later calls after
+    Did directory token before old out world → IsReady fuel one directory token world → IsShort (going fuel one directory token world) →
+    Answers (call_of directory.names one.event) one.kept one.rows held later calls after
+
+-- and the rows that wait at its end are these
+abbrev pub WaitedAfter : Server → List Offer → Happened → List Row → Type 0
+WaitedAfter old out one waiting =
+    (directory : Directory) (token : List ℕ) (before : List Offer) (world : World) (fuel : ℕ) →
+    Did directory token before old out world → IsReady fuel one directory token world → IsShort (going fuel one directory token world) →
+    let later : World = going fuel one directory token world in
+    (later.filed ≡ world.filed ++ taken_of one.took waiting) × (rows_waiting directory later ≡ left_of one.took waiting)
+
+-- what one event gave: the server stands for it when the clock stands so
+pub record Came (old : Server) (out : List Offer) (new : Server) (now : List Offer) (at : ℕ) (event : Event) (kept : Kept) (rows : List Row) (took : Bool)
+    (held later : Option Held) (calls after : Option KeeperCalls) (faults count : ℕ) : Type 0 where
+  pub went : Follows old out new now (λ d token. came d token at (digest_event d event kept rows) took)
+  pub waiting : List Row
+  pub between : Option Held
+  pub midst : Option KeeperCalls
+  pub mid : ℕ
+  pub asked : Answers (call_of old.directory.names event) kept rows held between calls midst
+  pub counted : Counted kept faults mid
+  pub waited : (directory : Directory) (token : List ℕ) (before : List Offer) (world : World) → Did directory token before old out world →
+      IsShort (came directory token at (digest_event directory event kept rows) took world) →
+      let later : World = came directory token at (digest_event directory event kept rows) took world in
+      (later.filed ≡ world.filed ++ taken_of took waiting) × (rows_waiting directory later ≡ left_of took waiting)
+  pub handed : Handed took waiting between later midst after
+  pub handed_counted : HandedCounted took mid count
+
+-- and what became of the keeper in an event, where the deadlines before it leave the configuration as it is
+pub record KeeperWent (old : Server) (out : List Offer) (one : Happened) (held later : Option Held) (calls after : Option KeeperCalls) (faults count : ℕ) : Type 0 where
+  pub waiting : List Row
+  pub between : Option Held
+  pub midst : Option KeeperCalls
+  pub mid : ℕ
+  pub asked : AskedAfter old out one held between calls midst
+  pub counted : Counted one.kept faults mid
+  pub waited : WaitedAfter old out one waiting
+  pub handed : Handed one.took waiting between later midst after
+  pub handed_counted : HandedCounted one.took mid count

@@ -8,7 +8,7 @@ use Rattle.mmtel_outside.specs.declared.events.Event.{Event}
 use Rattle.mmtel_outside.specs.declared.events.Offer.{Offer}
 use Rattle.mmtel_run.specs.Events.{Happened, events_in}
 use Rattle.mmtel_scan.specs.declared.memory.NoMemory.{NoMemory}
-use Rattle.mmtel_server.specs.Driven.{AnswersAll, EachCounted, HeardMore, IsAtEnd, IsReadOut, ReadEach, WentOn}
+use Rattle.mmtel_server.specs.Driven.{AnswersAll, EachCounted, HeardMore, HoldsUploads, IsAtEnd, IsReadOut, ReadEach, WentOn}
 use Rattle.mmtel_server.specs.declared.driving.DriveFault.{DriveFault}
 use Rattle.mmtel_server.specs.declared.driving.DriveFault.TheVariants as fault
 use Rattle.mmtel_server.specs.declared.servers.Server.{Server}
@@ -69,4 +69,5 @@ pub record Drove (ear later : Option Ear) (giving gave : ℕ) (held left : Optio
   pub each : length happened ≡ turns
   pub did : WentOn happened old out new now
   pub answers : AnswersAll happened old out held left calls after
+  pub sheets : HoldsUploads happened old out held left
   pub counted : EachCounted happened faults count

@@ -1,5 +1,5 @@
 //! Driving the server over a link and a keeper.
-ghost use Rattle.std.specs.Prelude.{◌≡◌, ◌<◌, ◌*◌, ℕ, [], length, true, IfOk, Ok, OnErr, OnOk, Option, List};
+ghost use Rattle.std.specs.Prelude.{◌≡◌, ◌<◌, ◌*◌, ℕ, Bool, [], length, true, IfOk, Ok, OnErr, OnOk, Option, List};
 ghost use Rattle.mmtel_charging.specs.declared.rows.Row.{Row};
 ghost use Rattle.mmtel_http.specs.Requests.{request_of};
 ghost use Rattle.mmtel_link.specs.Told.{Ear, NextTold};
@@ -16,7 +16,8 @@ use mmtel_http::{Whole, whole};
 use mmtel_keeper::Keeper;
 use mmtel_link::{Arrival, Event, Link};
 use mmtel_outside::Offer;
-use mmtel_run::enough_comes;
+use mmtel_run::{calls_draw_on, enough_comes, rows_are_filed};
+use mmtel_run_laws::{calls_of_runs_come_to_their_outcome, runs_send_clean_messages};
 use mmtel_scan::{List, NoMemory, Text};
 use mmtel_types::Failed;
 use std::alloc::Global;
@@ -143,9 +144,9 @@ fn meet<K: Keeper>(
 ) -> Result<(), NoMemory>
     ensures done { OnOk result (Stepped server.old out.old server.new out.new event
         (K.held keeper.old) (K.held keeper.new) (K.calls keeper.old) (K.calls keeper.new) (K.faults keeper.old) (K.faults keeper.new)) }
-    ensures err { OnErr result ((kept : Kept) (rows : List Row) → BreaksOff server.old out.old out.new (happened_in event kept rows)) }
-    ensures met { OnErr result (StoppedAt (λ kept rows. AskedIn server.old out.old event kept rows (K.held keeper.old) (K.held keeper.new) (K.calls keeper.old) (K.calls keeper.new))
-        (K.faults keeper.old) (K.faults keeper.new)) }
+    ensures met { OnErr result (StoppedAt (λ kept rows. (took : Bool) → BreaksOff server.old out.old out.new (happened_in event kept rows took))
+        (λ kept rows between midst. (took : Bool) → AskedIn server.old out.old (happened_in event kept rows took) (K.held keeper.old) between (K.calls keeper.old) midst)
+        (K.held keeper.new) (K.calls keeper.new) (K.faults keeper.old) (K.faults keeper.new)) }
 {
     server.step(alloc, &event, keeper, out)
 }
@@ -171,7 +172,11 @@ pub fn drive<L: Link, K: Keeper>(
     ensures calls { CalledWithin (L.calls link.old) (L.calls link.new) (turns * calls_a_turn) }
     ensures cause { HasDriveCause (L.taking link.old) (L.taking link.new) result }
 {
+    calls_draw_on();
     enough_comes();
+    rows_are_filed();
+    calls_of_runs_come_to_their_outcome();
+    runs_send_clean_messages();
     servers_offer_what_runs_give();
     'turns: for _turn in 0..turns {
         match take(alloc, link) {

@@ -2,7 +2,7 @@
 ghost use Rattle.mmtel_server.specs.Laws.{ReadOutSaysAll, UnfailedAreReadOut, WentGives, WentSeesAlike};
 
 use mmtel_http::laws::whole_requests_stand;
-use mmtel_run::runs_keep_the_secret;
+use mmtel_run_secret::runs_keep_the_secret;
 
 /// Whatever a server went through from its beginning, it offered exactly what the run gives.
 /// Of that an untrusted peer sees what it would see of any other run that is equal without its private places (RFC 3323, RFC 3325 §7).

@@ -1,20 +1,21 @@
 //! The server.
 
+mod calls;
 mod deadlines;
 mod deeds;
 mod messages;
 mod requests;
 mod steps;
 
-use mmtel_charging::Row;
+use crate::armed::Armed;
+use mmtel_b2bua::Calls;
 use mmtel_directory::Directory;
 use mmtel_in_force::Records;
 use mmtel_scan::List;
 use mmtel_transaction::{Tokens, Transactions};
 use mmtel_types::Moment;
 
-/// A server, which stands for what was done in its run.
-#[derive(Drop)]
+/// A server, which stands for what was done in its run. It must be spent, by `Server::give_up`.
 pub struct Server {
     /// Its configuration.
     directory: Directory,
@@ -22,14 +23,16 @@ pub struct Server {
     tokens: Tokens,
     /// The transactions.
     transactions: Transactions,
+    /// The calls, and the charging rows that wait for the keeper.
+    calls: Calls,
+    /// The deadlines of calls that did not fire, in the order in which they were armed.
+    armed: List<Armed>,
     /// The records in force, and the registrations.
     records: Records,
     /// The greatest moment so far.
     clock: Moment,
     /// How many events came and deadlines fired.
     steps: u64,
-    /// The charging rows that wait for the keeper.
-    rows: List<Row>,
     /// Memory ran out in a step: nothing is done from then on.
     failed: bool,
 }

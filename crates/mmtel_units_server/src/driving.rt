@@ -58,16 +58,19 @@ fn link(alloc: Global, failing: &[u64]) -> Option<MemoryLink> {
 
 /// How driving a fresh server over a link ends each time, what it offers in all, and how many records are kept then.
 fn driven(alloc: Global, link: Option<MemoryLink>, turns: &[u64], page: &mut Page) {
-    match (server(alloc), link, keeper(alloc, &[])) {
-        (Some(mut server), Some(mut link), Some(mut keeper)) => {
+    let (Some(mut link), Some(mut keeper)) = (link, keeper(alloc, &[])) else {
+        return page.fail();
+    };
+    match server(alloc) {
+        Some(mut server) => {
             drive_all(alloc, &mut server, &mut link, &mut keeper, turns, page);
             server.give_up();
-            match keeper.load(alloc) {
-                Ok(records) => page.add_number(alloc, records.items().len()),
-                Err(_) => page.fail(),
-            }
         }
-        _ => page.fail(),
+        None => page.fail(),
+    }
+    match keeper.load(alloc) {
+        Ok(records) => page.add_number(alloc, records.items().len()),
+        Err(_) => page.fail(),
     }
 }
 

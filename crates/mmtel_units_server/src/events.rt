@@ -1,4 +1,5 @@
 //! A server, and what it hears in the runs of the tests.
+ghost use Rattle.std.specs.Prelude.{◌≤◌, IfSome};
 
 use mmtel_directory::{Directory, read_directory};
 use mmtel_keeper::MemoryKeeper;
@@ -21,8 +22,13 @@ operator sip:op@home.example
 ";
 
 /// That configuration; None for want of memory.
-pub fn directory(alloc: Global) -> Option<Directory> {
-    read_directory(alloc, CONFIG.as_bytes()).ok()
+pub fn directory(alloc: Global) -> Option<Directory>
+    ensures { IfSome result (λ directory. directory.bound ≤ 16) }
+{
+    match read_directory(alloc, CONFIG.as_bytes()) {
+        Ok(directory) => Some(directory),
+        Err(_) => None,
+    }
 }
 
 /// The texts of records, each of an account.
@@ -35,7 +41,9 @@ fn texts(alloc: Global, records: &[(u32, &str)]) -> Result<List<(Account, Text)>
 }
 
 /// A server of a configuration over these loaded records; None for want of memory.
-pub fn server_over(alloc: Global, directory: Directory, records: &[(u32, &str)]) -> Option<Server> {
+pub fn server_over(alloc: Global, directory: Directory, records: &[(u32, &str)]) -> Option<Server>
+    requires { directory.bound ≤ 16 }
+{
     let token = Text::of(alloc, b"0123456789abcdef").ok()?;
     let texts = texts(alloc, records).ok()?;
     Server::new(alloc, directory, token, texts.items()).ok()

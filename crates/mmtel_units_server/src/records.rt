@@ -31,8 +31,8 @@ fn add_run(
 ) -> Option<()> {
     let directory = directory(alloc)?;
     let script = ScriptLink::read(alloc, heard.as_bytes(), &directory.peers).ok()?;
-    let mut server = server_over(alloc, directory, records)?;
     let mut keeper = keeper(alloc, failing)?;
+    let mut server = server_over(alloc, directory, records)?;
     step_all(alloc, &mut server, script.events(), &mut keeper, page);
     server.give_up();
     add_kept(alloc, &mut keeper, page);

@@ -43,9 +43,12 @@ fn run_all(alloc: Global, mut server: Server, mut keeper: MemoryKeeper, page: &m
 fn steps_of_a_run(rt: HostRuntime) {
     let alloc = rt.alloc();
     let mut page = Page::new();
-    match (server(alloc), keeper(alloc, &[])) {
-        (Some(server), Some(keeper)) => run_all(alloc, server, keeper, &mut page),
-        _ => page.fail(),
+    match keeper(alloc, &[]) {
+        Some(keeper) => match server(alloc) {
+            Some(server) => run_all(alloc, server, keeper, &mut page),
+            None => page.fail(),
+        },
+        None => page.fail(),
     }
     let mut due = Page::new();
     due.add(alloc, OPENING);

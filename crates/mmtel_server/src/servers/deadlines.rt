@@ -1,16 +1,22 @@
 //! Deadlines: those that are due fire, each at its own moment (RFC 3261 §17).
-ghost use Rattle.std.specs.Prelude.{◌≡◌, ℕ, List, OnErr, OnOk, is_some};
+ghost use Rattle.std.specs.Prelude.{◌≡◌, ◌<◌, ◌≤◌, ℕ, List, IfSome, OnErr, OnOk, Option, Some, length};
 ghost use Rattle.mmtel_outside.specs.declared.events.Offer.{Offer};
-ghost use Rattle.mmtel_run.specs.Run.{IsSettled, settled};
-ghost use Rattle.mmtel_run.specs.World.{begun, fired, rung};
-ghost use Rattle.mmtel_server.specs.Follows.{BreaksTo, Follows, FollowsTo};
-ghost use Rattle.mmtel_transaction.specs.Answers.{next_due, upcoming_of};
+ghost use Rattle.mmtel_run.specs.Deadlines as deadlines;
+ghost use Rattle.mmtel_run.specs.Deadlines.{Chosen, first_armed, first_of};
+ghost use Rattle.mmtel_run.specs.Run.{settled};
+ghost use Rattle.mmtel_run.specs.World.{begun, fired, fired_in, rung, struck};
+ghost use Rattle.mmtel_server.specs.Arming.{IsAmong, IsDueBy, armed_in, chosen_at, deadline_by, deadline_in, is_before, queue_of};
+ghost use Rattle.mmtel_server.specs.Follows.{Breaks, BreaksTo, Follows, FollowsTo, IsBy, IsSettledBy};
+ghost use Rattle.mmtel_transaction.specs.Answers.{Next, next_due, upcoming_of};
 ghost use Rattle.mmtel_transaction.specs.Calls.{Done, live};
 ghost use Rattle.mmtel_transaction.specs.Stands as table;
 
 use super::Server;
-use super::deeds::{offer_to, offer_unbuilt};
+use super::deeds::offer_to;
+use crate::armed::{Armed, first_armed};
+use mmtel_b2bua::Signal;
 use mmtel_outside::Offer;
+use mmtel_run::calls_draw_on;
 use mmtel_scan::{List, NoMemory};
 use mmtel_transaction::Due;
 use mmtel_types::Moment;
@@ -19,53 +25,166 @@ use std::alloc::Global;
 /// The deadlines that fire before one event, at most: more than the steps of any run that numbers count.
 const FIRINGS: u64 = 1 << 60;
 
+/// The deadline that comes first of those that are due.
+pub(super) enum Deadline {
+    /// One of a message.
+    OfMessage,
+    /// One of a call, at this place among those that are armed.
+    OfCall(usize),
+}
+
+/// Whether a deadline of a message, of this moment and step, comes before one of a call: unless its moment is later, or of one moment its step.
+fn comes_before(at: u64, step: u64, armed: &Armed) -> bool
+    ensures { result ≡ is_before at step (armed_in armed.now) }
+{
+    at < armed.at || (at == armed.at && step <= armed.step)
+}
+
+/// The first of the first deadline of messages and the first one of calls.
+fn first_of(next: Option<(u64, u64)>, call: Option<usize>, armed: &[Armed]) -> Option<Deadline>
+    requires { IfSome call (λ place. place < length armed.now) }
+    ensures first { (message : Option Next) → next ≡ upcoming_of message → deadline_by result (queue_of armed.now) ≡ first_of message (chosen_at call (queue_of armed.now)) }
+    ensures there { IfSome result (IsAmong (length armed.now)) }
+{
+    match (next, call) {
+        (None, None) => None,
+        (Some(_), None) => Some(Deadline::OfMessage),
+        (None, Some(place)) => Some(Deadline::OfCall(place)),
+        (Some((at, step)), Some(place)) => {
+            if comes_before(at, step, &armed[place]) {
+                Some(Deadline::OfMessage)
+            } else {
+                Some(Deadline::OfCall(place))
+            }
+        }
+    }
+}
+
+/// The moment of a deadline that fires by another moment.
+fn moment_by(at: u64, now: Moment) -> Moment
+    ensures { at ≤ now → result ≡ at }
+{
+    match Moment::new(at.min(now.ms())) {
+        Some(moment) => moment,
+        None => unreachable!(),
+    }
+}
+
 impl Server {
     /// A step begins: deadlines that are armed in it carry its number.
     pub(super) fn begin(&mut self)
         ensures done { (out : List Offer) → Follows self.old out self.new out (λ d token. begun) }
         ensures directory { self.new.directory ≡ self.old.directory }
+        ensures armed { self.new.armed ≡ self.old.armed }
     {
         self.transactions.begin(self.steps);
         self.steps = self.steps.saturating_add(1);
     }
 
-    /// Brings what a deadline brings.
+    /// Brings what a deadline of a message brings.
     ///
     /// # Errors
     ///
-    /// Want of memory alone; nothing is then offered.
-    fn ring(&mut self, alloc: Global, due: Due, out: &mut List<Offer>) -> Result<(), NoMemory>
-        ensures done { OnOk result (Follows self.old out.old self.new out.new (λ d token. rung due)) }
-        ensures err { OnErr result (out.new ≡ out.old) }
+    /// Want of memory alone; a front of what is to be offered is then offered.
+    fn ring(
+        &mut self,
+        alloc: Global,
+        due: Due,
+        now: Moment,
+        out: &mut List<Offer>,
+    ) -> Result<(), NoMemory>
+        ensures done { OnOk result (IsBy now due → Follows self.old out.old self.new out.new (λ d token. rung d token due)) }
+        ensures err { OnErr result (IsBy now due → Breaks self.old out.old out.new (λ d token. rung d token due)) }
     {
+        calls_draw_on();
         match due {
             Due::Again(peer, at, text) => offer_to(alloc, peer, at, text, out),
-            Due::Silent { at, .. } => offer_unbuilt(alloc, at, out),
-            Due::Over(_, _) => Ok(()),
+            Due::Silent {
+                key: _,
+                branch,
+                method,
+                at,
+            } => self.signal(
+                alloc,
+                Signal::Silent { branch, method },
+                moment_by(at, now),
+                out,
+            ),
+            Due::Over(key, at) => self.signal(alloc, Signal::Over { key }, moment_by(at, now), out),
             Due::Nothing => Ok(()),
         }
     }
 
-    /// The first deadline that is due fires, at its own moment.
+    /// The first deadline of messages that is due fires, at its own moment.
+    fn fire_message(
+        &mut self,
+        alloc: Global,
+        now: Moment,
+        out: &mut List<Offer>,
+    ) -> Result<(), NoMemory>
+        ensures done { OnOk result (Follows self.old out.old self.new out.new (λ d token. fired_in d token now)) }
+        ensures err { OnErr result (Breaks self.old out.old out.new (λ d token. fired_in d token now)) }
+    {
+        calls_draw_on();
+        let said = self.transactions.due(alloc, now)?;
+        self.ring(alloc, said, now, out)
+    }
+
+    /// The deadline of a call at this place fires, at its own moment.
+    fn strike(
+        &mut self,
+        alloc: Global,
+        place: usize,
+        now: Moment,
+        out: &mut List<Offer>,
+    ) -> Result<(), NoMemory>
+        requires { place < length self.old.armed }
+        ensures done { OnOk result ((first : Chosen) → chosen_at (Some place) (queue_of self.old.armed) ≡ Some first → first.first.at ≤ now → Follows self.old out.old self.new out.new (λ d token. struck d token first.first first.others)) }
+        ensures err { OnErr result ((first : Chosen) → chosen_at (Some place) (queue_of self.old.armed) ≡ Some first → first.first.at ≤ now → Breaks self.old out.old out.new (λ d token. struck d token first.first first.others)) }
+    {
+        let armed = self.armed.remove(place);
+        let signal = Signal::Due {
+            call: armed.call,
+            what: armed.what,
+        };
+        self.signal(alloc, signal, moment_by(armed.at, now), out)
+    }
+
+    /// A deadline that is due, the first of all, fires, at its own moment.
     ///
     /// # Errors
     ///
-    /// Want of memory alone; nothing is then offered.
-    fn fire(&mut self, alloc: Global, now: Moment, out: &mut List<Offer>) -> Result<(), NoMemory>
-        ensures done { OnOk result (Follows self.old out.old self.new out.new (λ d token. fired now)) }
-        ensures err { OnErr result (out.new ≡ out.old) }
+    /// Want of memory alone; a front of what it brings is then offered.
+    fn fire(
+        &mut self,
+        alloc: Global,
+        now: Moment,
+        deadline: Deadline,
+        out: &mut List<Offer>,
+    ) -> Result<(), NoMemory>
+        requires { IsAmong (length self.old.armed) deadline }
+        ensures done { OnOk result ((first : deadlines.Deadline) → deadline_in deadline (queue_of self.old.armed) ≡ Some first → IsDueBy now first → Follows self.old out.old self.new out.new (λ d token. fired d token now first)) }
+        ensures err { OnErr result ((first : deadlines.Deadline) → deadline_in deadline (queue_of self.old.armed) ≡ Some first → IsDueBy now first → Breaks self.old out.old out.new (λ d token. fired d token now first)) }
     {
+        calls_draw_on();
         self.begin();
-        let said = self.transactions.due(alloc, now)?;
-        self.ring(alloc, said, out)?;
-        Ok(())
+        match deadline {
+            Deadline::OfMessage => self.fire_message(alloc, now, out),
+            Deadline::OfCall(place) => self.strike(alloc, place, now, out),
+        }
     }
 
-    /// Whether a deadline is due.
-    fn has_due(&self, now: Moment) -> bool
-        ensures { (h : List Done) → table.Stands self.now.transactions h → result ≡ is_some (upcoming_of (next_due now (live h))) }
+    /// The deadline that comes first of those that are due.
+    fn next_deadline(&self, now: Moment) -> Option<Deadline>
+        ensures first { (h : List Done) → table.Stands self.now.transactions h → deadline_by result (queue_of self.now.armed) ≡ first_of (next_due now (live h)) (first_armed now (queue_of self.now.armed)) }
+        ensures there { IfSome result (IsAmong (length self.now.armed)) }
     {
-        self.transactions.upcoming(now).is_some()
+        let armed = self.armed.items();
+        first_of(
+            self.transactions.upcoming(now),
+            first_armed(armed, now.ms()),
+            armed,
+        )
     }
 
     /// All deadlines that are due fire, the first one first.
@@ -79,14 +198,15 @@ impl Server {
         now: Moment,
         out: &mut List<Offer>,
     ) -> Result<(), NoMemory>
-        ensures done { OnOk result ((fuel : ℕ) → FollowsTo self.old out.old self.new out.new (IsSettled fuel now) (λ d token. settled fuel now)) }
-        ensures err { OnErr result ((fuel : ℕ) → BreaksTo self.old out.old out.new (IsSettled fuel now) (λ d token. settled fuel now)) }
+        ensures done { OnOk result ((fuel : ℕ) → FollowsTo self.old out.old self.new out.new (IsSettledBy fuel now) (λ d token. settled d token fuel now)) }
+        ensures err { OnErr result ((fuel : ℕ) → BreaksTo self.old out.old out.new (IsSettledBy fuel now) (λ d token. settled d token fuel now)) }
     {
+        calls_draw_on();
         for i in 0..FIRINGS {
-            if !self.has_due(now) {
-                return Ok(());
+            match self.next_deadline(now) {
+                None => return Ok(()),
+                Some(deadline) => self.fire(alloc, now, deadline, out)?,
             }
-            self.fire(alloc, now, out)?;
         }
         Ok(())
     }

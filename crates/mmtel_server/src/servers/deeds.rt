@@ -1,21 +1,21 @@
 //! What is offered: whatever the layers want done goes through here.
-ghost use Rattle.std.specs.Prelude.{◌≡◌, ◌<◌, ◌^◌, ◌+◌, ◌++◌, ◌∷◌, [], IfOk, OnErr, OnOk};
-ghost use Rattle.mmtel_intake.specs.Openings.{names_in};
+ghost use Rattle.std.specs.Prelude.{◌≡◌, ◌<◌, ◌^◌, ◌+◌, ◌++◌, ◌∷◌, [], ℕ, List, IfOk, OnErr, OnOk};
+ghost use Rattle.mmtel_outside.specs.declared.events.Offer.{Offer};
 ghost use Rattle.mmtel_outside.specs.declared.events.Offer.TheVariants as offer;
 ghost use Rattle.mmtel_run.specs.Answers.{tag_for, tags_due, to_tag_in};
-ghost use Rattle.mmtel_run.specs.Openings.{names, opening_draws};
 ghost use Rattle.mmtel_run.specs.World.{emit_one, emitted, to_peer};
 ghost use Rattle.mmtel_transaction.specs.declared.words.Emit.TheVariants as emit;
 ghost use Rattle.mmtel_server.specs.Follows.{Breaks, Follows};
 
+use crate::armed::Armed;
 use crate::servers::Server;
-use mmtel_intake::{Names, is_untagged};
+use mmtel_intake::is_untagged;
 use mmtel_message::Msg;
 use mmtel_outside::Offer;
 use mmtel_scan::{List, NoMemory, Text};
 use mmtel_transaction::laws::numbers_are_distinct;
-use mmtel_transaction::{Emit, TKey, Tokens};
-use mmtel_types::{Moment, Peer};
+use mmtel_transaction::{DueWord, Emit, TKey, Tokens};
+use mmtel_types::{CallNo, Moment, Peer};
 use std::alloc::Global;
 
 /// Adds an offer to a peer.
@@ -69,22 +69,6 @@ pub(super) fn drawn_tag(alloc: Global, tokens: &mut Tokens, message: &Msg) -> Re
     } else {
         Ok(Text::new())
     }
-}
-
-/// Draws what an opening names: the tag of the caller's side, and the names of the first attempt.
-pub(super) fn drawn_names(alloc: Global, tokens: &mut Tokens) -> Result<Names, NoMemory>
-    ensures names { tokens.old.drawn < 2 ^ 60 → IfOk result (λ drawn. names_in drawn ≡ names tokens.old.token tokens.old.drawn) }
-    ensures drawn { tokens.old.drawn < 2 ^ 60 → OnOk result (tokens.new ≡ record { token = tokens.old.token; drawn = tokens.old.drawn + opening_draws }) }
-{
-    let _caller = tokens.draw(alloc)?;
-    let call_id = tokens.draw(alloc)?;
-    let tag = tokens.draw(alloc)?;
-    let branch = tokens.draw(alloc)?;
-    Ok(Names {
-        call_id,
-        tag,
-        branch,
-    })
 }
 
 /// What a layer wants done. Each deed offers all that it has to; for want of memory nothing, and of several deeds a front, and the server has then failed.
@@ -159,6 +143,23 @@ impl Server {
         offer_to(alloc, peer, at.ms(), text, out)
     }
 
+    /// Arms a deadline of a call, in this step.
+    fn arm(&mut self, alloc: Global, call: CallNo, what: DueWord, at: u64) -> Result<(), NoMemory>
+        ensures done { OnOk result ((now : ℕ) (out : List Offer) → Follows self.old out self.new out (λ d token. emit_one now (emit.Arm call what at))) }
+    {
+        let step = self.steps.saturating_sub(1);
+        self.armed.push(
+            alloc,
+            Armed {
+                call,
+                what,
+                at,
+                step,
+            },
+        )?;
+        Ok(())
+    }
+
     /// Does what a layer wants done.
     pub(super) fn emit(
         &mut self,
@@ -175,7 +176,11 @@ impl Server {
             Emit::Reply { key, msg } => self.reply(alloc, *key, msg, at, out),
             Emit::Plain { peer, text } => self.send(alloc, *peer, text.bytes(), at, out),
             Emit::Ack { key, msg } => self.acknowledge(alloc, *key, msg, at, out),
-            Emit::Arm { .. } => Ok(()),
+            Emit::Arm {
+                call,
+                what,
+                at: when,
+            } => self.arm(alloc, *call, *what, *when),
             Emit::ArmSeat { .. } => Ok(()),
         }
     }

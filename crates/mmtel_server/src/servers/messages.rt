@@ -1,22 +1,24 @@
 //! What is done with messages.
-ghost use Rattle.std.specs.Prelude.{◌≡◌, if◌then◌else◌, None, OnErr, OnOk, Some};
+ghost use Rattle.std.specs.Prelude.{◌≡◌, None, OnErr, OnOk, Some, false};
 ghost use Rattle.mmtel_answers.specs.Said.{said};
 ghost use Rattle.mmtel_intake.specs.Courses.{answer_in, course_in};
 ghost use Rattle.mmtel_intake.specs.Told.{digest_in};
 ghost use Rattle.mmtel_message.specs.Message.{Message};
 ghost use Rattle.mmtel_message.specs.declared.messages.Start.{Start};
+ghost use Rattle.mmtel_run.specs.Calls.{are_full};
 ghost use Rattle.mmtel_run.specs.Records.{until_of};
-ghost use Rattle.mmtel_run.specs.World.{answering, met, opening, refusing, registered, repeating, replying, replying_plainly, taking, taking_fresh, told, unbuilt};
+ghost use Rattle.mmtel_run.specs.Refusals.{Open};
+ghost use Rattle.mmtel_run.specs.World.{answering, met, refusing, registered, repeating, replying, replying_plainly, taking, taking_fresh, told, unbuilt};
 ghost use Rattle.mmtel_server.specs.Follows.{Breaks, Follows, IsTaken};
 
 use crate::servers::Server;
-use crate::servers::deeds::{drawn_names, drawn_tag, offer_unbuilt};
-use mmtel_answers::{Aim, Hearing};
-use mmtel_intake::{
-    Answer, Course, Told, attempt, completed_reply, course, plainly, response_to, trying,
-};
-use mmtel_message::{Msg, is_method};
+use crate::servers::deeds::{drawn_tag, offer_unbuilt};
+use mmtel_answers::Hearing;
+use mmtel_b2bua::Signal;
+use mmtel_intake::{Answer, Course, Standing, Told, completed_reply, course, plainly, response_to};
+use mmtel_message::Msg;
 use mmtel_outside::Offer;
+use mmtel_run::calls_draw_on;
 use mmtel_scan::{List, NoMemory, Text};
 use mmtel_transaction::laws::numbers_are_distinct;
 use mmtel_transaction::{HearFault, Heard, TKey};
@@ -35,10 +37,32 @@ fn until(now: Moment, seconds: u64) -> Moment
     }
 }
 
+/// From whom a message was heard.
+#[derive(Clone, Copy)]
+struct Whence {
+    peer: Peer,
+    source: Addr,
+    trusted: bool,
+}
+
+impl Whence {
+    /// A message that was heard from there.
+    fn hearing(self, message: Msg) -> Hearing
+        ensures { result ≡ said self.peer self.source self.trusted message }
+    {
+        Hearing {
+            peer: self.peer,
+            source: self.source,
+            trusted: self.trusted,
+            message,
+        }
+    }
+}
+
 /// Answers of the server's own.
 impl Server {
     /// Answers a request in its transaction, with a tag of the server where To has none (RFC 3261 §8.2.6).
-    fn replying(
+    pub(super) fn replying(
         &mut self,
         alloc: Global,
         key: TKey,
@@ -95,29 +119,6 @@ impl Server {
 
 /// What is done with a request that opens a transaction.
 impl Server {
-    /// Opens a call: the 100 to the caller, and the INVITE of the first attempt.
-    fn open(
-        &mut self,
-        alloc: Global,
-        key: TKey,
-        request: &Hearing,
-        aim: Aim,
-        at: Moment,
-        out: &mut List<Offer>,
-    ) -> Result<(), NoMemory>
-        ensures done { OnOk result (Follows self.old out.old self.new out.new (λ d token. opening d token at key request.now aim)) }
-        ensures err { OnErr result (Breaks self.old out.old out.new (λ d token. opening d token at key request.now aim)) }
-    {
-        let names = drawn_names(alloc, &mut self.tokens)?;
-        let peer = aim.peer;
-        let to_trusted = self.directory.peers.trusted(peer);
-        let answer = trying(alloc, self.directory.sip, request)?;
-        let invite = attempt(alloc, self.directory.sip, names, aim, to_trusted, request)?;
-        self.reply(alloc, key, &answer, at, out)?;
-        self.ask(alloc, peer, &invite, at, out)?;
-        Ok(())
-    }
-
     /// Registers an account for so many seconds, and answers (RFC 3261 §10.3).
     fn register(
         &mut self,
@@ -149,24 +150,35 @@ impl Server {
         offer_unbuilt(alloc, at.ms(), out)
     }
 
-    /// Does with a request what is decided of it.
+    /// Does with a request what is decided of it; a call is opened only where fewer live than may.
     fn take(
         &mut self,
         alloc: Global,
         key: TKey,
-        request: &Hearing,
+        request: Hearing,
         course: Course,
         at: Moment,
         out: &mut List<Offer>,
     ) -> Result<(), NoMemory>
-        ensures done { OnOk result (Follows self.old out.old self.new out.new (λ d token. taking d token at key request.now (course_in course))) }
-        ensures err { OnErr result (Breaks self.old out.old out.new (λ d token. taking d token at key request.now (course_in course))) }
+        requires { course_in course ≡ Open → are_full self.old.calls.table.entries ≡ false }
+        ensures done { OnOk result (Follows self.old out.old self.new out.new (λ d token. taking d token at key request (course_in course))) }
+        ensures err { OnErr result (Breaks self.old out.old out.new (λ d token. taking d token at key request (course_in course))) }
     {
+        calls_draw_on();
         match course {
-            Course::Refuse(answer) => self.replying(alloc, key, request, &answer, at, out),
-            Course::Open(aim) => self.open(alloc, key, request, aim, at, out),
+            Course::Refuse(answer) => self.replying(alloc, key, &request, &answer, at, out),
+            Course::Enter { call, side } => {
+                let signal = Signal::Request {
+                    call,
+                    side,
+                    key,
+                    request,
+                };
+                self.signal(alloc, signal, at, out)
+            }
+            Course::Open => self.open(alloc, key, request, at, out),
             Course::Register { account, seconds } => {
-                self.register(alloc, key, request, account, seconds, at, out)
+                self.register(alloc, key, &request, account, seconds, at, out)
             }
             Course::Unbuilt => self.pass_over(alloc, at, out),
         }
@@ -177,15 +189,23 @@ impl Server {
         &mut self,
         alloc: Global,
         key: TKey,
-        request: &Hearing,
+        request: Hearing,
         at: Moment,
         out: &mut List<Offer>,
     ) -> Result<(), NoMemory>
-        ensures done { OnOk result (Follows self.old out.old self.new out.new (λ d token. taking_fresh d token at key request.now)) }
-        ensures err { OnErr result (Breaks self.old out.old out.new (λ d token. taking_fresh d token at key request.now)) }
+        ensures done { OnOk result (Follows self.old out.old self.new out.new (λ d token. taking_fresh d token at key request)) }
+        ensures err { OnErr result (Breaks self.old out.old out.new (λ d token. taking_fresh d token at key request)) }
     {
+        calls_draw_on();
         let merged = self.transactions.merged(key);
-        let course = course(alloc, &self.directory, merged, request)?;
+        let full = self.calls.is_full();
+        let named = self.named(alloc, &request)?;
+        let standing = Standing {
+            merged,
+            full,
+            named,
+        };
+        let course = course(alloc, &self.directory, &standing, &request)?;
         self.take(alloc, key, request, course, at, out)
     }
 }
@@ -209,25 +229,6 @@ impl Server {
         }
     }
 
-    /// Does what is due of a message that is heard again; of a CANCEL nothing is built yet.
-    fn hear_again(
-        &mut self,
-        alloc: Global,
-        is_cancel: bool,
-        sent: Option<(Peer, Text)>,
-        at: Moment,
-        out: &mut List<Offer>,
-    ) -> Result<(), NoMemory>
-        ensures done { OnOk result (Follows self.old out.old self.new out.new (λ d token world. if is_cancel then unbuilt at world else repeating at sent world)) }
-        ensures err { OnErr result (out.new ≡ out.old) }
-    {
-        if is_cancel {
-            self.pass_over(alloc, at, out)
-        } else {
-            self.repeat(alloc, sent, at, out)
-        }
-    }
-
     /// Does what is due of a message of a peer, by what the transactions say of it.
     fn answer(
         &mut self,
@@ -235,31 +236,39 @@ impl Server {
         peer: Peer,
         source: Addr,
         trusted: bool,
-        is_cancel: bool,
         taken: Heard,
         at: Moment,
         out: &mut List<Offer>,
     ) -> Result<(), NoMemory>
-        ensures done { OnOk result ((message : Message Start) → IsTaken is_cancel message taken →
+        ensures done { OnOk result ((message : Message Start) → IsTaken message taken →
             Follows self.old out.old self.new out.new (λ d token. answering d token at (said peer source trusted message) (Some taken))) }
-        ensures err { OnErr result ((message : Message Start) → IsTaken is_cancel message taken →
+        ensures err { OnErr result ((message : Message Start) → IsTaken message taken →
             Breaks self.old out.old out.new (λ d token. answering d token at (said peer source trusted message) (Some taken))) }
     {
+        calls_draw_on();
+        let heard = Whence {
+            peer,
+            source,
+            trusted,
+        };
         match taken {
-            Heard::Fresh(key, message) => {
-                let request = Hearing {
-                    peer,
-                    source,
-                    trusted,
-                    message,
-                };
-                self.take_fresh(alloc, key, &request, at, out)
+            Heard::Fresh(key, message) => self.take_fresh(
+                alloc,
+                key,
+                heard.hearing(message),
+                at,
+                out,
+            ),
+            Heard::Answer(key, message) => {
+                let response = heard.hearing(message);
+                self.signal(alloc, Signal::Answer { key, response }, at, out)
             }
-            Heard::Answer(_, _) => self.pass_over(alloc, at, out),
-            Heard::Repeat(sent) => self.hear_again(alloc, is_cancel, sent, at, out),
+            Heard::Repeat(sent) => self.repeat(alloc, sent, at, out),
             Heard::Acked(_) => Ok(()),
-            Heard::Cancel(_, _, _) => self.pass_over(alloc, at, out),
-            Heard::AckOf2xx(_) => Ok(()),
+            Heard::Cancel(key, invite, message) => {
+                self.hear_cancel(alloc, key, invite, heard.hearing(message), at, out)
+            }
+            Heard::AckOf2xx(message) => self.hear_ack(alloc, heard.hearing(message), at, out),
             Heard::Stray => Ok(()),
         }
     }
@@ -290,7 +299,7 @@ impl Server {
         ensures err { OnErr result (Breaks self.old out.old out.new (λ d token. told d token at heard)) }
     {
         numbers_are_distinct();
-        let is_cancel = is_method(b"CANCEL", heard.message.start());
+        calls_draw_on();
         let Hearing {
             peer,
             source,
@@ -298,7 +307,7 @@ impl Server {
             message,
         } = heard;
         match self.transactions.hear(alloc, peer, message, at) {
-            Ok(taken) => self.answer(alloc, peer, source, trusted, is_cancel, taken, at, out),
+            Ok(taken) => self.answer(alloc, peer, source, trusted, taken, at, out),
             Err(HearFault::Full(message)) => {
                 let request = Hearing {
                     peer,
@@ -327,6 +336,7 @@ impl Server {
         ensures done { OnOk result (Follows self.old out.old self.new out.new (λ d token. met d token at (digest_in told))) }
         ensures err { OnErr result (Breaks self.old out.old out.new (λ d token. met d token at (digest_in told))) }
     {
+        calls_draw_on();
         match told {
             Told::Nothing => Ok(()),
             Told::Refused {

@@ -2,8 +2,7 @@
 ghost use Rattle.std.specs.Prelude.{◌≡◌, ◌++◌, ◌∷◌, [], IfOk, OnErr, OnOk};
 ghost use Rattle.mmtel_http.specs.Requests.{request_of};
 ghost use Rattle.mmtel_outside.specs.declared.events.Offer.TheVariants as offer;
-ghost use Rattle.mmtel_run.specs.Events.{Asked};
-ghost use Rattle.mmtel_run.specs.World.{came, serving};
+ghost use Rattle.mmtel_run.specs.World.{serving};
 ghost use Rattle.mmtel_server.specs.Follows.{Follows};
 ghost use Rattle.mmtel_serving.specs.Calls.{Answers, Counted, Met, call_in};
 ghost use Rattle.mmtel_serving.specs.Outcomes.{kept_in};
@@ -17,7 +16,7 @@ use mmtel_serving::{Outcome, Served, serve};
 use mmtel_types::Moment;
 use std::alloc::Global;
 
-/// What the keeper answered in an event.
+/// What the keeper answered to an event.
 #[derive(Drop)]
 pub(super) struct Answered {
     /// What became of its call, where one was due.
@@ -52,7 +51,7 @@ impl Server {
     /// # Errors
     ///
     /// Want of memory alone: no reply was then offered. A record may have been kept.
-    fn serve<K: Keeper>(
+    pub(super) fn serve<K: Keeper>(
         &mut self,
         alloc: Global,
         bytes: &[u8],
@@ -75,29 +74,5 @@ impl Server {
         )?;
         offer_web(alloc, at.ms(), reply, out)?;
         Ok(Answered { kept, rows })
-    }
-
-    /// A web request comes when the clock stands so.
-    ///
-    /// # Errors
-    ///
-    /// As of `serve`.
-    pub(super) fn come_asking<K: Keeper>(
-        &mut self,
-        alloc: Global,
-        at: Moment,
-        bytes: &[u8],
-        keeper: &mut K,
-        out: &mut List<Offer>,
-    ) -> Result<Answered, NoMemory>
-        ensures done { IfOk result (λ a. Follows self.old out.old self.new out.new (λ d token. came d token at (Asked (request_of bytes.now) (kept_in a.kept) a.rows))) }
-        ensures asked { IfOk result (λ a. Answers (call_in self.old.directory.names (request_of bytes.now)) (kept_in a.kept) a.rows (K.held keeper.old) (K.held keeper.new) (K.calls keeper.old) (K.calls keeper.new)) }
-        ensures counted { IfOk result (λ a. Counted (kept_in a.kept) (K.faults keeper.old) (K.faults keeper.new)) }
-        ensures err { OnErr result (out.new ≡ out.old) }
-        ensures met { OnErr result (Met (call_in self.old.directory.names (request_of bytes.now)) (K.held keeper.old) (K.held keeper.new) (K.calls keeper.old) (K.calls keeper.new) (K.faults keeper.old) (K.faults keeper.new)) }
-    {
-        self.begin();
-        self.clock = at;
-        self.serve(alloc, bytes, at, keeper, out)
     }
 }

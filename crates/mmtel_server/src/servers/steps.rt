@@ -1,29 +1,30 @@
 //! The steps of a run: the deadlines that are due by an event fire, and then it is met.
-ghost use Rattle.std.specs.Prelude.{◌≡◌, ℕ, List, IfOk, IsErr, OnErr, OnOk, [], false, max, true};
+ghost use Rattle.std.specs.Prelude.{◌≡◌, ◌≤◌, ℕ, Bool, List, IfOk, IsErr, OnErr, OnOk, [], false, max, true};
 ghost use Rattle.mmtel_charging.specs.declared.rows.Row.{Row};
 ghost use Rattle.mmtel_directory.specs.declared.directories.Directory.{Directory};
 ghost use Rattle.mmtel_in_force.specs.Texts.{Texts};
-ghost use Rattle.mmtel_intake.specs.Told.{digest_in};
 ghost use Rattle.mmtel_outside.specs.declared.events.Offer.{Offer};
-ghost use Rattle.mmtel_run.specs.Events.{Happened, digest_datagram};
-ghost use Rattle.mmtel_run.specs.World.{came};
+ghost use Rattle.mmtel_run.specs.Events.{Happened, digest_datagram, digest_event};
+ghost use Rattle.mmtel_run.specs.Run.{world_after};
+ghost use Rattle.mmtel_run.specs.World.{came, ended, met, rows_waiting};
 ghost use Rattle.mmtel_server.specs.Follows.{Breaks, BreaksTo, Follows, FollowsTo, IsReady, going};
+ghost use Rattle.mmtel_server.specs.Handed.{Handed, HandedCounted, StoppedHanding};
 ghost use Rattle.mmtel_server.specs.Stands.{BreaksOff, Went};
-ghost use Rattle.mmtel_run.specs.Events.{digest};
-ghost use Rattle.mmtel_server.specs.Stepped.{AskedAfter, AskedIn, Stepped, StoppedAt, call_of, happened_in};
+ghost use Rattle.mmtel_server.specs.Stepped.{AskedAfter, AskedIn, Came, KeeperWent, Stepped, StoppedAt, call_of, happened_in};
 ghost use Rattle.mmtel_serving.specs.Calls.{Answers, Counted, Met};
 ghost use Rattle.mmtel_serving.specs.Outcomes.{kept_in};
 ghost use Rattle.mmtel_web.specs.Answers.{Kept};
 
 use super::Server;
 use super::requests::{Answered, unasked};
+use mmtel_b2bua::Calls;
 use mmtel_charging::Row;
 use mmtel_directory::Directory;
 use mmtel_in_force::Records;
-use mmtel_intake::{Told, digest, moment};
-use mmtel_keeper::Keeper;
+use mmtel_intake::{digest, moment};
+use mmtel_keeper::{KeepFault, Keeper};
 use mmtel_outside::{Event, Offer};
-use mmtel_run::enough_comes;
+use mmtel_run::{calls_draw_on, enough_comes, rows_are_filed};
 use mmtel_scan::{List, NoMemory, Text};
 use mmtel_transaction::{Tokens, Transactions};
 use mmtel_types::{Account, Addr, Moment};
@@ -62,18 +63,22 @@ impl Server {
         token: Text,
         loaded: &[(Account, Text)],
     ) -> Result<Server, NoMemory>
+        requires { directory.bound ≤ 16 }
         ensures begins { IfOk result (λ server. (before : List Offer) → Went directory token loaded.now [] before server before) }
         ensures whole { IfOk result (λ server. server.failed ≡ false) }
     {
         let records = Records::load(alloc, loaded)?;
+        let home = directory.home.copied(alloc)?;
+        let calls = Calls::new(alloc, home, directory.sip, directory.bound)?;
         Ok(Server {
             directory,
             tokens: Tokens::new(token),
             transactions: Transactions::new(),
+            calls,
+            armed: List::new(),
             records,
             clock: first_moment(),
             steps: 0,
-            rows: List::new(),
             failed: false,
         })
     }
@@ -83,7 +88,6 @@ impl Server {
     /// # Errors
     ///
     /// Want of memory alone, but for what a 507 answers. Of what the event makes the server offer a front may then have been added, a record may have been kept, and from then on nothing is done.
-    #[tactic(auto, using(crate::proofs::Records::stopped_unasked))]
     pub fn step<K: Keeper>(
         &mut self,
         alloc: Global,
@@ -92,8 +96,9 @@ impl Server {
         out: &mut List<Offer>,
     ) -> Result<(), NoMemory>
         ensures done { OnOk result (Stepped self.old out.old self.new out.new event.now (K.held keeper.old) (K.held keeper.new) (K.calls keeper.old) (K.calls keeper.new) (K.faults keeper.old) (K.faults keeper.new)) }
-        ensures err { OnErr result ((kept : Kept) (rows : List Row) → BreaksOff self.old out.old out.new (happened_in event.now kept rows)) }
-        ensures met { OnErr result (StoppedAt (λ kept rows. AskedIn self.old out.old event.now kept rows (K.held keeper.old) (K.held keeper.new) (K.calls keeper.old) (K.calls keeper.new)) (K.faults keeper.old) (K.faults keeper.new)) }
+        ensures met { OnErr result (StoppedAt (λ kept rows. (took : Bool) → BreaksOff self.old out.old out.new (happened_in event.now kept rows took))
+            (λ kept rows between midst. (took : Bool) → AskedIn self.old out.old (happened_in event.now kept rows took) (K.held keeper.old) between (K.calls keeper.old) midst)
+            (K.held keeper.new) (K.calls keeper.new) (K.faults keeper.old) (K.faults keeper.new)) }
         ensures fails { OnErr result (self.new.failed ≡ true) }
         ensures keeps { OnOk result (self.new.failed ≡ false) }
         ensures over { self.old.failed ≡ true → IsErr result × (self.new ≡ self.old) × (out.new ≡ out.old) × (keeper.new ≡ keeper.old) }
@@ -102,6 +107,7 @@ impl Server {
             return Err(NoMemory);
         }
         enough_comes();
+        rows_are_filed();
         let done = self.step_on(alloc, event, keeper, out);
         self.failed = done.is_err();
         match done {
@@ -110,35 +116,31 @@ impl Server {
         }
     }
 
-    /// The charging rows of calls that ended which the keeper has not taken. No call is followed to its end yet.
+    /// The charging rows of calls that are over which the keeper has not taken, in the order in which they were closed.
     pub fn rows_waiting(&self) -> &[Row]
-        ensures waiting { (directory : Directory) (token : List ℕ) (loaded : Texts) (happened : List Happened) (before out : List Offer) → Went directory token loaded happened before self.now out → result.now ≡ [] }
+        ensures waiting { (directory : Directory) (token : List ℕ) (loaded : Texts) (happened : List Happened) (before out : List Offer) (went : Went directory token loaded happened before self.now out) → result.now ≡ rows_waiting directory (world_after directory token loaded went.fuel happened) }
     {
-        self.rows.items()
+        self.calls.rows_waiting()
     }
 
-    /// Spends what is still live, without rows.
-    pub fn give_up(self) {}
-
-    /// A datagram, or the passing of time, comes when the clock stands so.
-    fn come(
-        &mut self,
-        alloc: Global,
-        at: Moment,
-        told: Told,
-        out: &mut List<Offer>,
-    ) -> Result<(), NoMemory>
-        ensures done { OnOk result (Follows self.old out.old self.new out.new (λ d token. came d token at (digest_in told))) }
-        ensures err { OnErr result (Breaks self.old out.old out.new (λ d token. came d token at (digest_in told))) }
-    {
-        self.begin();
-        self.clock = at;
-        self.meet(alloc, told, at, out)?;
-        Ok(())
+    /// Spends what is still live, without rows. It takes no memory.
+    pub fn give_up(self) {
+        let Server {
+            directory: _,
+            tokens: _,
+            transactions: _,
+            calls,
+            armed: _,
+            records: _,
+            clock: _,
+            steps: _,
+            failed: _,
+        } = self;
+        calls.give_up();
     }
 
-    /// A datagram comes when the clock stands so.
-    fn come_from(
+    /// Meets a datagram.
+    fn meet_datagram(
         &mut self,
         alloc: Global,
         at: Moment,
@@ -146,15 +148,16 @@ impl Server {
         bytes: &[u8],
         out: &mut List<Offer>,
     ) -> Result<(), NoMemory>
-        ensures done { OnOk result (Follows self.old out.old self.new out.new (λ d token. came d token at (digest_datagram d from bytes.now))) }
-        ensures err { OnErr result (Breaks self.old out.old out.new (λ d token. came d token at (digest_datagram d from bytes.now))) }
+        ensures done { OnOk result (Follows self.old out.old self.new out.new (λ d token. met d token at (digest_datagram d from bytes.now))) }
+        ensures err { OnErr result (Breaks self.old out.old out.new (λ d token. met d token at (digest_datagram d from bytes.now))) }
     {
+        calls_draw_on();
         let told = digest(alloc, &self.directory, from, bytes)?;
-        self.come(alloc, at, told, out)
+        self.meet(alloc, told, at, out)
     }
 
-    /// An event comes when the clock stands so: what it makes the server offer, and what the keeper answered.
-    fn come_at<K: Keeper>(
+    /// Meets an event at a moment of the clock: what it makes the server offer, and what the keeper answered to it.
+    fn meet_event<K: Keeper>(
         &mut self,
         alloc: Global,
         at: Moment,
@@ -162,23 +165,68 @@ impl Server {
         keeper: &mut K,
         out: &mut List<Offer>,
     ) -> Result<Answered, NoMemory>
-        ensures done { IfOk result (λ a. Follows self.old out.old self.new out.new (λ d token. came d token at (digest d (happened_in event.now (kept_in a.kept) a.rows)))) }
-        ensures err { OnErr result ((kept : Kept) (rows : List Row) → Breaks self.old out.old out.new (λ d token. came d token at (digest d (happened_in event.now kept rows)))) }
+        ensures done { IfOk result (λ a. Follows self.old out.old self.new out.new (λ d token. met d token at (digest_event d event.now (kept_in a.kept) a.rows))) }
+        ensures err { OnErr result ((kept : Kept) (rows : List Row) → Breaks self.old out.old out.new (λ d token. met d token at (digest_event d event.now kept rows))) }
         ensures asked { IfOk result (λ a. Answers (call_of self.old.directory.names event.now) (kept_in a.kept) a.rows (K.held keeper.old) (K.held keeper.new) (K.calls keeper.old) (K.calls keeper.new)) }
         ensures counted { IfOk result (λ a. Counted (kept_in a.kept) (K.faults keeper.old) (K.faults keeper.new)) }
         ensures met { OnErr result (Met (call_of self.old.directory.names event.now) (K.held keeper.old) (K.held keeper.new) (K.calls keeper.old) (K.calls keeper.new) (K.faults keeper.old) (K.faults keeper.new)) }
     {
+        calls_draw_on();
         match event {
             Event::Datagram { from, bytes, .. } => {
-                self.come_from(alloc, at, *from, bytes.bytes(), out)?;
+                self.meet_datagram(alloc, at, *from, bytes.bytes(), out)?;
                 Ok(unasked())
             }
-            Event::Web { bytes, .. } => self.come_asking(alloc, at, bytes.bytes(), keeper, out),
-            Event::Quiet { .. } => {
-                self.come(alloc, at, Told::Nothing, out)?;
-                Ok(unasked())
-            }
+            Event::Web { bytes, .. } => self.serve(alloc, bytes.bytes(), at, keeper, out),
+            Event::Quiet { .. } => Ok(unasked()),
         }
+    }
+
+    /// Hands the rows that wait to the keeper, which takes all of them or none. True where none waits from then on.
+    ///
+    /// # Errors
+    ///
+    /// Want of memory alone; each of them waits still.
+    fn hand_rows<K: Keeper>(&mut self, alloc: Global, keeper: &mut K) -> Result<bool, NoMemory>
+        ensures done { IfOk result (λ took. (out : List Offer) → Follows self.old out self.new out (λ d token. ended d took)) }
+        ensures handed { IfOk result (λ took. Handed took self.old.calls.table.rows (K.held keeper.old) (K.held keeper.new) (K.calls keeper.old) (K.calls keeper.new)) }
+        ensures counted { IfOk result (λ took. HandedCounted took (K.faults keeper.old) (K.faults keeper.new)) }
+        ensures met { OnErr result (StoppedHanding (K.held keeper.old) (K.held keeper.new) (K.calls keeper.old) (K.calls keeper.new) (K.faults keeper.old) (K.faults keeper.new)) }
+    {
+        let count = self.calls.rows_waiting().len();
+        if count == 0 {
+            return Ok(true);
+        }
+        match keeper.add_rows(alloc, self.calls.rows_waiting()) {
+            Ok(()) => {
+                self.calls.drop_rows(count);
+                Ok(true)
+            }
+            Err(KeepFault::Failed) => Ok(false),
+            Err(KeepFault::NoMemory) => Err(NoMemory),
+        }
+    }
+
+    /// An event comes when the clock stands so: what it makes the server offer, and what the keeper answered in it.
+    fn come_at<K: Keeper>(
+        &mut self,
+        alloc: Global,
+        at: Moment,
+        event: &Event,
+        keeper: &mut K,
+        out: &mut List<Offer>,
+    ) -> Result<(Answered, bool), NoMemory>
+        ensures done { IfOk result (λ a. Came self.old out.old self.new out.new at event.now (kept_in a.0.kept) a.0.rows a.1 (K.held keeper.old) (K.held keeper.new) (K.calls keeper.old) (K.calls keeper.new) (K.faults keeper.old) (K.faults keeper.new)) }
+        ensures met { OnErr result (StoppedAt (λ kept rows. (took : Bool) → Breaks self.old out.old out.new (λ d token. came d token at (digest_event d event.now kept rows) took))
+            (λ kept rows between midst. Answers (call_of self.old.directory.names event.now) kept rows (K.held keeper.old) between (K.calls keeper.old) midst)
+            (K.held keeper.new) (K.calls keeper.new) (K.faults keeper.old) (K.faults keeper.new)) }
+    {
+        calls_draw_on();
+        self.begin();
+        self.clock = at;
+        let answered = self.meet_event(alloc, at, event, keeper, out)?;
+        let took = self.hand_rows(alloc, keeper)?;
+        Ok((answered, took))
     }
 
     /// One event, where no step has failed.
@@ -188,13 +236,14 @@ impl Server {
         event: &Event,
         keeper: &mut K,
         out: &mut List<Offer>,
-    ) -> Result<Answered, NoMemory>
-        ensures done { IfOk result (λ a. (fuel : ℕ) → FollowsTo self.old out.old self.new out.new (IsReady fuel (happened_in event.now (kept_in a.kept) a.rows)) (going fuel (happened_in event.now (kept_in a.kept) a.rows))) }
-        ensures err { OnErr result ((kept : Kept) (rows : List Row) (fuel : ℕ) → BreaksTo self.old out.old out.new (IsReady fuel (happened_in event.now kept rows)) (going fuel (happened_in event.now kept rows))) }
-        ensures asked { IfOk result (λ a. AskedAfter self.old out.old event.now (kept_in a.kept) a.rows (K.held keeper.old) (K.held keeper.new) (K.calls keeper.old) (K.calls keeper.new)) }
-        ensures counted { IfOk result (λ a. Counted (kept_in a.kept) (K.faults keeper.old) (K.faults keeper.new)) }
-        ensures met { OnErr result (StoppedAt (λ kept rows. AskedAfter self.old out.old event.now kept rows (K.held keeper.old) (K.held keeper.new) (K.calls keeper.old) (K.calls keeper.new)) (K.faults keeper.old) (K.faults keeper.new)) }
+    ) -> Result<(Answered, bool), NoMemory>
+        ensures done { IfOk result (λ a. (fuel : ℕ) → FollowsTo self.old out.old self.new out.new (IsReady fuel (happened_in event.now (kept_in a.0.kept) a.0.rows a.1)) (going fuel (happened_in event.now (kept_in a.0.kept) a.0.rows a.1))) }
+        ensures keeper { IfOk result (λ a. KeeperWent self.old out.old (happened_in event.now (kept_in a.0.kept) a.0.rows a.1) (K.held keeper.old) (K.held keeper.new) (K.calls keeper.old) (K.calls keeper.new) (K.faults keeper.old) (K.faults keeper.new)) }
+        ensures met { OnErr result (StoppedAt (λ kept rows. (took : Bool) (fuel : ℕ) → BreaksTo self.old out.old out.new (IsReady fuel (happened_in event.now kept rows took)) (going fuel (happened_in event.now kept rows took)))
+            (λ kept rows between midst. (took : Bool) → AskedAfter self.old out.old (happened_in event.now kept rows took) (K.held keeper.old) between (K.calls keeper.old) midst)
+            (K.held keeper.new) (K.calls keeper.new) (K.faults keeper.old) (K.faults keeper.new)) }
     {
+        calls_draw_on();
         let clock = later(self.clock, moment(event));
         self.settle(alloc, clock, out)?;
         self.come_at(alloc, clock, event, keeper, out)

@@ -14,10 +14,12 @@ returns c = record {
       steps = omega (arith, did.stands.steps, short.steps);
       texts = did.stands.texts;
       registered = did.stands.registered;
-      rows = did.stands.rows;
+      calls = did.stands.calls;
+      armed = did.stands.armed;
       whole = did.stands.whole;
     };
     offered = did.offered;
   };
   directory = refl;
+  armed = refl;
 }

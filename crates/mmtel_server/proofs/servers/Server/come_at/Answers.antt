@@ -1,40 +1,85 @@
-use Rattle.std.proofs.Common.{List, ℕ, sym, subst}
-use Rattle.std.proofs.lemmas.Result.{on_err_weaker}
-use Rattle.std.specs.Prelude.{IfOk}
-use Rattle.mmtel_http.specs.Requests.{request_of}
-use Rattle.mmtel_outside.specs.declared.events.Event.{Event}
-use Rattle.mmtel_run.specs.Events.{Asked, digest, digest_datagram}
-use Rattle.mmtel_run.specs.World.{came}
+use Rattle.std.proofs.Common.{◌++◌, ◌∙◌, List, ap, inl, refl, subst}
+use Rattle.mmtel_b2bua.specs.Histories.{CallsView}
+use Rattle.mmtel_charging.specs.declared.rows.Row.{Row}
+use Rattle.mmtel_directory.specs.declared.directories.Directory.{Directory}
+use Rattle.mmtel_run.specs.Events.{digest_event}
+use Rattle.mmtel_run.specs.World.{World, begun, came, met}
+use Rattle.mmtel_serving.specs.Calls.{Answers}
 use Rattle.mmtel_serving.specs.Outcomes.{kept_in}
-use Rattle.mmtel_server.proofs.Grows.{came_grows, on_err, stops}
+use Rattle.mmtel_server.proofs.Filing.{ended_is, met_none}
+use Rattle.mmtel_server.proofs.Coming.{broke_handing, broke_meeting}
+use Rattle.mmtel_server.proofs.Grows.{ends, on_err, short_of}
+use Rattle.mmtel_server.proofs.Runs.{begun_came, clocked_did}
 use Rattle.mmtel_server.proofs.servers.Server.come_at.Goals as goal
-use Rattle.mmtel_server.specs.Follows.{Breaks, Follows}
-use Rattle.mmtel_server.specs.Stepped.{happened_in}
+use Rattle.mmtel_server.specs.Handed.{taken_of}
+use Rattle.mmtel_server.specs.Stepped.{call_of}
 
-pub returns-in_ok-come_from-in-Datagram-clause-done : goal.returns-in_ok-come_from-in-Datagram-clause-done
-returns-in_ok-come_from-in-Datagram-clause-done g c =
-    subst (λ (e : Event). Follows c.args.self.now c.args.out.now c.come_from.new.self c.come_from.new.out
-    (λ d token. came d token c.args.at (digest d (happened_in e (kept_in c.unasked.result.kept) c.unasked.result.rows)))) (sym c.in-Datagram.is)
-    (subst (λ (bytes : List ℕ). Follows c.args.self.now c.args.out.now c.come_from.new.self c.come_from.new.out
-    (λ d token. came d token c.args.at (digest_datagram d c.in-Datagram.from bytes))) c.bytes.ensures c.in_ok-come_from-in-Datagram.ensures.done)
+pub returns-clause-done : goal.returns-clause-done
+returns-clause-done g c =
+    let law = c.calls_draw_on.ensures.law in
+    let a = c.in_ok-answered.answered in
+    let took = c.in_ok-took.took in
+    record {
+      went = λ d token before w did short.
+          let x = digest_event d c.args.event.now (kept_in a.kept) a.rows in
+          let few = short_of (begun w) (came d token c.args.at x took w) (begun_came law d token c.args.at x took w) short in
+          let there : World = record (begun w) { clock = c.args.at } in
+          let done : World = met d token c.args.at x there in
+          let clocked = clocked_did d token before c.args.out.now c.begin.new.self c.args.at (begun w) (c.begin.ensures.done c.args.out.now d token before w did few) in
+          let between = short_of done (came d token c.args.at x took w) (ends law d token c.args.at took done) short in
+          c.in_ok-took.ensures.done c.meet_event.new.out d token before done (c.in_ok-answered.ensures.done d token before there clocked between) short;
+      waiting = c.meet_event.new.self.calls.table.rows;
+      between = g.K.Keeper.held c.meet_event.new.keeper;
+      midst = g.K.Keeper.calls c.meet_event.new.keeper;
+      mid = g.K.Keeper.faults c.meet_event.new.keeper;
+      asked = subst (λ (x : Directory). Answers (call_of x.names c.args.event.now) (kept_in a.kept) a.rows (g.K.Keeper.held c.args.keeper.now) (g.K.Keeper.held c.meet_event.new.keeper)
+          (g.K.Keeper.calls c.args.keeper.now) (g.K.Keeper.calls c.meet_event.new.keeper)) c.begin.ensures.directory c.in_ok-answered.ensures.asked;
+      counted = c.in_ok-answered.ensures.counted;
+      waited = λ d token before w did short.
+          let x = digest_event d c.args.event.now (kept_in a.kept) a.rows in
+          let few = short_of (begun w) (came d token c.args.at x took w) (begun_came law d token c.args.at x took w) short in
+          let there : World = record (begun w) { clock = c.args.at } in
+          let done : World = met d token c.args.at x there in
+          let clocked = clocked_did d token before c.args.out.now c.begin.new.self c.args.at (begun w) (c.begin.ensures.done c.args.out.now d token before w did few) in
+          let between = short_of done (came d token c.args.at x took w) (ends law d token c.args.at took done) short in
+          let rows = c.meet_event.new.self.calls.table.rows in
+          let met_did = c.in_ok-answered.ensures.done d token before there clocked between in
+          let filed = ended_is d took rows done (ap (λ (v : CallsView). v.table.rows) met_did.stands.calls) in
+          (filed.0 ∙ ap (λ (l : List Row). l ++ taken_of took rows) (met_none d token c.args.at x there), filed.1);
+      handed = c.in_ok-took.ensures.handed;
+      handed_counted = c.in_ok-took.ensures.counted;
+    }
 
-pub returns-in-Web-clause-done : goal.returns-in-Web-clause-done
-returns-in-Web-clause-done g c =
-    subst (λ (e : Event). IfOk c.come_asking.result (λ a. Follows c.args.self.now c.args.out.now c.come_asking.new.self c.come_asking.new.out
-    (λ d token. came d token c.args.at (digest d (happened_in e (kept_in a.kept) a.rows))))) (sym c.in-Web.is)
-    (subst (λ (bytes : List ℕ). IfOk c.come_asking.result (λ a. Follows c.args.self.now c.args.out.now c.come_asking.new.self c.come_asking.new.out
-    (λ d token. came d token c.args.at (Asked (request_of bytes) (kept_in a.kept) a.rows)))) c.bytes-in-Web.ensures c.come_asking.ensures.done)
+pub returns-in_err-answered-clause-met : goal.returns-in_err-answered-clause-met
+returns-in_err-answered-clause-met g c =
+    let m = c.in_err-answered.ensures.met in
+    on_err c.from_residual.result _ (record {
+      kept = m.kept;
+      rows = m.rows;
+      broke = λ took. broke_meeting c.calls_draw_on.ensures.law c.args.self.now c.begin.new.self c.args.out.now c.args.at (c.begin.ensures.done c.args.out.now)
+          (λ d. digest_event d c.args.event.now m.kept m.rows) took c.meet_event.new.out (c.in_err-answered.ensures.err m.kept m.rows);
+      between = g.K.Keeper.held c.meet_event.new.keeper;
+      midst = g.K.Keeper.calls c.meet_event.new.keeper;
+      mid = g.K.Keeper.faults c.meet_event.new.keeper;
+      asked = subst (λ (x : Directory). Answers (call_of x.names c.args.event.now) m.kept m.rows (g.K.Keeper.held c.args.keeper.now) (g.K.Keeper.held c.meet_event.new.keeper)
+          (g.K.Keeper.calls c.args.keeper.now) (g.K.Keeper.calls c.meet_event.new.keeper)) c.begin.ensures.directory m.answers;
+      counted = m.counted;
+      handed = (refl, (inl refl, refl));
+    })
 
-pub returns-in-Web-clause-err : goal.returns-in-Web-clause-err
-returns-in-Web-clause-err g c = on_err_weaker c.come_asking.result (λ e kept rows. stops (λ d token. came d token c.args.at (digest d (happened_in c.args.event.now kept rows)))
-    c.args.self.now c.args.out.now c.come_asking.new.out (λ d token w. came_grows d token c.args.at (digest d (happened_in c.args.event.now kept rows)) w) e) c.come_asking.ensures.err
-
-pub returns-in_ok-come-in-Quiet-clause-done : goal.returns-in_ok-come-in-Quiet-clause-done
-returns-in_ok-come-in-Quiet-clause-done g c =
-    subst (λ (e : Event). Follows c.args.self.now c.args.out.now c.come.new.self c.come.new.out
-    (λ d token. came d token c.args.at (digest d (happened_in e (kept_in c.unasked-in-Quiet.result.kept) c.unasked-in-Quiet.result.rows)))) (sym c.in-Quiet.is) c.in_ok-come-in-Quiet.ensures.done
-
-pub returns-in_err-come-in-Quiet-clause-err : goal.returns-in_err-come-in-Quiet-clause-err
-returns-in_err-come-in-Quiet-clause-err g c = on_err c.from_residual-in_err-come-in-Quiet.result _
-    (λ kept rows. subst (λ (e : Event). Breaks c.args.self.now c.args.out.now c.come.new.out (λ d token. came d token c.args.at (digest d (happened_in e kept rows)))) (sym c.in-Quiet.is)
-    c.in_err-come-in-Quiet.ensures.err)
+pub returns-in_err-took-clause-met : goal.returns-in_err-took-clause-met
+returns-in_err-took-clause-met g c =
+    let a = c.in_ok-answered.answered in
+    on_err c.from_residual-in_err-took.result _ (record {
+      kept = kept_in a.kept;
+      rows = a.rows;
+      broke = λ took. broke_handing c.calls_draw_on.ensures.law c.args.self.now c.begin.new.self c.args.out.now c.args.at (c.begin.ensures.done c.args.out.now)
+          (λ d. digest_event d c.args.event.now (kept_in a.kept) a.rows) took c.meet_event.new.self c.meet_event.new.out c.in_ok-answered.ensures.done;
+      between = g.K.Keeper.held c.meet_event.new.keeper;
+      midst = g.K.Keeper.calls c.meet_event.new.keeper;
+      mid = g.K.Keeper.faults c.meet_event.new.keeper;
+      asked = subst (λ (x : Directory). Answers (call_of x.names c.args.event.now) (kept_in a.kept) a.rows (g.K.Keeper.held c.args.keeper.now) (g.K.Keeper.held c.meet_event.new.keeper)
+          (g.K.Keeper.calls c.args.keeper.now) (g.K.Keeper.calls c.meet_event.new.keeper)) c.begin.ensures.directory c.in_ok-answered.ensures.asked;
+      counted = c.in_ok-answered.ensures.counted;
+      handed = c.in_err-took.ensures.met;
+    })

@@ -1,5 +1,6 @@
 use Rattle.std.proofs.Common.{List, ℕ, sym, subst}
 use Rattle.std.specs.Prelude.{OnOk}
+use Rattle.std.proofs.lemmas.Result.{on_ok_weaker}
 use Rattle.mmtel_run.specs.World.{emit_one}
 use Rattle.mmtel_transaction.specs.declared.words.Emit.{Emit}
 use Rattle.mmtel_transaction.specs.declared.words.Emit.TheVariants as emit
@@ -23,3 +24,8 @@ returns-in-Plain-clause-done c =
 pub returns-in-Ack-clause-done : goal.returns-in-Ack-clause-done
 returns-in-Ack-clause-done c = subst (λ (x : Emit). OnOk c.acknowledge.result
     (Follows c.args.self.now c.args.out.now c.acknowledge.new.self c.acknowledge.new.out (λ d token. emit_one c.args.at x))) (sym c.in-Ack.is) c.acknowledge.ensures.done
+
+pub returns-in-Arm-clause-done : goal.returns-in-Arm-clause-done
+returns-in-Arm-clause-done c = on_ok_weaker c.arm.result (λ follows.
+    subst (λ (x : Emit). Follows c.args.self.now c.args.out.now c.arm.new.self c.args.out.now (λ d token. emit_one c.args.at x)) (sym c.in-Arm.is) (follows c.args.at c.args.out.now))
+    c.arm.ensures.done

@@ -1,36 +1,32 @@
-use Rattle.std.proofs.Common.{refl}
-use Rattle.mmtel_intake.specs.Openings.{names_in}
-use Rattle.mmtel_run.specs.World.{opening}
-use Rattle.mmtel_server.proofs.Grows.{on_err, opens_call, stops}
-use Rattle.mmtel_server.proofs.Openings.{opened_cut, opened_done}
+use Rattle.std.proofs.Common.{◌≡◌, List, ℕ, false, ap, ◌∙◌, refl, sym, subst}
+use Rattle.std.proofs.lemmas.Result.{on_err_weaker, on_ok_weaker}
+use Rattle.mmtel_b2bua.specs.Tables.{is_full}
+use Rattle.mmtel_b2bua.specs.declared.signals.Signal.{Signal}
+use Rattle.mmtel_directory.specs.declared.directories.Directory.{Directory}
+use Rattle.mmtel_run.specs.Calls.{arrived}
+use Rattle.mmtel_run.specs.World.{World, signalled}
+use Rattle.mmtel_server.proofs.Asked.{breaks_so, follows_so}
+use Rattle.mmtel_server.proofs.Grows.{on_err, signals, stops}
 use Rattle.mmtel_server.proofs.servers.Server.open.Goals as goal
 
-pub returns-in_err-names-clause-err : goal.returns-in_err-names-clause-err
-returns-in_err-names-clause-err c = on_err c.from_residual.result _
-    (stops (λ d token. opening d token c.args.at c.args.key c.args.request.now c.args.aim) c.args.self.now c.args.out.now c.args.out.now
-    (λ d token w. opens_call d token c.args.at c.args.key c.args.request.now c.args.aim w) refl)
+pub bring-requires : goal.bring-requires
+bring-requires c = subst (λ (x : Signal). is_full x c.args.self.now.calls.table.entries ≡ false) (sym c.in_ok-signal.ensures.signal) c.requires
 
-pub returns-in_err-answer-clause-err : goal.returns-in_err-answer-clause-err
-returns-in_err-answer-clause-err c = on_err c.from_residual-in_err-answer.result _
-    (stops (λ d token. opening d token c.args.at c.args.key c.args.request.now c.args.aim) c.args.self.now c.args.out.now c.args.out.now
-    (λ d token w. opens_call d token c.args.at c.args.key c.args.request.now c.args.aim w) refl)
-
-pub returns-in_err-invite-clause-err : goal.returns-in_err-invite-clause-err
-returns-in_err-invite-clause-err c = on_err c.from_residual-in_err-invite.result _
-    (stops (λ d token. opening d token c.args.at c.args.key c.args.request.now c.args.aim) c.args.self.now c.args.out.now c.args.out.now
-    (λ d token w. opens_call d token c.args.at c.args.key c.args.request.now c.args.aim w) refl)
-
-pub returns-in_err-reply-clause-err : goal.returns-in_err-reply-clause-err
-returns-in_err-reply-clause-err c = on_err c.from_residual-in_err-reply.result _
-    (stops (λ d token. opening d token c.args.at c.args.key c.args.request.now c.args.aim) c.args.self.now c.args.out.now c.reply.new.out
-    (λ d token w. opens_call d token c.args.at c.args.key c.args.request.now c.args.aim w) c.in_err-reply.ensures.err)
-
-pub returns-in_err-ask-clause-err : goal.returns-in_err-ask-clause-err
-returns-in_err-ask-clause-err c = on_err c.from_residual-in_err-ask.result _
-    (opened_cut c.args.self.now c.drawn_names.new.tokens c.reply.new.self c.args.out.now c.reply.new.out c.ask.new.out c.args.at c.args.key c.args.request.now c.args.aim c.in_ok-answer.answer
-    c.in_ok-names.ensures.drawn c.in_ok-answer.ensures.message c.in_ok-reply.ensures.done c.in_err-ask.ensures.err)
+pub returns-in_err-signal-clause-err : goal.returns-in_err-signal-clause-err
+returns-in_err-signal-clause-err c = on_err c.from_residual.result _
+    (stops (λ d token. signalled d token c.args.at (arrived d.names.accounts c.args.key c.args.invite)) c.args.self.now c.args.out.now c.args.out.now
+    (λ d token w. signals c.calls_draw_on.ensures.law d token c.args.at (arrived d.names.accounts c.args.key c.args.invite) w) refl)
 
 pub returns-clause-done : goal.returns-clause-done
-returns-clause-done c = opened_done c.args.self.now c.drawn_names.new.tokens c.reply.new.self c.ask.new.self c.args.out.now c.reply.new.out c.ask.new.out c.args.at c.args.key c.args.request.now
-    c.args.aim (names_in c.in_ok-names.names) c.in_ok-answer.answer c.in_ok-invite.invite c.trusted-to_trusted.result c.in_ok-names.ensures.drawn c.in_ok-answer.ensures.message
-    c.in_ok-names.ensures.names c.in_ok-invite.ensures.message c.trusted-to_trusted.ensures.exact c.in_ok-reply.ensures.done c.in_ok-ask.ensures.done
+returns-clause-done c = on_ok_weaker c.bring.result (λ follows.
+    follows_so c.in_ok-signal.signal (λ d w. arrived d.names.accounts c.args.key c.args.invite) (λ x d token. signalled d token c.args.at x) c.args.self.now c.args.out.now
+    (λ d token w have. c.in_ok-signal.ensures.signal ∙ ap (λ (x : Directory). arrived x.names.accounts c.args.key c.args.invite) have.directory_same)
+    c.bring.new.self c.bring.new.out follows)
+    c.bring.ensures.done
+
+pub returns-clause-err : goal.returns-clause-err
+returns-clause-err c = on_err_weaker c.bring.result (λ breaks.
+    breaks_so c.in_ok-signal.signal (λ d w. arrived d.names.accounts c.args.key c.args.invite) (λ x d token. signalled d token c.args.at x) c.args.self.now c.args.out.now
+    (λ d token w have. c.in_ok-signal.ensures.signal ∙ ap (λ (x : Directory). arrived x.names.accounts c.args.key c.args.invite) have.directory_same)
+    c.bring.new.out breaks)
+    c.bring.ensures.err

@@ -1,4 +1,4 @@
-use Rattle.std.proofs.Common.{[], refl, subst}
+use Rattle.std.proofs.Common.{[], refl, inl, subst}
 use Rattle.std.proofs.lemmas.Result.{IfOk-weaker, on_err_weaker}
 use Rattle.mmtel_directory.specs.declared.directories.Directory.{Directory}
 use Rattle.mmtel_serving.specs.Calls.{Answers}
@@ -6,61 +6,74 @@ use Rattle.mmtel_serving.specs.Outcomes.{kept_in}
 use Rattle.mmtel_web.specs.Answers.{no_memory}
 use Rattle.mmtel_server.proofs.Grows.{on_err}
 use Rattle.mmtel_server.proofs.Records.{unasked_answers}
-use Rattle.mmtel_server.proofs.Runs.{clock_is, cut_before, cut_within, directory_there, went_all}
+use Rattle.mmtel_server.proofs.Runs.{clock_is, cut_before, cut_within, directory_there, waited_there, went_all}
 use Rattle.mmtel_server.proofs.servers.Server.step_on.Goals as goal
 use Rattle.mmtel_server.specs.Stepped.{call_of, happened_in}
 
-pub returns-in_err-settle-clause-err : goal.returns-in_err-settle-clause-err
-returns-in_err-settle-clause-err g c =
-    on_err c.from_residual.result _ (λ kept rows. cut_before c.args.self.now c.settle.new.self c.args.out.now c.settle.new.out (happened_in c.args.event.now kept rows) c.later-clock.result
-    (clock_is c.later-clock.result c.args.self.now.clock c.moment.result (happened_in c.args.event.now kept rows) c.later-clock.ensures c.moment.ensures.moment)
-    c.in_err-settle.ensures.err)
-
 pub returns-clause-done : goal.returns-clause-done
-returns-clause-done g c = IfOk-weaker c.come_at.result _ _ (λ a follows.
-    let one = happened_in c.args.event.now (kept_in a.kept) a.rows in
-    went_all c.args.self.now c.settle.new.self c.args.out.now c.settle.new.out one c.later-clock.result
+returns-clause-done g c = IfOk-weaker c.come_at.result _ _ (λ a came.
+    let one = happened_in c.args.event.now (kept_in a.0.kept) a.0.rows a.1 in
+    went_all c.calls_draw_on.ensures.law c.args.self.now c.settle.new.self c.args.out.now c.settle.new.out one c.later-clock.result
     (clock_is c.later-clock.result c.args.self.now.clock c.moment.result one c.later-clock.ensures c.moment.ensures.moment)
-    c.in_ok-settle.ensures.done c.come_at.new.self c.come_at.new.out follows)
+    c.in_ok-settle.ensures.done c.come_at.new.self c.come_at.new.out came.went)
     c.come_at.ensures.done
 
-pub returns-clause-err : goal.returns-clause-err
-returns-clause-err g c = on_err_weaker c.come_at.result (λ breaks kept rows.
-    let one = happened_in c.args.event.now kept rows in
-    cut_within c.args.self.now c.settle.new.self c.args.out.now c.settle.new.out one c.later-clock.result
-    (clock_is c.later-clock.result c.args.self.now.clock c.moment.result one c.later-clock.ensures c.moment.ensures.moment)
-    c.in_ok-settle.ensures.done c.come_at.new.self c.come_at.new.out (breaks kept rows))
-    c.come_at.ensures.err
-
-pub returns-clause-asked : goal.returns-clause-asked
-returns-clause-asked g c = IfOk-weaker c.come_at.result _ _ (λ a answers d token before w fuel did ready short.
-    let one = happened_in c.args.event.now (kept_in a.kept) a.rows in
-    subst (λ (x : Directory). Answers (call_of x.names c.args.event.now) (kept_in a.kept) a.rows (g.K.Keeper.held c.args.keeper.now) (g.K.Keeper.held c.come_at.new.keeper)
-    (g.K.Keeper.calls c.args.keeper.now) (g.K.Keeper.calls c.come_at.new.keeper))
-    (directory_there c.args.self.now c.settle.new.self c.args.out.now c.settle.new.out one c.later-clock.result
-    (clock_is c.later-clock.result c.args.self.now.clock c.moment.result one c.later-clock.ensures c.moment.ensures.moment)
-    c.in_ok-settle.ensures.done fuel d token before w did ready short) answers)
-    c.come_at.ensures.asked
+pub returns-clause-keeper : goal.returns-clause-keeper
+returns-clause-keeper g c = IfOk-weaker c.come_at.result _ _ (λ a came.
+    let one = happened_in c.args.event.now (kept_in a.0.kept) a.0.rows a.1 in
+    let clock = clock_is c.later-clock.result c.args.self.now.clock c.moment.result one c.later-clock.ensures c.moment.ensures.moment in
+    record {
+      waiting = came.waiting;
+      between = came.between;
+      midst = came.midst;
+      mid = came.mid;
+      asked = λ d token before w fuel did ready short.
+          subst (λ (x : Directory). Answers (call_of x.names c.args.event.now) (kept_in a.0.kept) a.0.rows (g.K.Keeper.held c.args.keeper.now) came.between (g.K.Keeper.calls c.args.keeper.now) came.midst)
+          (directory_there c.calls_draw_on.ensures.law c.args.self.now c.settle.new.self c.args.out.now c.settle.new.out one c.later-clock.result clock
+          c.in_ok-settle.ensures.done fuel d token before w did ready short) came.asked;
+      counted = came.counted;
+      waited = waited_there c.calls_draw_on.ensures.law c.args.self.now c.settle.new.self c.args.out.now c.settle.new.out one c.later-clock.result clock
+          c.in_ok-settle.ensures.done came.waiting came.waited;
+      handed = came.handed;
+      handed_counted = came.handed_counted;
+    })
+    c.come_at.ensures.done
 
 pub returns-in_err-settle-clause-met : goal.returns-in_err-settle-clause-met
 returns-in_err-settle-clause-met g c = on_err c.from_residual.result _ (record {
   kept = no_memory;
   rows = [];
-  asked = λ d token before w fuel did ready short. unasked_answers (call_of d.names c.args.event.now) (g.K.Keeper.held c.args.keeper.now) (g.K.Keeper.calls c.args.keeper.now);
+  broke = λ took. cut_before c.calls_draw_on.ensures.law c.args.self.now c.settle.new.self c.args.out.now c.settle.new.out (happened_in c.args.event.now no_memory [] took) c.later-clock.result
+      (clock_is c.later-clock.result c.args.self.now.clock c.moment.result (happened_in c.args.event.now no_memory [] took) c.later-clock.ensures c.moment.ensures.moment)
+      c.in_err-settle.ensures.err;
+  between = g.K.Keeper.held c.args.keeper.now;
+  midst = g.K.Keeper.calls c.args.keeper.now;
+  mid = g.K.Keeper.faults c.args.keeper.now;
+  asked = λ took d token before w fuel did ready short. unasked_answers (call_of d.names c.args.event.now) (g.K.Keeper.held c.args.keeper.now) (g.K.Keeper.calls c.args.keeper.now);
   counted = refl;
+  handed = (refl, (inl refl, refl));
 })
 
 pub returns-clause-met : goal.returns-clause-met
 returns-clause-met g c = on_err_weaker c.come_at.result (λ m.
-    let one = happened_in c.args.event.now m.kept m.rows in
     record {
       kept = m.kept;
       rows = m.rows;
-      asked = λ d token before w fuel did ready short.
-          subst (λ (x : Directory). Answers (call_of x.names c.args.event.now) m.kept m.rows (g.K.Keeper.held c.args.keeper.now) (g.K.Keeper.held c.come_at.new.keeper) (g.K.Keeper.calls c.args.keeper.now) (g.K.Keeper.calls c.come_at.new.keeper))
-          (directory_there c.args.self.now c.settle.new.self c.args.out.now c.settle.new.out one c.later-clock.result
+      broke = λ took.
+          let one = happened_in c.args.event.now m.kept m.rows took in
+          cut_within c.calls_draw_on.ensures.law c.args.self.now c.settle.new.self c.args.out.now c.settle.new.out one c.later-clock.result
           (clock_is c.later-clock.result c.args.self.now.clock c.moment.result one c.later-clock.ensures c.moment.ensures.moment)
-          c.in_ok-settle.ensures.done fuel d token before w did ready short) m.answers;
+          c.in_ok-settle.ensures.done c.come_at.new.self c.come_at.new.out (m.broke took);
+      between = m.between;
+      midst = m.midst;
+      mid = m.mid;
+      asked = λ took d token before w fuel did ready short.
+          let one = happened_in c.args.event.now m.kept m.rows took in
+          subst (λ (x : Directory). Answers (call_of x.names c.args.event.now) m.kept m.rows (g.K.Keeper.held c.args.keeper.now) m.between (g.K.Keeper.calls c.args.keeper.now) m.midst)
+          (directory_there c.calls_draw_on.ensures.law c.args.self.now c.settle.new.self c.args.out.now c.settle.new.out one c.later-clock.result
+          (clock_is c.later-clock.result c.args.self.now.clock c.moment.result one c.later-clock.ensures c.moment.ensures.moment)
+          c.in_ok-settle.ensures.done fuel d token before w did ready short) m.asked;
       counted = m.counted;
+      handed = m.handed;
     })
     c.come_at.ensures.met

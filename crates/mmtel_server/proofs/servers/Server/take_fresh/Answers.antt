@@ -1,37 +1,61 @@
-use Rattle.std.proofs.Common.{◌≡◌, ◌++◌, Bool, ap, ◌∙◌, sym, subst, refl}
+use Rattle.std.proofs.Common.{◌≡◌, Bool, List, ℕ, Option, ap, ◌∙◌, sym, refl}
 use Rattle.std.proofs.lemmas.Result.{on_err_weaker, on_ok_weaker}
+use Rattle.mmtel_b2bua.specs.Histories.{CallsView}
 use Rattle.mmtel_directory.specs.declared.directories.Directory.{Directory}
 use Rattle.mmtel_intake.specs.Courses.{course_in}
+use Rattle.mmtel_run.specs.Calls.{are_full, named_by}
 use Rattle.mmtel_run.specs.Refusals.{Course, course}
-use Rattle.mmtel_run.specs.Short.{IsShort}
-use Rattle.mmtel_run.specs.World.{taking, taking_fresh}
+use Rattle.mmtel_run.specs.World.{World, calls_in, taking, taking_fresh}
 use Rattle.mmtel_transaction.specs.Answers.{is_merged}
 use Rattle.mmtel_transaction.specs.Calls.{live}
+use Rattle.mmtel_types.specs.declared.numbers.CallNo.{CallNo}
+use Rattle.mmtel_types.specs.declared.sides.Side.{Side}
+use Rattle.mmtel_server.proofs.Asked.{breaks_so, follows_so}
+use Rattle.mmtel_server.proofs.Courses.{opened_below}
 use Rattle.mmtel_server.proofs.Grows.{on_err, stops, takes_fresh}
 use Rattle.mmtel_server.proofs.servers.Server.take_fresh.Goals as goal
-use Rattle.mmtel_server.specs.Stands.{Did, IsCut}
+
+pub returns-in_err-named-clause-err : goal.returns-in_err-named-clause-err
+returns-in_err-named-clause-err c = on_err c.from_residual.result _
+    (stops (λ d token. taking_fresh d token c.args.at c.args.key c.args.request) c.args.self.now c.args.out.now c.args.out.now
+    (λ d token w. takes_fresh c.calls_draw_on.ensures.law d token c.args.at c.args.key c.args.request w) refl)
 
 pub returns-in_err-course-clause-err : goal.returns-in_err-course-clause-err
-returns-in_err-course-clause-err c = on_err c.from_residual.result _
-    (stops (λ d token. taking_fresh d token c.args.at c.args.key c.args.request.now) c.args.self.now c.args.out.now c.args.out.now
-    (λ d token w. takes_fresh d token c.args.at c.args.key c.args.request.now w) refl)
+returns-in_err-course-clause-err c = on_err c.from_residual-in_err-course.result _
+    (stops (λ d token. taking_fresh d token c.args.at c.args.key c.args.request) c.args.self.now c.args.out.now c.args.out.now
+    (λ d token w. takes_fresh c.calls_draw_on.ensures.law d token c.args.at c.args.key c.args.request w) refl)
 
-pub returns-clause-err : goal.returns-clause-err
-returns-clause-err c = on_err_weaker c.take.result (λ breaks d token before w did short.
-    let m = c.args.request.now in
-    let is : course_in c.in_ok-course.course ≡ course d (is_merged c.args.key.0 (live w.acts)) m.heard = c.in_ok-course.ensures.course
-    ∙ (ap (λ (b : Bool). course c.args.self.now.directory b m.heard) (c.merged-merged.ensures.live w.acts did.stands.transactions)
-    ∙ ap (λ (x : Directory). course x (is_merged c.args.key.0 (live w.acts)) m.heard) did.stands.directory_same) in
-    subst (λ (x : Course). IsCut c.args.out.now c.take.new.out (before ++ (taking d token c.args.at c.args.key m x w).offers)) is
-    (breaks d token before w did (subst (λ (x : Course). IsShort (taking d token c.args.at c.args.key m x w)) (sym is) short)))
-    c.take.ensures.err
+pub take-requires : goal.take-requires
+take-requires c = λ opens.
+    sym c.is_full-full.ensures
+    ∙ opened_below c.args.self.now.directory c.merged-merged.result c.is_full-full.result c.in_ok-named.named c.args.request.heard (sym c.in_ok-course.ensures.course ∙ opens)
 
 pub returns-clause-done : goal.returns-clause-done
-returns-clause-done c = on_ok_weaker c.take.result (λ follows d token before w did short.
-    let m = c.args.request.now in
-    let is : course_in c.in_ok-course.course ≡ course d (is_merged c.args.key.0 (live w.acts)) m.heard = c.in_ok-course.ensures.course
-    ∙ (ap (λ (b : Bool). course c.args.self.now.directory b m.heard) (c.merged-merged.ensures.live w.acts did.stands.transactions)
-    ∙ ap (λ (x : Directory). course x (is_merged c.args.key.0 (live w.acts)) m.heard) did.stands.directory_same) in
-    subst (λ (x : Course). Did d token before c.take.new.self c.take.new.out (taking d token c.args.at c.args.key m x w)) is
-    (follows d token before w did (subst (λ (x : Course). IsShort (taking d token c.args.at c.args.key m x w)) (sym is) short)))
+returns-clause-done c = on_ok_weaker c.take.result (λ follows.
+    let m = c.args.request.heard in
+    let s = c.args.self.now in
+    let merged : World → Bool = λ w. is_merged c.args.key.0 (live w.acts) in
+    let full : Directory → World → Bool = λ d w. are_full (calls_in d w).entries in
+    follows_so (course_in c.in_ok-course.course) (λ d w. course d (merged w) (full d w) (named_by m (calls_in d w).entries) m) (λ x d token. taking d token c.args.at c.args.key c.args.request x) s c.args.out.now
+    (λ d token w have. c.in_ok-course.ensures.course
+    ∙ (ap (λ (b : Bool). course s.directory b c.is_full-full.result c.in_ok-named.named m) (c.merged-merged.ensures.live w.acts have.transactions)
+    ∙ (ap (λ (b : Bool). course s.directory (merged w) b c.in_ok-named.named m) (c.is_full-full.ensures ∙ ap (λ (v : CallsView). are_full v.table.entries) have.calls)
+    ∙ (ap (λ (n : Option (CallNo × Side)). course s.directory (merged w) (full d w) n m) (c.in_ok-named.ensures d token w have)
+    ∙ ap (λ (x : Directory). course x (merged w) (full d w) (named_by m (calls_in d w).entries) m) have.directory_same))))
+    c.take.new.self c.take.new.out follows)
     c.take.ensures.done
+
+pub returns-clause-err : goal.returns-clause-err
+returns-clause-err c = on_err_weaker c.take.result (λ breaks.
+    let m = c.args.request.heard in
+    let s = c.args.self.now in
+    let merged : World → Bool = λ w. is_merged c.args.key.0 (live w.acts) in
+    let full : Directory → World → Bool = λ d w. are_full (calls_in d w).entries in
+    breaks_so (course_in c.in_ok-course.course) (λ d w. course d (merged w) (full d w) (named_by m (calls_in d w).entries) m) (λ x d token. taking d token c.args.at c.args.key c.args.request x) s c.args.out.now
+    (λ d token w have. c.in_ok-course.ensures.course
+    ∙ (ap (λ (b : Bool). course s.directory b c.is_full-full.result c.in_ok-named.named m) (c.merged-merged.ensures.live w.acts have.transactions)
+    ∙ (ap (λ (b : Bool). course s.directory (merged w) b c.in_ok-named.named m) (c.is_full-full.ensures ∙ ap (λ (v : CallsView). are_full v.table.entries) have.calls)
+    ∙ (ap (λ (n : Option (CallNo × Side)). course s.directory (merged w) (full d w) n m) (c.in_ok-named.ensures d token w have)
+    ∙ ap (λ (x : Directory). course x (merged w) (full d w) (named_by m (calls_in d w).entries) m) have.directory_same))))
+    c.take.new.out breaks)
+    c.take.ensures.err

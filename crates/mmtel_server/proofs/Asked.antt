@@ -1,0 +1,70 @@
+-- What a server reads of its own state is what is so of whatever it stands for: so what it decides by that is what is due.
+use Rattle.std.proofs.Common.{◌≡◌, ℕ, List, ◌++◌, refl, sym, ap, ◌∙◌, subst, Option, Some, None}
+use Rattle.std.specs.Option.{option_map}
+use Rattle.mmtel_b2bua.specs.Histories as histories
+use Rattle.mmtel_b2bua.specs.Histories.{CallsView, Deed, site_of as site_in, table_after}
+use Rattle.mmtel_b2bua.specs.Names.{first_side, side_named}
+use Rattle.mmtel_b2bua.specs.declared.entries.Entry.{Entry}
+use Rattle.mmtel_directory.specs.declared.directories.Directory.{Directory}
+use Rattle.mmtel_intake.specs.Dialogs.{name_in}
+use Rattle.mmtel_intake.specs.declared.dialogs.DialogName as declared
+use Rattle.mmtel_outside.specs.declared.events.Offer.{Offer}
+use Rattle.mmtel_run.specs.Calls.{DialogName, dialog_name, find_dialog, named_by}
+use Rattle.mmtel_run.specs.Short.{IsShort}
+use Rattle.mmtel_run.specs.World.{World, calls_in}
+use Rattle.mmtel_trust.specs.Digest.{HeardMessage}
+use Rattle.mmtel_trust.specs.Peers.{Peers}
+use Rattle.mmtel_trust.specs.declared.accounts.AccountIdentity.{AccountIdentity}
+use Rattle.mmtel_types.specs.declared.numbers.CallNo.{CallNo}
+use Rattle.mmtel_types.specs.declared.sides.Side.{Side}
+use Rattle.mmtel_server.specs.Follows.{Breaks, Follows}
+use Rattle.mmtel_server.specs.Stands.{Did, IsCut, Stands, calls_of}
+use Rattle.mmtel_server.specs.declared.servers.Server.{Server}
+
+-- ---- a deed by what was read
+
+module _ {A : Type 0} (x : A) (f : Directory → World → A) (deed : A → Directory → List ℕ → World → World) (s : Server) (out : List Offer)
+    (is : (d : Directory) (token : List ℕ) (w : World) → Stands d token s w → x ≡ f d w) where
+  pub follows_so : (new : Server) (now : List Offer) → Follows s out new now (deed x) → Follows s out new now (λ d token w. deed (f d w) d token w)
+  follows_so new now follows d token before w did short =
+      let same = is d token w did.stands in
+      subst (λ (y : A). Did d token before new now (deed y d token w)) same
+      (follows d token before w did (subst (λ (y : A). IsShort (deed y d token w)) (sym same) short))
+
+  pub breaks_so : (now : List Offer) → Breaks s out now (deed x) → Breaks s out now (λ d token w. deed (f d w) d token w)
+  breaks_so now breaks d token before w did short =
+      let same = is d token w did.stands in
+      subst (λ (y : A). IsCut out now (before ++ (deed y d token w).offers)) same
+      (breaks d token before w did (subst (λ (y : A). IsShort (deed y d token w)) (sym same) short))
+
+-- nothing is done where nothing is due
+pub rests : (s : Server) (out : List Offer) → Follows s out s out (λ d token w. w)
+rests s out d token before w did short = did
+
+-- ---- what is asked of the calls
+
+pub asked : {A : Type 0} (s : Server) (x : A) (f : List Entry → A)
+    → ((peers : Peers) (accounts : List AccountIdentity) (deeds : List Deed) → histories.Stands peers accounts s.calls deeds → x ≡ f (table_after (site_in s.calls peers accounts) deeds).entries)
+    → (d : Directory) (token : List ℕ) (w : World) → Stands d token s w → x ≡ f (calls_in d w).entries
+asked s x f says d token w have =
+    let there : histories.Stands d.peers d.names.accounts (calls_of d w) w.deeds = record { table = refl; works = refl } in
+    says d.peers d.names.accounts w.deeds (subst (λ (c : CallsView). histories.Stands d.peers d.names.accounts c w.deeds) (sym have.calls) there)
+    ∙ ap (λ (c : CallsView). f (table_after (site_in c d.peers d.names.accounts) w.deeds).entries) have.calls
+
+-- the dialog that a message names
+pub named : (s : Server) (m : HeardMessage) (o : Option declared.DialogName) (name : declared.DialogName) (call_id local remote : List ℕ) (x : Option (CallNo × Side))
+    → option_map name_in o ≡ dialog_name m → o ≡ Some name → call_id ≡ name.call_id → local ≡ name.local → remote ≡ name.remote
+    → ((peers : Peers) (accounts : List AccountIdentity) (deeds : List Deed) → histories.Stands peers accounts s.calls deeds
+    → x ≡ first_side (side_named call_id local remote) (table_after (site_in s.calls peers accounts) deeds).entries)
+    → (d : Directory) (token : List ℕ) (w : World) → Stands d token s w → x ≡ named_by m (calls_in d w).entries
+named s m o name call_id local remote x reads some ids locals remotes finds d token w have =
+    asked s x (first_side (side_named call_id local remote)) finds d token w have
+    ∙ (ap (λ (l : List ℕ). first_side (side_named l local remote) (calls_in d w).entries) ids
+    ∙ (ap (λ (l : List ℕ). first_side (side_named name.call_id l remote) (calls_in d w).entries) locals
+    ∙ (ap (λ (l : List ℕ). first_side (side_named name.call_id name.local l) (calls_in d w).entries) remotes
+    ∙ ap (λ (n : Option DialogName). find_dialog n (calls_in d w).entries) (sym (ap (option_map name_in) some) ∙ reads))))
+
+pub named_none : (s : Server) (m : HeardMessage) (o : Option declared.DialogName) → option_map name_in o ≡ dialog_name m → o ≡ None
+    → (d : Directory) (token : List ℕ) (w : World) → Stands d token s w → None ≡ named_by m (calls_in d w).entries
+named_none s m o reads none d token w have =
+    ap (λ (n : Option DialogName). find_dialog n (calls_in d w).entries) (sym (ap (option_map name_in) none) ∙ reads)

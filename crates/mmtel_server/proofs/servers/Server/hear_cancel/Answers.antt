@@ -1,0 +1,28 @@
+use Rattle.std.proofs.Common.{Option, None, Some, sym, subst}
+use Rattle.std.specs.Prelude.{OnErr, OnOk}
+use Rattle.mmtel_run.specs.Answers.{Answer}
+use Rattle.mmtel_run.specs.World.{cancelling, replying}
+use Rattle.mmtel_transaction.specs.declared.words.TKey.{TKey}
+use Rattle.mmtel_server.proofs.Grows.{cancels, stops_on}
+use Rattle.mmtel_server.proofs.servers.Server.hear_cancel.Goals as goal
+use Rattle.mmtel_server.specs.Follows.{Breaks, Follows}
+
+pub returns-in-None-clause-done : goal.returns-in-None-clause-done
+returns-in-None-clause-done c =
+    subst (λ (o : Option TKey). OnOk c.replying.result (Follows c.args.self.now c.args.out.now c.replying.new.self c.replying.new.out (λ d token. cancelling d token c.args.at c.args.key c.args.cancel o))) (sym c.in-None.is)
+    (subst (λ (x : Answer). OnOk c.replying.result (Follows c.args.self.now c.args.out.now c.replying.new.self c.replying.new.out (λ d token. replying d token c.args.at c.args.key c.args.cancel x)))
+    c.plainly.ensures.answer c.replying.ensures.done)
+
+pub returns-in-None-clause-err : goal.returns-in-None-clause-err
+returns-in-None-clause-err c = stops_on c.replying.result (λ d token. cancelling d token c.args.at c.args.key c.args.cancel c.args.invite) c.args.self.now c.args.out.now c.replying.new.out
+    (λ d token w. cancels c.calls_draw_on.ensures.law d token c.args.at c.args.key c.args.cancel c.args.invite w) c.replying.ensures.err
+
+pub returns-in-Some-clause-done : goal.returns-in-Some-clause-done
+returns-in-Some-clause-done c =
+    subst (λ (o : Option TKey). OnOk c.cancel_invite.result (Follows c.args.self.now c.args.out.now c.cancel_invite.new.self c.cancel_invite.new.out (λ d token. cancelling d token c.args.at c.args.key c.args.cancel o)))
+    (sym c.in-Some.is) c.cancel_invite.ensures.done
+
+pub returns-in-Some-clause-err : goal.returns-in-Some-clause-err
+returns-in-Some-clause-err c =
+    subst (λ (o : Option TKey). OnErr c.cancel_invite.result (Breaks c.args.self.now c.args.out.now c.cancel_invite.new.out (λ d token. cancelling d token c.args.at c.args.key c.args.cancel o)))
+    (sym c.in-Some.is) c.cancel_invite.ensures.err

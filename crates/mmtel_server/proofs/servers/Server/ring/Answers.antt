@@ -1,0 +1,48 @@
+use Rattle.std.proofs.Common.{[], ◌∷◌, ℕ, sym, subst}
+use Rattle.std.proofs.lemmas.Result.{on_err_weaker, on_ok_weaker}
+use Rattle.mmtel_b2bua.specs.declared.signals.Signal.TheVariants as signal
+use Rattle.mmtel_outside.specs.declared.events.Offer.TheVariants as offer
+use Rattle.mmtel_run.specs.World.{rung, signalled}
+use Rattle.mmtel_transaction.specs.declared.words.Due.{Due}
+use Rattle.mmtel_server.proofs.Firing.{offers}
+use Rattle.mmtel_server.proofs.Grows.{stops}
+use Rattle.mmtel_server.proofs.Settling.{rings}
+use Rattle.mmtel_server.proofs.servers.Server.ring.Goals as goal
+use Rattle.mmtel_server.specs.Follows.{Breaks, Follows, IsBy}
+
+pub returns-in-Again-clause-done : goal.returns-in-Again-clause-done
+returns-in-Again-clause-done c = on_ok_weaker c.offer_to.result (λ is by.
+    subst (λ (x : Due). Follows c.args.self.now c.args.out.now c.args.self.now c.offer_to.new.out (λ d token. rung d token x)) (sym c.in-Again.is)
+    (offers c.args.self.now c.args.out.now c.offer_to.new.out (offer.To c.in-Again.peer c.in-Again.at c.in-Again.text ∷ []) is)) c.offer_to.ensures.done
+
+pub returns-in-Again-clause-err : goal.returns-in-Again-clause-err
+returns-in-Again-clause-err c = on_err_weaker c.offer_to.result (λ is by.
+    stops (λ d token. rung d token c.args.due) c.args.self.now c.args.out.now c.offer_to.new.out (λ d token w. rings d token c.calls_draw_on.ensures.law c.args.due w) is) c.offer_to.ensures.err
+
+pub returns-in-Silent-clause-done : goal.returns-in-Silent-clause-done
+returns-in-Silent-clause-done c = on_ok_weaker c.signal.result (λ follows by.
+    subst (λ (x : Due). Follows c.args.self.now c.args.out.now c.signal.new.self c.signal.new.out (λ d token. rung d token x)) (sym c.in-Silent.is)
+    (subst (λ (n : ℕ). Follows c.args.self.now c.args.out.now c.signal.new.self c.signal.new.out (λ d token. signalled d token n (signal.Silent c.in-Silent.branch c.in-Silent.method)))
+    (c.moment_by.ensures (subst (IsBy c.args.now) c.in-Silent.is by)) follows)) c.signal.ensures.done
+
+pub returns-in-Silent-clause-err : goal.returns-in-Silent-clause-err
+returns-in-Silent-clause-err c = on_err_weaker c.signal.result (λ breaks by.
+    subst (λ (x : Due). Breaks c.args.self.now c.args.out.now c.signal.new.out (λ d token. rung d token x)) (sym c.in-Silent.is)
+    (subst (λ (n : ℕ). Breaks c.args.self.now c.args.out.now c.signal.new.out (λ d token. signalled d token n (signal.Silent c.in-Silent.branch c.in-Silent.method)))
+    (c.moment_by.ensures (subst (IsBy c.args.now) c.in-Silent.is by)) breaks)) c.signal.ensures.err
+
+pub returns-in-Over-clause-done : goal.returns-in-Over-clause-done
+returns-in-Over-clause-done c = on_ok_weaker c.signal-in-Over.result (λ follows by.
+    subst (λ (x : Due). Follows c.args.self.now c.args.out.now c.signal-in-Over.new.self c.signal-in-Over.new.out (λ d token. rung d token x)) (sym c.in-Over.is)
+    (subst (λ (n : ℕ). Follows c.args.self.now c.args.out.now c.signal-in-Over.new.self c.signal-in-Over.new.out (λ d token. signalled d token n (signal.Over c.in-Over.key)))
+    (c.moment_by-in-Over.ensures (subst (IsBy c.args.now) c.in-Over.is by)) follows)) c.signal-in-Over.ensures.done
+
+pub returns-in-Over-clause-err : goal.returns-in-Over-clause-err
+returns-in-Over-clause-err c = on_err_weaker c.signal-in-Over.result (λ breaks by.
+    subst (λ (x : Due). Breaks c.args.self.now c.args.out.now c.signal-in-Over.new.out (λ d token. rung d token x)) (sym c.in-Over.is)
+    (subst (λ (n : ℕ). Breaks c.args.self.now c.args.out.now c.signal-in-Over.new.out (λ d token. signalled d token n (signal.Over c.in-Over.key)))
+    (c.moment_by-in-Over.ensures (subst (IsBy c.args.now) c.in-Over.is by)) breaks)) c.signal-in-Over.ensures.err
+
+pub returns-in-Nothing-clause-done : goal.returns-in-Nothing-clause-done
+returns-in-Nothing-clause-done c = λ by.
+    subst (λ (x : Due). Follows c.args.self.now c.args.out.now c.args.self.now c.args.out.now (λ d token. rung d token x)) (sym c.in-Nothing.is) (λ d token before w did short. did)

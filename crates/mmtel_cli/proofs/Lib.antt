@@ -1,3 +1,4 @@
+pub mod CleanWords
 pub mod Giving
 pub mod LineChecked
 pub mod LineRead

@@ -8,7 +8,7 @@ use Rattle.mmtel_scan.proofs.ChainLaws.{some_is}
 use Rattle.mmtel_scan.proofs.Runs.{and_true}
 use Rattle.mmtel_cli.proofs.LineRead.{reads_spelled, spelled_read}
 use Rattle.mmtel_cli.proofs.WordLaws.{equal}
-use Rattle.mmtel_cli.specs.CommandLine.{Piece, Word, Apart, Joined, spelling, EachMayStand, word_in, mark_words, behind_mark, Command, Serve, Replay, Check, Charges, Workload, IsCommand, IsReplay, IsCheck, IsHere, SpellsNone}
+use Rattle.mmtel_cli.specs.CommandLine.{Piece, Word, Apart, Joined, spelling, EachMayStand, word_in, mark_words, behind_mark, Command, Serve, Replay, Check, Charges, Workload, IsCommand, IsCheck, IsHere, SpellsNone}
 use Rattle.mmtel_cli.specs.Commands.{command_from, command_of}
 use Rattle.mmtel_cli.specs.Words.{Asked, is_positional, only_word, replay_of, records_of}
 

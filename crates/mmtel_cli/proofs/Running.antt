@@ -1,16 +1,21 @@
 -- A run, by what the files and the keeper gave.
-use Rattle.std.proofs.Common.{◌≡◌, ◌↔◌, ◌⊎◌, ◌∙◌, true, false, ℕ, List, refl, subst, sym, inl, inr, nat_eq, codes, Option, Some, None, Result, Ok, Err, IfSome}
+use Rattle.std.proofs.Common.{◌≡◌, true, ◌↔◌, ◌⊎◌, ◌∙◌, ℕ, List, refl, subst, sym, inl, inr, nat_eq, codes, Option, Some, None, Result, Ok, Err, IfSome}
 use Rattle.std.proofs.lemmas.Bool.{cases_Bool, eqb-true, eqb-false}
+use Rattle.std.specs.Prelude.{IfOk}
 use Rattle.mmtel_directory.specs.Directory.{directory_of}
 use Rattle.mmtel_directory.specs.declared.directories.Directory.{Directory}
 use Rattle.mmtel_outside.specs.Shelf.{Shelf, called}
 use Rattle.mmtel_outside.specs.declared.events.Event.{Event}
+use Rattle.mmtel_run_laws.specs.Clean.{HomesAreClean, RunsSendCleanMessages}
+use Rattle.mmtel_run_laws.specs.Outcome.{CallsOfRunsComeToOutcome}
+use Rattle.mmtel_run_secret.specs.Headline.{ConfigurationsAreRead}
 use Rattle.mmtel_script.specs.Script.{events_of}
 use Rattle.mmtel_uploads.specs.Uploads.{upload_of}
 use Rattle.mmtel_uploads.specs.declared.uploads.Upload.{Upload}
 use Rattle.mmtel_uploads.specs.declared.uploads.Upload.TheVariants as upload
+use Rattle.mmtel_cli.proofs.CleanWords.{Suits, directory_suits, token_clean}
 use Rattle.mmtel_cli.proofs.LineChecked.{none_spelled, reads_command, spelled_command}
-use Rattle.mmtel_cli.specs.CommandLine.{Command, Serve, Replay, Check, Charges, Workload, IsReplay, IsCheck, SpellsNone}
+use Rattle.mmtel_cli.specs.CommandLine.{Command, Serve, Replay, Check, Charges, Workload, IsReplay, IsCheck}
 use Rattle.mmtel_cli.specs.Commands.{command_of}
 use Rattle.mmtel_cli.specs.Due as due
 use Rattle.mmtel_cli.specs.Due.{due_of_events, due_of_script, due_of_directory, due_of_config, due_of_upload, due_of_records, shelf_of_config, shelf_after}
@@ -21,13 +26,13 @@ use Rattle.mmtel_cli.specs.Keeping.{IsNotLoaded, IsSpared, KeeperSeen}
 use Rattle.mmtel_cli.specs.Listings.{Lists}
 use Rattle.mmtel_cli.specs.Runs.{WroteMemory, WroteLine, WroteFile, WroteKeeper, WroteFault, Listed, Replayed, Checked, Ran, Called, CalledFor}
 use Rattle.mmtel_cli.specs.Runs.{EndsOfEvents, EndsOfScript, EndsOfDirectory, EndsOfConfig, EndsOfUpload, EndsOfRecords}
-use Rattle.mmtel_cli.specs.Words.{Asked}
+use Rattle.mmtel_cli.specs.Words.{Asked, is_token}
 use Rattle.mmtel_cli.specs.declared.reports.Report.{Report}
 use Rattle.mmtel_cli.specs.declared.reports.Report.TheVariants.{Usage, Line, File, Keeper, Memory, Listing, Sound, Unsound}
 
 -- ---- what was written, where it is known what is due
 
-module _ (keeper later : KeeperSeen) (status : ℕ) (before after : Option (List ℕ)) (faults now : ℕ) where
+module _ (outcomes : CallsOfRunsComeToOutcome) (sends : RunsSendCleanMessages) (homes : HomesAreClean) (reads : ConfigurationsAreRead) (keeper later : KeeperSeen) (status : ℕ) (before after : Option (List ℕ)) (faults now : ℕ) where
   abbrev EndsSo : Report → Type 0
   EndsSo outcome = Ends outcome status before after faults now
 
@@ -82,55 +87,58 @@ module _ (keeper later : KeeperSeen) (status : ℕ) (before after : Option (List
       let P : List ℕ → Type 0 = λ l. WroteFault l status before after faults now in
       inl (subst P same ends)
 
-  listed_by : (directory : Directory) (token : List ℕ) (events : List Event) (text : List ℕ)
+  listed_by : (directory : Directory) (token : List ℕ) (events : List Event) (text : List ℕ) → Suits directory → is_token token ≡ true
       → Lists directory token events keeper later text → WroteListing text status before after faults now
       → Listed directory token events keeper later status before after faults now
-  listed_by directory token events text lists wrote = record {
+  listed_by directory token events text suits right lists wrote = record {
     loaded = lists.loaded;
     opening = lists.opening;
     opened = lists.opened;
     offers = lists.lists.offers;
     run = lists.lists.run;
+    outcome = λ short. outcomes directory token lists.loaded lists.lists.run.happened short;
+    clean = λ short. sends directory token lists.loaded lists.lists.run.happened suits.home (token_clean token right) short;
+    branches = suits.branches token right;
     written = let P : List ℕ → Type 0 = λ t. WroteListing t status before after faults now in subst P lists.lists.listing wrote;
   }
 
-  written_listing : (directory : Directory) (token : List ℕ) (events : List Event) (outcome : Report) → IsDue keeper later outcome (due.Run directory token events) → EndsSo outcome
+  written_listing : (directory : Directory) (token : List ℕ) (events : List Event) (outcome : Report) → Suits directory → is_token token ≡ true → IsDue keeper later outcome (due.Run directory token events) → EndsSo outcome
       → (Listed directory token events keeper later status before after faults now
       ⊎ (IsNotLoaded directory.store keeper later × WroteKeeper status before after faults now)) ⊎ OutOfMemory
-  written_listing directory token events Usage is ends = absurd (let wrong : due.Run directory token events ≡ due.Usage = is in cc)
-  written_listing directory token events (Line n) is ends = absurd (let wrong : due.Run directory token events ≡ due.Line n = is in cc)
-  written_listing directory token events File is ends = absurd (let wrong : due.Run directory token events ≡ due.File = is in cc)
-  written_listing directory token events Keeper is ends = inl (inr (is, ends))
-  written_listing directory token events Memory is ends = inr ends
-  written_listing directory token events (Listing text) is ends = inl (inl (listed_by directory token events text is ends))
-  written_listing directory token events Sound is ends = absurd (let wrong : due.Run directory token events ≡ due.Sound = is in cc)
-  written_listing directory token events (Unsound other) is ends = absurd (let wrong : due.Run directory token events ≡ due.Unsound other = is in cc)
+  written_listing directory token events Usage suits right is ends = absurd (let wrong : due.Run directory token events ≡ due.Usage = is in cc)
+  written_listing directory token events (Line n) suits right is ends = absurd (let wrong : due.Run directory token events ≡ due.Line n = is in cc)
+  written_listing directory token events File suits right is ends = absurd (let wrong : due.Run directory token events ≡ due.File = is in cc)
+  written_listing directory token events Keeper suits right is ends = inl (inr (is, ends))
+  written_listing directory token events Memory suits right is ends = inr ends
+  written_listing directory token events (Listing text) suits right is ends = inl (inl (listed_by directory token events text suits right is ends))
+  written_listing directory token events Sound suits right is ends = absurd (let wrong : due.Run directory token events ≡ due.Sound = is in cc)
+  written_listing directory token events (Unsound other) suits right is ends = absurd (let wrong : due.Run directory token events ≡ due.Unsound other = is in cc)
 
   -- ---- stage by stage
 
-  ends_of_events : (directory : Directory) (token : List ℕ) (events : Result (List Event) ℕ) (outcome : Report) → IsDue keeper later outcome (due_of_events directory token events)
+  ends_of_events : (directory : Directory) (token : List ℕ) (events : Result (List Event) ℕ) (outcome : Report) → Suits directory → is_token token ≡ true → IsDue keeper later outcome (due_of_events directory token events)
       → EndsSo outcome
       → EndsOfEvents directory token events keeper later status before after faults now ⊎ OutOfMemory
-  ends_of_events directory token (Ok events) outcome due ends = written_listing directory token events outcome due ends
-  ends_of_events directory token (Err line) outcome due ends = written_line outcome line due ends
+  ends_of_events directory token (Ok events) outcome suits right due ends = written_listing directory token events outcome suits right due ends
+  ends_of_events directory token (Err line) outcome suits right due ends = written_line outcome line due ends
 
-  ends_of_script : (directory : Directory) (token : List ℕ) (script : Option (List ℕ)) (outcome : Report) → IsDue keeper later outcome (due_of_script directory token script)
+  ends_of_script : (directory : Directory) (token : List ℕ) (script : Option (List ℕ)) (outcome : Report) → Suits directory → is_token token ≡ true → IsDue keeper later outcome (due_of_script directory token script)
       → EndsSo outcome
       → EndsOfScript directory token script keeper later status before after faults now ⊎ OutOfMemory
-  ends_of_script directory token None outcome due ends = written_file outcome due ends
-  ends_of_script directory token (Some script) outcome due ends = ends_of_events directory token (events_of directory.peers.known script) outcome due ends
+  ends_of_script directory token None outcome suits right due ends = written_file outcome due ends
+  ends_of_script directory token (Some script) outcome suits right due ends = ends_of_events directory token (events_of directory.peers.known script) outcome suits right due ends
 
-  ends_of_directory : (directory : Result Directory ℕ) (token : List ℕ) (script : Option (List ℕ)) (outcome : Report)
+  ends_of_directory : (directory : Result Directory ℕ) (token : List ℕ) (script : Option (List ℕ)) (outcome : Report) → IfOk directory Suits → is_token token ≡ true
       → IsDue keeper later outcome (due_of_directory directory token script) → EndsSo outcome
       → EndsOfDirectory directory token script keeper later status before after faults now ⊎ OutOfMemory
-  ends_of_directory (Ok directory) token script outcome due ends = ends_of_script directory token script outcome due ends
-  ends_of_directory (Err line) token script outcome due ends = written_line outcome line due ends
+  ends_of_directory (Ok directory) token script outcome suits right due ends = ends_of_script directory token script outcome suits right due ends
+  ends_of_directory (Err line) token script outcome suits right due ends = written_line outcome line due ends
 
-  ends_of_config : (config : Option (List ℕ)) (token : List ℕ) (script : Option (List ℕ)) (outcome : Report) → IsDue keeper later outcome (due_of_config config token script)
+  ends_of_config : (config : Option (List ℕ)) (token : List ℕ) (script : Option (List ℕ)) (outcome : Report) → is_token token ≡ true → IsDue keeper later outcome (due_of_config config token script)
       → EndsSo outcome
       → EndsOfConfig config token script keeper later status before after faults now ⊎ OutOfMemory
-  ends_of_config None token script outcome due ends = written_file outcome due ends
-  ends_of_config (Some config) token script outcome due ends = ends_of_directory (directory_of config) token script outcome due ends
+  ends_of_config None token script outcome right due ends = written_file outcome due ends
+  ends_of_config (Some config) token script outcome right due ends = ends_of_directory (directory_of config) token script outcome (directory_suits homes reads config) right due ends
 
   -- ---- a check
 
@@ -162,7 +170,7 @@ module _ (keeper later : KeeperSeen) (status : ℕ) (before after : Option (List
     asked = asked;
     spelled = spelled;
     answers = record { config = gives.config; script = gives.script; told_config = gives.told_config; told_script = gives.told_script };
-    ends = ends_of_config gives.config asked.token gives.script outcome gives.is_due ends;
+    ends = ends_of_config gives.config asked.token gives.script outcome spelled.0 gives.is_due ends;
   }
 
   ran_command : (told : Option Shelf) (words : List (List ℕ)) (command : Option Command) (outcome : Report)

@@ -15,13 +15,13 @@ use Rattle.mmtel_uploads.specs.declared.uploads.Upload.{Upload}
 use Rattle.mmtel_uploads.specs.declared.uploads.Upload.TheVariants as upload
 use Rattle.mmtel_cli.proofs.LineChecked.{check_is_no_replay, reads_checked}
 use Rattle.mmtel_cli.proofs.LineRead.{reads_spelled}
-use Rattle.mmtel_cli.specs.CommandLine.{Command, Replay, Check, IsHere, IsReplay, IsCheck, SpellsNone}
+use Rattle.mmtel_cli.specs.CommandLine.{Replay, Check, IsReplay, IsCheck}
 use Rattle.mmtel_cli.specs.Ends.{WroteListing}
 use Rattle.mmtel_cli.specs.Keeping.{IsNotLoaded, IsOpened, KeeperSeen, refuses}
 use Rattle.mmtel_cli.specs.Runs.{Listed, WroteMemory, Replayed, Checked, Ran}
 use Rattle.mmtel_cli.specs.Runs.{EndsOfEvents, EndsOfScript, EndsOfDirectory, EndsOfConfig, EndsOfUpload, EndsOfRecords}
 use Rattle.mmtel_cli.specs.Sayings.{IsGood, IsWilling, GoodOnesAreListed, GoodOnesSucceed, GoodOnesWantAKeeper}
-use Rattle.mmtel_cli.specs.Sayings.{IsThere, ChecksAreTold, ListsOne, ChecksOne, RefusesOne, ZeroIsListed, OneIsUsage, ThreeIsRefused, SixRose, SevenRose, ZeroKept, StatusesAreThese, NoFaultNoFailure}
+use Rattle.mmtel_cli.specs.Sayings.{ChecksAreTold, ChecksOne, RefusesOne, ZeroIsListed, OneIsUsage, ThreeIsRefused, SixRose, SevenRose, ZeroKept, StatusesAreThese, NoFaultNoFailure}
 use Rattle.mmtel_cli.specs.Words.{Asked, replay_of, records_of}
 
 -- ---- the words spell one command at most
@@ -258,7 +258,7 @@ module _ (asked : Asked) (keeper later : KeeperSeen) (status : ℕ) (before afte
   ending_listed : (directory : Directory) (events : List Event) → Listed directory asked.token events keeper later status before after faults now → EndsReplay
   ending_listed directory events l =
       ending_written AtZero ⊥ AtSix status faults now (listing_of l.offers) before after
-      (λ w. (directory, events, record { loaded = l.loaded; opening = l.opening; opened = l.opened; offers = l.offers; run = l.run; written = w })) l.written
+      (λ w. (directory, events, record { loaded = l.loaded; opening = l.opening; opened = l.opened; offers = l.offers; run = l.run; branches = l.branches; outcome = l.outcome; clean = l.clean; written = w })) l.written
 
   ending_events : (directory : Directory) (events : Result (List Event) ℕ) → EndsOfEvents directory asked.token events keeper later status before after faults now → EndsReplay
   ending_events directory (Ok events) (inl e) = ending_listed directory events e

@@ -1,5 +1,5 @@
 -- A run over a script: all of its events are heard, and what was read of a web connection says as much as all of it.
-use Rattle.std.proofs.Common.{◌≡◌, ◌≤◌, ◌⊎◌, ℕ, Bool, true, false, List, [], ◌∷◌, ◌++◌, length, slice_get, drop, refl, sym, ap, ◌∙◌, subst, inl, inr, Option, Some, None, Ok, arith}
+use Rattle.std.proofs.Common.{◌≡◌, ◌≤◌, ◌-◌, ◌^◌, min, ℕ, Bool, true, false, List, [], ◌∷◌, ◌++◌, length, slice_get, drop, refl, sym, ap, ◌∙◌, subst, inl, inr, Option, Some, None, Ok, arith}
 use Rattle.std.specs.Option.{option_map, option_to_list}
 use Rattle.mmtel_charging.specs.declared.rows.Row.{Row}
 use Rattle.mmtel_directory.specs.declared.directories.Directory.{Directory}
@@ -13,23 +13,24 @@ use Rattle.mmtel_outside.specs.Counts.{Rose}
 use Rattle.mmtel_outside.specs.declared.events.Event.{Event}
 use Rattle.mmtel_outside.specs.declared.events.Event.TheVariants as event
 use Rattle.mmtel_outside.specs.declared.events.Offer.{Offer}
-use Rattle.mmtel_run.specs.Events.{Asked, Digest, Happened, Heard, Nothing, Refused, digest, digest_event, digests, events_in, moment_of}
-use Rattle.mmtel_run.specs.Headline.{Gives, SeesAlike}
+use Rattle.mmtel_run.specs.Events.{Asked, Digest, Happened, Heard, Nothing, Notice, Refused, digest, digest_event, events_in, moment_of, notice_of, notices}
+use Rattle.mmtel_run.specs.Headline.{Gives}
 use Rattle.mmtel_run.specs.InForce.{upload_at, uploads_of}
-use Rattle.mmtel_run.specs.Mask.{mask_all}
-use Rattle.mmtel_run.specs.Run.{IsEnoughAfter, after, gives_of}
+use Rattle.mmtel_run.specs.Run.{IsEnough, IsEnoughAfter, after, world_after}
 use Rattle.mmtel_run.specs.Short.{IsShort, IsShortRun}
-use Rattle.mmtel_run.specs.World.{beginning}
+use Rattle.mmtel_run.specs.World.{World, beginning, rows_waiting}
+use Rattle.mmtel_run_secret.specs.Headline.{OffersKeepTheSecret}
 use Rattle.mmtel_script.specs.Script.{unheard}
-use Rattle.mmtel_server.specs.Driven.{Driven, EachAnswers, EachCounted, EachRead, EndsAfter, HeardMore, to_come, with_uploads}
+use Rattle.mmtel_server.specs.Driven.{Driven, EachAnswers, EachCounted, EachRead, EndsAfter, HeardMore, to_come, with_all}
+use Rattle.mmtel_server.specs.Handed.{Handed, HandedCounted, RowsCharged, took_last}
 use Rattle.mmtel_server.specs.Laws.{EachReadOut, IsEventReadOut, ReadOutSaysAll, UnfailedAreReadOut}
 use Rattle.mmtel_server.specs.Stands.{Went}
 use Rattle.mmtel_server.specs.Stepped.{call_of}
 use Rattle.mmtel_server.specs.declared.servers.Server.{Server}
-use Rattle.mmtel_serving.specs.Calls.{Answers, Call, MayBeCalled, Stored, Told, WasCalled, asks, none, stores}
+use Rattle.mmtel_serving.specs.Calls.{Answers, Call, Counted, MayBeCalled, WasCalled, asks, none, stores}
 use Rattle.mmtel_types.specs.declared.numbers.Account.{Account}
 use Rattle.mmtel_web.specs.Answers.{Kept, failed, made, no_memory}
-use Rattle.mmtel_cli.specs.Keeping.{IsBoundStill, KeeperSeen, seen}
+use Rattle.mmtel_cli.specs.Keeping.{IsBoundStill, seen}
 use Rattle.mmtel_cli.specs.Listings.{OffersRun}
 
 -- ---- events of which only so much was read
@@ -65,17 +66,11 @@ module _ (all : ReadOutSaysAll) (d : Directory) where
 
 -- ---- what happened, with whole events
 
-abbrev read_with : ℕ → Digest → ℕ × Digest
-read_with m x = (m, x)
-
-abbrev read_of : Directory → Happened → ℕ × Digest
-read_of d one = (moment_of one.event, digest d one)
-
 -- what happened with these whole events says and does the same
 record WholeOf (d : Directory) (events : List Event) (happened : List Happened) : Type 0 where
   whole : List Happened
   heard : events_in whole ≡ events
-  read : digests d whole ≡ digests d happened
+  read : notices d whole ≡ notices d happened
   uploads : uploads_of d.names whole ≡ uploads_of d.names happened
   counted : (faults count : ℕ) → EachCounted happened faults count → EachCounted whole faults count
   asked : (held left : Option Held) (calls since : Option KeeperCalls) → EachAnswers d.names happened held left calls since → EachAnswers d.names whole held left calls since
@@ -83,11 +78,15 @@ record WholeOf (d : Directory) (events : List Event) (happened : List Happened) 
 whole_none : (d : Directory) → WholeOf d [] []
 whole_none d = record { whole = []; heard = refl; read = refl; uploads = refl; counted = λ faults. λ count. λ e. e; asked = λ held. λ left. λ calls. λ since. λ e. e }
 
+-- a notice of so much
+abbrev noticing : (at : ℕ) → Digest → (took : Bool) → Notice
+noticing at said took = record { at = at; digest = said; took = took }
+
 module _ (all : ReadOutSaysAll) (d : Directory) where
   whole_more : (n : ℕ) (e : Event) (events : List Event) (one : Happened) (happened : List Happened) → one.event ≡ cut n e → IsEventReadOut n e → WholeOf d events happened
       → WholeOf d (e ∷ events) (one ∷ happened)
   whole_more n e events one happened is read rest =
-      let this : Happened = record { event = e; kept = one.kept; rows = one.rows } in
+      let this : Happened = record { event = e; kept = one.kept; rows = one.rows; took = one.took } in
       let moment : moment_of e ≡ moment_of one.event = sym (moment_cut n e) ∙ ap moment_of (sym is) in
       let said : digest d this ≡ digest d one = sym (digest_cut all d n e one.kept one.rows read) ∙ ap (λ (x : Event). digest_event d x one.kept one.rows) (sym is) in
       let put : upload_at d.names e one.kept ≡ upload_at d.names one.event one.kept =
@@ -97,17 +96,20 @@ module _ (all : ReadOutSaysAll) (d : Directory) where
         whole = this ∷ rest.whole;
         heard = ap (λ (l : List Event). e ∷ l) rest.heard;
         read =
-            ap (λ (m : ℕ). read_with m (digest d this) ∷ digests d rest.whole) moment
-            ∙ (ap (λ (x : Digest). read_with (moment_of one.event) x ∷ digests d rest.whole) said ∙ ap (λ (l : List (ℕ × Digest)). read_of d one ∷ l) rest.read);
+            ap (λ (m : ℕ). noticing m (digest d this) one.took ∷ notices d rest.whole) moment
+            ∙ (ap (λ (x : Digest). noticing (moment_of one.event) x one.took ∷ notices d rest.whole) said ∙ ap (λ (l : List Notice). notice_of d one ∷ l) rest.read);
         uploads =
             ap (λ (u : Option (Account × List ℕ)). option_to_list u ++ uploads_of d.names rest.whole) put
             ∙ ap (λ (l : Texts). option_to_list (upload_at d.names one.event one.kept) ++ l) rest.uploads;
-        counted = λ faults. λ count. λ e. (e.0, e.1, rest.counted e.0 count e.2);
+        counted = λ faults. λ count. λ e. (e.0, e.1, e.2, (e.3.0, rest.counted e.1 count e.3.1));
         asked = λ held. λ left. λ calls. λ since. λ e. (
           e.0,
           e.1,
-          subst (λ (c : Call). Answers c one.kept one.rows held e.0 calls e.1) call e.2,
-          rest.asked e.0 left e.1 since e.3,
+          e.2,
+          e.3,
+          e.4,
+          subst (λ (c : Call). Answers c one.kept one.rows held e.0 calls e.2) call e.5,
+          (e.6.0, rest.asked e.1 left e.3 since e.6.1),
         );
       }
 
@@ -123,26 +125,93 @@ module _ (all : ReadOutSaysAll) (d : Directory) where
       let rest : events_in happened ≡ heard_of events reads = cc in
       whole_more n e events one happened first read.0 (whole_of events reads happened rest (omega (arith, long)) read.1)
 
--- ---- runs of equal digests
+-- ---- runs of which the same is noticed
 
--- what is true of a run by what is read of it alone
-abbrev IsShortBy : Directory → List ℕ → Texts → List (ℕ × Digest) → Type 0
+-- what is true of a run by what is noticed of it alone
+abbrev IsShortBy : Directory → List ℕ → Texts → List Notice → Type 0
 IsShortBy d token loaded xs = (fuel : ℕ) → IsEnoughAfter d token fuel xs (beginning loaded) → IsShort (after d token fuel xs (beginning loaded))
 
-module _ (d : Directory) (token : List ℕ) (loaded : Texts) (es xs : List Happened) (same : digests d es ≡ digests d xs) where
+abbrev took_by : List Notice → Bool
+took_by [] = false
+took_by (one ∷ []) = one.took
+took_by (one ∷ other ∷ xs) = took_by (other ∷ xs)
+
+took_noticed : (d : Directory) (happened : List Happened) → took_last happened ≡ took_by (notices d happened)
+took_noticed d [] = refl
+took_noticed d (one ∷ []) = refl
+took_noticed d (one ∷ other ∷ happened) = took_noticed d (other ∷ happened)
+
+module _ (d : Directory) (token : List ℕ) (loaded : Texts) (es xs : List Happened) (same : notices d es ≡ notices d xs) where
+  enough_same : (fuel : ℕ) → IsEnough d token loaded fuel xs → IsEnough d token loaded fuel es
+  enough_same fuel enough = subst (λ (l : List Notice). IsEnoughAfter d token fuel l (beginning loaded)) (sym same) enough
+
+  world_same : (fuel : ℕ) → world_after d token loaded fuel es ≡ world_after d token loaded fuel xs
+  world_same fuel = ap (λ (l : List Notice). after d token fuel l (beginning loaded)) same
+
   short_same : IsShortRun d token loaded xs → IsShortRun d token loaded es
-  short_same short = subst (λ (l : List (ℕ × Digest)). IsShortBy d token loaded l) (sym same) short
+  short_same short = subst (λ (l : List Notice). IsShortBy d token loaded l) (sym same) short
 
   gives_same : (out : List Offer) → Gives d token loaded es out → Gives d token loaded xs out
   gives_same out given = record {
     fuel = given.fuel;
-    enough = subst (λ (l : List (ℕ × Digest)). IsEnoughAfter d token given.fuel l (beginning loaded)) same given.enough;
-    exact = given.exact ∙ ap (gives_of d token loaded given.fuel) same;
+    enough = subst (λ (l : List Notice). IsEnoughAfter d token given.fuel l (beginning loaded)) same given.enough;
+    exact = given.exact ∙ ap (λ (w : World). w.offers) (world_same given.fuel);
   }
 
-  sees_same : (out : List Offer) → SeesAlike d token loaded es out → SeesAlike d token loaded xs out
-  sees_same out sees other run others seer equal strange masks =
-      sees other run others seer equal strange (ap (mask_all d) same ∙ masks)
+  charged_same : (fuel : ℕ) → RowsCharged d (world_after d token loaded fuel es) es → RowsCharged d (world_after d token loaded fuel xs) xs
+  charged_same fuel charged =
+      let took : took_last xs ≡ took_last es = took_noticed d xs ∙ (ap took_by (sym same) ∙ sym (took_noticed d es)) in
+      let here : RowsCharged d (world_after d token loaded fuel es) xs = record { all = charged.all; none = λ taken. charged.none (sym took ∙ taken) } in
+      subst (λ (w : World). RowsCharged d w xs) (world_same fuel) here
+
+-- ---- the count of the keeper's faults
+
+-- it does not fall below what a count can hold
+abbrev StandsAtLeast : ℕ → ℕ → Type 0
+StandsAtLeast before now = min before (2 ^ 64 - 1) ≤ now
+
+stands_then : (one other last : ℕ) → StandsAtLeast one other → StandsAtLeast other last → StandsAtLeast one last
+stands_then one other last a b = omega (arith, a, b)
+
+asked_stands : (kept : Kept) (before now : ℕ) → Counted kept before now → StandsAtLeast before now
+asked_stands made before now is = omega (arith, is)
+asked_stands failed before now rose = omega (arith, rose)
+asked_stands no_memory before now is = omega (arith, is)
+
+handed_stands : (took : Bool) (before now : ℕ) → HandedCounted took before now → StandsAtLeast before now
+handed_stands true before now is = omega (arith, is)
+handed_stands false before now rose = omega (arith, rose)
+
+count_stands : (happened : List Happened) (faults count : ℕ) → EachCounted happened faults count → StandsAtLeast faults count
+count_stands [] faults count e = omega (arith, e)
+count_stands (one ∷ happened) faults count e =
+    stands_then faults e.0 count (asked_stands one.kept faults e.0 e.2)
+    (stands_then e.0 e.1 count (handed_stands one.took e.0 e.1 e.3.0) (count_stands happened e.1 count e.3.1))
+
+-- what rose in between rose
+rose_between : (faults asked between count : ℕ) → StandsAtLeast faults asked → Rose asked between → StandsAtLeast between count → Rose faults count
+rose_between faults asked between count a rose b = omega (arith, a, rose, b)
+
+rose_behind : (faults between count : ℕ) → StandsAtLeast faults between → Rose between count → Rose faults count
+rose_behind faults between count a rose = omega (arith, a, rose)
+
+-- where it did not rise, the rows were taken
+took_unless : (took : Bool) (faults asked between count : ℕ) → StandsAtLeast faults asked → HandedCounted took asked between → StandsAtLeast between count → (Rose faults count → ⊥) → took ≡ true
+took_unless true faults asked between count a handed b kept = refl
+took_unless false faults asked between count a rose b kept = absurd (kept (rose_between faults asked between count a rose b))
+
+took_where_kept : (one : Happened) (happened : List Happened) (faults count : ℕ) → EachCounted (one ∷ happened) faults count → (Rose faults count → ⊥) → took_last (one ∷ happened) ≡ true
+took_where_kept one [] faults count e kept =
+    took_unless one.took faults e.0 e.1 count (asked_stands one.kept faults e.0 e.2) e.3.0 (count_stands [] e.1 count e.3.1) kept
+took_where_kept one (other ∷ happened) faults count e kept =
+    let before = stands_then faults e.0 e.1 (asked_stands one.kept faults e.0 e.2) (handed_stands one.took e.0 e.1 e.3.0) in
+    took_where_kept other happened e.1 count e.3.1 (λ (rose : Rose e.1 count). kept (rose_behind faults e.1 count before rose))
+
+-- none waits then
+none_waits : (d : Directory) (token : List ℕ) (loaded : Texts) (fuel : ℕ) (happened : List Happened) (faults count : ℕ) → EachCounted happened faults count
+    → RowsCharged d (world_after d token loaded fuel happened) happened → (Rose faults count → ⊥) → rows_waiting d (world_after d token loaded fuel happened) ≡ []
+none_waits d token loaded fuel [] faults count e charged kept = refl
+none_waits d token loaded fuel (one ∷ happened) faults count e charged kept = charged.none (took_where_kept one happened faults count e kept)
 
 -- ---- the path of the keeper
 
@@ -164,11 +233,17 @@ answer_still asks made rows held left calls since a = called_still false calls s
 answer_still asks failed rows held left calls since a = called_still true calls since a.1
 answer_still asks no_memory rows held left calls since a = maybe_still calls since a.1
 
+handed_still : (took : Bool) (waiting : List Row) (held left : Option Held) (calls since : Option KeeperCalls) → Handed took waiting held left calls since → IsBoundStill calls since
+handed_still took [] held left calls since h = rw h.1.1 refl
+handed_still true (row ∷ rows) held left calls since h = called_still false calls since h.1
+handed_still false (row ∷ rows) held left calls since h = called_still true calls since h.1
+
 bound_still : (names : WebDirectory) (happened : List Happened) (held left : Option Held) (calls since : Option KeeperCalls) → EachAnswers names happened held left calls since
     → IsBoundStill calls since
 bound_still names [] held left calls since e = rw e.1 refl
 bound_still names (one ∷ happened) held left calls since e =
-    bound_still names happened e.0 left e.1 since e.3 ∙ answer_still (call_of names one.event) one.kept one.rows held e.0 calls e.1 e.2
+    bound_still names happened e.1 left e.3 since e.6.1
+    ∙ (handed_still one.took e.4 e.0 e.1 e.2 e.3 e.6.0 ∙ answer_still (call_of names one.event) one.kept one.rows held e.0 calls e.2 e.5)
 
 -- ---- the run of a script
 
@@ -215,7 +290,20 @@ given_by : (d : Directory) (token : List ℕ) (loaded : Texts) (happened : List 
     → Went d token loaded happened [] server out → Gives d token loaded happened out
 given_by d token loaded happened server out went = record { fuel = went.fuel; enough = went.enough; exact = went.did.offered }
 
-module _ (unfailed : UnfailedAreReadOut) (all : ReadOutSaysAll) (d : Directory) (token : List ℕ) (loaded : Texts) where
+-- what the keeper holds behind the beginning of a run
+abbrev Holds : Directory → List ℕ → Texts → ℕ → List Happened → (held left : Option Held) → Type 0
+Holds d token loaded fuel happened held left =
+    (rows : List Row) × ((world_after d token loaded fuel happened).filed ≡ rows) × (left ≡ option_map (with_all (uploads_of d.names happened) rows) held)
+
+holds_whole : (d : Directory) (token : List ℕ) (loaded : Texts) (fuel : ℕ) (es xs : List Happened) → notices d es ≡ notices d xs → uploads_of d.names es ≡ uploads_of d.names xs
+    → (held left : Option Held) → Holds d token loaded fuel es held left
+    → left ≡ option_map (with_all (uploads_of d.names xs) (world_after d token loaded fuel xs).filed) held
+holds_whole d token loaded fuel es xs same uploads held left h =
+    let filed : h.0 ≡ (world_after d token loaded fuel xs).filed = sym h.1 ∙ ap (λ (w : World). w.filed) (world_same d token loaded es xs same fuel) in
+    h.2
+    ∙ (ap (λ (u : Texts). option_map (with_all u h.0) held) uploads ∙ ap (λ (rows : List Row). option_map (with_all (uploads_of d.names xs) rows) held) filed)
+
+module _ (unfailed : UnfailedAreReadOut) (all : ReadOutSaysAll) (keeps : OffersKeepTheSecret) (d : Directory) (token : List ℕ) (loaded : Texts) where
   pub offers_run : (ear : Ear) (later : Option Ear) (held left : Option Held) (calls since : Option KeeperCalls) (faults count turns : ℕ)
       (old : Server) (out : List Offer) (new : Server) (now : List Offer) (closed : Bool)
       → Driven (Some ear) later 0 0 held left calls since faults count turns old out new now (Ok closed)
@@ -231,14 +319,22 @@ module _ (unfailed : UnfailedAreReadOut) (all : ReadOutSaysAll) (d : Directory) 
       let few : IsShortRun d token loaded w.whole → IsShortRun d token loaded driven.happened = short_same d token loaded driven.happened w.whole (sym w.read) in
       let answers : IsShortRun d token loaded w.whole
       → EachAnswers d.names w.whole held left calls since = λ short. w.asked held left calls since (driven.keeper.answers d token loaded [] [] went (few short)) in
+      let exact : IsShortRun d token loaded w.whole → Gives d token loaded w.whole now = λ short.
+      gives_same d token loaded driven.happened w.whole (sym w.read) now (given_by d token loaded driven.happened new now (driven.did d token loaded [] [] went (few short))) in
+      let count_whole : EachCounted w.whole faults count = w.counted faults count driven.keeper.counted in
       record {
         happened = w.whole;
         heard = w.heard;
-        counted = w.counted faults count driven.keeper.counted;
-        exact = λ short. gives_same d token loaded driven.happened w.whole (sym w.read) now
-            (given_by d token loaded driven.happened new now (driven.did d token loaded [] [] went (few short)));
-        secret = λ short. sees_same d token loaded driven.happened w.whole (sym w.read) now (driven.kept d token loaded [] went (few short));
+        counted = count_whole;
+        exact = exact;
+        secret = λ short. keeps d token loaded w.whole now (exact short);
         asked = answers;
         bound = λ short. bound_still d.names w.whole held left calls since (answers short);
-        held = λ short. driven.keeper.sheets d token loaded [] [] went (few short) ∙ ap (λ (u : Texts). option_map (with_uploads u) held) (sym w.uploads);
+        held = λ short. λ fuel. λ enough.
+            holds_whole d token loaded fuel driven.happened w.whole (sym w.read) (sym w.uploads) held left
+            (driven.keeper.sheets d token loaded [] [] fuel (enough_same d token loaded driven.happened w.whole (sym w.read) fuel enough) went (few short));
+        charged = λ short. λ fuel. λ enough.
+            let charged = charged_same d token loaded driven.happened w.whole (sym w.read) fuel
+            (driven.charged d token loaded [] [] fuel went (few short) (enough_same d token loaded driven.happened w.whole (sym w.read) fuel enough)) in
+            record { rows = charged; taken = none_waits d token loaded fuel w.whole faults count count_whole charged };
       }

@@ -1,6 +1,5 @@
 -- Which command the words ask for, read from the left.
 use Rattle.std.specs.Prelude.{ℕ, List, Option, Some, None}
-use Rattle.std.specs.Option.{option_map}
 use Rattle.mmtel_cli.specs.Asked.{asked_by}
 use Rattle.mmtel_cli.specs.CommandLine.{Command, Replay, Check}
 use Rattle.mmtel_cli.specs.Words.{Asked, replay_of, records_of}

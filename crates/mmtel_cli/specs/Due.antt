@@ -7,7 +7,6 @@ use Rattle.mmtel_directory.specs.Directory.{directory_of}
 use Rattle.mmtel_script.specs.Script.{events_of}
 use Rattle.mmtel_outside.specs.Shelf.{Shelf, answer_at, called}
 use Rattle.mmtel_cli.specs.CommandLine.{Command, Serve, Replay, Check, Charges, Workload}
-use Rattle.mmtel_cli.specs.Words.{Asked}
 use Rattle.mmtel_directory.specs.declared.directories.Directory.{Directory}
 use Rattle.mmtel_outside.specs.declared.events.Event.{Event}
 use Rattle.mmtel_uploads.specs.Uploads.{upload_of}

@@ -1,12 +1,9 @@
 -- What a run asks of its keeper, and what the keeper shows of it: it is bound to the store of the configuration and loaded, each once, and what is uploaded in the run is kept
 -- there (3GPP TS 24.623 §5).
-use Rattle.std.specs.Prelude.{◌≡◌, ◌≢◌, ℕ, ◌||◌, Bool, true, false, List, Option, Some, None, IfSome, IsErrOf, OnOk, if◌then◌else◌}
+use Rattle.std.specs.Prelude.{◌≡◌, ◌≢◌, ℕ, ◌||◌, Bool, true, false, List, Option, Some, None, IfSome, if◌then◌else◌}
 use Rattle.std.specs.Option.{option_map}
-use Rattle.std.specs.declared.result.Result.{Result}
 use Rattle.mmtel_in_force.specs.Texts.{Texts}
 use Rattle.mmtel_keeper.specs.Kept.{Held, KeeperCalls, called, fails_next}
-use Rattle.mmtel_keeper.specs.declared.keepers.KeepFault.{KeepFault}
-use Rattle.mmtel_keeper.specs.declared.keepers.KeepFault.TheVariants.{Failed}
 use Rattle.mmtel_outside.specs.Counts.{Rose}
 use Rattle.mmtel_cli.specs.CommandLine.{IsCheck, SpellsNone}
 

@@ -1,22 +1,45 @@
 -- What the run of a script's events comes to.
-use Rattle.std.specs.Prelude.{◌≡◌, ℕ, List, Option, Some, None, IfSome}
+use Rattle.std.specs.Prelude.{◌≡◌, ℕ, List, [], Option}
 use Rattle.std.specs.Option.{option_map}
 use Rattle.mmtel_directory.specs.declared.directories.Directory.{Directory}
 use Rattle.mmtel_in_force.specs.Texts.{Texts}
-use Rattle.mmtel_keeper.specs.Kept.{KeeperCalls}
+use Rattle.mmtel_keeper.specs.Kept.{Held}
+use Rattle.mmtel_outside.specs.Counts.{Rose}
 use Rattle.mmtel_outside.specs.declared.events.Event.{Event}
 use Rattle.mmtel_outside.specs.declared.events.Offer.{Offer}
 use Rattle.mmtel_run.specs.Events.{Happened, events_in}
-use Rattle.mmtel_run.specs.Headline.{Gives, SeesAlike}
+use Rattle.mmtel_run.specs.Headline.{Gives}
 use Rattle.mmtel_run.specs.InForce.{uploads_of}
+use Rattle.mmtel_run.specs.Run.{IsEnough, world_after}
 use Rattle.mmtel_run.specs.Short.{IsShortRun}
+use Rattle.mmtel_run.specs.World.{World, rows_waiting}
+use Rattle.mmtel_run_secret.specs.Headline.{SeesAlike}
 use Rattle.mmtel_script.specs.Listing.{listing_of}
-use Rattle.mmtel_server.specs.Driven.{EachAnswers, EachCounted, with_uploads}
+use Rattle.mmtel_server.specs.Driven.{EachAnswers, EachCounted, with_all}
+use Rattle.mmtel_server.specs.Handed.{RowsCharged}
 use Rattle.mmtel_cli.specs.Keeping.{IsBoundStill, IsLoaded, KeeperSeen}
+
+-- what a keeper holds after the run in which this happened, where it tells that: what it held before, over it each upload that was kept, in their order, and behind its rows those that it took
+abbrev pub HoldsAll : Directory → (token : List ℕ) → (loaded : Texts) → List Happened → (held later : Option Held) → Type 0
+HoldsAll directory token loaded happened held later =
+    (fuel : ℕ) → IsEnough directory token loaded fuel happened →
+    later ≡ option_map (with_all (uploads_of directory.names happened) (world_after directory token loaded fuel happened).filed) held
+
+-- the charging rows where a world has come of this (3GPP TS 32.260 §5)
+pub record Charges (directory : Directory) (world : World) (happened : List Happened) (faults count : ℕ) : Type 0 where
+  -- those that the keeper took, and behind them those that wait, are all that the calls closed, in that order; and none waits behind an event at whose end it took what was handed to it
+  pub rows : RowsCharged directory world happened
+  -- so none waits where its count of faults did not rise
+  pub taken : (Rose faults count → ⊥) → rows_waiting directory world ≡ []
+
+-- so it is after the run in which this happened
+abbrev pub ChargesAll : Directory → (token : List ℕ) → (loaded : Texts) → List Happened → (faults count : ℕ) → Type 0
+ChargesAll directory token loaded happened faults count =
+    (fuel : ℕ) → IsEnough directory token loaded fuel happened → Charges directory (world_after directory token loaded fuel happened) happened faults count
 
 -- what the server offered in the run of these events, over the texts that were loaded and a keeper
 pub record OffersRun (directory : Directory) (token : List ℕ) (loaded : Texts) (events : List Event) (keeper later : KeeperSeen) (offers : List Offer) : Type 0 where
-  -- with these events this happened: each with what the keeper answered in it, whose count of faults rose in those in which its call failed, and stood in every other.
+  -- with these events this happened: each with what the keeper answered in it, and whether it took the charging rows that waited at its end; its count of faults rose in those in which its call failed or it did not take them, and stood in every other.
   pub happened : List Happened
   pub heard : events_in happened ≡ events
   pub counted : EachCounted happened keeper.faults later.faults
@@ -24,12 +47,14 @@ pub record OffersRun (directory : Directory) (token : List ℕ) (loaded : Texts)
   pub exact : IsShortRun directory token loaded happened → Gives directory token loaded happened offers
   -- they keep the secret of restricted callers (RFC 3323, RFC 3325 §7),
   pub secret : IsShortRun directory token loaded happened → SeesAlike directory token loaded happened offers
-  -- the keeper was asked what each event asks of it and nothing else, and so answered,
+  -- the keeper was asked what each event asks of it, was handed the rows that waited at its end, and nothing else, and so answered,
   pub asked : IsShortRun directory token loaded happened → EachAnswers directory.names happened keeper.held later.held keeper.calls later.calls
   -- it is bound to where it was,
   pub bound : IsShortRun directory token loaded happened → IsBoundStill keeper.calls later.calls
-  -- and it holds, where it tells that, what it held before, and over it each upload that was kept, in their order
-  pub held : IsShortRun directory token loaded happened → later.held ≡ option_map (with_uploads (uploads_of directory.names happened)) keeper.held
+  -- it holds what it held before with the uploads that were kept and the rows that it took,
+  pub held : IsShortRun directory token loaded happened → HoldsAll directory token loaded happened keeper.held later.held
+  -- and the calls of the run are charged exactly
+  pub charged : IsShortRun directory token loaded happened → ChargesAll directory token loaded happened keeper.faults later.faults
 
 -- the text lists what was offered so
 pub record ListsOver (directory : Directory) (token : List ℕ) (loaded : Texts) (events : List Event) (keeper later : KeeperSeen) (text : List ℕ) : Type 0 where

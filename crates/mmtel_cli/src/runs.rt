@@ -1,5 +1,5 @@
 //! A run over a script and a keeper, to its end.
-ghost use Rattle.std.specs.Prelude.{◌≡◌, ℕ, List, [], IfOk, IsErrOf, OnOk, false, true};
+ghost use Rattle.std.specs.Prelude.{◌≡◌, ◌≤◌, ℕ, List, [], IfOk, IsErrOf, OnOk, false, true};
 ghost use Rattle.mmtel_cli.specs.Keeping.{IsLoaded, IsNotLoaded, seen};
 ghost use Rattle.mmtel_cli.specs.Listings.{Lists, ListsOver, OffersRun};
 ghost use Rattle.mmtel_directory.specs.declared.directories.Directory.{Directory};
@@ -11,6 +11,7 @@ ghost use Rattle.mmtel_server.specs.Stands.{Went};
 use mmtel_directory::Directory;
 use mmtel_keeper::{KeepFault, Keeper};
 use mmtel_outside::Offer;
+use mmtel_run_secret::runs_keep_the_secret;
 use mmtel_scan::{List, NoMemory, Text};
 use mmtel_script::{ScriptLink, listing};
 use mmtel_server::{DriveFault, Server, connections_are_read_out, drive};
@@ -46,6 +47,7 @@ fn drive_over<K: Keeper>(
         (seen (K.held keeper.new) (K.calls keeper.new) (K.faults keeper.new)) out.new) }
 {
     connections_are_read_out();
+    runs_keep_the_secret();
     let turns = script.len().saturating_add(1);
     match drive(alloc, server, script, keeper, turns, out) {
         Ok(_) => Ok(()),
@@ -63,6 +65,7 @@ fn offered<K: Keeper>(
     script: &mut ScriptLink,
     keeper: &mut K,
 ) -> Result<List<Offer>, NoMemory>
+    requires bounded { directory.bound ≤ 16 }
     requires unheard { script.old ≡ unheard script.old.events }
     ensures run { IfOk result (OffersRun directory token.now loaded.now script.old.events (seen (K.held keeper.old) (K.calls keeper.old) (K.faults keeper.old))
         (seen (K.held keeper.new) (K.calls keeper.new) (K.faults keeper.new))) }
@@ -85,6 +88,7 @@ fn listed_over<K: Keeper>(
     script: &mut ScriptLink,
     keeper: &mut K,
 ) -> Result<Text, NoMemory>
+    requires bounded { directory.bound ≤ 16 }
     requires unheard { script.old ≡ unheard script.old.events }
     ensures lists { IfOk result (ListsOver directory token.now loaded.now script.old.events (seen (K.held keeper.old) (K.calls keeper.old) (K.faults keeper.old))
         (seen (K.held keeper.new) (K.calls keeper.new) (K.faults keeper.new))) }
@@ -105,6 +109,7 @@ pub fn listed<K: Keeper>(
     script: &mut ScriptLink,
     keeper: &mut K,
 ) -> Result<Text, KeepFault>
+    requires bounded { directory.bound ≤ 16 }
     requires unheard { script.old ≡ unheard script.old.events }
     ensures lists { IfOk result (Lists directory token.now script.old.events (seen (K.held keeper.old) (K.calls keeper.old) (K.faults keeper.old))
         (seen (K.held keeper.new) (K.calls keeper.new) (K.faults keeper.new))) }

@@ -1,5 +1,5 @@
 //! The top call.
-ghost use Rattle.std.specs.Prelude.{◌≡◌, ◌↔◌, ◌≢◌, IfSome, Ok, Some, None};
+ghost use Rattle.std.specs.Prelude.{◌≡◌, ◌≤◌, ◌↔◌, ◌≢◌, IfSome, Ok, Some, None};
 ghost use Rattle.mmtel_cli.specs.Asked.{asked_by};
 ghost use Rattle.mmtel_cli.specs.Commands.{command_of, command_in};
 ghost use Rattle.mmtel_cli.specs.CommandLine as line;
@@ -19,6 +19,11 @@ use crate::words::{Replay, Wanted, command};
 use mmtel_directory::{Directory, DirectoryFault, read_directory};
 use mmtel_keeper::{KeepFault, Keeper};
 use mmtel_outside::{FileFault, Files, Sink};
+use mmtel_run_laws::{
+    calls_of_runs_come_to_their_outcome, homes_of_configurations_are_clean,
+    runs_send_clean_messages,
+};
+use mmtel_run_secret::configurations_are_read;
 use mmtel_scan::Text;
 use mmtel_script::{ScriptFault, ScriptLink};
 use std::alloc::Global;
@@ -31,6 +36,7 @@ fn over_events<K: Keeper>(
     script: &mut ScriptLink,
     keeper: &mut K,
 ) -> Report
+    requires bounded { directory.bound ≤ 16 }
     requires unheard { script.old ≡ unheard script.old.events }
     ensures due { IsDue (seen (K.held keeper.old) (K.calls keeper.old) (K.faults keeper.old))
         (seen (K.held keeper.new) (K.calls keeper.new) (K.faults keeper.new)) result (due_of_events directory token.now (Ok script.old.events)) }
@@ -52,6 +58,7 @@ fn over_script<K: Keeper>(
     script: &Text,
     keeper: &mut K,
 ) -> Report
+    requires bounded { directory.bound ≤ 16 }
     ensures due { IsDue (seen (K.held keeper.old) (K.calls keeper.old) (K.faults keeper.old))
         (seen (K.held keeper.new) (K.calls keeper.new) (K.faults keeper.new)) result (due_of_script directory token.now (Some script.now)) }
     ensures read { IsRead result }
@@ -72,6 +79,7 @@ fn over_directory<F: Files, K: Keeper>(
     files: &mut F,
     keeper: &mut K,
 ) -> Report
+    requires bounded { directory.bound ≤ 16 }
     ensures gives { GivesScript (F.told files.old) (seen (K.held keeper.old) (K.calls keeper.old) (K.faults keeper.old))
         (seen (K.held keeper.new) (K.calls keeper.new) (K.faults keeper.new)) (asked_by replay.entry) (Ok directory) result }
     ensures calls { IfSome (F.told files.old) (λ shelf. F.told files.new ≡ Some (called shelf)) }
@@ -179,7 +187,7 @@ fn prepare<F: Files, K: Keeper>(
 
 /// Runs the command that the words ask for over these files and this keeper, writes what is due to the sink, and answers the status.
 ///
-/// `words` are those behind the program's own name. There are two commands so far. `replay CONFIG SCRIPT --token T` reads the configuration and then the script, each once, binds the keeper to the store of the configuration and loads it, each once, and writes the listing of what the server offers; records that are uploaded in the script are kept by the keeper. `check RECORDS` reads that file once, and writes `ok` where it is a service record, and else the line that tells its first fault. The status is 0 where the listing or `ok` was written whole, 1 where the words are not of the grammar (`usage`), 2 where the configuration, or else the script, breaks its grammar (`line N`), 3 where the file that is checked is no service record (`not toml`, `unknown KEY`, `wrong KEY` or `many KEY LIMIT`), 5 where the configuration, or else the script, or the file that is checked cannot be read (`file`), 6 where the keeper cannot be bound or not be loaded (`keeper`), 7 where the sink failed before the listing or `ok` was whole, and 8 for want of memory (`memory`).
+/// `words` are those behind the program's own name. There are two commands so far. `replay CONFIG SCRIPT --token T` reads the configuration and then the script, each once, binds the keeper to the store of the configuration and loads it, each once, and writes the listing of what the server offers; records that are uploaded in the script are kept by the keeper, and the charging rows of its calls are handed to it. `check RECORDS` reads that file once, and writes `ok` where it is a service record, and else the line that tells its first fault. The status is 0 where the listing or `ok` was written whole, 1 where the words are not of the grammar (`usage`), 2 where the configuration, or else the script, breaks its grammar (`line N`), 3 where the file that is checked is no service record (`not toml`, `unknown KEY`, `wrong KEY` or `many KEY LIMIT`), 5 where the configuration, or else the script, or the file that is checked cannot be read (`file`), 6 where the keeper cannot be bound or not be loaded (`keeper`), 7 where the sink failed before the listing or `ok` was whole, and 8 for want of memory (`memory`).
 pub fn run<F: Files, K: Keeper, S: Sink>(
     alloc: Global,
     words: &[Text],
@@ -187,7 +195,7 @@ pub fn run<F: Files, K: Keeper, S: Sink>(
     keeper: &mut K,
     out: &mut S,
 ) -> u8
-    // What was written and answered: by the words as their grammar spells them and by what the files answered, the listing of exactly the offers that the definitions of the run give over what the keeper gave, which keep the secret of restricted callers, with what the keeper holds then; or that it could not be bound to the store of the configuration or not be loaded; or what a text that was checked is; or the text of another status.
+    // What was written and answered: by the words as their grammar spells them and by what the files answered, the listing of exactly the offers that the definitions of the run give over what the keeper gave, which keep the secret of restricted callers, with what the keeper holds then, the charging rows of the calls, and what each call came to; or that it could not be bound to the store of the configuration or not be loaded; or what a text that was checked is; or the text of another status.
     ensures ran { Ran (F.told files.old) (seen (K.held keeper.old) (K.calls keeper.old) (K.faults keeper.old))
         (seen (K.held keeper.new) (K.calls keeper.new) (K.faults keeper.new)) words.now result (S.written out.old) (S.written out.new) (S.faults out.old) (S.faults out.new) }
     // What was asked of the files.
@@ -197,6 +205,10 @@ pub fn run<F: Files, K: Keeper, S: Sink>(
     // Where nothing was asked of the keeper.
     ensures keeper { IsSpared words.now result keeper.old keeper.new }
 {
+    calls_of_runs_come_to_their_outcome();
+    runs_send_clean_messages();
+    homes_of_configurations_are_clean();
+    configurations_are_read();
     let due = prepare(alloc, words, files, keeper);
     write_report(&due, out)
 }

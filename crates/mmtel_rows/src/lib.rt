@@ -4,11 +4,17 @@
 #![tactic(auto)]
 
 #[cfg(test)]
+mod calls;
+#[cfg(test)]
+mod cases;
+#[cfg(test)]
 mod checks;
 #[cfg(test)]
 mod datagrams;
 #[cfg(test)]
 mod devices;
+#[cfg(test)]
+mod faults;
 #[cfg(test)]
 mod limits;
 #[cfg(test)]
@@ -16,21 +22,17 @@ mod openings;
 #[cfg(test)]
 mod pages;
 #[cfg(test)]
-mod registration;
+mod pairs;
 #[cfg(test)]
-mod repeated_invite;
+mod registration;
 #[cfg(test)]
 mod runs;
 #[cfg(test)]
-mod silence;
+mod services;
+#[cfg(test)]
+mod steps;
 #[cfg(test)]
 mod tables;
-#[cfg(test)]
-mod unbuilt;
-#[cfg(test)]
-mod unrestricted_invite;
-#[cfg(test)]
-mod untrusted_identity;
 #[cfg(test)]
 mod uploads;
 #[cfg(test)]

@@ -262,14 +262,16 @@ fn offered(alloc: Global, script: &str, turns: u64, closed: bool) -> Option<Text
     let mut server = Server::new(alloc, directory, token, &[]).ok()?;
     let mut keeper = MemoryKeeper::new(List::new());
     let mut out = List::new();
-    match drive(
+    let driven = drive(
         alloc,
         &mut server,
         &mut script,
         &mut keeper,
         turns,
         &mut out,
-    ) {
+    );
+    server.give_up();
+    match driven {
         Ok(end) if end == closed => listing(alloc, &out).ok(),
         _ => None,
     }

@@ -5,6 +5,6 @@ use Rattle.mmtel_cli.proofs.runs.drive_over.Goals as goal
 pub returns-in-Ok : goal.returns-in-Ok
 returns-in-Ok g c = record {
   run = λ directory. λ token. λ loaded. λ went.
-      offers_run c.connections_are_read_out.ensures.unfailed c.connections_are_read_out.ensures.all directory token loaded
+      offers_run c.connections_are_read_out.ensures.unfailed c.connections_are_read_out.ensures.all c.runs_keep_the_secret.ensures.offers directory token loaded
       c.args.script.now _ _ _ _ _ _ _ _ _ _ _ _ _ c.in-Ok.ensures.driven c.requires.unheard (omega arith) went;
 }

@@ -1,0 +1,52 @@
+-- What the laws of a run ask of a configuration and a token, which are read so: the home domain and the token are of one line each, and the branches that the server draws are read as they are written.
+use Rattle.std.proofs.Common.{◌≡◌, ◌==◌, ◌<◌, true, ℕ, List, [], ◌∷◌, refl, length, Result, Ok, Err, arith}
+use Rattle.std.proofs.lemmas.Bool.Decides.{nat_tests}
+use Rattle.std.specs.Prelude.{IfOk}
+use Rattle.std.specs.List.{list_all}
+use Rattle.mmtel_call_heads.specs.Clean.{IsClean}
+use Rattle.mmtel_directory.specs.Directory.{directory_of}
+use Rattle.mmtel_directory.specs.declared.directories.Directory.{Directory}
+use Rattle.mmtel_message.specs.Headers.{is_value_byte}
+use Rattle.mmtel_run_laws.specs.Clean.{HomesAreClean}
+use Rattle.mmtel_run_secret.specs.Headline.{BranchesAreRead, ConfigurationsAreRead}
+use Rattle.mmtel_scan.proofs.Runs.{and_true}
+use Rattle.mmtel_cli.specs.Words.{is_hex, is_token}
+
+-- ---- the token
+
+digit_clean : (b : ℕ) → is_hex b ≡ true → is_value_byte b ≡ true
+digit_clean b is = grind (arith, nat_tests, is)
+
+digits_clean : (s : List ℕ) → list_all is_hex s ≡ true → IsClean s
+digits_clean [] all = refl
+digits_clean (b ∷ s) all =
+    let each = and_true (is_hex b) (list_all is_hex s) all in
+    rw (digit_clean b each.0, digits_clean s each.1) refl
+
+pub token_clean : (token : List ℕ) → is_token token ≡ true → IsClean token
+token_clean token is = digits_clean token (and_true (length token == 16) (list_all is_hex token) is).1
+
+sixteen : (s : List ℕ) → (length s == 16) ≡ true → 0 < length s
+sixteen s is = grind (arith, nat_tests, is)
+
+-- ---- the configuration
+
+-- what is so of one that was read
+pub record Suits (directory : Directory) : Type 0 where
+  pub home : IsClean directory.home
+  pub branches : (token : List ℕ) → is_token token ≡ true → BranchesAreRead directory token
+
+suits : HomesAreClean → ConfigurationsAreRead → (text : List ℕ) (directory : Directory) → directory_of text ≡ Ok directory → Suits directory
+suits homes reads text directory is = record {
+  home = homes text directory is;
+  branches = λ token. λ right.
+      let both = and_true (length token == 16) (list_all is_hex token) right in
+      reads text directory token is (sixteen token both.0) both.1;
+}
+
+suits_as : HomesAreClean → ConfigurationsAreRead → (text : List ℕ) (read : Result Directory ℕ) → directory_of text ≡ read → IfOk read Suits
+suits_as homes reads text (Ok directory) is = suits homes reads text directory is
+suits_as homes reads text (Err line) is = tt
+
+pub directory_suits : HomesAreClean → ConfigurationsAreRead → (text : List ℕ) → IfOk (directory_of text) Suits
+directory_suits homes reads text = suits_as homes reads text (directory_of text) refl

@@ -1,0 +1,448 @@
+//! Calls over keepers and sinks that fail, and datagrams that are cut short.
+
+use crate::calls::CALLS;
+use crate::cases::{REPLAY, two, wrong_run_over};
+use crate::openings::{CONFIG, is_listed};
+use crate::pages::Page;
+use crate::runs::{Devices, is_right, sound};
+use std::alloc::Global;
+
+/// The bytes of a datagram, an INVITE of Erin to bob.
+const DATAGRAM: &str =
+    "494e56495445207369703a626f62406661722e6578616d706c65205349502f322e300d0a5669613a205349502f322e302f554450203132372e302e302e313a353037313b6272616e63683d7a39684734624b61310d0a4d61782d466f7277617264733a2036380d0a46726f6d3a20224572696e22203c7369703a6572696e406f746865722e6578616d706c653e3b7461673d610d0a546f3a203c7369703a626f62406661722e6578616d706c653e0d0a43616c6c2d49443a2063310d0a435365713a203720494e564954450d0a436f6e746163743a203c7369703a6572696e403132372e302e302e313a353037313e0d0a502d41737365727465642d4964656e746974793a203c7369703a6572696e406f746865722e6578616d706c653e0d0a507269766163793a2069640d0a436f6e74656e742d4c656e6774683a20300d0a0d0a";
+
+/// A script of one datagram for each beginning of these bytes.
+fn beginnings(script: &mut Page) {
+    for place in 0..DATAGRAM.len() {
+        if place % 2 == 0 {
+            let bytes = DATAGRAM.get(..place).unwrap_or("?");
+            script.add_all(&["at 0 peer 1\nx", bytes, "\n"]);
+        }
+    }
+}
+
+/// Nothing comes of a datagram that is cut short.
+#[test]
+fn cut_datagrams(rt: HostRuntime) {
+    let mut script = Page::new(rt.alloc());
+    beginnings(&mut script);
+    assert!(rt; matches!(script.text(), Some(script) if is_listed(rt.alloc(), script, "")));
+}
+
+/// The keeper is bound and loaded; then rows are handed to it, which is its third call.
+const FAILING_ONCE: &str =
+    r#"~ A call of alice to bob that ends at 400, when the keeper fails for the first time; then the operator reads the charges twice.
+at 0 peer 1
+|INVITE sip:bob@home.example SIP/2.0
+|Via: SIP/2.0/UDP 127.0.0.1:5071;branch=z9hG4bKc1
+|Max-Forwards: 68
+|From: "Alice" <sip:alice@home.example>;tag=t1
+|To: <sip:bob@home.example>
+|Call-ID: call1
+|CSeq: 7 INVITE
+|Contact: <sip:alice@127.0.0.1:5071>
+|P-Asserted-Identity: <sip:alice@home.example>
+|Content-Length: 0
+|
+at 200 peer 1
+|SIP/2.0 200 OK
+|Via: SIP/2.0/UDP 127.0.0.1:5060;branch=z9hG4bK0123456789abcdef-4
+|From: "Alice" <sip:alice@home.example>;tag=0123456789abcdef-3
+|To: <sip:bob@home.example>;tag=b1
+|Call-ID: 0123456789abcdef-2
+|CSeq: 1 INVITE
+|Contact: <sip:bob1@127.0.0.1:5071>
+|Content-Length: 0
+|
+at 300 peer 1
+|ACK sip:127.0.0.1:5060 SIP/2.0
+|Via: SIP/2.0/UDP 127.0.0.1:5071;branch=z9hG4bKk1
+|Max-Forwards: 68
+|From: "Alice" <sip:alice@home.example>;tag=t1
+|To: <sip:bob@home.example>;tag=0123456789abcdef-1
+|Call-ID: call1
+|CSeq: 7 ACK
+|Content-Length: 0
+|
+at 400 peer 1
+|BYE sip:127.0.0.1:5060 SIP/2.0
+|Via: SIP/2.0/UDP 127.0.0.1:5071;branch=z9hG4bKy1
+|Max-Forwards: 68
+|From: "Alice" <sip:alice@home.example>;tag=t1
+|To: <sip:bob@home.example>;tag=0123456789abcdef-1
+|Call-ID: call1
+|CSeq: 8 BYE
+|Content-Length: 0
+|
+at 401 web
+|GET /charges HTTP/1.1
+|X-3GPP-Asserted-Identity: "sip:op@home.example"
+|
+at 402 web
+|GET /charges HTTP/1.1
+|X-3GPP-Asserted-Identity: "sip:op@home.example"
+|
+~ Both rows wait, and are kept at the end of the next event.
+at 0 to 1
+|SIP/2.0 100 Trying
+|Via: SIP/2.0/UDP 127.0.0.1:5071;branch=z9hG4bKc1
+|From: "Alice" <sip:alice@home.example>;tag=t1
+|To: <sip:bob@home.example>
+|Call-ID: call1
+|CSeq: 7 INVITE
+|Content-Length: 0
+|
+at 0 to 1
+|INVITE sip:bob@home.example SIP/2.0
+|Via: SIP/2.0/UDP 127.0.0.1:5060;branch=z9hG4bK0123456789abcdef-4
+|Max-Forwards: 67
+|From: "Alice" <sip:alice@home.example>;tag=0123456789abcdef-3
+|To: <sip:bob@home.example>
+|Call-ID: 0123456789abcdef-2
+|CSeq: 1 INVITE
+|Contact: <sip:127.0.0.1:5060>
+|P-Asserted-Identity: <sip:alice@home.example>
+|Content-Length: 0
+|
+at 200 to 1
+|SIP/2.0 200 OK
+|Via: SIP/2.0/UDP 127.0.0.1:5071;branch=z9hG4bKc1
+|From: "Alice" <sip:alice@home.example>;tag=t1
+|To: <sip:bob@home.example>;tag=0123456789abcdef-1
+|Call-ID: call1
+|CSeq: 7 INVITE
+|Contact: <sip:127.0.0.1:5060>
+|Content-Length: 0
+|
+at 300 to 1
+|ACK sip:bob1@127.0.0.1:5071 SIP/2.0
+|Via: SIP/2.0/UDP 127.0.0.1:5060;branch=z9hG4bK0123456789abcdef-5
+|Max-Forwards: 67
+|From: "Alice" <sip:alice@home.example>;tag=0123456789abcdef-3
+|To: <sip:bob@home.example>;tag=b1
+|Call-ID: 0123456789abcdef-2
+|CSeq: 1 ACK
+|Content-Length: 0
+|
+at 400 to 1
+|SIP/2.0 200 OK
+|Via: SIP/2.0/UDP 127.0.0.1:5071;branch=z9hG4bKy1
+|From: "Alice" <sip:alice@home.example>;tag=t1
+|To: <sip:bob@home.example>;tag=0123456789abcdef-1
+|Call-ID: call1
+|CSeq: 8 BYE
+|Content-Length: 0
+|
+at 400 to 1
+|BYE sip:bob1@127.0.0.1:5071 SIP/2.0
+|Via: SIP/2.0/UDP 127.0.0.1:5060;branch=z9hG4bK0123456789abcdef-6
+|Max-Forwards: 67
+|From: "Alice" <sip:alice@home.example>;tag=0123456789abcdef-3
+|To: <sip:bob@home.example>;tag=b1
+|Call-ID: 0123456789abcdef-2
+|CSeq: 2 BYE
+|Content-Length: 0
+|
+at 401 web
+|HTTP/1.1 200 OK
+|Content-Type: text/csv
+|Content-Length: 58
+|Connection: close
+|
+x6b696e642c6163636f756e742c63616c6c2c626567616e2c616e7377657265642c656e6465642c686f6c64732c63617573652c7374617475730a
+at 402 web
+|HTTP/1.1 200 OK
+|Content-Type: text/csv
+|Content-Length: 125
+|Connection: close
+|
+x6b696e642c6163636f756e742c63616c6c2c626567616e2c616e7377657265642c656e6465642c686f6c64732c63617573652c7374617475730a6f726967696e2c312c312c302c3230302c3430302c302c656e6465642c300a7465726d696e6174696e672c322c312c302c3230302c3430302c302c656e6465642c300a
+~ The same, and nothing comes for a while before the operator asks.
+at 0 peer 1
+|INVITE sip:bob@home.example SIP/2.0
+|Via: SIP/2.0/UDP 127.0.0.1:5071;branch=z9hG4bKc1
+|Max-Forwards: 68
+|From: "Alice" <sip:alice@home.example>;tag=t1
+|To: <sip:bob@home.example>
+|Call-ID: call1
+|CSeq: 7 INVITE
+|Contact: <sip:alice@127.0.0.1:5071>
+|P-Asserted-Identity: <sip:alice@home.example>
+|Content-Length: 0
+|
+at 200 peer 1
+|SIP/2.0 200 OK
+|Via: SIP/2.0/UDP 127.0.0.1:5060;branch=z9hG4bK0123456789abcdef-4
+|From: "Alice" <sip:alice@home.example>;tag=0123456789abcdef-3
+|To: <sip:bob@home.example>;tag=b1
+|Call-ID: 0123456789abcdef-2
+|CSeq: 1 INVITE
+|Contact: <sip:bob1@127.0.0.1:5071>
+|Content-Length: 0
+|
+at 300 peer 1
+|ACK sip:127.0.0.1:5060 SIP/2.0
+|Via: SIP/2.0/UDP 127.0.0.1:5071;branch=z9hG4bKk1
+|Max-Forwards: 68
+|From: "Alice" <sip:alice@home.example>;tag=t1
+|To: <sip:bob@home.example>;tag=0123456789abcdef-1
+|Call-ID: call1
+|CSeq: 7 ACK
+|Content-Length: 0
+|
+at 400 peer 1
+|BYE sip:127.0.0.1:5060 SIP/2.0
+|Via: SIP/2.0/UDP 127.0.0.1:5071;branch=z9hG4bKy1
+|Max-Forwards: 68
+|From: "Alice" <sip:alice@home.example>;tag=t1
+|To: <sip:bob@home.example>;tag=0123456789abcdef-1
+|Call-ID: call1
+|CSeq: 8 BYE
+|Content-Length: 0
+|
+at 500 quiet
+at 501 web
+|GET /charges HTTP/1.1
+|X-3GPP-Asserted-Identity: "sip:op@home.example"
+|
+~ They are kept when nothing came.
+at 0 to 1
+|SIP/2.0 100 Trying
+|Via: SIP/2.0/UDP 127.0.0.1:5071;branch=z9hG4bKc1
+|From: "Alice" <sip:alice@home.example>;tag=t1
+|To: <sip:bob@home.example>
+|Call-ID: call1
+|CSeq: 7 INVITE
+|Content-Length: 0
+|
+at 0 to 1
+|INVITE sip:bob@home.example SIP/2.0
+|Via: SIP/2.0/UDP 127.0.0.1:5060;branch=z9hG4bK0123456789abcdef-4
+|Max-Forwards: 67
+|From: "Alice" <sip:alice@home.example>;tag=0123456789abcdef-3
+|To: <sip:bob@home.example>
+|Call-ID: 0123456789abcdef-2
+|CSeq: 1 INVITE
+|Contact: <sip:127.0.0.1:5060>
+|P-Asserted-Identity: <sip:alice@home.example>
+|Content-Length: 0
+|
+at 200 to 1
+|SIP/2.0 200 OK
+|Via: SIP/2.0/UDP 127.0.0.1:5071;branch=z9hG4bKc1
+|From: "Alice" <sip:alice@home.example>;tag=t1
+|To: <sip:bob@home.example>;tag=0123456789abcdef-1
+|Call-ID: call1
+|CSeq: 7 INVITE
+|Contact: <sip:127.0.0.1:5060>
+|Content-Length: 0
+|
+at 300 to 1
+|ACK sip:bob1@127.0.0.1:5071 SIP/2.0
+|Via: SIP/2.0/UDP 127.0.0.1:5060;branch=z9hG4bK0123456789abcdef-5
+|Max-Forwards: 67
+|From: "Alice" <sip:alice@home.example>;tag=0123456789abcdef-3
+|To: <sip:bob@home.example>;tag=b1
+|Call-ID: 0123456789abcdef-2
+|CSeq: 1 ACK
+|Content-Length: 0
+|
+at 400 to 1
+|SIP/2.0 200 OK
+|Via: SIP/2.0/UDP 127.0.0.1:5071;branch=z9hG4bKy1
+|From: "Alice" <sip:alice@home.example>;tag=t1
+|To: <sip:bob@home.example>;tag=0123456789abcdef-1
+|Call-ID: call1
+|CSeq: 8 BYE
+|Content-Length: 0
+|
+at 400 to 1
+|BYE sip:bob1@127.0.0.1:5071 SIP/2.0
+|Via: SIP/2.0/UDP 127.0.0.1:5060;branch=z9hG4bK0123456789abcdef-6
+|Max-Forwards: 67
+|From: "Alice" <sip:alice@home.example>;tag=0123456789abcdef-3
+|To: <sip:bob@home.example>;tag=b1
+|Call-ID: 0123456789abcdef-2
+|CSeq: 2 BYE
+|Content-Length: 0
+|
+at 501 web
+|HTTP/1.1 200 OK
+|Content-Type: text/csv
+|Content-Length: 125
+|Connection: close
+|
+x6b696e642c6163636f756e742c63616c6c2c626567616e2c616e7377657265642c656e6465642c686f6c64732c63617573652c7374617475730a6f726967696e2c312c312c302c3230302c3430302c302c656e6465642c300a7465726d696e6174696e672c322c312c302c3230302c3430302c302c656e6465642c300a
+"#;
+
+/// The operator's questions are calls of the keeper too, its fifth and its seventh.
+const FAILING: &str = r#"~ The same call, and each time that rows are handed over the keeper fails.
+at 0 peer 1
+|INVITE sip:bob@home.example SIP/2.0
+|Via: SIP/2.0/UDP 127.0.0.1:5071;branch=z9hG4bKc1
+|Max-Forwards: 68
+|From: "Alice" <sip:alice@home.example>;tag=t1
+|To: <sip:bob@home.example>
+|Call-ID: call1
+|CSeq: 7 INVITE
+|Contact: <sip:alice@127.0.0.1:5071>
+|P-Asserted-Identity: <sip:alice@home.example>
+|Content-Length: 0
+|
+at 200 peer 1
+|SIP/2.0 200 OK
+|Via: SIP/2.0/UDP 127.0.0.1:5060;branch=z9hG4bK0123456789abcdef-4
+|From: "Alice" <sip:alice@home.example>;tag=0123456789abcdef-3
+|To: <sip:bob@home.example>;tag=b1
+|Call-ID: 0123456789abcdef-2
+|CSeq: 1 INVITE
+|Contact: <sip:bob1@127.0.0.1:5071>
+|Content-Length: 0
+|
+at 300 peer 1
+|ACK sip:127.0.0.1:5060 SIP/2.0
+|Via: SIP/2.0/UDP 127.0.0.1:5071;branch=z9hG4bKk1
+|Max-Forwards: 68
+|From: "Alice" <sip:alice@home.example>;tag=t1
+|To: <sip:bob@home.example>;tag=0123456789abcdef-1
+|Call-ID: call1
+|CSeq: 7 ACK
+|Content-Length: 0
+|
+at 400 peer 1
+|BYE sip:127.0.0.1:5060 SIP/2.0
+|Via: SIP/2.0/UDP 127.0.0.1:5071;branch=z9hG4bKy1
+|Max-Forwards: 68
+|From: "Alice" <sip:alice@home.example>;tag=t1
+|To: <sip:bob@home.example>;tag=0123456789abcdef-1
+|Call-ID: call1
+|CSeq: 8 BYE
+|Content-Length: 0
+|
+at 500 quiet
+at 501 web
+|GET /charges HTTP/1.1
+|X-3GPP-Asserted-Identity: "sip:op@home.example"
+|
+at 502 web
+|GET /charges HTTP/1.1
+|X-3GPP-Asserted-Identity: "sip:op@home.example"
+|
+~ No row is kept.
+at 0 to 1
+|SIP/2.0 100 Trying
+|Via: SIP/2.0/UDP 127.0.0.1:5071;branch=z9hG4bKc1
+|From: "Alice" <sip:alice@home.example>;tag=t1
+|To: <sip:bob@home.example>
+|Call-ID: call1
+|CSeq: 7 INVITE
+|Content-Length: 0
+|
+at 0 to 1
+|INVITE sip:bob@home.example SIP/2.0
+|Via: SIP/2.0/UDP 127.0.0.1:5060;branch=z9hG4bK0123456789abcdef-4
+|Max-Forwards: 67
+|From: "Alice" <sip:alice@home.example>;tag=0123456789abcdef-3
+|To: <sip:bob@home.example>
+|Call-ID: 0123456789abcdef-2
+|CSeq: 1 INVITE
+|Contact: <sip:127.0.0.1:5060>
+|P-Asserted-Identity: <sip:alice@home.example>
+|Content-Length: 0
+|
+at 200 to 1
+|SIP/2.0 200 OK
+|Via: SIP/2.0/UDP 127.0.0.1:5071;branch=z9hG4bKc1
+|From: "Alice" <sip:alice@home.example>;tag=t1
+|To: <sip:bob@home.example>;tag=0123456789abcdef-1
+|Call-ID: call1
+|CSeq: 7 INVITE
+|Contact: <sip:127.0.0.1:5060>
+|Content-Length: 0
+|
+at 300 to 1
+|ACK sip:bob1@127.0.0.1:5071 SIP/2.0
+|Via: SIP/2.0/UDP 127.0.0.1:5060;branch=z9hG4bK0123456789abcdef-5
+|Max-Forwards: 67
+|From: "Alice" <sip:alice@home.example>;tag=0123456789abcdef-3
+|To: <sip:bob@home.example>;tag=b1
+|Call-ID: 0123456789abcdef-2
+|CSeq: 1 ACK
+|Content-Length: 0
+|
+at 400 to 1
+|SIP/2.0 200 OK
+|Via: SIP/2.0/UDP 127.0.0.1:5071;branch=z9hG4bKy1
+|From: "Alice" <sip:alice@home.example>;tag=t1
+|To: <sip:bob@home.example>;tag=0123456789abcdef-1
+|Call-ID: call1
+|CSeq: 8 BYE
+|Content-Length: 0
+|
+at 400 to 1
+|BYE sip:bob1@127.0.0.1:5071 SIP/2.0
+|Via: SIP/2.0/UDP 127.0.0.1:5060;branch=z9hG4bK0123456789abcdef-6
+|Max-Forwards: 67
+|From: "Alice" <sip:alice@home.example>;tag=0123456789abcdef-3
+|To: <sip:bob@home.example>;tag=b1
+|Call-ID: 0123456789abcdef-2
+|CSeq: 2 BYE
+|Content-Length: 0
+|
+at 501 web
+|HTTP/1.1 200 OK
+|Content-Type: text/csv
+|Content-Length: 58
+|Connection: close
+|
+x6b696e642c6163636f756e742c63616c6c2c626567616e2c616e7377657265642c656e6465642c686f6c64732c63617573652c7374617475730a
+at 502 web
+|HTTP/1.1 200 OK
+|Content-Type: text/csv
+|Content-Length: 58
+|Connection: close
+|
+x6b696e642c6163636f756e742c63616c6c2c626567616e2c616e7377657265642c656e6465642c686f6c64732c63617573652c7374617475730a
+"#;
+
+/// Rows that the keeper does not take wait for the end of the next event; the status is 0.
+#[test]
+fn failing_rows(rt: HostRuntime) {
+    let alloc = rt.alloc();
+    assert!(rt; wrong_run_over(alloc, CONFIG, &[3], FAILING_ONCE) == 0);
+    assert!(rt; wrong_run_over(alloc, CONFIG, &[3, 4, 6, 8], FAILING) == 0);
+}
+
+/// Whether a run of the script over a sink that takes seven bytes a write, of which the one behind so many bytes fails, writes these bytes of the listing alone.
+fn is_cut(alloc: Global, script: &str, listing: &str, place: usize) -> bool {
+    let files = [("server.cfg", CONFIG), ("run.script", script)];
+    let failing = [place as u64 / 7 + 1];
+    let devices = Devices {
+        most: 7,
+        failing_writes: &failing,
+        ..sound(&files)
+    };
+    is_right(
+        alloc,
+        REPLAY,
+        devices,
+        7,
+        listing.get(..place).unwrap_or("?"),
+    )
+}
+
+/// Whether it is so for each write.
+fn is_cut_anywhere(alloc: Global) -> bool {
+    match two(CALLS) {
+        None => false,
+        Some((script, listing, _)) => {
+            (0..listing.len()).all(|place| place % 7 != 0 || is_cut(alloc, script, listing, place))
+        }
+    }
+}
+
+/// A listing that a sink cuts short is status 7, wherever it is.
+#[test]
+fn cut_listings(rt: HostRuntime) {
+    assert!(rt; is_cut_anywhere(rt.alloc()));
+}

@@ -16,7 +16,7 @@ use Rattle.mmtel_call.specs.Calls.{Attempt, Call, Offered, Phase, Service, Trial
 use Rattle.mmtel_call.specs.Closing.{Step, onward, over, with_past}
 use Rattle.mmtel_call.specs.Decisions.{decided_after, decided_at, is_barred, its_sheet, peer_for, redirect_of, service_at}
 use Rattle.mmtel_call.specs.Diverting.{at_target, divert, diverted, goes_on, handed_on, is_status, made, offer_where, on_end, on_turn, passed_by, refused, target_of, told_of, too_many, unless_barred}
-use Rattle.mmtel_call.specs.Ringing.{answered, armed_in, callee_after, cancelled_attempt, failed, left, noted, on_response, proceeding, ringing, silenced, time_of, timed_out, tried}
+use Rattle.mmtel_call.specs.Ringing.{answered, armed_in, callee_after, cancelled_attempt, early_said, failed, having_met, left, noted, on_response, proceeding, ringing, silenced, time_of, timed_out, tried}
 use Rattle.mmtel_call.specs.Sending.{relayed_to_caller}
 use Rattle.mmtel_call.specs.Site.{Site}
 
@@ -106,7 +106,7 @@ armed_alike false time at attempt p c desk = refl
 
 proceeding_alike : (site : Site) (at : ℕ) (x : Trial) (key : TKey) (m : Said) (code : ℕ) (p : Phase) (c : Call) (desk : Desk) → IsAlike (proceeding site at x key m code) p c desk
 proceeding_alike site at x key m code p c desk =
-    ap (onward (record c { phase = Offered (record x { callee = callee_after x.callee m; attempt = ringing code (noted key x.attempt) }) }))
+    ap (onward (record c { phase = Offered (record x { callee = callee_after x.callee m; attempt = ringing code (having_met (early_said x.callee m) (noted key x.attempt)) }) }))
     (armed_alike (rings code && not x.attempt.rang) (time_of (its_sheet x.attempt.service)) at x.attempt p c (relayed_to_caller site c x.attempt.service m desk))
 
 responses_alike : (trying provisional success : Bool) (site : Site) (now : Standing) (x : Trial) (key : TKey) (m : Said) (code : ℕ) (p : Phase) (c : Call) (desk : Desk) → IsAlike (on_response_if trying provisional success site now x key m code) p c desk

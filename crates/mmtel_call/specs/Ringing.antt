@@ -3,7 +3,7 @@ use Rattle.std.specs.Prelude.{ℕ, ◌+◌, ◌==◌, ◌&&◌, ◌||◌, not, n
 use Rattle.std.specs.Option.{unwrap_or}
 use Rattle.mmtel_answers.specs.Said.{Said}
 use Rattle.mmtel_desk.specs.Desks.{emitted}
-use Rattle.mmtel_desk.specs.Invitations.{has_said, once_cancelled}
+use Rattle.mmtel_desk.specs.Invitations.{has_said, once_cancelled, with_early}
 use Rattle.mmtel_desk.specs.Sending.{cancelled, final_acked}
 use Rattle.mmtel_desk.specs.declared.desks.Desk.{Desk}
 use Rattle.mmtel_desk.specs.declared.invitations.Invitation.{Invitation}
@@ -70,6 +70,10 @@ callee_after callee m = met_by (early_said callee m) callee
 abbrev pub noted : TKey → Attempt → Attempt
 noted key attempt = record attempt { invitation = has_said key attempt.invitation }
 
+-- its INVITE keeps what the target says of itself in the early dialog, which a later 2xx may confirm
+abbrev pub having_met : Option Remote → Attempt → Attempt
+having_met early attempt = record attempt { invitation = with_early early attempt.invitation }
+
 abbrev pub ringing : ℕ → Attempt → Attempt
 ringing code attempt = record attempt { rang = attempt.rang || rings code }
 
@@ -92,7 +96,7 @@ armed code at attempt c desk = if rings code && not attempt.rang then armed_in (
 -- 101 to 199: it, to the caller
 abbrev pub proceeding : Site → (at : ℕ) → Trial → TKey → Said → ℕ → Call → Desk → Step
 proceeding site at x key m code c desk = record {
-  call = record c { phase = Offered (record x { callee = callee_after x.callee m; attempt = ringing code (noted key x.attempt) }) };
+  call = record c { phase = Offered (record x { callee = callee_after x.callee m; attempt = ringing code (having_met (early_said x.callee m) (noted key x.attempt)) }) };
   desk = armed code at x.attempt c (relayed_to_caller site c x.attempt.service m desk);
 }
 

@@ -14,14 +14,14 @@ ghost use Rattle.mmtel_leg.specs.Remotes.{remote_of};
 ghost use Rattle.mmtel_call.specs.Calls.{Answered, Offered, Over, Stood};
 ghost use Rattle.mmtel_call.specs.Decisions.{its_sheet};
 ghost use Rattle.mmtel_call.specs.Requests.{number_of};
-ghost use Rattle.mmtel_call.specs.Ringing.{answered, armed, awaiting_ack, early_said, loose, next_success, noted, proceeding, ringing, success_of, tag_given, time_of, with_loose};
+ghost use Rattle.mmtel_call.specs.Ringing.{answered, armed, awaiting_ack, early_said, having_met, loose, next_success, noted, proceeding, ringing, success_of, tag_given, time_of, with_loose};
 
 use crate::calls::{Attempt, Call, Pair, Phase, Service, Stage, Success, Taken, Trial};
 use crate::legs::said_by_callee;
 use crate::sending::its_sheet;
 use crate::settings::Setting;
 use mmtel_answers::Hearing;
-use mmtel_desk::{Desk, Invitation, Loose, file, once_cancelled};
+use mmtel_desk::{Desk, Invitation, Loose, file, once_cancelled, with_early};
 use mmtel_leg::Remote;
 use mmtel_lex::{LexFault, Uri};
 use mmtel_message::{first_of, read_cseq};
@@ -73,9 +73,9 @@ pub fn taken_by(key: TKey, tag: Text, within: bool, invitation: Invitation) -> T
 }
 
 impl Attempt {
-    /// The attempt once a provisional response of this status came by this client transaction.
-    fn proceed(self, key: TKey, code: u16) -> Attempt
-        ensures { result ≡ ringing code (noted key self) }
+    /// The attempt once a provisional response of this status came by this client transaction, which made this early dialog or none.
+    fn proceed(self, key: TKey, code: u16, early: Option<Remote>) -> Attempt
+        ensures { result ≡ ringing code (having_met early (noted key self)) }
     {
         let Attempt {
             number,
@@ -87,7 +87,7 @@ impl Attempt {
             number,
             service,
             rang: rang || rings(code),
-            invitation: has_said(key, invitation),
+            invitation: with_early(early, has_said(key, invitation)),
         }
     }
 
@@ -256,7 +256,7 @@ impl Call {
         }));
     }
 
-    /// What goes out on a provisional response but 100, and what it says of the target.
+    /// What goes out on a provisional response but 100, and what it says of the target: for its leg, and for its INVITE.
     fn pass_proceeding(
         &self,
         alloc: Global,
@@ -266,14 +266,17 @@ impl Call {
         m: &Hearing,
         code: u16,
         desk: &mut Desk,
-    ) -> Result<Option<Remote>, NoMemory>
+    ) -> Result<(Option<Remote>, Option<Remote>), NoMemory>
         ensures desk { OnOk result (desk.new ≡ armed code at x.now.attempt self.now (relayed_to_caller setting.now self.now x.now.attempt.service m.now desk.old)) }
-        ensures said { IfOk result (λ r. r ≡ early_said x.now.callee m.now) }
+        ensures said { IfOk result (λ r. r.0 ≡ early_said x.now.callee m.now) }
+        ensures kept { IfOk result (λ r. r.1 ≡ early_said x.now.callee m.now) }
     {
         let service = x.attempt.service.as_ref();
         self.relay_to_caller(alloc, setting, service, m, desk)?;
         self.arm(alloc, code, at, &x.attempt, desk)?;
-        x.callee.early_said(alloc, m)
+        let said = x.callee.early_said(alloc, m)?;
+        let kept = x.callee.early_said(alloc, m)?;
+        Ok((said, kept))
     }
 
     /// A provisional response of the target but 100.
@@ -298,7 +301,7 @@ impl Call {
                 x.give_up(at);
                 Err(error)
             }
-            Ok(remote) => {
+            Ok((said, kept)) => {
                 let Trial {
                     caller,
                     callee,
@@ -306,8 +309,8 @@ impl Call {
                 } = x;
                 self.put_phase(Phase::Offered(Trial {
                     caller,
-                    callee: callee.meet(remote),
-                    attempt: attempt.proceed(key, code),
+                    callee: callee.meet(said),
+                    attempt: attempt.proceed(key, code, kept),
                 }));
                 Ok(())
             }

@@ -42,7 +42,7 @@ use Rattle.mmtel_call.specs.declared.signals.Signal.TheVariants as signal
 use Rattle.mmtel_desk.specs.Desks.{drew, emitted, token}
 use Rattle.mmtel_desk.specs.Invitations.{has_said, is_cancellable, knows, once_cancelled}
 use Rattle.mmtel_desk.specs.Loose as left_ones
-use Rattle.mmtel_desk.specs.Loose.{Rest, ended_before, is_of, late_cancelled, on_success, on_success_in, with_invitation}
+use Rattle.mmtel_desk.specs.Loose.{Rest, ended_before, is_of, late_cancelled, on_success, on_success_in, told_late, with_invitation}
 use Rattle.mmtel_desk.specs.Sending.{acked, acked_for, ack_text, asked_for, bye, cancel_sent, cancelled, final_acked, relayed_ack_text}
 use Rattle.mmtel_desk.specs.declared.desks.Desk.{Desk}
 use Rattle.mmtel_desk.specs.declared.invitations.Invitation.{Invitation}
@@ -702,12 +702,12 @@ module _ (sent : List ℕ → Peer → Type 0) (site : Site) (text : List ℕ) (
   success_rest : (l : Loose) (remote : Remote) (o : Option Dialogue) (desk : Desk) → LooseWasSent sent l → Counted desk → GoodRest (on_success_in site.sip l remote o desk)
   success_rest l remote (Some d) desk is had = record { left_in = is; desk_in = acked_in d desk had }
   success_rest l remote None desk is had =
-      let d : Dialogue = left_ones.made_from l.within l.invitation.dialogue remote in
+      let d : Dialogue = left_ones.made_from l.within l.invitation.early l.invitation.dialogue remote in
       record { left_in = is; desk_in = bye_in d (acked site.sip d desk) (acked_in d desk had) }
 
   late_response : (key : TKey) (m : HeardMessage) (l : Loose) (desk : Desk) → LooseWasSent sent l → Counted desk → GoodRest (left_ones.on_response site.sip key m l desk)
   late_response key m l desk is had =
-      let said : Loose = with_invitation l (has_said key l.invitation) in
+      let said : Loose = told_late key m l in
       let known : Loose = with_invitation l (knows key l.invitation) in
       if_rest (nat_lt (status_of m.start) 200) (late_cancelled site.sip said desk) (if nat_lt (status_of m.start) 300 then on_success site.sip known (remote_of Callee m.lines) desk else record { left = None; desk = final_acked site.sip key l.invitation m desk })
       (late_rest said desk is had)

@@ -41,7 +41,7 @@ use Rattle.mmtel_call_heads.specs.Heard.{AreCleanSheets, IsCleanSheet, IsCleanUr
 use Rattle.mmtel_call_heads.specs.Kept.{IsCleanDialogue}
 use Rattle.mmtel_call_heads.proofs.Deciding.{AfterClean, EndsClean, IsCleanDue, TurnsClean, after_clean, has_clean_record, new_target_clean, sheet_clean, turn_clean}
 use Rattle.mmtel_call_heads.proofs.Hearing.{IsCleanHeard, appended_clean}
-use Rattle.mmtel_call_heads.proofs.Keeping.{IsCleanOpening, IsCleanStep, IsCleanTrial, IsKept, Serves, if_step, over_clean, relayed_to_caller_clean, shown_to_clean, told_caller_clean, told_diversion_clean}
+use Rattle.mmtel_call_heads.proofs.Keeping.{IsCleanHere, IsCleanOpening, IsCleanStep, IsCleanTrial, IsKept, Serves, if_step, over_clean, relayed_to_caller_clean, shown_to_clean, told_caller_clean, told_diversion_clean}
 use Rattle.mmtel_call_heads.proofs.Sending.{IsCleanAim, attempt_clean, diverted_aim_clean, emit_clean, first_aim_clean, if_desk, offered_clean, token_clean}
 
 -- what a step is given
@@ -76,7 +76,7 @@ pub called_clean : (d : Dialogue) → IsCleanDialogue d → IsCleanDialogue (cal
 called_clean d is = record { call_id_in = is.call_id_in; local_in = is.local_in; remote_in = is.remote_in; tag_in = is.tag_in; target_in = is.target_in; routes_in = refl }
 
 offer_clean : (site : Site) (at : ℕ) (caller : Leg) (service : Option Service) (waiting : Bool) (aim : Aim) (c : Call) (desk : Desk) →
-    IsCleanAim aim → IsCleanDialogue caller.dialogue → Serves service → IsKept c → IsCleanDesk desk → IsCleanStep (offer site at caller service waiting aim c desk)
+    IsCleanAim aim → IsCleanHere caller.dialogue → Serves service → IsKept c → IsCleanDesk desk → IsCleanStep (offer site at caller service waiting aim c desk)
 offer_clean site at caller service waiting aim c desk is first serves k had =
     let invite = c.opening.invite in
     let dialog : IsCleanDialogue (dialog_of c.opening aim desk) = attempt_clean aim invite.heard c.opening.restricted desk is k.opening_in.invite_in had in
@@ -87,9 +87,9 @@ offer_clean site at caller service waiting aim c desk is first serves k had =
       kept = record { opening_in = k.opening_in; history_in = k.history_in; loose_in = k.loose_in; taken_in = k.taken_in };
       phase = record {
         caller_in = first;
-        callee_in = called_clean (dialog_of c.opening aim desk) dialog;
+        callee_in = (called_clean (dialog_of c.opening aim desk) dialog, token_clean (drew desk) had);
         service_in = serves;
-        sent_in = record { dialogue_in = dialog; branch_in = token_clean (drew (drew desk)) had; ack_in = tt; forks_in = tt };
+        sent_in = record { dialogue_in = dialog; branch_in = token_clean (drew (drew desk)) had; ack_in = tt; forks_in = tt; early_in = tt };
       };
       desk = emit_clean (emit.Arm c.opening.number (due_word.Cap (next_attempt c)) (at + longest_time)) (offered site.sip aim invite.heard c.opening.restricted shown waiting desk) tt sent;
     }
@@ -101,13 +101,13 @@ abbrev DivertClean : ℕ → Site → Standing → Leg → Type 0
 DivertClean left site now caller = (service : Option Service) (due : DueDiversion) (c : Call) (desk : Desk) → Serves service → IsCleanDue due → IsKept c → IsCleanDesk desk → IsCleanStep (divert left site now caller service due c desk)
 
 offer_where_clean : (peer : Option Peer) (site : Site) (at : ℕ) (caller : Leg) (service : Option Service) (waiting : Bool) (cause : Option ℕ) (target : Target) (c : Call) (desk : Desk) →
-    IsCleanUri target.uri → IsCleanDialogue caller.dialogue → Serves service → IsKept c → IsCleanDesk desk → IsCleanStep (offer_where peer site at caller service waiting cause target c desk)
+    IsCleanUri target.uri → IsCleanHere caller.dialogue → Serves service → IsKept c → IsCleanDesk desk → IsCleanStep (offer_where peer site at caller service waiting cause target c desk)
 offer_where_clean None site at caller service waiting cause target c desk e first serves k had = refused_clean site at caller causes.NoRoute (passed_by at service c) desk k had
 offer_where_clean (Some peer) site at caller service waiting cause target c desk e first serves k had =
     offer_clean site at caller service waiting (aim_at c.opening peer cause target) c desk (aim_clean c.opening peer cause target k.opening_in e) first serves k had
 
 on_turn_clean : (left : ℕ) (site : Site) (now : Standing) (caller : Leg) → DivertClean left site now caller → (service : Option Service) (peer : Option Peer) (cause : Option ℕ) (target : Target) (turn : Turn) (c : Call) (desk : Desk) →
-    IsCleanUri target.uri → IsCleanDialogue caller.dialogue → Serves service → TurnsClean turn → IsKept c → IsCleanDesk desk →
+    IsCleanUri target.uri → IsCleanHere caller.dialogue → Serves service → TurnsClean turn → IsKept c → IsCleanDesk desk →
     IsCleanStep (on_turn (divert left site now caller) site now.at caller service peer cause target turn c desk)
 on_turn_clean left site now caller later service peer cause target (TurnOffer waiting) c desk e first serves turns k had = offer_where_clean peer site now.at caller service waiting cause target c desk e first serves k had
 on_turn_clean left site now caller later service peer cause target (TurnDivert due) c desk e first serves turns k had = later service due (passed_by now.at service c) desk serves turns k had
@@ -122,7 +122,7 @@ state_clean now told None e = tt
 state_clean now told (Some service) e = e
 
 target_clean : (left : ℕ) (site : Site) (now : Standing) (caller : Leg) → DivertClean left site now caller → (cause : Option ℕ) (target : Target) (c : Call) (desk : Desk) →
-    IsGood site now → IsCleanUri target.uri → IsCleanDialogue caller.dialogue → IsKept c → IsCleanDesk desk → IsCleanStep (at_target (divert left site now caller) site now caller cause target c desk)
+    IsGood site now → IsCleanUri target.uri → IsCleanHere caller.dialogue → IsKept c → IsCleanDesk desk → IsCleanStep (at_target (divert left site now caller) site now caller cause target c desk)
 target_clean left site now caller later cause target c desk good e first k had =
     let service = service_at site now c.opening cause target in
     let peer = peer_for site c.opening target in
@@ -147,7 +147,7 @@ unless_clean : (barred : Bool) (go : Call → Desk → Step) (site : Site) (at :
 unless_clean true go site at caller c desk k had is = refused_clean site at caller causes.OutgoingBarred c desk k had
 unless_clean false go site at caller c desk k had is = is
 
-divert_clean : (left : ℕ) (site : Site) (now : Standing) (caller : Leg) → IsGood site now → IsCleanDialogue caller.dialogue → DivertClean left site now caller
+divert_clean : (left : ℕ) (site : Site) (now : Standing) (caller : Leg) → IsGood site now → IsCleanHere caller.dialogue → DivertClean left site now caller
 unfolding divert
 divert_clean zero site now caller good first service due c desk serves e k had =
     unless_clean (is_barred site c.opening now.at service due) (refused site now.at caller (too_many due)) site now.at caller c desk k had (refused_clean site now.at caller (too_many due) c desk k had)
@@ -160,14 +160,14 @@ divert_clean (suc left) site now caller good first service due c desk serves e k
     (target_clean left site now caller (divert_clean left site now caller good first) (Some due.cause) target next (told_of site due next desk) good uri first kept (told_of_clean site due next desk kept had))
 
 pub reach_clean : (site : Site) (now : Standing) (caller : Leg) (cause : Option ℕ) (target : Target) (c : Call) (desk : Desk) →
-    IsGood site now → IsCleanUri target.uri → IsCleanDialogue caller.dialogue → IsKept c → IsCleanDesk desk → IsCleanStep (reach site now caller cause target c desk)
+    IsGood site now → IsCleanUri target.uri → IsCleanHere caller.dialogue → IsKept c → IsCleanDesk desk → IsCleanStep (reach site now caller cause target c desk)
 reach_clean site now caller cause target c desk good e first k had =
     target_clean c.diversions.left site now caller (divert_clean c.diversions.left site now caller good first) cause target c desk good e first k had
 
 -- ---- after an attempt
 
 on_end_clean : (site : Site) (now : Standing) (caller : Leg) (service : Option Service) (m : Option Said) (after : AfterEnd) (c : Call) (desk : Desk) →
-    IsGood site now → IsCleanDialogue caller.dialogue → Serves service → IfSome m is_clean_said → AfterClean after → IsKept c → IsCleanDesk desk → IsCleanStep (on_end site now caller service m after c desk)
+    IsGood site now → IsCleanHere caller.dialogue → Serves service → IfSome m is_clean_said → AfterClean after → IsKept c → IsCleanDesk desk → IsCleanStep (on_end site now caller service m after c desk)
 on_end_clean site now caller service m EndAnswered c desk good first serves is e k had = over_clean now.at causes.Ended caller.meter None c desk k had
 on_end_clean site now caller service m (EndDivert due) c desk good first serves is e k had = divert_clean c.diversions.left site now caller good first service due c desk serves e k had
 on_end_clean site now caller service m (EndRefuse cause) c desk good first serves is e k had = refused_by_clean site now.at caller service m cause c desk is k had

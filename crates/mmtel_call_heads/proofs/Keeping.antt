@@ -1,18 +1,21 @@
 -- What a call keeps is clean, and what it shows of what it keeps.
-use Rattle.std.proofs.Common.{◌==◌, Bool, true, false, ℕ, List, [], Option, refl}
+use Rattle.std.proofs.Common.{◌==◌, Bool, true, false, ℕ, List, [], Option, Some, None, refl}
+use Rattle.std.specs.Option.{option_or}
 use Rattle.std.specs.Prelude.{IfSome, codes, if◌then◌else◌}
 use Rattle.mmtel_answers.specs.Answers.{allowed, retry_after}
 use Rattle.mmtel_answers.specs.Said.{Said, status_of}
 use Rattle.mmtel_charging.specs.Meters.{Noted}
-use Rattle.mmtel_desk.specs.Invitations.{is_cancellable, once_cancelled}
+use Rattle.mmtel_desk.specs.Invitations.{is_cancellable, once_cancelled, with_early}
 use Rattle.mmtel_desk.specs.declared.desks.Desk.{Desk}
 use Rattle.mmtel_desk.specs.declared.invitations.Invitation.{Invitation}
 use Rattle.mmtel_desk.specs.declared.invitations.Loose.{Loose}
 use Rattle.mmtel_history.specs.declared.entries.Entry.{Entry}
 use Rattle.mmtel_leg.specs.Dialogues.{request_uri}
 use Rattle.mmtel_leg.specs.Releases.{released_leg}
+use Rattle.mmtel_leg.specs.declared.dialogues.Dialogue.{Dialogue}
 use Rattle.mmtel_leg.specs.declared.dialogues.DialogueFault.{DialogueFault}
 use Rattle.mmtel_leg.specs.declared.dialogues.DialogueFault.TheVariants.{OldCSeq, Pending, Unfinished}
+use Rattle.mmtel_leg.specs.declared.remotes.Remote.{Remote}
 use Rattle.mmtel_message.specs.Faults.{is_method}
 use Rattle.mmtel_message.specs.Message.{Line}
 use Rattle.mmtel_transaction.specs.declared.words.TKey.{TKey}
@@ -42,7 +45,7 @@ use Rattle.mmtel_call_heads.specs.Emits.{Each, IsCleanDesk}
 use Rattle.mmtel_call_heads.specs.Heard.{IsCleanSheet}
 use Rattle.mmtel_call_heads.specs.Kept.{AreCleanEntries, IsCleanDialogue}
 use Rattle.mmtel_call_heads.proofs.Hearing.{IsCleanHeard, history_lines_clean, shown_clean, told_clean}
-use Rattle.mmtel_call_heads.proofs.Sending.{IsCleanInvitation, answered_clean, if_desk, relayed_clean, replied_clean}
+use Rattle.mmtel_call_heads.proofs.Sending.{IsCleanInvitation, IsCleanRemote, answered_clean, if_desk, relayed_clean, replied_clean}
 
 -- ---- what is kept
 
@@ -74,15 +77,19 @@ has_clean_sheet service = IsCleanSheet service.sheet
 abbrev pub Serves : Option Service → Type 0
 Serves service = IfSome service has_clean_sheet
 
+-- the dialog of a leg, with the server's tag in it
+abbrev pub IsCleanHere : Dialogue → Type 0
+IsCleanHere d = IsCleanDialogue d × IsClean d.local_tag
+
 pub record IsCleanTrial (x : Trial) : Type 0 where
-  pub caller_in : IsCleanDialogue x.caller.dialogue
-  pub callee_in : IsCleanDialogue x.callee.leg.dialogue
+  pub caller_in : IsCleanHere x.caller.dialogue
+  pub callee_in : IsCleanHere x.callee.leg.dialogue
   pub service_in : Serves x.attempt.service
   pub sent_in : IsCleanInvitation x.attempt.invitation
 
 pub record IsCleanPair (x : Pair) : Type 0 where
-  pub caller_in : IsCleanDialogue x.caller.dialogue
-  pub callee_in : IsCleanDialogue x.callee.dialogue
+  pub caller_in : IsCleanHere x.caller.dialogue
+  pub callee_in : IsCleanHere x.callee.dialogue
 
 pub record IsCleanReinvite (q : Reinvite) : Type 0 where
   pub request_in : IsCleanHeard q.request.heard
@@ -101,7 +108,7 @@ pub record IsCleanStood (x : Pair) (stage : Stage) : Type 0 where
 abbrev pub IsCleanPhase : Phase → Type 0
 IsCleanPhase (Offered x) = IsCleanTrial x
 IsCleanPhase (Stood x stage) = IsCleanStood x stage
-IsCleanPhase (Lent loan) = IsCleanDialogue (released_leg loan.left).dialogue
+IsCleanPhase (Lent loan) = IsCleanHere (released_leg loan.left).dialogue
 IsCleanPhase (Over cause) = Unit {0}
 
 -- a step leaves a clean call and a clean desk
@@ -126,6 +133,13 @@ once_clean i is = by (is_cancellable i)
     by : (t : Bool) → IsCleanInvitation (if t then record i { cancelled = true } else i)
     by true = is
     by false = is
+
+pub early_clean : (said : Option Remote) (i : Invitation) → IfSome said IsCleanRemote → IsCleanInvitation i → IsCleanInvitation (with_early said i)
+early_clean said i e is = record { dialogue_in = is.dialogue_in; branch_in = is.branch_in; ack_in = is.ack_in; forks_in = is.forks_in; early_in = first i.early is.early_in }
+  where
+    first : (o : Option Remote) → IfSome o IsCleanRemote → IfSome (option_or o said) IsCleanRemote
+    first None f = e
+    first (Some remote) f = f
 
 -- ---- what is shown
 

@@ -1,14 +1,15 @@
 -- INVITEs that a call does not wait on stay clean, and what is sent for them is clean.
-use Rattle.std.proofs.Common.{◌+◌, Bool, true, false, not, ℕ, List, [], ◌∷◌, Option, Some, None, nat_lt, take, drop}
+use Rattle.std.proofs.Common.{◌+◌, ◌==◌, ◌||◌, Bool, true, false, not, ℕ, List, [], ◌∷◌, Option, Some, None, length, nat_lt, take, drop}
 use Rattle.std.specs.Prelude.{IfSome, codes, if◌then◌else◌, option_to_list, position, slice_get}
+use Rattle.std.specs.Str.{bytes_eq}
 use Rattle.mmtel_answers.specs.Attempts.{called}
 use Rattle.mmtel_answers.specs.Said.{Said, status_of}
-use Rattle.mmtel_desk.specs.Invitations.{has_said, knows}
-use Rattle.mmtel_desk.specs.Loose.{Rest, acked_and_ended, ended_before, fork_at, is_ended, is_of, late_cancelled, made_from, on_response, on_success, on_success_in, with_invitation}
+use Rattle.mmtel_desk.specs.Invitations.{early_said, has_said, knows}
+use Rattle.mmtel_desk.specs.Loose.{Rest, acked_and_ended, begun, ended_before, fork_at, is_ended, is_of, late_cancelled, made_from, on_response, on_success, on_success_in, told_late, with_invitation}
 use Rattle.mmtel_desk.specs.Sending.{acked, cancel_sent, final_acked}
 use Rattle.mmtel_desk.specs.declared.desks.Desk.{Desk}
 use Rattle.mmtel_desk.specs.declared.invitations.Loose.{Loose}
-use Rattle.mmtel_leg.specs.Dialogues.{after_request}
+use Rattle.mmtel_leg.specs.Dialogues.{after_request, met}
 use Rattle.mmtel_leg.specs.Remotes.{remote_of}
 use Rattle.mmtel_leg.specs.declared.dialogues.Dialogue.{Dialogue}
 use Rattle.mmtel_leg.specs.declared.remotes.Remote.{Remote}
@@ -26,7 +27,7 @@ use Rattle.mmtel_call_heads.specs.Emits.{Each, IsCleanDesk, IsTextOfClean}
 use Rattle.mmtel_call_heads.specs.Kept.{IsCleanDialogue}
 use Rattle.mmtel_call_heads.proofs.Going.{called_clean}
 use Rattle.mmtel_call_heads.proofs.Hearing.{IsCleanHeard}
-use Rattle.mmtel_call_heads.proofs.Keeping.{IsCleanLoose, IsCleanPhase, IsCleanStep, IsCleanTaken, IsKept, if_step, onward_clean}
+use Rattle.mmtel_call_heads.proofs.Keeping.{IsCleanLoose, IsCleanPhase, IsCleanStep, IsCleanTaken, IsKept, early_clean, if_step, onward_clean}
 use Rattle.mmtel_call_heads.proofs.Sending.{IsCleanRemote, acked_clean, bye_clean, cancel_clean, each_append, each_drop, each_get, each_option, each_take, emit_clean, final_acked_clean, if_desk, met_clean, remote_clean}
 
 -- ---- places in a list
@@ -53,9 +54,17 @@ late_clean sip l desk is had =
     if_rest l.invitation.cancelled (record { left = Some l; desk = desk }) (record { left = Some (with_invitation l (record l.invitation { cancelled = true })); desk = cancel_sent sip l.invitation desk })
     (record { left_in = is; desk_in = had }) (record { left_in = is; desk_in = cancel_clean sip l.invitation desk is had })
 
-made_clean : (within : Bool) (d : Dialogue) (remote : Remote) → IsCleanDialogue d → IsCleanRemote remote → IsCleanDialogue (made_from within d remote)
-made_clean true d remote is had = is
-made_clean false d remote is had = met_clean (called d) remote (called_clean d is) had
+begun_clean : (early : Option Remote) (tag : List ℕ) (d : Dialogue) → IfSome early IsCleanRemote → IsCleanDialogue d → IsCleanDialogue (begun early tag d)
+begun_clean None tag d e is = is
+begun_clean (Some said) tag d e is = by (bytes_eq said.tag tag)
+  where
+    by : (b : Bool) → IsCleanDialogue (if b then met d said else d)
+    by true = met_clean d said is e
+    by false = is
+
+made_clean : (within : Bool) (early : Option Remote) (d : Dialogue) (remote : Remote) → IfSome early IsCleanRemote → IsCleanDialogue d → IsCleanRemote remote → IsCleanDialogue (made_from within early d remote)
+made_clean true early d remote e is had = is
+made_clean false early d remote e is had = met_clean (begun early remote.tag (called d)) remote (begun_clean early remote.tag (called d) e (called_clean d is)) had
 
 fork_clean : (forks : List Dialogue) (o : Option ℕ) → Each IsCleanDialogue forks → IfSome (fork_at forks o) IsCleanDialogue
 fork_clean forks None e = tt
@@ -63,25 +72,30 @@ fork_clean forks (Some at) e = each_get IsCleanDialogue forks at e
 
 ended_clean : (sip : Addr) (l : Loose) (d : Dialogue) (desk : Desk) → IsCleanLoose l → IsCleanDialogue d → IsCleanDesk desk → IsCleanRest (acked_and_ended sip l d desk)
 ended_clean sip l d desk is e had = record {
-  left_in = record { dialogue_in = is.dialogue_in; branch_in = is.branch_in; ack_in = is.ack_in; forks_in = each_append IsCleanDialogue l.invitation.forks (after_request d (codes "BYE") ∷ []) is.forks_in (e, tt) };
+  left_in = record { dialogue_in = is.dialogue_in; branch_in = is.branch_in; ack_in = is.ack_in; forks_in = each_append IsCleanDialogue l.invitation.forks (after_request d (codes "BYE") ∷ []) is.forks_in (e, tt); early_in = is.early_in };
   desk_in = bye_clean sip d (acked sip d desk) e (acked_clean sip d desk e had);
 }
 
 success_in_clean : (sip : Addr) (l : Loose) (remote : Remote) (o : Option Dialogue) (desk : Desk) → IsCleanLoose l → IsCleanRemote remote → IfSome o IsCleanDialogue → IsCleanDesk desk → IsCleanRest (on_success_in sip l remote o desk)
 success_in_clean sip l remote (Some d) desk is had_remote e had = record { left_in = is; desk_in = acked_clean sip d desk e had }
 success_in_clean sip l remote None desk is had_remote e had =
-    ended_clean sip l (made_from l.within l.invitation.dialogue remote) desk is (made_clean l.within l.invitation.dialogue remote is.dialogue_in had_remote) had
+    ended_clean sip l (made_from l.within l.invitation.early l.invitation.dialogue remote) desk is (made_clean l.within l.invitation.early l.invitation.dialogue remote is.early_in is.dialogue_in had_remote) had
 
 success_clean : (sip : Addr) (l : Loose) (remote : Remote) (desk : Desk) → IsCleanLoose l → IsCleanRemote remote → IsCleanDesk desk → IsCleanRest (on_success sip l remote desk)
 success_clean sip l remote desk is had_remote had =
     success_in_clean sip l remote (ended_before l remote.tag) desk is had_remote (fork_clean l.invitation.forks (position (is_ended l.within remote.tag) l.invitation.forks) is.forks_in) had
 
+told_clean : (b : Bool) (remote : Remote) → IsCleanRemote remote → IfSome (if b then None else Some remote) IsCleanRemote
+told_clean true remote e = tt
+told_clean false remote e = e
+
 pub late_response_clean : (sip : Addr) (key : TKey) (m : HeardMessage) (l : Loose) (desk : Desk) → IsCleanHeard m → IsCleanLoose l → IsCleanDesk desk → IsCleanRest (on_response sip key m l desk)
 late_response_clean sip key m l desk heard is had =
-    let said = with_invitation l (has_said key l.invitation) in
+    let said = told_late key m l in
+    let told : IfSome (early_said (status_of m.start) (remote_of Callee m.lines)) IsCleanRemote = told_clean (nat_lt (status_of m.start) 101 || length (remote_of Callee m.lines).tag == 0) (remote_of Callee m.lines) (remote_clean Callee m.lines heard.lines_in) in
     let known = with_invitation l (knows key l.invitation) in
     if_rest (nat_lt (status_of m.start) 200) (late_cancelled sip said desk) (if nat_lt (status_of m.start) 300 then on_success sip known (remote_of Callee m.lines) desk else record { left = None; desk = final_acked sip key l.invitation m desk })
-    (late_clean sip said desk is had)
+    (late_clean sip said desk (early_clean (early_said (status_of m.start) (remote_of Callee m.lines)) (has_said key l.invitation) told is) had)
     (if_rest (nat_lt (status_of m.start) 300) (on_success sip known (remote_of Callee m.lines) desk) (record { left = None; desk = final_acked sip key l.invitation m desk })
     (success_clean sip known (remote_of Callee m.lines) desk is (remote_clean Callee m.lines heard.lines_in) had)
     (record { left_in = tt; desk_in = final_acked_clean sip key l.invitation m desk is heard had }))

@@ -31,11 +31,10 @@ use Rattle.mmtel_call.specs.Ringing.{ack_time, answered, armed, armed_in, awaiti
 use Rattle.mmtel_call.specs.Sending.{relayed_to_caller, replied_to, told_caller}
 use Rattle.mmtel_call.specs.Site.{Site}
 use Rattle.mmtel_call_heads.specs.Emits.{IsCleanDesk}
-use Rattle.mmtel_call_heads.specs.Kept.{IsCleanDialogue}
 use Rattle.mmtel_call_heads.proofs.Deciding.{EndsClean, final_clean}
 use Rattle.mmtel_call_heads.proofs.Going.{IsGood, goes_on_clean}
 use Rattle.mmtel_call_heads.proofs.Hearing.{IsCleanHeard, redirect_clean}
-use Rattle.mmtel_call_heads.proofs.Keeping.{IsCleanLoose, IsCleanStep, IsCleanTaken, IsCleanTrial, IsKept, if_step, once_clean, onward_clean, over_clean, relayed_to_caller_clean, replied_to_clean, told_caller_clean, unheard_clean, unlisted_clean}
+use Rattle.mmtel_call_heads.proofs.Keeping.{IsCleanHere, IsCleanLoose, IsCleanStep, IsCleanTaken, IsCleanTrial, IsKept, early_clean, if_step, once_clean, onward_clean, over_clean, relayed_to_caller_clean, replied_to_clean, told_caller_clean, unheard_clean, unlisted_clean}
 use Rattle.mmtel_call_heads.proofs.Sending.{IsCleanRemote, cancelled_clean, each_append, emit_clean, final_acked_clean, if_desk, met_clean, remote_clean}
 
 -- ---- an attempt that is left
@@ -55,18 +54,21 @@ tried_clean : (key : TKey) (x : Trial) (c : Call) (desk : Desk) → IsCleanTrial
 tried_clean key x c desk t k had = record { kept = k; phase = record { caller_in = t.caller_in; callee_in = t.callee_in; service_in = t.service_in; sent_in = t.sent_in }; desk = had }
 
 abbrev IsMet : TriedView → Type 0
-IsMet callee = IsCleanDialogue callee.leg.dialogue
+IsMet callee = IsCleanHere callee.leg.dialogue
 
 met_by_clean : (o : Option Remote) (callee : TriedView) → IfSome o IsCleanRemote → IsMet callee → IsMet (met_by o callee)
 met_by_clean None callee e is = is
-met_by_clean (Some remote) callee e is = met_clean callee.leg.dialogue remote is e
+met_by_clean (Some remote) callee e is = (met_clean callee.leg.dialogue remote is.0 e, is.1)
 
-callee_after_clean : (callee : TriedView) (m : Said) → IsCleanHeard m.heard → IsMet callee → IsMet (callee_after callee m)
-callee_after_clean callee m heard is = met_by_clean (early_said callee m) callee (by (callee.is_early || length (tag_given m) == 0)) is
+early_said_clean : (callee : TriedView) (m : Said) → IsCleanHeard m.heard → IfSome (early_said callee m) IsCleanRemote
+early_said_clean callee m heard = by (callee.is_early || length (tag_given m) == 0)
   where
     by : (t : Bool) → IfSome (if t then None else Some (remote_of Callee m.heard.lines)) IsCleanRemote
     by true = tt
     by false = remote_clean Callee m.heard.lines heard.lines_in
+
+callee_after_clean : (callee : TriedView) (m : Said) → IsCleanHeard m.heard → IsMet callee → IsMet (callee_after callee m)
+callee_after_clean callee m heard is = met_by_clean (early_said callee m) callee (early_said_clean callee m heard) is
 
 armed_in_clean : (time : Option ℕ) (at : ℕ) (attempt : Attempt) (c : Call) (desk : Desk) → IsCleanDesk desk → IsCleanDesk (armed_in time at attempt c desk)
 armed_in_clean None at attempt c desk had = had
@@ -80,7 +82,7 @@ proceeding_clean : (site : Site) (at : ℕ) (x : Trial) (key : TKey) (m : Said) 
     IsCleanHeard m.heard → IsCleanTrial x → IsKept c → IsCleanDesk desk → IsCleanStep (proceeding site at x key m code c desk)
 proceeding_clean site at x key m code c desk is t k had = record {
   kept = k;
-  phase = record { caller_in = t.caller_in; callee_in = callee_after_clean x.callee m is t.callee_in; service_in = t.service_in; sent_in = t.sent_in };
+  phase = record { caller_in = t.caller_in; callee_in = callee_after_clean x.callee m is t.callee_in; service_in = t.service_in; sent_in = early_clean (early_said x.callee m) x.attempt.invitation (early_said_clean x.callee m is) t.sent_in };
   desk = armed_clean code at x.attempt c (relayed_to_caller site c x.attempt.service m desk) (relayed_to_caller_clean site c x.attempt.service m desk k is had);
 }
 
@@ -93,7 +95,7 @@ answered_clean_row : (site : Site) (at : ℕ) (x : Trial) (key : TKey) (m : Said
     IsCleanHeard m.heard → IsCleanTrial x → IsKept c → IsCleanDesk desk → IsCleanStep (answered site at x key m c desk)
 answered_clean_row site at x key m c desk is t k had = record {
   kept = record { opening_in = k.opening_in; history_in = k.history_in; loose_in = k.loose_in; taken_in = each_append IsCleanTaken c.taken (taken_by key m false x.attempt.invitation ∷ []) k.taken_in (t.sent_in, tt) };
-  phase = record { pair_in = record { caller_in = t.caller_in; callee_in = met_clean x.callee.leg.dialogue (remote_of Callee m.heard.lines) t.callee_in (remote_clean Callee m.heard.lines is.lines_in) }; stage_in = tt };
+  phase = record { pair_in = record { caller_in = t.caller_in; callee_in = (met_clean x.callee.leg.dialogue (remote_of Callee m.heard.lines) t.callee_in.0 (remote_clean Callee m.heard.lines is.lines_in), t.callee_in.1) }; stage_in = tt };
   desk = awaiting_clean at c (relayed_to_caller site c x.attempt.service m desk) (relayed_to_caller_clean site c x.attempt.service m desk k is had);
 }
 

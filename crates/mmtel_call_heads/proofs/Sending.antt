@@ -174,15 +174,22 @@ acked_for_clean sip d passed m desk is f had =
 
 -- ---- what repeats an INVITE
 
+-- what the other side says of itself
+pub record IsCleanRemote (r : Remote) : Type 0 where
+  pub tag_in : IsClean r.tag
+  pub target_in : IsClean r.target
+  pub routes_in : AreClean r.routes
+
 -- what of it is sent again
-pub record AreCleanSent (d : Dialogue) (branch : List ℕ) (ack : Option (List ℕ)) (forks : List Dialogue) : Type 0 where
+pub record AreCleanSent (d : Dialogue) (branch : List ℕ) (ack : Option (List ℕ)) (forks : List Dialogue) (early : Option Remote) : Type 0 where
   pub dialogue_in : IsCleanDialogue d
   pub branch_in : IsClean branch
   pub ack_in : IfSome ack IsTextOfClean
   pub forks_in : Each IsCleanDialogue forks
+  pub early_in : IfSome early IsCleanRemote
 
 abbrev pub IsCleanInvitation : Invitation → Type 0
-IsCleanInvitation i = AreCleanSent i.dialogue i.branch i.ack i.forks
+IsCleanInvitation i = AreCleanSent i.dialogue i.branch i.ack i.forks i.early
 
 pub cancel_clean : (sip : Addr) (i : Invitation) (desk : Desk) → IsCleanInvitation i → IsCleanDesk desk → IsCleanDesk (cancel_sent sip i desk)
 cancel_clean sip i desk is had =
@@ -207,11 +214,6 @@ final_acked_clean sip key i m desk is heard had =
     refl (given_clean (bare sip i.branch) is.branch_in refl)) had
 
 -- ---- what the other side says of itself
-
-pub record IsCleanRemote (r : Remote) : Type 0 where
-  pub tag_in : IsClean r.tag
-  pub target_in : IsClean r.target
-  pub routes_in : AreClean r.routes
 
 tag_in_clean : (name : List ℕ) (ls : List Line) → AreCleanLines ls → IsClean (tag_in name ls)
 unfolding tag_in

@@ -1,6 +1,6 @@
 -- Every step of a story keeps the call clean, and sends what is clean.
 use Rattle.std.proofs.Common.{Bool, true, false, ℕ, List, [], ◌∷◌, drop, Option, Some, None, refl}
-use Rattle.std.specs.Prelude.{codes, if◌then◌else◌, is_ok}
+use Rattle.std.specs.Prelude.{IfSome, codes, if◌then◌else◌, is_ok}
 use Rattle.mmtel_answers.specs.Said.{Said, status_of}
 use Rattle.mmtel_desk.specs.Desks.{drew, token}
 use Rattle.mmtel_desk.specs.declared.desks.Desk.{Desk}
@@ -21,13 +21,16 @@ use Rattle.mmtel_call.specs.declared.calls.Opening.{Opening}
 use Rattle.mmtel_call.specs.declared.calls.Phase.{Phase}
 use Rattle.mmtel_call.specs.Closing.{onward}
 use Rattle.mmtel_call.specs.Leaving.{answered_other, without_silent}
-use Rattle.mmtel_call.specs.Lending.{finished, finished_in, last_of, lent_at, lent_in}
+use Rattle.mmtel_call.specs.Lending.{finished, finished_in, last_of, lent_at, lent_in, pair_with, put_back_in, taken_out, taken_out_at, taken_out_in}
 use Rattle.mmtel_call.specs.Lending as lending
+use Rattle.mmtel_call.specs.declared.calls.Loan.{Loan}
 use Rattle.mmtel_call.specs.declared.calls.Pair.{Pair}
 use Rattle.mmtel_call.specs.declared.calls.Stage.{Stage}
 use Rattle.mmtel_call.specs.declared.calls.Stage.TheVariants.{Answered, Asking, Parting, Talking}
 use Rattle.mmtel_desk.specs.Sending.{bye}
 use Rattle.mmtel_leg.specs.Releases.{released_leg}
+use Rattle.mmtel_leg.specs.declared.legs.Released.{Released}
+use Rattle.mmtel_leg.specs.declared.legs.Released.TheVariants as released
 use Rattle.mmtel_types.specs.declared.causes.Cause.TheVariants.{Ended}
 use Rattle.mmtel_types.specs.declared.sides.Side.TheVariants.{Caller, Callee}
 use Rattle.mmtel_call.specs.Opening.{begins, caller_of, first_of, new_call, nowhere, opened, opening_of, received_list, refusal_of, unless_refused}
@@ -45,14 +48,14 @@ use Rattle.mmtel_transaction.specs.declared.words.Emit.TheVariants as emit
 use Rattle.mmtel_call_heads.specs.Clean.{AreClean, HasOwnLines, IsClean, IsCleanMessage}
 use Rattle.mmtel_call_heads.specs.Emits.{Each, IsCleanDesk, IsCleanEmit}
 use Rattle.mmtel_call_heads.specs.Heard.{IsOfClean}
-use Rattle.mmtel_call_heads.specs.Kept.{AreCleanEntries, IsCleanDialogue}
+use Rattle.mmtel_call_heads.specs.Kept.{AreCleanEntries, IsCleanLeg}
 use Rattle.mmtel_call_heads.specs.Stories as stories
 use Rattle.mmtel_call_heads.specs.Stories.{EmitsAreClean, EmitsHaveTheirLines, FinishedEmitsAreClean, IsCleanSignal, IsCleanStart, SendsOwnLines, desk_after}
 use Rattle.mmtel_call_heads.proofs.Bytes.{all_drop}
 use Rattle.mmtel_call_heads.proofs.Deciding.{first_target_clean}
 use Rattle.mmtel_call_heads.proofs.Going.{IsGood, reach_clean, refused_clean}
 use Rattle.mmtel_call_heads.proofs.Hearing.{IsCleanHeard, heard_clean}
-use Rattle.mmtel_call_heads.proofs.Keeping.{IsCleanOpening, IsCleanPhase, IsCleanStep, IsCleanStood, IsKept, if_step, onward_clean, over_clean, replied_to_clean, told_caller_clean}
+use Rattle.mmtel_call_heads.proofs.Keeping.{IsCleanHere, IsCleanOpening, IsCleanPair, IsCleanPhase, IsCleanStep, IsCleanStood, IsKept, if_step, onward_clean, over_clean, replied_to_clean, told_caller_clean}
 use Rattle.mmtel_call_heads.proofs.Leaving.{key_row, other_row, silent_row}
 use Rattle.mmtel_call_heads.proofs.Ringing as ringing
 use Rattle.mmtel_call_heads.proofs.Sending.{bye_clean, opened_clean, token_clean}
@@ -151,7 +154,7 @@ new_kept : (site : Site) (o : Opening) → IsCleanOpening o → IsKept (new_call
 new_kept site o is = record { opening_in = is; history_in = received_clean o.invite is.invite_in; loose_in = tt; taken_in = tt }
 
 unless_refused_clean : (cause : Option Cause) (site : Site) (now : Standing) (caller : Leg) (c : Call) (desk : Desk) →
-    IsGood site now → IsCleanDialogue caller.dialogue → IsKept c → IsCleanDesk desk → IsCleanStep (unless_refused cause site now caller c desk)
+    IsGood site now → IsCleanHere caller.dialogue → IsKept c → IsCleanDesk desk → IsCleanStep (unless_refused cause site now caller c desk)
 unless_refused_clean None site now caller c desk good first k had =
     reach_clean site now caller None (first_of c.opening) c desk good (first_target_clean (request_uri c.opening.invite.heard.start) nowhere refl) first k had
 unless_refused_clean (Some cause) site now caller c desk good first k had = refused_clean site now.at caller cause c desk k had
@@ -159,7 +162,7 @@ unless_refused_clean (Some cause) site now caller c desk good first k had = refu
 begins_clean : (site : Site) (now : Standing) (c : Call) (desk : Desk) → IsGood site now → IsKept c → IsCleanDesk desk → IsCleanStep (begins site now c desk)
 begins_clean site now c desk good k had =
     unless_refused_clean (refusal_of now.at c.opening) site now (caller_of now.at c) c (told_caller site c 100 desk) good
-    (opened_clean c.opening.invite.peer c.opening.invite.heard.lines c.opening.tag k.opening_in.invite_in.lines_in k.opening_in.tag_in) k (told_caller_clean site c 100 desk k had)
+    (opened_clean c.opening.invite.peer c.opening.invite.heard.lines c.opening.tag k.opening_in.invite_in.lines_in k.opening_in.tag_in, k.opening_in.tag_in) k (told_caller_clean site c 100 desk k had)
 
 pub opened_step_clean : (site : Site) (now : Standing) (a : Arrival) (desk : Desk) → IsGood site now → IsOfClean a.invite.heard → IsClean (request_uri a.invite.heard.start) → IsCleanDesk desk → IsCleanStep (opened site now a desk)
 unfolding opened
@@ -169,7 +172,7 @@ opened_step_clean site now a desk good is uri had =
 
 -- ---- a leg is taken out, and the call ends without it
 
-record IsCleanSoFar (c : Call) : Type 0 where
+pub record IsCleanSoFar (c : Call) : Type 0 where
   pub kept : IsKept c
   pub phase : IsCleanPhase c.phase
 
@@ -180,26 +183,54 @@ lent_at_clean Talking Caller x c p k = record { kept = k; phase = p.pair_in.call
 lent_at_clean Talking Callee x c p k = record { kept = k; phase = p.pair_in.caller_in }
 lent_at_clean (Asking asking q) side x c p k = record { kept = k; phase = p }
 
-lent_clean : (phase : Phase) (side : Side) (c : Call) → IsCleanPhase phase → IsKept c → IsCleanSoFar (lent_in phase side (at_phase phase c))
+pub lent_clean : (phase : Phase) (side : Side) (c : Call) → IsCleanPhase phase → IsKept c → IsCleanSoFar (lent_in phase side (at_phase phase c))
 lent_clean (Offered x) side c p k = record { kept = k; phase = p }
 lent_clean (Stood x stage) side c p k = lent_at_clean stage side x c p k
 lent_clean (Lent loan) side c p k = record { kept = k; phase = p }
 lent_clean (Over cause) side c p k = record { kept = k; phase = p }
 
+-- the leg that is taken out
+taken_side_clean : (side : Side) (x : Pair) → IsCleanPair x → IsCleanLeg (taken_out side x)
+taken_side_clean Caller x is = record { dialog = is.caller_in.0; tag = is.caller_in.1 }
+taken_side_clean Callee x is = record { dialog = is.callee_in.0; tag = is.callee_in.1 }
+
+taken_at_clean : (stage : Stage) (side : Side) (x : Pair) → IsCleanPair x → IfSome (taken_out_at stage side x) IsCleanLeg
+taken_at_clean (Answered waiting success) side x is = tt
+taken_at_clean (Parting waiting success) side x is = tt
+taken_at_clean Talking side x is = taken_side_clean side x is
+taken_at_clean (Asking asking q) side x is = tt
+
+pub taken_out_clean : (phase : Phase) (side : Side) → IsCleanPhase phase → IfSome (taken_out_in phase side) IsCleanLeg
+taken_out_clean (Offered x) side p = tt
+taken_out_clean (Stood x stage) side p = taken_at_clean stage side x p.pair_in
+taken_out_clean (Lent loan) side p = tt
+taken_out_clean (Over cause) side p = tt
+
+-- the leg that is put back
+put_back_pair_clean : (away : Released) (loan : Loan) → IsCleanLeg away → IsCleanHere (released_leg loan.left).dialogue → IsCleanPair (pair_with away loan)
+put_back_pair_clean (released.Caller leg) loan is p = record { caller_in = (is.dialog, is.tag); callee_in = p }
+put_back_pair_clean (released.Callee leg) loan is p = record { caller_in = p; callee_in = (is.dialog, is.tag) }
+
+pub put_back_clean : (phase : Phase) (away : Released) (c : Call) → IsCleanLeg away → IsCleanPhase phase → IsKept c → IsCleanSoFar (put_back_in phase away (at_phase phase c))
+put_back_clean (Offered x) away c is p k = record { kept = k; phase = p }
+put_back_clean (Stood x stage) away c is p k = record { kept = k; phase = p }
+put_back_clean (Lent loan) away c is p k = record { kept = k; phase = record { pair_in = put_back_pair_clean away loan is p; stage_in = tt } }
+put_back_clean (Over cause) away c is p k = record { kept = k; phase = p }
+
 finished_in_clean : (phase : Phase) (site : Site) (at : ℕ) (c : Call) (desk : Desk) → IsCleanPhase phase → IsKept c → IsCleanDesk desk → IsCleanStep (finished_in phase site at (at_phase phase c) desk)
 finished_in_clean (Offered x) site at c desk p k had = onward_clean (at_phase (Offered x) c) desk k p had
 finished_in_clean (Stood x stage) site at c desk p k had = onward_clean (at_phase (Stood x stage) c) desk k p had
 finished_in_clean (Lent loan) site at c desk p k had =
-    over_clean at Ended (lending.first_of loan.left loan.meter) (last_of loan.left loan.meter) (at_phase (Lent loan) c) (bye site.sip (released_leg loan.left).dialogue desk) k (bye_clean site.sip (released_leg loan.left).dialogue desk p had)
+    over_clean at Ended (lending.first_of loan.left loan.meter) (last_of loan.left loan.meter) (at_phase (Lent loan) c) (bye site.sip (released_leg loan.left).dialogue desk) k (bye_clean site.sip (released_leg loan.left).dialogue desk p.0 had)
 finished_in_clean (Over cause) site at c desk p k had = onward_clean (at_phase (Over cause) c) desk k p had
 
-finished_clean : (site : Site) (at : ℕ) (c : Call) (desk : Desk) → IsCleanSoFar c → IsCleanDesk desk → IsCleanStep (finished site at c desk)
+pub finished_clean : (site : Site) (at : ℕ) (c : Call) (desk : Desk) → IsCleanSoFar c → IsCleanDesk desk → IsCleanStep (finished site at c desk)
 unfolding finished
 finished_clean site at c desk is had = finished_in_clean c.phase site at c desk is.phase is.kept had
 
 -- ---- stories
 
-first_clean : (s : Start) → IsCleanStart s → IsCleanStep (first_step s)
+pub first_clean : (s : Start) → IsCleanStart s → IsCleanStep (first_step s)
 first_clean s is = opened_step_clean s.site s.now s.arrival s.desk (record { home_in = is.home; sheets_in = is.sheets }) is.invite is.uri is.desk
 
 next_clean : (s : Start) (x : Heard) (c : Call) → IsCleanStart s → stories.IsCleanHeard x → IsCleanSoFar c → IsCleanStep (next_step s x c)

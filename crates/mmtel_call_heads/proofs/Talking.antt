@@ -38,17 +38,20 @@ use Rattle.mmtel_call_heads.specs.Clean.{AreCleanLines}
 use Rattle.mmtel_call_heads.specs.Emits.{Each, IsCleanDesk, IsTextOfClean}
 use Rattle.mmtel_call_heads.specs.Kept.{IsCleanDialogue}
 use Rattle.mmtel_call_heads.proofs.Hearing.{IsCleanHeard}
-use Rattle.mmtel_call_heads.proofs.Keeping.{IsCleanPair, IsCleanReinvite, IsCleanStage, IsCleanStep, IsCleanTaken, IsKept, if_step, once_clean, onward_clean, over_clean, replied_to_clean, shown_to_clean, unheard_clean, unlisted_clean}
+use Rattle.mmtel_call_heads.proofs.Keeping.{IsCleanHere, IsCleanPair, IsCleanReinvite, IsCleanStage, IsCleanStep, IsCleanTaken, IsKept, if_step, once_clean, onward_clean, over_clean, replied_to_clean, shown_to_clean, unheard_clean, unlisted_clean}
 use Rattle.mmtel_call_heads.proofs.Ringing.{awaiting_clean, with_loose_kept}
 use Rattle.mmtel_call_heads.proofs.Sending.{IsCleanInvitation, acked_clean, acked_for_clean, asked_for_clean, bye_clean, cancelled_clean, each_append, each_map, final_acked_clean, if_desk, relayed_ack_clean, relayed_clean, token_clean}
 
 -- ---- both sides
 
-leg_clean : (side : Side) (x : Pair) → IsCleanPair x → IsCleanDialogue (leg_of side x).dialogue
-leg_clean Caller x is = is.caller_in
-leg_clean Callee x is = is.callee_in
+leg_here : (side : Side) (x : Pair) → IsCleanPair x → IsCleanHere (leg_of side x).dialogue
+leg_here Caller x is = is.caller_in
+leg_here Callee x is = is.callee_in
 
-with_leg_clean : (side : Side) (leg : Leg) (x : Pair) → IsCleanDialogue leg.dialogue → IsCleanPair x → IsCleanPair (with_leg side leg x)
+leg_clean : (side : Side) (x : Pair) → IsCleanPair x → IsCleanDialogue (leg_of side x).dialogue
+leg_clean side x is = (leg_here side x is).0
+
+with_leg_clean : (side : Side) (leg : Leg) (x : Pair) → IsCleanHere leg.dialogue → IsCleanPair x → IsCleanPair (with_leg side leg x)
 with_leg_clean Caller leg x e is = record { caller_in = e; callee_in = is.callee_in }
 with_leg_clean Callee leg x e is = record { caller_in = is.caller_in; callee_in = e }
 
@@ -73,7 +76,7 @@ with_ack_clean : (branch text : List ℕ) → IsTextOfClean text → (t : Taken)
 with_ack_clean branch text e t is = by (bytes_eq t.invitation.branch branch)
   where
     by : (b : Bool) → IsCleanTaken (if b then record t { invitation = record t.invitation { ack = Some text } } else t)
-    by true = record { dialogue_in = is.dialogue_in; branch_in = is.branch_in; ack_in = e; forks_in = is.forks_in }
+    by true = record { dialogue_in = is.dialogue_in; branch_in = is.branch_in; ack_in = e; forks_in = is.forks_in; early_in = is.early_in }
     by false = is
 
 acked_across_clean : (site : Site) (x : Pair) (side : Side) (success : Success) (m : Said) (c : Call) (desk : Desk) →
@@ -124,8 +127,8 @@ asked_across_clean site x side key m c desk heard is k had =
     record {
       kept = k;
       phase = record {
-        pair_in = with_leg_clean (other_of side) (having_invited other) x d is;
-        stage_in = record { request_in = heard; sent_in = record { dialogue_in = d; branch_in = token_clean desk had; ack_in = tt; forks_in = tt } };
+        pair_in = with_leg_clean (other_of side) (having_invited other) x (leg_here (other_of side) x is) is;
+        stage_in = record { request_in = heard; sent_in = record { dialogue_in = d; branch_in = token_clean desk had; ack_in = tt; forks_in = tt; early_in = tt } };
       };
       desk = asked_for_clean site.sip (codes "INVITE") other.dialogue (shown_across site c x side m) m.heard desk d refl (shown_across_clean site c x side m k heard) had;
     }
@@ -195,7 +198,7 @@ ended_dialogs_clean x asking leaving is = by (is_same_side asking leaving)
 bye_while_clean : (site : Site) (at : ℕ) (x : Pair) (asking : Side) (q : Reinvite) (leaving : Side) (c : Call) (desk : Desk) → IsCleanPair x → IsCleanReinvite q → IsKept c → IsCleanDesk desk → IsCleanStep (bye_while_asking site at x asking q leaving c desk)
 bye_while_clean site at x asking q leaving c desk is e k had =
     over_stood_clean at x (with_loose (loose_across x asking leaving q) c) (bye_to site x (other_of leaving) (replied_to site c q.key q.request 487 desk))
-    (with_loose_kept (loose_across x asking leaving q) c (record { dialogue_in = e.sent_in.dialogue_in; branch_in = e.sent_in.branch_in; ack_in = e.sent_in.ack_in; forks_in = ended_dialogs_clean x asking leaving is }) k)
+    (with_loose_kept (loose_across x asking leaving q) c (record { dialogue_in = e.sent_in.dialogue_in; branch_in = e.sent_in.branch_in; ack_in = e.sent_in.ack_in; forks_in = ended_dialogs_clean x asking leaving is; early_in = e.sent_in.early_in }) k)
     (bye_to_clean site x (other_of leaving) (replied_to site c q.key q.request 487 desk) is (replied_to_clean site c q.key q.request 487 desk k e.request_in had))
 
 -- ---- by stage
@@ -236,7 +239,7 @@ request_if_row : (r : Result (Unit {0}) DialogueFault) (stage : Stage) (site : S
     IsCleanHeard m.heard → IsCleanPair x → IsCleanStage stage → IsKept c → IsCleanDesk desk → IsCleanStep (on_request_at_if r stage site at x side key m (stood x stage c) desk)
 request_if_row (Ok heard_it) stage site at x side key m c desk heard is e k had =
     let y : Pair = with_leg side (having_heard (leg_of side x) m) x in
-    heard_at_row stage site at y side key m c desk heard (with_leg_clean side (having_heard (leg_of side x) m) x (leg_clean side x is) is) e k had
+    heard_at_row stage site at y side key m c desk heard (with_leg_clean side (having_heard (leg_of side x) m) x (leg_here side x is) is) e k had
 request_if_row (Err fault) stage site at x side key m c desk heard is e k had = same_clean x stage c (unheard site (stood x stage c) key m fault desk) is e k (unheard_clean site (stood x stage c) key m fault desk k heard had)
 
 pub request_row : (stage : Stage) (site : Site) (at : ℕ) (x : Pair) (side : Side) (key : TKey) (m : Said) (c : Call) (desk : Desk) →

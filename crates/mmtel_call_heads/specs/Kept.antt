@@ -2,8 +2,10 @@
 use Rattle.std.specs.Prelude.{◌≡◌, true, ◌&&◌, ℕ, Bool, List}
 use Rattle.std.specs.List.{list_all}
 use Rattle.mmtel_history.specs.declared.entries.Entry.{Entry}
+use Rattle.mmtel_leg.specs.Releases.{released_leg}
 use Rattle.mmtel_leg.specs.Requests.{Given}
 use Rattle.mmtel_leg.specs.declared.dialogues.Dialogue.{Dialogue}
+use Rattle.mmtel_leg.specs.declared.legs.Released.{Released}
 use Rattle.mmtel_message.specs.Headers.{is_value_byte}
 use Rattle.mmtel_message.specs.Responses.{Reply}
 use Rattle.mmtel_call_heads.specs.Clean.{AreClean, AreCleanLines, IsClean}
@@ -29,6 +31,11 @@ pub record AreCleanParts (call_id local remote remote_tag target : List ℕ) (ro
 
 abbrev pub IsCleanDialogue : Dialogue → Type 0
 IsCleanDialogue d = AreCleanParts d.call_id d.local d.remote d.remote_tag d.target d.routes
+
+-- that of a leg that is taken out of a call, with the server's tag in it
+pub record IsCleanLeg (leg : Released) : Type 0 where
+  pub dialog : IsCleanDialogue (released_leg leg).dialogue
+  pub tag : IsClean (released_leg leg).dialogue.local_tag
 
 -- ---- what messages are built of
 

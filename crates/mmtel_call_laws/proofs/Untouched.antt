@@ -3,9 +3,9 @@ use Rattle.std.proofs.Common.{◌≡◌, ℕ, Bool, true, false, List, refl}
 use Rattle.std.specs.Prelude.{Option, Some, None, if◌then◌else◌, codes, nat_lt, position, slice_get, not}
 use Rattle.mmtel_answers.specs.Said.{Said, status_of}
 use Rattle.mmtel_charging.specs.declared.rows.Row.{Row}
-use Rattle.mmtel_desk.specs.Invitations.{has_said, is_cancellable, knows}
+use Rattle.mmtel_desk.specs.Invitations.{is_cancellable, knows}
 use Rattle.mmtel_desk.specs.Loose as loose_ones
-use Rattle.mmtel_desk.specs.Loose.{ended_before, is_of, on_response, on_success, on_success_in, late_cancelled, with_invitation}
+use Rattle.mmtel_desk.specs.Loose.{ended_before, is_of, on_response, on_success, on_success_in, late_cancelled, told_late, with_invitation}
 use Rattle.mmtel_desk.specs.Sending.{cancel_sent, cancelled}
 use Rattle.mmtel_desk.specs.declared.desks.Desk.{Desk}
 use Rattle.mmtel_desk.specs.declared.invitations.Invitation.{Invitation}
@@ -76,7 +76,7 @@ rest-if false one two rows e f = f
 
 rest-rows : (sip : Addr) (key : TKey) (m : HeardMessage) (l : Loose) (desk : Desk) → (on_response sip key m l desk).desk.rows ≡ desk.rows
 rest-rows sip key m l desk =
-    let provisional = with_invitation l (has_said key l.invitation) in
+    let provisional = told_late key m l in
     let taken = with_invitation l (knows key l.invitation) in
     let remote = remote_of Callee m.lines in
     rest-if (nat_lt (status_of m.start) 200) _ _ desk.rows

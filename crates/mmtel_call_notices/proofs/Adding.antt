@@ -5,9 +5,9 @@ use Rattle.std.specs.Prelude.{◌&&◌, Option, Some, None, codes, if◌then◌e
 use Rattle.mmtel_answers.specs.Answers.{allowed}
 use Rattle.mmtel_answers.specs.Said.{Said, status_of}
 use Rattle.mmtel_desk.specs.Desks.{drew, emitted}
-use Rattle.mmtel_desk.specs.Invitations.{has_said, is_cancellable, knows}
+use Rattle.mmtel_desk.specs.Invitations.{is_cancellable, knows}
 use Rattle.mmtel_desk.specs.Loose as loose_ones
-use Rattle.mmtel_desk.specs.Loose.{ended_before, is_of, on_response, on_success_in, with_invitation}
+use Rattle.mmtel_desk.specs.Loose.{ended_before, is_of, on_response, on_success_in, told_late, with_invitation}
 use Rattle.mmtel_desk.specs.Sending.{acked, bye, cancel_sent, cancelled, final_acked}
 use Rattle.mmtel_desk.specs.declared.desks.Desk.{Desk}
 use Rattle.mmtel_desk.specs.declared.invitations.Invitation.{Invitation}
@@ -154,7 +154,7 @@ silent-unlisted key site c asked m desk =
 
 success-silent : (key : TKey) (sip : Addr) (l : Loose) (remote : Remote) (d : Option Dialogue) (desk : Desk) → IsSilent key desk (on_success_in sip l remote d desk).desk
 success-silent key sip l remote None desk =
-    let d = loose_ones.made_from l.within l.invitation.dialogue remote in
+    let d = loose_ones.made_from l.within l.invitation.early l.invitation.dialogue remote in
     adds-then key desk (acked sip d desk) (bye sip d (acked sip d desk)) [] [] (silent-acked key sip d desk) (silent-bye key sip d (acked sip d desk))
 success-silent key sip l remote (Some d) desk = silent-acked key sip d desk
 
@@ -165,7 +165,7 @@ rest-if key before false one two e f = f
 rest-silent : (key : TKey) (sip : Addr) (asked : TKey) (m : HeardMessage) (l : Loose) (desk : Desk) → IsSilent key desk (on_response sip asked m l desk).desk
 rest-silent key sip asked m l desk =
     let taken = with_invitation l (knows asked l.invitation) in
-    let said = with_invitation l (has_said asked l.invitation) in
+    let said = told_late asked m l in
     let remote = remote_of Callee m.lines in
     rest-if key desk (nat_lt (status_of m.start) 200) _ _
     (rest-if key desk said.invitation.cancelled _ _ (silent key desk) (adds-emit key desk _ [] refl))

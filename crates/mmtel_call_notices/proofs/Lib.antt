@@ -3,4 +3,5 @@ mod Owning
 mod Coming
 mod Hearing
 mod Standing
+mod Later
 mod Telling

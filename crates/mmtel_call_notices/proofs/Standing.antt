@@ -1,5 +1,5 @@
 -- A call that is not offered, or not any more, tells its caller of no diversion.
-use Rattle.std.proofs.Common.{[], ◌≡◌, ℕ, ◌==◌, Bool, true, false, List, refl, ap, ◌∙◌, arith}
+use Rattle.std.proofs.Common.{[], ◌≡◌, ℕ, ◌==◌, Bool, true, false, List, refl, arith}
 use Rattle.std.proofs.lemmas.Bool.Decides.{nat_tests}
 use Rattle.std.specs.Prelude.{codes, Option, Some, None, if◌then◌else◌, nat_lt, Result, Ok, Err}
 use Rattle.mmtel_answers.specs.Said.{Said, status_of}
@@ -19,9 +19,9 @@ use Rattle.mmtel_types.specs.declared.causes.Cause.{Cause}
 use Rattle.mmtel_types.specs.declared.sides.Side.{Side}
 use Rattle.mmtel_types.specs.declared.sides.Side.TheVariants.{Caller, Callee}
 use Rattle.mmtel_call.specs.Answered.{acked_and_left, acknowledges, at_stage, bye_to, leg_of, shown_across, with_leg}
-use Rattle.mmtel_call.specs.Closing.{Step, onward, over_stood}
-use Rattle.mmtel_call.specs.Reinvites.{agreed, bye_to_both, cancelled_if_due, ends_dialog, loose_across, proceeding_across, refused_back, relayed_back}
-use Rattle.mmtel_call.specs.Requests.{having_heard, is_bye, is_invite, is_same_side, says, unlisted}
+use Rattle.mmtel_call.specs.Closing.{onward, over_stood}
+use Rattle.mmtel_call.specs.Reinvites.{agreed, bye_to_both, ends_dialog, loose_across, proceeding_across, refused_back, relayed_back}
+use Rattle.mmtel_call.specs.Requests.{having_heard, is_bye, is_invite, is_same_side, says}
 use Rattle.mmtel_call.specs.Ringing.{with_loose}
 use Rattle.mmtel_call.specs.Sending.{replied_to}
 use Rattle.mmtel_call.specs.Site.{Site}

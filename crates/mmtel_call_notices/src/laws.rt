@@ -1,5 +1,5 @@
 //! What the caller is told of the diversions of a call. These are laws, and no code.
-ghost use Rattle.mmtel_call_notices.specs.Laws.{KeepsItsHistory, TellsOfItsDiversions};
+ghost use Rattle.mmtel_call_notices.specs.Laws.{EndsInSilence, KeepsItsHistory, TellsNothingLater, TellsOfItsDiversions};
 
 use mmtel_precedence::laws::{
     endings_are_moves, later_endings_extend, moves_give_the_outcome, turns_are_moves,
@@ -10,6 +10,9 @@ use mmtel_precedence::laws::{
 pub fn calls_tell_of_their_diversions()
     ensures told { TellsOfItsDiversions }
     ensures history { KeepsItsHistory }
+    // A call that is not offered any more tells of none, whatever it hears, also while a leg of it is away, and where it ends then (RFC 4579 §5.6).
+    ensures silent { TellsNothingLater }
+    ensures ends { EndsInSilence }
 {
     turns_are_moves();
     endings_are_moves();

@@ -1,19 +1,20 @@
 -- Rows of INVITEs that the call does not wait on see public parts alone.
-use Rattle.std.proofs.Common.{◌≡◌, ℕ, zero, suc, ◌+◌, Bool, true, false, not, List, [], ◌∷◌, ◌++◌, refl, ap, sym, ◌∙◌, map, cond, codes, length, subst, take, drop, Option, Some, None}
+use Rattle.std.proofs.Common.{◌≡◌, ℕ, zero, suc, ◌+◌, ◌==◌, ◌||◌, Bool, true, false, not, List, [], ◌∷◌, ◌++◌, refl, ap, sym, ◌∙◌, map, cond, codes, length, subst, take, drop, Option, Some, None}
 use Rattle.std.specs.List.{prefix_len}
 use Rattle.std.proofs.lemmas.List.{drop-map, map-append, take-map}
 use Rattle.std.specs.Option.{option_map}
+use Rattle.std.specs.Str.{bytes_eq}
 use Rattle.std.specs.Prelude.{nat_lt, option_to_list, position, slice_get}
 use Rattle.mmtel_answers.specs.Attempts.{called}
 use Rattle.mmtel_answers.specs.Said.{Said, status_of}
-use Rattle.mmtel_desk.specs.Invitations.{has_said, knows}
+use Rattle.mmtel_desk.specs.Invitations.{early_said, knows}
 use Rattle.mmtel_desk.specs.Loose as loose_ones
-use Rattle.mmtel_desk.specs.Loose.{Rest, ended_before, fork_at, is_ended, is_of, late_cancelled, made_from, on_response, on_success, on_success_in, with_fork, with_invitation}
+use Rattle.mmtel_desk.specs.Loose.{Rest, ended_before, fork_at, is_ended, is_of, late_cancelled, made_from, on_response, on_success, on_success_in, told_late, with_fork, with_invitation}
 use Rattle.mmtel_desk.specs.Sending.{acked, bye, cancel_sent, final_acked}
 use Rattle.mmtel_desk.specs.declared.desks.Desk.{Desk}
 use Rattle.mmtel_desk.specs.declared.invitations.Invitation.{Invitation}
 use Rattle.mmtel_desk.specs.declared.invitations.Loose.{Loose}
-use Rattle.mmtel_leg.specs.Dialogues.{after_request}
+use Rattle.mmtel_leg.specs.Dialogues.{after_request, met}
 use Rattle.mmtel_leg.specs.Remotes.{remote_of}
 use Rattle.mmtel_leg.specs.declared.dialogues.Dialogue.{Dialogue}
 use Rattle.mmtel_leg.specs.declared.remotes.Remote.{Remote}
@@ -32,18 +33,18 @@ use Rattle.mmtel_call.specs.declared.calls.Stage.TheVariants.{Answered, Asking, 
 use Rattle.mmtel_call.specs.Closing.{Step, onward}
 use Rattle.mmtel_call.specs.Leaving.{acked_again, answered_at, answered_loose, answered_other, answered_taken, answered_taken_at, as_loose, forked, is_fork, is_success, is_taken, is_talking, repeated, taken_again, with_rest, with_taken, without_at}
 use Rattle.mmtel_call.specs.Site.{Site, trusts}
-use Rattle.mmtel_call_secret.specs.Parts.{nobody, public_call, public_dialog, public_invitation, public_loose, public_part, public_phase, public_taken}
+use Rattle.mmtel_call_secret.specs.Parts.{nobody, public_call, public_dialog, public_invitation, public_loose, public_part, public_phase, public_said, public_taken}
 use Rattle.mmtel_call_secret.specs.Premises.{HearsOther, IsAnswer, IsWhole}
 use Rattle.mmtel_call_secret.specs.Roles.{Role, private_places, without_private}
 use Rattle.mmtel_call_secret.specs.Rows.{AnswersOfOthers}
 use Rattle.mmtel_call_secret.specs.Seen.{AlikeDesks, AlikeSteps, Sent, Trust, trust_of}
 use Rattle.mmtel_call_secret.proofs.Across.{acked-final}
 use Rattle.mmtel_call_secret.proofs.Once as once
-use Rattle.mmtel_call_secret.proofs.Once.{call_once, dialog_again, loose_again, map_again}
-use Rattle.mmtel_call_secret.proofs.Ringing.{met_alike}
+use Rattle.mmtel_call_secret.proofs.Once.{call_once, dialog_again, invitation_told, loose_again, map_again}
+use Rattle.mmtel_call_secret.proofs.Ringing.{met_alike, said_if}
 use Rattle.mmtel_call_secret.proofs.Rows.{on-alike, step-if}
 use Rattle.mmtel_call_secret.proofs.Sent.{Heads, acked-alike, asked-alike, cancel-alike, emitted-alike, same_desk}
-use Rattle.mmtel_call_secret.proofs.Shown.{tag_by}
+use Rattle.mmtel_call_secret.proofs.Shown.{met_public, tag_by}
 
 -- ---- places in a list
 
@@ -129,10 +130,27 @@ module _ (heads : Heads) (site : Site) (keys : TKey → Bool) where
 
   -- ---- a 2xx
 
-  made_same : (within : Bool) (d : Dialogue) (role : Role) (m : Said) → (known d.peer ≡ false → IsWhole role m) →
-      public_dialog known (made_from within (public_dialog known d) (remote_of Callee (without_private role m).heard.lines)) ≡ public_dialog known (made_from within d (remote_of Callee m.heard.lines))
-  made_same true d role m told = dialog_again known d
-  made_same false d role m told = met_alike heads site keys (called d) role m told
+  tag_same : (role : Role) (m : Said) → (remote_of Callee (without_private role m).heard.lines).tag ≡ (remote_of Callee m.heard.lines).tag
+  tag_same role m = tag_by m.heard.trusted (places_in m.heard.start (private_places role m.heard)) m.heard.lines
+
+  -- the early dialog, or what the INVITE began
+  begun_if : (b : Bool) (said : Remote) (d : Dialogue) (role : Role) (m : Said) → (known d.peer ≡ false → IsWhole role m) →
+      public_dialog known (met (cond b (met (called (public_dialog known d)) (public_said (known d.peer) said)) (called (public_dialog known d))) (remote_of Callee (without_private role m).heard.lines))
+      ≡ public_dialog known (met (cond b (met (called d) said) (called d)) (remote_of Callee m.heard.lines))
+  begun_if true said d role m told =
+      ap (λ (z : Dialogue). public_dialog known (met z (remote_of Callee (without_private role m).heard.lines))) (met_public (known d.peer) (called d) said)
+      ∙ met_alike heads site keys (met (called d) said) role m told
+  begun_if false said d role m told = met_alike heads site keys (called d) role m told
+
+  made_same : (within : Bool) (early : Option Remote) (d : Dialogue) (role : Role) (m : Said) → (known d.peer ≡ false → IsWhole role m) →
+      public_dialog known (made_from within (option_map (public_said (known d.peer)) early) (public_dialog known d) (remote_of Callee (without_private role m).heard.lines))
+      ≡ public_dialog known (made_from within early d (remote_of Callee m.heard.lines))
+  made_same true early d role m told = dialog_again known d
+  made_same false None d role m told = met_alike heads site keys (called d) role m told
+  made_same false (Some said) d role m told =
+      ap (λ (tag : List ℕ). public_dialog known (met (cond (bytes_eq said.tag tag) (met (called (public_dialog known d)) (public_said (known d.peer) said)) (called (public_dialog known d))) (remote_of Callee (without_private role m).heard.lines)))
+      (tag_same role m)
+      ∙ begun_if (bytes_eq said.tag (remote_of Callee m.heard.lines).tag) said d role m told
 
   ends-alike : (l : Loose) (d e : Dialogue) (one other : Desk) → public_dialog known d ≡ public_dialog known e → AlikeDesks T one other →
       RestsAlike T (loose_ones.acked_and_ended site.sip (public_loose known l) d one) (loose_ones.acked_and_ended site.sip l e other)
@@ -152,7 +170,9 @@ module _ (heads : Heads) (site : Site) (keys : TKey → Bool) where
   success-by : (o : Option Dialogue) (l : Loose) (role : Role) (m : Said) (one other : Desk) → (known l.invitation.dialogue.peer ≡ false → IsWhole role m) → AlikeDesks T one other →
       RestsAlike T (on_success_in site.sip (public_loose known l) (remote_of Callee (without_private role m).heard.lines) (option_map (public_dialog known) o) one) (on_success_in site.sip l (remote_of Callee m.heard.lines) o other)
   success-by None l role m one other told a =
-      ends-alike l (made_from l.within (public_dialog known l.invitation.dialogue) (remote_of Callee (without_private role m).heard.lines)) (made_from l.within l.invitation.dialogue (remote_of Callee m.heard.lines)) one other (made_same l.within l.invitation.dialogue role m told) a
+      let i : Invitation = l.invitation in
+      ends-alike l (made_from l.within (public_invitation known i).early (public_dialog known i.dialogue) (remote_of Callee (without_private role m).heard.lines)) (made_from l.within i.early i.dialogue (remote_of Callee m.heard.lines)) one other
+      (made_same l.within i.early i.dialogue role m told) a
   success-by (Some d) l role m one other told a = record {
     left = ap (λ (x : Loose). Some x) (loose_again known l);
     desk = acked-alike heads T site.sip d one other a;
@@ -173,7 +193,7 @@ module _ (heads : Heads) (site : Site) (keys : TKey → Bool) where
       let r : Remote = remote_of Callee (without_private role m).heard.lines in
       let s : Remote = remote_of Callee m.heard.lines in
       subst (λ (o : Option Dialogue). RestsAlike T (on_success_in site.sip (public_loose known l) r o one) (on_success site.sip l s other))
-      (sym (ap (λ (tag : List ℕ). ended_before (public_loose known l) tag) (tag_by m.heard.trusted (places_in m.heard.start (private_places role m.heard)) m.heard.lines) ∙ ended_same l s.tag))
+      (sym (ap (λ (tag : List ℕ). ended_before (public_loose known l) tag) (tag_same role m) ∙ ended_same l s.tag))
       (success-by (ended_before l s.tag) l role m one other told a)
 
   -- ---- any response to one that was left
@@ -187,18 +207,45 @@ module _ (heads : Heads) (site : Site) (keys : TKey → Bool) where
       (record { left = ap (λ (x : Loose). Some x) (loose_again known l); desk = a })
       (record { left = ap (λ (x : Loose). Some x) (loose_again known m); desk = cancel-alike heads T site.sip i one other a })
 
+  rests-back : (x y : Rest) → RestsAlike T x y → RestsAlike T y x
+  rests-back x y a = record { left = sym a.left; desk = desks-back T x.desk y.desk a.desk }
+
+  rests-then : (x y z : Rest) → RestsAlike T x y → RestsAlike T y z → RestsAlike T x z
+  rests-then x y z a b = record { left = a.left ∙ b.left; desk = desks-then T x.desk y.desk z.desk a.desk b.desk }
+
+  late-like : (l m : Loose) (one other : Desk) → public_loose known l ≡ public_loose known m → AlikeDesks T one other → RestsAlike T (late_cancelled site.sip l one) (late_cancelled site.sip m other)
+  late-like l m one other same a =
+      rests-then (late_cancelled site.sip l one) (late_cancelled site.sip (public_loose known l) one) (late_cancelled site.sip m other)
+      (rests-back (late_cancelled site.sip (public_loose known l) one) (late_cancelled site.sip l one) (late-alike l one one (same_desk T one)))
+      (subst (λ (z : Loose). RestsAlike T (late_cancelled site.sip z one) (late_cancelled site.sip m other)) (sym same) (late-alike m one other a))
+
+  -- what a late provisional response says
+  early_same : (code : ℕ) (trusted : Bool) (role : Role) (m : Said) → (trusted ≡ false → IsWhole role m) →
+      option_map (public_said trusted) (early_said code (remote_of Callee (without_private role m).heard.lines)) ≡ option_map (public_said trusted) (early_said code (remote_of Callee m.heard.lines))
+  early_same code trusted role m told =
+      ap (λ (tag : List ℕ). option_map (public_said trusted) (cond (nat_lt code 101 || length tag == 0) None (Some (remote_of Callee (without_private role m).heard.lines)))) (tag_same role m)
+      ∙ said_if heads site keys (nat_lt code 101 || length (remote_of Callee m.heard.lines).tag == 0) trusted role m told
+
+  told_same : (key : TKey) (l : Loose) (role : Role) (m : Said) → (known l.invitation.dialogue.peer ≡ false → IsWhole role m) →
+      public_loose known (told_late key (without_private role m).heard (public_loose known l)) ≡ public_loose known (told_late key m.heard l)
+  told_same key l role m told =
+      ap (λ (i : Invitation). with_invitation l i)
+      (invitation_told known key l.invitation (early_said (status_of m.heard.start) (remote_of Callee (without_private role m).heard.lines)) (early_said (status_of m.heard.start) (remote_of Callee m.heard.lines))
+      (early_same (status_of m.heard.start) (known l.invitation.dialogue.peer) role m told))
+
   pub response-alike : (key : TKey) (l : Loose) (role : Role) (m : Said) (one other : Desk) → IsAnswer T key l.invitation.dialogue.peer role m → AlikeDesks T one other →
       RestsAlike T (on_response site.sip key (without_private role m).heard (public_loose known l) one) (on_response site.sip key m.heard l other)
   response-alike key l role m one other answer a =
       let n : Said = without_private role m in
-      let said : Loose = with_invitation l (has_said key l.invitation) in
+      let one_told : Loose = told_late key n.heard (public_loose known l) in
+      let other_told : Loose = told_late key m.heard l in
       let told : Loose = with_invitation l (knows key l.invitation) in
       let gone : Rest = record { left = None; desk = final_acked site.sip key (public_invitation known l.invitation) n.heard one } in
       let over : Rest = record { left = None; desk = final_acked site.sip key l.invitation m.heard other } in
       let p : Rest = on_success site.sip (public_loose known told) (remote_of Callee n.heard.lines) one in
       let q : Rest = on_success site.sip told (remote_of Callee m.heard.lines) other in
-      rest-if (nat_lt (status_of m.heard.start) 200) (late_cancelled site.sip (public_loose known said) one) (cond (nat_lt (status_of m.heard.start) 300) p gone) (late_cancelled site.sip said other) (cond (nat_lt (status_of m.heard.start) 300) q over)
-      (late-alike said one other a)
+      rest-if (nat_lt (status_of m.heard.start) 200) (late_cancelled site.sip one_told one) (cond (nat_lt (status_of m.heard.start) 300) p gone) (late_cancelled site.sip other_told other) (cond (nat_lt (status_of m.heard.start) 300) q over)
+      (late-like one_told other_told one other (told_same key l role m answer.whole) a)
       (rest-if (nat_lt (status_of m.heard.start) 300) p gone q over
       (success-alike told role m one other answer.whole a)
       (record { left = refl; desk = acked-final heads site keys key l.invitation role m one other answer a }))

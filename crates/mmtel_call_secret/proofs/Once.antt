@@ -1,6 +1,8 @@
 -- The public part of a public part is that part.
 use Rattle.std.proofs.Common.{◌≡◌, ℕ, Bool, true, false, ◌&&◌, List, [], ◌∷◌, Option, Some, None, refl, ap, ◌∙◌, map, cond}
+use Rattle.std.specs.Option.{option_map, option_or}
 use Rattle.mmtel_answers.specs.Said.{Said}
+use Rattle.mmtel_desk.specs.Invitations.{has_said, with_early}
 use Rattle.mmtel_desk.specs.declared.invitations.Invitation.{Invitation}
 use Rattle.mmtel_desk.specs.declared.invitations.Loose.{Loose}
 use Rattle.mmtel_history.proofs.ListLaws.{masked_once}
@@ -10,6 +12,8 @@ use Rattle.mmtel_leg.specs.Legs.{Leg, with_dialogue}
 use Rattle.mmtel_leg.specs.declared.dialogues.Dialogue.{Dialogue}
 use Rattle.mmtel_leg.specs.declared.legs.Released.{Released}
 use Rattle.mmtel_leg.specs.declared.legs.Released.TheVariants as released
+use Rattle.mmtel_leg.specs.declared.remotes.Remote.{Remote}
+use Rattle.mmtel_transaction.specs.declared.words.TKey.{TKey}
 use Rattle.mmtel_message.specs.Message.{Line}
 use Rattle.mmtel_rules.specs.declared.values.Identities2.{Identities2}
 use Rattle.mmtel_transaction.specs.Alike.{blank_if, blank_maybe}
@@ -33,7 +37,7 @@ use Rattle.mmtel_call.specs.declared.calls.Phase.TheVariants.{Lent, Offered, Ove
 use Rattle.mmtel_call.specs.declared.calls.Stage.TheVariants.{Answered, Asking, Parting, Talking}
 use Rattle.mmtel_call.specs.Sending.{masks_all}
 use Rattle.mmtel_call_secret.specs.Common.{PublicPartsAreOnce}
-use Rattle.mmtel_call_secret.specs.Parts.{everything, public_attempt, public_call, public_dialog, public_dialog_by, public_invitation, public_leg, public_loose, public_opening, public_pair, public_phase, public_reinvite, public_released, public_remote, public_request, public_stage, public_taken, public_trial, public_tried}
+use Rattle.mmtel_call_secret.specs.Parts.{everything, public_attempt, public_call, public_dialog, public_dialog_by, public_invitation, public_leg, public_loose, public_opening, public_pair, public_phase, public_reinvite, public_released, public_remote, public_request, public_said, public_stage, public_taken, public_trial, public_tried}
 use Rattle.mmtel_call_secret.specs.Roles.{Role, hidden_by, opening_role, private_places, without_private}
 
 -- ---- messages
@@ -89,6 +93,18 @@ maybe_again : (b : Bool) (o : Option (List ℕ)) → blank_maybe b (blank_maybe 
 maybe_again b None = refl
 maybe_again b (Some v) = ap (λ (x : List ℕ). Some x) (text_again b v)
 
+-- ---- what is said in an early dialog
+
+pub early_again : (b : Bool) (o : Option Remote) → option_map (public_said b) (option_map (public_said b) o) ≡ option_map (public_said b) o
+early_again b None = refl
+early_again b (Some r) = ap (λ (v : List ℕ). Some (record r { target = v })) (text_again b r.target)
+
+-- of two the first one stays
+early_first : (b : Bool) (o p q : Option Remote) → option_map (public_said b) p ≡ option_map (public_said b) q →
+    option_map (public_said b) (option_or (option_map (public_said b) o) p) ≡ option_map (public_said b) (option_or o q)
+early_first b None p q e = e
+early_first b (Some r) p q e = early_again b (Some r)
+
 pub map_again : {A : Type 0} (f : A → A) → ((x : A) → f (f x) ≡ f x) → (xs : List A) → map f (map f xs) ≡ map f xs
 map_again f once [] = refl
 map_again f once (x ∷ xs) = rw (once x, map_again f once xs) refl
@@ -110,9 +126,19 @@ module _ (t : Peer → Bool) where
   pub invitation_again : (i : Invitation) → public_invitation t (public_invitation t i) ≡ public_invitation t i
   invitation_again i =
       let b : Bool = t i.dialogue.peer in
-      ap (λ (d : Dialogue). record i { dialogue = d; ack = blank_maybe b (blank_maybe b i.ack); forks = map (public_dialog t) (map (public_dialog t) i.forks) }) (dialog_again i.dialogue)
-      ∙ (ap (λ (o : Option (List ℕ)). record (public_invitation t i) { ack = o; forks = map (public_dialog t) (map (public_dialog t) i.forks) }) (maybe_again b i.ack)
-      ∙ ap (λ (ds : List Dialogue). record (public_invitation t i) { forks = ds }) (map_again (public_dialog t) dialog_again i.forks))
+      let twice : Option Remote = option_map (public_said b) (option_map (public_said b) i.early) in
+      ap (λ (d : Dialogue). record i { dialogue = d; ack = blank_maybe b (blank_maybe b i.ack); forks = map (public_dialog t) (map (public_dialog t) i.forks); early = twice }) (dialog_again i.dialogue)
+      ∙ (ap (λ (o : Option (List ℕ)). record (public_invitation t i) { ack = o; forks = map (public_dialog t) (map (public_dialog t) i.forks); early = twice }) (maybe_again b i.ack)
+      ∙ (ap (λ (ds : List Dialogue). record (public_invitation t i) { forks = ds; early = twice }) (map_again (public_dialog t) dialog_again i.forks)
+      ∙ ap (λ (o : Option Remote). record (public_invitation t i) { early = o }) (early_again b i.early)))
+
+  -- once it said something by this client transaction, and this of itself
+  pub invitation_told : (key : TKey) (i : Invitation) (p q : Option Remote) → option_map (public_said (t i.dialogue.peer)) p ≡ option_map (public_said (t i.dialogue.peer)) q →
+      public_invitation t (with_early p (has_said key (public_invitation t i))) ≡ public_invitation t (with_early q (has_said key i))
+  invitation_told key i p q e =
+      let b : Bool = t i.dialogue.peer in
+      ap (λ (o : Option Remote). record (public_invitation t (public_invitation t (has_said key i))) { early = o }) (early_first b i.early p q e)
+      ∙ ap (λ (j : Invitation). record j { early = option_map (public_said b) (option_or i.early q) }) (invitation_again (has_said key i))
 
   pub loose_again : (l : Loose) → public_loose t (public_loose t l) ≡ public_loose t l
   loose_again l = ap (λ (i : Invitation). record l { invitation = i }) (invitation_again l.invitation)

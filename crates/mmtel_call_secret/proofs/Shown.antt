@@ -34,7 +34,7 @@ use Rattle.mmtel_call.specs.Site.{Site, trusts}
 use Rattle.mmtel_call.specs.declared.calls.Opening.{Opening}
 use Rattle.mmtel_call.specs.declared.calls.Service.{Service}
 use Rattle.std.specs.Prelude.{Option}
-use Rattle.mmtel_call_secret.specs.Parts.{public_dialog_by, public_diverted, public_opening}
+use Rattle.mmtel_call_secret.specs.Parts.{public_dialog_by, public_diverted, public_opening, public_remote, public_said}
 use Rattle.mmtel_call_secret.specs.Premises.{Fits}
 use Rattle.mmtel_call_secret.specs.Roles.{Opens, Plain, Role, Says, hidden_by, hides, private_places, without_private}
 use Rattle.mmtel_call_secret.proofs.Once.{remote_again}
@@ -116,3 +116,31 @@ pub met-same : (b trusted : Bool) (d : Dialogue) (p : Places) (h : HeardMessage)
 met-same b trusted d p h same =
     met_by b d (remote_of Callee (hidden_by trusted p h).lines) (remote_of Callee h.lines) (tag_by trusted (places_in h.start p) h.lines) (route_by trusted (places_in h.start p) h.lines)
     (λ e. ap (λ (x : HeardMessage). contact_uri x.lines) (same e))
+
+-- ---- what is kept of it with an INVITE
+
+abbrev remote_with : (tag target : List ℕ) → (routes : List (List ℕ)) → Remote
+remote_with tag target routes = record { tag = tag; target = target; routes = routes }
+
+blank_by : (b : Bool) (u v : List ℕ) → (b ≡ false → u ≡ v) → blank_if b u ≡ blank_if b v
+blank_by true u v e = refl
+blank_by false u v e = e refl
+
+said_by : (b : Bool) (r s : Remote) → r.tag ≡ s.tag → r.routes ≡ s.routes → (b ≡ false → r.target ≡ s.target) → public_said b r ≡ public_said b s
+said_by b r s tag routes target =
+    ap (λ (v : List ℕ). remote_with v (blank_if b r.target) r.routes) tag
+    ∙ (ap (λ (v : List ℕ). remote_with s.tag v r.routes) (blank_by b r.target s.target target)
+    ∙ ap (λ (v : List (List ℕ)). remote_with s.tag (blank_if b s.target) v) routes)
+
+pub said-same : (b trusted : Bool) (p : Places) (h : HeardMessage) → (b ≡ false → hidden_by trusted p h ≡ h) → public_said b (remote_of Callee (hidden_by trusted p h).lines) ≡ public_said b (remote_of Callee h.lines)
+said-same b trusted p h same =
+    said_by b (remote_of Callee (hidden_by trusted p h).lines) (remote_of Callee h.lines) (tag_by trusted (places_in h.start p) h.lines) (route_by trusted (places_in h.start p) h.lines)
+    (λ e. ap (λ (x : HeardMessage). contact_uri x.lines) (same e))
+
+-- the dialog with it
+said_blank : (b : Bool) (u v : List ℕ) → said_or (blank_if b u) (blank_if b v) ≡ blank_if b (said_or u v)
+said_blank true u v = refl
+said_blank false u v = refl
+
+pub met_public : (b : Bool) (d : Dialogue) (r : Remote) → met (public_dialog_by b d) (public_said b r) ≡ public_dialog_by b (met d r)
+met_public b d r = ap (λ (v : List ℕ). record (met d r) { remote = public_remote b d.side d.remote; target = v }) (said_blank b r.target d.target)

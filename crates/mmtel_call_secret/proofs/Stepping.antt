@@ -1,5 +1,5 @@
 -- The step table as a whole sees public parts alone.
-use Rattle.std.proofs.Common.{◌≡◌, ℕ, Bool, true, false, List, refl, ap, sym, ◌∙◌, map, cond, subst, Option, Some, None}
+use Rattle.std.proofs.Common.{◌≡◌, ℕ, Bool, List, refl, ap, sym, ◌∙◌, map, cond, subst, Option, Some, None}
 use Rattle.std.specs.Prelude.{position}
 use Rattle.mmtel_answers.specs.Said.{Said, status_of}
 use Rattle.mmtel_desk.specs.Loose.{is_of}

@@ -1,5 +1,6 @@
 -- The public part of a call: what of it rests on no private place. All that may be private has a place of its own in the structs of a call, and the public part has these places blank.
 -- Of what is said to a peer who is trusted, or is heard from one, it leaves out the texts: nobody else is told these, and they decide nothing. Who the caller is stands apart, since it is asked.
+use Rattle.std.specs.Option.{option_map}
 use Rattle.std.specs.Prelude.{ℕ, Bool, true, List, None, map}
 use Rattle.mmtel_answers.specs.Said.{Said}
 use Rattle.mmtel_desk.specs.declared.invitations.Invitation.{Invitation}
@@ -8,6 +9,7 @@ use Rattle.mmtel_history.specs.HistoryInfo.{masked_list}
 use Rattle.mmtel_leg.specs.Legs.{Leg, with_dialogue}
 use Rattle.mmtel_leg.specs.declared.dialogues.Dialogue.{Dialogue}
 use Rattle.mmtel_leg.specs.declared.legs.Released.{Released}
+use Rattle.mmtel_leg.specs.declared.remotes.Remote.{Remote}
 use Rattle.mmtel_leg.specs.declared.legs.Released.TheVariants as released
 use Rattle.mmtel_rules.specs.declared.values.Identities2.{Identities2}
 use Rattle.mmtel_transaction.specs.Alike.{blank_if, blank_maybe}
@@ -55,11 +57,16 @@ public_released trusts (released.Callee leg) = released.Callee (public_leg trust
 
 -- ---- INVITEs that were sent
 
+-- what their callee said of itself in an early dialog
+abbrev pub public_said : (trusted : Bool) → Remote → Remote
+public_said trusted r = record r { target = blank_if trusted r.target }
+
 abbrev pub public_invitation : (Peer → Bool) → Invitation → Invitation
 public_invitation trusts i = record i {
   dialogue = public_dialog trusts i.dialogue;
   ack = blank_maybe (trusts i.dialogue.peer) i.ack;
   forks = map (public_dialog trusts) i.forks;
+  early = option_map (public_said (trusts i.dialogue.peer)) i.early;
 }
 
 abbrev pub public_loose : (Peer → Bool) → Loose → Loose

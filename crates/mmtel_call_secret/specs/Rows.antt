@@ -75,7 +75,7 @@ DeadlinesOnceAnswered = (stage : Stage) (site : Site) (keys : TKey → Bool) (wh
 -- 100, which stays here, and other provisional responses, which go to the caller
 abbrev pub ProvisionalToAttempt : Type 0
 ProvisionalToAttempt = (site : Site) (keys : TKey → Bool) (who : Identities2) (at : ℕ) (x : Trial) (key : TKey) (role : Role) (m : Said) (code : ℕ) (c : Call) (one other : Desk) →
-    IsAsked (trust_of site keys) c.opening.key c.opening.invite → Fits c.opening x.attempt.service Callee m role → (trusts site x.callee.leg.dialogue.peer ≡ false → IsWhole role m) → AlikeDesks (trust_of site keys) one other →
+    IsAsked (trust_of site keys) c.opening.key c.opening.invite → Fits c.opening x.attempt.service Callee m role → (trusts site x.callee.leg.dialogue.peer ≡ false → IsWhole role m) → (trusts site x.attempt.invitation.dialogue.peer ≡ false → IsWhole role m) → AlikeDesks (trust_of site keys) one other →
     AlikeSteps (trust_of site keys)
     (if nat_lt code 101 then tried key (public_trial (trusts site) x) (public_call (trusts site) who c) one else proceeding site at (public_trial (trusts site) x) key (without_private role m) code (public_call (trusts site) who c) one)
     (if nat_lt code 101 then tried key x c other else proceeding site at x key m code c other)

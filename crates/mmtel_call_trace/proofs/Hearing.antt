@@ -203,7 +203,7 @@ module _ (site : Site) (now : Standing) (x : Trial) (c : Call) (before : Desk) w
       let relayed = relayed_to_caller site (offered x c) x.attempt.service m desk in
       let (marks, adds, arms) = armed_by (rings code && not x.attempt.rang) (time_of (its_sheet x.attempt.service)) relayed (relayed_unseen site c.opening.number before (offered x c) x.attempt.service m desk had) in
       let s = proceeding site now.at x key m code (offered x c) desk in
-      Waits refl (record x { callee = callee_after x.callee m; attempt = Rattle.mmtel_call.specs.Ringing.ringing code (Rattle.mmtel_call.specs.Ringing.noted key x.attempt) }) (record {
+      Waits refl (record x { callee = callee_after x.callee m; attempt = Rattle.mmtel_call.specs.Ringing.ringing code (Rattle.mmtel_call.specs.Ringing.having_met (early_said x.callee m) (Rattle.mmtel_call.specs.Ringing.noted key x.attempt)) }) (record {
         phase = refl;
         attempts = refl;
         left = refl;

@@ -4,9 +4,9 @@ use Rattle.std.specs.Prelude.{Option, Some, None, if◌then◌else◌, position,
 use Rattle.mmtel_answers.specs.Answers.{allowed}
 use Rattle.mmtel_answers.specs.Said.{Said, status_of}
 use Rattle.mmtel_desk.specs.Desks.{drew}
-use Rattle.mmtel_desk.specs.Invitations.{has_said, is_cancellable, knows}
+use Rattle.mmtel_desk.specs.Invitations.{is_cancellable, knows}
 use Rattle.mmtel_desk.specs.Loose as left_ones
-use Rattle.mmtel_desk.specs.Loose.{ended_before, is_of, on_response, on_success_in, with_invitation}
+use Rattle.mmtel_desk.specs.Loose.{ended_before, is_of, on_response, on_success_in, told_late, with_invitation}
 use Rattle.mmtel_desk.specs.Sending.{acked, bye, cancel_sent, cancelled, final_acked}
 use Rattle.mmtel_desk.specs.declared.desks.Desk.{Desk}
 use Rattle.mmtel_desk.specs.declared.invitations.Invitation.{Invitation}
@@ -86,7 +86,7 @@ module _ (site : Site) (own : CallNo) (before : Desk) where
 
   success_unseen : (l : Loose) (remote : Remote) (d : Option Dialogue) (desk : Desk) → Unseen desk → Unseen (on_success_in site.sip l remote d desk).desk
   success_unseen l remote None desk had =
-      let d = left_ones.made_from l.within l.invitation.dialogue remote in
+      let d = left_ones.made_from l.within l.invitation.early l.invitation.dialogue remote in
       bye_unseen d (acked site.sip d desk) (acked_unseen d desk had)
   success_unseen l remote (Some d) desk had = acked_unseen d desk had
 
@@ -97,7 +97,7 @@ module _ (site : Site) (own : CallNo) (before : Desk) where
   rest_unseen : (key : TKey) (m : HeardMessage) (l : Loose) (desk : Desk) → Unseen desk → Unseen (on_response site.sip key m l desk).desk
   rest_unseen key m l desk had =
       let taken = with_invitation l (knows key l.invitation) in
-      let said = with_invitation l (has_said key l.invitation) in
+      let said = told_late key m l in
       let remote = remote_of Callee m.lines in
       rest_if (nat_lt (status_of m.start) 200) _ _
       (rest_if said.invitation.cancelled _ _ had (adds_quiet site.sip own before desk _ [] refl had))

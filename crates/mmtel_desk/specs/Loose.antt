@@ -11,7 +11,7 @@ use Rattle.mmtel_transaction.specs.declared.words.TKey.{TKey}
 use Rattle.mmtel_trust.specs.Digest.{HeardMessage}
 use Rattle.mmtel_types.specs.declared.addrs.Addr.{Addr}
 use Rattle.mmtel_types.specs.declared.sides.Side.TheVariants.{Callee}
-use Rattle.mmtel_desk.specs.Invitations.{has_said, knows}
+use Rattle.mmtel_desk.specs.Invitations.{early_said, has_said, knows, with_early}
 use Rattle.mmtel_desk.specs.Sending.{acked, bye, cancel_sent, final_acked}
 use Rattle.mmtel_desk.specs.declared.desks.Desk.{Desk}
 use Rattle.mmtel_desk.specs.declared.invitations.Invitation.{Invitation}
@@ -31,9 +31,14 @@ with_invitation l i = record l { invitation = i }
 
 -- ---- a 2xx
 
--- the dialog that it makes; of an INVITE in a dialog that stood that dialog itself
-abbrev pub made_from : (within : Bool) → Dialogue → Remote → Dialogue
-made_from within d remote = if within then d else met (called d) remote
+-- the dialog of this tag as it stands before: the early one, with what the callee said of itself there, and else what the INVITE began
+abbrev pub begun : (early : Option Remote) → (tag : List ℕ) → Dialogue → Dialogue
+begun None tag d = d
+begun (Some said) tag d = if bytes_eq said.tag tag then met d said else d
+
+-- the dialog that it makes or confirms (§13.2.2.4); of an INVITE in a dialog that stood that dialog itself
+abbrev pub made_from : (within : Bool) → (early : Option Remote) → Dialogue → Remote → Dialogue
+made_from within early d remote = if within then d else met (begun early remote.tag (called d)) remote
 
 -- the dialog of this 2xx, if it had its BYE before; in a dialog that stood there is but one
 abbrev pub is_ended : (within : Bool) → (tag : List ℕ) → Dialogue → Bool
@@ -58,13 +63,17 @@ acked_and_ended sip l d desk = record { left = Some (with_invitation l (with_for
 
 abbrev pub on_success_in : Addr → Loose → Remote → Option Dialogue → Desk → Rest
 on_success_in sip l remote (Some d) desk = acked_again sip l d desk
-on_success_in sip l remote None desk = acked_and_ended sip l (made_from l.within l.invitation.dialogue remote) desk
+on_success_in sip l remote None desk = acked_and_ended sip l (made_from l.within l.invitation.early l.invitation.dialogue remote) desk
 
 -- where the callee says this of itself
 abbrev pub on_success : Addr → Loose → Remote → Desk → Rest
 on_success sip l remote desk = on_success_in sip l remote (ended_before l remote.tag) desk
 
 -- ---- a provisional response
+
+-- what it says is kept, where it makes an early dialog
+abbrev pub told_late : TKey → HeardMessage → Loose → Loose
+told_late key m l = with_invitation l (with_early (early_said (status_of m.start) (remote_of Callee m.lines)) (has_said key l.invitation))
 
 abbrev pub late_cancelled : Addr → Loose → Desk → Rest
 late_cancelled sip l desk =
@@ -78,6 +87,6 @@ late_cancelled sip l desk =
 
 abbrev pub on_response : Addr → TKey → HeardMessage → Loose → Desk → Rest
 on_response sip key m l desk =
-    if nat_lt (status_of m.start) 200 then late_cancelled sip (with_invitation l (has_said key l.invitation)) desk
+    if nat_lt (status_of m.start) 200 then late_cancelled sip (told_late key m l) desk
     else if nat_lt (status_of m.start) 300 then on_success sip (with_invitation l (knows key l.invitation)) (remote_of Callee m.lines) desk
     else record { left = None; desk = final_acked sip key l.invitation m desk }

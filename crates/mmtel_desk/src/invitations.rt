@@ -1,8 +1,8 @@
 //! INVITEs that the server sent.
 ghost use Rattle.std.specs.Prelude.{◌≡◌};
-ghost use Rattle.mmtel_desk.specs.Invitations.{is_cancellable, once_cancelled, sent};
+ghost use Rattle.mmtel_desk.specs.Invitations.{early_said, is_cancellable, once_cancelled, sent, with_early};
 
-use mmtel_leg::Dialogue;
+use mmtel_leg::{Dialogue, Remote};
 use mmtel_scan::{List, Text};
 use mmtel_transaction::TKey;
 
@@ -25,6 +25,8 @@ pub struct Invitation {
     pub ack: Option<Text>,
     /// The dialogs of its 2xx that had an ACK and a BYE at once.
     pub forks: List<Dialogue>,
+    /// What the callee said of itself in the first provisional response but 100 that gave a tag: the early dialog that it made (RFC 3261 §12.1.2).
+    pub early: Option<Remote>,
 }
 
 /// An INVITE that was left before it had a final answer.
@@ -50,7 +52,31 @@ impl Invitation {
             cancelled: false,
             ack: None,
             forks: List::new(),
+            early: None,
         }
+    }
+}
+
+/// What the callee says of itself in a provisional response of this status, where that makes an early dialog.
+pub fn early_said(code: u16, remote: Remote) -> Option<Remote>
+    ensures { result ≡ early_said code remote }
+{
+    if code < 101 || remote.tag.bytes().is_empty() {
+        return None;
+    }
+    Some(remote)
+}
+
+/// The INVITE with the early dialog that a response made, where it made one and none was there.
+pub fn with_early(said: Option<Remote>, invitation: Invitation) -> Invitation
+    ensures invitation { result ≡ with_early said invitation }
+{
+    match &invitation.early {
+        Some(_) => invitation,
+        None => Invitation {
+            early: said,
+            ..invitation
+        },
     }
 }
 

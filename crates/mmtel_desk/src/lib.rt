@@ -10,7 +10,7 @@ mod repeating;
 mod sending;
 
 pub use desks::{Desk, file};
-pub use invitations::{Invitation, Loose, once_cancelled};
+pub use invitations::{Invitation, Loose, once_cancelled, with_early};
 pub use laws::{
     answers_have_heads, masked_requests_have_one_head, repeats_have_heads, requests_have_heads,
 };

@@ -1,13 +1,15 @@
 //! INVITEs that were left before they had a final answer.
 ghost use Rattle.std.specs.Prelude.{◌≡◌, ◌∷◌, ◌++◌, [], IfOk, OnErr, OnOk, position};
 ghost use Rattle.std.specs.Option.{option_copied};
-ghost use Rattle.mmtel_desk.specs.Loose.{acked_and_ended, fork_at, is_ended, is_of, late_cancelled, made_from, on_response, on_success};
+ghost use Rattle.mmtel_desk.specs.Loose.{acked_and_ended, begun, fork_at, is_ended, is_of, late_cancelled, made_from, on_response, on_success, told_late};
+ghost use Rattle.mmtel_leg.specs.Remotes.{remote_of};
+ghost use Rattle.mmtel_types.specs.declared.sides.Side.TheVariants.{Callee};
 
 use crate::desks::{Desk, file};
-use crate::invitations::{Invitation, Loose};
+use crate::invitations::{Invitation, Loose, early_said, with_early};
 use mmtel_answers::{Hearing, called, status_of};
 use mmtel_leg::{Dialogue, Remote};
-use mmtel_scan::NoMemory;
+use mmtel_scan::{NoMemory, texts_copied};
 use mmtel_transaction::TKey;
 use mmtel_types::{Addr, Side};
 use std::alloc::Global;
@@ -51,20 +53,57 @@ fn ended_before<'a>(within: bool, tag: &[u8], forks: &'a [Dialogue]) -> Option<&
     }
 }
 
-/// The dialog that a 2xx makes.
+/// The same that the other side said of itself.
+fn copied(alloc: Global, remote: &Remote) -> Result<Remote, NoMemory>
+    ensures { IfOk result (λ r. r ≡ remote.now) }
+{
+    let tag = remote.tag.copied(alloc)?;
+    let target = remote.target.copied(alloc)?;
+    let routes = texts_copied(alloc, remote.routes.items())?;
+    Ok(Remote {
+        tag,
+        target,
+        routes,
+    })
+}
+
+/// The dialog of a tag as it stands before a 2xx: the early one, or what the INVITE began.
+fn begun(
+    alloc: Global,
+    early: Option<&Remote>,
+    tag: &[u8],
+    dialogue: Dialogue,
+) -> Result<Dialogue, NoMemory>
+    ensures { IfOk result (λ d. d ≡ begun (option_copied early.entry) tag.now dialogue) }
+{
+    match early {
+        None => Ok(dialogue),
+        Some(said) => {
+            if said.tag.bytes() == tag {
+                let said = copied(alloc, said)?;
+                return Ok(dialogue.meet(said));
+            }
+            Ok(dialogue)
+        }
+    }
+}
+
+/// The dialog that a 2xx makes or confirms.
 fn made_from(
     alloc: Global,
     within: bool,
+    early: Option<&Remote>,
     dialogue: &Dialogue,
     remote: Remote,
 ) -> Result<Dialogue, NoMemory>
-    ensures { IfOk result (λ d. d ≡ made_from within dialogue.now remote) }
+    ensures { IfOk result (λ d. d ≡ made_from within (option_copied early.entry) dialogue.now remote) }
 {
     let dialogue = dialogue.copied(alloc)?;
     if within {
         return Ok(dialogue);
     }
-    Ok(called(dialogue).meet(remote))
+    let before = begun(alloc, early, remote.tag.bytes(), called(dialogue))?;
+    Ok(before.meet(remote))
 }
 
 /// The INVITE whose 2xx made this dialog, which had its BYE.
@@ -78,6 +117,24 @@ fn with_fork(
     let mut invitation = invitation;
     file(alloc, &mut invitation.forks, dialogue)?;
     Ok(invitation)
+}
+
+/// A loose INVITE of which this provisional response came by this client transaction, with what it says of the callee.
+fn told_late(key: TKey, heard: &Hearing, remote: Remote, loose: Loose) -> Loose
+    requires { remote ≡ remote_of Callee heard.now.heard.lines }
+    ensures { result ≡ told_late key heard.now.heard loose }
+{
+    let code = status_of(heard.message.start());
+    let Loose { invitation, within } = loose;
+    let invitation = Invitation {
+        key: Some(key),
+        provisional: true,
+        ..invitation
+    };
+    Loose {
+        invitation: with_early(early_said(code, remote), invitation),
+        within,
+    }
 }
 
 impl Desk {
@@ -120,7 +177,9 @@ impl Desk {
                 Ok(Some(loose))
             }
             None => {
-                let dialogue = made_from(alloc, loose.within, &loose.invitation.dialogue, remote)?;
+                let sent = &loose.invitation;
+                let early = sent.early.as_ref();
+                let dialogue = made_from(alloc, loose.within, early, &sent.dialogue, remote)?;
                 self.acknowledge_and_end(alloc, sip, loose, dialogue)
             }
         }
@@ -167,24 +226,19 @@ impl Desk {
         ensures rows { OnErr result (self.new.rows ≡ self.old.rows) }
     {
         let code = status_of(heard.message.start());
-        let Loose { invitation, within } = loose;
         if code >= 300 {
-            self.acknowledge_final(alloc, sip, key, &invitation, heard)?;
+            self.acknowledge_final(alloc, sip, key, &loose.invitation, heard)?;
             return Ok(None);
         }
+        let remote = Remote::read(alloc, &heard.message, Side::Callee)?;
         if code >= 200 {
+            let Loose { invitation, within } = loose;
             let invitation = Invitation {
                 key: Some(key),
                 ..invitation
             };
-            let remote = Remote::read(alloc, &heard.message, Side::Callee)?;
             return self.hear_success(alloc, sip, Loose { invitation, within }, remote);
         }
-        let invitation = Invitation {
-            key: Some(key),
-            provisional: true,
-            ..invitation
-        };
-        self.cancel_late(alloc, sip, Loose { invitation, within })
+        self.cancel_late(alloc, sip, told_late(key, heard, remote, loose))
     }
 }

@@ -8,8 +8,8 @@ use Rattle.mmtel_answers.specs.Said.{Said, status_of}
 use Rattle.mmtel_charging.specs.Meters.{Noted}
 use Rattle.mmtel_charging.specs.declared.rows.Row.{Row}
 use Rattle.mmtel_desk.specs.Desks.{token}
-use Rattle.mmtel_desk.specs.Invitations.{has_said, knows}
-use Rattle.mmtel_desk.specs.Loose.{Rest, ended_before, is_of, late_cancelled, on_response, on_success, on_success_in, with_invitation}
+use Rattle.mmtel_desk.specs.Invitations.{knows}
+use Rattle.mmtel_desk.specs.Loose.{Rest, ended_before, is_of, late_cancelled, on_response, on_success, on_success_in, told_late, with_invitation}
 use Rattle.mmtel_desk.specs.Sending.{cancel_sent, final_acked}
 use Rattle.mmtel_desk.specs.declared.desks.Desk.{Desk}
 use Rattle.mmtel_desk.specs.declared.invitations.Loose.{Loose}
@@ -207,8 +207,8 @@ response_rows : (sip : Addr) (key : TKey) (m : HeardMessage) (l : Loose) (desk :
 response_rows sip key m l desk =
     let known : Loose = with_invitation l (knows key l.invitation) in
     let last : Rest = record { left = None; desk = final_acked sip key l.invitation m desk } in
-    rest_if (nat_lt (status_of m.start) 200) (late_cancelled sip (with_invitation l (has_said key l.invitation)) desk) (if nat_lt (status_of m.start) 300 then on_success sip known (remote_of Callee m.lines) desk else last) desk
-    (late_rows sip (with_invitation l (has_said key l.invitation)) desk)
+    rest_if (nat_lt (status_of m.start) 200) (late_cancelled sip (told_late key m l) desk) (if nat_lt (status_of m.start) 300 then on_success sip known (remote_of Callee m.lines) desk else last) desk
+    (late_rows sip (told_late key m l) desk)
     (rest_if (nat_lt (status_of m.start) 300) (on_success sip known (remote_of Callee m.lines) desk) last desk (success_rows sip known (remote_of Callee m.lines) (ended_before known (remote_of Callee m.lines).tag) desk) refl)
 
 abbrev GoesBeside : (at : ℕ) → List Room → Effects → Moved → Type 0

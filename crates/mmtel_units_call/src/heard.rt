@@ -97,7 +97,7 @@ pub fn invite(told: &mut Told, peer: u16, who: &[u8], target: &[u8], further: &[
     hearing(told, &text, peer)
 }
 
-/// A response to a request of the server: with this tag behind its To, or `-` for none; a Contact goes with a tag, but not in finals from 300.
+/// A response to a request of the server: with this tag behind its To, or `-` for none; a Contact goes with a tag, but not in finals from 300, nor where `=` stands before the tag.
 pub fn response(
     told: &mut Told,
     asked: &Msg,
@@ -107,6 +107,10 @@ pub fn response(
     further: &[u8],
 ) -> Hearing {
     let mut text = Told::new(told.alloc);
+    let (tag, is_told) = match skip_text(b"=", tag) {
+        Some(tag) => (tag, false),
+        None => (tag, true),
+    };
     text.add(b"SIP/2.0 ");
     text.add(status);
     text.add(b"\r\n");
@@ -121,7 +125,8 @@ pub fn response(
     text.add(b"\r\n");
     add_line(&mut text, b"Call-ID", value(asked, b"Call-ID"));
     add_line(&mut text, b"CSeq", value(asked, b"CSeq"));
-    if tag != b"-".as_slice()
+    if is_told
+        && tag != b"-".as_slice()
         && (skip_text(b"1", status).is_some() || skip_text(b"2", status).is_some())
     {
         add_contact(&mut text, tag, peer);

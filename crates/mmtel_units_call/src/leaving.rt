@@ -143,6 +143,81 @@ fn loose(rt: HostRuntime) -> Result<(), Fail> {
     Ok(())
 }
 
+/// A 2xx of the early dialog that names no Contact goes to the target that the provisional response named, heard before the INVITE was left or after it; one of another tag goes to that of the INVITE (RFC 3261 §12.1.2, §13.2.2.4).
+const EARLY: &[u8] =
+    br##"# left after it rang, and one that was answered by another dialog than the early one
+> 0 invite 1 alice@home.example sip:bob@home.example
+reply 0: 100 Trying, 7 INVITE
+ask 1 to 1: INVITE sip:bob@home.example, 1 INVITE
+ P-Asserted-Identity: <sip:alice@home.example>
+due cap 1 at 180000
+-> asked
+> 50 answer 1 b 180 Ringing
+reply 0: 180 Ringing, 7 INVITE
+-> ringing
+> 100 cancel 0 7
+reply 2: 200 OK, 7 CANCEL
+reply 0: 487 Request Terminated, 7 INVITE
+ask 3 to 1: CANCEL sip:bob@home.example, 1 CANCEL
+row origin,1,1,0,,100,0,cancelled,487
+row terminating,2,1,0,,100,0,cancelled,487
+-> over cancelled, loose 1
+> 200 answer 1 =b 200 OK
+plain to 1: ACK sip:b@127.0.0.1:5071, 1 ACK
+ask 4 to 1: BYE sip:b@127.0.0.1:5071, 2 BYE
+-> over cancelled, loose 1
+> 210 answer 1 =c 200 OK
+plain to 1: ACK sip:bob@home.example, 1 ACK
+ask 5 to 1: BYE sip:bob@home.example, 2 BYE
+-> over cancelled, loose 1
+# rings once it was left
+> 0 invite 1 alice@home.example sip:bob@home.example
+reply 0: 100 Trying, 7 INVITE
+ask 1 to 1: INVITE sip:bob@home.example, 1 INVITE
+ P-Asserted-Identity: <sip:alice@home.example>
+due cap 1 at 180000
+-> asked
+> 100 cancel 0 7
+reply 2: 200 OK, 7 CANCEL
+reply 0: 487 Request Terminated, 7 INVITE
+row origin,1,1,0,,100,0,cancelled,487
+row terminating,2,1,0,,100,0,cancelled,487
+-> over cancelled, loose 1
+> 150 answer 1 b 180 Ringing
+ask 3 to 1: CANCEL sip:bob@home.example, 1 CANCEL
+-> over cancelled, loose 1
+> 200 answer 1 =b 200 OK
+plain to 1: ACK sip:b@127.0.0.1:5071, 1 ACK
+ask 4 to 1: BYE sip:b@127.0.0.1:5071, 2 BYE
+-> over cancelled, loose 1
+# answered by another dialog
+> 0 invite 1 alice@home.example sip:bob@home.example
+reply 0: 100 Trying, 7 INVITE
+ask 1 to 1: INVITE sip:bob@home.example, 1 INVITE
+ P-Asserted-Identity: <sip:alice@home.example>
+due cap 1 at 180000
+-> asked
+> 50 answer 1 b 180 Ringing
+reply 0: 180 Ringing, 7 INVITE
+-> ringing
+> 200 answer 1 c 200 OK
+reply 0: 200 OK, 7 INVITE
+due no-ack 1 at 32200
+-> answered caller
+> 250 answer 1 =b 200 OK
+plain to 1: ACK sip:b@127.0.0.1:5071, 1 ACK
+ask 2 to 1: BYE sip:b@127.0.0.1:5071, 2 BYE
+-> answered caller
+"##;
+
+#[test]
+fn early(rt: HostRuntime) -> Result<(), Fail> {
+    let mut told = Told::new(rt.alloc());
+    play(&mut told, EARLY);
+    assert_eq!(rt; told.whole(), EARLY);
+    Ok(())
+}
+
 /// A further dialog of an INVITE that was answered has ACK and BYE at once (RFC 3261 §13.2.2.4).
 const FORKS: &[u8] =
     br##"# another dialog of the INVITE that was answered, before its ACK and after, and once the call is over

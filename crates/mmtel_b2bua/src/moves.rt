@@ -174,14 +174,14 @@ fn invite_by(side: Side, key: TKey, request: &Hearing) -> Option<InviteKey>
 }
 
 /// The place of the call of which an INVITE has this branch.
-fn place_sent(entries: &[Entry], branch: Option<&[u8]>) -> Option<usize>
+pub fn place_sent(entries: &[Entry], branch: Option<&[u8]>) -> Option<usize>
     ensures { result ≡ position (sent_it (option_copied branch.entry)) entries.now }
 {
     entries.iter().position(|entry| entry.sent(branch))
 }
 
 /// The place of the call of which an INVITE had its answer by this client transaction.
-fn place_heard(entries: &[Entry], key: TKey) -> Option<usize>
+pub fn place_heard(entries: &[Entry], key: TKey) -> Option<usize>
     ensures { result ≡ position (heard_by key) entries.now }
 {
     entries.iter().position(|entry| entry.heard_by(key))

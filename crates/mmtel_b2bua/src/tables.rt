@@ -1,6 +1,7 @@
 //! The table of calls.
-ghost use Rattle.std.specs.Prelude.{◌≡◌, ◌≤◌, ◌<◌, ◌∷◌, ◌++◌, [], ℕ, true, false, drop, length, List, IfErr, IfOk, IsErr, None, OnErr, OnOk, Some, Err, MatchResult, count_by, nat_le};
-ghost use Rattle.mmtel_b2bua.specs.Entries.{is_live};
+ghost use Rattle.std.specs.Prelude.{◌≡◌, ◌≤◌, ◌<◌, ◌∷◌, ◌++◌, [], ℕ, true, false, drop, length, List, IfErr, IfOk, IsErr, None, OnErr, OnOk, Some, Err, MatchResult, count_by, is_some, nat_le, position};
+ghost use Rattle.std.specs.Option.{option_copied};
+ghost use Rattle.mmtel_b2bua.specs.Entries.{heard_by as had_answer_by, is_live, sent_it};
 ghost use Rattle.mmtel_b2bua.specs.Histories.{CallsView, Deed, Drops, Finishes, Heard, Hears, Releases, Restores, Stands, after_finishing, after_hearing, brought_forth, finished_by, hears_after, heard_by, site_of, table_after};
 ghost use Rattle.mmtel_b2bua.specs.Lending.{ended, entry_of, is_away, leg_out, takes_back};
 ghost use Rattle.mmtel_b2bua.specs.Names.{first_side, live, party, side_asking, side_named};
@@ -15,7 +16,7 @@ use crate::asked::{self, DialogName};
 use crate::busy::live_among;
 use crate::entries::Entry;
 use crate::lending;
-use crate::moves::{give_up_entry, take};
+use crate::moves::{give_up_entry, place_heard, place_sent, take};
 use crate::signals::{CallFault, Signal};
 use mmtel_call::{NotTalking, Setting};
 use mmtel_charging::Row;
@@ -255,6 +256,20 @@ impl Calls {
         asked::asked_by(&self.entries, invite)
     }
 
+    /// Whether an INVITE of some call has this branch, so that what answers it, or its silence, is of that call (RFC 3261 §17.1.3).
+    pub fn has_sent(&self, branch: Option<&[u8]>) -> bool
+        ensures { result ≡ is_some (position (sent_it (option_copied branch.entry)) self.now.table.entries) }
+    {
+        place_sent(&self.entries, branch).is_some()
+    }
+
+    /// Whether an INVITE of some call had its answer by this client transaction.
+    pub fn has_heard(&self, key: TKey) -> bool
+        ensures { result ≡ is_some (position (had_answer_by key) self.now.table.entries) }
+    {
+        place_heard(&self.entries, key).is_some()
+    }
+
     /// The peer of a side's leg, and the account that is served there; None exactly where the call does not live or that side has no leg.
     pub fn party(&self, call: CallNo, side: Side) -> Option<(Peer, Option<Account>)>
         ensures { (peers : Peers) (accounts : List AccountIdentity) (deeds : List Deed) → Stands peers accounts self.now deeds → result ≡ party call.0 side (table_after (site_of self.now peers accounts) deeds).entries }
@@ -287,6 +302,7 @@ impl Calls {
     #[tactic(auto, using(crate::proofs::Away::without_meter))]
     pub fn release(&mut self, call: CallNo, side: Side) -> Result<Released, NotTalking>
         ensures done { (peers : Peers) (accounts : List AccountIdentity) (deeds : List Deed) → Stands peers accounts self.old deeds → Stands peers accounts self.new (Releases call.0 side ∷ deeds) }
+        ensures site { (peers : Peers) (accounts : List AccountIdentity) → site_of self.new peers accounts ≡ site_of self.old peers accounts }
         ensures leg { MatchResult result (λ leg. leg_out call.0 side self.old.table.entries ≡ Some leg) (λ refused. leg_out call.0 side self.old.table.entries ≡ None) }
         ensures away { IfOk result (λ leg. is_away (entry_of call.0 self.new.table.entries) ≡ true) }
         ensures fits { IfOk result (λ leg. takes_back leg (entry_of call.0 self.new.table.entries) ≡ true) }
@@ -299,7 +315,8 @@ impl Calls {
     pub fn restore(&mut self, call: CallNo, away: Released)
         requires fits { takes_back away (entry_of call.0 self.old.table.entries) ≡ true }
         requires meter { (released_leg away).meter ≡ None }
-        ensures { (peers : Peers) (accounts : List AccountIdentity) (deeds : List Deed) → Stands peers accounts self.old deeds → Stands peers accounts self.new (Restores call.0 away ∷ deeds) }
+        ensures site { (peers : Peers) (accounts : List AccountIdentity) → site_of self.new peers accounts ≡ site_of self.old peers accounts }
+        ensures done { (peers : Peers) (accounts : List AccountIdentity) (deeds : List Deed) → Stands peers accounts self.old deeds → Stands peers accounts self.new (Restores call.0 away ∷ deeds) }
     {
         lending::restore(&mut self.entries, call, away);
     }
@@ -357,6 +374,7 @@ impl Calls {
         ensures done { OnOk result ((deeds : List Deed) → Stands peers.now accounts.now self.old deeds → Stands peers.now accounts.now self.new (Finishes call.0 now tokens.old ∷ deeds)) }
         ensures emits { IfOk result (λ out. (deeds : List Deed) → Stands peers.now accounts.now self.old deeds → out ≡ (finished_by (site_of self.old peers.now accounts.now) call.0 now tokens.old (table_after (site_of self.old peers.now accounts.now) deeds)).desk.out) }
         ensures tokens { OnOk result ((deeds : List Deed) → Stands peers.now accounts.now self.old deeds → tokens.new ≡ (finished_by (site_of self.old peers.now accounts.now) call.0 now tokens.old (table_after (site_of self.old peers.now accounts.now) deeds)).desk.tokens) }
+        ensures site { OnOk result ((peers : Peers) (accounts : List AccountIdentity) → site_of self.new peers accounts ≡ site_of self.old peers accounts) }
         ensures fails { IfErr result (λ e. (self.old.has_failed ≡ false → self.new.has_failed ≡ true)) }
         ensures stuck { self.old.has_failed ≡ true → IsErr result × ((self.new ≡ self.old) × (tokens.new ≡ tokens.old)) }
     {

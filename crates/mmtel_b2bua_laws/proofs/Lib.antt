@@ -1,9 +1,11 @@
 mod Tables
 mod Moving
-mod Living
+pub mod Living
 mod Concluding
 mod Own
 mod Tabling
 mod Cleaning
+mod Giving
+mod Legs
 mod Filing
 mod Keys

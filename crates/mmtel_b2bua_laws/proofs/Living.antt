@@ -303,7 +303,7 @@ finished-out (Over cause) site at c desk = refl
 -- ---- a signal
 
 -- a signal that says nothing
-abbrev quiet : Heard → Heard
+abbrev pub quiet : Heard → Heard
 quiet x = record { now = x.now; signal = of_call.Silent [] []; desk = x.desk }
 
 quiet-step : (site : Site) (x : Heard) (c : Call) → step site x.now (quiet x).signal c x.desk ≡ onward c x.desk
@@ -361,27 +361,69 @@ signal-later law s x earlier heard stands kept after l =
           (after-heard law (AreFitting s earlier) (over_at s earlier) d c (rows_after s earlier) s.site x after);
     }
 
-signal-lives : (law : CallsGoOn) (s : Start) (x : Heard) (earlier : List Event) (heard : List Heard) → Place s earlier heard → Lived s earlier heard →
-    (after : List Heard) × Lived s (Hears x ∷ earlier) after
-signal-lives law s x earlier heard (Same is rows over) l = (x ∷ heard, signal-same s x earlier heard is rows over l)
-signal-lives law s x earlier heard (Later stands kept after) l = (quiet x ∷ heard, signal-later law s x earlier heard stands kept after l)
+-- what else is told of a life beside its story, step by step
+pub record Beside (s : Start) (R : List Event → List Heard → Type 0) : Type 0 where
+  pub opens : R [] []
+  -- the call is that of the story
+  pub same : (x : Heard) (earlier : List Event) (heard : List Heard) → call_after s earlier ≡ story.call_after s heard → R earlier heard → R (Hears x ∷ earlier) (x ∷ heard)
+  -- a leg of it was taken out once, and the story has a signal that says nothing
+  pub later : (x : Heard) (earlier : List Event) (heard : List Heard) → is_offered (call_after s earlier).phase ≡ false → R earlier heard → R (Hears x ∷ earlier) (quiet x ∷ heard)
+  -- what is no signal
+  pub releases : (side : Side) (earlier : List Event) (heard : List Heard) → R earlier heard → R (Releases side ∷ earlier) heard
+  pub restores : (away : Released) (earlier : List Event) (heard : List Heard) → R earlier heard → R (Restores away ∷ earlier) heard
+  pub finishes : (at : ℕ) (desk : Desk) (earlier : List Event) (heard : List Heard) → R earlier heard → R (Finishes at desk ∷ earlier) heard
+
+abbrev LivedBeside : Start → (List Event → List Heard → Type 0) → List Event → Type 0
+LivedBeside s R events = (heard : List Heard) × Lived s events heard × R events heard
+
+signal-lives : (law : CallsGoOn) (s : Start) (R : List Event → List Heard → Type 0) → Beside s R → (x : Heard) (earlier : List Event) (heard : List Heard) → Place s earlier heard →
+    Lived s earlier heard → R earlier heard → LivedBeside s R (Hears x ∷ earlier)
+signal-lives law s R b x earlier heard (Same is rows over) l r = (x ∷ heard, signal-same s x earlier heard is rows over l, b.same x earlier heard is r)
+signal-lives law s R b x earlier heard (Later stands kept after) l r = (
+  quiet x ∷ heard,
+  signal-later law s x earlier heard stands kept after l,
+  b.later x earlier heard (after-offered (AreFitting s earlier) (over_at s earlier) (story.call_after s heard) (call_after s earlier) (rows_after s earlier) after) r,
+)
 
 -- ---- every life
 
-pub lived : CallsGoOn → ChargingIsExact → (s : Start) (events : List Event) → (heard : List Heard) × Lived s events heard
+pub lived_beside : CallsGoOn → ChargingIsExact → (s : Start) (R : List Event → List Heard → Type 0) → Beside s R → (events : List Event) → LivedBeside s R events
 unfolding call_after rows_after over_at endings_after stood_after emits_while_offered story.call_after story.rows_after story.over_at story_endings.endings_after
     story_known.stood_after story_shown.emits_while_offered finished
-lived law charged s [] = ([], record { endings = refl; stood = λ k. refl; emits = refl; own = λ others desks. desks; place = Same refl refl (λ h. refl) })
-lived law charged s (Hears x ∷ earlier) = let (heard, l) = lived law charged s earlier in signal-lives law s x earlier heard l.place l
-lived law charged s (Releases side ∷ earlier) =
-    let (heard, l) = lived law charged s earlier in
-    let c = call_after s earlier in
-    (heard, no-signal charged s (Releases side) earlier heard (lent-turns c.phase side c (over_at s earlier)) refl (λ before. refl) (if-same (is_offered c.phase) []) l)
-lived law charged s (Restores away ∷ earlier) =
-    let (heard, l) = lived law charged s earlier in
-    let c = call_after s earlier in
-    (heard, no-signal charged s (Restores away) earlier heard (back-turns c.phase away c (over_at s earlier)) refl (λ before. refl) (if-same (is_offered c.phase) []) l)
-lived law charged s (Finishes at desk ∷ earlier) =
-    let (heard, l) = lived law charged s earlier in
-    let c = call_after s earlier in
-    (heard, no-signal charged s (Finishes at desk) earlier heard (finished-turns c.phase s.site at c desk) refl (λ before. refl) (finished-out c.phase s.site at c desk) l)
+lived_beside law charged s R b [] = ([], record { endings = refl; stood = λ k. refl; emits = refl; own = λ others desks. desks; place = Same refl refl (λ h. refl) }, b.opens)
+lived_beside law charged s R b (Hears x ∷ earlier) = let (heard, l, r) = lived_beside law charged s R b earlier in signal-lives law s R b x earlier heard l.place l r
+lived_beside law charged s R b (Releases side ∷ earlier) =
+    let (heard, l, r) = lived_beside law charged s R b earlier in
+    let c = call_after s earlier in (
+      heard,
+      no-signal charged s (Releases side) earlier heard (lent-turns c.phase side c (over_at s earlier)) refl (λ before. refl) (if-same (is_offered c.phase) []) l,
+      b.releases side earlier heard r,
+    )
+lived_beside law charged s R b (Restores away ∷ earlier) =
+    let (heard, l, r) = lived_beside law charged s R b earlier in
+    let c = call_after s earlier in (
+      heard,
+      no-signal charged s (Restores away) earlier heard (back-turns c.phase away c (over_at s earlier)) refl (λ before. refl) (if-same (is_offered c.phase) []) l,
+      b.restores away earlier heard r,
+    )
+lived_beside law charged s R b (Finishes at desk ∷ earlier) =
+    let (heard, l, r) = lived_beside law charged s R b earlier in
+    let c = call_after s earlier in (
+      heard,
+      no-signal charged s (Finishes at desk) earlier heard (finished-turns c.phase s.site at c desk) refl (λ before. refl) (finished-out c.phase s.site at c desk) l,
+      b.finishes at desk earlier heard r,
+    )
+
+-- of which nothing else is told
+nothing-beside : (s : Start) → Beside s (λ events heard. Unit {0})
+nothing-beside s = record {
+  opens = tt;
+  same = λ x earlier heard is r. tt;
+  later = λ x earlier heard offered r. tt;
+  releases = λ side earlier heard r. tt;
+  restores = λ away earlier heard r. tt;
+  finishes = λ at desk earlier heard r. tt;
+}
+
+pub lived : CallsGoOn → ChargingIsExact → (s : Start) (events : List Event) → (heard : List Heard) × Lived s events heard
+lived law charged s events = let (heard, l, r) = lived_beside law charged s (λ events heard. Unit {0}) (nothing-beside s) events in (heard, l)

@@ -8,12 +8,14 @@ use Rattle.mmtel_call.specs.Site.{Site}
 use Rattle.mmtel_call_heads.specs.Clean.{IsClean}
 use Rattle.mmtel_call_heads.specs.Emits.{Each, IsCleanEmit}
 use Rattle.mmtel_call_heads.specs.Heard.{IsCleanSheet, IsOfClean}
+use Rattle.mmtel_call_heads.specs.Kept.{IsCleanLeg}
 use Rattle.mmtel_call_heads.specs.Stories.{SendsOwnLines}
 use Rattle.mmtel_call_laws.specs.Story as story
-use Rattle.mmtel_b2bua.specs.Histories.{Deed, Drops, Finishes, Heard, Hears, Releases, Restores}
+use Rattle.mmtel_b2bua.specs.Histories.{Deed, Drops, Finishes, Heard, Hears, Releases, Restores, table_after}
+use Rattle.mmtel_b2bua.specs.Lending.{leg_out}
 use Rattle.mmtel_b2bua.specs.declared.signals.Signal.{Signal}
 use Rattle.mmtel_b2bua.specs.declared.signals.Signal.TheVariants as signal
-use Rattle.mmtel_b2bua_laws.specs.Deeds.{HasNumbers, emits_of, life_of}
+use Rattle.mmtel_b2bua_laws.specs.Deeds.{HasNumbers, emits_of, life_of, out_by}
 use Rattle.mmtel_b2bua_laws.specs.Lives as lives
 use Rattle.mmtel_b2bua_laws.specs.Lives.{Event}
 
@@ -46,6 +48,14 @@ IsCleanDeed (Restores number away) = Unit {0}
 IsCleanDeed (Finishes number at tokens) = IsClean tokens.token
 IsCleanDeed (Drops count) = Unit {0}
 
+-- the same, and a leg that is put back is clean
+abbrev pub IsGivenClean : Deed → Type 0
+IsGivenClean (Hears x) = IsCleanHearing x
+IsGivenClean (Releases number side) = Unit {0}
+IsGivenClean (Restores number away) = IsCleanLeg away
+IsGivenClean (Finishes number at tokens) = IsClean tokens.token
+IsGivenClean (Drops count) = Unit {0}
+
 -- ---- what goes out
 
 -- lives of signals alone
@@ -62,3 +72,13 @@ pub record CallsSendCleanMessages : Type 0 where
       HasNumbers site deeds → IsClean site.home → Each IsCleanDeed deeds →
       life_of site number deeds ≡ Some (record { start = start; events = lives.Finishes at desk ∷ lives.Releases side ∷ signals heard }) →
       Each IsCleanEmit (emits_of site number deeds)
+
+-- of each deed, whatever was done before
+abbrev pub DeedsSendCleanMessages : Type 0
+DeedsSendCleanMessages = (site : Site) (deeds : List Deed) (deed : Deed) → IsClean site.home → Each IsGivenClean (deed ∷ deeds) →
+    Each IsCleanEmit (out_by site deed (table_after site deeds))
+
+-- and the leg that is taken out of a call is clean
+abbrev pub LegsGoOutClean : Type 0
+LegsGoOutClean = (site : Site) (deeds : List Deed) (number : ℕ) (side : Side) → IsClean site.home → Each IsGivenClean deeds →
+    IfSome (leg_out number side (table_after site deeds).entries) IsCleanLeg

@@ -4,3 +4,4 @@ pub mod Known
 pub mod Deeds
 pub mod Laws
 pub mod Clean
+pub mod Legs

@@ -1,7 +1,8 @@
 //! What each call of a table comes to. These are laws, and no code.
-ghost use Rattle.mmtel_b2bua_laws.specs.Clean.{CallsSendCleanMessages};
+ghost use Rattle.mmtel_b2bua_laws.specs.Clean.{CallsSendCleanMessages, DeedsSendCleanMessages, LegsGoOutClean};
 ghost use Rattle.mmtel_b2bua_laws.specs.Laws.{CallsBringForthTheirOwn, CallsOfTablesAreExact, CallsTakeTheirSteps, LivesAreCharged, LivesAreCounted};
 ghost use Rattle.mmtel_b2bua_laws.specs.Laws.{LivesComeToTheirOutcome, LivesShowTheirOutcome, NothingIsOfNobody, RowsAreInOrder, RowsAreOfTheirCalls};
+ghost use Rattle.mmtel_b2bua_laws.specs.Legs.{LegsGoBack};
 
 use mmtel_call_heads::calls_send_clean_messages;
 use mmtel_call_laws::{
@@ -59,11 +60,18 @@ pub fn calls_of_tables_are_exact()
     diversions_are_counted();
 }
 
+/// A leg that is taken out of a call fits where it was, and put back it leaves the calls as they were (RFC 4579 §5.6, RFC 3891 §3).
+pub fn legs_go_back()
+    ensures law { LegsGoBack }
+{}
+
 /// What goes out of a table is clean, and each message has its own lines, where what the calls are given is clean: messages of clean lines, records with clean URIs, and
-/// tokens of a clean text. It is said of each call of which no leg was taken out, and of one that ended in the deed after that; of a call to which a leg was put back nothing
-/// is said.
+/// tokens of a clean text. It is said of each deed, where each leg that is put back is clean, and so is each that is taken out; and without a word on these of each call of
+/// which no leg was taken out, and of one that ended in the deed after that.
 pub fn tables_send_clean_messages()
     ensures law { CallsSendCleanMessages }
+    ensures deeds { DeedsSendCleanMessages }
+    ensures legs { LegsGoOutClean }
 {
     calls_send_clean_messages();
     calls_go_on();

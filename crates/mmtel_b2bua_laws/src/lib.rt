@@ -4,6 +4,6 @@
 mod laws;
 
 pub use laws::{
-    calls_of_tables_are_exact, calls_take_their_steps, lives_come_to_their_outcome,
+    calls_of_tables_are_exact, calls_take_their_steps, legs_go_back, lives_come_to_their_outcome,
     nothing_is_of_nobody, rows_are_in_order, tables_send_clean_messages,
 };

@@ -231,6 +231,7 @@ impl Rooms {
         ensures done { OnOk result ((deeds : List Deed) → Stands peers.now accounts.now self.old deeds → Stands peers.now accounts.now self.new (Hears (record { at = now; tokens = tokens.old; signal = signal }) ∷ deeds)) }
         ensures emits { IfOk result (λ out. (deeds : List Deed) → Stands peers.now accounts.now self.old deeds → out ≡ (brought_after (site_of self.old peers.now accounts.now) deeds (Hears (record { at = now; tokens = tokens.old; signal = signal }))).desk.out) }
         ensures tokens { OnOk result ((deeds : List Deed) → Stands peers.now accounts.now self.old deeds → tokens.new ≡ (brought_after (site_of self.old peers.now accounts.now) deeds (Hears (record { at = now; tokens = tokens.old; signal = signal }))).desk.tokens) }
+        ensures site { OnOk result ((peers : Peers) (accounts : List AccountIdentity) → site_of self.new peers accounts ≡ site_of self.old peers accounts) }
         ensures fails { IfErr result (λ e. (self.old.has_failed ≡ false → self.new.has_failed ≡ true)) }
         ensures stuck { self.old.has_failed ≡ true → IsErr result × ((self.new ≡ self.old) × (tokens.new ≡ tokens.old)) }
     {
@@ -309,6 +310,7 @@ impl Rooms {
         ensures done { OnOk result ((deeds : List Deed) → Stands peers.now accounts.now self.old deeds → Stands peers.now accounts.now self.new (Notifies room.0 seat code tokens.old ∷ deeds)) }
         ensures emits { IfOk result (λ out. (deeds : List Deed) → Stands peers.now accounts.now self.old deeds → out ≡ (brought_after (site_of self.old peers.now accounts.now) deeds (Notifies room.0 seat code tokens.old)).desk.out) }
         ensures tokens { OnOk result ((deeds : List Deed) → Stands peers.now accounts.now self.old deeds → tokens.new ≡ (brought_after (site_of self.old peers.now accounts.now) deeds (Notifies room.0 seat code tokens.old)).desk.tokens) }
+        ensures site { OnOk result ((peers : Peers) (accounts : List AccountIdentity) → site_of self.new peers accounts ≡ site_of self.old peers accounts) }
         ensures fails { IfErr result (λ e. (self.old.has_failed ≡ false → self.new.has_failed ≡ true)) }
         ensures stuck { self.old.has_failed ≡ true → IsErr result × ((self.new ≡ self.old) × (tokens.new ≡ tokens.old)) }
     {
@@ -343,6 +345,7 @@ impl Rooms {
         ensures done { OnOk result ((deeds : List Deed) → Stands peers.now accounts.now self.old deeds → Stands peers.now accounts.now self.new (Opens (coming now leg account key invite.now) ∷ deeds)) }
         ensures emits { IfOk result (λ made. (deeds : List Deed) → Stands peers.now accounts.now self.old deeds → made.1 ≡ (brought_after (site_of self.old peers.now accounts.now) deeds (Opens (coming now leg account key invite.now))).desk.out) }
         ensures number { IfOk result (λ made. made.0.0 ≡ next_number self.old.table.opened) }
+        ensures site { OnOk result ((peers : Peers) (accounts : List AccountIdentity) → site_of self.new peers accounts ≡ site_of self.old peers accounts) }
         ensures refused { OnErr result (self.new ≡ self.old) }
         ensures handed_back { IfErr result (λ e. e.0 ≡ leg) }
         ensures no_room { self.old.has_failed ≡ false → has_no_room self.old.table.live ≡ true → result ≡ Err (leg, fault.NoRoom) }
@@ -485,6 +488,7 @@ impl Rooms {
         ensures done { OnOk result ((deeds : List Deed) → Stands peers.now accounts.now self.old deeds → Stands peers.now accounts.now self.new (entering room.0 now tokens.old leg account how.entry ∷ deeds)) }
         ensures emits { IfOk result (λ out. (deeds : List Deed) → Stands peers.now accounts.now self.old deeds → out ≡ (brought_after (site_of self.old peers.now accounts.now) deeds (entering room.0 now tokens.old leg account how.entry)).desk.out) }
         ensures tokens { OnOk result ((deeds : List Deed) → Stands peers.now accounts.now self.old deeds → tokens.new ≡ (brought_after (site_of self.old peers.now accounts.now) deeds (entering room.0 now tokens.old leg account how.entry)).desk.tokens) }
+        ensures site { OnOk result ((peers : Peers) (accounts : List AccountIdentity) → site_of self.new peers accounts ≡ site_of self.old peers accounts) }
         ensures gone { self.old.has_failed ≡ false → access room.0 self.old.table.live ≡ Err fault.Gone → (result ≡ Err (leg, fault.Gone)) × ((self.new ≡ self.old) × (tokens.new ≡ tokens.old)) }
         ensures full { self.old.has_failed ≡ false → access room.0 self.old.table.live ≡ Err fault.RoomFull → (result ≡ Err (leg, fault.RoomFull)) × ((self.new ≡ self.old) × (tokens.new ≡ tokens.old)) }
         ensures fails { self.old.has_failed ≡ false → (place : ℕ) → access room.0 self.old.table.live ≡ Ok place → IfErr result (λ e. (e.1 ≡ fault.NoMemory) × (self.new.has_failed ≡ true)) }
@@ -541,7 +545,8 @@ impl Rooms {
     /// So many of the rows that wait were handed over.
     pub fn drop_rows(&mut self, count: usize)
         requires { count ≤ length self.old.table.rows }
-        ensures { (peers : Peers) (accounts : List AccountIdentity) (deeds : List Deed) → Stands peers accounts self.old deeds → Stands peers accounts self.new (Drops count ∷ deeds) }
+        ensures site { (peers : Peers) (accounts : List AccountIdentity) → site_of self.new peers accounts ≡ site_of self.old peers accounts }
+        ensures done { (peers : Peers) (accounts : List AccountIdentity) (deeds : List Deed) → Stands peers accounts self.old deeds → Stands peers accounts self.new (Drops count ∷ deeds) }
     {
         drop_first(&mut self.rows, count);
     }

@@ -128,7 +128,7 @@ invitation_clean site room peer uri desk e had = record {
 }
 
 sent_clean : (d : Dialogue) (number : ℕ) (branch : List ℕ) → IsCleanDialogue d → IsClean branch → IsCleanInvitation (sent d number branch)
-sent_clean d number branch e f = record { dialogue_in = e; branch_in = f; ack_in = tt; forks_in = tt }
+sent_clean d number branch e f = record { dialogue_in = e; branch_in = f; ack_in = tt; forks_in = tt; early_in = tt }
 
 invited_clean : (site : Site) (at by : ℕ) (peer : Peer) (u : Uri) (s : Step) → IsCleanUri u → IsCleanStep s → IsCleanStep (invited site at by peer u s)
 invited_clean site at by peer u s e is =
@@ -250,7 +250,7 @@ ack_row m place seat s e is =
 
 noted_clean : (key : TKey) (o : Option Invite) → IfSome o IsCleanInvite → IfSome (noted key o) IsCleanInvite
 noted_clean key None e = tt
-noted_clean key (Some (Waiting number i)) e = record { dialogue_in = e.dialogue_in; branch_in = e.branch_in; ack_in = e.ack_in; forks_in = e.forks_in }
+noted_clean key (Some (Waiting number i)) e = record { dialogue_in = e.dialogue_in; branch_in = e.branch_in; ack_in = e.ack_in; forks_in = e.forks_in; early_in = e.early_in }
 noted_clean key (Some (Agreed branch tag ack)) e = e
 
 provisional_clean : (key : TKey) → KeepsClean (on_provisional key)

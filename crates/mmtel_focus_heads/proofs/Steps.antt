@@ -129,7 +129,7 @@ ended_clean true d e = (e, tt)
 ended_clean false d e = tt
 
 within_clean : (had_bye : Bool) (leg : Leg) (i : Invitation) → IsCleanDialogue leg.dialogue → IsCleanInvitation i → IsCleanLoose (loose_within had_bye leg i)
-within_clean had_bye leg i e is = record { dialogue_in = e; branch_in = is.branch_in; ack_in = is.ack_in; forks_in = ended_clean had_bye leg.dialogue e }
+within_clean had_bye leg i e is = record { dialogue_in = e; branch_in = is.branch_in; ack_in = is.ack_in; forks_in = ended_clean had_bye leg.dialogue e; early_in = is.early_in }
 
 loosened_clean : (had_bye : Bool) (party : Party) (i : Invitation) → IsCleanParty party → IsCleanInvitation i → IsCleanLoose (loosened had_bye party i)
 loosened_clean had_bye (Invited leg) i e is = is

@@ -29,12 +29,13 @@ use Rattle.mmtel_focus.specs.declared.signals.SeatSignal.TheVariants as of_seat
 use Rattle.mmtel_call_heads.specs.Clean.{IsClean}
 use Rattle.mmtel_call_heads.specs.Emits.{Each, IsCleanEmit}
 use Rattle.mmtel_call_heads.specs.Heard.{IsOfClean}
+use Rattle.mmtel_call_heads.specs.Kept.{IsCleanLeg}
 use Rattle.mmtel_call_heads.proofs.Hearing.{heard_clean}
 use Rattle.mmtel_call_heads.proofs.Keeping.{IsCleanLoose}
 use Rattle.mmtel_call_heads.proofs.Leaving.{late_response_clean}
 use Rattle.mmtel_call_heads.proofs.Sending.{each_append, each_drop, each_get, each_option, each_take}
 use Rattle.mmtel_call_heads.proofs.Stories.{each_lines}
-use Rattle.mmtel_focus_heads.specs.Heads.{EmitsAreClean, EmitsHaveTheirLines, IsCleanAdoption, IsCleanComing, IsCleanDeed, IsCleanLeg, IsCleanSignal}
+use Rattle.mmtel_focus_heads.specs.Heads.{EmitsAreClean, EmitsHaveTheirLines, IsCleanAdoption, IsCleanComing, IsCleanDeed, IsCleanSignal}
 use Rattle.mmtel_focus_heads.proofs.Rows.{ack_row, adopted_clean, answer_row, come_clean, due_row, request_row, silence_row}
 use Rattle.mmtel_focus_heads.proofs.Steps.{IsCleanEffects, IsCleanHere, IsCleanRoom, IsCleanSeat, IsCleanStep, KeepsClean, at_place_clean, each_removed, each_set, told_to_clean}
 

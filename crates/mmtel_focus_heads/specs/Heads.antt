@@ -3,10 +3,8 @@ use Rattle.std.specs.Prelude.{List, ◌∷◌}
 use Rattle.mmtel_call_heads.specs.Clean.{IsClean}
 use Rattle.mmtel_call_heads.specs.Emits.{Each, IsCleanEmit}
 use Rattle.mmtel_call_heads.specs.Heard.{IsOfClean}
-use Rattle.mmtel_call_heads.specs.Kept.{IsCleanDialogue}
+use Rattle.mmtel_call_heads.specs.Kept.{IsCleanLeg}
 use Rattle.mmtel_call_heads.specs.Stories.{SendsOwnLines}
-use Rattle.mmtel_leg.specs.Releases.{released_leg}
-use Rattle.mmtel_leg.specs.declared.legs.Released.{Released}
 use Rattle.mmtel_focus.specs.Histories.{Adoption, Coming, Deed, Heard, Opens, Joins, Adopts, Notifies, Hears, Leaves, Closes, Drops, brought_after}
 use Rattle.mmtel_focus.specs.Site.{Site}
 use Rattle.mmtel_focus.specs.declared.signals.RoomSignal.{RoomSignal}
@@ -22,11 +20,6 @@ IsCleanSignal (signal.Answer key response) = IsOfClean response.heard
 IsCleanSignal (signal.Silent branch method) = Unit {0}
 IsCleanSignal (signal.Due room seat what) = Unit {0}
 IsCleanSignal (signal.Over key) = Unit {0}
-
--- the dialog of a leg, with the server's tag in it
-pub record IsCleanLeg (leg : Released) : Type 0 where
-  pub dialog : IsCleanDialogue (released_leg leg).dialogue
-  pub tag : IsClean (released_leg leg).dialogue.local_tag
 
 -- the leg that comes, and its INVITE, and what tokens are drawn of
 pub record IsCleanComing (c : Coming) : Type 0 where

@@ -1,12 +1,11 @@
 -- Two seats of one public part, and two rooms: what is told of them alike, and what they are after one change of each.
-use Rattle.std.proofs.Common.{◌≡◌, ◌&&◌, not, ℕ, Bool, true, false, List, [], ◌∷◌, ◌++◌, Option, Some, None, refl, ap, sym, ◌∙◌, map, subst}
+use Rattle.std.proofs.Common.{◌≡◌, ℕ, Bool, true, false, List, [], ◌∷◌, Option, Some, None, refl, ap, sym, ◌∙◌, map}
 use Rattle.std.specs.Option.{option_map}
-use Rattle.std.specs.Prelude.{slice_get, slice_set}
-use Rattle.std.specs.Str.{bytes_eq}
+use Rattle.std.specs.Prelude.{nat_le}
 use Rattle.mmtel_answers.specs.Said.{Said}
-use Rattle.mmtel_charging.specs.Meters.{Noted}
+use Rattle.mmtel_call_secret.proofs.Leaving.{long}
 use Rattle.mmtel_call_secret.proofs.Sent.{bytes_if, untouched}
-use Rattle.mmtel_call_secret.specs.Parts.{public_dialog, public_invitation, public_leg, public_loose}
+use Rattle.mmtel_call_secret.specs.Parts.{public_dialog, public_invitation, public_leg, public_loose, public_said}
 use Rattle.mmtel_desk.specs.Invitations.{has_said, once_cancelled}
 use Rattle.mmtel_desk.specs.Sending.{ack_text}
 use Rattle.mmtel_desk.specs.declared.invitations.Invitation.{Invitation}
@@ -19,13 +18,13 @@ use Rattle.mmtel_types.specs.declared.addrs.Addr.{Addr}
 use Rattle.mmtel_types.specs.declared.numbers.Peer.{Peer}
 use Rattle.mmtel_focus.specs.Answers.{agreed_by, noted, once_cancelled_in, waits}
 use Rattle.mmtel_focus.specs.Requests.{awaiting, heard_seat, is_waiting}
-use Rattle.mmtel_focus.specs.Rooms.{Room}
+use Rattle.mmtel_focus.specs.Rooms.{Room, most_seats}
 use Rattle.mmtel_focus.specs.declared.seats.Invite.{Invite}
 use Rattle.mmtel_focus.specs.declared.seats.Invite.TheVariants.{Agreed, Waiting}
 use Rattle.mmtel_focus.specs.declared.seats.Party.{Party}
 use Rattle.mmtel_focus.specs.declared.seats.Party.TheVariants.{Brought, Came, Invited}
 use Rattle.mmtel_focus.specs.declared.seats.Seat.{Seat}
-use Rattle.mmtel_focus.specs.Seats.{dialogue_of, ended_dialogs, having_had_bye, is_seated, is_seated_by, leg_of, loose_within, loosened, loosened_in, tag_of, told_party, told_seat}
+use Rattle.mmtel_focus.specs.Seats.{dialogue_of, ended_dialogs, having_had_bye, is_full, is_seated, is_seated_by, leg_of, loose_within, loosened, loosened_in, tag_of, told_party, told_seat}
 use Rattle.mmtel_focus.specs.Table.{is_asked, is_sent}
 use Rattle.mmtel_focus_secret.specs.Parts.{public_invite, public_party, public_room, public_seat, public_waiting}
 use Rattle.mmtel_focus_secret.proofs.Lists.{commuting, telling}
@@ -88,7 +87,7 @@ module _ (known : Peer → Bool) where
 
   -- as an INVITE that was left
   pub as_left : (i j : Invitation) → public_waiting known i ≡ public_waiting known j → public_invitation known i ≡ public_invitation known j
-  as_left i j e = ap (λ (z : Invitation). record z { ack = blank_maybe (known z.dialogue.peer) z.ack }) e
+  as_left i j e = ap (λ (z : Invitation). record z { ack = blank_maybe (known z.dialogue.peer) z.ack; early = option_map (public_said (known z.dialogue.peer)) z.early }) e
 
   -- ---- what is told of two seats
 
@@ -263,7 +262,7 @@ module _ (known : Peer → Bool) where
   -- ---- INVITEs that are left
 
   abbrev within_of : (had_bye : Bool) → Leg → Invitation → Loose
-  within_of had_bye l i = record { invitation = record i { dialogue = l.dialogue; ack = blank_maybe (known l.dialogue.peer) i.ack; forks = ended_dialogs had_bye l.dialogue }; within = true }
+  within_of had_bye l i = record { invitation = record i { dialogue = l.dialogue; ack = blank_maybe (known l.dialogue.peer) i.ack; forks = ended_dialogs had_bye l.dialogue; early = option_map (public_said (known l.dialogue.peer)) i.early }; within = true }
 
   left_within : (had_bye : Bool) (l m : Leg) (i j : Invitation) → public_leg known l ≡ public_leg known m → public_waiting known i ≡ public_waiting known j → public_loose known (loose_within had_bye l i) ≡ public_loose known (loose_within had_bye m j)
   left_within had_bye l m i j same w =
@@ -274,7 +273,7 @@ module _ (known : Peer → Bool) where
       ended false d = refl
 
       public_within : (l : Leg) (i : Invitation) → public_loose known (loose_within had_bye l i) ≡ within_of had_bye (public_leg known l) (public_waiting known i)
-      public_within l i = ap (λ (f : List Dialogue). record { invitation = record i { dialogue = public_dialog known l.dialogue; ack = blank_maybe (known l.dialogue.peer) i.ack; forks = f }; within = true }) (ended had_bye l.dialogue)
+      public_within l i = ap (λ (f : List Dialogue). record { invitation = record i { dialogue = public_dialog known l.dialogue; ack = blank_maybe (known l.dialogue.peer) i.ack; forks = f; early = option_map (public_said (known l.dialogue.peer)) i.early }; within = true }) (ended had_bye l.dialogue)
 
   pub left-one : (had_bye : Bool) (p q : Party) (i j : Invitation) → public_party known p ≡ public_party known q → public_waiting known i ≡ public_waiting known j → public_loose known (loosened had_bye p i) ≡ public_loose known (loosened had_bye q j)
   left-one had_bye p q i j e w =
@@ -293,3 +292,9 @@ module _ (known : Peer → Bool) where
   pub seats-set : (r s : Room) (xs ys : List Seat) → public_room known r ≡ public_room known s → map (public_seat known) xs ≡ map (public_seat known) ys → public_room known (record r { seats = xs }) ≡ public_room known (record s { seats = ys })
   seats-set r s xs ys e same =
       ap (λ (z : Room). record z { seats = map (public_seat known) xs }) e ∙ ap (λ (l : List Seat). record (public_room known s) { seats = l }) same
+
+  pub full_public : (room : Room) → is_full room ≡ is_full (public_room known room)
+  full_public room = ap (nat_le most_seats) (sym (long (public_seat known) room.seats))
+
+  pub full_rooms : (u v : Room) → public_room known u ≡ public_room known v → is_full u ≡ is_full v
+  full_rooms u v e = full_public u ∙ (ap is_full e ∙ sym (full_public v))

@@ -1,6 +1,9 @@
 mod Lists
 mod Likes
 mod Alike
+mod Asked
 mod Steps
 mod Rows
 mod Tables
+mod LookingUp
+mod Both

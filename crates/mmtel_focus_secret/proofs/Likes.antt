@@ -1,20 +1,19 @@
 -- What goes out is seen alike, message by message: of two dialogs of one public part, and to two messages that are the same but for private places.
-use Rattle.std.proofs.Common.{◌≡◌, ℕ, Bool, true, false, List, [], ◌∷◌, ◌++◌, Option, Some, None, refl, ap, sym, ◌∙◌, subst, codes}
-use Rattle.std.specs.Option.{option_map}
+use Rattle.std.proofs.Common.{◌≡◌, ℕ, Bool, true, false, List, [], ◌∷◌, ◌++◌, refl, ap, sym, ◌∙◌, subst}
 use Rattle.mmtel_answers.specs.Answers.{own_answer, own_reply}
 use Rattle.mmtel_answers.specs.Said.{Said}
 use Rattle.mmtel_call.specs.Site as calls
 use Rattle.mmtel_call_secret.proofs.Across.{acked-final}
 use Rattle.mmtel_call_secret.proofs.Leaving.{RestsAlike, desks-back, desks-then, response-alike}
 use Rattle.mmtel_call_secret.proofs.Ringing.{met_alike}
-use Rattle.mmtel_call_secret.proofs.Sent.{Heads, acked-alike, asked-alike, cancel-alike, emitted-alike, if-alike, reply-seen, same_desk, untouched}
+use Rattle.mmtel_call_secret.proofs.Sent.{Heads, acked-alike, asked-alike, cancel-alike, emitted-alike, reply-seen, same_desk}
 use Rattle.mmtel_call_secret.specs.Parts.{public_dialog, public_invitation, public_loose}
 use Rattle.mmtel_call_secret.specs.Premises.{IsAnswer, IsAsked}
-use Rattle.mmtel_call_secret.specs.Roles.{Role, private_places, without_private}
+use Rattle.mmtel_call_secret.specs.Roles.{private_places}
 use Rattle.mmtel_call_secret.specs.Seen.{AlikeDesks, Trust}
 use Rattle.mmtel_desk.specs.Desks.{emitted, filed}
-use Rattle.mmtel_desk.specs.Loose.{Rest, on_response}
-use Rattle.mmtel_desk.specs.Sending.{acked, answered_at, asked_with, cancel_sent, cancelled, final_acked}
+use Rattle.mmtel_desk.specs.Loose.{on_response}
+use Rattle.mmtel_desk.specs.Sending.{acked, answered_at, asked_with, cancelled, final_acked}
 use Rattle.mmtel_desk.specs.declared.desks.Desk.{Desk}
 use Rattle.mmtel_desk.specs.declared.invitations.Invitation.{Invitation}
 use Rattle.mmtel_desk.specs.declared.invitations.Loose.{Loose}

@@ -1,20 +1,17 @@
 -- Each row of the room table keeps two steps alike.
-use Rattle.std.proofs.Common.{◌≡◌, ◌+◌, ◌&&◌, not, ℕ, Bool, true, false, List, [], ◌∷◌, ◌++◌, Option, Some, None, Result, Ok, Err, refl, ap, sym, ◌∙◌, map, subst, codes, nat_lt, nat_le, length}
-use Rattle.std.specs.Option.{option_map}
-use Rattle.std.specs.Prelude.{if◌then◌else◌, slice_get, slice_set}
+use Rattle.std.proofs.Common.{◌≡◌, ◌+◌, ◌&&◌, not, ℕ, Bool, true, false, List, [], ◌∷◌, ◌++◌, Option, Some, None, Result, Ok, Err, refl, ap, sym, ◌∙◌, map, subst, codes, nat_lt}
+use Rattle.std.specs.Prelude.{if◌then◌else◌, slice_set}
 use Rattle.std.specs.Str.{bytes_eq}
 use Rattle.mmtel_scan.specs.Numbers.{next_number}
 use Rattle.mmtel_answers.specs.Answers.{allowed, retry_after}
 use Rattle.mmtel_answers.specs.Said.{Said, phrase_in, status_of}
-use Rattle.mmtel_call_secret.proofs.Leaving.{long}
 use Rattle.mmtel_call_secret.proofs.Sent.{Heads, drew-alike, emitted-alike}
-use Rattle.mmtel_call_secret.specs.Parts.{public_dialog, public_invitation, public_leg, public_released}
+use Rattle.mmtel_call_secret.specs.Parts.{public_dialog, public_released}
 use Rattle.mmtel_call_secret.specs.Premises.{IsAnswer}
 use Rattle.mmtel_call_secret.specs.Seen.{AlikeDesks, Sent, Trust}
 use Rattle.mmtel_desk.specs.Desks.{drew, emitted, token}
 use Rattle.mmtel_desk.specs.Sending.{ack_text, acked, answered_at, asked_with}
 use Rattle.mmtel_desk.specs.declared.desks.Desk.{Desk}
-use Rattle.mmtel_desk.specs.declared.invitations.Invitation.{Invitation}
 use Rattle.mmtel_leg.specs.Legs.{Leg}
 use Rattle.mmtel_leg.specs.Releases.{released_leg}
 use Rattle.mmtel_leg.specs.Remotes.{remote_of}
@@ -29,7 +26,6 @@ use Rattle.mmtel_lex.specs.declared.values.Uri.{Uri}
 use Rattle.mmtel_message.specs.Addresses.{contact_text}
 use Rattle.mmtel_message.specs.Faults.{is_method}
 use Rattle.mmtel_message.specs.Message.{Line}
-use Rattle.mmtel_message.specs.declared.messages.Start.{Start}
 use Rattle.mmtel_sdp.specs.Mixing.{offer_text}
 use Rattle.mmtel_sdp.specs.Offers.{offers_audio}
 use Rattle.mmtel_transaction.specs.Alike.{blank_if}
@@ -44,25 +40,23 @@ use Rattle.mmtel_types.specs.declared.numbers.Account.{Account}
 use Rattle.mmtel_types.specs.declared.numbers.Peer.{Peer}
 use Rattle.mmtel_types.specs.declared.numbers.RoomNo.{RoomNo}
 use Rattle.mmtel_types.specs.declared.sides.Side.TheVariants.{Callee}
-use Rattle.mmtel_focus.specs.Answers.{acked_again, acknowledged, agreed_by, cancelled_in, ended_unasked, ended_without, failure_acked, is_awaited, is_success, noted, on_answer, on_answer_to, on_cap, on_due, on_failure, on_no_ack, on_provisional, on_repeat, on_response, on_silence, on_success, once_cancelled_in, seated, stood, standing, stood_in, tag_given, too_long, unacknowledged, waits}
+use Rattle.mmtel_focus.specs.Answers.{acked_again, acknowledged, agreed_by, cancelled_in, ended_unasked, ended_without, failure_acked, is_awaited, is_success, noted, on_answer, on_answer_to, on_cap, on_due, on_failure, on_no_ack, on_provisional, on_repeat, on_response, on_silence, on_success, once_cancelled_in, seated, stood, standing, tag_given, too_long, unacknowledged, waits}
 use Rattle.mmtel_focus.specs.Joining.{ack_time, adopted, adopted_seat, agreed, bidden, come, invitation_dialog, invite_sent, invited, invited_at, invited_in, invited_seat, longest_ringing, new_seat, told_failure, with_new}
 use Rattle.mmtel_focus.specs.Referrals.{referral_in, target_of}
-use Rattle.mmtel_focus.specs.Requests.{accepted, acknowledges, agreed_again, answered_with, awaiting, busy, busy_by, counting, heard_seat, is_waiting, number_of, on_ack, on_bye, on_heard, on_hearing, on_invite, on_referral, on_request, refused, says, trying, unheard}
-use Rattle.mmtel_focus.specs.Rooms.{Room, Step, most_seats, with_desk}
+use Rattle.mmtel_focus.specs.Requests.{accepted, acknowledges, agreed_again, answered_with, awaiting, busy, busy_by, counting, heard_seat, is_waiting, on_ack, on_bye, on_heard, on_hearing, on_invite, on_referral, on_request, refused, says, trying, unheard}
+use Rattle.mmtel_focus.specs.Rooms.{Room, Step, with_desk}
 use Rattle.mmtel_focus.specs.declared.referrals.Referral.{Referral}
 use Rattle.mmtel_focus.specs.declared.referrals.Referral.TheVariants as referral
-use Rattle.mmtel_focus.specs.declared.seats.Awaited.{Awaited}
 use Rattle.mmtel_focus.specs.declared.seats.Invite.{Invite}
-use Rattle.mmtel_focus.specs.declared.seats.Invite.TheVariants.{Agreed, Waiting}
 use Rattle.mmtel_focus.specs.declared.seats.Party.{Party}
 use Rattle.mmtel_focus.specs.declared.seats.Party.TheVariants.{Brought, Came, Invited}
 use Rattle.mmtel_focus.specs.declared.seats.Seat.{Seat}
-use Rattle.mmtel_focus.specs.Seats.{at_seat, closed_with, dialogue_of, dismissed, is_full, is_seated, left, leg_of, meter_of, put, tag_of, told_by, told_to}
+use Rattle.mmtel_focus.specs.Seats.{at_seat, dialogue_of, dismissed, is_full, is_seated, left, leg_of, meter_of, put, tag_of}
 use Rattle.mmtel_focus.specs.Site.{Site}
 use Rattle.mmtel_focus.specs.Texts.{answer_in, contact_value, described, own_status, sdp_lines, status_line}
-use Rattle.mmtel_focus_secret.specs.Heard.{AreAlike, AreRequests, IsOfInvite, IsOfSeat, Message, Pair, shown}
-use Rattle.mmtel_focus_secret.specs.Parts.{AlikeEffects, public_invite, public_party, public_room, public_seat, public_waiting, trust_of, trusts}
-use Rattle.mmtel_focus_secret.proofs.Alike.{acknowledged-seats, agreed-invites, as_left, awaiting-seats, by_invite, by_party, bys, cancelled-invites, dialogs, heard-seats, invites, legs, noted-invites, numbers, parties, peers, seateds, seats-set, tags, waitings, waits_same, with_invites, with_parties}
+use Rattle.mmtel_focus_secret.specs.Heard.{AreAlike, AreRequests, IsOfInvite, IsOfSeat, Pair}
+use Rattle.mmtel_focus_secret.specs.Parts.{public_invite, public_party, public_room, public_seat, trust_of, trusts}
+use Rattle.mmtel_focus_secret.proofs.Alike.{acknowledged-seats, agreed-invites, as_left, awaiting-seats, by_invite, by_party, bys, cancelled-invites, dialogs, full_rooms, heard-seats, invites, legs, noted-invites, numbers, parties, peers, seateds, seats-set, tags, waitings, waits_same, with_invites, with_parties}
 use Rattle.mmtel_focus_secret.proofs.Likes.{acked-like, answered-like, asked-like, cancelled-like, final-like, met-like, same-like}
 use Rattle.mmtel_focus_secret.proofs.Lists.{commuting, same_append, same_set}
 use Rattle.mmtel_focus_secret.proofs.Steps.{AlikeRows, answered-rows, at-seat, closed_with-rows, desk-rows, dismissed-rows, if-rows, left-rows, put-rows, room-of, seats-in, told_by-rows, told_to-rows, tokens_same}
@@ -174,12 +168,6 @@ module _ (heads : Heads) (site : Site) (keys : TKey → Bool) where
   failure-rows : (n m code : ℕ) (s r : Step) → n ≡ m → AlikeRows T s r → AlikeRows T (told_failure site n code s) (told_failure site m code r)
   failure-rows n m code s r e a = told_to-rows heads site keys false (own_status code) n m s r e a
 
-  full_public : (room : Room) → is_full room ≡ is_full (public_room known room)
-  full_public room = ap (nat_le most_seats) (sym (long (public_seat known) room.seats))
-
-  pub full_rooms : (u v : Room) → public_room known u ≡ public_room known v → is_full u ≡ is_full v
-  full_rooms u v e = full_public u ∙ (ap is_full e ∙ sym (full_public v))
-
   invited-rows : (now n : ℕ) (peer : Peer) (u : Uri) (s r : Step) → AlikeRows T s r → AlikeRows T (invited site now n peer u s) (invited site now n peer u r)
   invited-rows now n peer u s r a =
       subst (λ (d : Dialogue). AlikeRows T (invited site now n peer u s) (invited_in site now n (account_of site.accounts u) d r)) (dialog_same s.room.number r.room.number peer (uri_text (target_of u)) s.effects.desk r.effects.desk (room-of heads site keys s r a) a.effects.desk)
@@ -188,7 +176,7 @@ module _ (heads : Heads) (site : Site) (keys : TKey → Bool) where
   invited_at-rows : (now n : ℕ) (o : Option Peer) (u : Uri) (s r : Step) → AlikeRows T s r → AlikeRows T (invited_at site now n o u s) (invited_at site now n o u r)
   invited_at-rows now n None u s r a = failure-rows n n 404 s r refl a
   invited_at-rows now n (Some peer) u s r a =
-      if-rows heads site keys (is_full s.room) (is_full r.room) (told_failure site n 503 s) (invited site now n peer u s) (told_failure site n 503 r) (invited site now n peer u r) (full_rooms s.room r.room a.room)
+      if-rows heads site keys (is_full s.room) (is_full r.room) (told_failure site n 503 s) (invited site now n peer u s) (told_failure site n 503 r) (invited site now n peer u r) (full_rooms known s.room r.room a.room)
       (failure-rows n n 503 s r refl a) (invited-rows now n peer u s r a)
 
   bidden-rows : (now n : ℕ) (u : Option Uri) (s r : Step) → AlikeRows T s r → AlikeRows T (bidden site now n u s) (bidden site now n u r)

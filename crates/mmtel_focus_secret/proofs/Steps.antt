@@ -1,16 +1,15 @@
 -- Two steps of a room that are alike, and the words of the room table, each of which keeps them alike: seats at a place, NOTIFY, seats that are left, a room that closes, and answers.
-use Rattle.std.proofs.Common.{◌≡◌, ℕ, Bool, true, false, List, [], ◌∷◌, ◌++◌, Option, Some, None, refl, ap, sym, ◌∙◌, map, subst, codes}
+use Rattle.std.proofs.Common.{◌≡◌, ℕ, Bool, true, false, List, [], ◌∷◌, Option, Some, None, refl, ap, sym, ◌∙◌, map, subst, codes}
 use Rattle.std.specs.Option.{option_map}
 use Rattle.std.specs.Prelude.{if◌then◌else◌, remove, slice_get, slice_set}
 use Rattle.mmtel_charging.specs.Meters.{Noted, row_of}
 use Rattle.mmtel_call_secret.proofs.Sent.{Heads}
-use Rattle.mmtel_call_secret.specs.Parts.{public_dialog, public_leg, public_loose}
+use Rattle.mmtel_call_secret.specs.Parts.{public_loose}
 use Rattle.mmtel_call_secret.specs.Seen.{AlikeDesks, Trust}
-use Rattle.mmtel_desk.specs.Desks.{drew, token}
+use Rattle.mmtel_desk.specs.Desks.{token}
 use Rattle.mmtel_desk.specs.Sending.{answered_at, bye}
 use Rattle.mmtel_desk.specs.declared.desks.Desk.{Desk}
 use Rattle.mmtel_leg.specs.Legs.{Leg}
-use Rattle.mmtel_message.specs.Addresses.{contact_text}
 use Rattle.mmtel_message.specs.Message.{Line}
 use Rattle.mmtel_transaction.specs.Tokens.{Drawn}
 use Rattle.mmtel_transaction.specs.declared.words.TKey.{TKey}
@@ -20,14 +19,13 @@ use Rattle.mmtel_types.specs.declared.numbers.RoomNo.{RoomNo}
 use Rattle.mmtel_focus.specs.Rooms.{Room, Step, with_desk}
 use Rattle.mmtel_focus.specs.declared.rooms.Effects.{Effects}
 use Rattle.mmtel_focus.specs.declared.seats.Party.{Party}
-use Rattle.mmtel_focus.specs.declared.seats.Party.TheVariants.{Brought, Came, Invited}
 use Rattle.mmtel_focus.specs.declared.seats.Seat.{Seat}
 use Rattle.mmtel_focus.specs.Seats.{at_place, at_seat, by_seat, closed, closed_with, dialogue_of, dismissed, dismissed_with, filed_by, having_had_bye, is_creator, is_seat, is_seated, left, left_with, leg_of, loosened_in, notified_by, place_of, put, tag_of, told, told_by, told_seat, told_to, without}
 use Rattle.mmtel_focus.specs.Site.{Site}
 use Rattle.mmtel_focus.specs.Texts.{fragment, notify_lines}
 use Rattle.mmtel_focus_secret.specs.Heard.{AreRequests, Pair}
 use Rattle.mmtel_focus_secret.specs.Parts.{AlikeEffects, public_party, public_room, public_seat, trust_of, trusts}
-use Rattle.mmtel_focus_secret.proofs.Alike.{bye-seats, by_party, bys, dialogs, invites, left-all, meters, numbers, parties, peers, seateds, seats-set, tags, told-seats}
+use Rattle.mmtel_focus_secret.proofs.Alike.{bye-seats, by_party, dialogs, invites, left-all, meters, parties, seateds, seats-set, tags, told-seats}
 use Rattle.mmtel_focus_secret.proofs.Likes.{answered-like, asked-like, filed-like}
 use Rattle.mmtel_focus_secret.proofs.Lists.{same_append, same_get, same_place, same_remove, same_set}
 

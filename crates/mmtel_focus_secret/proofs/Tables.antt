@@ -1,45 +1,43 @@
--- Two tables of rooms of one public part keep it through each deed that is done on both, and so through each history.
-use Rattle.std.proofs.Common.{◌≡◌, ◌+◌, ℕ, Bool, true, false, List, [], ◌∷◌, ◌++◌, Option, Some, None, Result, Ok, Err, refl, ap, sym, ◌∙◌, map, subst, drop}
+-- Two tables of rooms of one public part keep it through each deed that is done on both, under one configuration.
+use Rattle.std.proofs.Common.{◌≡◌, ℕ, Bool, true, false, List, [], ◌∷◌, ◌++◌, Option, Some, None, Result, Ok, Err, refl, ap, sym, ◌∙◌, map, subst, drop}
 use Rattle.std.specs.Option.{option_map}
 use Rattle.std.specs.Prelude.{if◌then◌else◌, option_to_list, position, remove, slice_get, slice_set}
 use Rattle.mmtel_answers.specs.Said.{Said}
 use Rattle.mmtel_scan.specs.Numbers.{next_number}
-use Rattle.mmtel_call_secret.proofs.Leaving.{RestsAlike, left_over, rest_of}
-use Rattle.mmtel_call_secret.proofs.Once.{loose_again}
+use Rattle.mmtel_call_secret.proofs.Leaving.{RestsAlike, rest_of}
 use Rattle.mmtel_call_secret.proofs.Sent.{Heads}
 use Rattle.mmtel_call_secret.specs.Parts.{public_loose}
 use Rattle.mmtel_call_secret.specs.Premises.{IsAnswer}
 use Rattle.mmtel_call_secret.specs.Seen.{Trust}
 use Rattle.mmtel_charging.specs.declared.rows.Row.{Row}
-use Rattle.mmtel_desk.specs.Loose.{Rest, is_of, on_response}
+use Rattle.mmtel_desk.specs.Loose.{is_of, on_response}
 use Rattle.mmtel_desk.specs.declared.invitations.Loose.{Loose}
 use Rattle.mmtel_transaction.specs.Tokens.{Drawn}
 use Rattle.mmtel_transaction.specs.declared.words.RoomWord.{RoomWord}
 use Rattle.mmtel_transaction.specs.declared.words.TKey.{TKey}
 use Rattle.mmtel_types.specs.declared.numbers.Peer.{Peer}
-use Rattle.mmtel_focus.specs.Histories.{brought_after, did, effects_of, no_tokens, table_after, with_moved, with_opened}
+use Rattle.mmtel_focus.specs.Histories.{did, effects_of, no_tokens, with_moved, with_opened}
 use Rattle.mmtel_focus.specs.Joining.{adopted, come, new_room}
 use Rattle.mmtel_focus.specs.Rooms.{Room, Step, nothing}
-use Rattle.mmtel_focus.specs.Seats.{is_full, is_seat, is_seated, told_to}
+use Rattle.mmtel_focus.specs.Seats.{is_seat, is_seated, told_to}
 use Rattle.mmtel_focus.specs.Seats as seats
 use Rattle.mmtel_focus.specs.Site.{Site}
-use Rattle.mmtel_focus.specs.Table.{Moved, Stepped, Table, access, access_at, access_to, answered_at, answered_by, answered_loose, answers_invite, asks, beside, branch_in, closed, closed_at, heard_by, heard_in, heard_of, hears, invite_answered, invite_silent, is_asked, is_loose_key, is_provisional, is_room, joined, left, left_at, left_in, next_room, notified, opened, place_of, put_at, referred, room_left, room_left_at, seat_left, silenced_at, silenced_by, stays_at, stays_by, stays_in, stepped_at, stepped_by, stepped_in, taken, through, unmoved, with_rest, without, without_at, without_seat}
+use Rattle.mmtel_focus.specs.Table.{Moved, Stepped, Table, access, answered_at, answered_by, answered_loose, answers_invite, asks, beside, branch_in, closed, closed_at, heard_by, heard_in, heard_of, hears, invite_answered, invite_silent, is_asked, is_loose_key, is_provisional, is_room, joined, left, left_at, left_in, next_room, notified, place_of, put_at, referred, room_left, room_left_at, seat_left, silenced_at, silenced_by, stays_at, stays_in, stepped_at, stepped_in, taken, through, unmoved, without, without_at, without_seat}
 use Rattle.mmtel_focus.specs.Texts.{own_status}
 use Rattle.mmtel_focus.specs.declared.faults.RoomFault.{RoomFault}
-use Rattle.mmtel_focus.specs.declared.faults.RoomFault.TheVariants.{Gone, RoomFull}
 use Rattle.mmtel_focus.specs.declared.rooms.Effects.{Effects}
 use Rattle.mmtel_focus.specs.declared.seats.Seat.{Seat}
 use Rattle.mmtel_focus.specs.declared.signals.SeatSignal.{SeatSignal}
 use Rattle.mmtel_focus.specs.declared.signals.SeatSignal.TheVariants as of_seat
 use Rattle.mmtel_focus_secret.specs.Heard as heard
 use Rattle.mmtel_focus_secret.specs.Heard.{Adoptions, AreAlike, AreAlikeLegs, AreDone, AreHeard, AreRequests, Answers, Comings, ComeAlike, Deeds, IsAnswerBy, IsAnswerIn, IsOfSeat, Message, Pair, Signals, coming_of, one_deed, one_signal, other_deed, other_signal}
-use Rattle.mmtel_focus_secret.specs.Histories.{AllAreDone, DeedsAreSeenAlike, TablesStayAlike, one_after, other_after}
 use Rattle.mmtel_focus_secret.specs.Parts.{AlikeEffects, public_room, public_seat, public_table, trust_of, trusts}
 use Rattle.mmtel_focus_secret.proofs.Alike.{asked_public, seateds, seats-set}
+use Rattle.mmtel_focus_secret.proofs.Asked.{access_same}
 use Rattle.mmtel_focus_secret.proofs.Likes.{left-like}
-use Rattle.mmtel_focus_secret.proofs.Lists.{same_any, same_append, same_get, same_place, same_remove, same_set, telling}
-use Rattle.mmtel_focus_secret.proofs.Rows.{ack-rows, adopted-rows, answer-rows, come-rows, due-rows, full_rooms, request-rows, silence-rows}
-use Rattle.mmtel_focus_secret.proofs.Steps.{AlikeRows, at-place, seats-in, told_to-rows}
+use Rattle.mmtel_focus_secret.proofs.Lists.{same_any, same_append, same_get, same_place, same_remove, same_set}
+use Rattle.mmtel_focus_secret.proofs.Rows.{ack-rows, adopted-rows, answer-rows, come-rows, due-rows, request-rows, silence-rows}
+use Rattle.mmtel_focus_secret.proofs.Steps.{AlikeRows, at-place, told_to-rows}
 
 -- the rooms after a step of two tables, and what it brought forth
 pub record AlikeStepped (t : Trust) (one other : Stepped) : Type 0 where
@@ -263,22 +261,6 @@ module _ (heads : Heads) (site : Site) (keys : TKey → Bool) where
 
   -- ---- a leg comes to a room
 
-  access_same : (number : ℕ) (us vs : List Room) → AreRooms us vs → access number us ≡ access number vs
-  access_same number us vs a =
-      subst (λ (o : Option ℕ). access number us ≡ access_at o vs) (room_place number us vs a) (by (place_of number us))
-    where
-      to : (place : ℕ) (x y : Option Room) → option_map (public_room known) x ≡ option_map (public_room known) y → access_to place x ≡ access_to place y
-      to place None None e = refl
-      to place None (Some v) e = absurd cc
-      to place (Some u) None e = absurd cc
-      to place (Some u) (Some v) e =
-          let here : public_room known u ≡ public_room known v = cc in
-          ap (λ (b : Bool). if b then Err RoomFull else Ok place) (full_rooms heads site keys u v here)
-
-      by : (o : Option ℕ) → access_at o us ≡ access_at o vs
-      by None = refl
-      by (Some place) = to place (slice_get us place) (slice_get vs place) (same_get (public_room known) us vs a place)
-
   through-alike : (f g : Step → Step) (x y : Result ℕ RoomFault) (us vs : List Room) (e k : Effects) → x ≡ y → ((u v : Room) → Keeps f g u v e k) → AreRooms us vs → AlikeEffects T e k → AlikeStepped T (through f x us e) (through g y vs k)
   through-alike f g x y us vs e k same keeps a b = subst (λ (z : Result ℕ RoomFault). AlikeStepped T (through f x us e) (through g z vs k)) same (by x)
     where
@@ -336,7 +318,7 @@ module _ (heads : Heads) (site : Site) (keys : TKey → Bool) where
 
   -- ---- deeds
 
-  abbrev Tables : (one other : Table) → Type 0
+  abbrev pub Tables : (one other : Table) → Type 0
   Tables = λ one other. public_table known one ≡ public_table known other
 
   lives : (x y : Table) → Tables x y → AreRooms x.live y.live
@@ -359,7 +341,7 @@ module _ (heads : Heads) (site : Site) (keys : TKey → Bool) where
   stepped-tables s r x y a b = moved-alike (beside x.loose s) (beside y.loose r) x y (beside-alike x.loose y.loose s r (looses x y b) a) b
 
   -- what a deed brings forth, and the table after it
-  abbrev Done : Deeds → (x y : Table) → Type 0
+  abbrev pub Done : Deeds → (x y : Table) → Type 0
   Done = λ d x y. AlikeEffects T (effects_of site (one_deed d) x) (effects_of site (other_deed d) y) × Tables (did site (one_deed d) x) (did site (other_deed d) y)
 
   opened-alike : (c : Comings) (x y : Table) → ComeAlike T c → Tables x y → Done (heard.Opens c) x y
@@ -383,14 +365,14 @@ module _ (heads : Heads) (site : Site) (keys : TKey → Bool) where
   unfolding joined
   joined-alike room c x y h a =
       stepped-done (joined site c.at room c.legs.one c.account c.key c.invites.one.said x.live (nothing c.tokens)) (joined site c.at room c.legs.other c.account c.key c.invites.other.said y.live (nothing c.tokens)) x y
-      (through-alike (come site c.at c.legs.one c.account c.key c.invites.one.said) (come site c.at c.legs.other c.account c.key c.invites.other.said) (access room x.live) (access room y.live) x.live y.live (nothing c.tokens) (nothing c.tokens) (access_same room x.live y.live (lives x y a))
+      (through-alike (come site c.at c.legs.one c.account c.key c.invites.one.said) (come site c.at c.legs.other c.account c.key c.invites.other.said) (access room x.live) (access room y.live) x.live y.live (nothing c.tokens) (nothing c.tokens) (access_same known room x.live y.live (lives x y a))
       (λ u v k. come-rows heads site keys c.at c.legs.one c.legs.other c.account c.key c.invites (record { room = u; effects = nothing c.tokens }) (record { room = v; effects = nothing c.tokens }) h.legs h.invites k) (lives x y a) (nothing-alike c.tokens)) a
 
   adopted-alike : (room : ℕ) (d : Adoptions) (x y : Table) → AreAlikeLegs T d.legs → Tables x y → Done (heard.Adopts room d) x y
   unfolding referred
   adopted-alike room d x y h a =
       stepped-done (referred site d.at room d.legs.one d.account d.by x.live (nothing d.tokens)) (referred site d.at room d.legs.other d.account d.by y.live (nothing d.tokens)) x y
-      (through-alike (adopted site d.at d.legs.one d.account d.by) (adopted site d.at d.legs.other d.account d.by) (access room x.live) (access room y.live) x.live y.live (nothing d.tokens) (nothing d.tokens) (access_same room x.live y.live (lives x y a))
+      (through-alike (adopted site d.at d.legs.one d.account d.by) (adopted site d.at d.legs.other d.account d.by) (access room x.live) (access room y.live) x.live y.live (nothing d.tokens) (nothing d.tokens) (access_same known room x.live y.live (lives x y a))
       (λ u v k. adopted-rows heads site keys d.at d.legs.one d.legs.other d.account d.by (record { room = u; effects = nothing d.tokens }) (record { room = v; effects = nothing d.tokens }) h k) (lives x y a) (nothing-alike d.tokens)) a
 
   notified-alike : (room seat code : ℕ) (tokens : Drawn) (x y : Table) → Tables x y → Done (heard.Notifies room seat code tokens) x y
@@ -416,7 +398,7 @@ module _ (heads : Heads) (site : Site) (keys : TKey → Bool) where
   with_lives : (us vs : List Room) (x y : Table) → AreRooms us vs → Tables x y → Tables (record x { live = us }) (record y { live = vs })
   with_lives us vs x y a b = ap (λ (z : Table). record z { live = map (public_room known) us }) b ∙ ap (λ (l : List Room). record (public_table known y) { live = l }) a
 
-  deed-alike : (d : Deeds) (x y : Table) → AreDone T d x y → Tables x y → Done d x y
+  pub deed-alike : (d : Deeds) (x y : Table) → AreDone T d x y → Tables x y → Done d x y
   deed-alike (heard.Opens c) x y h a = opened-alike c x y h a
   deed-alike (heard.Joins room c) x y h a = joined-alike room c x y h a
   deed-alike (heard.Adopts room d) x y h a = adopted-alike room d x y h a
@@ -425,18 +407,3 @@ module _ (heads : Heads) (site : Site) (keys : TKey → Bool) where
   deed-alike (heard.Leaves room seat) x y h a = (nothing-alike no_tokens, with_lives (left room seat x.live) (left room seat y.live) x y (left-alike room seat x.live y.live (lives x y a)) a)
   deed-alike (heard.Closes room) x y h a = (nothing-alike no_tokens, with_lives (closed room x.live) (closed room y.live) x y (closed-alike room x.live y.live (lives x y a)) a)
   deed-alike (heard.Drops count) x y h a = (nothing-alike no_tokens, ap (λ (z : Table). record z { rows = drop count z.rows }) a)
-
-  -- ---- histories
-
-  tables-alike : (all : List Deeds) → AllAreDone site keys all → Tables (one_after site all) (other_after site all)
-  tables-alike [] h = refl
-  tables-alike (d ∷ all) h = (deed-alike d (one_after site all) (other_after site all) h.0 (tables-alike all h.1)).1
-
-  steps-alike : (d : Deeds) (all : List Deeds) → AllAreDone site keys (d ∷ all) → AlikeEffects T (brought_after site (map one_deed all) (one_deed d)) (brought_after site (map other_deed all) (other_deed d))
-  steps-alike d all h = (deed-alike d (one_after site all) (other_after site all) h.0 (tables-alike all h.1)).0
-
-pub tables_stay_alike : Heads → TablesStayAlike
-tables_stay_alike heads site keys all h = tables-alike heads site keys all h
-
-pub deeds_seen_alike : Heads → DeedsAreSeenAlike
-deeds_seen_alike heads site keys d all h = steps-alike heads site keys d all h

@@ -1,5 +1,5 @@
 -- The public part of conference rooms: what of them rests on no private place. Of the dialog of a seat it leaves out what calls leave out of theirs: what is due to a trusted peer, whom nobody else is told of.
-use Rattle.std.specs.Prelude.{◌≡◌, Bool, Option, Some, None, List, map}
+use Rattle.std.specs.Prelude.{◌≡◌, Bool, Option, Some, None, map}
 use Rattle.mmtel_call_secret.specs.Parts.{public_invitation, public_leg, public_loose}
 use Rattle.mmtel_call_secret.specs.Seen.{AlikeDesks, Trust}
 use Rattle.mmtel_desk.specs.declared.invitations.Invitation.{Invitation}
@@ -32,9 +32,9 @@ public_party trusts (Invited leg) = Invited (public_leg trusts leg)
 public_party trusts (Came leg) = Came (public_leg trusts leg)
 public_party trusts (Brought leg) = Brought (public_leg trusts leg)
 
--- an INVITE of the server's without a final has no ACK, of which nothing is left out
+-- an INVITE of the server's without a final has no ACK and no early dialog, of which nothing is left out
 abbrev pub public_waiting : (Peer → Bool) → Invitation → Invitation
-public_waiting trusts i = record (public_invitation trusts i) { ack = i.ack }
+public_waiting trusts i = record (public_invitation trusts i) { ack = i.ack; early = i.early }
 
 -- the server's INVITE to somebody who is trusted or not
 abbrev pub public_invite : (Peer → Bool) → (trusted : Bool) → Option Invite → Option Invite

@@ -3,4 +3,4 @@
 
 mod laws;
 
-pub use laws::rooms_stay_alike;
+pub use laws::{alike_rooms_answer_alike, look_ups_alone_are_seen, rooms_stay_alike};

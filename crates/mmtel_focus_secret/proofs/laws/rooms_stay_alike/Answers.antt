@@ -1,5 +1,5 @@
 use Rattle.mmtel_call_secret.proofs.Sent.{Heads}
-use Rattle.mmtel_focus_secret.proofs.Tables.{deeds_seen_alike, tables_stay_alike}
+use Rattle.mmtel_focus_secret.proofs.Both.{deeds_seen_alike, tables_stay_alike}
 use Rattle.mmtel_focus_secret.proofs.laws.rooms_stay_alike.Goals as goal
 
 pub returns : goal.returns

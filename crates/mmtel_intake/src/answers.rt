@@ -6,7 +6,7 @@ ghost use Rattle.mmtel_intake.specs.Courses.{answer_in};
 use mmtel_answers::allowed;
 use mmtel_message::Line;
 use mmtel_scan::{List, NoMemory};
-use mmtel_types::{Account, CallNo, Side};
+use mmtel_types::{Account, CallNo, RoomNo, Side};
 use std::alloc::Global;
 
 /// An answer of the server's own: its status, and the lines that it has of its own.
@@ -16,6 +16,25 @@ pub struct Answer {
     pub code: u16,
     /// The lines that are named for it: Allow (RFC 3261 §20.5) or Unsupported (§20.40).
     pub named: List<Line>,
+}
+
+/// Who has a dialog (RFC 3261 §12).
+#[derive(Clone, Copy)]
+pub enum Holder {
+    /// A side of a call.
+    InCall {
+        /// The call.
+        call: CallNo,
+        /// The side.
+        side: Side,
+    },
+    /// A seat of a conference room.
+    InRoom {
+        /// The room.
+        room: RoomNo,
+        /// The number of the seat.
+        seat: u64,
+    },
 }
 
 /// What is done with a request that opens a transaction.
@@ -30,8 +49,22 @@ pub enum Course {
         /// The side.
         side: Side,
     },
+    /// It is heard in the dialog of this seat of a room.
+    EnterRoom {
+        /// The room.
+        room: RoomNo,
+        /// The number of the seat.
+        seat: u64,
+    },
     /// It opens a call.
     Open,
+    /// It opens a room (RFC 4579 §5.4): it offers audio.
+    OpenRoom,
+    /// It asks for a seat in this room (RFC 4579 §5.1): it offers audio.
+    JoinRoom {
+        /// The room, whether it is live or not.
+        room: RoomNo,
+    },
     /// It registers an account for so many seconds.
     Register {
         /// The account.
@@ -39,8 +72,6 @@ pub enum Course {
         /// The seconds from now.
         seconds: u64,
     },
-    /// It is of a form that is not built yet.
-    Unbuilt,
 }
 
 /// An answer that has no lines of its own.

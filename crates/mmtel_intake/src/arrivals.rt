@@ -1,6 +1,7 @@
-//! An INVITE that opens a call, with what is read of its parties.
+//! An INVITE that opens a call, with what is read of its parties; and whose account somebody is who comes to a room.
 ghost use Rattle.std.specs.Prelude.{◌≡◌, IfOk};
 ghost use Rattle.mmtel_run.specs.Calls.{arrived, caller_of};
+ghost use Rattle.mmtel_trust.specs.Digest.{caller_account};
 
 use mmtel_answers::Hearing;
 use mmtel_b2bua::Signal;
@@ -9,6 +10,7 @@ use mmtel_rules::Identities2;
 use mmtel_scan::NoMemory;
 use mmtel_transaction::TKey;
 use mmtel_trust::{Accounts, Identities, asserted};
+use mmtel_types::Account;
 use std::alloc::Global;
 
 /// Who the caller is, where the sender is believed (RFC 3325 §9.1).
@@ -41,4 +43,20 @@ pub fn arrived(
         registration: parties.registration,
         identities,
     })
+}
+
+/// The account of whoever sent an INVITE (RFC 3325 §9.1, RFC 5502 §6).
+///
+/// # Errors
+///
+/// Want of memory alone.
+pub fn caller_account(
+    alloc: Global,
+    accounts: &Accounts,
+    invite: &Hearing,
+) -> Result<Option<Account>, NoMemory>
+    ensures account { IfOk result (λ account. account ≡ caller_account accounts.now invite.now.heard) }
+{
+    let parties = Parties::of(alloc, accounts, &invite.message, invite.trusted)?;
+    Ok(parties.origin)
 }

@@ -1,14 +1,17 @@
 //! What is done with a request that opens a transaction.
 ghost use Rattle.std.specs.Prelude.{◌≡◌, IfOk, Some, true};
+ghost use Rattle.std.specs.Option.{option_map};
 ghost use Rattle.mmtel_leg.specs.Dialogues.{request_uri};
 ghost use Rattle.mmtel_lex.specs.Reading.{uri_of};
+ghost use Rattle.mmtel_sdp.specs.Offers.{offers_audio};
 ghost use Rattle.mmtel_trust.specs.MaskedMessages.{public_part};
-ghost use Rattle.mmtel_run.specs.Refusals.{by_method, course, course_in as course_in_dialog, invited, is_known_method};
-ghost use Rattle.mmtel_run.specs.Refusals.{is_factory, is_for_conference, is_of_conference, is_room, is_room_number, is_room_user};
-ghost use Rattle.mmtel_intake.specs.Courses.{course_in};
+ghost use Rattle.mmtel_run.specs.Audio.{is_for_room};
+ghost use Rattle.mmtel_run.specs.Refusals.{by_method, course, course_in as course_in_dialog, in_dialog, invited, invited_at, invited_to, is_known_method};
+ghost use Rattle.mmtel_run.specs.Refusals.{is_factory, is_room, is_room_number, is_room_user, opening, room_number, with_audio};
+ghost use Rattle.mmtel_intake.specs.Courses.{course_in, holder_in};
 ghost use Rattle.mmtel_intake.specs.Targets.{target_in};
 
-use crate::answers::{Course, allowing, plainly, without_extension};
+use crate::answers::{Course, Holder, allowing, plainly, without_extension};
 use crate::refusals::{
     Target, is_foreign, is_known_method, is_last_hop, read_target, unsupported_lines,
 };
@@ -16,22 +19,25 @@ use crate::registrations::registration;
 use crate::replies::is_untagged;
 use mmtel_answers::Hearing;
 use mmtel_directory::Directory;
+use mmtel_focus::room_named;
 use mmtel_lex::{Uri, same_identity};
 use mmtel_message::is_method;
 use mmtel_parties::names_server;
+use mmtel_run::rooms_are_for_audio;
 use mmtel_scan::{Class, NoMemory, is_all, leads_zero, skip_text};
-use mmtel_types::{Addr, CallNo, Side};
+use mmtel_sdp::offers_audio;
+use mmtel_types::{Addr, RoomNo};
 use std::alloc::Global;
 
-/// What is known of a request beside the message: of transactions and of calls.
+/// What is known of a request beside the message: of transactions, of calls and of rooms.
 #[derive(Clone, Copy)]
 pub struct Standing {
     /// Another live transaction has its From tag, Call-ID and CSeq (RFC 3261 §8.2.2.2).
     pub merged: bool,
     /// As many calls live as may.
     pub full: bool,
-    /// The call and the side whose dialog it names (§12.2.2).
-    pub named: Option<(CallNo, Side)>,
+    /// Who has the dialog that it names (§12.2.2).
+    pub named: Option<Holder>,
 }
 
 /// Whether the digits are the number of a conference room, without leading zeros.
@@ -75,32 +81,57 @@ fn is_factory(factory: &Option<Uri>, target: &Uri) -> bool
     }
 }
 
-/// Whether a target is a conference room of the server, or the factory of rooms (RFC 4579 §5.4).
-fn is_of_conference(alloc: Global, directory: &Directory, target: &Uri) -> Result<bool, NoMemory>
-    ensures { IfOk result (λ b. b ≡ is_of_conference directory.now target.now) }
+/// The number of the room that a URI names; 0, which no room has, where that is too great.
+fn room_number(alloc: Global, sip: Addr, target: &Uri) -> Result<RoomNo, NoMemory>
+    ensures { IfOk result (λ room. room ≡ room_number sip target.now) }
 {
-    if is_room(alloc, directory.sip, target)? {
-        return Ok(true);
-    }
-    Ok(is_factory(&directory.factory, target))
+    let number = room_named(alloc, sip, target)?;
+    Ok(RoomNo(number.unwrap_or(0)))
 }
 
-/// Whether a target is of a conference; one that cannot be read is of none.
-fn is_for_conference(
+/// What is done with an INVITE to a conference, where it offers audio; the mixer takes nothing else (RFC 3264 §6).
+fn with_audio(alloc: Global, request: &Hearing, course: Course) -> Result<Course, NoMemory>
+    ensures { IfOk result (λ c. course_in c ≡ with_audio (public_part request.now.heard) (course_in course)) }
+{
+    if offers_audio(alloc, request.message.body())? {
+        Ok(course)
+    } else {
+        Ok(Course::Refuse(plainly(488)))
+    }
+}
+
+/// What is done with an INVITE to nobody of a conference: it opens a call, unless as many live as may.
+fn opening(full: bool) -> Course
+    ensures { course_in result ≡ opening full }
+{
+    if full {
+        Course::Refuse(plainly(503))
+    } else {
+        Course::Open
+    }
+}
+
+/// What is done with an INVITE to this URI: it asks for a room, for a seat, or opens a call.
+fn invited_to(
     alloc: Global,
     directory: &Directory,
-    target: &Target,
-) -> Result<bool, NoMemory>
-    ensures { IfOk result (λ b. b ≡ is_for_conference directory.now (target_in target.now)) }
+    target: &Uri,
+    full: bool,
+    request: &Hearing,
+) -> Result<Course, NoMemory>
+    ensures { IfOk result (λ c. course_in c ≡ invited_to directory.now full (public_part request.now.heard) target.now) }
 {
-    match target {
-        Target::Known(uri) => is_of_conference(alloc, directory, uri),
-        Target::Malformed => Ok(false),
-        Target::Foreign => Ok(false),
+    if is_factory(&directory.factory, target) {
+        return with_audio(alloc, request, Course::OpenRoom);
     }
+    if is_room(alloc, directory.sip, target)? {
+        let room = room_number(alloc, directory.sip, target)?;
+        return with_audio(alloc, request, Course::JoinRoom { room });
+    }
+    Ok(opening(full))
 }
 
-/// What is done with an INVITE that is not refused: it opens a call, unless as many live as may.
+/// What is done with an INVITE that is not refused; one whose Request-URI cannot be read is to nobody of a conference.
 fn invited(
     alloc: Global,
     directory: &Directory,
@@ -111,13 +142,11 @@ fn invited(
     requires { target_in target.now ≡ uri_of (request_uri request.now.heard.start) }
     ensures { IfOk result (λ c. course_in c ≡ invited directory.now full (public_part request.now.heard)) }
 {
-    if is_for_conference(alloc, directory, target)? {
-        return Ok(Course::Unbuilt);
+    match target {
+        Target::Known(uri) => invited_to(alloc, directory, uri, full, request),
+        Target::Malformed => Ok(opening(full)),
+        Target::Foreign => Ok(opening(full)),
     }
-    if full {
-        return Ok(Course::Refuse(plainly(503)));
-    }
-    Ok(Course::Open)
 }
 
 /// What is done with a request that is not refused, by its method.
@@ -134,8 +163,6 @@ fn by_method(
     let start = request.message.start();
     if is_method(b"OPTIONS", start) {
         Ok(Course::Refuse(allowing(alloc, 200)?))
-    } else if is_method(b"BYE", start) {
-        Ok(Course::Refuse(plainly(481)))
     } else if is_method(b"REFER", start) {
         Ok(Course::Refuse(plainly(403)))
     } else if is_method(b"INVITE", start) {
@@ -143,7 +170,17 @@ fn by_method(
     } else if is_method(b"REGISTER", start) {
         registration(alloc, directory, request)
     } else {
-        Ok(Course::Unbuilt)
+        Ok(Course::Refuse(plainly(481)))
+    }
+}
+
+/// What is done with a request in a dialog: whoever has it hears it.
+fn in_dialog(holder: Holder) -> Course
+    ensures { course_in result ≡ in_dialog (holder_in holder) }
+{
+    match holder {
+        Holder::InCall { call, side } => Course::Enter { call, side },
+        Holder::InRoom { room, seat } => Course::EnterRoom { room, seat },
     }
 }
 
@@ -156,11 +193,11 @@ fn course_in_dialog(
     request: &Hearing,
 ) -> Result<Course, NoMemory>
     requires { target_in target.now ≡ uri_of (request_uri request.now.heard.start) }
-    ensures { IfOk result (λ c. course_in c ≡ course_in_dialog directory.now standing.now.full standing.now.named (public_part request.now.heard)) }
+    ensures { IfOk result (λ c. course_in c ≡ course_in_dialog directory.now standing.now.full (option_map holder_in standing.now.named) (public_part request.now.heard)) }
 {
     match standing.named {
         None => by_method(alloc, directory, target, standing.full, request),
-        Some((call, side)) => Ok(Course::Enter { call, side }),
+        Some(holder) => Ok(in_dialog(holder)),
     }
 }
 
@@ -175,7 +212,7 @@ fn course_to(
 ) -> Result<Course, NoMemory>
     requires known { is_known_method request.now.heard.start ≡ true }
     requires target { target_in target.now ≡ uri_of (request_uri request.now.heard.start) }
-    ensures { IfOk result (λ c. course_in c ≡ course directory.now standing.now.merged standing.now.full standing.now.named request.now.heard) }
+    ensures { IfOk result (λ c. course_in c ≡ course directory.now standing.now.merged standing.now.full (option_map holder_in standing.now.named) request.now.heard) }
 {
     if is_foreign(target) {
         return Ok(Course::Refuse(plainly(416)));
@@ -197,23 +234,39 @@ fn course_to(
     course_in_dialog(alloc, directory, target, standing, request)
 }
 
-/// What is done with a request that opens a transaction: the first refusal that applies decides (RFC 3261 §8.2), without one its dialog, and else its method.
-///
-/// # Errors
-///
-/// Want of memory alone.
+/// What is done with a request, by the first refusal that applies, its dialog, or its method.
 #[tactic(auto, unfolding(mmtel_run::specs::Refusals::course))]
-pub fn course(
+fn decided(
     alloc: Global,
     directory: &Directory,
     standing: &Standing,
     request: &Hearing,
 ) -> Result<Course, NoMemory>
-    ensures course { IfOk result (λ c. course_in c ≡ course directory.now standing.now.merged standing.now.full standing.now.named request.now.heard) }
+    ensures { IfOk result (λ c. course_in c ≡ course directory.now standing.now.merged standing.now.full (option_map holder_in standing.now.named) request.now.heard) }
 {
     if !is_known_method(request.message.start()) {
         return Ok(Course::Refuse(allowing(alloc, 405)?));
     }
     let target = read_target(alloc, request.message.start())?;
     course_to(alloc, directory, &target, standing, request)
+}
+
+/// What is done with a request that opens a transaction: the first refusal that applies decides (RFC 3261 §8.2), without one its dialog, and else its method.
+///
+/// # Errors
+///
+/// Want of memory alone.
+pub fn course(
+    alloc: Global,
+    directory: &Directory,
+    standing: &Standing,
+    request: &Hearing,
+) -> Result<Course, NoMemory>
+    ensures course { IfOk result (λ c. course_in c ≡ course directory.now standing.now.merged standing.now.full (option_map holder_in standing.now.named) request.now.heard) }
+    // Whoever opens a room or comes to one offers audio.
+    ensures audio { IfOk result (λ c. is_for_room (course_in c) ≡ true → offers_audio request.now.heard.body ≡ true) }
+{
+    rooms_are_for_audio();
+    let course = decided(alloc, directory, standing, request)?;
+    Ok(course)
 }

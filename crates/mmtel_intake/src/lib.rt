@@ -10,8 +10,8 @@ mod refusals;
 mod registrations;
 mod replies;
 
-pub use answers::{Answer, Course, plainly};
-pub use arrivals::arrived;
+pub use answers::{Answer, Course, Holder, plainly};
+pub use arrivals::{arrived, caller_account};
 pub use courses::{Standing, course};
 pub use dialogs::{DialogName, dialog_name};
 pub use digests::{Told, digest, moment};

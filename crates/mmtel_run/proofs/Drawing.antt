@@ -1,27 +1,28 @@
 -- What calls bring forth keeps the text that tokens are drawn of, and draws on: no number is drawn back.
-use Rattle.std.proofs.Common.{◌≡◌, ℕ, zero, suc, ◌+◌, ◌≤◌, ◌<◌, ◌^◌, List, [], ◌∷◌, refl, sym, ap, ◌∙◌, Bool, true, false, Option, Some, None, Result, Ok, Err, arith, codes}
+use Rattle.std.proofs.Common.{◌≡◌, ℕ, zero, suc, ◌≤◌, ◌<◌, ◌^◌, List, [], refl, ◌∙◌, Bool, true, false, Option, Some, None, Result, Ok, Err, arith, codes}
 use Rattle.std.specs.Prelude.{◌==◌, nat_lt, not, position, slice_get, if◌then◌else◌}
 use Rattle.mmtel_answers.specs.Said.{Said, status_of}
 use Rattle.mmtel_b2bua.specs.Entries.{busy_beside, heard_by, is_numbered, sent_it}
-use Rattle.mmtel_b2bua.specs.Histories as histories
-use Rattle.mmtel_b2bua.specs.Histories.{Deed, hears_after, table_after}
-use Rattle.mmtel_b2bua.specs.Tables.{Moved, Table, arrived, busy_with, heard, invites_by, moved_at, moved_in, open_of, standing, step_of, taken}
+use Rattle.mmtel_b2bua.specs.Histories.{table_after}
+use Rattle.mmtel_b2bua.specs.Lending.{end_of, ended, ended_at, ended_by, place_of}
+use Rattle.mmtel_b2bua.specs.Tables.{busy_with, heard, invites_by, moved_at, moved_in, open_of, standing, step_of, taken}
 use Rattle.mmtel_b2bua.specs.declared.entries.Entry.{Entry}
 use Rattle.mmtel_b2bua.specs.declared.entries.InviteKey.{InviteKey}
 use Rattle.mmtel_b2bua.specs.declared.signals.Signal as table
 use Rattle.mmtel_b2bua.specs.declared.signals.Signal.TheVariants as of_table
-use Rattle.mmtel_call.specs.Answered.{acknowledges, acked_across, bye_before_ack, is_due, parted}
-use Rattle.mmtel_call.specs.Closing.{Step, onward, over, over_stood, with_past}
+use Rattle.mmtel_call.specs.Answered.{acknowledges, acked_across, parted}
+use Rattle.mmtel_call.specs.Closing.{Step, onward, over, with_past}
 use Rattle.mmtel_call.specs.Decisions.{decided_after, decided_at, is_barred, its_sheet, peer_for, service_at}
 use Rattle.mmtel_call.specs.Diverting.{at_target, divert, diverted, goes_on, handed_on, is_status, made, on_end, on_turn, passed_by, refused, refused_by, target_of, told_of, too_many, unless_barred}
-use Rattle.mmtel_call.specs.Leaving.{acked_again, answered_at, answered_loose, answered_other, answered_taken, answered_taken_at, as_loose, forked, is_fork, is_success, is_taken, is_talking, repeated, without_key, without_silent}
-use Rattle.mmtel_call.specs.Opening.{begins, caller_of, first_of, new_call, opened, opening_of, refusal_of, unless_refused}
-use Rattle.mmtel_call.specs.Reinvites.{agreed, cancelled_across, cancelled_if_due, ends_dialog, on_response_across, proceeding_across, refused_back}
-use Rattle.mmtel_call.specs.Requests.{is_bye, is_invite, is_same_side, says, unheard, unlisted}
-use Rattle.mmtel_call.specs.Ringing.{answered, armed, armed_in, cancelled_attempt, failed, given_up, heard_by as trial_heard, left, on_cancel, on_due, on_heard, on_request, on_request_if, on_response, proceeding, says_offered, silenced, time_of, timed_out, tried}
+use Rattle.mmtel_call.specs.Leaving.{acked_again, answered_at, answered_loose, answered_other, answered_taken, answered_taken_at, as_loose, forked, is_fork, is_success, is_taken, is_talking, repeated, without_silent}
+use Rattle.mmtel_call.specs.Lending.{finished, finished_in}
+use Rattle.mmtel_call.specs.Opening.{caller_of, first_of, new_call, opened, opening_of, refusal_of, unless_refused}
+use Rattle.mmtel_call.specs.Reinvites.{agreed, cancelled_across, ends_dialog, on_response_across, proceeding_across}
+use Rattle.mmtel_call.specs.Requests.{is_bye, is_invite, is_same_side, unheard, unlisted}
+use Rattle.mmtel_call.specs.Ringing.{answered, armed_in, cancelled_attempt, failed, given_up, heard_by as trial_heard, left, on_cancel, on_due, on_heard, on_request_if, on_response, proceeding, says_offered, silenced, time_of, timed_out, tried}
 use Rattle.mmtel_call.specs.Sending.{relayed_to_caller, replied_to, told_caller}
 use Rattle.mmtel_call.specs.Site.{Site}
-use Rattle.mmtel_call.specs.Stages.{busy_in, has_left, is_due_at, left_by, on_ack_at, on_bye, on_cancel_at, on_due_at, on_heard_at, on_invite, on_request_at, on_request_at_if, on_response_at, on_silence_at, rung_out}
+use Rattle.mmtel_call.specs.Stages.{has_left, is_due_at, left_by, on_ack_at, on_bye, on_cancel_at, on_heard_at, on_invite, on_request_at_if, on_response_at, on_silence_at, rung_out}
 use Rattle.mmtel_call.specs.Table.{ack_in, answer_to, cancel_in, due_in, invite_answered, invite_silent, is_current, request_in, response_in, silence_in, silence_of, step}
 use Rattle.mmtel_call.specs.declared.calls.Attempt.{Attempt}
 use Rattle.mmtel_call.specs.declared.calls.Call.{Call}
@@ -32,7 +33,6 @@ use Rattle.mmtel_call.specs.declared.calls.Reinvite.{Reinvite}
 use Rattle.mmtel_call.specs.declared.calls.Service.{Service}
 use Rattle.mmtel_call.specs.declared.calls.Stage.{Stage}
 use Rattle.mmtel_call.specs.declared.calls.Stage.TheVariants.{Answered, Asking, Parting, Talking}
-use Rattle.mmtel_call.specs.declared.calls.Success.{Success}
 use Rattle.mmtel_call.specs.declared.calls.Taken.{Taken}
 use Rattle.mmtel_call.specs.declared.calls.Trial.{Trial}
 use Rattle.mmtel_call.specs.declared.openings.Arrival.{Arrival}
@@ -40,7 +40,7 @@ use Rattle.mmtel_call.specs.declared.signals.Signal.{Signal}
 use Rattle.mmtel_call.specs.declared.signals.Signal.TheVariants as signal
 use Rattle.mmtel_desk.specs.Desks.{drew, fresh, token}
 use Rattle.mmtel_desk.specs.Invitations.{has_said, is_cancellable, knows}
-use Rattle.mmtel_desk.specs.Loose.{ended_before, is_of, late_cancelled, on_response as loose_response, on_success_in, with_invitation}
+use Rattle.mmtel_desk.specs.Loose.{ended_before, is_of, late_cancelled, on_response as loose_response, on_success_in, told_late, with_invitation}
 use Rattle.mmtel_desk.specs.Sending.{cancel_sent, cancelled, final_acked}
 use Rattle.mmtel_desk.specs.declared.desks.Desk.{Desk}
 use Rattle.mmtel_desk.specs.declared.invitations.Invitation.{Invitation}
@@ -52,7 +52,7 @@ use Rattle.mmtel_leg.specs.declared.dialogues.DialogueFault.{DialogueFault}
 use Rattle.mmtel_leg.specs.declared.dialogues.DialogueFault.TheVariants.{OldCSeq, Pending, Unfinished}
 use Rattle.mmtel_leg.specs.declared.remotes.Remote.{Remote}
 use Rattle.mmtel_message.specs.Faults.{is_method}
-use Rattle.mmtel_precedence.specs.Attempts.{end_by_final, end_by_time, rings}
+use Rattle.mmtel_precedence.specs.Attempts.{end_by_time, rings}
 use Rattle.mmtel_precedence.specs.Calls.{End, NoReply, NotReachable, Standing}
 use Rattle.mmtel_precedence.specs.Services.{DueDiversion}
 use Rattle.mmtel_precedence.specs.Turns.{AfterEnd, EndAnswered, EndDivert, EndRefuse, Turn, TurnDivert, TurnOffer, TurnRefuse}
@@ -68,20 +68,20 @@ use Rattle.mmtel_types.specs.declared.numbers.Account.{Account}
 use Rattle.mmtel_types.specs.declared.numbers.Peer.{Peer}
 use Rattle.mmtel_types.specs.declared.sides.Side.{Side}
 use Rattle.mmtel_types.specs.declared.sides.Side.TheVariants.{Caller, Callee}
-use Rattle.mmtel_run.specs.Short.{CallsDrawOn, DrawsOn}
+use Rattle.mmtel_run.specs.Short.{CallsDrawOn, CallsEndOn, DrawsOn}
 
 -- from one desk to another
-abbrev On : Desk → Desk → Type 0
+abbrev pub On : Desk → Desk → Type 0
 On d e = DrawsOn d.tokens e.tokens
 
 -- nothing is drawn; so many numbers are drawn
-none : (d : Desk) → On d d
+pub none : (d : Desk) → On d d
 none d = record { same = refl; on = λ less. omega arith }
 
-once : (d : Desk) → On d (drew d)
+pub once : (d : Desk) → On d (drew d)
 once d = record { same = refl; on = λ less. omega (arith, less) }
 
-then_on : (c d e : Desk) → On c d → On d e → On c e
+pub then_on : (c d e : Desk) → On c d → On d e → On c e
 then_on c d e a b = record {
   same = b.same ∙ a.same;
   on = λ less.
@@ -91,13 +91,13 @@ then_on c d e a b = record {
       omega (arith, first, later);
 }
 
-twice : (d : Desk) → On d (drew (drew d))
+pub twice : (d : Desk) → On d (drew (drew d))
 twice d = then_on d (drew d) (drew (drew d)) (once d) (once (drew d))
 
-thrice : (d : Desk) → On d (drew (drew (drew d)))
+pub thrice : (d : Desk) → On d (drew (drew (drew d)))
 thrice d = then_on d (drew d) (drew (drew (drew d))) (once d) (twice (drew d))
 
-either : (b : Bool) (d e f : Desk) → On d e → On d f → On d (if b then e else f)
+pub either : (b : Bool) (d e f : Desk) → On d e → On d f → On d (if b then e else f)
 either true d e f x y = x
 either false d e f x y = y
 
@@ -107,7 +107,7 @@ either_step false d s t x y = y
 
 -- ---- what is sent where it is due
 
-cancelled-on : (sip : Addr) (i : Invitation) (d : Desk) → On d (cancelled sip i d)
+pub cancelled-on : (sip : Addr) (i : Invitation) (d : Desk) → On d (cancelled sip i d)
 cancelled-on sip i d = either (is_cancellable i) d (cancel_sent sip i d) d (none d) (none d)
 
 attempt-on : (site : Site) (x : Trial) (d : Desk) → On d (cancelled_attempt site x d)
@@ -303,10 +303,10 @@ loose_by true c d r s t x y z = x
 loose_by false true d r s t x y z = y
 loose_by false false d r s t x y z = z
 
-loose-on : (sip : Addr) (key : TKey) (m : HeardMessage) (l : Loose) (d : Desk) → On d (loose_response sip key m l d).desk
+pub loose-on : (sip : Addr) (key : TKey) (m : HeardMessage) (l : Loose) (d : Desk) → On d (loose_response sip key m l d).desk
 loose-on sip key m l d =
     loose_by (nat_lt (status_of m.start) 200) (nat_lt (status_of m.start) 300) d _ _ _
-    (late-on l.invitation.cancelled sip (with_invitation l (has_said key l.invitation)) d refl)
+    (late-on l.invitation.cancelled sip (told_late key m l) d refl)
     (success-on sip (with_invitation l (knows key l.invitation)) (remote_of Callee m.lines) _ d)
     (none d)
 
@@ -439,6 +439,33 @@ module _ (site : Site) (at : ℕ) (view : InForce) where
   taken_by-on number (of_table.Silent branch method) es d = in-on (signal.Silent branch method) [] (position (sent_it (invite_silent branch method)) es) es d
   taken_by-on number (of_table.Due call what) es d = in-on (signal.Due what) [] (position (is_numbered call.0) es) es d
   taken_by-on number (of_table.Over key) es d = in-on (signal.Ended key) [] (position (heard_by key) es) es d
+
+-- ---- a call ends without its leg
+
+finished_in-on : (p : Phase) (site : Site) (at : ℕ) (c : Call) (d : Desk) → On d (finished_in p site at c d).desk
+finished_in-on (Offered x) site at c d = none d
+finished_in-on (Stood x stage) site at c d = none d
+finished_in-on (Lent loan) site at c d = once d
+finished_in-on (Over cause) site at c d = none d
+
+end_of-on : (site : Site) (at : ℕ) (d : Desk) (e : Entry) → On d (end_of site at d e).desk
+unfolding end_of finished
+end_of-on site at d e = finished_in-on e.call.phase site at e.call d
+
+ended_at-on : (site : Site) (at place : ℕ) (o : Option Entry) (es : List Entry) (d : Desk) → On d (ended_at site at place o es d).desk
+ended_at-on site at place None es d = none d
+ended_at-on site at place (Some e) es d = end_of-on site at d e
+
+ended_by-on : (site : Site) (at : ℕ) (o : Option ℕ) (es : List Entry) (d : Desk) → On d (ended_by site at o es d).desk
+ended_by-on site at None es d = none d
+ended_by-on site at (Some place) es d = ended_at-on site at place (slice_get es place) es d
+
+ended-on : (site : Site) (at number : ℕ) (es : List Entry) (d : Desk) → On d (ended site at number es d).desk
+unfolding ended
+ended-on site at number es d = ended_by-on site at (place_of number es) es d
+
+pub end_on : CallsEndOn
+end_on site deeds number at tokens = ended-on site at number (table_after site deeds).entries (fresh tokens)
 
 pub draw_on : CallsDrawOn
 draw_on site deeds x = taken_by-on site x.at x.view _ x.signal (table_after site deeds).entries (fresh x.tokens)

@@ -1,12 +1,18 @@
 -- Enough firings of deadlines exist before each event, and more of them change nothing.
 use Rattle.std.proofs.Common.{◌≡◌, ℕ, zero, suc, ◌+◌, ◌≤◌, List, [], ◌∷◌, ◌++◌, length, refl, sym, ap, ◌∙◌, Bool, true, false, Option, Some, None, inl, inr, arith, subst}
-use Rattle.std.specs.Prelude.{◌⊎◌, ◌==◌, nat_le, if◌then◌else◌}
-use Rattle.mmtel_b2bua.specs.Histories.{Deed, Hears, hears_after}
+use Rattle.std.specs.Prelude.{◌⊎◌, nat_le, if◌then◌else◌}
+use Rattle.mmtel_b2bua.specs.Histories.{Deed, Drops, Hears, hears_after}
 use Rattle.mmtel_b2bua.specs.Tables.{Moved}
 use Rattle.mmtel_b2bua.specs.declared.signals.Signal.{Signal}
 use Rattle.mmtel_b2bua.specs.declared.signals.Signal.TheVariants as signal
+use Rattle.mmtel_call.specs.Table.{invite_silent}
 use Rattle.mmtel_desk.specs.Desks.{fresh}
 use Rattle.mmtel_directory.specs.declared.directories.Directory.{Directory}
+use Rattle.mmtel_focus.specs.Histories as rooms
+use Rattle.mmtel_focus.specs.Rooms.{nothing}
+use Rattle.mmtel_focus.specs.Table as tables
+use Rattle.mmtel_focus.specs.declared.signals.RoomSignal.{RoomSignal}
+use Rattle.mmtel_focus.specs.declared.signals.RoomSignal.TheVariants as of_room
 use Rattle.mmtel_in_force.specs.Texts.{Texts}
 use Rattle.mmtel_scan.specs.Numbers.{next_number}
 use Rattle.mmtel_transaction.specs.Answers.{Next, fires, next_due, says_due}
@@ -16,17 +22,21 @@ use Rattle.mmtel_transaction.specs.declared.words.Due.{Due}
 use Rattle.mmtel_transaction.specs.declared.words.Due.TheVariants as due
 use Rattle.mmtel_transaction.specs.Tokens.{Drawn}
 use Rattle.mmtel_transaction.specs.declared.words.Emit.{Emit}
+use Rattle.mmtel_transaction.specs.declared.words.TKey.{TKey}
 use Rattle.mmtel_run.specs.Calls.{calls_after, site_of}
-use Rattle.mmtel_run.specs.Deadlines.{Armed, Chosen, Deadline, OfCall, OfMessage, choose, chosen, comes_before, first_armed, first_of, is_sooner, sooner}
+use Rattle.mmtel_run.specs.Deadlines.{Alarm, Armed, Chosen, Deadline, OfAlarm, OfCall, OfMessage, OfSeat, choose, chosen, comes_before, first_armed, first_of, is_sooner}
 use Rattle.mmtel_run.specs.Events.{Happened, Notice, notices}
 use Rattle.mmtel_run.specs.Headline.{GivesAlways, GivesOnce, MoreChangesNothing}
 use Rattle.mmtel_run.specs.Records.{in_force}
+use Rattle.mmtel_run.specs.Rooms.{is_key_of_calls, is_of_calls, rooms_after, rooms_site}
 use Rattle.mmtel_run.specs.Run.{IsEnough, IsEnoughAfter, IsSettled, after, clock_at, due_in, fire_one, fired_if, gives, one_more, settled, world_after}
-use Rattle.mmtel_run.specs.World.{World, beginning, begun, calls_in, came, emitted, fired, heard_now, rung, signalled}
-use Rattle.mmtel_run.proofs.Earlier.{emitted_deeds}
-use Rattle.mmtel_run.proofs.Lasting.{Fades, all_ways, fades, is_rung}
+use Rattle.mmtel_run.specs.World.{World, alarmed, beginning, begun, calls_in, came, emitted, ended_of, fired, heard_in_rooms, heard_now, rooms_in, rung, seated, signalled, silenced, tokens_now}
+use Rattle.mmtel_run.proofs.Earlier.{emitted_deeds, emitted_rooms}
+use Rattle.mmtel_run.proofs.Emptying.{all_seats, rooms_fade}
+use Rattle.mmtel_run.proofs.Emptying.{is_rung as is_rung_there}
+use Rattle.mmtel_run.proofs.Lasting.{all_ways, fades, is_rung}
 
--- ---- the first deadline of calls
+-- ---- the first deadline of calls and seats
 
 -- the others are one fewer
 sooner_length : (b : Bool) (armed : Armed) (others : List Armed) (behind : Chosen) → suc (length behind.others) ≡ length others
@@ -62,14 +72,14 @@ module _ (d : Directory) (token : List ℕ) where
 
   -- ---- what a deadline leaves
 
-  -- so many ways to go the calls have; and so long what is under way may go on, where nothing is brought forth
+  -- so many ways to go the calls have, and so many seats of rooms are taken; and so long what is under way may go on, where nothing is brought forth
   abbrev ways_left : World → ℕ
-  ways_left w = all_ways (calls_in d w).entries
+  ways_left w = all_ways (calls_in d w).entries + all_seats (rooms_in d w).live
 
   abbrev waits : World → ℕ
   waits w = all_left (live w.acts) + length w.armed
 
-  -- where calls hear of a deadline, what waits and the ways stay the same, or the ways are fewer
+  -- where calls or rooms hear of a deadline, what waits and the ways stay the same, or the ways are fewer
   abbrev Quietens : World → World → Type 0
   Quietens v w = ((waits v ≤ waits w) × (ways_left v ≤ ways_left w)) ⊎ (suc (ways_left v) ≤ ways_left w)
 
@@ -78,29 +88,72 @@ module _ (d : Directory) (token : List ℕ) where
   moved_by at x w = hears_after (site_of d) w.deeds (heard_now token at x w)
 
   abbrev heard_in : ℕ → Signal → World → World
-  heard_in at x w = record w { deeds = Hears (heard_now token at x w) ∷ w.deeds; drawn = (moved_by at x w).desk.tokens.drawn }
+  heard_in at x w = record w { deeds = Drops (length (moved_by at x w).desk.rows) ∷ Hears (heard_now token at x w) ∷ w.deeds; drawn = (moved_by at x w).desk.tokens.drawn; waiting = w.waiting ++ (moved_by at x w).desk.rows }
+
+  -- what is emitted is no matter of either
+  emitted_ways : (at : ℕ) (out : List Emit) (v : World) → ways_left (emitted at out v) ≡ ways_left v
+  emitted_ways at out v =
+      ap (λ (ds : List Deed). all_ways (calls_after d ds).entries + all_seats (rooms_after d (emitted at out v).rooms).live) (emitted_deeds at out v)
+      ∙ ap (λ (rs : List rooms.Deed). all_ways (calls_after d v.deeds).entries + all_seats (rooms_after d rs).live) (emitted_rooms at out v)
 
   signalled_quietens : (at : ℕ) (x : Signal) (w : World) → is_rung x ≡ true → Quietens (signalled d token at x w) w
   signalled_quietens at x w is =
       let view = in_force w.texts w.registrations in
       let drawn : Drawn = record { token = token; drawn = w.drawn } in
       let calls = calls_in d w in
-      let left : ways_left (signalled d token at x w) ≡ all_ways (moved_by at x w).entries = ap (λ (ds : List Deed). all_ways (calls_after d ds).entries) (emitted_deeds at (moved_by at x w).desk.out (heard_in at x w)) in
+      let left : ways_left (signalled d token at x w) ≡ all_ways (moved_by at x w).entries + all_seats (rooms_in d w).live = emitted_ways at (moved_by at x w).desk.out (heard_in at x w) in
       elim (fades (site_of d) at view (next_number calls.opened) x calls.entries (fresh drawn) is) [
         | inl quiet ↦
             let same : waits (signalled d token at x w) ≡ waits w = ap (λ (out : List Emit). waits (emitted at out (heard_in at x w))) quiet.0 in
-            let few : all_ways (moved_by at x w).entries ≤ ways_left w = quiet.1 in
+            let few : all_ways (moved_by at x w).entries ≤ all_ways calls.entries = quiet.1 in
             inl (omega (arith, same), omega (arith, left, few))
         | inr less ↦
-            let few : suc (all_ways (moved_by at x w).entries) ≤ ways_left w = less in
+            let few : suc (all_ways (moved_by at x w).entries) ≤ all_ways calls.entries = less in
             inr (omega (arith, left, few))
       ]
 
+  -- the same of rooms
+  abbrev room_moved : ℕ → RoomSignal → World → tables.Moved
+  room_moved at x w = tables.taken (rooms_site d) at x (rooms_in d w).live (rooms_in d w).loose (nothing (tokens_now token w))
+
+  abbrev heard_there : ℕ → RoomSignal → World → World
+  heard_there at x w = record w {
+    rooms = rooms.Drops (length (room_moved at x w).effects.desk.rows) ∷ heard_in_rooms token at x w ∷ w.rooms;
+    drawn = (room_moved at x w).effects.desk.tokens.drawn;
+    waiting = w.waiting ++ (room_moved at x w).effects.desk.rows;
+  }
+
+  seated_quietens : (at : ℕ) (x : RoomSignal) (w : World) → is_rung_there x ≡ true → Quietens (seated d token at x w) w
+  seated_quietens at x w is =
+      let held = rooms_in d w in
+      let left : ways_left (seated d token at x w) ≡ all_ways (calls_in d w).entries + all_seats (room_moved at x w).live = emitted_ways at (room_moved at x w).effects.desk.out (heard_there at x w) in
+      elim (rooms_fade (rooms_site d) at held.live held.loose (nothing (tokens_now token w)) x is) [
+        | inl quiet ↦
+            let same : waits (seated d token at x w) ≡ waits w = ap (λ (out : List Emit). waits (emitted at out (heard_there at x w))) quiet.0 in
+            let few : all_seats (room_moved at x w).live ≤ all_seats held.live = quiet.1 in
+            inl (omega (arith, same), omega (arith, left, few))
+        | inr less ↦
+            let few : suc (all_seats (room_moved at x w).live) ≤ all_seats held.live = less in
+            inr (omega (arith, left, few))
+      ]
+
+  silenced_quietens : (at : ℕ) (branch method : List ℕ) (b : Bool) (w : World) → Quietens (silenced d token at branch method b w) w
+  silenced_quietens at branch method true w = signalled_quietens at (signal.Silent branch method) w refl
+  silenced_quietens at branch method false w = seated_quietens at (of_room.Silent branch method) w refl
+
+  ended_quietens : (at : ℕ) (key : TKey) (b : Bool) (w : World) → Quietens (ended_of d token at key b w) w
+  ended_quietens at key true w = signalled_quietens at (signal.Over key) w refl
+  ended_quietens at key false w = seated_quietens at (of_room.Over key) w refl
+
   rung_quietens : (x : Due) (w : World) → Quietens (rung d token x w) w
   rung_quietens (due.Again peer at text) w = inl (omega arith, omega arith)
-  rung_quietens (due.Silent key branch method at) w = signalled_quietens at (signal.Silent branch method) w refl
-  rung_quietens (due.Over key at) w = signalled_quietens at (signal.Over key) w refl
+  rung_quietens (due.Silent key branch method at) w = silenced_quietens at branch method (is_of_calls (invite_silent branch method) (calls_in d w).entries) w
+  rung_quietens (due.Over key at) w = ended_quietens at key (is_key_of_calls key (calls_in d w).entries) w
   rung_quietens due.Nothing w = inl (omega arith, omega arith)
+
+  alarmed_quietens : (at : ℕ) (x : Alarm) (w : World) → Quietens (alarmed d token at x w) w
+  alarmed_quietens at (OfCall call what) w = signalled_quietens at (signal.Due call what) w refl
+  alarmed_quietens at (OfSeat room seat what) w = seated_quietens at (of_room.Due room seat what) w refl
 
   -- ---- the deadline that fires
 
@@ -119,9 +172,9 @@ module _ (d : Directory) (token : List ℕ) where
   abbrev IsFirstOf : Option Next → Option Chosen → Option Deadline → Type 0
   IsFirstOf message call None = Unit {0}
   IsFirstOf message call (Some OfMessage) = (next : Next) × (message ≡ Some next)
-  IsFirstOf message call (Some (OfCall armed others)) = (first : Chosen) × (call ≡ Some first) × (others ≡ first.others)
+  IsFirstOf message call (Some (OfAlarm armed others)) = (first : Chosen) × (call ≡ Some first) × (others ≡ first.others)
 
-  either_first : (b : Bool) (next : Next) (call : Chosen) → IsFirstOf (Some next) (Some call) (if b then Some OfMessage else Some (OfCall call.first call.others))
+  either_first : (b : Bool) (next : Next) (call : Chosen) → IsFirstOf (Some next) (Some call) (if b then Some OfMessage else Some (OfAlarm call.first call.others))
   either_first true next call = (next, refl)
   either_first false next call = (call, refl, refl)
 
@@ -146,18 +199,18 @@ module _ (d : Directory) (token : List ℕ) where
         let same : all_left (live begun_acts) ≡ all_left (live w.acts) = begun_left w in
         falls_by (fired d token now OfMessage w) u w (omega (arith, fewer, there, same)) refl (rung_quietens (says_due (next_due now (live begun_acts))) u)
 
-    -- one of a call
-    call_falls : (now : ℕ) (armed : Armed) (others : List Armed) (w : World) → suc (length others) ≡ length w.armed → Falls (fired d token now (OfCall armed others) w) w
-    call_falls now armed others w fewer =
+    -- one of a call or of a seat
+    alarm_falls : (now : ℕ) (armed : Armed) (others : List Armed) (w : World) → suc (length others) ≡ length w.armed → Falls (fired d token now (OfAlarm armed others) w) w
+    alarm_falls now armed others w fewer =
         let u : World = record (begun w) { armed = others } in
         let same : all_left (live u.acts) ≡ all_left (live w.acts) = begun_left w in
-        falls_by (fired d token now (OfCall armed others) w) u w (omega (arith, fewer, same)) refl (signalled_quietens armed.at (signal.Due armed.call armed.what) u refl)
+        falls_by (fired d token now (OfAlarm armed others) w) u w (omega (arith, fewer, same)) refl (alarmed_quietens armed.at armed.alarm u)
 
     first_falls : (now : ℕ) (x : Deadline) (w : World) → IsFirstOf (next_due now (live w.acts)) (first_armed now w.armed) (Some x) → Falls (fired d token now x w) w
     first_falls now OfMessage w is = message_falls now w is.0 is.1
-    first_falls now (OfCall armed others) w is =
+    first_falls now (OfAlarm armed others) w is =
         let fewer : suc (length is.0.others) ≡ length w.armed = subst (IsFewer w.armed) is.1 (first_length now w.armed) in
-        call_falls now armed others w (ap (λ (l : List Armed). suc (length l)) is.2 ∙ fewer)
+        alarm_falls now armed others w (ap (λ (l : List Armed). suc (length l)) is.2 ∙ fewer)
 
     fired_falls : (now : ℕ) (x : Deadline) (w : World) → due_in now w ≡ Some x → Falls (fired d token now x w) w
     fired_falls now x w e = first_falls now x w (subst (IsFirstOf (next_due now (live w.acts)) (first_armed now w.armed)) e (is_first (next_due now (live w.acts)) (first_armed now w.armed)))

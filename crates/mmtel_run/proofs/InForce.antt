@@ -1,6 +1,6 @@
 -- The texts of a run are those that were loaded and, over them, those that were kept; and the last one counts.
-use Rattle.std.proofs.Common.{◌≡◌, ℕ, zero, suc, List, [], ◌∷◌, ◌++◌, refl, sym, ap, ◌∙◌, Bool, true, false, Option, Some, None, Ok, Err, inl, inr, subst, codes}
-use Rattle.std.specs.Prelude.{◌==◌, ◌≢◌, cond, if◌then◌else◌}
+use Rattle.std.proofs.Common.{◌≡◌, ℕ, zero, suc, List, [], ◌∷◌, ◌++◌, length, refl, sym, ap, ◌∙◌, Bool, true, false, Option, Some, None, Result, Ok, Err, inl, inr, subst}
+use Rattle.std.specs.Prelude.{◌==◌, ◌≢◌, cond}
 use Rattle.std.specs.Cmp.{nat_cmp_total, tied_itself}
 use Rattle.std.specs.FinMap.{FinMap, empty, get, get-empty, get-insert, insert, nat_cmp-IsAntisymmetric}
 use Rattle.std.specs.Ordering.{is_eq, nat_cmp}
@@ -12,9 +12,20 @@ use Rattle.mmtel_answers.specs.Said.{Said}
 use Rattle.mmtel_directory.specs.declared.directories.Directory.{Directory}
 use Rattle.mmtel_directory.specs.declared.directories.WebDirectory.{WebDirectory}
 use Rattle.mmtel_charging.specs.declared.rows.Row.{Row}
-use Rattle.mmtel_b2bua.specs.Histories.{Hears, hears_after}
+use Rattle.mmtel_b2bua.specs.Histories.{Deed, Drops, Finishes, Hears, Releases, Restores, finished_by, hears_after}
+use Rattle.mmtel_b2bua.specs.Lending.{leg_out}
+use Rattle.mmtel_b2bua.specs.Names.{party}
 use Rattle.mmtel_b2bua.specs.declared.signals.Signal.{Signal}
 use Rattle.mmtel_b2bua.specs.declared.signals.Signal.TheVariants as signal
+use Rattle.mmtel_call.specs.Table.{invite_answered, invite_silent}
+use Rattle.mmtel_desk.specs.declared.desks.Desk.{Desk}
+use Rattle.mmtel_focus.specs.Histories as rooms
+use Rattle.mmtel_focus.specs.Table.{access, has_no_room}
+use Rattle.mmtel_focus.specs.declared.faults.RoomFault.{RoomFault}
+use Rattle.mmtel_focus.specs.declared.referrals.Replaces.{Replaces}
+use Rattle.mmtel_focus.specs.declared.signals.RoomSignal.{RoomSignal}
+use Rattle.mmtel_focus.specs.declared.signals.RoomSignal.TheVariants as of_room
+use Rattle.mmtel_leg.specs.declared.legs.Released.{Released}
 use Rattle.mmtel_message.specs.Message.{Message}
 use Rattle.mmtel_message.specs.Reads.{Read, reads}
 use Rattle.mmtel_message.specs.declared.messages.Start.{Start}
@@ -32,10 +43,12 @@ use Rattle.mmtel_transaction.specs.declared.words.Heard as transaction
 use Rattle.mmtel_transaction.specs.declared.words.Heard.TheVariants as heard
 use Rattle.mmtel_transaction.specs.declared.words.TKey.{TKey}
 use Rattle.mmtel_trust.specs.Peers.{peer_at}
+use Rattle.mmtel_types.specs.Sides.{other_of}
 use Rattle.mmtel_types.specs.declared.addrs.Addr.{Addr}
 use Rattle.mmtel_types.specs.declared.numbers.Account.{Account}
 use Rattle.mmtel_types.specs.declared.numbers.CallNo.{CallNo}
 use Rattle.mmtel_types.specs.declared.numbers.Peer.{Peer}
+use Rattle.mmtel_types.specs.declared.numbers.RoomNo.{RoomNo}
 use Rattle.mmtel_types.specs.declared.sides.Side.{Side}
 use Rattle.mmtel_web.specs.Answers.{Kept}
 use Rattle.mmtel_in_force.specs.Texts.{Registrations, Texts, end_at, put_each, put_kept}
@@ -43,15 +56,15 @@ use Rattle.mmtel_sheet_grammar.specs.Texts.{kept_sheet}
 use Rattle.mmtel_sheet_values.specs.View.{InForce, end_in, nothing_in_force, sheet_in}
 use Rattle.mmtel_sheet_values.specs.declared.values.Sheet.{Sheet}
 use Rattle.mmtel_web.specs.Uploads.{kept_upload, upload_in}
-use Rattle.mmtel_run.specs.Calls.{are_full, arrived, asked_by, named_by, site_of}
-use Rattle.mmtel_run.specs.Deadlines.{Deadline, OfCall, OfMessage}
+use Rattle.mmtel_run.specs.Calls.{are_full, arrived, asked_by, site_of}
+use Rattle.mmtel_run.specs.Deadlines.{Alarm, Deadline, OfAlarm, OfCall, OfMessage, OfSeat}
 use Rattle.mmtel_run.specs.Events.{Digest, Nothing, Refused, Heard, Asked, Happened, Notice, digest_datagram, digest_event, digest_from, digest_read, message_in, notice_of, notices, refused_by}
 use Rattle.mmtel_run.specs.InForce.{CallsAreToldWhatIsInForce, LastIsInForce, TextsAreThoseKept, last_of, last_or, text_for, upload_at, uploads_of}
-use Rattle.mmtel_run.specs.Records.{in_force, with_ends, with_records}
-use Rattle.mmtel_run.specs.Refusals.{Course, Refuse, Enter, Open, Register, course}
-use Rattle.mmtel_run.specs.Refusals as refusals
+use Rattle.mmtel_run.specs.Records.{with_ends, with_records}
+use Rattle.mmtel_run.specs.Refusals.{Course, Refuse, Enter, EnterRoom, Open, OpenRoom, JoinRoom, Register, course}
+use Rattle.mmtel_run.specs.Rooms.{Holder, InCall, InRoom, account_of_side, is_key_of_calls, is_of_calls, is_with, replacement_in, side_replaced}
 use Rattle.mmtel_run.specs.Run.{after, clock_at, due_in, fire_one, fired_if, one_more, settled}
-use Rattle.mmtel_run.specs.World.{World, answering, beginning, begun, calls_in, came, cancelling, cancelling_call, emit_one, emitted, entering, fired, handing, heard_now, hearing, met, repeating, rows_waiting, rung, signalled, taking, told}
+use Rattle.mmtel_run.specs.World.{World, acknowledging_by, adopting, adoption_of, alarmed, answering, beginning, begun, bringing, calls_in, came, cancelling, cancelling_call, comes_of, drawing, emit_one, emitted, ended_of, entering_room, finishing, fired, handing, heard_in_rooms, heard_now, hearing, holder_in, housed, joining_of, lending, lodging, met, next_tag, noticed, opening_of, repeating, replaced_by, replaced_with, replacing, responding_to, room_joined, room_opened, rooms_in, rung, seated, signalled, silenced, taken_out, taking, tokens_now, told}
 
 -- ---- the last one counts
 
@@ -109,21 +122,49 @@ handing_texts took [] w = refl
 handing_texts true (row ∷ rows) w = refl
 handing_texts false (row ∷ rows) w = refl
 
+bringing_texts : (at : ℕ) (deed : Deed) (desk : Desk) (w : World) → (bringing at deed desk w).texts ≡ w.texts
+bringing_texts at deed desk w = emitted_texts at desk.out (record w { deeds = Drops (length desk.rows) ∷ deed ∷ w.deeds; drawn = desk.tokens.drawn; waiting = w.waiting ++ desk.rows })
+
+lodging_texts : (at : ℕ) (deed : rooms.Deed) (desk : Desk) (w : World) → (lodging at deed desk w).texts ≡ w.texts
+lodging_texts at deed desk w = emitted_texts at desk.out (record w { rooms = rooms.Drops (length desk.rows) ∷ deed ∷ w.rooms; waiting = w.waiting ++ desk.rows })
+
+housed_texts : (d : Directory) (at : ℕ) (deed : rooms.Deed) (w : World) → (housed d at deed w).texts ≡ w.texts
+housed_texts d at deed w = lodging_texts at deed (comes_of d deed w) (record w { drawn = (comes_of d deed w).tokens.drawn })
+
 module _ (d : Directory) (token : List ℕ) where
   signalled_texts : (at : ℕ) (x : Signal) (w : World) → (signalled d token at x w).texts ≡ w.texts
-  signalled_texts at x w =
-      emitted_texts at (hears_after (site_of d) w.deeds (heard_now token at x w)).desk.out
-      (record w { deeds = Hears (heard_now token at x w) ∷ w.deeds; drawn = (hears_after (site_of d) w.deeds (heard_now token at x w)).desk.tokens.drawn })
+  signalled_texts at x w = bringing_texts at (Hears (heard_now token at x w)) (hears_after (site_of d) w.deeds (heard_now token at x w)).desk w
+
+  finishing_texts : (at : ℕ) (call : CallNo) (w : World) → (finishing d token at call w).texts ≡ w.texts
+  finishing_texts at call w = bringing_texts at (Finishes call.0 at (tokens_now token w)) (finished_by (site_of d) call.0 at (tokens_now token w) (calls_in d w)).desk w
+
+  seated_texts : (at : ℕ) (x : RoomSignal) (w : World) → (seated d token at x w).texts ≡ w.texts
+  seated_texts at x w = housed_texts d at (heard_in_rooms token at x w) w
+
+  noticed_texts : (at : ℕ) (room : RoomNo) (seat code : ℕ) (w : World) → (noticed d token at room seat code w).texts ≡ w.texts
+  noticed_texts at room seat code w = housed_texts d at (rooms.Notifies room.0 seat code (tokens_now token w)) w
+
+  silenced_texts : (at : ℕ) (branch method : List ℕ) (b : Bool) (w : World) → (silenced d token at branch method b w).texts ≡ w.texts
+  silenced_texts at branch method true w = signalled_texts at (signal.Silent branch method) w
+  silenced_texts at branch method false w = seated_texts at (of_room.Silent branch method) w
+
+  ended_texts : (at : ℕ) (key : TKey) (b : Bool) (w : World) → (ended_of d token at key b w).texts ≡ w.texts
+  ended_texts at key true w = signalled_texts at (signal.Over key) w
+  ended_texts at key false w = seated_texts at (of_room.Over key) w
 
   rung_texts : (x : Due) (w : World) → (rung d token x w).texts ≡ w.texts
   rung_texts (due.Again peer at text) w = refl
-  rung_texts (due.Silent key branch method at) w = signalled_texts at (signal.Silent branch method) w
-  rung_texts (due.Over key at) w = signalled_texts at (signal.Over key) w
+  rung_texts (due.Silent key branch method at) w = silenced_texts at branch method (is_of_calls (invite_silent branch method) (calls_in d w).entries) w
+  rung_texts (due.Over key at) w = ended_texts at key (is_key_of_calls key (calls_in d w).entries) w
   rung_texts due.Nothing w = refl
+
+  alarmed_texts : (at : ℕ) (x : Alarm) (w : World) → (alarmed d token at x w).texts ≡ w.texts
+  alarmed_texts at (OfCall call what) w = signalled_texts at (signal.Due call what) w
+  alarmed_texts at (OfSeat room seat what) w = seated_texts at (of_room.Due room seat what) w
 
   fired_texts : (now : ℕ) (x : Deadline) (w : World) → (fired d token now x w).texts ≡ w.texts
   fired_texts now OfMessage w = rung_texts (says_due (next_due now (live (begun w).acts))) (record (begun w) { acts = fires (begun w).acts (next_due now (live (begun w).acts)) })
-  fired_texts now (OfCall armed others) w = signalled_texts armed.at (signal.Due armed.call armed.what) (record (begun w) { armed = others })
+  fired_texts now (OfAlarm armed others) w = alarmed_texts armed.at armed.alarm (record (begun w) { armed = others })
 
   if_fired_texts : (now : ℕ) (o : Option Deadline) (w : World) → (fired_if d token now o w).texts ≡ w.texts
   if_fired_texts now None w = refl
@@ -134,12 +175,50 @@ module _ (d : Directory) (token : List ℕ) where
   settled_texts (suc fuel) now w = settled_texts fuel now (fire_one d token now w) ∙ if_fired_texts now (due_in now w) w
 
 module _ (d : Directory) (token : List ℕ) (at : ℕ) (s : Said) where
+  opened_texts : (key : TKey) (tag : List ℕ) (b : Bool) (w : World) → (room_opened d at key s tag b w).texts ≡ w.texts
+  opened_texts key tag true w = refl
+  opened_texts key tag false w = lodging_texts at (opening_of d at key s tag) (comes_of d (opening_of d at key s tag) w) w
+
+  joined_texts : (key : TKey) (room : RoomNo) (tag : List ℕ) (r : Result ℕ RoomFault) (w : World) → (room_joined d token at key s room tag r w).texts ≡ w.texts
+  joined_texts key room tag (Err fault) w = refl
+  joined_texts key room tag (Ok place) w = housed_texts d at (joining_of d at key s room tag (tokens_now token w)) w
+
+  adopting_texts : (room : RoomNo) (seat : ℕ) (call : CallNo) (leg : Released) (account : Option Account) (r : Result ℕ RoomFault) (w : World) → (adopting d token at room seat call leg account r w).texts ≡ w.texts
+  adopting_texts room seat call leg account (Ok place) w =
+      finishing_texts d token at call (housed d at (adoption_of token at room seat leg account w) w) ∙ housed_texts d at (adoption_of token at room seat leg account w) w
+  adopting_texts room seat call leg account (Err fault) w = noticed_texts d token at room seat 503 (lending (Restores call.0 leg) w)
+
+  taken_texts : (room : RoomNo) (seat : ℕ) (call : CallNo) (side : Side) (account : Option Account) (o : Option Released) (w : World) → (taken_out d token at room seat call side account o w).texts ≡ w.texts
+  taken_texts room seat call side account None w = noticed_texts d token at room seat 491 w
+  taken_texts room seat call side account (Some leg) w = adopting_texts room seat call leg account (access room.0 (rooms_in d w).live) (lending (Releases call.0 side) w)
+
+  with_texts : (room : RoomNo) (seat : ℕ) (call : CallNo) (side : Side) (b : Bool) (w : World) → (replaced_with d token at room seat call side b w).texts ≡ w.texts
+  with_texts room seat call side false w = noticed_texts d token at room seat 481 w
+  with_texts room seat call side true w =
+      taken_texts room seat call (other_of side) (account_of_side call (other_of side) (calls_in d w).entries) (leg_out call.0 (other_of side) (calls_in d w).entries) w
+
+  by_texts : (peer : Peer) (room : RoomNo) (seat : ℕ) (o : Option (CallNo × Side)) (w : World) → (replaced_by d token at peer room seat o w).texts ≡ w.texts
+  by_texts peer room seat None w = noticed_texts d token at room seat 481 w
+  by_texts peer room seat (Some named) w = with_texts room seat named.0 named.1 (is_with peer (party named.0.0 named.1 (calls_in d w).entries)) w
+
+  replacing_texts : (peer : Peer) (room : RoomNo) (seat : ℕ) (o : Option Replaces) (w : World) → (replacing d token at peer room seat o w).texts ≡ w.texts
+  replacing_texts peer room seat None w = refl
+  replacing_texts peer room seat (Some r) w =
+      by_texts peer room seat (side_replaced r (calls_in d (noticed d token at room seat 100 w)).entries) (noticed d token at room seat 100 w) ∙ noticed_texts d token at room seat 100 w
+
+  entering_texts : (key : TKey) (room : RoomNo) (seat : ℕ) (w : World) → (entering_room d token at key s room seat w).texts ≡ w.texts
+  entering_texts key room seat w =
+      replacing_texts s.peer room seat (replacement_in s.heard (comes_of d (heard_in_rooms token at (of_room.Request room seat key s) w) w).out) (seated d token at (of_room.Request room seat key s) w)
+      ∙ seated_texts d token at (of_room.Request room seat key s) w
+
   taking_texts : (key : TKey) (c : Course) (w : World) → (taking d token at key s c w).texts ≡ w.texts
   taking_texts key (Refuse answer) w = refl
   taking_texts key (Enter call side) w = signalled_texts d token at (signal.Request call side key s) w
+  taking_texts key (EnterRoom room seat) w = entering_texts key room seat w
   taking_texts key Open w = signalled_texts d token at (arrived d.names.accounts key s) w
+  taking_texts key OpenRoom w = opened_texts key (next_tag token w) (has_no_room (rooms_in d w).live) (drawing 1 w)
+  taking_texts key (JoinRoom room) w = joined_texts key room (next_tag token w) (access room.0 (rooms_in d w).live) (drawing 1 w)
   taking_texts key (Register account seconds) w = refl
-  taking_texts key refusals.Unbuilt w = refl
 
   repeating_texts : (o : Option (Peer × List ℕ)) (w : World) → (repeating at o w).texts ≡ w.texts
   repeating_texts None w = refl
@@ -153,18 +232,23 @@ module _ (d : Directory) (token : List ℕ) (at : ℕ) (s : Said) where
   cancelling_texts key None w = refl
   cancelling_texts key (Some invite) w = cancelling_call_texts key invite (asked_by invite (calls_in d w).entries) w
 
-  entering_texts : (f : CallNo → Side → Signal) (o : Option (CallNo × Side)) (w : World) → (entering d token at f o w).texts ≡ w.texts
-  entering_texts f None w = refl
-  entering_texts f (Some x) w = signalled_texts d token at (f x.0 x.1) w
+  acknowledging_texts : (o : Option Holder) (w : World) → (acknowledging_by d token at s o w).texts ≡ w.texts
+  acknowledging_texts None w = refl
+  acknowledging_texts (Some (InCall call side)) w = signalled_texts d token at (signal.Ack call side s) w
+  acknowledging_texts (Some (InRoom room seat)) w = seated_texts d token at (of_room.Ack room seat s) w
+
+  responding_texts : (key : TKey) (b : Bool) (w : World) → (responding_to d token at key s b w).texts ≡ w.texts
+  responding_texts key true w = signalled_texts d token at (signal.Answer key s) w
+  responding_texts key false w = seated_texts d token at (of_room.Answer key s) w
 
   answering_texts : (o : Option transaction.Heard) (w : World) → (answering d token at s o w).texts ≡ w.texts
   answering_texts None w = refl
-  answering_texts (Some (heard.Fresh key message)) w = taking_texts key (course d (is_merged key.0 (live w.acts)) (are_full (calls_in d w).entries) (named_by s.heard (calls_in d w).entries) s.heard) w
-  answering_texts (Some (heard.Answer key message)) w = signalled_texts d token at (signal.Answer key s) w
+  answering_texts (Some (heard.Fresh key message)) w = taking_texts key (course d (is_merged key.0 (live w.acts)) (are_full (calls_in d w).entries) (holder_in d s.heard w) s.heard) w
+  answering_texts (Some (heard.Answer key message)) w = responding_texts key (is_of_calls (invite_answered s) (calls_in d w).entries) w
   answering_texts (Some (heard.Repeat sent)) w = repeating_texts sent w
   answering_texts (Some (heard.Acked key)) w = refl
   answering_texts (Some (heard.Cancel key invite message)) w = cancelling_texts key invite w
-  answering_texts (Some (heard.AckOf2xx message)) w = entering_texts (λ call side. signal.Ack call side s) (named_by s.heard (calls_in d w).entries) w
+  answering_texts (Some (heard.AckOf2xx message)) w = acknowledging_texts (holder_in d s.heard w) w
   answering_texts (Some heard.Stray) w = refl
 
   hearing_texts : (o : Option transaction.Heard) (w : World) → (hearing at s o w).texts ≡ w.texts
@@ -193,7 +277,7 @@ module _ (d : Directory) (token : List ℕ) where
   came_texts : (at : ℕ) (x : Digest) (took : Bool) (w : World) → (came d token at x took w).texts ≡ put_kept (kept_in d.names x) w.texts
   came_texts at x took w =
       let left : World = met d token at x (record (begun w) { clock = at }) in
-      handing_texts took (rows_waiting d left) left ∙ met_texts at x (record (begun w) { clock = at })
+      handing_texts took left.waiting left ∙ met_texts at x (record (begun w) { clock = at })
 
   more_texts : (fuel : ℕ) (x : Notice) (w : World) → (one_more d token fuel x w).texts ≡ put_kept (kept_in d.names x.digest) w.texts
   more_texts fuel x w =

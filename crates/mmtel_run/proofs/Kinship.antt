@@ -1,6 +1,6 @@
 -- Two messages of a peer that are equal without their private places are kin: the same is done with them, and what is built of them differs in texts to trusted peers alone.
-use Rattle.std.proofs.Common.{◌≡◌, ℕ, suc, List, [], ◌∷◌, length, refl, sym, ap, ◌∙◌, Bool, true, false, ◌&&◌, not, Option, Some, None, codes, map, subst, append-nil}
-use Rattle.std.specs.Prelude.{◌||◌, is_none, is_some, if◌then◌else◌, Ok, Err}
+use Rattle.std.proofs.Common.{◌≡◌, List, [], refl, sym, ap, ◌∙◌, Bool, true, false, ◌&&◌, Option, Some, None, codes, subst}
+use Rattle.std.specs.Prelude.{is_none, is_some, if◌then◌else◌, Ok, Err}
 use Rattle.std.specs.declared.result.Result.{Result}
 use Rattle.mmtel_answers.specs.Answers.{own_reply}
 use Rattle.mmtel_directory.specs.declared.directories.Directory.{Directory}
@@ -11,7 +11,7 @@ use Rattle.mmtel_masks.specs.Heads.{HeardAlikeHaveOneHead}
 use Rattle.mmtel_masks.specs.Responses.{AlikeResponsesHaveOneHead}
 use Rattle.mmtel_message.specs.Addresses.{contact_text}
 use Rattle.mmtel_message.specs.Faults.{is_method, is_request}
-use Rattle.mmtel_message.specs.Message.{Line, Message}
+use Rattle.mmtel_message.specs.Message.{Line}
 use Rattle.mmtel_message.specs.Responses.{Reply, response}
 use Rattle.mmtel_message.specs.declared.messages.Start.{Start}
 use Rattle.mmtel_message.specs.declared.messages.Start.TheVariants.{Request, Status}
@@ -24,15 +24,14 @@ use Rattle.mmtel_trust.specs.MaskedMessages.{DecideAlike, Masked, Restriction, h
 use Rattle.mmtel_trust.specs.declared.accounts.AccountIdentity.{AccountIdentity}
 use Rattle.mmtel_types.specs.declared.addrs.Addr.{Addr}
 use Rattle.mmtel_types.specs.declared.numbers.Account.{Account}
-use Rattle.mmtel_types.specs.declared.numbers.CallNo.{CallNo}
 use Rattle.mmtel_types.specs.declared.numbers.Peer.{Peer}
-use Rattle.mmtel_types.specs.declared.sides.Side.{Side}
 use Rattle.mmtel_run.specs.Alike.{EqualButForAccounts, Kin, MasksMakeKin, MasksNameTheRegistrant, said_by, trusts}
 use Rattle.mmtel_run.specs.Answers.{Answer, response_to}
 use Rattle.mmtel_run.specs.Events.{message_in}
 use Rattle.mmtel_run.specs.Calls.{named_by}
 use Rattle.mmtel_run.specs.Mask.{by_words, is_hiding, mask_said}
-use Rattle.mmtel_run.specs.Refusals.{Course, Refuse, Open, Unbuilt, by_method, course, course_by, course_of, first_that_applies, invited, is_factory, is_for_conference, is_register, is_room, refusals, registrant, registration, registration_of, to_account}
+use Rattle.mmtel_run.specs.Refusals.{Course, JoinRoom, OpenRoom, Refuse, by_method, course, course_by, course_of, first_that_applies, invited, invited_at, invited_to, is_factory, is_register, is_room, opening, refusals, registrant, registration, registration_of, room_number, to_account, with_audio}
+use Rattle.mmtel_run.specs.Rooms.{Holder, seat_by}
 use Rattle.mmtel_run.specs.Answers.{allowing, plainly}
 
 -- the laws of the lower layers that this rests on
@@ -49,48 +48,55 @@ true_false e = cc
 -- ---- configurations that are equal but for accounts decide alike
 
 module _ (d e : Directory) (equal : EqualButForAccounts d e) where
-  conference_same : (target : Result Uri Refusal) → is_for_conference d target ≡ is_for_conference e target
-  conference_same (Ok target) =
-      ap (λ (s : Addr). is_room s target || is_factory d.factory target) equal.sip
-      ∙ ap (λ (f : Option Uri). is_room e.sip target || is_factory f target) equal.factory
-  conference_same (Err refusal) = refl
+  target_same : (full : Bool) (m : HeardMessage) (target : Uri) → invited_to d full m target ≡ invited_to e full m target
+  target_same full m target =
+      ap (λ (f : Option Uri).
+      if is_factory f target then with_audio m OpenRoom
+      else if is_room d.sip target then with_audio m (JoinRoom (room_number d.sip target))
+      else opening full) equal.factory
+      ∙ ap (λ (s : Addr).
+      if is_factory e.factory target then with_audio m OpenRoom
+      else if is_room s target then with_audio m (JoinRoom (room_number s target))
+      else opening full) equal.sip
+
+  read_same : (full : Bool) (m : HeardMessage) (target : Result Uri Refusal) → invited_at d full m target ≡ invited_at e full m target
+  read_same full m (Ok target) = target_same full m target
+  read_same full m (Err refusal) = refl
 
   invited_same : (full : Bool) (m : HeardMessage) → invited d full m ≡ invited e full m
-  invited_same full m = ap (λ (b : Bool). if b then Unbuilt else if full then Refuse (plainly 503) else Open) (conference_same (uri_of (request_uri m.start)))
+  invited_same full m = read_same full m (uri_of (request_uri m.start))
 
   -- the account that a REGISTER names, if it is asked for
   registered_by : (b c : Bool) (o p : Option Account) (m : HeardMessage) → (if b && c then o else None) ≡ (if b && c then p else None)
-      → (if c then (if b then registration_of o m else Refuse (plainly 403)) else Unbuilt) ≡ (if c then (if b then registration_of p m else Refuse (plainly 403)) else Unbuilt)
+      → (if c then (if b then registration_of o m else Refuse (plainly 403)) else Refuse (plainly 481)) ≡ (if c then (if b then registration_of p m else Refuse (plainly 403)) else Refuse (plainly 481))
   registered_by b false o p m same = refl
   registered_by false true o p m same = refl
   registered_by true true o p m same = ap (λ (x : Option Account). registration_of x m) same
 
   registered_same : (m : HeardMessage) → registrant d.names.accounts m ≡ registrant e.names.accounts m
-      → (if is_register m then registration d.names.accounts m else Unbuilt) ≡ (if is_register m then registration e.names.accounts m else Unbuilt)
+      → (if is_register m then registration d.names.accounts m else Refuse (plainly 481)) ≡ (if is_register m then registration e.names.accounts m else Refuse (plainly 481))
   registered_same m same = registered_by m.trusted (is_register m) (to_account d.names.accounts m) (to_account e.names.accounts m) m same
 
   method_same : (full : Bool) (m : HeardMessage) → registrant d.names.accounts m ≡ registrant e.names.accounts m → by_method d full m ≡ by_method e full m
   method_same full m same =
       ap (λ (c : Course).
       if is_method (codes "OPTIONS") m.start then Refuse (allowing 200)
-      else if is_method (codes "BYE") m.start then Refuse (plainly 481)
       else if is_method (codes "REFER") m.start then Refuse (plainly 403)
       else if is_method (codes "INVITE") m.start then c
       else if is_register m then registration d.names.accounts m
-      else Unbuilt) (invited_same full m)
+      else Refuse (plainly 481)) (invited_same full m)
       ∙ ap (λ (c : Course).
       if is_method (codes "OPTIONS") m.start then Refuse (allowing 200)
-      else if is_method (codes "BYE") m.start then Refuse (plainly 481)
       else if is_method (codes "REFER") m.start then Refuse (plainly 403)
       else if is_method (codes "INVITE") m.start then invited e full m
       else c) (registered_same m same)
 
-  course_same : (full : Bool) (named : Option (CallNo × Side)) (m : HeardMessage) (o : Option Answer) → registrant d.names.accounts m ≡ registrant e.names.accounts m → course_by d full named m o ≡ course_by e full named m o
+  course_same : (full : Bool) (named : Option Holder) (m : HeardMessage) (o : Option Answer) → registrant d.names.accounts m ≡ registrant e.names.accounts m → course_by d full named m o ≡ course_by e full named m o
   course_same full None m None same = method_same full m same
   course_same full (Some named) m None same = refl
   course_same full named m (Some answer) same = refl
 
-  decided_alike : (merged full : Bool) (named : Option (CallNo × Side)) (m n : HeardMessage) → public_part m ≡ public_part n → registrant d.names.accounts m ≡ registrant e.names.accounts n
+  decided_alike : (merged full : Bool) (named : Option Holder) (m n : HeardMessage) → public_part m ≡ public_part n → registrant d.names.accounts m ≡ registrant e.names.accounts n
       → course d merged full named m ≡ course e merged full named n
   unfolding course
   decided_alike merged full named m n public same =
@@ -107,6 +113,7 @@ module _ (d e : Directory) (equal : EqualButForAccounts d e) where
     head = refl;
     to_tag = refl;
     named = λ entries. refl;
+    seated = λ live. refl;
     decided = λ merged full named. decided_alike merged full named m m refl register;
     answer_head = λ tag answer. ap (λ (s : Addr). head_of (response_to s tag (said_by peer source m) answer)) equal.sip;
     answer = λ strange tag answer. ap (λ (s : Addr). response_to s tag (said_by peer source m) answer) equal.sip;
@@ -162,6 +169,7 @@ module _ (d e : Directory) (equal : EqualButForAccounts d e) where
       head = heads (places_of by_words [] m) (places_of by_words [] n) m n left;
       to_tag = ap (λ (x : HeardMessage). x.to_tag) alike.public;
       named = λ entries. ap (λ (x : HeardMessage). named_by x entries) alike.public;
+      seated = λ live. ap (λ (x : HeardMessage). seat_by x live) alike.public;
       decided = λ merged full named. decided_alike merged full named m n alike.public register;
       answer_head = λ tag answer.
           ap (λ (s : Addr). head_of (response_to s tag (said_by peer source m) answer)) equal.sip

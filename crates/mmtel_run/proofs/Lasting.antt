@@ -1,5 +1,5 @@
 -- What deadlines make of all calls together: where one brings anything forth, they have fewer ways to go than before.
-use Rattle.std.proofs.Common.{◌≡◌, ℕ, suc, ◌+◌, ◌≤◌, ◌<◌, List, [], ◌∷◌, ◌++◌, length, refl, ap, sym, ◌∙◌, Bool, true, false, Option, Some, None, inl, inr, arith, subst}
+use Rattle.std.proofs.Common.{◌≡◌, ℕ, suc, ◌+◌, ◌≤◌, ◌<◌, List, [], length, refl, ap, sym, ◌∙◌, Bool, true, false, Option, Some, None, inl, inr, arith, subst}
 use Rattle.std.specs.Prelude.{◌⊎◌, position, remove, slice_get, slice_set, sum_by, if◌then◌else◌}
 use Rattle.std.proofs.lemmas.List.Sums.{sum_by-remove, sum_by-set}
 use Rattle.std.proofs.lemmas.Option.{get_or_from_slice_get, slice_get_within}
@@ -13,7 +13,6 @@ use Rattle.mmtel_call.specs.Closing.{Step}
 use Rattle.mmtel_call.specs.Settled.{is_settled}
 use Rattle.mmtel_call.specs.Site.{Site}
 use Rattle.mmtel_call.specs.Table.{invite_silent}
-use Rattle.mmtel_call.specs.declared.calls.Call.{Call}
 use Rattle.mmtel_call.specs.declared.signals.Signal.{Signal}
 use Rattle.mmtel_call.specs.declared.signals.Signal.TheVariants as of_call
 use Rattle.mmtel_desk.specs.declared.desks.Desk.{Desk}
@@ -32,26 +31,27 @@ all_ways es = sum_by ways_of es
 abbrev pub Fades : List Entry → Desk → Moved → Type 0
 Fades es desk m = ((m.desk.out ≡ desk.out) × (all_ways m.entries ≤ all_ways es)) ⊎ (suc (all_ways m.entries) ≤ all_ways es)
 
--- one in the place of another
-put_ways : (b : Bool) (place : ℕ) (e x : Entry) (es : List Entry) → slice_get es place ≡ Some e → all_ways (if b then remove (slice_set es place x) place else slice_set es place x) + ways_of e ≤ all_ways es + ways_of x
-put_ways false place e x es there =
-    let set : all_ways (slice_set es place x) + ways_of e ≡ all_ways es + ways_of x =
-    ap (λ (y : Entry). all_ways (slice_set es place x) + ways_of y) (sym (get_or_from_slice_get es place e x there)) ∙ sum_by-set ways_of es place x x (slice_get_within es place e there) in
+-- one in the place of another, or none
+pub put_sum : {X : Type 0} (f : X → ℕ) (b : Bool) (place : ℕ) (e x : X) (es : List X) → slice_get es place ≡ Some e →
+    sum_by f (if b then remove (slice_set es place x) place else slice_set es place x) + f e ≤ sum_by f es + f x
+put_sum {X} f false place e x es there =
+    let set : sum_by f (slice_set es place x) + f e ≡ sum_by f es + f x =
+    ap (λ (y : X). sum_by f (slice_set es place x) + f y) (sym (get_or_from_slice_get es place e x there)) ∙ sum_by-set f es place x x (slice_get_within es place e there) in
     omega (arith, set)
-put_ways true place e x es there =
-    let set : all_ways (slice_set es place x) + ways_of e ≡ all_ways es + ways_of x =
-    ap (λ (y : Entry). all_ways (slice_set es place x) + ways_of y) (sym (get_or_from_slice_get es place e x there)) ∙ sum_by-set ways_of es place x x (slice_get_within es place e there) in
+put_sum {X} f true place e x es there =
+    let set : sum_by f (slice_set es place x) + f e ≡ sum_by f es + f x =
+    ap (λ (y : X). sum_by f (slice_set es place x) + f y) (sym (get_or_from_slice_get es place e x there)) ∙ sum_by-set f es place x x (slice_get_within es place e there) in
     let inside : place < length (slice_set es place x) = subst (λ (n : ℕ). place < n) (sym (length-set es place x)) (slice_get_within es place e there) in
-    let removed = sum_by-remove ways_of (slice_set es place x) place x inside in
+    let removed = sum_by-remove f (slice_set es place x) place x inside in
     omega (arith, set, removed)
 
 by-fades : (place : ℕ) (e : Entry) (s : Step) (es : List Entry) (desk : Desk) → slice_get es place ≡ Some e → Wanes e.call desk s → Fades es desk (moved_by place [] e s es)
 by-fades place e s es desk there (inl quiet) =
-    let put = put_ways (is_settled (entry_after [] s e).call) place e (entry_after [] s e) es there in
+    let put = put_sum ways_of (is_settled (entry_after [] s e).call) place e (entry_after [] s e) es there in
     let less : ways s.call ≤ ways e.call = quiet.1 in
     inl (quiet.0, omega (arith, put, less))
 by-fades place e s es desk there (inr less) =
-    let put = put_ways (is_settled (entry_after [] s e).call) place e (entry_after [] s e) es there in
+    let put = put_sum ways_of (is_settled (entry_after [] s e).call) place e (entry_after [] s e) es there in
     let fewer : suc (ways s.call) ≤ ways e.call = less in
     inr (omega (arith, put, fewer))
 

@@ -1,7 +1,11 @@
+mod Accessing
 mod Drawing
+mod DrawingInRooms
 mod Earlier
+mod Emptying
 mod Enough
 mod Filed
+mod ForAudio
 mod InForce
 mod Kinship
 mod Lasting

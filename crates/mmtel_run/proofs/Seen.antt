@@ -2,7 +2,7 @@
 use Rattle.std.proofs.Common.{◌≡◌, ℕ, List, [], refl, ap, ◌∙◌, Option, Some, None}
 use Rattle.std.specs.Prelude.{Bool, position, slice_get}
 use Rattle.mmtel_b2bua.specs.Entries.{busy_beside, heard_by, is_numbered, sent_it}
-use Rattle.mmtel_b2bua.specs.Tables.{Moved, arrived, busy_with, heard, invites_by, moved_at, moved_by, moved_in, open_of, opened_by, standing, step_of, taken}
+use Rattle.mmtel_b2bua.specs.Tables.{arrived, busy_with, heard, invites_by, moved_at, moved_by, moved_in, open_of, opened_by, standing, step_of, taken}
 use Rattle.mmtel_b2bua.specs.declared.entries.Entry.{Entry}
 use Rattle.mmtel_b2bua.specs.declared.entries.InviteKey.{InviteKey}
 use Rattle.mmtel_b2bua.specs.declared.signals.Signal.{Signal}

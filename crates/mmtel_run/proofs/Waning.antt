@@ -1,6 +1,6 @@
 -- What deadlines make of calls: where one brings anything forth, the call has fewer ways to go than before. So deadlines come to an end.
-use Rattle.std.proofs.Common.{◌≡◌, ℕ, zero, suc, ◌+◌, ◌≤◌, List, [], ◌∷◌, ◌++◌, refl, sym, ap, ◌∙◌, Bool, true, false, Option, Some, None, inl, inr, arith, subst}
-use Rattle.std.specs.Prelude.{◌⊎◌, ◌==◌, nat_lt, position, remove, slice_get, slice_set, sum_by, if◌then◌else◌}
+use Rattle.std.proofs.Common.{◌≡◌, ℕ, zero, suc, ◌+◌, ◌≤◌, List, refl, ap, Bool, true, false, Option, Some, None, inl, inr, arith}
+use Rattle.std.specs.Prelude.{◌⊎◌, ◌==◌, if◌then◌else◌}
 use Rattle.mmtel_answers.specs.Said.{Said}
 use Rattle.mmtel_call.specs.declared.calls.Call.{Call}
 use Rattle.mmtel_call.specs.declared.calls.Pair.{Pair}
@@ -17,7 +17,7 @@ use Rattle.mmtel_call.specs.Diverting.{at_target, divert, diverted, goes_on, han
 use Rattle.mmtel_call.specs.Leaving.{without_key, without_silent}
 use Rattle.mmtel_call.specs.Ringing.{cancelled_attempt, left, on_due, timed_out}
 use Rattle.mmtel_call.specs.Site.{Site}
-use Rattle.mmtel_call.specs.Stages.{is_due_at, on_due_at, on_silence_at, rung_out}
+use Rattle.mmtel_call.specs.Stages.{is_due_at, on_silence_at, rung_out}
 use Rattle.mmtel_call.specs.Table.{due_in, invite_silent, is_current, silence_in, silence_of, step}
 use Rattle.mmtel_call.specs.declared.signals.Signal.{Signal}
 use Rattle.mmtel_call.specs.declared.signals.Signal.TheVariants as signal
@@ -31,7 +31,6 @@ use Rattle.mmtel_precedence.specs.Turns.{AfterEnd, EndAnswered, EndDivert, EndRe
 use Rattle.mmtel_targets.specs.declared.targets.Target.{Target}
 use Rattle.mmtel_transaction.specs.declared.words.DueWord.{DueWord}
 use Rattle.mmtel_transaction.specs.declared.words.DueWord.TheVariants as due
-use Rattle.mmtel_transaction.specs.declared.words.TKey.{TKey}
 use Rattle.mmtel_types.specs.declared.causes.Cause.{Cause}
 use Rattle.mmtel_types.specs.declared.numbers.Peer.{Peer}
 

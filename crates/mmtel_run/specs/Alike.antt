@@ -3,18 +3,18 @@ use Rattle.std.specs.Prelude.{◌≡◌, ℕ, Bool, false, List, Option}
 use Rattle.mmtel_answers.specs.Said.{Said}
 use Rattle.mmtel_b2bua.specs.declared.entries.Entry.{Entry}
 use Rattle.mmtel_directory.specs.declared.directories.Directory.{Directory}
+use Rattle.mmtel_focus.specs.Rooms.{Room}
 use Rattle.mmtel_transaction.specs.Heads.{head_of}
 use Rattle.mmtel_trust.specs.Digest.{HeardMessage}
 use Rattle.mmtel_trust.specs.Peers.{is_trusted}
 use Rattle.mmtel_types.specs.declared.addrs.Addr.{Addr}
-use Rattle.mmtel_types.specs.declared.numbers.CallNo.{CallNo}
 use Rattle.mmtel_types.specs.declared.numbers.Peer.{Peer}
-use Rattle.mmtel_types.specs.declared.sides.Side.{Side}
 use Rattle.mmtel_run.specs.Answers.{Answer, response_to}
 use Rattle.mmtel_run.specs.Calls.{named_by}
 use Rattle.mmtel_run.specs.Events.{message_in}
 use Rattle.mmtel_run.specs.Mask.{mask_said}
 use Rattle.mmtel_run.specs.Refusals.{course, registrant}
+use Rattle.mmtel_run.specs.Rooms.{Holder, seat_by}
 
 -- ---- configurations
 
@@ -23,6 +23,8 @@ pub record EqualButForAccounts (one other : Directory) : Type 0 where
   pub sip : one.sip ≡ other.sip
   pub home : one.home ≡ other.home
   pub factory : one.factory ≡ other.factory
+  -- it goes out to the seats of rooms
+  pub mixer : one.mixer ≡ other.mixer
   pub peers : one.peers ≡ other.peers
 
 abbrev pub trusts : Directory → Peer → Bool
@@ -41,7 +43,8 @@ pub record Kin (one other : Directory) (peer : Peer) (source : Addr) (message se
   pub to_tag : message.to_tag ≡ second.to_tag
   -- whose dialog they name, and what is done with them
   pub named : (entries : List Entry) → named_by message entries ≡ named_by second entries
-  pub decided : (merged full : Bool) (named : Option (CallNo × Side)) → course one merged full named message ≡ course other merged full named second
+  pub seated : (live : List Room) → seat_by message live ≡ seat_by second live
+  pub decided : (merged full : Bool) (named : Option Holder) → course one merged full named message ≡ course other merged full named second
   -- the answers to them
   pub answer_head : (tag : List ℕ) (answer : Answer) → head_of (response_to one.sip tag (said_by peer source message) answer) ≡ head_of (response_to other.sip tag (said_by peer source second) answer)
   pub answer : trusts one peer ≡ false → (tag : List ℕ) (answer : Answer) → response_to one.sip tag (said_by peer source message) answer ≡ response_to other.sip tag (said_by peer source second) answer

@@ -1,5 +1,5 @@
--- To which call a message belongs, whether it is over or not and from whichever peer it comes, and what the calls are told (RFC 3261 §9.2, §12.2.2, §17.1.3; RFC 5502 §6).
-use Rattle.std.specs.Prelude.{ℕ, nat_le, Bool, List, [], ◌∷◌, Option, Some, None, count_by}
+-- To which call a message belongs, from whichever peer it comes, and what the calls are told (RFC 3261 §9.2, §12.2.2, §17.1.3; RFC 5502 §6).
+use Rattle.std.specs.Prelude.{ℕ, nat_le, Bool, List, Option, Some, None, count_by}
 use Rattle.mmtel_answers.specs.Said.{Said}
 use Rattle.mmtel_b2bua.specs.Entries.{is_live}
 use Rattle.mmtel_b2bua.specs.Histories.{Deed, table_after}

@@ -1,28 +1,43 @@
--- The deadlines of calls, and which of all deadlines comes first (RFC 3261 §17; §13.3.1.4, TS 24.604 §4.8).
+-- The deadlines of calls and of seats of rooms, and which of all deadlines comes first (RFC 3261 §17; §13.3.1.4, TS 24.604 §4.8, RFC 3515 §2.4.5).
 use Rattle.std.specs.Prelude.{ℕ, ◌==◌, ◌&&◌, ◌||◌, nat_lt, nat_le, Bool, true, false, if◌then◌else◌, List, [], ◌∷◌, Option, Some, None}
 use Rattle.mmtel_transaction.specs.Answers.{Next}
 use Rattle.mmtel_transaction.specs.declared.words.DueWord.{DueWord}
 use Rattle.mmtel_transaction.specs.declared.words.DueWord.TheVariants as due
+use Rattle.mmtel_transaction.specs.declared.words.RoomWord.{RoomWord}
+use Rattle.mmtel_transaction.specs.declared.words.RoomWord.TheVariants as of_seat
 use Rattle.mmtel_types.specs.declared.numbers.CallNo.{CallNo}
+use Rattle.mmtel_types.specs.declared.numbers.RoomNo.{RoomNo}
 
--- ---- deadlines of calls
+-- ---- deadlines of calls and seats
 
--- what is due of a call, its moment, and the step in which it was armed
+-- what is due, of a call or of a seat of a room
+pub data Alarm : Type 0 where
+  OfCall : (call : CallNo) → (what : DueWord) → Alarm
+  OfSeat : (room : RoomNo) → (seat : ℕ) → (what : RoomWord) → Alarm
+
+-- it, its moment, and the step in which it was armed
 pub record Armed : Type 0 where
-  pub call : CallNo
-  pub what : DueWord
+  pub alarm : Alarm
   pub at : ℕ
   pub step : ℕ
 
--- the order of those of one call that were armed in one step for one moment
-abbrev pub rank : DueWord → ℕ
-rank (due.NoReply attempt) = 0
-rank (due.Cap attempt) = 1
-rank (due.NoAck success) = 2
+-- the order of those that were armed in one step for one moment: they are of one call, or of one seat
+abbrev pub call_rank : DueWord → ℕ
+call_rank (due.NoReply attempt) = 0
+call_rank (due.Cap attempt) = 1
+call_rank (due.NoAck success) = 2
+
+abbrev pub seat_rank : RoomWord → ℕ
+seat_rank (of_seat.Cap invitation) = 1
+seat_rank (of_seat.NoAck success) = 2
+
+abbrev pub rank : Alarm → ℕ
+rank (OfCall call what) = call_rank what
+rank (OfSeat room seat what) = seat_rank what
 
 -- by moment, then by the step that armed them, then by that order
 abbrev pub is_sooner : Armed → Armed → Bool
-is_sooner one other = nat_lt one.at other.at || (one.at == other.at && (nat_lt one.step other.step || (one.step == other.step && nat_lt (rank one.what) (rank other.what))))
+is_sooner one other = nat_lt one.at other.at || (one.at == other.at && (nat_lt one.step other.step || (one.step == other.step && nat_lt (rank one.alarm) (rank other.alarm))))
 
 -- a deadline, and the others
 pub record Chosen : Type 0 where
@@ -50,17 +65,17 @@ first_armed now (armed ∷ others) = chosen (nat_le armed.at now) armed others (
 
 -- ---- all deadlines
 
--- the first one: of a message, or of a call, with the other ones of calls
+-- the first one: of a message, or of a call or a seat, with the other ones of calls and seats
 pub data Deadline : Type 0 where
   OfMessage : Deadline
-  OfCall : (armed : Armed) → (others : List Armed) → Deadline
+  OfAlarm : (armed : Armed) → (others : List Armed) → Deadline
 
--- that of a message comes before that of a call, unless its moment is later, or of one moment its step
+-- that of a message comes before that of a call or a seat, unless its moment is later, or of one moment its step
 abbrev pub comes_before : Next → Armed → Bool
 comes_before next armed = nat_lt next.at armed.at || (next.at == armed.at && nat_le next.entry.step armed.step)
 
 abbrev pub first_of : Option Next → Option Chosen → Option Deadline
 first_of None None = None
 first_of (Some next) None = Some OfMessage
-first_of None (Some call) = Some (OfCall call.first call.others)
-first_of (Some next) (Some call) = if comes_before next call.first then Some OfMessage else Some (OfCall call.first call.others)
+first_of None (Some alarm) = Some (OfAlarm alarm.first alarm.others)
+first_of (Some next) (Some alarm) = if comes_before next alarm.first then Some OfMessage else Some (OfAlarm alarm.first alarm.others)

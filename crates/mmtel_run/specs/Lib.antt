@@ -4,14 +4,17 @@ pub mod Headline
 -- What it hears, what was done in it, and what each deed adds:
 pub mod Events
 pub mod World
--- Which deadline comes first, and to which call a message belongs:
+-- Which deadline comes first, and to which call or room a message belongs:
 pub mod Deadlines
 pub mod Calls
+pub mod Rooms
+pub mod Access
 -- The records in force, and the registrations:
 pub mod Records
 pub mod InForce
 -- What is done with a request, and what is answered:
 pub mod Refusals
+pub mod Audio
 pub mod Answers
 -- The run:
 pub mod Run

@@ -9,7 +9,7 @@ use Rattle.mmtel_types.specs.declared.privacy.PrivacySet.{PrivacySet}
 abbrev pub is_hiding : PrivacySet → Bool
 is_hiding wants = wants.id || (wants.user || wants.header)
 
--- at this stage the words of Privacy alone restrict a caller, and no account is asked for
+-- by the words of Privacy alone a caller is restricted, and no account is asked for
 abbrev pub by_words : Restriction
 by_words wants account = is_hiding wants
 

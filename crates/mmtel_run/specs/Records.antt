@@ -1,5 +1,5 @@
 -- What becomes of registrations, each of which stands until a moment (RFC 3261 §10.3); and what the calls are told of records and registrations.
-use Rattle.std.specs.Prelude.{ℕ, ◌+◌, ◌*◌, min, List, [], ◌∷◌, Some}
+use Rattle.std.specs.Prelude.{ℕ, ◌+◌, ◌*◌, min, [], ◌∷◌, Some}
 use Rattle.mmtel_in_force.specs.Texts.{Registrations, Texts}
 use Rattle.mmtel_sheet_grammar.specs.Texts.{kept_sheet}
 use Rattle.mmtel_sheet_values.specs.View.{InForce, nothing_in_force, with_end, with_sheet}

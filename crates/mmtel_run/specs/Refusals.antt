@@ -1,8 +1,10 @@
 -- What is done with a request that opens a transaction: the first refusal that applies (RFC 3261 §8.2), or what its dialog or its method asks for. It reads public parts alone.
-use Rattle.std.specs.Prelude.{ℕ, Bool, true, false, not, ◌&&◌, ◌||◌, ◌==◌, if◌then◌else◌, List, [], ◌∷◌, length, codes, Option, Some, None, is_none, is_some, Ok, Err}
+use Rattle.std.specs.Prelude.{ℕ, Bool, true, false, not, ◌&&◌, ◌==◌, if◌then◌else◌, List, [], ◌∷◌, length, codes, Option, Some, None, is_none, is_some, Ok, Err}
 use Rattle.std.specs.List.{list_all, list_any}
+use Rattle.std.specs.Option.{unwrap_or}
 use Rattle.std.specs.declared.result.Result.{Result}
 use Rattle.mmtel_directory.specs.declared.directories.Directory.{Directory}
+use Rattle.mmtel_focus.specs.Texts.{room_in}
 use Rattle.mmtel_leg.specs.Dialogues.{request_uri}
 use Rattle.mmtel_lex.specs.Reading.{uri_of, Refusal, foreign, malformed}
 use Rattle.mmtel_lex.specs.SameIdentity.{is_same_identity}
@@ -16,6 +18,7 @@ use Rattle.mmtel_scan.specs.Classes.{in_class}
 use Rattle.mmtel_scan.specs.Numbers.{leads_zero}
 use Rattle.mmtel_scan.specs.Scanning.{after_text}
 use Rattle.mmtel_scan.specs.declared.classes.Class.TheVariants.{Digit}
+use Rattle.mmtel_sdp.specs.Offers.{offers_audio}
 use Rattle.mmtel_trust.specs.Digest.{HeardMessage}
 use Rattle.mmtel_trust.specs.MaskedMessages.{public_part}
 use Rattle.mmtel_trust.specs.Accounts.{account_of}
@@ -24,8 +27,10 @@ use Rattle.mmtel_trust.specs.declared.accounts.AccountIdentity.{AccountIdentity}
 use Rattle.mmtel_types.specs.declared.addrs.Addr.{Addr}
 use Rattle.mmtel_types.specs.declared.numbers.Account.{Account}
 use Rattle.mmtel_types.specs.declared.numbers.CallNo.{CallNo}
+use Rattle.mmtel_types.specs.declared.numbers.RoomNo.{RoomNo}
 use Rattle.mmtel_types.specs.declared.sides.Side.{Side}
 use Rattle.mmtel_run.specs.Answers.{Answer, allowing, plainly, unsupported, without_extension}
+use Rattle.mmtel_run.specs.Rooms.{Holder, InCall, InRoom}
 
 -- ---- what may be done
 
@@ -34,12 +39,16 @@ pub data Course : Type 0 where
   Refuse : (answer : Answer) → Course
   -- it is heard in the dialog of this side of a call
   Enter : (call : CallNo) → (side : Side) → Course
+  -- it is heard in the dialog of this seat of a room
+  EnterRoom : (room : RoomNo) → (seat : ℕ) → Course
   -- it opens a call
   Open : Course
+  -- it opens a room (RFC 4579 §5.4)
+  OpenRoom : Course
+  -- it asks for a seat in a room (RFC 4579 §5.1)
+  JoinRoom : (room : RoomNo) → Course
   -- it registers an account for so many seconds
   Register : (account : Account) → (seconds : ℕ) → Course
-  -- it is of a form that is not built yet
-  Unbuilt : Course
 
 -- ---- the refusals
 
@@ -63,7 +72,7 @@ abbrev pub is_last_hop : Option ℕ → Bool
 is_last_hop None = false
 is_last_hop (Some hops) = hops == 0
 
--- each refusal with its condition, in their order. `merged` says that another live transaction has its From tag, Call-ID and CSeq (§8.2.2.2), `named` that its dialog is that of a call (§12.2.2)
+-- each refusal with its condition, in their order. `merged` says that another live transaction has its From tag, Call-ID and CSeq (§8.2.2.2), `named` that its dialog is that of a call or of a seat (§12.2.2)
 abbrev pub refusals : (merged named : Bool) → HeardMessage → List (Bool × Answer)
 refusals merged named message =
     (not (is_known_method message.start), allowing 405) ∷
@@ -97,21 +106,32 @@ abbrev pub is_factory : (factory : Option Uri) → Uri → Bool
 is_factory None target = false
 is_factory (Some uri) target = is_same_identity uri target
 
--- a conference room of the server, or the factory of rooms (RFC 4579 §5.4): an INVITE to one is not built yet
-abbrev pub is_of_conference : Directory → Uri → Bool
-is_of_conference directory target = is_room directory.sip target || is_factory directory.factory target
+-- its number; 0, which no room has, for one that is too great
+abbrev pub room_number : (sip : Addr) → Uri → RoomNo
+room_number sip target = record { 0 = unwrap_or (room_in sip target) 0 }
 
--- a Request-URI that cannot be read is of none
-abbrev pub is_for_conference : Directory → Result Uri Refusal → Bool
-is_for_conference directory (Ok target) = is_of_conference directory target
-is_for_conference directory (Err refusal) = false
+-- the mixer takes audio alone (RFC 3264 §6)
+abbrev pub with_audio : HeardMessage → Course → Course
+with_audio message course = if offers_audio message.body then course else Refuse (plainly 488)
 
 -- it opens a call, unless as many live as may (`full`)
+abbrev pub opening : (full : Bool) → Course
+opening full = if full then Refuse (plainly 503) else Open
+
+-- to the factory of rooms, to a conference room of the server, whether it is live or not, or to anybody else
+abbrev pub invited_to : Directory → (full : Bool) → HeardMessage → Uri → Course
+invited_to directory full message target =
+    if is_factory directory.factory target then with_audio message OpenRoom
+    else if is_room directory.sip target then with_audio message (JoinRoom (room_number directory.sip target))
+    else opening full
+
+-- a Request-URI that cannot be read is of no conference
+abbrev pub invited_at : Directory → (full : Bool) → HeardMessage → Result Uri Refusal → Course
+invited_at directory full message (Ok target) = invited_to directory full message target
+invited_at directory full message (Err refusal) = opening full
+
 abbrev pub invited : Directory → (full : Bool) → HeardMessage → Course
-invited directory full message =
-    if is_for_conference directory (uri_of (request_uri message.start)) then Unbuilt
-    else if full then Refuse (plainly 503)
-    else Open
+invited directory full message = invited_at directory full message (uri_of (request_uri message.start))
 
 -- ---- REGISTER (§10.3), by which the core tells of a registration (3GPP TS 24.229 §5.4.1.7, §5.7.1.1)
 
@@ -145,29 +165,33 @@ registrant accounts message = if message.trusted && is_register message then to_
 
 -- ---- what is not refused
 
--- by its method: OPTIONS is answered, BYE and REFER are of a dialog
+-- by its method: OPTIONS is answered, REFER, BYE and what else there may be are of a dialog
 abbrev pub by_method : Directory → (full : Bool) → HeardMessage → Course
 by_method directory full message =
     if is_method (codes "OPTIONS") message.start then Refuse (allowing 200)
-    else if is_method (codes "BYE") message.start then Refuse (plainly 481)
     else if is_method (codes "REFER") message.start then Refuse (plainly 403)
     else if is_method (codes "INVITE") message.start then invited directory full message
     else if is_register message then registration directory.names.accounts message
-    else Unbuilt
+    else Refuse (plainly 481)
+
+-- in the dialog of whoever has it
+abbrev pub in_dialog : Holder → Course
+in_dialog (InCall call side) = Enter call side
+in_dialog (InRoom room seat) = EnterRoom room seat
 
 -- in its dialog, where it has one
-abbrev pub course_in : Directory → (full : Bool) → (named : Option (CallNo × Side)) → HeardMessage → Course
+abbrev pub course_in : Directory → (full : Bool) → (named : Option Holder) → HeardMessage → Course
 course_in directory full None message = by_method directory full message
-course_in directory full (Some named) message = Enter named.0 named.1
+course_in directory full (Some holder) message = in_dialog holder
 
-abbrev pub course_by : Directory → (full : Bool) → (named : Option (CallNo × Side)) → HeardMessage → Option Answer → Course
+abbrev pub course_by : Directory → (full : Bool) → (named : Option Holder) → HeardMessage → Option Answer → Course
 course_by directory full named message None = course_in directory full named message
 course_by directory full named message (Some answer) = Refuse answer
 
 -- the first refusal that applies decides, and without one its dialog or its method
-abbrev pub course_of : Directory → (merged full : Bool) → (named : Option (CallNo × Side)) → HeardMessage → Course
+abbrev pub course_of : Directory → (merged full : Bool) → (named : Option Holder) → HeardMessage → Course
 course_of directory merged full named message = course_by directory full named message (first_that_applies (refusals merged (is_some named) message))
 
 -- of its public part
-unfoldable pub course : Directory → (merged full : Bool) → (named : Option (CallNo × Side)) → HeardMessage → Course
+unfoldable pub course : Directory → (merged full : Bool) → (named : Option Holder) → HeardMessage → Course
 course directory merged full named message = course_of directory merged full named (public_part message)

@@ -1,8 +1,10 @@
 -- Runs that are not longer than numbers count: fewer than 2^60 steps, calls on a layer and numbers drawn. At one per nanosecond such a run takes 36 years.
 use Rattle.std.specs.Prelude.{◌≡◌, ◌<◌, ◌≤◌, ◌^◌, ℕ, List, length}
-use Rattle.mmtel_b2bua.specs.Histories.{Deed, Heard, hears_after}
+use Rattle.mmtel_b2bua.specs.Histories.{Deed, Heard, finished_by, hears_after, table_after}
 use Rattle.mmtel_call.specs.Site.{Site}
 use Rattle.mmtel_directory.specs.declared.directories.Directory.{Directory}
+use Rattle.mmtel_focus.specs.Histories as rooms
+use Rattle.mmtel_focus.specs.Site as focus
 use Rattle.mmtel_in_force.specs.Texts.{Texts}
 use Rattle.mmtel_transaction.specs.Tokens.{Drawn}
 use Rattle.mmtel_run.specs.Events.{Happened}
@@ -26,6 +28,24 @@ pub record DrawsOn (before after : Drawn) : Type 0 where
   pub same : after.token ≡ before.token
   pub on : after.drawn < 2 ^ 60 → before.drawn ≤ after.drawn
 
--- so it is with whatever calls hear
+-- so it is with whatever calls hear, and where one ends without its leg
 abbrev pub CallsDrawOn : Type 0
 CallsDrawOn = (site : Site) (deeds : List Deed) (heard : Heard) → DrawsOn heard.tokens (hears_after site deeds heard).desk.tokens
+
+abbrev pub CallsEndOn : Type 0
+CallsEndOn = (site : Site) (deeds : List Deed) (number at : ℕ) (tokens : Drawn) → DrawsOn tokens (finished_by site number at tokens (table_after site deeds)).desk.tokens
+
+-- the tokens that a deed on the rooms is given
+abbrev pub tokens_of : rooms.Deed → Drawn
+tokens_of (rooms.Opens coming) = coming.tokens
+tokens_of (rooms.Joins room coming) = coming.tokens
+tokens_of (rooms.Adopts room adoption) = adoption.tokens
+tokens_of (rooms.Notifies room seat code tokens) = tokens
+tokens_of (rooms.Hears heard) = heard.tokens
+tokens_of (rooms.Leaves room seat) = rooms.no_tokens
+tokens_of (rooms.Closes room) = rooms.no_tokens
+tokens_of (rooms.Drops count) = rooms.no_tokens
+
+-- and with whatever is done on rooms
+abbrev pub RoomsDrawOn : Type 0
+RoomsDrawOn = (site : focus.Site) (deeds : List rooms.Deed) (deed : rooms.Deed) → DrawsOn (tokens_of deed) (rooms.brought_after site deeds deed).desk.tokens

@@ -9,4 +9,3 @@ abbrev pub view : Peer → List Offer → List (ℕ × List ℕ)
 view seer [] = []
 view seer (offer.To peer at text ∷ offers) = if peer.0 == seer.0 then (at, text) ∷ view seer offers else view seer offers
 view seer (offer.Web at text ∷ offers) = view seer offers
-view seer (offer.Unbuilt at ∷ offers) = view seer offers

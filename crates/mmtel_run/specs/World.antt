@@ -1,24 +1,41 @@
 -- What was done in a run so far, layer by layer, and what each deed adds. Of a layer stands the list of what was done on it, never a table: what was opened, is live, is due or waits is a function of that list. Of the records stands the text of each account, by the last one that was kept (`specs/InForce`).
-use Rattle.std.specs.Prelude.{ℕ, ◌+◌, ◌-◌, Bool, List, [], ◌∷◌, ◌++◌, length, Option, Some, None, if◌then◌else◌}
+use Rattle.std.specs.Prelude.{ℕ, ◌+◌, ◌-◌, Bool, true, false, List, [], ◌∷◌, ◌++◌, length, Option, Some, None, Result, Ok, Err, if◌then◌else◌}
 use Rattle.mmtel_answers.specs.Said.{Said}
 use Rattle.mmtel_b2bua.specs.Histories as histories
-use Rattle.mmtel_b2bua.specs.Histories.{Deed, Drops, Hears, hears_after}
+use Rattle.mmtel_b2bua.specs.Histories.{Deed, Drops, Finishes, Hears, Releases, Restores, finished_by, hears_after}
+use Rattle.mmtel_b2bua.specs.Lending.{leg_out}
+use Rattle.mmtel_b2bua.specs.Names.{party}
 use Rattle.mmtel_b2bua.specs.Tables.{Table}
+use Rattle.mmtel_b2bua.specs.declared.entries.Entry.{Entry}
 use Rattle.mmtel_b2bua.specs.declared.signals.Signal.{Signal}
 use Rattle.mmtel_b2bua.specs.declared.signals.Signal.TheVariants as signal
+use Rattle.mmtel_call.specs.Table.{invite_answered, invite_silent}
 use Rattle.mmtel_charging.specs.declared.rows.Row.{Row}
 use Rattle.mmtel_desk.specs.declared.desks.Desk.{Desk}
 use Rattle.mmtel_directory.specs.declared.directories.Directory.{Directory}
+use Rattle.mmtel_focus.specs.Histories as rooms
+use Rattle.mmtel_focus.specs.Histories.{brought_after, coming}
+use Rattle.mmtel_focus.specs.Rooms.{Room}
+use Rattle.mmtel_focus.specs.Table as tables
+use Rattle.mmtel_focus.specs.Table.{access, has_no_room}
+use Rattle.mmtel_focus.specs.declared.faults.RoomFault.{RoomFault}
+use Rattle.mmtel_focus.specs.declared.referrals.Replaces.{Replaces}
+use Rattle.mmtel_focus.specs.declared.signals.RoomSignal.{RoomSignal}
+use Rattle.mmtel_focus.specs.declared.signals.RoomSignal.TheVariants as of_room
 use Rattle.mmtel_http.specs.Requests.{Request}
+use Rattle.mmtel_leg.specs.declared.legs.Released.{Released}
+use Rattle.mmtel_leg.specs.declared.legs.Released.TheVariants as released
 use Rattle.mmtel_message.specs.Message.{Message}
 use Rattle.mmtel_message.specs.Texts.{message_text}
 use Rattle.mmtel_message.specs.declared.messages.Start.{Start}
 use Rattle.mmtel_outside.specs.declared.events.Offer.{Offer}
 use Rattle.mmtel_outside.specs.declared.events.Offer.TheVariants as offer
+use Rattle.mmtel_scan.specs.Numbers.{token_text}
 use Rattle.mmtel_sheet_values.specs.View.{is_registered}
 use Rattle.mmtel_sheet_values.specs.declared.values.Sheet.{Sheet}
 use Rattle.mmtel_transaction.specs.Answers.{next_due, hears, hear_says, fires, says_due, peer_of, is_merged}
 use Rattle.mmtel_transaction.specs.Calls.{Done, DidBegin, DidAsk, DidReply, DidAck, live}
+use Rattle.mmtel_transaction.specs.Tokens.{Drawn}
 use Rattle.mmtel_transaction.specs.declared.words.Due.{Due}
 use Rattle.mmtel_transaction.specs.declared.words.Due.TheVariants as due
 use Rattle.mmtel_transaction.specs.declared.words.Emit.{Emit}
@@ -26,23 +43,26 @@ use Rattle.mmtel_transaction.specs.declared.words.Emit.TheVariants as emit
 use Rattle.mmtel_transaction.specs.declared.words.Heard as transaction
 use Rattle.mmtel_transaction.specs.declared.words.Heard.TheVariants as heard
 use Rattle.mmtel_transaction.specs.declared.words.TKey.{TKey}
+use Rattle.mmtel_trust.specs.Digest.{HeardMessage, caller_account}
+use Rattle.mmtel_types.specs.Sides.{other_of}
 use Rattle.mmtel_types.specs.declared.addrs.Addr.{Addr}
 use Rattle.mmtel_types.specs.declared.numbers.Account.{Account}
 use Rattle.mmtel_types.specs.declared.numbers.CallNo.{CallNo}
 use Rattle.mmtel_types.specs.declared.numbers.Peer.{Peer}
+use Rattle.mmtel_types.specs.declared.numbers.RoomNo.{RoomNo}
 use Rattle.mmtel_types.specs.declared.sides.Side.{Side}
 use Rattle.mmtel_web.specs.Answers.{Kept, web_reply}
 use Rattle.mmtel_in_force.specs.Texts.{Texts, end_at, put_each, record_of, put_kept}
 use Rattle.mmtel_web.specs.Uploads.{kept_upload, upload_in}
 use Rattle.mmtel_run.specs.Answers.{Answer, completed_reply, plainly, response_to, tag_for, tags_due, to_tag_in}
-use Rattle.mmtel_run.specs.Calls.{are_full, arrived, asked_by, calls_after, named_by, site_of}
-use Rattle.mmtel_run.specs.Deadlines.{Armed, Deadline, OfMessage, OfCall}
+use Rattle.mmtel_run.specs.Calls.{are_full, arrived, asked_by, calls_after, site_of}
+use Rattle.mmtel_run.specs.Deadlines.{Alarm, Armed, Deadline, OfAlarm, OfCall, OfMessage, OfSeat}
 use Rattle.mmtel_run.specs.Events.{Digest, Nothing, Refused, Heard, Asked, message_in}
 use Rattle.mmtel_run.specs.Records.{in_force, until_of}
-use Rattle.mmtel_run.specs.Refusals.{Course, Refuse, Enter, Open, Register, course}
-use Rattle.mmtel_run.specs.Refusals as refusals
+use Rattle.mmtel_run.specs.Refusals.{Course, Refuse, Enter, EnterRoom, Open, OpenRoom, JoinRoom, Register, course}
+use Rattle.mmtel_run.specs.Rooms.{Holder, InCall, InRoom, account_of_side, holder_of, is_key_of_calls, is_of_calls, is_with, leg_by, replacement_in, rooms_after, rooms_site, side_replaced, status_by}
 
--- each layer above (rooms) adds one list here
+-- a list for each layer
 pub record World : Type 0 where
   -- the greatest moment so far
   pub clock : ℕ
@@ -52,22 +72,37 @@ pub record World : Type 0 where
   pub acts : List Done
   -- how many numbers were drawn
   pub drawn : ℕ
-  -- what was done on the calls, the newest first
+  -- what was done on the calls, and on the rooms, the newest first
   pub deeds : List Deed
-  -- the deadlines of calls that did not fire, in the order in which they were armed
+  pub rooms : List rooms.Deed
+  -- the deadlines of calls and of seats that did not fire, in the order in which they were armed
   pub armed : List Armed
   -- the text that was loaded or kept last for each account that has one
   pub texts : Texts
   -- the accounts that were registered, each until a moment, the newest registration first
   pub registrations : List (Account × ℕ)
-  -- the charging rows that the keeper took, in order
+  -- the charging rows that were closed and that the keeper did not take, in order, and those that it took
+  pub waiting : List Row
   pub filed : List Row
   -- all that was offered, in order
   pub offers : List Offer
 
 -- nothing was done yet; these texts were loaded
 abbrev pub beginning : (loaded : Texts) → World
-beginning loaded = record { clock = 0; steps = 0; acts = []; drawn = 0; deeds = []; armed = []; texts = put_each loaded []; registrations = []; filed = []; offers = [] }
+beginning loaded = record {
+  clock = 0;
+  steps = 0;
+  acts = [];
+  drawn = 0;
+  deeds = [];
+  rooms = [];
+  armed = [];
+  texts = put_each loaded [];
+  registrations = [];
+  waiting = [];
+  filed = [];
+  offers = [];
+}
 
 -- ---- what is in force
 
@@ -79,15 +114,18 @@ record_in_force world account = record_of world.texts account
 abbrev pub is_registered_in : World → Account → ℕ → Bool
 is_registered_in world account now = is_registered (end_at world.registrations account) now
 
--- ---- calls
+-- ---- calls and rooms
 
--- the calls, as they stand
+-- as they stand
 abbrev pub calls_in : Directory → World → Table
 calls_in directory world = calls_after directory world.deeds
 
--- the rows of calls that are over which the keeper did not take, in order
-abbrev pub rows_waiting : Directory → World → List Row
-rows_waiting directory world = (calls_in directory world).rows
+abbrev pub rooms_in : Directory → World → tables.Table
+rooms_in directory world = rooms_after directory world.rooms
+
+-- whose dialog a message names
+abbrev pub holder_in : Directory → HeardMessage → World → Option Holder
+holder_in directory message world = holder_of message (calls_in directory world).entries (rooms_in directory world).live
 
 -- ---- single deeds
 
@@ -114,34 +152,69 @@ emit_one at (emit.Ask peer message) world = offering (offer.To peer at (message_
 emit_one at (emit.Reply key message) world = offering (to_peer at (message_text message) (peer_of key.0 (live world.acts))) (acting (DidReply key.0 message at) world)
 emit_one at (emit.Plain peer text) world = offering (offer.To peer at text ∷ []) world
 emit_one at (emit.Ack key message) world = offering (to_peer at (message_text message) (peer_of key.0 (live world.acts))) (acting (DidAck key.0 message) world)
-emit_one at (emit.Arm call what when) world = arming (record { call = call; what = what; at = when; step = world.steps - 1 }) world
-emit_one at (emit.ArmSeat room seat what when) world = world
+emit_one at (emit.Arm call what when) world = arming (record { alarm = OfCall call what; at = when; step = world.steps - 1 }) world
+emit_one at (emit.ArmSeat room seat what when) world = arming (record { alarm = OfSeat room seat what; at = when; step = world.steps - 1 }) world
 
 abbrev pub emitted : ℕ → List Emit → World → World
 emitted at [] world = world
 emitted at (emit ∷ emits) world = emitted at emits (emit_one at emit world)
 
-abbrev pub unbuilt : ℕ → World → World
-unbuilt at world = offering (offer.Unbuilt at ∷ []) world
+-- the tokens, of which so many numbers were drawn
+abbrev pub tokens_now : (token : List ℕ) → World → Drawn
+tokens_now token world = record { token = token; drawn = world.drawn }
 
--- ---- signals of calls
+-- ---- what is done on the calls
+
+-- this was done on the calls, and this came of it: the rows that it closed are taken from them at once, and wait with all others
+abbrev pub bringing : ℕ → Deed → Desk → World → World
+bringing at deed desk world =
+    emitted at desk.out (record world { deeds = Drops (length desk.rows) ∷ deed ∷ world.deeds; drawn = desk.tokens.drawn; waiting = world.waiting ++ desk.rows })
 
 -- a signal as it is heard now, with what is in force and how many numbers were drawn
 abbrev pub heard_now : (token : List ℕ) → ℕ → Signal → World → histories.Heard
-heard_now token at signal world = record { at = at; view = in_force world.texts world.registrations; tokens = record { token = token; drawn = world.drawn }; signal = signal }
+heard_now token at signal world = record { at = at; view = in_force world.texts world.registrations; tokens = tokens_now token world; signal = signal }
 
--- the calls heard it, and this is what a step of one of them brought forth
-abbrev pub bringing : ℕ → histories.Heard → Desk → World → World
-bringing at heard desk world = emitted at desk.out (record world { deeds = Hears heard ∷ world.deeds; drawn = desk.tokens.drawn })
-
+-- the calls hear it
 abbrev pub signalled : Directory → (token : List ℕ) → ℕ → Signal → World → World
 signalled directory token at signal world =
-    bringing at (heard_now token at signal world) (hears_after (site_of directory) world.deeds (heard_now token at signal world)).desk world
+    bringing at (Hears (heard_now token at signal world)) (hears_after (site_of directory) world.deeds (heard_now token at signal world)).desk world
 
--- of a call and a side
-abbrev pub entering : Directory → (token : List ℕ) → ℕ → (CallNo → Side → Signal) → Option (CallNo × Side) → World → World
-entering directory token at signal None world = world
-entering directory token at signal (Some x) world = signalled directory token at (signal x.0 x.1) world
+-- a leg is taken out of a call, or put back: nothing comes of it
+abbrev pub lending : Deed → World → World
+lending deed world = record world { deeds = deed ∷ world.deeds }
+
+-- the call ends without it
+abbrev pub finishing : Directory → (token : List ℕ) → ℕ → CallNo → World → World
+finishing directory token at call world =
+    bringing at (Finishes call.0 at (tokens_now token world)) (finished_by (site_of directory) call.0 at (tokens_now token world) (calls_in directory world)).desk world
+
+-- ---- what is done on the rooms
+
+-- this was done on the rooms, by which no number was drawn, and this came of it
+abbrev pub lodging : ℕ → rooms.Deed → Desk → World → World
+lodging at deed desk world = emitted at desk.out (record world { rooms = rooms.Drops (length desk.rows) ∷ deed ∷ world.rooms; waiting = world.waiting ++ desk.rows })
+
+-- so many were drawn by it
+abbrev pub housing : ℕ → rooms.Deed → Desk → World → World
+housing at deed desk world = lodging at deed desk (record world { drawn = desk.tokens.drawn })
+
+-- what comes of it, as the rooms stand
+abbrev pub comes_of : Directory → rooms.Deed → World → Desk
+comes_of directory deed world = (brought_after (rooms_site directory) world.rooms deed).desk
+
+abbrev pub housed : Directory → ℕ → rooms.Deed → World → World
+housed directory at deed world = housing at deed (comes_of directory deed world) world
+
+-- the rooms hear a signal
+abbrev pub heard_in_rooms : (token : List ℕ) → ℕ → RoomSignal → World → rooms.Deed
+heard_in_rooms token at signal world = rooms.Hears (record { at = at; tokens = tokens_now token world; signal = signal })
+
+abbrev pub seated : Directory → (token : List ℕ) → ℕ → RoomSignal → World → World
+seated directory token at signal world = housed directory at (heard_in_rooms token at signal world) world
+
+-- a seat is told a status (RFC 3515 §2.4.4)
+abbrev pub noticed : Directory → (token : List ℕ) → ℕ → RoomNo → (seat code : ℕ) → World → World
+noticed directory token at room seat code world = housed directory at (rooms.Notifies room.0 seat code (tokens_now token world)) world
 
 -- ---- deadlines
 
@@ -149,25 +222,38 @@ entering directory token at signal (Some x) world = signalled directory token at
 abbrev pub begun : World → World
 begun world = record world { steps = world.steps + 1; acts = DidBegin world.steps ∷ world.acts }
 
--- what a deadline of a message brings: the same bytes again; or the calls hear that a request is given up, or that a transaction has ended
+-- a request was given up, or a transaction has ended: the calls hear of their own, and the rooms of all others
+abbrev pub silenced : Directory → (token : List ℕ) → ℕ → (branch method : List ℕ) → (of_calls : Bool) → World → World
+silenced directory token at branch method true world = signalled directory token at (signal.Silent branch method) world
+silenced directory token at branch method false world = seated directory token at (of_room.Silent branch method) world
+
+abbrev pub ended_of : Directory → (token : List ℕ) → ℕ → TKey → (of_calls : Bool) → World → World
+ended_of directory token at key true world = signalled directory token at (signal.Over key) world
+ended_of directory token at key false world = seated directory token at (of_room.Over key) world
+
+-- what a deadline of a message brings: the same bytes again; or that a request is given up, or that a transaction has ended
 abbrev pub rung : Directory → (token : List ℕ) → Due → World → World
 rung directory token (due.Again peer at text) world = offering (offer.To peer at text ∷ []) world
-rung directory token (due.Silent key branch method at) world = signalled directory token at (signal.Silent branch method) world
-rung directory token (due.Over key at) world = signalled directory token at (signal.Over key) world
+rung directory token (due.Silent key branch method at) world = silenced directory token at branch method (is_of_calls (invite_silent branch method) (calls_in directory world).entries) world
+rung directory token (due.Over key at) world = ended_of directory token at key (is_key_of_calls key (calls_in directory world).entries) world
 rung directory token due.Nothing world = world
 
 -- the first one of messages that is due fires
 abbrev pub fired_in : Directory → (token : List ℕ) → ℕ → World → World
 fired_in directory token now world = rung directory token (says_due (next_due now (live world.acts))) (record world { acts = fires world.acts (next_due now (live world.acts)) })
 
--- one of a call fires
+-- one of a call or of a seat fires
+abbrev pub alarmed : Directory → (token : List ℕ) → ℕ → Alarm → World → World
+alarmed directory token at (OfCall call what) world = signalled directory token at (signal.Due call what) world
+alarmed directory token at (OfSeat room seat what) world = seated directory token at (of_room.Due room seat what) world
+
 abbrev pub struck : Directory → (token : List ℕ) → Armed → (others : List Armed) → World → World
-struck directory token armed others world = signalled directory token armed.at (signal.Due armed.call armed.what) (record world { armed = others })
+struck directory token armed others world = alarmed directory token armed.at armed.alarm (record world { armed = others })
 
 -- the first of all deadlines fires
 abbrev pub fired : Directory → (token : List ℕ) → ℕ → Deadline → World → World
 fired directory token now OfMessage world = fired_in directory token now (begun world)
-fired directory token now (OfCall armed others) world = struck directory token armed others (begun world)
+fired directory token now (OfAlarm armed others) world = struck directory token armed others (begun world)
 
 -- ---- answers
 
@@ -207,29 +293,113 @@ abbrev pub serving : Directory → ℕ → Request → Kept → List Row → Wor
 serving directory at request kept rows world =
     offering (offer.Web at (web_reply directory.names world.texts request kept rows) ∷ []) (keeping (kept_upload kept (upload_in directory.names request)) world)
 
+-- ---- who comes to a room (RFC 4579 §5.1, §5.4): a tag is drawn, which the answer has, a refusal too
+
+abbrev pub next_tag : (token : List ℕ) → World → List ℕ
+next_tag token world = token_text token (world.drawn + 1)
+
+-- no seat is found
+abbrev pub turned_away : Directory → ℕ → TKey → Said → (tag : List ℕ) → (code : ℕ) → World → World
+turned_away directory at key said tag code world = emitted at (emit.Reply key (response_to directory.sip tag said (plainly code)) ∷ []) world
+
+-- the account of whoever comes is that of the caller
+abbrev pub opening_of : Directory → ℕ → TKey → Said → (tag : List ℕ) → rooms.Deed
+opening_of directory at key said tag = rooms.Opens (coming at (leg_by tag said) (caller_account directory.names.accounts said.heard) key said)
+
+-- a room of its own, unless as many are live as may
+abbrev pub room_opened : Directory → ℕ → TKey → Said → (tag : List ℕ) → (is_full : Bool) → World → World
+room_opened directory at key said tag true world = turned_away directory at key said tag 503 world
+room_opened directory at key said tag false world = lodging at (opening_of directory at key said tag) (comes_of directory (opening_of directory at key said tag) world) world
+
+abbrev pub opening_room : Directory → (token : List ℕ) → ℕ → TKey → Said → World → World
+opening_room directory token at key said world = room_opened directory at key said (next_tag token world) (has_no_room (rooms_in directory world).live) (drawing 1 world)
+
+abbrev pub joining_of : Directory → ℕ → TKey → Said → RoomNo → (tag : List ℕ) → Drawn → rooms.Deed
+joining_of directory at key said room tag tokens = rooms.Joins room.0 (record {
+  at = at;
+  tokens = tokens;
+  leg = released.Caller (leg_by tag said);
+  account = caller_account directory.names.accounts said.heard;
+  key = key;
+  invite = said;
+})
+
+-- a seat, where the room is live and has one
+abbrev pub room_joined : Directory → (token : List ℕ) → ℕ → TKey → Said → RoomNo → (tag : List ℕ) → Result ℕ RoomFault → World → World
+room_joined directory token at key said room tag (Err fault) world = turned_away directory at key said tag (status_by fault) world
+room_joined directory token at key said room tag (Ok place) world = housed directory at (joining_of directory at key said room tag (tokens_now token world)) world
+
+abbrev pub joining_room : Directory → (token : List ℕ) → ℕ → TKey → Said → RoomNo → World → World
+joining_room directory token at key said room world = room_joined directory token at key said room (next_tag token world) (access room.0 (rooms_in directory world).live) (drawing 1 world)
+
+-- ---- a REFER of a seat with Replaces (RFC 3891 §3, RFC 4579 §5.6): the other leg of the call has a seat in the place of the dialog, and the call ends
+
+-- a leg, whose account this is, comes out of a call by the REFER of a seat
+abbrev pub adoption_of : (token : List ℕ) → ℕ → RoomNo → (seat : ℕ) → Released → Option Account → World → rooms.Deed
+adoption_of token at room seat leg account world = rooms.Adopts room.0 (record { at = at; tokens = tokens_now token world; leg = leg; account = account; by = seat })
+
+-- it has a seat, and its call ends; or none is free, and it is put back
+abbrev pub adopting : Directory → (token : List ℕ) → ℕ → RoomNo → (seat : ℕ) → CallNo → Released → Option Account → Result ℕ RoomFault → World → World
+adopting directory token at room seat call leg account (Ok place) world = finishing directory token at call (housed directory at (adoption_of token at room seat leg account world) world)
+adopting directory token at room seat call leg account (Err fault) world = noticed directory token at room seat 503 (lending (Restores call.0 leg) world)
+
+-- taken out of its call, where that talks
+abbrev pub taken_out : Directory → (token : List ℕ) → ℕ → RoomNo → (seat : ℕ) → CallNo → Side → Option Account → Option Released → World → World
+taken_out directory token at room seat call side account None world = noticed directory token at room seat 491 world
+taken_out directory token at room seat call side account (Some leg) world =
+    adopting directory token at room seat call leg account (access room.0 (rooms_in directory world).live) (lending (Releases call.0 side) world)
+
+-- the leg across from the one that is named, which has to be of the peer that asks
+abbrev pub replaced_with : Directory → (token : List ℕ) → ℕ → RoomNo → (seat : ℕ) → CallNo → Side → (is_its : Bool) → World → World
+replaced_with directory token at room seat call side false world = noticed directory token at room seat 481 world
+replaced_with directory token at room seat call side true world =
+    taken_out directory token at room seat call (other_of side) (account_of_side call (other_of side) (calls_in directory world).entries) (leg_out call.0 (other_of side) (calls_in directory world).entries) world
+
+abbrev pub replaced_by : Directory → (token : List ℕ) → ℕ → Peer → RoomNo → (seat : ℕ) → Option (CallNo × Side) → World → World
+replaced_by directory token at peer room seat None world = noticed directory token at room seat 481 world
+replaced_by directory token at peer room seat (Some named) world =
+    replaced_with directory token at room seat named.0 named.1 (is_with peer (party named.0.0 named.1 (calls_in directory world).entries)) world
+
+abbrev pub replaced : Directory → (token : List ℕ) → ℕ → Peer → RoomNo → (seat : ℕ) → Replaces → World → World
+replaced directory token at peer room seat replaces world = replaced_by directory token at peer room seat (side_replaced replaces (calls_in directory world).entries) world
+
+-- the seat is told that it is tried, and then what came of it
+abbrev pub replacing : Directory → (token : List ℕ) → ℕ → Peer → RoomNo → (seat : ℕ) → Option Replaces → World → World
+replacing directory token at peer room seat None world = world
+replacing directory token at peer room seat (Some replaces) world = replaced directory token at peer room seat replaces (noticed directory token at room seat 100 world)
+
+-- a request of a seat, and what follows of it where it was accepted
+abbrev pub entering_room : Directory → (token : List ℕ) → ℕ → TKey → Said → RoomNo → (seat : ℕ) → World → World
+entering_room directory token at key said room seat world =
+    replacing directory token at said.peer room seat
+    (replacement_in said.heard (comes_of directory (heard_in_rooms token at (of_room.Request room seat key said) world) world).out)
+    (seated directory token at (of_room.Request room seat key said) world)
+
 -- ---- messages
 
 abbrev pub taking : Directory → (token : List ℕ) → ℕ → TKey → Said → Course → World → World
 taking directory token at key said (Refuse answer) world = replying directory token at key said answer world
 taking directory token at key said (Enter call side) world = signalled directory token at (signal.Request call side key said) world
+taking directory token at key said (EnterRoom room seat) world = entering_room directory token at key said room seat world
 taking directory token at key said Open world = signalled directory token at (arrived directory.names.accounts key said) world
+taking directory token at key said OpenRoom world = opening_room directory token at key said world
+taking directory token at key said (JoinRoom room) world = joining_room directory token at key said room world
 taking directory token at key said (Register account seconds) world = registered directory token at key said account seconds world
-taking directory token at key said refusals.Unbuilt world = unbuilt at world
 
--- a request that opened a transaction, where the calls stand so
-abbrev pub taking_among : Directory → (token : List ℕ) → ℕ → TKey → Said → Table → World → World
-taking_among directory token at key said calls world =
-    taking directory token at key said (course directory (is_merged key.0 (live world.acts)) (are_full calls.entries) (named_by said.heard calls.entries) said.heard) world
+-- a request that opened a transaction, where the calls and the rooms stand so
+abbrev pub taking_among : Directory → (token : List ℕ) → ℕ → TKey → Said → List Entry → List Room → World → World
+taking_among directory token at key said entries live_rooms world =
+    taking directory token at key said (course directory (is_merged key.0 (live world.acts)) (are_full entries) (holder_of said.heard entries live_rooms) said.heard) world
 
 abbrev pub taking_fresh : Directory → (token : List ℕ) → ℕ → TKey → Said → World → World
-taking_fresh directory token at key said world = taking_among directory token at key said (calls_in directory world) world
+taking_fresh directory token at key said world = taking_among directory token at key said (calls_in directory world).entries (rooms_in directory world).live world
 
 -- what was sent is sent again, to whom it was sent
 abbrev pub repeating : ℕ → Option (Peer × List ℕ) → World → World
 repeating at None world = world
 repeating at (Some sent) world = emitted at (emit.Plain sent.0 sent.1 ∷ []) world
 
--- a CANCEL of the INVITE of a call that lives is of that call; of another INVITE it is answered alone
+-- a CANCEL of the INVITE of a call that lives is of that call; of another INVITE it is answered alone: one of a seat has had its final
 abbrev pub cancelling_call : Directory → (token : List ℕ) → ℕ → TKey → Said → (invite : TKey) → Option (CallNo × Side) → World → World
 cancelling_call directory token at key said invite None world = replying directory token at key said (plainly 200) world
 cancelling_call directory token at key said invite (Some asked) world = signalled directory token at (signal.Cancel asked.0 key said invite) world
@@ -240,14 +410,27 @@ cancelling directory token at key said None world = replying directory token at 
 cancelling directory token at key said (Some invite) world = cancelling_call directory token at key said invite (asked_by invite (calls_in directory world).entries) world
 
 -- an ACK of a 2xx is of the dialog that it names
+abbrev pub acknowledging_by : Directory → (token : List ℕ) → ℕ → Said → Option Holder → World → World
+acknowledging_by directory token at said None world = world
+acknowledging_by directory token at said (Some (InCall call side)) world = signalled directory token at (signal.Ack call side said) world
+acknowledging_by directory token at said (Some (InRoom room seat)) world = seated directory token at (of_room.Ack room seat said) world
+
 abbrev pub acknowledging : Directory → (token : List ℕ) → ℕ → Said → World → World
-acknowledging directory token at said world = entering directory token at (λ call side. signal.Ack call side said) (named_by said.heard (calls_in directory world).entries) world
+acknowledging directory token at said world = acknowledging_by directory token at said (holder_in directory said.heard world) world
+
+-- a response is of the calls where an INVITE of one has the branch that it answers, and else of the rooms
+abbrev pub responding_to : Directory → (token : List ℕ) → ℕ → TKey → Said → (of_calls : Bool) → World → World
+responding_to directory token at key said true world = signalled directory token at (signal.Answer key said) world
+responding_to directory token at key said false world = seated directory token at (of_room.Answer key said) world
+
+abbrev pub responding : Directory → (token : List ℕ) → ℕ → TKey → Said → World → World
+responding directory token at key said world = responding_to directory token at key said (is_of_calls (invite_answered said) (calls_in directory world).entries) world
 
 -- what is done with a message, by what the transactions say of it; None where too many of them are live
 abbrev pub answering : Directory → (token : List ℕ) → ℕ → Said → Option transaction.Heard → World → World
 answering directory token at said None world = replying_plainly directory token at said (plainly 503) world
 answering directory token at said (Some (heard.Fresh key message)) world = taking_fresh directory token at key said world
-answering directory token at said (Some (heard.Answer key message)) world = signalled directory token at (signal.Answer key said) world
+answering directory token at said (Some (heard.Answer key message)) world = responding directory token at key said world
 answering directory token at said (Some (heard.Repeat sent)) world = repeating at sent world
 answering directory token at said (Some (heard.Acked key)) world = world
 answering directory token at said (Some (heard.Cancel key invite message)) world = cancelling directory token at key said invite world
@@ -269,7 +452,7 @@ told directory token at said world = told_as directory token at said (hear_says 
 
 -- the keeper took these rows: they wait no more
 abbrev pub filing : List Row → World → World
-filing rows world = record world { deeds = Drops (length rows) ∷ world.deeds; filed = world.filed ++ rows }
+filing rows world = record world { waiting = []; filed = world.filed ++ rows }
 
 -- where some wait they are handed to the keeper, which takes all of them or none
 abbrev pub handing : (took : Bool) → List Row → World → World
@@ -285,9 +468,9 @@ met directory token at (Heard said) world = told directory token at said world
 met directory token at (Asked request kept rows) world = serving directory at request kept rows world
 
 -- at the end of an event the rows that wait are handed over
-abbrev pub ended : Directory → (took : Bool) → World → World
-ended directory took world = handing took (rows_waiting directory world) world
+abbrev pub ended : (took : Bool) → World → World
+ended took world = handing took world.waiting world
 
 -- an event comes at a moment of the clock
 abbrev pub came : Directory → (token : List ℕ) → ℕ → Digest → (took : Bool) → World → World
-came directory token at digest took world = ended directory took (met directory token at digest (record (begun world) { clock = at }))
+came directory token at digest took world = ended took (met directory token at digest (record (begun world) { clock = at }))

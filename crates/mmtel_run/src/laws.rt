@@ -1,8 +1,10 @@
 //! Laws of the definitions of a run: each is the contract of a function that does nothing.
+ghost use Rattle.mmtel_run.specs.Access.{AccessIsGivenOrRefused};
 ghost use Rattle.mmtel_run.specs.Alike.{MasksMakeKin, MasksNameTheRegistrant};
+ghost use Rattle.mmtel_run.specs.Audio.{RoomsAreForAudio};
 ghost use Rattle.mmtel_run.specs.Filed.{NoneWaits, RowsAreFiled};
 ghost use Rattle.mmtel_run.specs.InForce.{CallsAreToldWhatIsInForce, CallsSeeWhatIsSaid, LastIsInForce, TextsAreThoseKept};
-ghost use Rattle.mmtel_run.specs.Short.{CallsDrawOn};
+ghost use Rattle.mmtel_run.specs.Short.{CallsDrawOn, CallsEndOn, RoomsDrawOn};
 ghost use Rattle.mmtel_run.specs.Headline.{GivesAlways, GivesOnce, MoreChangesNothing};
 
 use mmtel_answers::masked_requests_are_answered_alike;
@@ -54,4 +56,21 @@ pub fn equal_masks_are_kin()
 /// Whatever calls hear, the tokens that they draw are of the same text, and no number is drawn back.
 pub fn calls_draw_on()
     ensures law { CallsDrawOn }
+    // So it is where a call ends without its leg.
+    ensures ends { CallsEndOn }
+{}
+
+/// Whatever is done on rooms, the tokens that they draw are of the same text, and no number is drawn back.
+pub fn rooms_draw_on()
+    ensures law { RoomsDrawOn }
+{}
+
+/// Whoever asks for a conference room or for a seat in one offers audio (RFC 4579 §5.1, RFC 3264 §6).
+pub fn rooms_are_for_audio()
+    ensures law { RoomsAreForAudio }
+{}
+
+/// Whoever asks for a seat in a conference room is given one, or is told that the room is full or that there is none of this number (RFC 4579 §5.1).
+pub fn access_is_given_or_refused()
+    ensures law { AccessIsGivenOrRefused }
 {}

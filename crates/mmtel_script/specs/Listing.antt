@@ -3,7 +3,7 @@ use Rattle.std.specs.Prelude.{ℕ, Bool, false, ◌&&◌, nat_le, nat_lt, ◌==�
 use Rattle.std.specs.List.{list_all, flat_map, onto_first}
 use Rattle.std.specs.Str.{bytes_eq}
 use Rattle.mmtel_outside.specs.declared.events.Offer.{Offer}
-use Rattle.mmtel_outside.specs.declared.events.Offer.TheVariants.{To, Web, Unbuilt}
+use Rattle.mmtel_outside.specs.declared.events.Offer.TheVariants.{To, Web}
 
 -- bytes cut behind each CRLF; the flag says that a CR came just before
 abbrev pub cut : Bool → List ℕ → List (List ℕ)
@@ -49,11 +49,10 @@ piece_line piece = line_before (before_crlf piece) piece
 abbrev pub data_lines : List ℕ → List ℕ
 data_lines bytes = flat_map piece_line (pieces_of bytes)
 
--- `at M to N` or `at M web` and then the bytes, or `at M unbuilt`
+-- `at M to N` or `at M web`, and then the bytes
 abbrev pub offer_lines : Offer → List ℕ
 offer_lines (To peer moment bytes) = codes "at " ++ decimal moment ++ codes " to " ++ decimal peer.0 ++ codes "\n" ++ data_lines bytes
 offer_lines (Web moment bytes) = codes "at " ++ decimal moment ++ codes " web\n" ++ data_lines bytes
-offer_lines (Unbuilt moment) = codes "at " ++ decimal moment ++ codes " unbuilt\n"
 
 abbrev pub listing_of : List Offer → List ℕ
 listing_of offers = flat_map offer_lines offers

@@ -137,16 +137,12 @@ fn add_offer(alloc: Global, out: &mut Text, offer: &Offer) -> Result<(), NoMemor
             out.push(alloc, b" web\n")?;
             add_data(alloc, out, text.bytes())
         }
-        Offer::Unbuilt { at } => {
-            add_moment(alloc, out, *at)?;
-            out.push(alloc, b" unbuilt\n")
-        }
     }
 }
 
 /// The listing of the offers, in their order.
 ///
-/// Each begins with a line `at M to N`, `at M web` or `at M unbuilt`, where `M` is its moment in milliseconds since 1970-01-01T00:00:00Z and `N` the number of
+/// Each begins with a line `at M to N` or `at M web`, where `M` is its moment in milliseconds since 1970-01-01T00:00:00Z and `N` the number of
 /// a peer. Its bytes follow: each piece that a CRLF ends as a line of `|` and the piece, and what is left behind the last CRLF, if anything, as a line of `+`
 /// and those bytes. A piece with a byte outside 32 to 126 is a line of `x` and its bytes, the CRLF included, as pairs of hexadecimal digits. Each line of the
 /// listing ends with LF.

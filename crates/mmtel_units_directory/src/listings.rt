@@ -52,17 +52,18 @@ fn lists_bytes(rt: HostRuntime) {
     assert!(rt; rows.iter().all(|row| is_sent(alloc, row.0, row.1)));
 }
 
-/// The listing of a reply at 10, and of an event at the last moment of which nothing is built.
+/// The listing of a reply at 10, and of one without bytes at the last moment.
 fn two_listed(alloc: Global) -> Option<Text> {
     let text = Text::of(alloc, b"HTTP/1.1 200 OK\r\n\r\nok").ok()?;
     let mut offers = List::new();
     offers.push(alloc, Offer::Web { at: 10, text }).ok()?;
-    offers.push(alloc, Offer::Unbuilt { at: u64::MAX }).ok()?;
+    let text = Text::new();
+    offers.push(alloc, Offer::Web { at: u64::MAX, text }).ok()?;
     listing(alloc, &offers).ok()
 }
 
 #[test]
 fn lists_offers_in_their_order(rt: HostRuntime) {
-    let due = b"at 10 web\n|HTTP/1.1 200 OK\n|\n+ok\nat 18446744073709551615 unbuilt\n";
+    let due = b"at 10 web\n|HTTP/1.1 200 OK\n|\n+ok\nat 18446744073709551615 web\n";
     assert!(rt; matches!(two_listed(rt.alloc()), Some(text) if text.bytes() == due.as_slice()));
 }

@@ -93,7 +93,6 @@ const EVENTS: &[u8] = b"0|
 1|at 0 quiet ;
 1|At 0 quiet;
 1|at 0 to 1;
-1|at 0 unbuilt;
 1|at;
 1|a;
 1| ;";

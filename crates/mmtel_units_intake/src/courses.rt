@@ -1,15 +1,15 @@
 //! What is done with requests.
 
-use crate::heard::{add_request, add_request_to, directory, hearing};
+use crate::heard::{add_request, add_request_to, add_request_with, directory, hearing};
 use crate::told::Told;
 use mmtel_directory::Directory;
-use mmtel_intake::{Answer, Course, Standing, course};
+use mmtel_intake::{Answer, Course, Holder, Standing, course};
 use mmtel_message::Line;
 use mmtel_scan::part;
-use mmtel_types::{CallNo, Side};
+use mmtel_types::{CallNo, RoomNo, Side};
 use std::test::Fail;
 
-/// A row is a request: `m` where it is merged, `f` where as many calls live as may and `u` where its peer is not trusted; `t` where To has a tag of no dialog, `d` and `e` where it names that of the caller and of the callee of call 3, and `x` where it names no account; its method and Request-URI, and further lines, each ended by `|`. Below it stands what is done with it.
+/// A row is a request: `m` where it is merged, `f` where as many calls live as may and `u` where its peer is not trusted; `t` where To has a tag of no dialog, `d` and `e` where it names that of the caller and of the callee of call 3, `s` that of seat 2 of room 5, `x` where it names no account, and `o` where it offers audio; its method and Request-URI, and further lines, each ended by `|`. Below it stands what is done with it.
 const TABLE: &[u8] = br##"> -- INFO sip:bob@home.example
 405 Allow: INVITE, ACK, CANCEL, BYE, OPTIONS, REGISTER, REFER
 > -- INFO sips:bob@home.example
@@ -81,7 +81,9 @@ enter 3 caller
 > f- INVITE sip:bob@home.example
 503
 > f- INVITE sip:conf@home.example
-unbuilt
+488
+> fo INVITE sip:conf@home.example
+room
 > f- INVITE sip:bob@home.example|Require: 100rel|
 420 Unsupported: 100rel
 > fd INVITE sip:bob@home.example
@@ -107,15 +109,29 @@ open
 > -- INVITE sip:bob@home.example|Route: <tel:+4930111>|
 open
 > -- INVITE sip:conf@home.example
-unbuilt
+488
+> -o INVITE sip:conf@home.example
+room
 > -- INVITE sip:conf@far.example
 open
 > -- INVITE sip:room-1@127.0.0.1
-unbuilt
-> -- INVITE sip:room-0@127.0.0.1:5060
-unbuilt
-> -- INVITE sip:room-1@127.0.0.1:5060|Route: <sip:p@home.example;lr>|
-unbuilt
+488
+> -o INVITE sip:room-1@127.0.0.1
+seat in 1
+> -o INVITE sip:room-0@127.0.0.1:5060
+seat in 0
+> -o INVITE sip:room-18446744073709551615@127.0.0.1
+seat in 18446744073709551615
+> -o INVITE sip:room-18446744073709551616@127.0.0.1
+seat in 0
+> fo INVITE sip:room-1@127.0.0.1:5060|Route: <sip:p@home.example;lr>|
+seat in 1
+> -s INVITE sip:bob@home.example
+room 5 seat 2
+> -s BYE sip:bob@home.example
+room 5 seat 2
+> -s REFER sip:bob@home.example|Require: 100rel|
+420 Unsupported: 100rel
 > -- INVITE sip:room-01@127.0.0.1:5060
 open
 > -- INVITE sip:room-@127.0.0.1
@@ -155,14 +171,24 @@ fn tell_course(told: &mut Told, course: &Course) {
     match course {
         Course::Refuse(answer) => tell_answer(told, answer),
         Course::Enter { call, side } => tell_dialog(told, *call, *side),
+        Course::EnterRoom { room, seat } => {
+            told.add(b"room ");
+            told.add_number(room.0);
+            told.add(b" seat ");
+            told.add_number(*seat);
+        }
         Course::Open => told.add(b"open"),
+        Course::OpenRoom => told.add(b"room"),
+        Course::JoinRoom { room } => {
+            told.add(b"seat in ");
+            told.add_number(room.0);
+        }
         Course::Register { account, seconds } => {
             told.add(b"register ");
             told.add_number(u64::from(account.0));
             told.add(b" ");
             told.add_number(*seconds);
         }
-        Course::Unbuilt => told.add(b"unbuilt"),
     }
     told.add(b"\n");
 }
@@ -170,8 +196,18 @@ fn tell_course(told: &mut Told, course: &Course) {
 /// What is known of the request of a row beside its message.
 fn standing(whence: u8, to: u8) -> Standing {
     let named = match to {
-        b'd' => Some((CallNo(3), Side::Caller)),
-        b'e' => Some((CallNo(3), Side::Callee)),
+        b'd' => Some(Holder::InCall {
+            call: CallNo(3),
+            side: Side::Caller,
+        }),
+        b'e' => Some(Holder::InCall {
+            call: CallNo(3),
+            side: Side::Callee,
+        }),
+        b's' => Some(Holder::InRoom {
+            room: RoomNo(5),
+            seat: 2,
+        }),
         _ => None,
     };
     Standing {
@@ -187,6 +223,14 @@ fn tell_row(told: &mut Told, directory: &Directory, whence: u8, to: u8, row: &[u
     let mut text = Told::new(told.alloc);
     if to == b'x' {
         add_request_to(&mut text, b"<sip:eve@home.example>", start, further);
+    } else if to == b'o' {
+        add_request_with(
+            &mut text,
+            b"\"Bob\" <sip:bob@home.example>",
+            start,
+            further,
+            b"v=0\r\nm=audio 5 RTP/AVP 0\r\n",
+        );
     } else {
         add_request(&mut text, to != b'-', start, further);
     }

@@ -62,6 +62,11 @@ pub fn add_request(told: &mut Told, tagged: bool, start: &[u8], further: &[u8]) 
 
 /// The same to this party.
 pub fn add_request_to(told: &mut Told, to: &[u8], start: &[u8], further: &[u8]) {
+    add_request_with(told, to, start, further, b"");
+}
+
+/// The same with a body.
+pub fn add_request_with(told: &mut Told, to: &[u8], start: &[u8], further: &[u8], body: &[u8]) {
     let (method, _) = part(b' ', start).unwrap_or((start, b""));
     told.add(start);
     told.add(
@@ -72,5 +77,8 @@ pub fn add_request_to(told: &mut Told, to: &[u8], start: &[u8], further: &[u8]) 
     told.add(method);
     told.add(b"\r\n");
     told.add_ended(b'|', further);
-    told.add(b"Content-Length: 0\r\n\r\n");
+    told.add(b"Content-Length: ");
+    told.add_number(body.len() as u64);
+    told.add(b"\r\n\r\n");
+    told.add(body);
 }

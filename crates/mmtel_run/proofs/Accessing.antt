@@ -1,0 +1,24 @@
+-- A seat is given, or the room is full or gone.
+use Rattle.std.proofs.Common.{◌≡◌, ℕ, Bool, true, false, refl, Option, Some, None, List}
+use Rattle.std.specs.Prelude.{if◌then◌else◌, Ok, Err}
+use Rattle.mmtel_focus.specs.Rooms.{Room}
+use Rattle.mmtel_focus.specs.Seats.{is_full}
+use Rattle.mmtel_focus.specs.Table.{access_at, access_to, place_of}
+use Rattle.mmtel_focus.specs.declared.faults.RoomFault.TheVariants.{RoomFull}
+use Rattle.mmtel_run.specs.Access.{AccessIsGivenOrRefused, is_place_or_why}
+use Rattle.std.specs.Prelude.{slice_get}
+
+full_or_given : (place : ℕ) (b : Bool) → is_place_or_why (if b then Err RoomFull else Ok place) ≡ true
+full_or_given place true = refl
+full_or_given place false = refl
+
+in_room : (place : ℕ) (o : Option Room) → is_place_or_why (access_to place o) ≡ true
+in_room place None = refl
+in_room place (Some room) = full_or_given place (is_full room)
+
+in_place : (o : Option ℕ) (live : List Room) → is_place_or_why (access_at o live) ≡ true
+in_place None live = refl
+in_place (Some place) live = in_room place (slice_get live place)
+
+pub given_or_refused : AccessIsGivenOrRefused
+given_or_refused number live = in_place (place_of number live) live

@@ -1,20 +1,26 @@
--- What each call of a run comes to, put together.
-use Rattle.std.proofs.Common.{◌≡◌, ◌≤◌, ℕ, ◌+◌, List, ◌++◌, Some, ap, ◌∙◌, subst, arith}
+-- What each call of a run comes to, put together; its rows and those of seats; and what is sent out.
+use Rattle.std.proofs.Common.{◌≡◌, ◌≤◌, ℕ, ◌+◌, List, ◌++◌, None, Some, ap, ◌∙◌, subst, arith}
 use Rattle.std.specs.Prelude.{max, count_by, length}
-use Rattle.mmtel_b2bua_laws.specs.Clean.{CallsSendCleanMessages, signals}
+use Rattle.mmtel_b2bua_laws.specs.Clean.{DeedsSendCleanMessages, LegsGoOutClean}
 use Rattle.mmtel_b2bua_laws.specs.Deeds.{ArePutBack, HasNumbers, life_of, rows_of}
 use Rattle.mmtel_b2bua_laws.specs.Known.{endings_after, known_after, outcome_after}
-use Rattle.mmtel_b2bua_laws.specs.Laws.{BringForthTheirOwn, CallIsExact, CallsBringForthTheirOwn, CallsOfTablesAreExact, CallsTakeTheirSteps, NothingIsOfNobody, RowsAreOfTheirCalls}
+use Rattle.mmtel_b2bua_laws.specs.Laws.{BringForthTheirOwn, CallIsExact, CallsBringForthTheirOwn, CallsOfTablesAreExact, CallsTakeTheirSteps, RowsAreOfTheirCalls}
+use Rattle.mmtel_b2bua_laws.specs.Legs.{LegsGoBack}
 use Rattle.mmtel_b2bua_laws.specs.Lives.{Life}
+use Rattle.mmtel_call.specs.Opening.{received_list}
 use Rattle.mmtel_call.specs.Site.{Site}
 use Rattle.mmtel_call_heads.specs.Clean.{HasOwnLines, IsCleanMessage}
 use Rattle.mmtel_call_heads.specs.Read.{IsReadClean}
+use Rattle.mmtel_call_laws.specs.GoingOn.{CallsGoOn}
 use Rattle.mmtel_call_laws.specs.Known.{received_in}
+use Rattle.mmtel_call_laws.specs.Laws.{ChargingIsExact}
 use Rattle.mmtel_call_laws.specs.Shown.{sign_of_result, signs_of_targets}
-use Rattle.mmtel_call_laws.specs.Story as story
 use Rattle.mmtel_call_laws.specs.Story.{opening_in}
-use Rattle.mmtel_call_notices.specs.Laws.{TellsOfItsDiversions}
+use Rattle.mmtel_call_notices.specs.Laws.{EndsInSilence, TellsNothingLater, TellsOfItsDiversions}
+use Rattle.mmtel_call_notices.specs.Notices.{notices_due}
 use Rattle.mmtel_directory.specs.declared.directories.Directory.{Directory}
+use Rattle.mmtel_focus_heads.specs.Heads.{EmitsAreClean}
+use Rattle.mmtel_focus_laws.specs.Charging.{DeedsAreCharged}
 use Rattle.mmtel_in_force.specs.Texts.{Texts}
 use Rattle.mmtel_message.specs.Message.{Message}
 use Rattle.mmtel_message.specs.declared.messages.Start.{Start}
@@ -28,18 +34,20 @@ use Rattle.mmtel_run.specs.Short.{IsShort}
 use Rattle.mmtel_run.specs.World.{World}
 use Rattle.mmtel_run_laws.specs.Clean.{RunsSendCleanMessages}
 use Rattle.mmtel_run_laws.specs.Outcome.{CallComesToOutcome, CallsOfRunsComeToOutcome, StaysWithinTheBound, is_invited, rows_of_call, seen_of}
+use Rattle.mmtel_run_laws.specs.Rows.{RowsAreCharged, SeatsOfRunsAreChargedOnce}
 use Rattle.mmtel_run_laws.specs.Stood.{StoodIn}
 use Rattle.mmtel_run_laws.proofs.Bounded.{invites_few, targets_few, within}
-use Rattle.mmtel_run_laws.proofs.Charged.{of_call}
-use Rattle.mmtel_run_laws.proofs.Keeping.{IsKeyed, runs_keyed}
+use Rattle.mmtel_run_laws.proofs.Charged.{of_call, rows_charged}
+use Rattle.mmtel_run_laws.proofs.Hearing.{IsKeyed}
 use Rattle.mmtel_run_laws.proofs.Keyed.{keys_few}
 use Rattle.mmtel_run_laws.proofs.Sending.{offers_own}
-use Rattle.mmtel_run_laws.proofs.Standing.{LifeStood, heard_alone, life_stood, put_back, reached}
-use Rattle.mmtel_run_laws.proofs.Stories.{told_alone}
-use Rattle.mmtel_run_laws.proofs.Telling.{AllTold, all_told}
+use Rattle.mmtel_run_laws.proofs.Lending.{lent_at_once, put_back}
+use Rattle.mmtel_run_laws.proofs.Standing.{LifeStood, life_stood, reached}
+use Rattle.mmtel_run_laws.proofs.Stories.{lives_told}
+use Rattle.mmtel_run_laws.proofs.Telling.{WellTold, all_told}
 
 -- fewer calls are opened in a short run than there are numbers
-pub has_numbers : (d : Directory) (w : World) → IsKeyed d w → IsShort w → HasNumbers (site_of d) w.deeds
+has_numbers : (d : Directory) (w : World) → IsKeyed d w → IsShort w → HasNumbers (site_of d) w.deeds
 has_numbers d w k short = omega (arith, k.opened, keys_few w.acts, short.acts)
 
 -- ---- the bound
@@ -65,42 +73,52 @@ bounded bound_law forwards d life same shown =
 
 -- ---- the whole
 
-module _ (exact_law : CallsOfTablesAreExact) (own_law : CallsBringForthTheirOwn) (rows_law : RowsAreOfTheirCalls) (told_law : TellsOfItsDiversions)
-    (bound_law : StaysWithinBound) (forwards : DiversionsHaveForwards) (texts : TextsAreThoseKept) (last : LastIsInForce) (views : CallsAreToldWhatIsInForce) (filed : RowsAreFiled) where
-  comes : (d : Directory) (token : List ℕ) (loaded : Texts) (fuel : ℕ) (happened : List Happened) → IsShort (world_after d token loaded fuel happened) →
-      (number : ℕ) (life : Life) → life_of (site_of d) number (world_after d token loaded fuel happened).deeds ≡ Some life → CallComesToOutcome d token loaded fuel happened number life
-  comes d token loaded fuel happened short number life is =
+module _ (back : LegsGoBack) (steps : CallsTakeTheirSteps) (exact_law : CallsOfTablesAreExact) (rows_law : RowsAreOfTheirCalls) (seats : DeedsAreCharged) (filed : RowsAreFiled) where
+  -- the rows of a short run
+  charged : (d : Directory) (token : List ℕ) (loaded : Texts) (fuel : ℕ) (happened : List Happened) → IsShort (world_after d token loaded fuel happened) →
+      RowsAreCharged d (world_after d token loaded fuel happened)
+  charged d token loaded fuel happened short =
       let w : World = world_after d token loaded fuel happened in
-      let keyed : IsKeyed d w = runs_keyed d token loaded fuel happened in
-      let few : HasNumbers (site_of d) w.deeds = has_numbers d w keyed short in
-      let told : AllTold d token loaded fuel happened w.deeds = all_told d token loaded fuel happened in
-      let put : ArePutBack (site_of d) w.deeds = put_back d token loaded fuel happened (site_of d) w.deeds told in
-      let exact : CallIsExact (site_of d) w.deeds number life = exact_law (site_of d) w.deeds number life few is in
-      let own : BringForthTheirOwn (site_of d) w.deeds number life = own_law (site_of d) w.deeds number life few is in
-      let lived : LifeStood texts last views d token loaded fuel happened number life = life_stood texts last views d token loaded fuel happened number w.deeds life told is in
-      let alone : (heard : List story.Heard) × (life.events ≡ signals heard) = heard_alone texts last views d token loaded fuel happened number life.events lived.events in
-      let rows : rows_of_call d w number ≡ rows_of (site_of d) number w.deeds = of_call filed rows_law d token loaded fuel happened number few put in
-      let shown : ShowsOutcome life = exact.shown keyed.own in
-      record {
-        exact = exact;
-        shown = shown;
-        told = record { heard = alone.0; signals_alone = alone.1; told = told_alone told_law (site_of d) life.start alone.0 life.events own.opening.0 alone.1 };
-        bounded = bounded bound_law forwards d life own.opening.0 shown;
-        charged = record {
-          runs = λ goes. let now = exact.runs put goes in (now.0, rows ∙ now.1);
-          filed = λ cause over. let now = exact.filed cause put over in (now.0, rows ∙ now.1);
-        };
-        opened = subst (λ (n : ℕ). StoodIn d token loaded fuel happened n life.start.arrival.served.origin life.start.now) own.opening.1 lived.opened;
-        reached = λ k. reached texts last views d token loaded fuel happened number life.start life.events k lived.events;
-      }
+      let told : WellTold d token loaded fuel happened happened = all_told d token loaded fuel happened back in
+      rows_charged steps exact_law rows_law seats d w (filed d token loaded fuel happened) (has_numbers d w told.keyed short) (put_back (site_of d) None w.deeds told.lent) told.rooms
 
-  pub calls_come : CallsOfRunsComeToOutcome
-  calls_come d token loaded happened short fuel number life enough is = comes d token loaded fuel happened (short fuel enough) number life is
+  pub seats_charged : SeatsOfRunsAreChargedOnce
+  seats_charged d token loaded happened short fuel enough = charged d token loaded fuel happened (short fuel enough)
+
+  module _ (own_law : CallsBringForthTheirOwn) (goes : CallsGoOn) (charging : ChargingIsExact) (told_law : TellsOfItsDiversions) (silent : TellsNothingLater) (ends : EndsInSilence)
+      (bound_law : StaysWithinBound) (forwards : DiversionsHaveForwards) (texts : TextsAreThoseKept) (last : LastIsInForce) (views : CallsAreToldWhatIsInForce) where
+    comes : (d : Directory) (token : List ℕ) (loaded : Texts) (fuel : ℕ) (happened : List Happened) → IsShort (world_after d token loaded fuel happened) →
+        (number : ℕ) (life : Life) → life_of (site_of d) number (world_after d token loaded fuel happened).deeds ≡ Some life → CallComesToOutcome d token loaded fuel happened number life
+    comes d token loaded fuel happened short number life is =
+        let w : World = world_after d token loaded fuel happened in
+        let told : WellTold d token loaded fuel happened happened = all_told d token loaded fuel happened back in
+        let few : HasNumbers (site_of d) w.deeds = has_numbers d w told.keyed short in
+        let put : ArePutBack (site_of d) w.deeds = put_back (site_of d) None w.deeds told.lent in
+        let exact : CallIsExact (site_of d) w.deeds number life = exact_law (site_of d) w.deeds number life few is in
+        let own : BringForthTheirOwn (site_of d) w.deeds number life = own_law (site_of d) w.deeds number life few is in
+        let lived : LifeStood texts last views d token loaded fuel happened number life = life_stood texts last views d token loaded fuel happened number w.deeds life told.deeds is in
+        let rows : rows_of_call w number ≡ rows_of (site_of d) number w.deeds = of_call steps exact_law rows_law seats d w (filed d token loaded fuel happened) few put told.rooms number in
+        let shown : ShowsOutcome life = exact.shown told.keyed.own in
+        record {
+          exact = exact;
+          shown = shown;
+          lent = lent_at_once back (site_of d) number w.deeds life told.lent is;
+          told =
+              lives_told goes charging told_law silent ends life.start life.events
+              ∙ ap (λ (site : Site). notices_due site (opening_in life.start) (received_list life.start.arrival.invite) (outcome_after life.start life.events).targets) own.opening.0;
+          bounded = bounded bound_law forwards d life own.opening.0 shown;
+          charged = record {
+            runs = λ goes_on. let now = exact.runs put goes_on in (now.0, rows ∙ now.1);
+            filed = λ cause over. let now = exact.filed cause put over in (now.0, rows ∙ now.1);
+          };
+          opened = subst (λ (n : ℕ). StoodIn d token loaded fuel happened n life.start.arrival.served.origin life.start.now) own.opening.1 lived.opened;
+          reached = λ k. reached texts last views d token loaded fuel happened number life.start life.events k lived.events;
+        }
+
+    pub calls_come : CallsOfRunsComeToOutcome
+    calls_come d token loaded happened short fuel number life enough is = comes d token loaded fuel happened (short fuel enough) number life is
 
 -- ---- what is sent out
 
-pub sends_clean : CallsTakeTheirSteps → NothingIsOfNobody → CallsSendCleanMessages → CallsAreToldWhatIsInForce → IsReadClean → ((m : Message Start) → IsCleanMessage m → HasOwnLines m) →
-    RunsSendCleanMessages
-sends_clean steps nobodys sends views read own d token loaded happened home clean_token short fuel enough =
-    let w : World = world_after d token loaded fuel happened in
-    offers_own own steps nobodys sends views read d token home clean_token loaded fuel happened (has_numbers d w (runs_keyed d token loaded fuel happened) (short fuel enough))
+pub sends_clean : DeedsSendCleanMessages → LegsGoOutClean → EmitsAreClean → CallsAreToldWhatIsInForce → IsReadClean → ((m : Message Start) → IsCleanMessage m → HasOwnLines m) → RunsSendCleanMessages
+sends_clean sends legs seats views read own d token loaded happened home clean_token short fuel enough = offers_own own sends legs seats views read d token home clean_token loaded fuel happened

@@ -21,15 +21,15 @@ use Rattle.mmtel_message.specs.Headers.{is_value_byte}
 use Rattle.mmtel_message.specs.Message.{Message}
 use Rattle.mmtel_message.specs.declared.messages.Start.{Start}
 use Rattle.mmtel_message.specs.declared.messages.Start.TheVariants.{Request, Status}
+use Rattle.mmtel_sdp.specs.Offers.{offers_audio}
 use Rattle.mmtel_trust.specs.Digest.{HeardMessage}
 use Rattle.mmtel_trust.specs.MaskedMessages.{public_part}
 use Rattle.mmtel_types.specs.declared.addrs.Addr.{Addr}
 use Rattle.mmtel_types.specs.declared.numbers.Account.{Account}
-use Rattle.mmtel_types.specs.declared.numbers.CallNo.{CallNo}
 use Rattle.mmtel_types.specs.declared.numbers.Peer.{Peer}
-use Rattle.mmtel_types.specs.declared.sides.Side.{Side}
 use Rattle.mmtel_run.specs.Answers.{Answer, completed_reply, is_unsupported, response_to, tag_for, unsupported, unsupported_line, without_extension}
-use Rattle.mmtel_run.specs.Refusals.{Course, Enter, Open, Refuse, Register, Unbuilt, by_method, course, course_by, course_in, first_that_applies, is_for_conference, is_foreign, is_foreign_uri, is_known_method, is_register, refusals, registration_of, to_account}
+use Rattle.mmtel_run.specs.Refusals.{Course, Enter, EnterRoom, JoinRoom, Open, OpenRoom, Refuse, Register, by_method, course, course_by, course_in, first_that_applies, in_dialog, invited_at, is_factory, is_foreign, is_foreign_uri, is_known_method, is_register, is_room, opening, refusals, registration_of, room_number, to_account, with_audio}
+use Rattle.mmtel_run.specs.Rooms.{Holder, InCall, InRoom}
 use Rattle.mmtel_run_laws.proofs.Received.{IsReadWell}
 
 -- ---- what was heard
@@ -96,9 +96,11 @@ second-none false false x y o h = refl
 abbrev pub IsCleanCourse : Start → Course → Type 0
 IsCleanCourse start (Refuse answer) = IsCleanAnswer answer
 IsCleanCourse start (Enter call side) = Unit {0}
+IsCleanCourse start (EnterRoom room seat) = Unit {0}
 IsCleanCourse start Open = IsClean (request_uri start)
+IsCleanCourse start OpenRoom = Unit {0}
+IsCleanCourse start (JoinRoom room) = Unit {0}
 IsCleanCourse start (Register account seconds) = Unit {0}
-IsCleanCourse start Unbuilt = Unit {0}
 
 either : (start : Start) (b : Bool) (x y : Course) → IsCleanCourse start x → IsCleanCourse start y → IsCleanCourse start (if b then x else y)
 either start true x y h g = h
@@ -120,24 +122,37 @@ module _ (d : Directory) (full : Bool) (m : HeardMessage) where
   registers None = refl
   registers (Some account) = tt
 
+  opens : IsClean (request_uri m.start) → IsCleanCourse m.start (opening full)
+  opens uri = either m.start full _ _ refl uri
+
+  -- an INVITE to the factory, to a room, or to anybody else
+  target-clean : (o : Result Uri Refusal) → IsClean (request_uri m.start) → IsCleanCourse m.start (invited_at d full m o)
+  target-clean (Ok target) uri =
+      either m.start (is_factory d.factory target) (with_audio m OpenRoom) _ (either m.start (offers_audio m.body) OpenRoom _ tt refl)
+      (either m.start (is_room d.sip target) (with_audio m (JoinRoom (room_number d.sip target))) (opening full)
+      (either m.start (offers_audio m.body) (JoinRoom (room_number d.sip target)) _ tt refl) (opens uri))
+  target-clean (Err refusal) uri = opens uri
+
   method-clean : IsClean (request_uri m.start) → IsCleanCourse m.start (by_method d full m)
   method-clean uri =
       either m.start (is_method (codes "OPTIONS") m.start) _ _ refl
-      (either m.start (is_method (codes "BYE") m.start) _ _ refl
       (either m.start (is_method (codes "REFER") m.start) _ _ refl
-      (either m.start (is_method (codes "INVITE") m.start) _ _
-      (either m.start (is_for_conference d (uri_of (request_uri m.start))) _ _ tt (either m.start full _ _ refl uri))
-      (either m.start (is_register m) _ _ (either m.start m.trusted _ _ (registers (to_account d.names.accounts m)) refl) tt))))
+      (either m.start (is_method (codes "INVITE") m.start) _ _ (target-clean (uri_of (request_uri m.start)) uri)
+      (either m.start (is_register m) _ _ (either m.start m.trusted _ _ (registers (to_account d.names.accounts m)) refl) refl)))
 
-  in-clean : (named : Option (CallNo × Side)) → IsClean (request_uri m.start) → IsCleanCourse m.start (course_in d full named m)
+  dialog-clean : (holder : Holder) → IsCleanCourse m.start (in_dialog holder)
+  dialog-clean (InCall call side) = tt
+  dialog-clean (InRoom room seat) = tt
+
+  in-clean : (named : Option Holder) → IsClean (request_uri m.start) → IsCleanCourse m.start (course_in d full named m)
   in-clean None uri = method-clean uri
-  in-clean (Some named) uri = tt
+  in-clean (Some holder) uri = dialog-clean holder
 
-  by-clean : (named : Option (CallNo × Side)) (o : Option Answer) → IfSome o IsCleanAnswer → (o ≡ None → IsClean (request_uri m.start)) → IsCleanCourse m.start (course_by d full named m o)
+  by-clean : (named : Option Holder) (o : Option Answer) → IfSome o IsCleanAnswer → (o ≡ None → IsClean (request_uri m.start)) → IsCleanCourse m.start (course_by d full named m o)
   by-clean named None h uri = in-clean named (uri refl)
   by-clean named (Some answer) h uri = h
 
-pub course_clean : IsReadClean → (d : Directory) (merged full : Bool) (named : Option (CallNo × Side)) (m : HeardMessage) → IsHeardWell m → IsCleanCourse m.start (course d merged full named m)
+pub course_clean : IsReadClean → (d : Directory) (merged full : Bool) (named : Option Holder) (m : HeardMessage) → IsHeardWell m → IsCleanCourse m.start (course d merged full named m)
 unfolding course
 course_clean read d merged full named m h =
     by-clean d full (public_part m) named (first_that_applies (refusals merged (is_some named) (public_part m)))

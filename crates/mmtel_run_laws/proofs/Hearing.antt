@@ -1,88 +1,119 @@
--- What calls hear in one event of a run they hear with the records and registrations that were in force before it.
-use Rattle.std.proofs.Common.{◌≡◌, ℕ, zero, suc, List, [], ◌∷◌, ◌++◌, length, refl, ap, ◌∙◌, ◌≤◌, arith, le_refl, Bool, true, false, Option, Some, None, IfSome}
-use Rattle.std.specs.Prelude.{if◌then◌else◌, is_some, nat_le}
+-- What is done on calls and rooms in one event of a run: what calls hear they hear with the records and registrations that were in force before it, and each request with a server transaction of its own; a leg that is put back is of the side that is away; and no seat of a room is left, and no room closed, without a signal.
+-- The words of a run are walked once. A world stands so still where nothing is done on calls and rooms, and after a deed on calls, and after one on rooms.
+use Rattle.std.proofs.Common.{◌≡◌, ℕ, zero, suc, ◌+◌, List, [], ◌∷◌, ◌++◌, length, refl, sym, ap, ◌∙◌, subst, ◌≤◌, arith, le_refl, Bool, true, false, Option, Some, None, IfSome, Result, Ok, Err}
+use Rattle.std.specs.Prelude.{if◌then◌else◌, is_some, nat_le, option_map}
+use Rattle.std.specs.List.{find}
 use Rattle.std.proofs.lemmas.Bool.Decides.{nat_tests}
 use Rattle.mmtel_answers.specs.Said.{Said}
-use Rattle.mmtel_b2bua.specs.Histories.{Deed, Drops, Finishes, Hears, Releases, Restores, hears_after}
+use Rattle.mmtel_b2bua.specs.Histories.{Deed, Drops, Finishes, Hears, Releases, Restores, finished_by, hears_after, table_after}
+use Rattle.mmtel_b2bua.specs.Lending.{entry_of, leg_out, takes_back}
+use Rattle.mmtel_b2bua.specs.Names.{party}
 use Rattle.mmtel_b2bua.specs.declared.signals.Signal.{Signal}
 use Rattle.mmtel_b2bua.specs.declared.signals.Signal.TheVariants as signal
+use Rattle.mmtel_b2bua_laws.specs.Legs.{LegsGoBack}
+use Rattle.mmtel_call.specs.Site.{Site}
+use Rattle.mmtel_call.specs.Table.{invite_answered, invite_silent}
 use Rattle.mmtel_call_heads.specs.Emits.{Each}
 use Rattle.mmtel_charging.specs.declared.rows.Row.{Row}
+use Rattle.mmtel_desk.specs.declared.desks.Desk.{Desk}
 use Rattle.mmtel_directory.specs.declared.directories.Directory.{Directory}
+use Rattle.mmtel_focus.specs.Histories as rooms
+use Rattle.mmtel_focus.specs.Table.{access, has_no_room}
+use Rattle.mmtel_focus.specs.declared.faults.RoomFault.{RoomFault}
+use Rattle.mmtel_focus.specs.declared.referrals.Replaces.{Replaces}
+use Rattle.mmtel_focus.specs.declared.signals.RoomSignal.{RoomSignal}
+use Rattle.mmtel_focus.specs.declared.signals.RoomSignal.TheVariants as of_room
+use Rattle.mmtel_leg.specs.declared.legs.Released.{Released}
 use Rattle.mmtel_sheet_values.specs.View.{InForce}
-use Rattle.mmtel_transaction.specs.Answers.{Next, due_one, fires, hear_says, is_before, is_merged, next_due, says_due, sooner, text_again, tkey}
-use Rattle.mmtel_transaction.specs.Calls.{live}
+use Rattle.mmtel_transaction.specs.Answers.{Next, due_one, fires, is_before, is_invite_of, is_merged, key_of, next_due, part_of, says, says_due, says_opened, sooner, text_again, tkey}
+use Rattle.mmtel_transaction.specs.Calls.{DidAck, DidAsk, DidBegin, DidFire, DidHear, DidReply, live}
 use Rattle.mmtel_transaction.specs.Deadlines.{deadline, ends, resend_at}
+use Rattle.mmtel_transaction.specs.Heads.{head_of, is_cancel}
 use Rattle.mmtel_transaction.specs.declared.entries.Entry.{Entry}
+use Rattle.mmtel_transaction.specs.declared.parts.Part.{Part}
+use Rattle.mmtel_transaction.specs.declared.parts.Part.TheVariants as part
 use Rattle.mmtel_transaction.specs.declared.words.Due.{Due}
 use Rattle.mmtel_transaction.specs.declared.words.Due.TheVariants as due
 use Rattle.mmtel_transaction.specs.declared.words.Emit.{Emit}
 use Rattle.mmtel_transaction.specs.declared.words.Emit.TheVariants as emit
 use Rattle.mmtel_transaction.specs.declared.words.Heard as transaction
-use Rattle.mmtel_transaction.specs.declared.words.Heard.TheVariants as heard
 use Rattle.mmtel_transaction.specs.declared.words.TKey.{TKey}
+use Rattle.mmtel_types.specs.Sides.{other_of}
+use Rattle.mmtel_types.specs.declared.numbers.Account.{Account}
 use Rattle.mmtel_types.specs.declared.numbers.CallNo.{CallNo}
 use Rattle.mmtel_types.specs.declared.numbers.Peer.{Peer}
+use Rattle.mmtel_types.specs.declared.numbers.RoomNo.{RoomNo}
 use Rattle.mmtel_types.specs.declared.sides.Side.{Side}
-use Rattle.mmtel_run.specs.Calls.{are_full, arrived, asked_by, named_by, site_of}
+use Rattle.mmtel_run.specs.Answers.{Answer, plainly, response_to, tag_for}
+use Rattle.mmtel_run.specs.Calls.{are_full, arrived, asked_by, site_of}
 use Rattle.mmtel_run.specs.Deadlines as deadlines
-use Rattle.mmtel_run.specs.Deadlines.{Armed, Chosen, Deadline, OfCall, OfMessage, choose, chosen, comes_before, first_armed, first_of, is_sooner}
+use Rattle.mmtel_run.specs.Deadlines.{Alarm, Armed, Chosen, Deadline, OfAlarm, OfCall, OfMessage, OfSeat, choose, chosen, comes_before, first_armed, first_of, is_sooner}
 use Rattle.mmtel_run.specs.Events.{Digest, Notice, message_in}
 use Rattle.mmtel_run.specs.Events as events
-use Rattle.mmtel_run.specs.Records.{in_force}
-use Rattle.mmtel_run.specs.Refusals.{Course, Refuse, Enter, Open, Register, course}
-use Rattle.mmtel_run.specs.Refusals as refusals
+use Rattle.mmtel_run.specs.Records.{in_force, until_of}
+use Rattle.mmtel_run.specs.Refusals.{Course, Refuse, Enter, EnterRoom, Open, OpenRoom, JoinRoom, Register, course}
+use Rattle.mmtel_run.specs.Rooms.{Holder, InCall, InRoom, account_of_side, is_key_of_calls, is_of_calls, is_with, replacement_in, side_replaced, status_by}
 use Rattle.mmtel_run.specs.Run.{clock_at, due_in, fire_one, fired_if, one_more, settled}
-use Rattle.mmtel_run.specs.World.{World, answering, begun, calls_in, came, cancelling, cancelling_call, emit_one, emitted, entering, fired, handing, heard_now, hearing, met, repeating, rows_waiting, rung, signalled, taking, told}
+use Rattle.mmtel_run.specs.World.{World, acknowledging_by, adopting, adoption_of, alarmed, answering, begun, bringing, calls_in, came, cancelling, cancelling_call, comes_of, drawing, emit_one, emitted, ended_of, entering_room, finishing, fired, handing, heard_in_rooms, heard_now, hearing, holder_in, housed, joining_of, lending, lodging, met, next_tag, noticed, opening_of, registering, repeating, replaced_by, replaced_with, replacing, replying, responding_to, room_joined, room_opened, rooms_in, rung, seated, signalled, silenced, taken_out, taking, tokens_now, told}
+use Rattle.mmtel_run_laws.proofs.Keyed.{HasKey, HasNoKey, Keyed, ended_keyed, dropped_keyed, fresh_keyed, keys, keys_fresh, keys_grow, more_keyed, quiet_keyed, released_keyed, restored_keyed}
 
--- ---- a deed that was heard so, or that hands rows over
+-- ---- a deed that was heard so, where these were done before
 
 abbrev pub Sees : InForce → (now : ℕ) → Deed → Type 0
 Sees view now (Hears x) = (x.view ≡ view) × (x.at ≤ now)
-Sees view now (Releases number side) = ⊥
-Sees view now (Restores number away) = ⊥
-Sees view now (Finishes number at tokens) = ⊥
+Sees view now (Releases number side) = Unit {0}
+Sees view now (Restores number away) = Unit {0}
+Sees view now (Finishes number at tokens) = Unit {0}
 Sees view now (Drops count) = Unit {0}
+
+-- deeds of which each leg that is taken out of a call is put back by the next deed, and is of the side that is away, or that call ends by the next deed; where a leg of the call of a number is `away`, it was taken out by the last of them
+abbrev pub IsWhole : Site → (away : Option ℕ) → List Deed → Type 0
+IsWhole site None [] = Unit {0}
+IsWhole site None (Hears x ∷ older) = IsWhole site None older
+IsWhole site None (Releases number side ∷ older) = ⊥
+IsWhole site None (Restores number leg ∷ older) = (takes_back leg (entry_of number (table_after site older).entries) ≡ true) × IsWhole site (Some number) older
+IsWhole site None (Finishes number at tokens ∷ older) = IsWhole site (Some number) older
+IsWhole site None (Drops count ∷ older) = IsWhole site None older
+IsWhole site (Some away) [] = ⊥
+IsWhole site (Some away) (Hears x ∷ older) = ⊥
+IsWhole site (Some away) (Releases number side ∷ older) =
+    (away ≡ number) × ((leg : Released) × (leg_out number side (table_after site older).entries ≡ Some leg)) × IsWhole site None older
+IsWhole site (Some away) (Restores number leg ∷ older) = ⊥
+IsWhole site (Some away) (Finishes number at tokens ∷ older) = ⊥
+IsWhole site (Some away) (Drops count ∷ older) = ⊥
+
+-- what is done on rooms in a run
+abbrev pub IsOfRun : rooms.Deed → Type 0
+IsOfRun (rooms.Opens coming) = Unit {0}
+IsOfRun (rooms.Joins room coming) = Unit {0}
+IsOfRun (rooms.Adopts room adoption) = Unit {0}
+IsOfRun (rooms.Notifies room seat code tokens) = Unit {0}
+IsOfRun (rooms.Hears heard) = Unit {0}
+IsOfRun (rooms.Leaves room seat) = ⊥
+IsOfRun (rooms.Closes room) = ⊥
+IsOfRun (rooms.Drops count) = Unit {0}
 
 -- ---- what one event adds to what was done before it
 
 abbrev pub in_force_in : World → InForce
 in_force_in w = in_force w.texts w.registrations
 
-pub record Adds (now : ℕ) (w0 w : World) : Type 0 where
+abbrev pub IsKeyed : Directory → World → Type 0
+IsKeyed d w = Keyed (site_of d) (keys w.acts) w.deeds
+
+pub record Adds (d : Directory) (now : ℕ) (w0 : World) (away : Option ℕ) (w : World) : Type 0 where
   pub added : List Deed
   pub is : w.deeds ≡ added ++ w0.deeds
   pub sees : Each (Sees (in_force_in w0) now) added
+  pub keyed : IsKeyed d w
+  pub whole : IsWhole (site_of d) away w.deeds
+  pub rooms : Each IsOfRun w.rooms
 
 -- and the records and registrations stand as they stood
-record Still (now : ℕ) (w0 w : World) : Type 0 where
-  adds : Adds now w0 w
+record Still (d : Directory) (now : ℕ) (w0 : World) (away : Option ℕ) (w : World) : Type 0 where
+  adds : Adds d now w0 away w
   texts : w.texts ≡ w0.texts
   registrations : w.registrations ≡ w0.registrations
-
--- a world with these parts
-same : (now : ℕ) (w0 w v : World) → v.deeds ≡ w.deeds → v.texts ≡ w.texts → v.registrations ≡ w.registrations → Still now w0 w → Still now w0 v
-same now w0 w v deeds texts registrations t = record {
-  adds = record { added = t.adds.added; is = deeds ∙ t.adds.is; sees = t.adds.sees };
-  texts = texts ∙ t.texts;
-  registrations = registrations ∙ t.registrations;
-}
-
-alone : (now : ℕ) (w0 w v : World) → v.deeds ≡ w.deeds → Still now w0 w → Adds now w0 v
-alone now w0 w v deeds t = record { added = t.adds.added; is = deeds ∙ t.adds.is; sees = t.adds.sees }
-
--- what is no matter of calls
-emit_adds : (now at : ℕ) (x : Emit) (w0 w : World) → Still now w0 w → Still now w0 (emit_one at x w)
-emit_adds now at (emit.Ask peer message) w0 w t = same now w0 w _ refl refl refl t
-emit_adds now at (emit.Reply key message) w0 w t = same now w0 w _ refl refl refl t
-emit_adds now at (emit.Plain peer text) w0 w t = same now w0 w _ refl refl refl t
-emit_adds now at (emit.Ack key message) w0 w t = same now w0 w _ refl refl refl t
-emit_adds now at (emit.Arm call what when) w0 w t = same now w0 w _ refl refl refl t
-emit_adds now at (emit.ArmSeat room seat what when) w0 w t = t
-
-emitted_adds : (now at : ℕ) (xs : List Emit) (w0 w : World) → Still now w0 w → Still now w0 (emitted at xs w)
-emitted_adds now at [] w0 w t = t
-emitted_adds now at (x ∷ xs) w0 w t = emitted_adds now at xs w0 (emit_one at x w) (emit_adds now at x w0 w t)
 
 -- ---- deadlines that fire at a moment are not later
 
@@ -127,7 +158,7 @@ says-by now (Some n) h = go (is_some (resend_at n.entry)) (ends n.entry.plan)
     go false true = h
     go false false = h
 
--- one of a call
+-- one of a call or of a seat
 abbrev ChosenBy : ℕ → Option Chosen → Type 0
 ChosenBy now o = IfSome o (λ c. c.first.at ≤ now)
 
@@ -151,7 +182,7 @@ armed-by now (armed ∷ others) = chosen-by now armed others (nat_le armed.at no
 -- whichever comes first
 abbrev DeadlineBy : ℕ → Deadline → Type 0
 DeadlineBy now OfMessage = Unit {0}
-DeadlineBy now (OfCall armed others) = armed.at ≤ now
+DeadlineBy now (OfAlarm armed others) = armed.at ≤ now
 
 first-by : (now : ℕ) (o : Option Next) (p : Option Chosen) → ChosenBy now p → IfSome (first_of o p) (DeadlineBy now)
 first-by now None None h = tt
@@ -159,7 +190,7 @@ first-by now (Some next) None h = tt
 first-by now None (Some call) h = h
 first-by now (Some next) (Some call) h = go (comes_before next call.first)
   where
-    go : (b : Bool) → IfSome (if b then Some OfMessage else Some (OfCall call.first call.others)) (DeadlineBy now)
+    go : (b : Bool) → IfSome (if b then Some OfMessage else Some (OfAlarm call.first call.others)) (DeadlineBy now)
     go true = tt
     go false = h
 
@@ -168,106 +199,314 @@ due-by now w = first-by now (next_due now (live w.acts)) (first_armed now w.arme
 
 -- ---- one event
 
-module _ (d : Directory) (token : List ℕ) (w0 : World) (now : ℕ) where
-  signalled_adds : (at : ℕ) (x : Signal) (w : World) → at ≤ now → Still now w0 w → Still now w0 (signalled d token at x w)
-  signalled_adds at x w le t =
-      emitted_adds now at (hears_after (site_of d) w.deeds (heard_now token at x w)).desk.out w0
-      (record w { deeds = Hears (heard_now token at x w) ∷ w.deeds; drawn = (hears_after (site_of d) w.deeds (heard_now token at x w)).desk.tokens.drawn })
-      (record {
-        adds = record {
-          added = Hears (heard_now token at x w) ∷ t.adds.added;
-          is = ap (λ (deeds : List Deed). Hears (heard_now token at x w) ∷ deeds) t.adds.is;
-          sees = (((λ i. in_force (t.texts i) (t.registrations i)), le), t.adds.sees);
-        };
+-- so many transactions are still of a world in which more calls are made of them
+keyed-same : (d : Directory) (w v : World) → v.deeds ≡ w.deeds → keys w.acts ≤ keys v.acts → IsKeyed d w → IsKeyed d v
+keyed-same d w v deeds le k = subst (Keyed (site_of d) (keys v.acts)) (sym deeds) (more_keyed (site_of d) (keys w.acts) (keys v.acts) w.deeds le k)
+
+module _ (d : Directory) (token : List ℕ) (back : LegsGoBack) (w0 : World) (now : ℕ) where
+  abbrev StillAt : (away : Option ℕ) → World → Type 0
+  StillAt away w = Still d now w0 away w
+
+  -- no leg is away
+  abbrev StillSo : World → Type 0
+  StillSo w = Still d now w0 None w
+
+  abbrev AddsSo : World → Type 0
+  AddsSo w = Adds d now w0 None w
+
+  -- ---- nothing is done on calls and rooms
+
+  -- whatever becomes of records and registrations
+  alone : {away : Option ℕ} (w v : World) → v.deeds ≡ w.deeds → v.rooms ≡ w.rooms → keys w.acts ≤ keys v.acts → Adds d now w0 away w → Adds d now w0 away v
+  alone {away} w v deeds seats le t = record {
+    added = t.added;
+    is = deeds ∙ t.is;
+    sees = t.sees;
+    keyed = keyed-same d w v deeds le t.keyed;
+    whole = subst (IsWhole (site_of d) away) (sym deeds) t.whole;
+    rooms = subst (Each IsOfRun) (sym seats) t.rooms;
+  }
+
+  quiet : {away : Option ℕ} (w v : World) → v.deeds ≡ w.deeds → v.rooms ≡ w.rooms → v.texts ≡ w.texts → v.registrations ≡ w.registrations → keys w.acts ≤ keys v.acts → StillAt away w → StillAt away v
+  quiet w v deeds seats texts registrations le t = record { adds = alone w v deeds seats le t.adds; texts = texts ∙ t.texts; registrations = registrations ∙ t.registrations }
+
+  emit_still : {away : Option ℕ} (at : ℕ) (x : Emit) (w : World) → StillAt away w → StillAt away (emit_one at x w)
+  emit_still at (emit.Ask peer message) w t = quiet w _ refl refl refl refl (keys_grow (DidAsk peer message at) w.acts) t
+  emit_still at (emit.Reply key message) w t = quiet w _ refl refl refl refl (keys_grow (DidReply key.0 message at) w.acts) t
+  emit_still at (emit.Plain peer text) w t = quiet w _ refl refl refl refl (le_refl (keys w.acts)) t
+  emit_still at (emit.Ack key message) w t = quiet w _ refl refl refl refl (keys_grow (DidAck key.0 message) w.acts) t
+  emit_still at (emit.Arm call what when) w t = quiet w _ refl refl refl refl (le_refl (keys w.acts)) t
+  emit_still at (emit.ArmSeat room seat what when) w t = quiet w _ refl refl refl refl (le_refl (keys w.acts)) t
+
+  emitted_still : {away : Option ℕ} (at : ℕ) (xs : List Emit) (w : World) → StillAt away w → StillAt away (emitted at xs w)
+  emitted_still at [] w t = t
+  emitted_still at (x ∷ xs) w t = emitted_still at xs (emit_one at x w) (emit_still at x w t)
+
+  -- ---- a deed on calls
+
+  lending_still : {before after : Option ℕ} (deed : Deed) (w : World) → Sees (in_force_in w0) now deed → Keyed (site_of d) (keys w.acts) (deed ∷ w.deeds) → IsWhole (site_of d) after (deed ∷ w.deeds) →
+      StillAt before w → StillAt after (lending deed w)
+  lending_still deed w sees keyed whole t = record {
+    adds = record {
+      added = deed ∷ t.adds.added;
+      is = ap (λ (deeds : List Deed). deed ∷ deeds) t.adds.is;
+      sees = (sees, t.adds.sees);
+      keyed = keyed;
+      whole = whole;
+      rooms = t.adds.rooms;
+    };
+    texts = t.texts;
+    registrations = t.registrations;
+  }
+
+  bringing_still : {before : Option ℕ} (at : ℕ) (deed : Deed) (desk : Desk) (w : World) → Sees (in_force_in w0) now deed → Keyed (site_of d) (keys w.acts) (deed ∷ w.deeds) →
+      IsWhole (site_of d) None (deed ∷ w.deeds) → StillAt before w → StillSo (bringing at deed desk w)
+  bringing_still at deed desk w sees keyed whole t =
+      let done : World = lending (Drops (length desk.rows)) (lending deed w) in
+      let brought : StillSo (lending deed w) = lending_still deed w sees keyed whole t in
+      let still : StillSo done =
+      lending_still (Drops (length desk.rows)) (lending deed w) tt (dropped_keyed (site_of d) (keys w.acts) (length desk.rows) (deed ∷ w.deeds) keyed) whole brought in
+      emitted_still at desk.out (record w { deeds = Drops (length desk.rows) ∷ deed ∷ w.deeds; drawn = desk.tokens.drawn; waiting = w.waiting ++ desk.rows })
+      (quiet done _ refl refl refl refl (le_refl (keys w.acts)) still)
+
+  -- they hear what is no request
+  signalled_still : (at : ℕ) (x : Signal) (w : World) → at ≤ now → HasNoKey x → StillSo w → StillSo (signalled d token at x w)
+  signalled_still at x w le none t =
+      bringing_still at (Hears (heard_now token at x w)) (hears_after (site_of d) w.deeds (heard_now token at x w)).desk w
+      ((λ i. in_force (t.texts i) (t.registrations i)), le) (quiet_keyed (site_of d) (keys w.acts) w.deeds (heard_now token at x w) none t.adds.keyed) t.adds.whole t
+
+  -- the leg of a call is away, and it ends
+  finishing_still : (at : ℕ) (call : CallNo) (w : World) → StillAt (Some call.0) w → StillSo (finishing d token at call w)
+  finishing_still at call w t =
+      bringing_still at (Finishes call.0 at (tokens_now token w)) (finished_by (site_of d) call.0 at (tokens_now token w) (calls_in d w)).desk w tt
+      (ended_keyed (site_of d) (keys w.acts) call.0 at (tokens_now token w) w.deeds t.adds.keyed) t.adds.whole t
+
+  releasing_still : (number : ℕ) (side : Side) (leg : Released) (w : World) → leg_out number side (calls_in d w).entries ≡ Some leg → StillSo w → StillAt (Some number) (lending (Releases number side) w)
+  releasing_still number side leg w is t =
+      lending_still (Releases number side) w tt (released_keyed (site_of d) (keys w.acts) number side w.deeds t.adds.keyed) (refl, (leg, is), t.adds.whole) t
+
+  restoring_still : (number : ℕ) (leg : Released) (w : World) → takes_back leg (entry_of number (calls_in d w).entries) ≡ true → StillAt (Some number) w → StillSo (lending (Restores number leg) w)
+  restoring_still number leg w fits t = lending_still (Restores number leg) w tt (restored_keyed (site_of d) (keys w.acts) number leg w.deeds t.adds.keyed) (fits, t.adds.whole) t
+
+  -- ---- a deed on rooms
+
+  lodging_still : {away : Option ℕ} (at : ℕ) (deed : rooms.Deed) (desk : Desk) (w : World) → IsOfRun deed → StillAt away w → StillAt away (lodging at deed desk w)
+  lodging_still at deed desk w of_run t =
+      emitted_still at desk.out (record w { rooms = rooms.Drops (length desk.rows) ∷ deed ∷ w.rooms; waiting = w.waiting ++ desk.rows }) (record {
+        adds = record { added = t.adds.added; is = t.adds.is; sees = t.adds.sees; keyed = t.adds.keyed; whole = t.adds.whole; rooms = (tt, (of_run, t.adds.rooms)) };
         texts = t.texts;
         registrations = t.registrations;
       })
 
-  rung_adds : (x : Due) (w : World) → DueBy now x → Still now w0 w → Still now w0 (rung d token x w)
-  rung_adds (due.Again peer at text) w le t = same now w0 w _ refl refl refl t
-  rung_adds (due.Silent key branch method at) w le t = signalled_adds at (signal.Silent branch method) w le t
-  rung_adds (due.Over key at) w le t = signalled_adds at (signal.Over key) w le t
-  rung_adds due.Nothing w le t = t
+  housed_still : {away : Option ℕ} (at : ℕ) (deed : rooms.Deed) (w : World) → IsOfRun deed → StillAt away w → StillAt away (housed d at deed w)
+  housed_still at deed w of_run t =
+      let v : World = record w { drawn = (comes_of d deed w).tokens.drawn } in
+      lodging_still at deed (comes_of d deed w) v of_run (quiet w v refl refl refl refl (le_refl (keys w.acts)) t)
 
-  fired_adds : (x : Deadline) (w : World) → DeadlineBy now x → Still now w0 w → Still now w0 (fired d token now x w)
-  fired_adds OfMessage w le t =
-      rung_adds (says_due (next_due now (live (begun w).acts))) (record (begun w) { acts = fires (begun w).acts (next_due now (live (begun w).acts)) })
-      (says-by now (next_due now (live (begun w).acts)) (next-by now (live (begun w).acts))) (same now w0 w _ refl refl refl t)
-  fired_adds (OfCall armed others) w le t = signalled_adds armed.at (signal.Due armed.call armed.what) (record (begun w) { armed = others }) le (same now w0 w _ refl refl refl t)
+  seated_still : (at : ℕ) (x : RoomSignal) (w : World) → StillSo w → StillSo (seated d token at x w)
+  seated_still at x w t = housed_still at (heard_in_rooms token at x w) w tt t
 
-  if_fired_adds : (o : Option Deadline) (w : World) → IfSome o (DeadlineBy now) → Still now w0 w → Still now w0 (fired_if d token now o w)
-  if_fired_adds None w le t = t
-  if_fired_adds (Some x) w le t = fired_adds x w le t
+  noticed_still : (at : ℕ) (room : RoomNo) (seat code : ℕ) (w : World) → StillSo w → StillSo (noticed d token at room seat code w)
+  noticed_still at room seat code w t = housed_still at (rooms.Notifies room.0 seat code (tokens_now token w)) w tt t
 
-  settled_adds : (fuel : ℕ) (w : World) → Still now w0 w → Still now w0 (settled d token fuel now w)
-  settled_adds zero w t = t
-  settled_adds (suc fuel) w t = settled_adds fuel (fire_one d token now w) (if_fired_adds (due_in now w) w (due-by now w) t)
+  -- ---- deadlines
+
+  silenced_still : (at : ℕ) (branch method : List ℕ) (b : Bool) (w : World) → at ≤ now → StillSo w → StillSo (silenced d token at branch method b w)
+  silenced_still at branch method true w le t = signalled_still at (signal.Silent branch method) w le tt t
+  silenced_still at branch method false w le t = seated_still at (of_room.Silent branch method) w t
+
+  over_still : (at : ℕ) (key : TKey) (b : Bool) (w : World) → at ≤ now → StillSo w → StillSo (ended_of d token at key b w)
+  over_still at key true w le t = signalled_still at (signal.Over key) w le tt t
+  over_still at key false w le t = seated_still at (of_room.Over key) w t
+
+  rung_still : (x : Due) (w : World) → DueBy now x → StillSo w → StillSo (rung d token x w)
+  rung_still (due.Again peer at text) w le t = quiet w _ refl refl refl refl (le_refl (keys w.acts)) t
+  rung_still (due.Silent key branch method at) w le t = silenced_still at branch method (is_of_calls (invite_silent branch method) (calls_in d w).entries) w le t
+  rung_still (due.Over key at) w le t = over_still at key (is_key_of_calls key (calls_in d w).entries) w le t
+  rung_still due.Nothing w le t = t
+
+  begun_still : (w : World) → StillSo w → StillSo (begun w)
+  begun_still w t = quiet w (begun w) refl refl refl refl (keys_grow (DidBegin w.steps) w.acts) t
+
+  fires_still : (o : Option Next) (w : World) → StillSo w → StillSo (record w { acts = fires w.acts o })
+  fires_still None w t = quiet w _ refl refl refl refl (le_refl (keys w.acts)) t
+  fires_still (Some next) w t = quiet w _ refl refl refl refl (keys_grow (DidFire next.entry.key) w.acts) t
+
+  alarmed_still : (at : ℕ) (x : Alarm) (w : World) → at ≤ now → StillSo w → StillSo (alarmed d token at x w)
+  alarmed_still at (OfCall call what) w le t = signalled_still at (signal.Due call what) w le tt t
+  alarmed_still at (OfSeat room seat what) w le t = seated_still at (of_room.Due room seat what) w t
+
+  fired_still : (x : Deadline) (w : World) → DeadlineBy now x → StillSo w → StillSo (fired d token now x w)
+  fired_still OfMessage w le t =
+      let next : Option Next = next_due now (live (begun w).acts) in
+      rung_still (says_due next) (record (begun w) { acts = fires (begun w).acts next }) (says-by now next (next-by now (live (begun w).acts))) (fires_still next (begun w) (begun_still w t))
+  fired_still (OfAlarm armed others) w le t =
+      alarmed_still armed.at armed.alarm (record (begun w) { armed = others }) le (quiet (begun w) _ refl refl refl refl (le_refl (keys (begun w).acts)) (begun_still w t))
+
+  if_fired_still : (o : Option Deadline) (w : World) → IfSome o (DeadlineBy now) → StillSo w → StillSo (fired_if d token now o w)
+  if_fired_still None w le t = t
+  if_fired_still (Some x) w le t = fired_still x w le t
+
+  settled_still : (fuel : ℕ) (w : World) → StillSo w → StillSo (settled d token fuel now w)
+  settled_still zero w t = t
+  settled_still (suc fuel) w t = settled_still fuel (fire_one d token now w) (if_fired_still (due_in now w) w (due-by now w) t)
+
+  -- ---- messages
 
   module _ (s : Said) where
-    taking_adds : (key : TKey) (c : Course) (w : World) → Still now w0 w → Adds now w0 (taking d token now key s c w)
-    taking_adds key (Refuse answer) w t = alone now w0 w _ refl t
-    taking_adds key (Enter call side) w t = (signalled_adds now (signal.Request call side key s) w (le_refl now) t).adds
-    taking_adds key Open w t = (signalled_adds now (arrived d.names.accounts key s) w (le_refl now) t).adds
-    taking_adds key (Register account seconds) w t = alone now w0 w _ refl t
-    taking_adds key refusals.Unbuilt w t = alone now w0 w _ refl t
+    -- the server's own answer
+    replying_adds : (key : TKey) (answer : Answer) (w : World) → AddsSo w → AddsSo (replying d token now key s answer w)
+    replying_adds key answer w t = alone w _ refl refl (keys_grow (DidReply key.0 (response_to d.sip (tag_for token w.drawn s.heard.to_tag) s answer) now) w.acts) t
 
-    repeating_adds : (o : Option (Peer × List ℕ)) (w : World) → Still now w0 w → Adds now w0 (repeating now o w)
-    repeating_adds None w t = t.adds
-    repeating_adds (Some sent) w t = alone now w0 w _ refl t
+    opened_still : (key : TKey) (tag : List ℕ) (b : Bool) (w : World) → StillSo w → StillSo (room_opened d now key s tag b w)
+    opened_still key tag true w t = emit_still now (emit.Reply key (response_to d.sip tag s (plainly 503))) w t
+    opened_still key tag false w t = lodging_still now (opening_of d now key s tag) (comes_of d (opening_of d now key s tag) w) w tt t
 
-    cancelling_call_adds : (key invite : TKey) (o : Option (CallNo × Side)) (w : World) → Still now w0 w → Adds now w0 (cancelling_call d token now key s invite o w)
-    cancelling_call_adds key invite None w t = alone now w0 w _ refl t
-    cancelling_call_adds key invite (Some asked) w t = (signalled_adds now (signal.Cancel asked.0 key s invite) w (le_refl now) t).adds
+    joined_still : (key : TKey) (room : RoomNo) (tag : List ℕ) (r : Result ℕ RoomFault) (w : World) → StillSo w → StillSo (room_joined d token now key s room tag r w)
+    joined_still key room tag (Err fault) w t = emit_still now (emit.Reply key (response_to d.sip tag s (plainly (status_by fault)))) w t
+    joined_still key room tag (Ok place) w t = housed_still now (joining_of d now key s room tag (tokens_now token w)) w tt t
 
-    cancelling_adds : (key : TKey) (invite : Option TKey) (w : World) → Still now w0 w → Adds now w0 (cancelling d token now key s invite w)
-    cancelling_adds key None w t = alone now w0 w _ refl t
-    cancelling_adds key (Some invite) w t = cancelling_call_adds key invite (asked_by invite (calls_in d w).entries) w t
+    -- the leg is one that fits where it is put back
+    adopting_still : (room : RoomNo) (seat : ℕ) (call : CallNo) (leg : Released) (account : Option Account) (r : Result ℕ RoomFault) (w : World) →
+        takes_back leg (entry_of call.0 (calls_in d w).entries) ≡ true → StillAt (Some call.0) w → StillSo (adopting d token now room seat call leg account r w)
+    adopting_still room seat call leg account (Ok place) w fits t =
+        let adopted : World = housed d now (adoption_of token now room seat leg account w) w in
+        finishing_still now call adopted (housed_still now (adoption_of token now room seat leg account w) w tt t)
+    adopting_still room seat call leg account (Err fault) w fits t = noticed_still now room seat 503 (lending (Restores call.0 leg) w) (restoring_still call.0 leg w fits t)
 
-    entering_adds : (f : CallNo → Side → Signal) (o : Option (CallNo × Side)) (w : World) → Still now w0 w → Adds now w0 (entering d token now f o w)
-    entering_adds f None w t = t.adds
-    entering_adds f (Some x) w t = (signalled_adds now (f x.0 x.1) w (le_refl now) t).adds
+    taken_still : (room : RoomNo) (seat : ℕ) (call : CallNo) (side : Side) (account : Option Account) (o : Option Released) (w : World) →
+        leg_out call.0 side (calls_in d w).entries ≡ o → StillSo w → StillSo (taken_out d token now room seat call side account o w)
+    taken_still room seat call side account None w is t = noticed_still now room seat 491 w t
+    taken_still room seat call side account (Some leg) w is t =
+        adopting_still room seat call leg account (access room.0 (rooms_in d w).live) (lending (Releases call.0 side) w) (back call.0 side (calls_in d w).entries leg is).0
+        (releasing_still call.0 side leg w is t)
 
-    answering_adds : (o : Option transaction.Heard) (w : World) → Still now w0 w → Adds now w0 (answering d token now s o w)
-    answering_adds None w t = alone now w0 w _ refl t
-    answering_adds (Some (heard.Fresh key message)) w t = taking_adds key (course d (is_merged key.0 (live w.acts)) (are_full (calls_in d w).entries) (named_by s.heard (calls_in d w).entries) s.heard) w t
-    answering_adds (Some (heard.Answer key message)) w t = (signalled_adds now (signal.Answer key s) w (le_refl now) t).adds
-    answering_adds (Some (heard.Repeat sent)) w t = repeating_adds sent w t
-    answering_adds (Some (heard.Acked key)) w t = t.adds
-    answering_adds (Some (heard.Cancel key invite message)) w t = cancelling_adds key invite w t
-    answering_adds (Some (heard.AckOf2xx message)) w t = entering_adds (λ call side. signal.Ack call side s) (named_by s.heard (calls_in d w).entries) w t
-    answering_adds (Some heard.Stray) w t = t.adds
+    with_still : (room : RoomNo) (seat : ℕ) (call : CallNo) (side : Side) (b : Bool) (w : World) → StillSo w → StillSo (replaced_with d token now room seat call side b w)
+    with_still room seat call side false w t = noticed_still now room seat 481 w t
+    with_still room seat call side true w t =
+        taken_still room seat call (other_of side) (account_of_side call (other_of side) (calls_in d w).entries) (leg_out call.0 (other_of side) (calls_in d w).entries) w refl t
 
-    hearing_adds : (o : Option transaction.Heard) (w : World) → Still now w0 w → Still now w0 (hearing now s o w)
-    hearing_adds None w t = t
-    hearing_adds (Some taken) w t = same now w0 w _ refl refl refl t
+    by_still : (peer : Peer) (room : RoomNo) (seat : ℕ) (o : Option (CallNo × Side)) (w : World) → StillSo w → StillSo (replaced_by d token now peer room seat o w)
+    by_still peer room seat None w t = noticed_still now room seat 481 w t
+    by_still peer room seat (Some named) w t = with_still room seat named.0 named.1 (is_with peer (party named.0.0 named.1 (calls_in d w).entries)) w t
 
-    told_adds : (w : World) → Still now w0 w → Adds now w0 (told d token now s w)
+    replacing_still : (peer : Peer) (room : RoomNo) (seat : ℕ) (o : Option Replaces) (w : World) → StillSo w → StillSo (replacing d token now peer room seat o w)
+    replacing_still peer room seat None w t = t
+    replacing_still peer room seat (Some r) w t =
+        let v : World = noticed d token now room seat 100 w in
+        by_still peer room seat (side_replaced r (calls_in d v).entries) v (noticed_still now room seat 100 w t)
+
+    entering_still : (key : TKey) (room : RoomNo) (seat : ℕ) (w : World) → StillSo w → StillSo (entering_room d token now key s room seat w)
+    entering_still key room seat w t =
+        replacing_still s.peer room seat (replacement_in s.heard (comes_of d (heard_in_rooms token now (of_room.Request room seat key s) w) w).out)
+        (seated d token now (of_room.Request room seat key s) w) (seated_still now (of_room.Request room seat key s) w t)
+
+    -- a request of a fresh transaction, which is the one after so many
+    module _ (n : ℕ) (w : World) (le : n + 1 ≤ keys w.acts) (k : Keyed (site_of d) n w.deeds) (t : StillSo w) where
+      asked_still : (x : Signal) → HasKey n x → StillSo (signalled d token now x w)
+      asked_still x key =
+          bringing_still now (Hears (heard_now token now x w)) (hears_after (site_of d) w.deeds (heard_now token now x w)).desk w
+          ((λ i. in_force (t.texts i) (t.registrations i)), le_refl now)
+          (more_keyed (site_of d) (n + 1) (keys w.acts) (Hears (heard_now token now x w) ∷ w.deeds) le (fresh_keyed (site_of d) n w.deeds (heard_now token now x w) key k)) t.adds.whole t
+
+      drawn_still : StillSo (drawing 1 w)
+      drawn_still = quiet w (drawing 1 w) refl refl refl refl (le_refl (keys w.acts)) t
+
+      taking_adds : (c : Course) → AddsSo (taking d token now (tkey n) s c w)
+      taking_adds (Refuse answer) = replying_adds (tkey n) answer w t.adds
+      taking_adds (Enter call side) = (asked_still (signal.Request call side (tkey n) s) refl).adds
+      taking_adds (EnterRoom room seat) = (entering_still (tkey n) room seat w t).adds
+      taking_adds Open = (asked_still (arrived d.names.accounts (tkey n) s) refl).adds
+      taking_adds OpenRoom = (opened_still (tkey n) (next_tag token w) (has_no_room (rooms_in d w).live) (drawing 1 w) drawn_still).adds
+      taking_adds (JoinRoom room) = (joined_still (tkey n) room (next_tag token w) (access room.0 (rooms_in d w).live) (drawing 1 w) drawn_still).adds
+      taking_adds (Register account seconds) =
+          replying_adds (tkey n) (plainly 200) (registering account (until_of now seconds) w) (alone w (registering account (until_of now seconds) w) refl refl (le_refl (keys w.acts)) t.adds)
+
+      cancelling_call_adds : (invite : TKey) (o : Option (CallNo × Side)) → AddsSo (cancelling_call d token now (tkey n) s invite o w)
+      cancelling_call_adds invite None = replying_adds (tkey n) (plainly 200) w t.adds
+      cancelling_call_adds invite (Some asked) = (asked_still (signal.Cancel asked.0 (tkey n) s invite) refl).adds
+
+      cancelling_adds : (invite : Option TKey) → AddsSo (cancelling d token now (tkey n) s invite w)
+      cancelling_adds None = replying_adds (tkey n) (plainly 481) w t.adds
+      cancelling_adds (Some invite) = cancelling_call_adds invite (asked_by invite (calls_in d w).entries)
+
+      requested_adds : (is_cancel : Bool) (invited : Option TKey) → AddsSo (answering d token now s (Some (says_opened is_cancel n invited (message_in s.heard))) w)
+      requested_adds true invited = cancelling_adds invited
+      requested_adds false invited = taking_adds (course d (is_merged n (live w.acts)) (are_full (calls_in d w).entries) (holder_in d s.heard w) s.heard)
+
+    repeating_still : (o : Option (Peer × List ℕ)) (w : World) → StillSo w → StillSo (repeating now o w)
+    repeating_still None w t = t
+    repeating_still (Some sent) w t = quiet w _ refl refl refl refl (le_refl (keys w.acts)) t
+
+    acknowledging_still : (o : Option Holder) (w : World) → StillSo w → StillSo (acknowledging_by d token now s o w)
+    acknowledging_still None w t = t
+    acknowledging_still (Some (InCall call side)) w t = signalled_still now (signal.Ack call side s) w (le_refl now) tt t
+    acknowledging_still (Some (InRoom room seat)) w t = seated_still now (of_room.Ack room seat s) w t
+
+    responding_still : (key : TKey) (b : Bool) (w : World) → StillSo w → StillSo (responding_to d token now key s b w)
+    responding_still key true w t = signalled_still now (signal.Answer key s) w (le_refl now) tt t
+    responding_still key false w t = seated_still now (of_room.Answer key s) w t
+
+    -- the message was taken for this
+    abbrev heard_as : Part → World → World
+    heard_as p w = record w { acts = DidHear s.peer (message_in s.heard) now p ∷ w.acts }
+
+    abbrev hearing_as : Part → Option transaction.Heard → World → World
+    hearing_as p None w = w
+    hearing_as p (Some said) w = heard_as p w
+
+    abbrev said_of : Part → World → Option transaction.Heard
+    said_of p w = says (keys w.acts) (live w.acts) s.peer (message_in s.heard) p
+
+    heard_still : (p : Part) (w : World) → StillSo w → StillSo (heard_as p w)
+    heard_still p w t = quiet w (heard_as p w) refl refl refl refl (keys_grow (DidHear s.peer (message_in s.heard) now p) w.acts) t
+
+    said_adds : (p : Part) (w : World) → StillSo w → AddsSo (answering d token now s (said_of p w) (hearing_as p (said_of p w) w))
+    said_adds part.Fresh w t =
+        requested_adds (keys w.acts) (heard_as part.Fresh w) (omega (arith, keys_fresh s.peer (message_in s.heard) now w.acts)) t.adds.keyed (heard_still part.Fresh w t)
+        (is_cancel (head_of (message_in s.heard))) (option_map key_of (find (is_invite_of (head_of (message_in s.heard))) (live w.acts)))
+    said_adds part.Full w t = alone w _ refl refl (le_refl (keys w.acts)) t.adds
+    said_adds (part.Repeat key) w t = (repeating_still _ (heard_as (part.Repeat key) w) (heard_still (part.Repeat key) w t)).adds
+    said_adds (part.Same key) w t = (repeating_still _ (heard_as (part.Same key) w) (heard_still (part.Same key) w t)).adds
+    said_adds (part.Answer key) w t =
+        (responding_still (tkey key) (is_of_calls (invite_answered s) (calls_in d (heard_as (part.Answer key) w)).entries) (heard_as (part.Answer key) w) (heard_still (part.Answer key) w t)).adds
+    said_adds (part.Acked key) w t = (heard_still (part.Acked key) w t).adds
+    said_adds part.AckOf2xx w t = (acknowledging_still (holder_in d s.heard (heard_as part.AckOf2xx w)) (heard_as part.AckOf2xx w) (heard_still part.AckOf2xx w t)).adds
+    said_adds part.Stray w t = (heard_still part.Stray w t).adds
+
+    -- the transactions as they are once it is heard
+    hearing_is : (o : Option transaction.Heard) (w : World) → hearing now s o w ≡ hearing_as (part_of (head_of (message_in s.heard)) (live w.acts)) o w
+    hearing_is None w = refl
+    hearing_is (Some said) w = refl
+
+    told_adds : (w : World) → StillSo w → AddsSo (told d token now s w)
     told_adds w t =
-        let said = hear_says w.acts s.peer (message_in s.heard) in
-        answering_adds said (hearing now s said w) (hearing_adds said w t)
+        let p : Part = part_of (head_of (message_in s.heard)) (live w.acts) in
+        subst (λ (v : World). AddsSo (answering d token now s (said_of p w) v)) (sym (hearing_is (said_of p w) w)) (said_adds p w t)
 
-  met_adds : (x : Digest) (w : World) → Still now w0 w → Adds now w0 (met d token now x w)
+  -- ---- the event
+
+  met_adds : (x : Digest) (w : World) → StillSo w → AddsSo (met d token now x w)
   met_adds events.Nothing w t = t.adds
-  met_adds (events.Refused peer source reply) w t = alone now w0 w _ refl t
+  met_adds (events.Refused peer source reply) w t = alone w _ refl refl (le_refl (keys w.acts)) t.adds
   met_adds (events.Heard said) w t = told_adds said w t
-  met_adds (events.Asked request kept rows) w t = alone now w0 w _ refl t
+  met_adds (events.Asked request kept rows) w t = alone w _ refl refl (le_refl (keys w.acts)) t.adds
 
-  handing_adds : (took : Bool) (rows : List Row) (w : World) → Adds now w0 w → Adds now w0 (handing took rows w)
+  handing_adds : (took : Bool) (rows : List Row) (w : World) → AddsSo w → AddsSo (handing took rows w)
   handing_adds took [] w t = t
   handing_adds false (row ∷ rows) w t = t
-  handing_adds true (row ∷ rows) w t = record {
-    added = Drops (length (row ∷ rows)) ∷ t.added;
-    is = ap (λ (deeds : List Deed). Drops (length (row ∷ rows)) ∷ deeds) t.is;
-    sees = (tt, t.sees);
-  }
+  handing_adds true (row ∷ rows) w t = alone w _ refl refl (le_refl (keys w.acts)) t
 
-  came_adds : (x : Digest) (took : Bool) (w : World) → Still now w0 w → Adds now w0 (came d token now x took w)
+  came_adds : (x : Digest) (took : Bool) (w : World) → StillSo w → AddsSo (came d token now x took w)
   came_adds x took w t =
-      let left : World = met d token now x (record (begun w) { clock = now }) in
-      handing_adds took (rows_waiting d left) left (met_adds x (record (begun w) { clock = now }) (same now w0 w _ refl refl refl t))
+      let begins : World = record (begun w) { clock = now } in
+      let left : World = met d token now x begins in
+      handing_adds took left.waiting left (met_adds x begins (quiet (begun w) begins refl refl refl refl (le_refl (keys (begun w).acts)) (begun_still w t)))
 
 -- one event, with the deadlines before it
-pub event_adds : (d : Directory) (token : List ℕ) (fuel : ℕ) (x : Notice) (w : World) → Adds (clock_at w x.at) w (one_more d token fuel x w)
-event_adds d token fuel x w =
-    came_adds d token w (clock_at w x.at) x.digest x.took (settled d token fuel (clock_at w x.at) w)
-    (settled_adds d token w (clock_at w x.at) fuel w (record { adds = record { added = []; is = refl; sees = tt }; texts = refl; registrations = refl }))
+pub event_adds : (d : Directory) (token : List ℕ) → LegsGoBack → (fuel : ℕ) (x : Notice) (w : World) → IsKeyed d w → IsWhole (site_of d) None w.deeds → Each IsOfRun w.rooms →
+    Adds d (clock_at w x.at) w None (one_more d token fuel x w)
+event_adds d token back fuel x w keyed whole of_run =
+    came_adds d token back w (clock_at w x.at) x.digest x.took (settled d token fuel (clock_at w x.at) w)
+    (settled_still d token back w (clock_at w x.at) fuel w
+    (record { adds = record { added = []; is = refl; sees = tt; keyed = keyed; whole = whole; rooms = of_run }; texts = refl; registrations = refl }))

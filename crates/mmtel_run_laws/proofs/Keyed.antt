@@ -8,13 +8,16 @@ use Rattle.mmtel_b2bua.specs.declared.signals.Signal.TheVariants as signal
 use Rattle.mmtel_b2bua_laws.specs.Deeds.{HasOwnKey, HaveOwnKeys, IsOtherDeed, OpensOther}
 use Rattle.mmtel_call.specs.Site.{Site}
 use Rattle.mmtel_call_heads.specs.Emits.{Each}
+use Rattle.mmtel_leg.specs.declared.legs.Released.{Released}
 use Rattle.mmtel_message.specs.Message.{Message}
 use Rattle.mmtel_message.specs.declared.messages.Start.{Start}
 use Rattle.mmtel_transaction.specs.Calls.{Done, DidAck, DidAsk, DidBegin, DidFire, DidHear, DidReply, heard_opens, offers, opened, opens, step_of}
 use Rattle.mmtel_transaction.specs.declared.parts.Part.{Part}
 use Rattle.mmtel_transaction.specs.declared.parts.Part.TheVariants as part
 use Rattle.mmtel_transaction.specs.declared.words.TKey.{TKey}
+use Rattle.mmtel_transaction.specs.Tokens.{Drawn}
 use Rattle.mmtel_types.specs.declared.numbers.Peer.{Peer}
+use Rattle.mmtel_types.specs.declared.sides.Side.{Side}
 
 -- ---- how many transactions were opened
 
@@ -229,3 +232,13 @@ quiet_keyed site n deeds x h k = record {
 -- rows are handed over
 pub dropped_keyed : (site : Site) (n count : ℕ) (deeds : List Deed) → Keyed site n deeds → Keyed site n (Drops count ∷ deeds)
 dropped_keyed site n count deeds k = record { opened = k.opened; below = (tt, k.below); own = (tt, k.own) }
+
+-- a leg is taken out or put back, or a call ends without it
+pub released_keyed : (site : Site) (n number : ℕ) (side : Side) (deeds : List Deed) → Keyed site n deeds → Keyed site n (Releases number side ∷ deeds)
+released_keyed site n number side deeds k = record { opened = k.opened; below = (tt, k.below); own = (tt, k.own) }
+
+pub restored_keyed : (site : Site) (n number : ℕ) (away : Released) (deeds : List Deed) → Keyed site n deeds → Keyed site n (Restores number away ∷ deeds)
+restored_keyed site n number away deeds k = record { opened = k.opened; below = (tt, k.below); own = (tt, k.own) }
+
+pub ended_keyed : (site : Site) (n number at : ℕ) (tokens : Drawn) (deeds : List Deed) → Keyed site n deeds → Keyed site n (Finishes number at tokens ∷ deeds)
+ended_keyed site n number at tokens deeds k = record { opened = k.opened; below = (tt, k.below); own = (tt, k.own) }

@@ -1,13 +1,12 @@
 -- How things stood for a call of a run, each time that it heard something.
-use Rattle.std.proofs.Common.{◌≡◌, ℕ, List, [], ◌∷◌, ◌++◌, Option, Some, None, refl, sym, ap, ◌∙◌, subst, Bool, true, false, inl, inr}
+use Rattle.std.proofs.Common.{◌≡◌, ℕ, List, [], ◌∷◌, ◌++◌, Option, Some, None, refl, ap, ◌∙◌, subst, Bool, true, false, inl, inr, IfSome}
 use Rattle.std.specs.Prelude.{◌⊎◌, nat_lt, if◌then◌else◌, option_to_list}
 use Rattle.std.specs.Option.{option_map}
 use Rattle.std.proofs.lemmas.Option.{none-some, same_Some}
 use Rattle.mmtel_b2bua.specs.Entries.{busy_beside}
 use Rattle.mmtel_b2bua.specs.Histories.{Deed, Drops, Finishes, Heard, Hears, Releases, Restores, table_after}
 use Rattle.mmtel_b2bua.specs.Tables.{standing}
-use Rattle.mmtel_b2bua_laws.specs.Clean.{signals}
-use Rattle.mmtel_b2bua_laws.specs.Deeds.{ArePutBack, arrival_of, as_heard, call_of, event_by, event_heard, goes_on, is_number, life_of, opening_by, start_by}
+use Rattle.mmtel_b2bua_laws.specs.Deeds.{arrival_of, as_heard, call_of, event_by, event_heard, goes_on, is_number, life_of, opening_by, start_by}
 use Rattle.mmtel_b2bua_laws.specs.Known.{standing_by, stood_after}
 use Rattle.mmtel_call_laws.specs.Known.{made_in}
 use Rattle.mmtel_b2bua_laws.specs.Lives as lives
@@ -16,8 +15,8 @@ use Rattle.mmtel_call.specs.Site.{Site, calls_among}
 use Rattle.mmtel_call.specs.declared.openings.Arrival.{Arrival}
 use Rattle.mmtel_call.specs.declared.signals.Signal as calls
 use Rattle.mmtel_call_heads.specs.Emits.{Each}
-use Rattle.mmtel_call_laws.specs.Story as story
 use Rattle.mmtel_call_laws.specs.Story.{Start}
+use Rattle.mmtel_desk.specs.Desks.{fresh}
 use Rattle.mmtel_directory.specs.declared.directories.Directory.{Directory}
 use Rattle.mmtel_in_force.specs.Texts.{Texts}
 use Rattle.mmtel_precedence.specs.Calls.{Standing}
@@ -33,15 +32,6 @@ use Rattle.mmtel_run.specs.Run.{world_after}
 use Rattle.mmtel_run.specs.World.{World}
 use Rattle.mmtel_run_laws.specs.Stood.{StoodIn}
 use Rattle.mmtel_run_laws.proofs.Telling.{AllTold, IsTold, ToldIn}
-
--- legs are neither taken out nor put back
-pub put_back : (d : Directory) (token : List ℕ) (loaded : Texts) (fuel : ℕ) (whole : List Happened) (site : Site) (deeds : List Deed) → AllTold d token loaded fuel whole deeds → ArePutBack site deeds
-put_back d token loaded fuel whole site [] t = tt
-put_back d token loaded fuel whole site (Hears x ∷ older) t = (tt, put_back d token loaded fuel whole site older t.1)
-put_back d token loaded fuel whole site (Releases number side ∷ older) t = absurd t.0
-put_back d token loaded fuel whole site (Restores number away ∷ older) t = absurd t.0
-put_back d token loaded fuel whole site (Finishes number at tokens ∷ older) t = absurd t.0
-put_back d token loaded fuel whole site (Drops count ∷ older) t = (tt, put_back d token loaded fuel whole site older t.1)
 
 module _ (texts_law : TextsAreThoseKept) (last_law : LastIsInForce) (told_law : CallsAreToldWhatIsInForce)
     (d : Directory) (token : List ℕ) (loaded : Texts) (fuel : ℕ) (whole : List Happened) where
@@ -76,9 +66,9 @@ module _ (texts_law : TextsAreThoseKept) (last_law : LastIsInForce) (told_law : 
 
   abbrev StoodThen : ℕ → Event → Type 0
   StoodThen number (lives.Hears x) = StoodSo number None x.now
-  StoodThen number (lives.Releases side) = ⊥
-  StoodThen number (lives.Restores away) = ⊥
-  StoodThen number (lives.Finishes at desk) = ⊥
+  StoodThen number (lives.Releases side) = Unit {0}
+  StoodThen number (lives.Restores away) = Unit {0}
+  StoodThen number (lives.Finishes at desk) = Unit {0}
 
   pub record LifeStood (number : ℕ) (life : Life) : Type 0 where
     pub opened : StoodSo life.start.arrival.number.0 life.start.arrival.served.origin life.start.now
@@ -96,22 +86,24 @@ module _ (texts_law : TextsAreThoseKept) (last_law : LastIsInForce) (told_law : 
       let was = before earlier refl in
       subst (LifeStood number) (same_Some _ life h) (record { opened = was.opened; events = (stood number None x older t, was.events) })
 
-  dropped : (opens : Option Start) (came : Option Event) (was : Option Life) (number : ℕ) (life : Life) → opens ≡ None → came ≡ None →
-      ((earlier : Life) → was ≡ Some earlier → LifeStood number earlier) → goes_on opens came was ≡ Some life → LifeStood number life
-  dropped (Some s) came was number life no_start no_event before h = absurd (none-some s (sym no_start))
-  dropped None (Some x) was number life no_start no_event before h = absurd (none-some x (sym no_event))
-  dropped None None None number life no_start no_event before h = absurd (none-some life h)
-  dropped None None (Some earlier) number life no_start no_event before h = subst (LifeStood number) (same_Some earlier life h) (before earlier refl)
+  -- what is no signal, or is of no call
+  unheard : (number : ℕ) (came : Option Event) (was : Option Life) (life : Life) → IfSome came (StoodThen number) → ((earlier : Life) → was ≡ Some earlier → LifeStood number earlier) →
+      goes_on None came was ≡ Some life → LifeStood number life
+  unheard number came None life t before h = absurd (none-some life h)
+  unheard number None (Some earlier) life t before h = subst (LifeStood number) (same_Some earlier life h) (before earlier refl)
+  unheard number (Some x) (Some earlier) life t before h =
+      let was = before earlier refl in
+      subst (LifeStood number) (same_Some (record earlier { events = x ∷ earlier.events }) life h) (record { opened = was.opened; events = (t, was.events) })
 
   deed-goes : (number : ℕ) (deed : Deed) (older : List Deed) (was : Option Life) (life : Life) → IsTold d token loaded fuel whole deed older →
       ((earlier : Life) → was ≡ Some earlier → LifeStood number earlier) →
       goes_on (opening_by (site_of d) deed (table_after (site_of d) older)) (event_by deed number (table_after (site_of d) older).entries) was ≡ Some life → LifeStood number life
   deed-goes number (Hears x) older was life t before h =
       goes (site_of d) number x older refl t (arrival_of (next_number (table_after (site_of d) older).opened) x.signal) (as_heard x.signal) was life before h
-  deed-goes number (Releases call side) older was life t before h = absurd t
-  deed-goes number (Restores call away) older was life t before h = absurd t
-  deed-goes number (Finishes call at tokens) older was life t before h = absurd t
-  deed-goes number (Drops count) older was life t before h = dropped None None was number life refl refl before h
+  deed-goes number (Releases call side) older was life t before h = unheard number (Some (lives.Releases side)) was life tt before h
+  deed-goes number (Restores call away) older was life t before h = unheard number (Some (lives.Restores away)) was life tt before h
+  deed-goes number (Finishes call at tokens) older was life t before h = unheard number (Some (lives.Finishes at (fresh tokens))) was life tt before h
+  deed-goes number (Drops count) older was life t before h = unheard number None was life tt before h
 
   pub life_stood : (number : ℕ) (deeds : List Deed) (life : Life) → AllTold d token loaded fuel whole deeds → life_of (site_of d) number deeds ≡ Some life → LifeStood number life
   unfolding life_of
@@ -136,24 +128,16 @@ module _ (texts_law : TextsAreThoseKept) (last_law : LastIsInForce) (told_law : 
   either true number s was now h g = h
   either false number s was now h g = g
 
-  by-event : (number : ℕ) (s : Start) (x : Event) (was : Standing) → StoodThen number x → ReachedSo number s (standing_by x was)
-  by-event number s (lives.Hears x) was t = inl t
-  by-event number s (lives.Releases side) was t = absurd t
-  by-event number s (lives.Restores away) was t = absurd t
-  by-event number s (lives.Finishes at desk) was t = absurd t
+  -- by what came to it, or as it was before, where that is no signal
+  by-event : (number : ℕ) (s : Start) (x : Event) (was : Standing) → StoodThen number x → ReachedSo number s was → ReachedSo number s (standing_by x was)
+  by-event number s (lives.Hears x) was t h = inl t
+  by-event number s (lives.Releases side) was t h = h
+  by-event number s (lives.Restores away) was t h = h
+  by-event number s (lives.Finishes at desk) was t h = h
 
   pub reached : (number : ℕ) (s : Start) (events : List Event) (k : ℕ) → Each (StoodThen number) events → ReachedSo number s (stood_after s events k)
   unfolding stood_after
   reached number s [] k t = inr refl
   reached number s (x ∷ earlier) k t =
-      either (nat_lt k (made_in s (call_after s earlier))) number s (stood_after s earlier k) (standing_by x (stood_after s earlier k)) (reached number s earlier k t.1)
-      (by-event number s x (stood_after s earlier k) t.0)
-
-  -- ---- and it heard signals alone
-
-  pub heard_alone : (number : ℕ) (events : List Event) → Each (StoodThen number) events → (heard : List story.Heard) × (events ≡ signals heard)
-  heard_alone number [] t = ([], refl)
-  heard_alone number (lives.Hears x ∷ earlier) t = let (heard, is) = heard_alone number earlier t.1 in (x ∷ heard, ap (λ (events : List Event). lives.Hears x ∷ events) is)
-  heard_alone number (lives.Releases side ∷ earlier) t = absurd t.0
-  heard_alone number (lives.Restores away ∷ earlier) t = absurd t.0
-  heard_alone number (lives.Finishes at desk ∷ earlier) t = absurd t.0
+      let was : ReachedSo number s (stood_after s earlier k) = reached number s earlier k t.1 in
+      either (nat_lt k (made_in s (call_after s earlier))) number s (stood_after s earlier k) (standing_by x (stood_after s earlier k)) was (by-event number s x (stood_after s earlier k) t.0 was)

@@ -1,44 +1,72 @@
--- A life of signals alone is a story of its call, and comes to what that comes to.
-use Rattle.std.proofs.Common.{◌≡◌, ℕ, List, [], ◌∷◌, ◌++◌, refl, sym, ap, ◌∙◌}
-use Rattle.std.specs.Prelude.{nat_lt, if◌then◌else◌}
-use Rattle.mmtel_b2bua_laws.specs.Clean.{signals}
-use Rattle.mmtel_b2bua_laws.specs.Known as known
-use Rattle.mmtel_b2bua_laws.specs.Lives as lives
+-- The 181s of a life, whatever comes to the call: those that are due of its diversions.
+use Rattle.std.proofs.Common.{◌≡◌, Bool, true, false, List, [], ◌∷◌, ◌++◌, length, drop, refl, sym, ap, ◌∙◌, append-nil}
+use Rattle.mmtel_b2bua_laws.specs.Known.{outcome_after}
+use Rattle.mmtel_b2bua_laws.specs.Lives.{Event, call_after}
+use Rattle.mmtel_b2bua_laws.proofs.Living.{Beside, lived_beside, quiet}
 use Rattle.mmtel_call.specs.Opening.{received_list}
-use Rattle.mmtel_call.specs.Site.{Site}
+use Rattle.mmtel_call.specs.Table.{step}
 use Rattle.mmtel_call.specs.declared.calls.Call.{Call}
-use Rattle.mmtel_call_laws.specs.Endings as story_endings
-use Rattle.mmtel_call_laws.specs.Endings.{ending_by}
+use Rattle.mmtel_call_laws.specs.GoingOn.{CallsGoOn}
 use Rattle.mmtel_call_laws.specs.Known as story_known
-use Rattle.mmtel_call_laws.specs.Known.{known_as, made_in}
+use Rattle.mmtel_call_laws.specs.Known.{known_as}
+use Rattle.mmtel_call_laws.specs.Laws.{ChargingIsExact}
 use Rattle.mmtel_call_laws.specs.Story as story
-use Rattle.mmtel_call_laws.specs.Story.{Heard, Start, opening_in}
-use Rattle.mmtel_call_notices.specs.Laws.{TellsOfItsDiversions}
-use Rattle.mmtel_call_notices.specs.Notices.{notices_after, notices_due}
+use Rattle.mmtel_call_laws.specs.Story.{Heard, Start, added, next_step, opening_in}
+use Rattle.mmtel_call_notices.specs.Laws.{EndsInSilence, TellsNothingLater, TellsOfItsDiversions}
+use Rattle.mmtel_call_notices.specs.Notices.{but_passed, is_notice, notices_after, notices_due, notices_in, own_notices}
+use Rattle.mmtel_message.specs.Message.{Message}
+use Rattle.mmtel_message.specs.declared.messages.Start.{Start as StartLine}
 use Rattle.mmtel_precedence.specs.Outcome.{outcome}
+use Rattle.mmtel_transaction.specs.declared.words.Emit.{Emit}
+use Rattle.mmtel_run_laws.specs.Outcome.{notices_of}
 
-pub call_same : (s : Start) (heard : List Heard) → lives.call_after s (signals heard) ≡ story.call_after s heard
-unfolding lives.call_after story.call_after
-call_same s [] = refl
-call_same s (x ∷ earlier) = ap (λ (c : Call). (story.next_step s x c).call) (call_same s earlier)
+-- ---- what has none
 
-endings_same : (s : Start) (heard : List Heard) → known.endings_after s (signals heard) ≡ story_endings.endings_after s heard
-unfolding known.endings_after story_endings.endings_after
-endings_same s [] = refl
-endings_same s (x ∷ earlier) = λ i. endings_same s earlier i ++ ending_by x (call_same s earlier i)
+none-passed : (passed : Bool) → but_passed passed [] ≡ []
+none-passed true = refl
+none-passed false = refl
 
-stood_same : (s : Start) (heard : List Heard) (k : ℕ) → known.stood_after s (signals heard) k ≡ story_known.stood_after s heard k
-unfolding known.stood_after story_known.stood_after
-stood_same s [] k = refl
-stood_same s (x ∷ earlier) k = λ i. if nat_lt k (made_in s (call_same s earlier i)) then stood_same s earlier k i else x.now
+-- a step that sends none has none of its own
+none-own : (s : Start) (x : Heard) (out : List Emit) → notices_in s.arrival.key out ≡ [] → own_notices s x out ≡ []
+none-own s x out e = ap (but_passed (is_notice x.signal)) e ∙ none-passed (is_notice x.signal)
 
-outcome_same : (s : Start) (heard : List Heard) → known.outcome_after s (signals heard) ≡ story_known.outcome_after s heard
-outcome_same s heard = λ i. outcome (known_as s.site s.now (opening_in s) (λ k. stood_same s heard k i)) (endings_same s heard i)
+drop-all : {A : Type 0} (xs : List A) → drop (length xs) xs ≡ []
+drop-all [] = refl
+drop-all (x ∷ xs) = drop-all xs
 
--- the 181s of a life
-pub told_alone : TellsOfItsDiversions → (site : Site) (s : Start) (heard : List Heard) (events : List lives.Event) → s.site ≡ site → events ≡ signals heard →
-    notices_after s heard ≡ notices_due site (opening_in s) (received_list s.arrival.invite) (known.outcome_after s events).targets
-told_alone law site s heard events same is =
-    law s heard
-    ∙ (λ i. notices_due (same i) (opening_in s) (received_list s.arrival.invite) (sym (outcome_same s heard) i).targets)
-    ∙ ap (λ (events : List lives.Event). notices_due site (opening_in s) (received_list s.arrival.invite) (known.outcome_after s events).targets) (sym is)
+-- a signal that says nothing
+quiet-none : (s : Start) (x : Heard) (c : Call) → own_notices s (quiet x) (added x.desk.out (next_step s (quiet x) c).desk.out) ≡ []
+unfolding step
+quiet-none s x c = none-own s (quiet x) (added x.desk.out x.desk.out) (ap (notices_in s.arrival.key) (drop-all x.desk.out))
+
+no-more : (notices more : List (Message StartLine)) → more ≡ [] → notices ++ more ≡ notices
+no-more notices more e = ap (λ l. notices ++ l) e ∙ append-nil notices
+
+-- ---- a life beside its story
+
+module _ (silent : TellsNothingLater) (ends : EndsInSilence) (s : Start) where
+  -- both have the same 181s
+  abbrev TellsAlike : List Event → List Heard → Type 0
+  TellsAlike events heard = notices_of s events ≡ notices_after s heard
+
+  beside : Beside s TellsAlike
+  unfolding notices_of notices_after
+  beside = record {
+    opens = refl;
+    same = λ x earlier heard is r i. r i ++ own_notices s x (added x.desk.out (next_step s x (is i)).desk.out);
+    later = λ x earlier heard offered r.
+        no-more (notices_of s earlier) _
+        (none-own s x (added x.desk.out (step s.site x.now x.signal (call_after s earlier) x.desk).desk.out) (silent s.site x.now x.signal (call_after s earlier) x.desk s.arrival.key offered))
+        ∙ (r ∙ sym (no-more (notices_after s heard) _ (quiet-none s x (story.call_after s heard))));
+    releases = λ side earlier heard r. append-nil (notices_of s earlier) ∙ r;
+    restores = λ away earlier heard r. append-nil (notices_of s earlier) ∙ r;
+    finishes = λ at desk earlier heard r. no-more (notices_of s earlier) _ (ends s.site at (call_after s earlier) desk s.arrival.key) ∙ r;
+  }
+
+-- the server's own 181s are those of the diversions that its Outcome says were made
+pub lives_told : CallsGoOn → ChargingIsExact → TellsOfItsDiversions → TellsNothingLater → EndsInSilence → (s : Start) (events : List Event) →
+    notices_of s events ≡ notices_due s.site (opening_in s) (received_list s.arrival.invite) (outcome_after s events).targets
+lives_told goes charged told silent ends s events =
+    let (heard, l, r) = lived_beside goes charged s (TellsAlike silent ends s) (beside silent ends s) events in
+    let same : outcome_after s events ≡ story_known.outcome_after s heard = λ i. outcome (known_as s.site s.now (opening_in s) (λ k. l.stood k i)) (l.endings i) in
+    r ∙ (told s heard ∙ (λ i. notices_due s.site (opening_in s) (received_list s.arrival.invite) (sym same i).targets))

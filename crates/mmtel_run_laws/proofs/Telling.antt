@@ -1,14 +1,16 @@
--- Each deed of a run: what it was heard with, and in which event.
-use Rattle.std.proofs.Common.{◌≡◌, ℕ, List, [], ◌∷◌, ◌++◌, ◌≤◌, refl, sym, ap, ◌∙◌, subst, append_assoc, append-nil}
+-- Each deed of a run: what it was heard with, and in which event; which transactions its requests have; and what was done on rooms.
+use Rattle.std.proofs.Common.{◌≡◌, ℕ, List, [], ◌∷◌, ◌++◌, ◌≤◌, None, refl, sym, ap, ◌∙◌, subst, append_assoc, append-nil, le_refl}
 use Rattle.mmtel_b2bua.specs.Histories.{Deed, Drops, Finishes, Heard, Hears, Releases, Restores}
+use Rattle.mmtel_b2bua_laws.specs.Legs.{LegsGoBack}
 use Rattle.mmtel_call_heads.specs.Emits.{Each}
 use Rattle.mmtel_directory.specs.declared.directories.Directory.{Directory}
 use Rattle.mmtel_in_force.specs.Texts.{Texts}
+use Rattle.mmtel_run.specs.Calls.{site_of}
 use Rattle.mmtel_run.specs.Events.{Happened, Notice, moment_of, notice_of, notices}
 use Rattle.mmtel_run.specs.Run.{after, clock_at, one_more, world_after}
 use Rattle.mmtel_run.specs.World.{World, beginning}
 use Rattle.mmtel_run_laws.specs.Stood.{deeds_after}
-use Rattle.mmtel_run_laws.proofs.Hearing.{Adds, Sees, event_adds, in_force_in}
+use Rattle.mmtel_run_laws.proofs.Hearing.{Adds, IsKeyed, IsOfRun, IsWhole, Sees, event_adds, in_force_in}
 
 -- ---- a run, event by event
 
@@ -45,14 +47,21 @@ module _ (d : Directory) (token : List ℕ) (loaded : Texts) (fuel : ℕ) (whole
 
   abbrev pub IsTold : Deed → List Deed → Type 0
   IsTold (Hears x) older = ToldIn x older
-  IsTold (Releases number side) older = ⊥
-  IsTold (Restores number away) older = ⊥
-  IsTold (Finishes number at tokens) older = ⊥
+  IsTold (Releases number side) older = Unit {0}
+  IsTold (Restores number away) older = Unit {0}
+  IsTold (Finishes number at tokens) older = Unit {0}
   IsTold (Drops count) older = Unit {0}
 
   abbrev pub AllTold : List Deed → Type 0
   AllTold [] = Unit {0}
   AllTold (deed ∷ older) = IsTold deed older × AllTold older
+
+  -- the run of these events, up to there
+  pub record WellTold (happened : List Happened) : Type 0 where
+    pub deeds : AllTold (deeds_after d token loaded fuel happened)
+    pub keyed : IsKeyed d (at_end_of happened)
+    pub lent : IsWhole (site_of d) None (deeds_after d token loaded fuel happened)
+    pub rooms : Each IsOfRun (at_end_of happened).rooms
 
   -- ---- those of one event
 
@@ -62,9 +71,9 @@ module _ (d : Directory) (token : List ℕ) (loaded : Texts) (fuel : ℕ) (whole
         Sees (in_force_in (at_end_of earlier)) (clock_at (at_end_of earlier) (moment_of event.event)) deed → IsTold deed (older ++ deeds_after d token loaded fuel earlier)
     one-told newer (Hears x) older is sees =
         record { earlier = earlier; event = event; later = later; in_order = in_order; before = older; newer = newer; is = refl; deeds = is; view = sees.0; by_then = sees.1 }
-    one-told newer (Releases number side) older is sees = sees
-    one-told newer (Restores number away) older is sees = sees
-    one-told newer (Finishes number at tokens) older is sees = sees
+    one-told newer (Releases number side) older is sees = tt
+    one-told newer (Restores number away) older is sees = tt
+    one-told newer (Finishes number at tokens) older is sees = tt
     one-told newer (Drops count) older is sees = tt
 
     event-told : (newer added : List Deed) → deeds_after d token loaded fuel (earlier ++ event ∷ []) ≡ newer ++ (added ++ deeds_after d token loaded fuel earlier) →
@@ -75,20 +84,26 @@ module _ (d : Directory) (token : List ℕ) (loaded : Texts) (fuel : ℕ) (whole
       event-told (newer ++ deed ∷ []) older (is ∙ sym (append_assoc newer (deed ∷ []) (older ++ deeds_after d token loaded fuel earlier))) sees.1 told,
     )
 
-    more-told : AllTold (deeds_after d token loaded fuel earlier) → AllTold (deeds_after d token loaded fuel (earlier ++ event ∷ []))
-    more-told told =
-        let a : Adds (clock_at (at_end_of earlier) (moment_of event.event)) (at_end_of earlier) (one_more d token fuel (notice_of d event) (at_end_of earlier)) = event_adds d token fuel (notice_of d event) (at_end_of earlier) in
-        let is : deeds_after d token loaded fuel (earlier ++ event ∷ []) ≡ a.added ++ deeds_after d token loaded fuel earlier = ap (λ (w : World). w.deeds) (one-event earlier event) ∙ a.is in
-        subst AllTold (sym is) (event-told [] a.added is a.sees told)
+    more-told : LegsGoBack → WellTold earlier → WellTold (earlier ++ event ∷ [])
+    more-told back told =
+        let w : World = at_end_of earlier in
+        let next : at_end_of (earlier ++ event ∷ []) ≡ one_more d token fuel (notice_of d event) w = one-event earlier event in
+        let a : Adds d (clock_at w (moment_of event.event)) w None (one_more d token fuel (notice_of d event) w) = event_adds d token back fuel (notice_of d event) w told.keyed told.lent told.rooms in
+        let is : deeds_after d token loaded fuel (earlier ++ event ∷ []) ≡ a.added ++ deeds_after d token loaded fuel earlier = ap (λ (w : World). w.deeds) next ∙ a.is in
+        record {
+          deeds = subst AllTold (sym is) (event-told [] a.added is a.sees told.deeds);
+          keyed = subst (IsKeyed d) (sym next) a.keyed;
+          lent = subst (λ (w : World). IsWhole (site_of d) None w.deeds) (sym next) a.whole;
+          rooms = subst (λ (w : World). Each IsOfRun w.rooms) (sym next) a.rooms;
+        }
 
   -- ---- those of the whole
 
-  rest-told : (earlier rest : List Happened) → whole ≡ earlier ++ rest → AllTold (deeds_after d token loaded fuel earlier) → AllTold (deeds_after d token loaded fuel (earlier ++ rest))
-  rest-told earlier [] is told = subst (λ (happened : List Happened). AllTold (deeds_after d token loaded fuel happened)) (sym (append-nil earlier)) told
-  rest-told earlier (event ∷ rest) is told =
+  rest-told : LegsGoBack → (earlier rest : List Happened) → whole ≡ earlier ++ rest → WellTold earlier → WellTold (earlier ++ rest)
+  rest-told back earlier [] is told = subst WellTold (sym (append-nil earlier)) told
+  rest-told back earlier (event ∷ rest) is told =
       let join : (earlier ++ event ∷ []) ++ rest ≡ earlier ++ event ∷ rest = append_assoc earlier (event ∷ []) rest in
-      subst (λ (happened : List Happened). AllTold (deeds_after d token loaded fuel happened)) join
-      (rest-told (earlier ++ event ∷ []) rest (is ∙ sym join) (more-told earlier event rest is told))
+      subst WellTold join (rest-told back (earlier ++ event ∷ []) rest (is ∙ sym join) (more-told earlier event rest is back told))
 
-  pub all_told : AllTold (deeds_after d token loaded fuel whole)
-  all_told = rest-told [] whole refl tt
+  pub all_told : LegsGoBack → WellTold whole
+  all_told back = rest-told back [] whole refl (record { deeds = tt; keyed = record { opened = le_refl 0; below = tt; own = tt }; lent = tt; rooms = tt })

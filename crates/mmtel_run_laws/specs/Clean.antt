@@ -24,7 +24,6 @@ pub record IsOwnText (text : List ℕ) : Type 0 where
 abbrev pub IsOwnOffer : Offer → Type 0
 IsOwnOffer (offer.To peer at text) = IsOwnText text
 IsOwnOffer (offer.Web at text) = Unit {0}
-IsOwnOffer (offer.Unbuilt at) = Unit {0}
 
 -- so is each text that is offered to a peer in a run
 abbrev pub SendsCleanMessages : Directory → (token : List ℕ) → (loaded : Texts) → List Happened → Type 0

@@ -1,28 +1,30 @@
 -- What each call of a run comes to: the precedence of services over how its attempts ended and over the records, registrations and live calls as they stood in the run when it reached each target; the bound on diversions; the 181s; and its rows (TS 24.604 §4.5.2.6, TS 24.611 §4.5.2, TS 24.615 §4.5.5, TS 32.260 §5).
-use Rattle.std.specs.Prelude.{◌≡◌, ◌≤◌, ◌⊎◌, ℕ, ◌+◌, max, Bool, true, false, List, [], ◌++◌, None, Some, count_by, filter, length}
+use Rattle.std.specs.Prelude.{◌≡◌, ◌≤◌, ◌⊎◌, ℕ, ◌+◌, ◌&&◌, max, Bool, true, false, List, [], ◌∷◌, ◌++◌, None, Some, count_by, filter, length}
 use Rattle.mmtel_call.specs.Opening.{received_list}
 use Rattle.mmtel_call.specs.declared.calls.Phase.TheVariants.{Over}
 use Rattle.mmtel_call_laws.specs.Charged.{running}
 use Rattle.mmtel_call_laws.specs.Known.{received_in}
 use Rattle.mmtel_call_laws.specs.Shown.{Accepted, Invited, Refused, Sign, sign_of_result, signs_of, signs_of_targets}
-use Rattle.mmtel_call_laws.specs.Story as story
-use Rattle.mmtel_call_laws.specs.Story.{is_over, opening_in}
-use Rattle.mmtel_call_notices.specs.Notices.{notices_after, notices_due}
+use Rattle.mmtel_call_laws.specs.Story.{Start, added, first_step, is_over, opening_in}
+use Rattle.mmtel_call_notices.specs.Notices.{notices_due, notices_in, own_notices}
 use Rattle.mmtel_charging.specs.declared.rows.Row.{Row}
 use Rattle.mmtel_directory.specs.declared.directories.Directory.{Directory}
 use Rattle.mmtel_in_force.specs.Texts.{Texts}
+use Rattle.mmtel_message.specs.Message.{Message}
+use Rattle.mmtel_message.specs.declared.messages.Start.{Start as StartLine}
 use Rattle.mmtel_precedence.specs.Laws.{diversions_made}
+use Rattle.mmtel_transaction.specs.declared.words.Emit.{Emit}
 use Rattle.mmtel_types.specs.declared.causes.Cause.{Cause}
-use Rattle.mmtel_b2bua_laws.specs.Clean.{signals}
 use Rattle.mmtel_b2bua_laws.specs.Deeds.{life_of}
 use Rattle.mmtel_b2bua_laws.specs.Known.{charges_after, outcome_after, parts_after, stood_after}
 use Rattle.mmtel_b2bua_laws.specs.Laws.{CallIsExact, is_row_of}
-use Rattle.mmtel_b2bua_laws.specs.Lives.{Life, call_after, emits_while_offered}
+use Rattle.mmtel_b2bua_laws.specs.Lives.{Event, Finishes, Hears, Life, Releases, Restores, call_after, emits_by, emits_while_offered}
 use Rattle.mmtel_run.specs.Calls.{site_of}
 use Rattle.mmtel_run.specs.Events.{Happened}
 use Rattle.mmtel_run.specs.Run.{IsEnough, world_after}
 use Rattle.mmtel_run.specs.Short.{IsShortRun}
-use Rattle.mmtel_run.specs.World.{World, rows_waiting}
+use Rattle.mmtel_run.specs.World.{World}
+use Rattle.mmtel_run_laws.specs.Rows.{all_rows, is_call_row}
 use Rattle.mmtel_run_laws.specs.Stood.{StoodIn}
 
 -- ---- what is seen of a call
@@ -36,18 +38,36 @@ is_invited (Invited uri) = true
 is_invited Accepted = false
 is_invited (Refused code) = false
 
--- the rows of the call of this number, of those that the keeper took and those that wait
-abbrev pub rows_of_call : Directory → World → (number : ℕ) → List Row
-rows_of_call directory world number = filter (is_row_of number) (world.filed ++ rows_waiting directory world)
+-- the server's own 181s to its caller, in what goes out as this comes to it: of a signal, or as a leg of it is taken out or put back, or as it ends without one
+abbrev pub notices_by : Start → Event → List Emit → List (Message StartLine)
+notices_by s (Hears x) out = own_notices s x out
+notices_by s (Releases side) out = notices_in s.arrival.key out
+notices_by s (Restores away) out = notices_in s.arrival.key out
+notices_by s (Finishes at desk) out = notices_in s.arrival.key out
+
+-- all of them, in order
+unfoldable pub notices_of : Start → List Event → List (Message StartLine)
+notices_of s [] = notices_in s.arrival.key (added s.desk.out (first_step s).desk.out)
+notices_of s (x ∷ earlier) = notices_of s earlier ++ notices_by s x (emits_by s.site x (call_after s earlier))
+
+-- each leg of it that was taken out, for a conference room, was put back by the next thing that came to it, or the call ended by that; where one `is_away`, it was taken out by the last of these (RFC 4579 §5.6)
+abbrev pub AreLentAtOnce : (is_away : Bool) → List Event → Type 0
+AreLentAtOnce false [] = Unit {0}
+AreLentAtOnce false (Hears x ∷ earlier) = AreLentAtOnce false earlier
+AreLentAtOnce false (Releases side ∷ earlier) = ⊥
+AreLentAtOnce false (Restores away ∷ earlier) = AreLentAtOnce true earlier
+AreLentAtOnce false (Finishes at desk ∷ earlier) = AreLentAtOnce true earlier
+AreLentAtOnce true [] = ⊥
+AreLentAtOnce true (Hears x ∷ earlier) = ⊥
+AreLentAtOnce true (Releases side ∷ earlier) = AreLentAtOnce false earlier
+AreLentAtOnce true (Restores away ∷ earlier) = ⊥
+AreLentAtOnce true (Finishes at desk ∷ earlier) = ⊥
+
+-- the rows of the call of this number, of those that the keeper took and those that wait; a row of a participant has the number of a room
+abbrev pub rows_of_call : World → (number : ℕ) → List Row
+rows_of_call world number = filter (λ row. is_call_row row && is_row_of number row) (all_rows world)
 
 -- ---- what the call of a number comes to, where its life in the run is this
-
--- it heard signals alone
-pub record HasToldDiversions (directory : Directory) (life : Life) : Type 0 where
-  pub heard : List story.Heard
-  pub signals_alone : life.events ≡ signals heard
-  -- the server's own 181s to its caller are those of the diversions that its Outcome says were made, in order (TS 24.604 §4.5.2.6)
-  pub told : notices_after life.start heard ≡ notices_due (site_of directory) (opening_in life.start) (received_list life.start.arrival.invite) (outcome_after life.start life.events).targets
 
 -- in the words of the bound, that a configuration sets (RFC 7044 §7)
 pub record StaysWithinTheBound (directory : Directory) (life : Life) : Type 0 where
@@ -58,13 +78,13 @@ pub record StaysWithinTheBound (directory : Directory) (life : Life) : Type 0 wh
   pub attempts : count_by is_invited (seen_of life) ≤ directory.bound + 1
 
 -- in the words of whoever reads the rows
-pub record IsChargedExactly (directory : Directory) (world : World) (number : ℕ) (life : Life) : Type 0 where
+pub record IsChargedExactly (world : World) (number : ℕ) (life : Life) : Type 0 where
   -- while it is not over it has no row, and what began runs
   pub runs : is_over (call_after life.start life.events).phase ≡ false →
-      (running (call_after life.start life.events) ≡ parts_after life.start life.events) × (rows_of_call directory world number ≡ [])
+      (running (call_after life.start life.events) ≡ parts_after life.start life.events) × (rows_of_call world number ≡ [])
   -- once it is over nothing runs, and its rows are those of the parts that began, in that order, each once
   pub filed : (cause : Cause) → (call_after life.start life.events).phase ≡ Over cause →
-      (running (call_after life.start life.events) ≡ []) × (rows_of_call directory world number ≡ charges_after life.start life.events cause)
+      (running (call_after life.start life.events) ≡ []) × (rows_of_call world number ≡ charges_after life.start life.events cause)
 
 -- by its Outcome, which is over how its attempts ended and how things stood
 pub record CallComesToOutcome (directory : Directory) (token : List ℕ) (loaded : Texts) (fuel : ℕ) (happened : List Happened) (number : ℕ) (life : Life) : Type 0 where
@@ -72,9 +92,12 @@ pub record CallComesToOutcome (directory : Directory) (token : List ℕ) (loaded
   pub exact : CallIsExact (site_of directory) (world_after directory token loaded fuel happened).deeds number life
   -- the INVITEs to its targets, each by the diversion that led there, and its final are those of Outcome, in order
   pub shown : seen_of life ≡ signs_of_targets (opening_in life.start) (outcome_after life.start life.events).targets ++ sign_of_result (outcome_after life.start life.events).result
-  pub told : HasToldDiversions directory life
+  -- it heard signals, and no leg of it is away: one that was taken out was put back at once, or the call ended
+  pub lent : AreLentAtOnce false life.events
+  -- the server's own 181s to its caller are those of the diversions that its Outcome says were made, in order (TS 24.604 §4.5.2.6)
+  pub told : notices_of life.start life.events ≡ notices_due (site_of directory) (opening_in life.start) (received_list life.start.arrival.invite) (outcome_after life.start life.events).targets
   pub bounded : StaysWithinTheBound directory life
-  pub charged : IsChargedExactly directory (world_after directory token loaded fuel happened) number life
+  pub charged : IsChargedExactly (world_after directory token loaded fuel happened) number life
   -- things stood as they stood in the run when it opened,
   pub opened : StoodIn directory token loaded fuel happened number life.start.arrival.served.origin life.start.now
   -- and when it reached the target of its next diversion after k others: in a later step, or in that in which it opened

@@ -1,12 +1,13 @@
 -- What is decided of a request tells what it is: in a dialog it enters that one, and what opens a call is an INVITE without To tag. And what the transactions take a message for tells whether it is a request.
-use Rattle.std.proofs.Common.{◌≡◌, ℕ, Bool, true, false, ◌&&◌, List, [], ◌∷◌, refl, ap, sym, ◌∙◌, Option, Some, None, codes, inl, inr}
+use Rattle.std.proofs.Common.{◌≡◌, ℕ, Bool, true, false, ◌&&◌, List, [], ◌∷◌, refl, ap, sym, ◌∙◌, Option, Some, None, Result, Ok, Err, codes, inl, inr}
 use Rattle.std.specs.Prelude.{if◌then◌else◌, is_none, is_some}
 use Rattle.std.specs.List.{find}
 use Rattle.std.proofs.lemmas.Bool.{cases_Bool}
 use Rattle.mmtel_b2bua.specs.declared.entries.Entry.{Entry}
 use Rattle.mmtel_directory.specs.declared.directories.Directory.{Directory}
 use Rattle.mmtel_leg.specs.Dialogues.{request_uri}
-use Rattle.mmtel_lex.specs.Reading.{uri_of}
+use Rattle.mmtel_lex.specs.Reading.{Refusal, uri_of}
+use Rattle.mmtel_lex.specs.declared.values.Uri.{Uri}
 use Rattle.mmtel_message.specs.Fields.{five_at}
 use Rattle.mmtel_message.specs.Faults as faults
 use Rattle.mmtel_message.specs.Faults.{is_method}
@@ -14,6 +15,7 @@ use Rattle.mmtel_message.specs.Message.{Message}
 use Rattle.mmtel_message.specs.declared.fields.Five.{Five}
 use Rattle.mmtel_message.specs.declared.messages.Start.{Start}
 use Rattle.mmtel_message.specs.declared.messages.Start.TheVariants.{Request, Status}
+use Rattle.mmtel_sdp.specs.Offers.{offers_audio}
 use Rattle.mmtel_transaction.specs.Answers.{is_client_of, is_full, is_server_of, part_ack, part_of, part_request, part_response}
 use Rattle.mmtel_transaction.specs.Heads.{head_of, head_with, is_ack, is_invite, is_refusal}
 use Rattle.mmtel_transaction.specs.declared.entries.Entry as transactions
@@ -24,10 +26,12 @@ use Rattle.mmtel_trust.specs.Digest.{HeardMessage}
 use Rattle.mmtel_trust.specs.MaskedMessages.{public_part}
 use Rattle.mmtel_types.specs.declared.numbers.Account.{Account}
 use Rattle.mmtel_types.specs.declared.numbers.CallNo.{CallNo}
+use Rattle.mmtel_types.specs.declared.numbers.RoomNo.{RoomNo}
 use Rattle.mmtel_types.specs.declared.sides.Side.{Side}
 use Rattle.mmtel_run.specs.Answers.{Answer, plainly}
 use Rattle.mmtel_run.specs.Calls.{find_dialog, name_by, named_by}
-use Rattle.mmtel_run.specs.Refusals.{Course, Enter, Open, Refuse, Register, Unbuilt, by_method, course, course_by, first_that_applies, invited, is_for_conference, is_register, refusals, registration, registration_of, to_account}
+use Rattle.mmtel_run.specs.Refusals.{Course, Enter, EnterRoom, JoinRoom, Open, OpenRoom, Refuse, Register, by_method, course, course_by, first_that_applies, in_dialog, invited, invited_at, is_factory, is_register, is_room, refusals, registration, registration_of, to_account}
+use Rattle.mmtel_run.specs.Rooms.{Holder, InCall, InRoom, in_call_or, in_room}
 use Rattle.mmtel_run_secret.specs.Belonging.{is_opening}
 use Rattle.mmtel_run_secret.proofs.Fits.{true_false}
 
@@ -36,24 +40,43 @@ use Rattle.mmtel_run_secret.proofs.Fits.{true_false}
 abbrev enters : Course → Bool
 enters (Refuse answer) = false
 enters (Enter call side) = true
+enters (EnterRoom room seat) = true
 enters Open = false
+enters OpenRoom = false
+enters (JoinRoom room) = false
 enters (Register account seconds) = false
-enters Unbuilt = false
 
-abbrev opens : Course → Bool
+-- it opens a call or a room, or asks for a seat
+abbrev pub opens : Course → Bool
 opens (Refuse answer) = false
 opens (Enter call side) = false
+opens (EnterRoom room seat) = false
 opens Open = true
+opens OpenRoom = true
+opens (JoinRoom room) = true
 opens (Register account seconds) = false
-opens Unbuilt = false
 
 -- where it enters
-abbrev entered : CallNo × Side → Course → CallNo × Side
+abbrev entered : Holder → Course → Holder
 entered other (Refuse answer) = other
-entered other (Enter call side) = (call, side)
+entered other (Enter call side) = InCall call side
+entered other (EnterRoom room seat) = InRoom room seat
 entered other Open = other
+entered other OpenRoom = other
+entered other (JoinRoom room) = other
 entered other (Register account seconds) = other
-entered other Unbuilt = other
+
+enters_there : (x : Holder) → enters (in_dialog x) ≡ true
+enters_there (InCall call side) = refl
+enters_there (InRoom room seat) = refl
+
+no_opening : (x : Holder) → opens (in_dialog x) ≡ false
+no_opening (InCall call side) = refl
+no_opening (InRoom room seat) = refl
+
+entered_there : (other x : Holder) → entered other (in_dialog x) ≡ x
+entered_there other (InCall call side) = refl
+entered_there other (InRoom room seat) = refl
 
 if_no : (k : Course → Bool) (b : Bool) (x y : Course) → k x ≡ false → k y ≡ false → k (if b then x else y) ≡ false
 if_no k true x y e f = e
@@ -65,25 +88,53 @@ registers : (k : Course → Bool) (o : Option Account) (m : HeardMessage) → ((
 registers k None m e f = e (plainly 404)
 registers k (Some account) m e f = f account _
 
+invited_enters : (d : Directory) (full : Bool) (m : HeardMessage) (r : Result Uri Refusal) → enters (invited_at d full m r) ≡ false
+invited_enters d full m (Ok target) =
+    if_no enters (is_factory d.factory target) _ _ (if_no enters (offers_audio m.body) _ _ refl refl)
+    (if_no enters (is_room d.sip target) _ _ (if_no enters (offers_audio m.body) _ _ refl refl) (if_no enters full _ _ refl refl))
+invited_enters d full m (Err refusal) = if_no enters full _ _ refl refl
+
 method_enters : (d : Directory) (full : Bool) (m : HeardMessage) → enters (by_method d full m) ≡ false
 method_enters d full m =
     if_no enters (is_method (codes "OPTIONS") m.start) _ _ refl
-    (if_no enters (is_method (codes "BYE") m.start) _ _ refl
     (if_no enters (is_method (codes "REFER") m.start) _ _ refl
-    (if_no enters (is_method (codes "INVITE") m.start) _ _
-    (if_no enters (is_for_conference d (uri_of (request_uri m.start))) _ _ refl (if_no enters full _ _ refl refl))
+    (if_no enters (is_method (codes "INVITE") m.start) _ _ (invited_enters d full m (uri_of (request_uri m.start)))
     (if_no enters (is_register m) _ _
     (if_no enters m.trusted _ _ (registers enters (to_account d.names.accounts m) m (λ answer. refl) (λ account seconds. refl)) refl)
-    refl))))
+    refl)))
 
-enters_by : (d : Directory) (full : Bool) (named : Option (CallNo × Side)) (m : HeardMessage) (o : Option Answer) (x : CallNo × Side) → course_by d full named m o ≡ Enter x.0 x.1 → named ≡ Some x
-enters_by d full None m None x e = absurd (true_false (sym (ap enters e) ∙ method_enters d full m))
-enters_by d full (Some y) m None x e = ap (λ (c : Course). Some (entered x c)) e
-enters_by d full named m (Some answer) x e = absurd (true_false (sym (ap enters e)))
+enters_by : (d : Directory) (full : Bool) (named : Option Holder) (m : HeardMessage) (o : Option Answer) (x : Holder) → course_by d full named m o ≡ in_dialog x → named ≡ Some x
+enters_by d full None m None x e = absurd (true_false (sym (ap enters e ∙ enters_there x) ∙ method_enters d full m))
+enters_by d full (Some y) m None x e = ap (λ (h : Holder). Some h) (sym (entered_there x y) ∙ (ap (entered x) e ∙ entered_there x x))
+enters_by d full named m (Some answer) x e = absurd (true_false (sym (ap enters e ∙ enters_there x)))
 
-pub enters_named : (d : Directory) (merged full : Bool) (named : Option (CallNo × Side)) (m : HeardMessage) (x : CallNo × Side) → course d merged full named m ≡ Enter x.0 x.1 → named ≡ Some x
+pub enters_named : (d : Directory) (merged full : Bool) (named : Option Holder) (m : HeardMessage) (x : Holder) → course d merged full named m ≡ in_dialog x → named ≡ Some x
 unfolding course
 enters_named d merged full named m x e = enters_by d full named (public_part m) (first_that_applies (refusals merged (is_some named) (public_part m))) x e
+
+-- whose it is where it is a call's
+none_some : (A : Type 0) (x : A) → None ≡ Some x → ⊥
+none_some A x e = cc
+
+abbrev call_in : CallNo × Side → Holder → CallNo × Side
+call_in other (InCall call side) = (call, side)
+call_in other (InRoom room seat) = other
+
+abbrev is_call : Holder → Bool
+is_call (InCall call side) = true
+is_call (InRoom room seat) = false
+
+abbrev holder_or : Holder → Option Holder → Holder
+holder_or other None = other
+holder_or other (Some x) = x
+
+of_room : (o : Option (RoomNo × ℕ)) (x : CallNo × Side) → in_room o ≡ Some (InCall x.0 x.1) → ⊥
+of_room None x e = none_some Holder (InCall x.0 x.1) e
+of_room (Some y) x e = true_false (sym (ap (λ (o : Option Holder). is_call (holder_or (InCall x.0 x.1) o)) e))
+
+pub of_call : (r : Option (RoomNo × ℕ)) (o : Option (CallNo × Side)) (x : CallNo × Side) → in_call_or (in_room r) o ≡ Some (InCall x.0 x.1) → o ≡ Some x
+of_call r None x e = absurd (of_room r x e)
+of_call r (Some y) x e = ap (λ (o : Option Holder). Some (call_in x (holder_or (InCall x.0 x.1) o))) e
 
 -- it has a tag of the server
 tagged_by : (c t f : Option (List ℕ)) (es : List Entry) (x : CallNo × Side) → find_dialog (name_by c t f) es ≡ Some x → is_none t ≡ false
@@ -97,17 +148,16 @@ named_tagged m es x e = elim (cases_Bool (is_method (codes "INVITE") m.start)) [
   | inr n ↦ ap (λ (b : Bool). b && is_none m.to_tag) n
 ]
 
--- ---- what opens a call is an INVITE without To tag
+-- ---- what opens a call or a room, or asks for a seat, is an INVITE without To tag
 
 method_opens : (d : Directory) (full : Bool) (m : HeardMessage) → is_method (codes "INVITE") m.start ≡ false → opens (by_method d full m) ≡ false
 method_opens d full m none =
     if_no opens (is_method (codes "OPTIONS") m.start) _ _ refl
-    (if_no opens (is_method (codes "BYE") m.start) _ _ refl
     (if_no opens (is_method (codes "REFER") m.start) _ _ refl
-    (ap (λ (b : Bool). opens (if b then invited d full m else if is_register m then registration d.names.accounts m else Unbuilt)) none
+    (ap (λ (b : Bool). opens (if b then invited d full m else if is_register m then registration d.names.accounts m else Refuse (plainly 481))) none
     ∙ if_no opens (is_register m) _ _
     (if_no opens m.trusted _ _ (registers opens (to_account d.names.accounts m) m (λ answer. refl) (λ account seconds. refl)) refl)
-    refl)))
+    refl))
 
 -- of a list of refusals none applies
 abbrev first_holds : List (Bool × Answer) → Bool
@@ -137,15 +187,15 @@ untagged merged m e =
     let three = passes (later (later xs)) two.1 in
     some_none m.to_tag (passes (later (later (later xs))) three.1).0
 
-opens_by : (d : Directory) (merged full : Bool) (named : Option (CallNo × Side)) (m : HeardMessage) (o : Option Answer) → first_that_applies (refusals merged (is_some named) m) ≡ o → course_by d full named m o ≡ Open → is_opening m ≡ true
+opens_by : (d : Directory) (merged full : Bool) (named : Option Holder) (m : HeardMessage) (o : Option Answer) → first_that_applies (refusals merged (is_some named) m) ≡ o → opens (course_by d full named m o) ≡ true → is_opening m ≡ true
 opens_by d merged full None m None none e = elim (cases_Bool (is_method (codes "INVITE") m.start)) [
   | inl y ↦ ap (λ (b : Bool). b && is_none m.to_tag) y ∙ untagged merged m none
-  | inr n ↦ absurd (true_false (sym (ap opens e) ∙ method_opens d full m n))
+  | inr n ↦ absurd (true_false (sym e ∙ method_opens d full m n))
 ]
-opens_by d merged full (Some x) m None none e = absurd (true_false (sym (ap opens e)))
-opens_by d merged full named m (Some answer) none e = absurd (true_false (sym (ap opens e)))
+opens_by d merged full (Some x) m None none e = absurd (true_false (sym e ∙ no_opening x))
+opens_by d merged full named m (Some answer) none e = absurd (true_false (sym e))
 
-pub opens_opening : (d : Directory) (merged full : Bool) (named : Option (CallNo × Side)) (m : HeardMessage) → course d merged full named m ≡ Open → is_opening m ≡ true
+pub opens_opening : (d : Directory) (merged full : Bool) (named : Option Holder) (m : HeardMessage) → opens (course d merged full named m) ≡ true → is_opening m ≡ true
 unfolding course
 opens_opening d merged full named m e = opens_by d merged full named (public_part m) (first_that_applies (refusals merged (is_some named) (public_part m))) refl e
 

@@ -18,17 +18,15 @@ use Rattle.mmtel_transaction.specs.Answers.{peer_of, tkey}
 use Rattle.mmtel_transaction.specs.Calls.{Done, live}
 use Rattle.mmtel_transaction.specs.Heads.{head_of}
 use Rattle.mmtel_transaction.specs.declared.heads.Head.{Head}
-use Rattle.mmtel_transaction.specs.declared.words.DueWord.{DueWord}
 use Rattle.mmtel_transaction.specs.declared.words.Emit.{Emit}
 use Rattle.mmtel_transaction.specs.declared.words.Emit.TheVariants as emit
 use Rattle.mmtel_transaction.specs.declared.words.TKey.{TKey}
 use Rattle.mmtel_trust.specs.Peers.{is_trusted}
 use Rattle.mmtel_trust.specs.declared.parties.KnownPeer.{KnownPeer}
-use Rattle.mmtel_types.specs.declared.numbers.CallNo.{CallNo}
 use Rattle.mmtel_types.specs.declared.numbers.Peer.{Peer}
 use Rattle.mmtel_run.specs.Alike.{trusts}
 use Rattle.mmtel_run.specs.Calls.{site_of}
-use Rattle.mmtel_run.specs.Deadlines.{Armed as Waiting}
+use Rattle.mmtel_run.specs.Deadlines.{Alarm, Armed as Waiting, OfCall, OfSeat}
 use Rattle.mmtel_run.specs.View.{view}
 use Rattle.mmtel_run.specs.World.{World, arming, calls_in, drawing, emit_one, emitted, offering, to_peer}
 use Rattle.mmtel_run_secret.specs.Alike.{AlikeWorlds, AreAmong}
@@ -44,7 +42,6 @@ view-append p (offer.To peer at text ∷ xs) ys = elim (cases_Bool (peer.0 == p.
   | inr n ↦ rw n (view-append p xs ys)
 ]
 view-append p (offer.Web at text ∷ xs) ys = view-append p xs ys
-view-append p (offer.Unbuilt at ∷ xs) ys = view-append p xs ys
 
 trusted_alike : (p q : Peer) (ks : List KnownPeer) → (q.0 == p.0) ≡ true → is_trusted q ks ≡ is_trusted p ks
 trusted_alike p q ks e =
@@ -154,6 +151,7 @@ module _ (law : TextsDecideNothing) (records : List Sheet) (d e : Directory) (ke
       drawn = a.alike.drawn;
       calls = a.alike.calls;
       opened = a.alike.opened;
+      rooms = a.alike.rooms;
       armed = a.alike.armed;
       texts = a.alike.texts;
       registrations = a.alike.registrations;
@@ -173,6 +171,7 @@ module _ (law : TextsDecideNothing) (records : List Sheet) (d e : Directory) (ke
       drawn = a.alike.drawn;
       calls = a.alike.calls;
       opened = a.alike.opened;
+      rooms = a.alike.rooms;
       armed = a.alike.armed;
       texts = a.alike.texts;
       registrations = a.alike.registrations;
@@ -192,6 +191,7 @@ module _ (law : TextsDecideNothing) (records : List Sheet) (d e : Directory) (ke
       drawn = ap (λ (k : ℕ). k + i) a.alike.drawn ∙ ap (λ (k : ℕ). w.drawn + k) same;
       calls = a.alike.calls;
       opened = a.alike.opened;
+      rooms = a.alike.rooms;
       armed = a.alike.armed;
       texts = a.alike.texts;
       registrations = a.alike.registrations;
@@ -227,9 +227,9 @@ module _ (law : TextsDecideNothing) (records : List Sheet) (d e : Directory) (ke
       (λ p strange. ap (λ (o : Option Peer). view p (to_peer at (message_text m) o)) peers ∙ peer_offer d p at (message_text m) (message_text n) (peer_of key.0 (live w.acts)) strange text)
       (acting-alike _ _ v w (((law (trusts d) v.acts w.acts a.alike.acts).1).acks key.0 m n text) a)
 
-  arm-alike : (call : CallNo) (what : DueWord) (when : ℕ) (v w : World) → Two v w
-      → Two (arming (record { call = call; what = what; at = when; step = v.steps - 1 }) v) (arming (record { call = call; what = what; at = when; step = w.steps - 1 }) w)
-  arm-alike call what when v w a = record {
+  arm-alike : (x : Alarm) (when : ℕ) (v w : World) → Two v w
+      → Two (arming (record { alarm = x; at = when; step = v.steps - 1 }) v) (arming (record { alarm = x; at = when; step = w.steps - 1 }) w)
+  arm-alike x when v w a = record {
     alike = record {
       clock = a.alike.clock;
       steps = a.alike.steps;
@@ -237,7 +237,8 @@ module _ (law : TextsDecideNothing) (records : List Sheet) (d e : Directory) (ke
       drawn = a.alike.drawn;
       calls = a.alike.calls;
       opened = a.alike.opened;
-      armed = ap (λ (l : List Waiting). l ++ record { call = call; what = what; at = when; step = v.steps - 1 } ∷ []) a.alike.armed ∙ ap (λ (n : ℕ). w.armed ++ record { call = call; what = what; at = when; step = n - 1 } ∷ []) a.alike.steps;
+      rooms = a.alike.rooms;
+      armed = ap (λ (l : List Waiting). l ++ record { alarm = x; at = when; step = v.steps - 1 } ∷ []) a.alike.armed ∙ ap (λ (n : ℕ). w.armed ++ record { alarm = x; at = when; step = n - 1 } ∷ []) a.alike.steps;
       texts = a.alike.texts;
       registrations = a.alike.registrations;
       seen = a.alike.seen;
@@ -292,14 +293,15 @@ module _ (law : TextsDecideNothing) (records : List Sheet) (d e : Directory) (ke
   emit-alike at (emit.Arm call what when) (emit.Plain q y) v w k e a = absurd cc
   emit-alike at (emit.Arm call what when) (emit.Ack other n) v w k e a = absurd cc
   emit-alike at (emit.Arm call what when) (emit.Arm call2 what2 when2) v w k e a =
-      subst (λ (z : Emit). Two (emit_one at z v) (emit_one at (emit.Arm call2 what2 when2) w)) (sym (ap seen_emit e)) (arm-alike call2 what2 when2 v w a)
+      subst (λ (z : Emit). Two (emit_one at z v) (emit_one at (emit.Arm call2 what2 when2) w)) (sym (ap seen_emit e)) (arm-alike (OfCall call2 what2) when2 v w a)
   emit-alike at (emit.Arm call what when) (emit.ArmSeat room2 seat2 what2 when2) v w k e a = absurd cc
   emit-alike at (emit.ArmSeat room seat what when) (emit.Ask q n) v w k e a = absurd cc
   emit-alike at (emit.ArmSeat room seat what when) (emit.Reply other n) v w k e a = absurd cc
   emit-alike at (emit.ArmSeat room seat what when) (emit.Plain q y) v w k e a = absurd cc
   emit-alike at (emit.ArmSeat room seat what when) (emit.Ack other n) v w k e a = absurd cc
   emit-alike at (emit.ArmSeat room seat what when) (emit.Arm call2 what2 when2) v w k e a = absurd cc
-  emit-alike at (emit.ArmSeat room seat what when) (emit.ArmSeat room2 seat2 what2 when2) v w k e a = a
+  emit-alike at (emit.ArmSeat room seat what when) (emit.ArmSeat room2 seat2 what2 when2) v w k e a =
+      subst (λ (z : Emit). Two (emit_one at z v) (emit_one at (emit.ArmSeat room2 seat2 what2 when2) w)) (sym (ap seen_emit e)) (arm-alike (OfSeat room2 seat2 what2) when2 v w a)
 
   pub emitted-alike : (at : ℕ) (xs ys : List Emit) (v w : World) → K (emitted at ys w).acts → seen_all S xs ≡ seen_all S ys → Two v w → Two (emitted at xs v) (emitted at ys w)
   emitted-alike at [] [] v w k e a = a

@@ -1,14 +1,11 @@
 -- The role of a message hides no more than the call knows that hears it.
-use Rattle.std.proofs.Common.{◌≡◌, ℕ, Bool, true, false, ◌&&◌, List, [], ◌∷◌, refl, ap, sym, ◌∙◌, Option, Some, None, subst, inl, inr, arith}
+use Rattle.std.proofs.Common.{◌≡◌, ℕ, Bool, true, false, ◌&&◌, List, refl, ap, sym, ◌∙◌, Option, Some, None, subst, inl, inr, arith}
 use Rattle.std.specs.Prelude.{if◌then◌else◌, position, slice_get}
-use Rattle.std.specs.Option.{unwrap_or}
 use Rattle.std.proofs.lemmas.Bool.{cases_Bool}
 use Rattle.std.proofs.lemmas.Bool.Decides.{nat_tests}
 use Rattle.mmtel_answers.specs.Said.{Said}
 use Rattle.mmtel_b2bua.specs.Entries.{is_numbered}
-use Rattle.mmtel_b2bua.specs.Histories.{Deed, table_after}
 use Rattle.mmtel_b2bua.specs.Lending.{entry_at, entry_of}
-use Rattle.mmtel_b2bua.specs.Tables.{Table, no_calls}
 use Rattle.mmtel_b2bua.specs.declared.entries.Entry.{Entry}
 use Rattle.mmtel_call.specs.Leaving.{is_taken}
 use Rattle.mmtel_call.specs.Sending.{facing}
@@ -34,7 +31,7 @@ use Rattle.mmtel_types.specs.Sides.{other_of}
 use Rattle.mmtel_types.specs.declared.numbers.Peer.{Peer}
 use Rattle.mmtel_types.specs.declared.sides.Side.{Side}
 use Rattle.mmtel_types.specs.declared.sides.Side.TheVariants.{Callee, Caller}
-use Rattle.mmtel_run_secret.specs.Belonging.{awaited_role, comes_from, loose_at, newest, of_loose, of_taken, other_role, request_role_in, request_role_of, response_role_of, said_by, side_asked, side_role, taken_at}
+use Rattle.mmtel_run_secret.specs.Belonging.{awaited_role, comes_from, loose_at, of_loose, of_taken, other_role, request_role_in, request_role_of, response_role_of, said_by, side_asked, side_role, taken_at}
 
 -- ---- a side that is restricted, and its own peer
 
@@ -69,12 +66,6 @@ pub request_fits : (number place : ℕ) (side : Side) (m : Said) (e : Entry) (es
 request_fits number place side m e es p g =
     subst (λ (o : Option Entry). FitsIn e.call.phase e.call side m (request_role_of side m o)) (sym (entry_found number place e es p g)) (fits_in e.call.phase e.call side m)
 
--- ---- the newest table
-
-pub newest_known : (site : Site) (role : Table → Option Role) (deeds : List Deed) (r : Role) → role no_calls ≡ None → role (table_after site deeds) ≡ Some r → newest site role deeds ≡ r
-newest_known site role [] r none e = let x : Some r ≡ None = sym e ∙ none in absurd cc
-newest_known site role (deed ∷ deeds) r none e = ap (λ (o : Option Role). unwrap_or o (newest site role deeds)) e
-
 -- ---- responses
 
 module _ (wholes : MessagesAreWhole) (site : Site) (keys : TKey → Bool) where
@@ -87,12 +78,12 @@ module _ (wholes : MessagesAreWhole) (site : Site) (keys : TKey → Bool) where
         let same : m.peer.0 ≡ own.0 = grind (arith, nat_tests, is) in
         told ∙ (ap (λ (n : ℕ). is_trusted (record { 0 = n }) site.peers.known) same ∙ strange)
 
-    whole_from : (role : Role) (own : Peer) → (hides role ≡ true → comes_from own m ≡ true) → trusts site own ≡ false → IsWhole role m
+    pub whole_from : (role : Role) (own : Peer) → (hides role ≡ true → comes_from own m ≡ true) → trusts site own ≡ false → IsWhole role m
     whole_from Plain own is strange = wholes.responses m response
     whole_from Opens own is strange = wholes.untrusted Opens m (from_own own (is refl) strange)
     whole_from (Says side) own is strange = wholes.untrusted (Says side) m (from_own own (is refl) strange)
 
-    is_answer : (key : TKey) (role : Role) (asked : Peer) → (hides role ≡ true → comes_from asked m ≡ true) → keys key ≡ trusts site asked → IsAnswer T key asked role m
+    pub is_answer : (key : TKey) (role : Role) (asked : Peer) → (hides role ≡ true → comes_from asked m ≡ true) → keys key ≡ trusts site asked → IsAnswer T key asked role m
     is_answer key role asked is tie = record { whole = whole_from role asked is; known = tie }
 
     -- where a target redirects to is for everybody
@@ -129,7 +120,7 @@ module _ (wholes : MessagesAreWhole) (site : Site) (keys : TKey → Bool) where
     awaited (Over cause) key c tie = tt
 
     -- of the peers of both it comes, where it hides anything
-    both_own : (one other : Bool) (side : Side) → hides (if one && other then Says side else Plain) ≡ true → (one ≡ true) × (other ≡ true)
+    pub both_own : (one other : Bool) (side : Side) → hides (if one && other then Says side else Plain) ≡ true → (one ≡ true) × (other ≡ true)
     both_own true true side e = (refl, refl)
     both_own true false side e = absurd (true_false (sym e))
     both_own false other side e = absurd (true_false (sym e))

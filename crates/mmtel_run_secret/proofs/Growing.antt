@@ -1,11 +1,22 @@
 -- What is true of all that was done on the transactions was true of it before: deeds only add to that list.
-use Rattle.std.proofs.Common.{ℕ, zero, suc, List, [], ◌∷◌, Bool, true, false, Option, Some, None}
+use Rattle.std.proofs.Common.{ℕ, zero, suc, List, [], ◌∷◌, ◌++◌, length, Bool, true, false, Option, Some, None, Result, Ok, Err}
 use Rattle.mmtel_answers.specs.Said.{Said}
-use Rattle.mmtel_b2bua.specs.Histories.{Hears, hears_after}
+use Rattle.mmtel_b2bua.specs.Histories.{Deed, Drops, Finishes, Hears, Releases, Restores, finished_by, hears_after}
+use Rattle.mmtel_b2bua.specs.Lending.{leg_out}
+use Rattle.mmtel_b2bua.specs.Names.{party}
 use Rattle.mmtel_b2bua.specs.declared.signals.Signal.{Signal}
 use Rattle.mmtel_b2bua.specs.declared.signals.Signal.TheVariants as signal
 use Rattle.mmtel_charging.specs.declared.rows.Row.{Row}
+use Rattle.mmtel_desk.specs.declared.desks.Desk.{Desk}
 use Rattle.mmtel_directory.specs.declared.directories.Directory.{Directory}
+use Rattle.mmtel_focus.specs.Histories as rooms
+use Rattle.mmtel_focus.specs.Table.{access, has_no_room}
+use Rattle.mmtel_focus.specs.declared.faults.RoomFault.{RoomFault}
+use Rattle.mmtel_focus.specs.declared.referrals.Replaces.{Replaces}
+use Rattle.mmtel_focus.specs.declared.signals.RoomSignal.{RoomSignal}
+use Rattle.mmtel_focus.specs.declared.signals.RoomSignal.TheVariants as of_room
+use Rattle.mmtel_leg.specs.declared.legs.Released.{Released}
+use Rattle.mmtel_call.specs.Table.{invite_answered, invite_silent}
 use Rattle.mmtel_transaction.specs.Answers.{Next, fires, hear_says, is_merged, next_due, part_of, says_due}
 use Rattle.mmtel_transaction.specs.Calls.{DidAck, DidAsk, DidBegin, DidFire, DidHear, DidReply, Done, live}
 use Rattle.mmtel_transaction.specs.Heads.{head_of}
@@ -16,18 +27,21 @@ use Rattle.mmtel_transaction.specs.declared.words.Emit.TheVariants as emit
 use Rattle.mmtel_transaction.specs.declared.words.Heard as transaction
 use Rattle.mmtel_transaction.specs.declared.words.Heard.TheVariants as heard
 use Rattle.mmtel_transaction.specs.declared.words.TKey.{TKey}
+use Rattle.mmtel_types.specs.Sides.{other_of}
+use Rattle.mmtel_types.specs.declared.numbers.Account.{Account}
 use Rattle.mmtel_types.specs.declared.numbers.CallNo.{CallNo}
 use Rattle.mmtel_types.specs.declared.numbers.Peer.{Peer}
+use Rattle.mmtel_types.specs.declared.numbers.RoomNo.{RoomNo}
 use Rattle.mmtel_types.specs.declared.sides.Side.{Side}
 use Rattle.mmtel_run.specs.Answers.{Answer, plainly, response_to, tag_for}
-use Rattle.mmtel_run.specs.Calls.{are_full, arrived, asked_by, named_by, site_of}
-use Rattle.mmtel_run.specs.Deadlines.{Deadline, OfCall, OfMessage}
+use Rattle.mmtel_run.specs.Calls.{are_full, arrived, asked_by, site_of}
+use Rattle.mmtel_run.specs.Deadlines.{Alarm, Deadline, OfAlarm, OfCall, OfMessage, OfSeat}
 use Rattle.mmtel_run.specs.Events.{Digest, Nothing, Refused, Heard, Asked, Notice, message_in}
 use Rattle.mmtel_run.specs.Records.{until_of}
-use Rattle.mmtel_run.specs.Refusals.{Course, Refuse, Enter, Open, Register, course}
-use Rattle.mmtel_run.specs.Refusals as refusals
+use Rattle.mmtel_run.specs.Refusals.{Course, Refuse, Enter, EnterRoom, Open, OpenRoom, JoinRoom, Register, course}
+use Rattle.mmtel_run.specs.Rooms.{Holder, InCall, InRoom, account_of_side, is_of_calls, is_key_of_calls, is_with, replacement_in, side_replaced, status_by}
 use Rattle.mmtel_run.specs.Run.{after, clock_at, due_in, fire_one, fired_if, one_more, settled}
-use Rattle.mmtel_run.specs.World.{World, answering, begun, calls_in, came, cancelling, cancelling_call, emit_one, emitted, entering, fired, handing, heard_now, hearing, met, registering, repeating, replying, rows_waiting, rung, signalled, taking, told}
+use Rattle.mmtel_run.specs.World.{World, acknowledging_by, adopting, adoption_of, alarmed, answering, begun, bringing, calls_in, came, cancelling, cancelling_call, comes_of, drawing, emit_one, emitted, ended_of, entering_room, fired, finishing, handing, heard_in_rooms, heard_now, hearing, holder_in, housed, joining_of, joining_room, lending, lodging, met, next_tag, noticed, opening_of, opening_room, registering, repeating, replaced, replaced_by, replaced_with, replacing, replying, responding_to, room_joined, room_opened, rooms_in, rung, seated, signalled, silenced, taken_out, taking, told, tokens_now}
 
 -- P is of all that was done, and of all that was done before
 module _ (P : List Done → Type 0) (older : (x : Done) (h : List Done) → P (x ∷ h) → P h) where
@@ -62,22 +76,51 @@ module _ (P : List Done → Type 0) (older : (x : Done) (h : List Done) → P (x
   handing_before true (row ∷ rows) w e = e
 
   module _ (d : Directory) (token : List ℕ) where
+    bringing_before : (at : ℕ) (deed : Deed) (desk : Desk) (w : World) → AllTrue (bringing at deed desk w) → AllTrue w
+    bringing_before at deed desk w e =
+        emitted_before at desk.out (record w { deeds = Drops (length desk.rows) ∷ deed ∷ w.deeds; drawn = desk.tokens.drawn; waiting = w.waiting ++ desk.rows }) e
+
+    lodging_before : (at : ℕ) (deed : rooms.Deed) (desk : Desk) (w : World) → AllTrue (lodging at deed desk w) → AllTrue w
+    lodging_before at deed desk w e = emitted_before at desk.out (record w { rooms = rooms.Drops (length desk.rows) ∷ deed ∷ w.rooms; waiting = w.waiting ++ desk.rows }) e
+
     pub signalled_before : (at : ℕ) (x : Signal) (w : World) → AllTrue (signalled d token at x w) → AllTrue w
-    signalled_before at x w e =
-        emitted_before at (hears_after (site_of d) w.deeds (heard_now token at x w)).desk.out
-        (record w { deeds = Hears (heard_now token at x w) ∷ w.deeds; drawn = (hears_after (site_of d) w.deeds (heard_now token at x w)).desk.tokens.drawn }) e
+    signalled_before at x w e = bringing_before at (Hears (heard_now token at x w)) (hears_after (site_of d) w.deeds (heard_now token at x w)).desk w e
+
+    pub finishing_before : (at : ℕ) (call : CallNo) (w : World) → AllTrue (finishing d token at call w) → AllTrue w
+    finishing_before at call w e = bringing_before at (Finishes call.0 at (tokens_now token w)) (finished_by (site_of d) call.0 at (tokens_now token w) (calls_in d w)).desk w e
+
+    pub housed_before : (at : ℕ) (deed : rooms.Deed) (w : World) → AllTrue (housed d at deed w) → AllTrue w
+    housed_before at deed w e = lodging_before at deed (comes_of d deed w) (record w { drawn = (comes_of d deed w).tokens.drawn }) e
+
+    pub seated_before : (at : ℕ) (x : RoomSignal) (w : World) → AllTrue (seated d token at x w) → AllTrue w
+    seated_before at x w e = housed_before at (heard_in_rooms token at x w) w e
+
+    pub noticed_before : (at : ℕ) (room : RoomNo) (seat code : ℕ) (w : World) → AllTrue (noticed d token at room seat code w) → AllTrue w
+    noticed_before at room seat code w e = housed_before at (rooms.Notifies room.0 seat code (tokens_now token w)) w e
+
+    silenced_before : (at : ℕ) (branch method : List ℕ) (of_calls : Bool) (w : World) → AllTrue (silenced d token at branch method of_calls w) → AllTrue w
+    silenced_before at branch method true w e = signalled_before at (signal.Silent branch method) w e
+    silenced_before at branch method false w e = seated_before at (of_room.Silent branch method) w e
+
+    ended_of_before : (at : ℕ) (key : TKey) (of_calls : Bool) (w : World) → AllTrue (ended_of d token at key of_calls w) → AllTrue w
+    ended_of_before at key true w e = signalled_before at (signal.Over key) w e
+    ended_of_before at key false w e = seated_before at (of_room.Over key) w e
 
     rung_before : (x : Due) (w : World) → AllTrue (rung d token x w) → AllTrue w
     rung_before (due.Again peer at text) w e = e
-    rung_before (due.Silent key branch method at) w e = signalled_before at (signal.Silent branch method) w e
-    rung_before (due.Over key at) w e = signalled_before at (signal.Over key) w e
+    rung_before (due.Silent key branch method at) w e = silenced_before at branch method (is_of_calls (invite_silent branch method) (calls_in d w).entries) w e
+    rung_before (due.Over key at) w e = ended_of_before at key (is_key_of_calls key (calls_in d w).entries) w e
     rung_before due.Nothing w e = e
+
+    alarmed_before : (at : ℕ) (x : Alarm) (w : World) → AllTrue (alarmed d token at x w) → AllTrue w
+    alarmed_before at (OfCall call what) w e = signalled_before at (signal.Due call what) w e
+    alarmed_before at (OfSeat room seat what) w e = seated_before at (of_room.Due room seat what) w e
 
     fired_before : (now : ℕ) (x : Deadline) (w : World) → AllTrue (fired d token now x w) → AllTrue w
     fired_before now OfMessage w e =
         begun_before w (fires_before (next_due now (live (begun w).acts)) (begun w).acts
         (rung_before (says_due (next_due now (live (begun w).acts))) (record (begun w) { acts = fires (begun w).acts (next_due now (live (begun w).acts)) }) e))
-    fired_before now (OfCall armed others) w e = begun_before w (signalled_before armed.at (signal.Due armed.call armed.what) (record (begun w) { armed = others }) e)
+    fired_before now (OfAlarm armed others) w e = begun_before w (alarmed_before armed.at armed.alarm (record (begun w) { armed = others }) e)
 
     if_fired_before : (now : ℕ) (o : Option Deadline) (w : World) → AllTrue (fired_if d token now o w) → AllTrue w
     if_fired_before now None w e = e
@@ -87,13 +130,69 @@ module _ (P : List Done → Type 0) (older : (x : Done) (h : List Done) → P (x
     settled_before zero now w e = e
     settled_before (suc fuel) now w e = if_fired_before now (due_in now w) w (settled_before fuel now (fire_one d token now w) e)
 
+    module _ (at : ℕ) where
+      pub adopting_before : (room : RoomNo) (seat : ℕ) (call : CallNo) (leg : Released) (account : Option Account) (r : Result ℕ RoomFault) (w : World) →
+          AllTrue (adopting d token at room seat call leg account r w) → AllTrue w
+      adopting_before room seat call leg account (Ok place) w e =
+          let deed : rooms.Deed = adoption_of token at room seat leg account w in
+          housed_before at deed w (finishing_before at call (housed d at deed w) e)
+      adopting_before room seat call leg account (Err fault) w e = noticed_before at room seat 503 (lending (Restores call.0 leg) w) e
+
+      pub taken_out_before : (room : RoomNo) (seat : ℕ) (call : CallNo) (side : Side) (account : Option Account) (leg : Option Released) (w : World) →
+          AllTrue (taken_out d token at room seat call side account leg w) → AllTrue w
+      taken_out_before room seat call side account None w e = noticed_before at room seat 491 w e
+      taken_out_before room seat call side account (Some leg) w e =
+          adopting_before room seat call leg account (access room.0 (rooms_in d w).live) (lending (Releases call.0 side) w) e
+
+      pub replaced_with_before : (room : RoomNo) (seat : ℕ) (call : CallNo) (side : Side) (is_its : Bool) (w : World) →
+          AllTrue (replaced_with d token at room seat call side is_its w) → AllTrue w
+      replaced_with_before room seat call side false w e = noticed_before at room seat 481 w e
+      replaced_with_before room seat call side true w e =
+          taken_out_before room seat call (other_of side) (account_of_side call (other_of side) (calls_in d w).entries) (leg_out call.0 (other_of side) (calls_in d w).entries) w e
+
+      pub replaced_by_before : (peer : Peer) (room : RoomNo) (seat : ℕ) (o : Option (CallNo × Side)) (w : World) → AllTrue (replaced_by d token at peer room seat o w) → AllTrue w
+      replaced_by_before peer room seat None w e = noticed_before at room seat 481 w e
+      replaced_by_before peer room seat (Some named) w e = replaced_with_before room seat named.0 named.1 (is_with peer (party named.0.0 named.1 (calls_in d w).entries)) w e
+
+      pub replaced_before : (peer : Peer) (room : RoomNo) (seat : ℕ) (replaces : Replaces) (w : World) → AllTrue (replaced d token at peer room seat replaces w) → AllTrue w
+      replaced_before peer room seat replaces w e = replaced_by_before peer room seat (side_replaced replaces (calls_in d w).entries) w e
+
+      pub replacing_before : (peer : Peer) (room : RoomNo) (seat : ℕ) (o : Option Replaces) (w : World) → AllTrue (replacing d token at peer room seat o w) → AllTrue w
+      replacing_before peer room seat None w e = e
+      replacing_before peer room seat (Some replaces) w e = noticed_before at room seat 100 w (replaced_before peer room seat replaces (noticed d token at room seat 100 w) e)
+
     module _ (at : ℕ) (s : Said) where
+      -- ---- rooms
+
+      opened_before : (key : TKey) (tag : List ℕ) (is_full : Bool) (w : World) → AllTrue (room_opened d at key s tag is_full w) → AllTrue w
+      opened_before key tag true w e = older (DidReply key.0 (response_to d.sip tag s (plainly 503)) at) w.acts e
+      opened_before key tag false w e = lodging_before at (opening_of d at key s tag) (comes_of d (opening_of d at key s tag) w) w e
+
+      opening_room_before : (key : TKey) (w : World) → AllTrue (opening_room d token at key s w) → AllTrue w
+      opening_room_before key w e = opened_before key (next_tag token w) (has_no_room (rooms_in d w).live) (drawing 1 w) e
+
+      joined_before : (key : TKey) (room : RoomNo) (tag : List ℕ) (r : Result ℕ RoomFault) (w : World) → AllTrue (room_joined d token at key s room tag r w) → AllTrue w
+      joined_before key room tag (Err fault) w e = older (DidReply key.0 (response_to d.sip tag s (plainly (status_by fault))) at) w.acts e
+      joined_before key room tag (Ok place) w e = housed_before at (joining_of d at key s room tag (tokens_now token w)) w e
+
+      joining_room_before : (key : TKey) (room : RoomNo) (w : World) → AllTrue (joining_room d token at key s room w) → AllTrue w
+      joining_room_before key room w e = joined_before key room (next_tag token w) (access room.0 (rooms_in d w).live) (drawing 1 w) e
+
+      entering_room_before : (key : TKey) (room : RoomNo) (seat : ℕ) (w : World) → AllTrue (entering_room d token at key s room seat w) → AllTrue w
+      entering_room_before key room seat w e =
+          let x : RoomSignal = of_room.Request room seat key s in
+          seated_before at x w (replacing_before at s.peer room seat (replacement_in s.heard (comes_of d (heard_in_rooms token at x w) w).out) (seated d token at x w) e)
+
+      -- ---- messages
+
       pub taking_before : (key : TKey) (c : Course) (w : World) → AllTrue (taking d token at key s c w) → AllTrue w
       taking_before key (Refuse answer) w e = replying_before d token at key s answer w e
       taking_before key (Enter call side) w e = signalled_before at (signal.Request call side key s) w e
+      taking_before key (EnterRoom room seat) w e = entering_room_before key room seat w e
       taking_before key Open w e = signalled_before at (arrived d.names.accounts key s) w e
+      taking_before key OpenRoom w e = opening_room_before key w e
+      taking_before key (JoinRoom room) w e = joining_room_before key room w e
       taking_before key (Register account seconds) w e = replying_before d token at key s (plainly 200) (registering account (until_of at seconds) w) e
-      taking_before key refusals.Unbuilt w e = e
 
       repeating_before : (o : Option (Peer × List ℕ)) (w : World) → AllTrue (repeating at o w) → AllTrue w
       repeating_before None w e = e
@@ -107,18 +206,23 @@ module _ (P : List Done → Type 0) (older : (x : Done) (h : List Done) → P (x
       cancelling_before key None w e = replying_before d token at key s (plainly 481) w e
       cancelling_before key (Some invite) w e = cancelling_call_before key invite (asked_by invite (calls_in d w).entries) w e
 
-      entering_before : (f : CallNo → Side → Signal) (o : Option (CallNo × Side)) (w : World) → AllTrue (entering d token at f o w) → AllTrue w
-      entering_before f None w e = e
-      entering_before f (Some x) w e = signalled_before at (f x.0 x.1) w e
+      acknowledging_by_before : (o : Option Holder) (w : World) → AllTrue (acknowledging_by d token at s o w) → AllTrue w
+      acknowledging_by_before None w e = e
+      acknowledging_by_before (Some (InCall call side)) w e = signalled_before at (signal.Ack call side s) w e
+      acknowledging_by_before (Some (InRoom room seat)) w e = seated_before at (of_room.Ack room seat s) w e
+
+      responding_to_before : (key : TKey) (of_calls : Bool) (w : World) → AllTrue (responding_to d token at key s of_calls w) → AllTrue w
+      responding_to_before key true w e = signalled_before at (signal.Answer key s) w e
+      responding_to_before key false w e = seated_before at (of_room.Answer key s) w e
 
       pub answering_before : (o : Option transaction.Heard) (w : World) → AllTrue (answering d token at s o w) → AllTrue w
       answering_before None w e = e
-      answering_before (Some (heard.Fresh key message)) w e = taking_before key (course d (is_merged key.0 (live w.acts)) (are_full (calls_in d w).entries) (named_by s.heard (calls_in d w).entries) s.heard) w e
-      answering_before (Some (heard.Answer key message)) w e = signalled_before at (signal.Answer key s) w e
+      answering_before (Some (heard.Fresh key message)) w e = taking_before key (course d (is_merged key.0 (live w.acts)) (are_full (calls_in d w).entries) (holder_in d s.heard w) s.heard) w e
+      answering_before (Some (heard.Answer key message)) w e = responding_to_before key (is_of_calls (invite_answered s) (calls_in d w).entries) w e
       answering_before (Some (heard.Repeat sent)) w e = repeating_before sent w e
       answering_before (Some (heard.Acked key)) w e = e
       answering_before (Some (heard.Cancel key invite message)) w e = cancelling_before key invite w e
-      answering_before (Some (heard.AckOf2xx message)) w e = entering_before (λ call side. signal.Ack call side s) (named_by s.heard (calls_in d w).entries) w e
+      answering_before (Some (heard.AckOf2xx message)) w e = acknowledging_by_before (holder_in d s.heard w) w e
       answering_before (Some heard.Stray) w e = e
 
       pub hearing_before : (o : Option transaction.Heard) (w : World) → AllTrue (hearing at s o w) → AllTrue w
@@ -139,7 +243,7 @@ module _ (P : List Done → Type 0) (older : (x : Done) (h : List Done) → P (x
     pub came_before : (at : ℕ) (x : Digest) (took : Bool) (w : World) → AllTrue (came d token at x took w) → AllTrue w
     came_before at x took w e =
         let left : World = met d token at x (record (begun w) { clock = at }) in
-        begun_before w (met_before at x (record (begun w) { clock = at }) (handing_before took (rows_waiting d left) left e))
+        begun_before w (met_before at x (record (begun w) { clock = at }) (handing_before took left.waiting left e))
 
     pub one_before : (fuel : ℕ) (x : Notice) (w : World) → AllTrue (one_more d token fuel x w) → AllTrue w
     one_before fuel x w e = settled_before fuel (clock_at w x.at) w (came_before (clock_at w x.at) x.digest x.took (settled d token fuel (clock_at w x.at) w) e)

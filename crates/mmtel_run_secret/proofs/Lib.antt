@@ -1,4 +1,5 @@
 mod Acts
+mod Adopting
 mod Branches
 mod Callers
 mod Courses
@@ -6,6 +7,7 @@ mod Deeds
 mod Emitting
 mod Fits
 mod Growing
+mod Inviting
 mod Keys
 mod Looking
 mod Offers

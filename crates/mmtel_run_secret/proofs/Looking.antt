@@ -8,7 +8,7 @@ use Rattle.mmtel_run_secret.specs.Alike.{AllLookUp, DigestLooksUp}
 looks_up : (d : Directory) (x : Digest) → DigestLooksUp d d x
 looks_up d Events.Nothing = tt
 looks_up d (Events.Refused peer source reply) = tt
-looks_up d (Events.Heard said) = record { target = refl; requested = refl; redirect = λ uri is. refl }
+looks_up d (Events.Heard said) = record { target = refl; requested = refl; redirect = λ uri is. refl; refer = λ uri is asks. refl }
 looks_up d (Events.Asked request kept rows) = tt
 
 pub all_look_up : (d : Directory) (xs : List Notice) → AllLookUp d d xs

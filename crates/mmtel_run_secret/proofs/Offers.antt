@@ -1,6 +1,5 @@
 -- What is offered exactly is seen alike: as many firings as are enough for both runs, of which none changes what is compared.
 use Rattle.std.proofs.Common.{◌≡◌, ◌<◌, ◌^◌, ◌+◌, ℕ, zero, suc, List, [], ◌∷◌, ◌++◌, Option, None, refl, sym, ap, ◌∙◌, subst, arith}
-use Rattle.mmtel_call_branches.specs.Laws.{OpeningsSendOnce, StepsSendOnce}
 use Rattle.mmtel_directory.specs.declared.directories.Directory.{Directory}
 use Rattle.mmtel_in_force.specs.Texts.{Texts}
 use Rattle.mmtel_sheet_values.specs.declared.values.Who.{Who}
@@ -16,7 +15,7 @@ use Rattle.mmtel_run_secret.specs.Headline.{KeepsTheSecretInBoth, Masks, MasksOn
 use Rattle.mmtel_run_secret.specs.Mask.{Mask, MaskedDigest, asked_by, coming, mask, mask_all, mask_digest, records_in, records_of}
 use Rattle.mmtel_run_secret.proofs.Looking.{all_look_up}
 use Rattle.mmtel_run_secret.proofs.Secret.{of_one}
-use Rattle.mmtel_run_secret.proofs.Sending.{begins, early_in}
+use Rattle.mmtel_run_secret.proofs.Sending.{Once, begins, early_in}
 
 -- ---- more firings change nothing
 
@@ -69,12 +68,12 @@ masks_once d token loaded happened masked other is too =
 
 -- ---- the run whose offers are seen
 
-module _ (steps : StepsSendOnce) (openings : OpeningsSendOnce) (secret : KeepsTheSecretInBoth) where
+module _ (once : Once) (secret : KeepsTheSecretInBoth) where
   -- where few numbers are drawn by so many firings as are enough, so it is by more
   early_by : (d : Directory) (token : List ℕ) (loaded : Texts) (happened : List Happened) (n more : ℕ) → IsEnough d token loaded n happened → IsShortRun d token loaded happened → AllEarly d token (n + more) (notices d happened) (beginning loaded)
   early_by d token loaded happened n more enough short =
       let few : (world_after d token loaded n happened).drawn < 2 ^ 60 = (short n enough).drawn in
-      early_in d token steps openings (n + more) (notices d happened) (beginning loaded) (begins d token loaded)
+      early_in d token once (n + more) (notices d happened) (beginning loaded) (begins d token loaded)
       (subst (λ (w : World). w.drawn < 2 ^ 60) (sym (world_same d token n more (notices d happened) (beginning loaded) enough)) few)
 
   pub offers_keep : OffersKeepTheSecret

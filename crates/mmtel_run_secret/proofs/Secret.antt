@@ -40,7 +40,7 @@ use Rattle.mmtel_run.specs.Events.{Digest, Happened, Notice, digest, digest_data
 use Rattle.mmtel_run.specs.InForce.{upload_at, uploads_of}
 use Rattle.mmtel_run.specs.Refusals.{registrant}
 use Rattle.mmtel_run.specs.Run.{after, clock_at, one_more, settled, world_after}
-use Rattle.mmtel_run.specs.World.{World, beginning, begun, came, ended, filing, handing, keeping, met, refusing, rows_waiting, serving}
+use Rattle.mmtel_run.specs.World.{World, beginning, begun, came, ended, filing, handing, keeping, met, refusing, serving}
 use Rattle.mmtel_run_secret.specs.Alike.{AllEarly, AllLookUp, AllTied, AreAmong, DigestIsTied, DigestLooksUp, IsEarly, SiteAlike}
 use Rattle.mmtel_run_secret.specs.Belonging.{role_of}
 use Rattle.mmtel_run_secret.specs.Headline.{KeepsTheSecret, KeepsTheSecretInBoth, RunsAreTied}
@@ -264,6 +264,7 @@ module _ (below : Below) (its : PutIts) (others : PutOthers) (records : List She
       drawn = a.alike.drawn;
       calls = a.alike.calls;
       opened = a.alike.opened;
+      rooms = a.alike.rooms;
       armed = a.alike.armed;
       texts = ap (λ (x : Option (Account × List ℕ)). put_kept x v.texts) same ∙ ap (put_kept t) a.alike.texts;
       registrations = a.alike.registrations;
@@ -327,6 +328,7 @@ module _ (below : Below) (its : PutIts) (others : PutOthers) (records : List She
       drawn = a.alike.drawn;
       calls = a.alike.calls;
       opened = a.alike.opened;
+      rooms = a.alike.rooms;
       armed = a.alike.armed;
       texts = a.alike.texts;
       registrations = a.alike.registrations;
@@ -346,6 +348,7 @@ module _ (below : Below) (its : PutIts) (others : PutOthers) (records : List She
       drawn = a.alike.drawn;
       calls = a.alike.calls;
       opened = a.alike.opened;
+      rooms = a.alike.rooms;
       armed = a.alike.armed;
       texts = a.alike.texts;
       registrations = a.alike.registrations;
@@ -366,8 +369,8 @@ module _ (below : Below) (its : PutIts) (others : PutOthers) (records : List She
   handing_other false (row ∷ rows) v w a = a
   handing_other true (row ∷ rows) v w a = filing_other (row ∷ rows) v w a
 
-  ended-alike : (took other : Bool) (v w : World) → Two v w → Two (ended d took v) (ended e other w)
-  ended-alike took other v w a = handing_other other (rows_waiting e w) (ended d took v) w (handing_one took (rows_waiting d v) v w a)
+  ended-alike : (took other : Bool) (v w : World) → Two v w → Two (ended took v) (ended other w)
+  ended-alike took other v w a = handing_other other w.waiting (ended took v) w (handing_one took v.waiting v w a)
 
   -- ---- one more event
 
@@ -380,6 +383,7 @@ module _ (below : Below) (its : PutIts) (others : PutOthers) (records : List She
       drawn = a.alike.drawn;
       calls = a.alike.calls;
       opened = a.alike.opened;
+      rooms = a.alike.rooms;
       armed = a.alike.armed;
       texts = a.alike.texts;
       registrations = a.alike.registrations;
@@ -402,13 +406,13 @@ module _ (below : Below) (its : PutIts) (others : PutOthers) (records : List She
   came-alike : (fuel at : ℕ) (x y : Notice) (v w : World) → TrustedAs d x.digest → TrustedAs e y.digest → DigestIsAmong records d x.digest → DigestLooksUp d e y.digest → Two v w → Comes fuel at at x y v w
   came-alike fuel at x y v w trusted too among looks a same tied tied_too early k =
       let left : World = met e token at y.digest (coming_at e fuel at w) in
-      let km : K left.acts = handing_before K before y.took (rows_waiting e left) left k in
+      let km : K left.acts = handing_before K before y.took left.waiting left k in
       let kc : K (coming_at e fuel at w).acts = met_before K before e token at y.digest (coming_at e fuel at w) km in
       let ks : K (settled e token fuel at w).acts = begun_before K before (settled e token fuel at w) kc in
       let z : Two (coming_at d fuel at v) (coming_at e fuel at w) =
       at_clock at (begun (settled d token fuel at v)) (begun (settled e token fuel at w))
-      (begun-alike below.texts below.tables below.told records d e token keys sites K before kn (settled d token fuel at v) (settled e token fuel at w)
-      (settled-alike below.texts below.tables below.told records d e token keys sites K before kn fuel at v w ks a)) in
+      (begun-alike below.texts below.tables below.told below.laws records d e token keys sites K before kn (settled d token fuel at v) (settled e token fuel at w)
+      (settled-alike below.texts below.tables below.told below.laws records d e token keys sites K before kn fuel at v w ks a)) in
       ended-alike x.took y.took (met d token at x.digest (coming_at d fuel at v)) left
       (met-alike at x.digest y.digest (coming_at d fuel at v) (coming_at e fuel at w) same trusted too among looks (tied early) (tied_too (subst (λ (n : ℕ). n < 2 ^ 60) z.alike.drawn early)) kc km z)
 
@@ -441,6 +445,7 @@ module _ (below : Below) (its : PutIts) (others : PutOthers) (records : List She
       drawn = refl;
       calls = tt;
       opened = refl;
+      rooms = refl;
       armed = refl;
       texts = refl;
       registrations = refl;
@@ -456,7 +461,7 @@ module _ (below : Below) (its : PutIts) (others : PutOthers) (records : List She
 -- one configuration is as itself
 pub of_one : (records : List Sheet) (x : Directory) → SiteAlike records x x
 of_one records x = record {
-  equal = record { sip = refl; home = refl; factory = refl; peers = refl };
+  equal = record { sip = refl; home = refl; factory = refl; mixer = refl; peers = refl };
   configured = record { equal = record { sip = refl; home = refl; bound = refl; peers = refl }; lead = λ sheet is forward does. refl };
 }
 

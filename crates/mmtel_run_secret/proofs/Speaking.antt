@@ -1,34 +1,59 @@
 -- Of two messages that are the same without private places the same is read and decided, and the answers to them differ in texts to trusted peers alone.
-use Rattle.std.proofs.Common.{◌≡◌, ℕ, Bool, true, false, List, [], ap, sym, ◌∙◌, Option}
+use Rattle.std.proofs.Common.{◌≡◌, ℕ, Bool, true, false, List, [], ap, sym, ◌∙◌, Option, None, codes, refl}
 use Rattle.mmtel_answers.specs.Answers.{own_reply}
 use Rattle.mmtel_answers.specs.Said.{Said}
 use Rattle.mmtel_b2bua.specs.declared.entries.Entry.{Entry}
+use Rattle.mmtel_call_secret.specs.Parts.{public_dialog_by, public_leg}
 use Rattle.mmtel_call_secret.specs.Roles.{Role, hidden_by, private_places, without_private}
 use Rattle.mmtel_directory.specs.declared.directories.Directory.{Directory}
+use Rattle.mmtel_focus.specs.Rooms.{Room}
+use Rattle.mmtel_leg.specs.Dialogues.{met, opened as opened_dialog}
+use Rattle.mmtel_leg.specs.Remotes.{field, remote_of}
+use Rattle.mmtel_leg.specs.declared.dialogues.Dialogue.{Dialogue}
+use Rattle.mmtel_masks.proofs.DialogLaws.{dialogs, routes, tags}
+use Rattle.mmtel_masks.proofs.ResponseLaws.{request_to}
 use Rattle.mmtel_masks.specs.Heads.{HeardAlikeHaveOneHead}
 use Rattle.mmtel_masks.specs.Responses.{AlikeResponsesHaveOneHead}
 use Rattle.mmtel_message.specs.Addresses.{contact_text}
 use Rattle.mmtel_message.specs.Faults.{is_request}
+use Rattle.mmtel_message.specs.Message.{Line}
 use Rattle.mmtel_message.specs.Responses.{Reply, response}
 use Rattle.mmtel_parties.specs.Parties.{believed_user, parties_by, parties_of, registration_by, sides_of}
 use Rattle.mmtel_parties.specs.declared.parties.Parties.{Parties}
 use Rattle.mmtel_transaction.specs.Heads.{head_of}
+use Rattle.mmtel_trust.proofs.Masked.{hidden_once}
 use Rattle.mmtel_trust.specs.Digest.{HeardMessage, caller_account}
-use Rattle.mmtel_trust.specs.Mask.{Places}
+use Rattle.mmtel_trust.specs.Mask.{Places, hide_if, masked_lines, places_in}
 use Rattle.mmtel_trust.specs.MaskedMessages.{public_part}
 use Rattle.mmtel_types.specs.declared.addrs.Addr.{Addr}
 use Rattle.mmtel_types.specs.declared.numbers.Account.{Account}
-use Rattle.mmtel_types.specs.declared.numbers.CallNo.{CallNo}
-use Rattle.mmtel_types.specs.declared.sides.Side.{Side}
+use Rattle.mmtel_types.specs.declared.numbers.Peer.{Peer}
+use Rattle.mmtel_types.specs.declared.sides.Side.TheVariants.{Caller}
 use Rattle.mmtel_run.specs.Alike.{EqualButForAccounts, Kin, MasksMakeKin, trusts}
 use Rattle.mmtel_run.specs.Answers.{Answer, response_to}
 use Rattle.mmtel_run.specs.Calls.{named_by}
 use Rattle.mmtel_run.specs.Events.{message_in}
 use Rattle.mmtel_run.specs.Mask.{mask_said}
 use Rattle.mmtel_run.specs.Refusals.{course, registrant}
+use Rattle.mmtel_run.specs.Rooms.{Holder, leg_by, seat_by}
 use Rattle.mmtel_run_secret.specs.Alike.{LooksUp}
 use Rattle.mmtel_run_secret.specs.Belonging.{is_opening}
 use Rattle.mmtel_run_secret.proofs.Fits.{true_false}
+
+-- ---- the dialog of an INVITE: what is private of it is what a dialog leaves out
+
+hide_absorbs : (b : Bool) (v : List ℕ) → hide_if true (hide_if b v) ≡ hide_if true v
+hide_absorbs true v = hidden_once v
+hide_absorbs false v = refl
+
+opened_hidden : (p : Places) (peer : Peer) (ls : List Line) (tag : List ℕ) → p.to ≡ false → public_dialog_by true (opened_dialog peer (masked_lines p ls) tag) ≡ public_dialog_by true (opened_dialog peer ls tag)
+opened_hidden p peer ls tag e =
+    ap (λ (x : Dialogue). public_dialog_by true (met x (remote_of Caller (masked_lines p ls)))) (dialogs p peer ls tag e)
+    ∙ rw (tags p Caller ls, routes p Caller ls) (ap (λ (v : List ℕ). record (public_dialog_by true (opened_dialog peer ls tag)) { remote = v }) (hide_absorbs p.from (field (codes "From") ls)))
+
+opened_by : (b : Bool) (p : Places) (peer : Peer) (h : HeardMessage) (tag : List ℕ) → is_request h.start ≡ true → public_dialog_by b (opened_dialog peer (hidden_by b p h).lines tag) ≡ public_dialog_by b (opened_dialog peer h.lines tag)
+opened_by true p peer h tag asked = opened_hidden (places_in h.start p) peer h.lines tag (request_to p h.start asked)
+opened_by false p peer h tag asked = refl
 
 module _ (heads : HeardAlikeHaveOneHead) (responses : AlikeResponsesHaveOneHead) where
   head_by : (b c : Bool) (p q : Places) (x y : HeardMessage) → b ≡ c → hidden_by b p x ≡ hidden_by c q y → head_of (message_in x) ≡ head_of (message_in y)
@@ -79,12 +104,34 @@ module _ (heads : HeardAlikeHaveOneHead) (responses : AlikeResponsesHaveOneHead)
       kin_public : Kin d e m.peer m.source (public_part m.heard) (public_part n.heard)
       kin_public = kin d e m.peer m.source (public_part m.heard) (public_part n.heard) equal (ap (mask_said (trusts d m.peer)) public_same) registered
 
-      pub decided_same : (merged full : Bool) (named : Option (CallNo × Side)) → course d merged full named m.heard ≡ course e merged full named n.heard
+      pub decided_same : (merged full : Bool) (named : Option Holder) → course d merged full named m.heard ≡ course e merged full named n.heard
       unfolding course
       decided_same merged full named = kin_public.decided merged full named
 
     pub named_same : (entries : List Entry) → named_by m.heard entries ≡ named_by n.heard entries
     named_same entries = ap (λ (h : HeardMessage). named_by h entries) public_same
+
+    pub seated_same : (live : List Room) → seat_by m.heard live ≡ seat_by n.heard live
+    seated_same live = ap (λ (h : HeardMessage). seat_by h live) public_same
+
+    pub start_same : m.heard.start ≡ n.heard.start
+    start_same = ap (λ (x : Said). x.heard.start) same
+
+    pub refer_same : m.heard.refer_to ≡ n.heard.refer_to
+    refer_same = ap (λ (x : Said). x.heard.refer_to) same
+
+    -- ---- whose leg it is that comes
+
+    -- the dialog of an INVITE without private places is the same but for these
+    pub leg_same : (tag : List ℕ) → m.heard.trusted ≡ trusts d m.peer → n.heard.trusted ≡ trusts d n.peer → is_request m.heard.start ≡ true → is_request n.heard.start ≡ true →
+        public_leg (trusts d) (leg_by tag m) ≡ public_leg (trusts d) (leg_by tag n)
+    leg_same tag told told_too request request_too =
+        ap (λ (x : Dialogue). record { dialogue = x; meter = None }) (
+        ap (λ (b : Bool). public_dialog_by b (opened_dialog m.peer m.heard.lines tag)) (sym told)
+        ∙ (sym (opened_by m.heard.trusted (private_places r m.heard) m.peer m.heard tag request)
+        ∙ (ap (λ (x : Said). public_dialog_by x.heard.trusted (opened_dialog x.peer x.heard.lines tag)) same
+        ∙ (opened_by n.heard.trusted (private_places s n.heard) n.peer n.heard tag request_too
+        ∙ ap (λ (b : Bool). public_dialog_by b (opened_dialog n.peer n.heard.lines tag)) told_too))))
 
     -- ---- the answers
 

@@ -11,14 +11,13 @@ use Rattle.mmtel_b2bua.specs.declared.entries.Entry.{Entry}
 use Rattle.mmtel_call.specs.Answered.{leg_of}
 use Rattle.mmtel_call.specs.Leaving.{is_taken}
 use Rattle.mmtel_call.specs.Requests.{is_same_number, is_same_side, number_of}
-use Rattle.mmtel_call.specs.Table.{current, current_at, is_branch}
+use Rattle.mmtel_call.specs.Table.{current, current_at, is_branch, invite_answered}
 use Rattle.mmtel_call.specs.declared.calls.Call.{Call}
 use Rattle.mmtel_call.specs.declared.calls.Pair.{Pair}
 use Rattle.mmtel_call.specs.declared.calls.Phase.{Phase}
 use Rattle.mmtel_call.specs.declared.calls.Phase.TheVariants.{Lent, Offered, Over, Stood}
 use Rattle.mmtel_call.specs.declared.calls.Stage.{Stage}
 use Rattle.mmtel_call.specs.declared.calls.Stage.TheVariants.{Answered, Asking, Parting, Talking}
-use Rattle.mmtel_call_branches.specs.Laws.{OpeningsSendOnce, StepsSendOnce}
 use Rattle.mmtel_call_branches.specs.Sent.{CallWasSent, Each, InvitationWasSent, LooseWasSent, PhaseWasSent, StageWasSent, TakenWasSent, WasSent}
 use Rattle.mmtel_call_secret.specs.Seen.{trust_of}
 use Rattle.mmtel_call_secret.specs.Table.{SentIn}
@@ -37,6 +36,11 @@ use Rattle.mmtel_message.specs.declared.reading.ReadFault.TheVariants as fault
 use Rattle.mmtel_outside.specs.declared.events.Event.{Event}
 use Rattle.mmtel_outside.specs.declared.events.Event.TheVariants as event
 use Rattle.mmtel_scan.proofs.Runs.{and_true}
+use Rattle.mmtel_focus.specs.declared.seats.Invite.{Invite}
+use Rattle.mmtel_focus.specs.declared.seats.Invite.TheVariants.{Agreed, Waiting}
+use Rattle.mmtel_focus.specs.Seats.{dialogue_of}
+use Rattle.mmtel_focus.specs.Table as rooms
+use Rattle.mmtel_focus.specs.Table.{Table, is_asked, is_sent}
 use Rattle.mmtel_transaction.specs.Answers.{part_of, peer_of}
 use Rattle.mmtel_transaction.specs.Belonging.{OwnersAreLive}
 use Rattle.mmtel_transaction.specs.Calls.{live}
@@ -55,15 +59,16 @@ use Rattle.mmtel_run.specs.Calls.{site_of}
 use Rattle.mmtel_run.specs.Events as Events
 use Rattle.mmtel_run.specs.Events.{Digest, Happened, Notice, digest_datagram, digest_from, digest_read, message_in, notices, refused_by}
 use Rattle.mmtel_run.specs.Run.{one_more}
-use Rattle.mmtel_run.specs.World.{World, beginning, calls_in}
-use Rattle.mmtel_run_secret.specs.Alike.{AckIsTied, AllTied, DigestIsTied, IsEarly, IsOfOne, ResponseIsTied}
+use Rattle.mmtel_run.specs.World.{World, beginning, calls_in, rooms_in}
+use Rattle.mmtel_run_secret.specs.Alike.{AckIsTied, AllTied, DigestIsTied, InviteIsTied, IsEarly, IsOfOne, ResponseIsTied, SeatResponseIsTied}
 use Rattle.mmtel_run_secret.specs.Headline.{BranchesAreRead, RunsAreTied}
+use Rattle.mmtel_run_secret.specs.Invited.{InviteWasSent, RoomWasSent, SeatWasSent}
 use Rattle.mmtel_run_secret.specs.Mask.{coming}
 use Rattle.mmtel_run_secret.proofs.Acts.{answer_sent, asks_of, sent_once}
 use Rattle.mmtel_run_secret.proofs.Branches.{WasRead, answers, text_same}
 use Rattle.mmtel_run_secret.proofs.Courses.{answer_response, head_request}
 use Rattle.mmtel_run_secret.proofs.Fits.{true_false}
-use Rattle.mmtel_run_secret.proofs.Sending.{EntryWasSent, Holds, begins, coming_goes, each_at, one_goes}
+use Rattle.mmtel_run_secret.proofs.Sending.{EntryWasSent, Holds, Once, begins, coming_goes, each_at, one_goes}
 
 -- ---- places in a list
 
@@ -153,6 +158,39 @@ module _ (differ : TokensDiffer) (owners : OwnersAreLive)
           tie : (key : ℕ) (q : Peer) → peer_of key (live w.acts) ≡ Some q → (branch : List ℕ) → Was branch q → (peer : Peer) → Was branch peer → IsOfOne d w (record { 0 = key }) peer
           tie key q of_q branch was peer too = ap (option_map (trusts d)) of_q ∙ ap (λ (p : Peer). Some (trusts d p)) (one_peer branch q peer was too)
 
+    -- a response of a seat
+    module _ (m : Said) (is : WasRead m) where
+      branch_is : rooms.invite_answered m ≡ invite_answered m
+      unfolding invite_answered rooms.invite_answered
+      branch_is = refl
+
+      seat_tied : SeatResponseIsTied d w m
+      seat_tied key branch part_is answered =
+          let n : Message Start = is.message in
+          let of_n : part_of (head_of n) (live w.acts) ≡ part.Answer key = subst (λ (x : Message Start). part_of (head_of x) (live w.acts) ≡ part.Answer key) (same_message m is) part_is in
+          let response : is_request n.start ≡ false = answer_response n (live w.acts) key of_n in
+          let says = answers fives vias cseqs m branch is (sym branch_is ∙ answered) response in
+          let was = answer_sent d.sip token read.source read.port read.text owners (suc w.drawn) w.acts n branch key (omega (arith, early)) (had.numbered early) of_n (head_request n ∙ response) says.0 says.1 in
+          let table : Table = rooms_in d w in
+          let tied : (peer : Peer) → Was branch peer → IsOfOne d w (record { 0 = key }) peer = λ peer too. tie key was.0 was.1 branch was.2 peer too in
+          record {
+            loose = λ place l there at_it. tied l.invitation.dialogue.peer
+                (with_branch Was l.invitation.branch branch l.invitation.dialogue.peer (passes (is_of branch) table.loose place l there at_it) (each_at (LooseWasSent Was) table.loose place l had.rooms_sent.loose_in at_it));
+            seat = λ at place room seat there at_it its of_it.
+                let sent : SeatWasSent Was seat = each_at (SeatWasSent Was) room.seats place seat (each_at (RoomWasSent Was) table.live at room had.rooms_sent.live_in at_it) of_it in
+                let both = tied_by key branch (dialogue_of seat).peer seat.invite tied (passes (is_asked branch) room.seats place seat its of_it) sent in
+                record { invite = both.0; leg = both.1 };
+          }
+        where
+          tie : (key : ℕ) (q : Peer) → peer_of key (live w.acts) ≡ Some q → (branch : List ℕ) → Was branch q → (peer : Peer) → Was branch peer → IsOfOne d w (record { 0 = key }) peer
+          tie key q of_q branch was peer too = ap (option_map (trusts d)) of_q ∙ ap (λ (p : Peer). Some (trusts d p)) (one_peer branch q peer was too)
+
+          tied_by : (key : ℕ) (branch : List ℕ) (peer : Peer) (o : Option Invite) → ((q : Peer) → Was branch q → IsOfOne d w (record { 0 = key }) q) → is_sent branch o ≡ true → InviteWasSent Was peer o →
+              InviteIsTied d w (record { 0 = key }) o × IsOfOne d w (record { 0 = key }) peer
+          tied_by key branch peer None tied asks sent = absurd (true_false (sym asks))
+          tied_by key branch peer (Some (Waiting number i)) tied asks sent = (tied i.dialogue.peer (with_branch Was i.branch branch i.dialogue.peer asks sent.0), tied peer (with_branch Was i.branch branch peer asks sent.1))
+          tied_by key branch peer (Some (Agreed other tag ack)) tied asks sent = (tt, tied peer (with_branch Was other branch peer asks sent))
+
     -- an ACK
     ack_in : (p : Phase) (c : Call) (side : Side) (m : Said) → PhaseWasSent Was p → Each (TakenWasSent Was) c.taken → SentIn p (trust_of (site_of d) (λ key. false)) c side m
     ack_in (Offered x) c side m is e = tt
@@ -176,7 +214,7 @@ module _ (differ : TokensDiffer) (owners : OwnersAreLive)
     digest_tied : (x : Digest) → ((m : Said) → x ≡ Events.Heard m → WasRead m) → DigestIsTied d w x
     digest_tied Events.Nothing was = tt
     digest_tied (Events.Refused peer source reply) was = tt
-    digest_tied (Events.Heard m) was = record { response = response_tied m (was m refl); ack = ack_tied m }
+    digest_tied (Events.Heard m) was = record { response = response_tied m (was m refl); seat = seat_tied m (was m refl); ack = ack_tied m }
     digest_tied (Events.Asked request kept rows) was = tt
 
   -- ---- a run
@@ -188,11 +226,11 @@ module _ (differ : TokensDiffer) (owners : OwnersAreLive)
   AllRead [] = Unit {0}
   AllRead (x ∷ xs) = ReadIn x.digest × AllRead xs
 
-  all_tied : (steps : StepsSendOnce) (openings : OpeningsSendOnce) (fuel : ℕ) (xs : List Notice) (w : World) → Holds d token w → AllRead xs → AllTied d token fuel xs w
-  all_tied steps openings fuel [] w had all = tt
-  all_tied steps openings fuel (x ∷ xs) w had all = (
-    λ early. digest_tied (coming d token fuel x w) ((coming_goes d token steps openings fuel x w).holds had) early x.digest all.0,
-    all_tied steps openings fuel xs (one_more d token fuel x w) ((one_goes d token steps openings fuel x w).holds had) all.1,
+  all_tied : (once : Once) (fuel : ℕ) (xs : List Notice) (w : World) → Holds d token w → AllRead xs → AllTied d token fuel xs w
+  all_tied once fuel [] w had all = tt
+  all_tied once fuel (x ∷ xs) w had all = (
+    λ early. digest_tied (coming d token fuel x w) ((coming_goes d token once fuel x w).holds had) early x.digest all.0,
+    all_tied once fuel xs (one_more d token fuel x w) ((one_goes d token once fuel x w).holds had) all.1,
   )
 
 -- ---- whatever is heard was read
@@ -235,9 +273,9 @@ module _ (differ : TokensDiffer) (owners : OwnersAreLive)
     (fives : (b : List ℕ) (m : Message Start) → reads b ≡ Ok m → (five : Five) × (five_at m.lines ≡ Some five))
     (vias : (b : List ℕ) (m : Message Start) (five : Five) → reads b ≡ Ok m → five_at m.lines ≡ Some five → (v : List ℕ) × (first_value (codes "Via") m.lines ≡ Some v) × (via_at v ≡ Some five.via))
     (cseqs : (ls : List Line) (five : Five) → five_at ls ≡ Some five → (v : List ℕ) × IsOnly (codes "CSeq") ls v × (cseq_at v ≡ Some five.cseq))
-    (steps : StepsSendOnce) (openings : OpeningsSendOnce) where
+    (once : Once) where
   pub runs_are_tied : RunsAreTied
-  runs_are_tied d token loaded fuel happened read = all_tied differ owners fives vias cseqs d token read steps openings fuel (notices d happened) (beginning loaded) (begins d token loaded) (all_read happened)
+  runs_are_tied d token loaded fuel happened read = all_tied differ owners fives vias cseqs d token read once fuel (notices d happened) (beginning loaded) (begins d token loaded) (all_read happened)
     where
       all_read : (xs : List Happened) → AllRead differ owners fives vias cseqs d token read (notices d xs)
       all_read [] = tt

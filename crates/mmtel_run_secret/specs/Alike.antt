@@ -1,5 +1,5 @@
--- In what two runs with calls are alike, each under its configuration: in all but the texts that are due to trusted peers, and what these are offered.
-use Rattle.std.specs.Prelude.{◌≡◌, ◌<◌, ◌^◌, ℕ, true, false, Some, List, [], ◌∷◌, position, slice_get, option_map}
+-- In what two runs with calls and rooms are alike, each under its configuration: in all but the texts that are due to trusted peers, and what these are offered.
+use Rattle.std.specs.Prelude.{◌≡◌, ◌<◌, ◌^◌, ℕ, true, false, Option, Some, None, List, [], ◌∷◌, position, slice_get, option_map}
 use Rattle.mmtel_answers.specs.Said.{Said}
 use Rattle.mmtel_b2bua.specs.Entries.{sent_it}
 use Rattle.mmtel_b2bua.specs.declared.entries.Entry.{Entry}
@@ -17,6 +17,15 @@ use Rattle.mmtel_desk.specs.Loose.{is_of}
 use Rattle.mmtel_desk.specs.declared.invitations.Invitation.{Invitation}
 use Rattle.mmtel_desk.specs.declared.invitations.Loose.{Loose}
 use Rattle.mmtel_directory.specs.declared.directories.Directory.{Directory}
+use Rattle.mmtel_focus.specs.Rooms.{Room}
+use Rattle.mmtel_focus.specs.declared.seats.Invite.{Invite}
+use Rattle.mmtel_focus.specs.declared.seats.Invite.TheVariants.{Agreed, Waiting}
+use Rattle.mmtel_focus.specs.declared.seats.Seat.{Seat}
+use Rattle.mmtel_focus.specs.Seats.{dialogue_of}
+use Rattle.mmtel_focus.specs.Table as rooms
+use Rattle.mmtel_focus.specs.Table.{Table, asks, is_asked}
+use Rattle.mmtel_focus_secret.specs.Directories.{RefersAlike}
+use Rattle.mmtel_focus_secret.specs.Histories.{AlikeRooms}
 use Rattle.mmtel_in_force.specs.Texts.{Texts}
 use Rattle.mmtel_parties.specs.Parties.{believed_user, target_from}
 use Rattle.mmtel_sheet_grammar.specs.Texts.{kept_sheet}
@@ -37,9 +46,10 @@ use Rattle.mmtel_run.specs.Alike.{EqualButForAccounts, trusts}
 use Rattle.mmtel_run.specs.Calls.{named_by, site_of}
 use Rattle.mmtel_run.specs.Events as Events
 use Rattle.mmtel_run.specs.Events.{Digest, Notice, message_in}
+use Rattle.mmtel_run.specs.Rooms.{rooms_site}
 use Rattle.mmtel_run.specs.Run.{one_more}
 use Rattle.mmtel_run.specs.View.{view}
-use Rattle.mmtel_run.specs.World.{World, calls_in}
+use Rattle.mmtel_run.specs.World.{World, calls_in, rooms_in}
 use Rattle.mmtel_run_secret.specs.Mask.{coming}
 
 -- ---- two configurations
@@ -49,11 +59,13 @@ pub record SiteAlike (records : List Sheet) (one other : Directory) : Type 0 whe
   pub equal : EqualButForAccounts one other
   pub configured : Configured records (site_of one) (site_of other)
 
--- a message names the same accounts in both, where that is no matter of who the caller is: the target of an INVITE, and where a response redirects to
+-- a message names the same accounts in both, where that is no matter of who the caller is: the target of an INVITE, where a response redirects to,
+-- and whom a REFER asks a room to invite
 pub record LooksUp (one other : Directory) (m : Said) : Type 0 where
   pub target : target_from one.names.accounts m.heard.start (believed_user m.heard).user ≡ target_from other.names.accounts m.heard.start (believed_user m.heard).user
   pub requested : LooksUpAlike (site_of one) (site_of other) (requested m).uri
   pub redirect : RedirectsAlike (site_of one) (site_of other) m
+  pub refer : RefersAlike (rooms_site one) (rooms_site other) m
 
 abbrev pub DigestLooksUp : (one other : Directory) → Digest → Type 0
 DigestLooksUp one other Events.Nothing = Unit {0}
@@ -72,7 +84,7 @@ pub record AreAmong (records : List Sheet) (texts : Texts) : Type 0 where
   pub each : (account : Account) (text : List ℕ) → text_at texts account ≡ Some text → IsAmong records (kept_sheet text)
   pub none : IsAmong records empty_sheet
 
--- rooms add a field here, as they do to a world. Of the rows that wait nothing is said
+-- of the rows that wait nothing is said
 pub record AlikeWorlds (records : List Sheet) (directory far : Directory) (one other : World) : Type 0 where
   pub clock : one.clock ≡ other.clock
   pub steps : one.steps ≡ other.steps
@@ -80,12 +92,13 @@ pub record AlikeWorlds (records : List Sheet) (directory far : Directory) (one o
   pub drawn : one.drawn ≡ other.drawn
   pub calls : AlikeEntries records (trusts directory) (calls_in directory one).entries (calls_in far other).entries
   pub opened : (calls_in directory one).opened ≡ (calls_in far other).opened
+  pub rooms : AlikeRooms (trusts directory) (rooms_in directory one) (rooms_in far other)
   pub armed : one.armed ≡ other.armed
   pub texts : one.texts ≡ other.texts
   pub registrations : one.registrations ≡ other.registrations
   pub seen : (seer : Peer) → trusts directory seer ≡ false → view seer one.offers ≡ view seer other.offers
 
--- ---- what ties calls to transactions
+-- ---- what ties calls and rooms to transactions
 
 -- this transaction is of a peer who is trusted as this one is
 abbrev pub IsOfOne : Directory → World → TKey → Peer → Type 0
@@ -102,6 +115,26 @@ ResponseIsTied directory world m = (key : ℕ) (branch : List ℕ) (at : ℕ) (e
     invite_answered m ≡ Some branch → position (sent_it (Some branch)) (calls_in directory world).entries ≡ Some at → slice_get (calls_in directory world).entries at ≡ Some e →
     AnswerIsTied directory world (record { 0 = key }) branch e.call
 
+-- so it is of the INVITE to a seat that has this branch, and of one that a room left
+abbrev pub InviteIsTied : Directory → World → TKey → Option Invite → Type 0
+InviteIsTied directory world key None = Unit {0}
+InviteIsTied directory world key (Some (Waiting number i)) = IsOfOne directory world key i.dialogue.peer
+InviteIsTied directory world key (Some (Agreed branch tag ack)) = Unit {0}
+
+pub record SeatIsTied (directory : Directory) (world : World) (key : TKey) (seat : Seat) : Type 0 where
+  pub invite : InviteIsTied directory world key seat.invite
+  pub leg : IsOfOne directory world key (dialogue_of seat).peer
+
+pub record SeatAnswerIsTied (directory : Directory) (world : World) (key : TKey) (branch : List ℕ) (table : Table) : Type 0 where
+  pub loose : (at : ℕ) (l : Loose) → position (is_of branch) table.loose ≡ Some at → slice_get table.loose at ≡ Some l →
+      IsOfOne directory world key l.invitation.dialogue.peer
+  pub seat : (at place : ℕ) (room : Room) (seat : Seat) → position (asks branch) table.live ≡ Some at → slice_get table.live at ≡ Some room →
+      position (is_asked branch) room.seats ≡ Some place → slice_get room.seats place ≡ Some seat → SeatIsTied directory world key seat
+
+abbrev pub SeatResponseIsTied : Directory → World → Said → Type 0
+SeatResponseIsTied directory world m = (key : ℕ) (branch : List ℕ) → part_of (head_of (message_in m.heard)) (live world.acts) ≡ part.Answer key →
+    rooms.invite_answered m ≡ Some branch → SeatAnswerIsTied directory world (record { 0 = key }) branch (rooms_in directory world)
+
 -- the INVITE whose 2xx waits for this ACK went to a peer who is trusted as that of the other leg is
 abbrev pub AckIsTied : Directory → World → Said → Type 0
 AckIsTied directory world m = (call : ℕ) (side : Side) (e : Entry) → named_by m.heard (calls_in directory world).entries ≡ Some (record { 0 = call }, side) →
@@ -109,6 +142,7 @@ AckIsTied directory world m = (call : ℕ) (side : Side) (e : Entry) → named_b
 
 pub record MessageIsTied (directory : Directory) (world : World) (m : Said) : Type 0 where
   pub response : ResponseIsTied directory world m
+  pub seat : SeatResponseIsTied directory world m
   pub ack : AckIsTied directory world m
 
 abbrev pub DigestIsTied : Directory → World → Digest → Type 0

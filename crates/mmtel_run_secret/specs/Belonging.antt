@@ -1,8 +1,9 @@
--- Which role a message has in the calls of a run, by what was done before it: whose it is, of calls that live and of those that are over, and whether that side is restricted
--- (RFC 3261 §9.2, §12.2.2, §17.1.3, §17.2.3; TS 24.607 §4.5.2, TS 24.608 §4.5.2).
+-- Which role a message has in a run, by what was done before it: whose it is, of calls and of seats of rooms, of those that live and of those that are over;
+-- and whether that side of a call is restricted
+-- (RFC 3261 §9.2, §12.2.2, §17.1.3, §17.2.3; RFC 4579 §5; TS 24.607 §4.5.2, TS 24.608 §4.5.2).
 use Rattle.std.specs.Prelude.{ℕ, ◌==◌, ◌&&◌, Bool, true, if◌then◌else◌, Option, Some, None, List, [], ◌∷◌, codes, is_none, option_map, position, slice_get}
 use Rattle.std.specs.List.{find}
-use Rattle.std.specs.Option.{unwrap_or}
+use Rattle.std.specs.Option.{option_or, unwrap_or}
 use Rattle.mmtel_answers.specs.Said.{Said}
 use Rattle.mmtel_b2bua.specs.Entries.{sent_it}
 use Rattle.mmtel_b2bua.specs.Histories.{Deed, Drops, Finishes, Heard, Hears, Releases, Restores, table_after}
@@ -28,6 +29,16 @@ use Rattle.mmtel_call_secret.specs.Roles.{Opens, Plain, Role, Says, opening_role
 use Rattle.mmtel_desk.specs.Loose.{is_of}
 use Rattle.mmtel_desk.specs.declared.invitations.Loose.{Loose}
 use Rattle.mmtel_directory.specs.declared.directories.Directory.{Directory}
+use Rattle.mmtel_focus.specs.Histories as rooms
+use Rattle.mmtel_focus.specs.Names.{seats_of}
+use Rattle.mmtel_focus.specs.Rooms.{Room}
+use Rattle.mmtel_focus.specs.declared.seats.Invite.{Invite}
+use Rattle.mmtel_focus.specs.declared.seats.Invite.TheVariants.{Agreed, Waiting}
+use Rattle.mmtel_focus.specs.declared.seats.Seat.{Seat}
+use Rattle.mmtel_focus.specs.Seats.{dialogue_of, is_seat}
+use Rattle.mmtel_focus.specs.Site as focus
+use Rattle.mmtel_focus.specs.Table as table
+use Rattle.mmtel_focus.specs.Table.{asks, is_asked, room_at}
 use Rattle.mmtel_identity.specs.Restriction.{is_caller_restricted}
 use Rattle.mmtel_leg.specs.declared.legs.Released.{Released}
 use Rattle.mmtel_leg.specs.declared.legs.Released.TheVariants as released
@@ -44,12 +55,14 @@ use Rattle.mmtel_trust.specs.Digest.{HeardMessage}
 use Rattle.mmtel_types.specs.Sides.{other_of}
 use Rattle.mmtel_types.specs.declared.numbers.CallNo.{CallNo}
 use Rattle.mmtel_types.specs.declared.numbers.Peer.{Peer}
+use Rattle.mmtel_types.specs.declared.numbers.RoomNo.{RoomNo}
 use Rattle.mmtel_types.specs.declared.sides.Side.{Side}
 use Rattle.mmtel_types.specs.declared.sides.Side.TheVariants.{Callee, Caller}
 use Rattle.mmtel_run.specs.Calls.{named_by, site_of}
 use Rattle.mmtel_run.specs.Events.{message_in}
 use Rattle.mmtel_run.specs.Records.{in_force}
-use Rattle.mmtel_run.specs.World.{World}
+use Rattle.mmtel_run.specs.Rooms.{rooms_site, seat_by}
+use Rattle.mmtel_run.specs.World.{World, calls_in}
 
 -- ---- a side says it
 
@@ -148,11 +161,75 @@ abbrev pub newest : Site → (Table → Option Role) → List Deed → Role
 newest site role [] = Plain
 newest site role (deed ∷ deeds) = unwrap_or (role (table_after site (deed ∷ deeds))) (newest site role deeds)
 
-abbrev pub dialog_role : Site → List Deed → Said → Role
-dialog_role site deeds m = newest site (role_in_dialog m) deeds
+-- ---- a seat of a room says it (RFC 4579 §5): a room shows nobody to anybody, so what the seat's own peer says goes no further,
+-- and all of that is private, whether or not whoever has the seat is restricted
 
-abbrev pub answer_role : Site → List Deed → Said → Role
-answer_role site deeds m = newest site (role_in_answer m) deeds
+abbrev pub seat_said : Seat → Said → Role
+seat_said seat m = said_by true (dialogue_of seat).peer (dialogue_of seat).side m
+
+-- a request in the dialog of a seat, by the room and the seat that it names
+abbrev pub seat_named_role : Said → List Room → Option (RoomNo × ℕ) → Option Role
+seat_named_role m live None = None
+seat_named_role m live (Some named) = option_map (λ seat. seat_said seat m) (find (is_seat named.1) (seats_of named.0.0 live))
+
+abbrev pub role_in_seat : Said → table.Table → Option Role
+role_in_seat m rooms = seat_named_role m rooms.live (seat_by m.heard rooms.live)
+
+-- a response to an INVITE to a seat, which waits or was agreed to, or was left
+abbrev pub asked_at : (place : Option ℕ) → List Seat → Option Seat
+asked_at None seats = None
+asked_at (Some place) seats = slice_get seats place
+
+abbrev pub asked_in : (branch : List ℕ) → Option Room → Option Seat
+asked_in branch None = None
+asked_in branch (Some room) = asked_at (position (is_asked branch) room.seats) room.seats
+
+-- the seat that was asked by the INVITE of this branch
+abbrev pub seat_asked : (branch : List ℕ) → List Room → Option Seat
+seat_asked branch live = asked_in branch (room_at (position (asks branch) live) live)
+
+abbrev pub of_invite : Said → Option Invite → Bool
+of_invite m None = true
+of_invite m (Some (Waiting number i)) = comes_from i.dialogue.peer m
+of_invite m (Some (Agreed branch tag ack)) = true
+
+abbrev pub of_seat : Said → Option Seat → Bool
+of_seat m None = true
+of_seat m (Some seat) = comes_from (dialogue_of seat).peer m && of_invite m seat.invite
+
+abbrev pub side_of_seat : Option Loose → Option Seat → Side
+side_of_seat (Some l) seat = l.invitation.dialogue.side
+side_of_seat None (Some seat) = (dialogue_of seat).side
+side_of_seat None None = Callee
+
+abbrev pub seat_answer_role : Said → Option Loose → Option Seat → Option Role
+seat_answer_role m loose seat =
+    if is_none loose && is_none seat then None
+    else Some (if of_loose m loose && of_seat m seat then Says (side_of_seat loose seat) else Plain)
+
+abbrev pub role_in_seat_answer_by : (branch : Option (List ℕ)) → Said → table.Table → Option Role
+role_in_seat_answer_by None m rooms = None
+role_in_seat_answer_by (Some branch) m rooms = seat_answer_role m (loose_at (position (is_of branch) rooms.loose) rooms.loose) (seat_asked branch rooms.live)
+
+abbrev pub role_in_seat_answer : Said → table.Table → Option Role
+role_in_seat_answer m rooms = role_in_seat_answer_by (table.invite_answered m) m rooms
+
+-- in the newest table of rooms that knows whose it is, of all that stood
+abbrev pub newest_in_rooms : focus.Site → (table.Table → Option Role) → List rooms.Deed → Option Role
+newest_in_rooms site role [] = None
+newest_in_rooms site role (deed ∷ deeds) = option_or (role (rooms.table_after site (deed ∷ deeds))) (newest_in_rooms site role deeds)
+
+-- ---- of a call as it stands, else of a seat of a room, else of a call that is over: a leg that a room adopted is a seat from then on
+
+abbrev pub dialog_role : Directory → World → Said → Role
+dialog_role directory world m =
+    unwrap_or (role_in_dialog m (calls_in directory world))
+    (unwrap_or (newest_in_rooms (rooms_site directory) (role_in_seat m) world.rooms) (newest (site_of directory) (role_in_dialog m) world.deeds))
+
+abbrev pub answer_role : Directory → World → Said → Role
+answer_role directory world m =
+    unwrap_or (role_in_answer m (calls_in directory world))
+    (unwrap_or (newest_in_rooms (rooms_site directory) (role_in_seat_answer m) world.rooms) (newest (site_of directory) (role_in_answer m) world.deeds))
 
 -- ---- by the server transaction: of the side whose request opened it (§9.2, §17.2.3)
 
@@ -178,17 +255,36 @@ key_role site key m (Restores number away ∷ deeds) = key_role site key m deeds
 key_role site key m (Finishes number at tokens ∷ deeds) = key_role site key m deeds
 key_role site key m (Drops count ∷ deeds) = key_role site key m deeds
 
--- a CANCEL is of the side whose INVITE it cancels
-abbrev pub cancel_role_by : Site → World → Said → (invite : Option TKey) → Role
-cancel_role_by site world m None = Plain
-cancel_role_by site world m (Some invite) = unwrap_or (key_role site invite m world.deeds) Plain
+-- whoever came to a room by an INVITE. A later request of a seat names its dialog
+abbrev pub comer_role : TKey → Said → rooms.Coming → (earlier : Option Role) → Option Role
+comer_role key m coming earlier = if coming.key.0 == key.0 then Some (said_by true coming.invite.peer Caller m) else earlier
 
-abbrev pub cancel_role : Site → World → Said → Role
-cancel_role site world m = cancel_role_by site world m (option_map key_of (find (is_invite_of (head_of (message_in m.heard))) (live world.acts)))
+abbrev pub room_key_role : TKey → Said → List rooms.Deed → Option Role
+room_key_role key m [] = None
+room_key_role key m (rooms.Opens coming ∷ deeds) = comer_role key m coming (room_key_role key m deeds)
+room_key_role key m (rooms.Joins room coming ∷ deeds) = comer_role key m coming (room_key_role key m deeds)
+room_key_role key m (rooms.Adopts room adoption ∷ deeds) = room_key_role key m deeds
+room_key_role key m (rooms.Notifies room seat code tokens ∷ deeds) = room_key_role key m deeds
+room_key_role key m (rooms.Hears heard ∷ deeds) = room_key_role key m deeds
+room_key_role key m (rooms.Leaves room seat ∷ deeds) = room_key_role key m deeds
+room_key_role key m (rooms.Closes room ∷ deeds) = room_key_role key m deeds
+room_key_role key m (rooms.Drops count ∷ deeds) = room_key_role key m deeds
+
+-- of a call, or of whoever came to a room
+abbrev pub opener_of : Directory → World → TKey → Said → Option Role
+opener_of directory world key m = option_or (key_role (site_of directory) key m world.deeds) (room_key_role key m world.rooms)
+
+-- a CANCEL is of the side whose INVITE it cancels
+abbrev pub cancel_role_by : Directory → World → Said → (invite : Option TKey) → Role
+cancel_role_by directory world m None = Plain
+cancel_role_by directory world m (Some invite) = unwrap_or (opener_of directory world invite m) Plain
+
+abbrev pub cancel_role : Directory → World → Said → Role
+cancel_role directory world m = cancel_role_by directory world m (option_map key_of (find (is_invite_of (head_of (message_in m.heard))) (live world.acts)))
 
 -- ---- the role
 
--- an INVITE without To tag opens a call
+-- an INVITE without To tag opens a call or a room, or asks for a seat
 abbrev pub is_opening : HeardMessage → Bool
 is_opening message = is_method (codes "INVITE") message.start && is_none message.to_tag
 
@@ -202,14 +298,14 @@ hides_caller directory world message =
 abbrev pub fresh_role : Directory → World → Said → Role
 fresh_role directory world m =
     if is_opening m.heard then opening_role (hides_caller directory world m.heard)
-    else if is_cancel (head_of (message_in m.heard)) then cancel_role (site_of directory) world m
-    else dialog_role (site_of directory) world.deeds m
+    else if is_cancel (head_of (message_in m.heard)) then cancel_role directory world m
+    else dialog_role directory world m
 
 -- of one that a server transaction knows
 abbrev pub known_role : Directory → World → TKey → Said → Role
 known_role directory world key m =
     if is_opening m.heard && hides_caller directory world m.heard then Opens
-    else unwrap_or (key_role (site_of directory) key m world.deeds) (fresh_role directory world m)
+    else unwrap_or (opener_of directory world key m) (fresh_role directory world m)
 
 -- by what the transactions take it for
 abbrev pub role_as : Directory → World → Said → Part → Role
@@ -217,9 +313,9 @@ role_as directory world m part.Fresh = fresh_role directory world m
 role_as directory world m part.Full = fresh_role directory world m
 role_as directory world m (part.Repeat key) = known_role directory world (tkey key) m
 role_as directory world m (part.Acked key) = known_role directory world (tkey key) m
-role_as directory world m part.AckOf2xx = dialog_role (site_of directory) world.deeds m
-role_as directory world m (part.Answer key) = answer_role (site_of directory) world.deeds m
-role_as directory world m (part.Same key) = answer_role (site_of directory) world.deeds m
+role_as directory world m part.AckOf2xx = dialog_role directory world m
+role_as directory world m (part.Answer key) = answer_role directory world m
+role_as directory world m (part.Same key) = answer_role directory world m
 role_as directory world m part.Stray = Plain
 
 unfoldable pub role_of : Directory → World → Said → Role

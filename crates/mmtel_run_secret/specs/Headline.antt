@@ -1,4 +1,4 @@
--- What is claimed of whole runs with calls: what an untrusted peer is offered is equal in any other run that differs in private places alone and answers every test alike
+-- What is claimed of whole runs with calls and conference rooms: what an untrusted peer is offered is equal in any other run that differs in private places alone and answers every test alike
 -- (RFC 3323, RFC 3325 §7, RFC 7044 §10.1).
 use Rattle.std.specs.Prelude.{◌≡◌, ◌<◌, ◌&&◌, ◌||◌, ℕ, Bool, true, false, List, Ok, length, nat_le}
 use Rattle.std.specs.List.{list_all}
@@ -52,7 +52,7 @@ KeepsTheSecret = (directory : Directory) (token : List ℕ) (loaded : Texts) (fu
     mask directory token loaded fuel happened ≡ mask directory token loaded fuel run →
     view seer (gives directory token loaded fuel happened) ≡ view seer (gives directory token loaded fuel run)
 
--- each client transaction of a run, and each INVITE that is acknowledged in it, is tied to the peer that was asked
+-- each client transaction of a run, by which a call or a seat of a room is answered, and each INVITE of a call that is acknowledged, is tied to the peer that was asked
 abbrev pub RunsAreTied : Type 0
 RunsAreTied = (directory : Directory) (token : List ℕ) (loaded : Texts) (fuel : ℕ) (happened : List Happened) → BranchesAreRead directory token →
     AllTied directory token fuel (notices directory happened) (beginning loaded)

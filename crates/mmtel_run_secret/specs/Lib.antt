@@ -2,4 +2,5 @@
 pub mod Belonging
 pub mod Mask
 pub mod Alike
+pub mod Invited
 pub mod Headline

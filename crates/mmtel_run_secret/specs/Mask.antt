@@ -48,7 +48,7 @@ parts_of sheet = identity_parts (diversion_rules sheet.diversion) ++ identity_pa
 abbrev pub asked_by : List Sheet → List Who
 asked_by records = flat_map parts_of records
 
--- ---- the tests beside an INVITE that opens a call
+-- ---- the tests beside an INVITE that opens a call or a room, or asks for a seat
 
 pub record Tests : Type 0 where
   -- the account of the caller

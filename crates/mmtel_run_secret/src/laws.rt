@@ -1,13 +1,15 @@
-//! What nobody may learn from a run with calls. These are laws, and no code.
+//! What nobody may learn from a run with calls and conference rooms. These are laws, and no code.
 ghost use Rattle.std.specs.Prelude.{ℕ, List};
 ghost use Rattle.mmtel_directory.specs.declared.directories.Directory.{Directory};
 ghost use Rattle.mmtel_run.specs.Events.{Notice};
 ghost use Rattle.mmtel_run_secret.specs.Alike.{AllLookUp};
 ghost use Rattle.mmtel_run_secret.specs.Headline.{ConfigurationsAreRead, KeepsTheSecret, KeepsTheSecretInBoth, MasksOnce, OffersKeepItInOne, OffersKeepTheSecret, RunsAreTied, SeenByNotices};
+ghost use Rattle.mmtel_run_secret.specs.Invited.{RoomsSendOnce};
 
 use mmtel_b2bua_secret::{alike_tables_answer_alike, tables_stay_alike};
 use mmtel_call_branches::calls_send_once;
 use mmtel_call_secret::messages_are_whole;
+use mmtel_focus_secret::{alike_rooms_answer_alike, rooms_stay_alike};
 use mmtel_masks::{heads_see_no_private_place, responses_are_masked};
 use mmtel_message::laws::{fields_are_read, fields_stand_on_lines};
 use mmtel_run::{equal_masks_are_kin, records_are_those_kept};
@@ -27,7 +29,12 @@ pub fn configurations_are_read()
     ensures read { ConfigurationsAreRead }
 {}
 
-/// A response is of the peer to whom the INVITE that it answers went, and an INVITE whose 2xx is acknowledged went to the peer of the other leg (RFC 3261 §8.1.1.7, §13.2.2.4, §17.1.3): each branch is drawn once.
+/// Whatever is done on conference rooms, each INVITE to a seat was sent to its peer, and so was each that a room left: before, or by the same deed. Each that goes out has a branch of its own, of a number that is drawn for it alone (RFC 3261 §8.1.1.7, §13.2.1), as long as fewer than 2^60 numbers are drawn.
+pub fn rooms_send_once()
+    ensures once { RoomsSendOnce }
+{}
+
+/// A response is of the peer to whom the INVITE that it answers went, to a call or to a seat of a room, and an INVITE whose 2xx is acknowledged went to the peer of the other leg (RFC 3261 §8.1.1.7, §13.2.2.4, §17.1.3): each branch is drawn once.
 pub fn runs_are_tied()
     ensures tied { RunsAreTied }
 {
@@ -35,6 +42,7 @@ pub fn runs_are_tied()
     fields_are_read();
     fields_stand_on_lines();
     messages_belong_to_one_transaction();
+    rooms_send_once();
     tokens_differ();
 }
 
@@ -49,6 +57,7 @@ pub fn runs_keep_the_secret()
     // It rests on what is noticed of a run and kept in it alone.
     ensures seen { SeenByNotices }
 {
+    alike_rooms_answer_alike();
     alike_tables_answer_alike();
     calls_send_once();
     equal_masks_are_kin();
@@ -57,6 +66,8 @@ pub fn runs_keep_the_secret()
     puts_change_one_account();
     records_are_those_kept();
     responses_are_masked();
+    rooms_send_once();
+    rooms_stay_alike();
     runs_are_tied();
     tables_stay_alike();
     texts_decide_nothing();

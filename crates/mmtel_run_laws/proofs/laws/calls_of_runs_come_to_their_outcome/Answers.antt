@@ -4,8 +4,10 @@ use Rattle.mmtel_run_laws.proofs.laws.calls_of_runs_come_to_their_outcome.Goals 
 pub returns : goal.returns
 returns c =
     let kept = c.records_are_those_kept.ensures in
+    let notices = c.calls_tell_of_their_diversions.ensures in
     record {
       law =
-          calls_come c.calls_of_tables_are_exact.ensures.law c.calls_take_their_steps.ensures.own c.rows_are_in_order.ensures.calls c.calls_tell_of_their_diversions.ensures.told
-          c.diversions_stay_within_the_bound.ensures.law c.diversions_have_forwards.ensures.law kept.texts kept.last kept.told c.rows_are_filed.ensures.all;
+          calls_come c.legs_go_back.ensures.law c.calls_take_their_steps.ensures.law c.calls_of_tables_are_exact.ensures.law c.rows_are_in_order.ensures.calls
+          c.participants_are_charged_once.ensures.charged c.rows_are_filed.ensures.all c.calls_take_their_steps.ensures.own c.calls_go_on.ensures.law c.charging_is_exact.ensures.law notices.told
+          notices.silent notices.ends c.diversions_stay_within_the_bound.ensures.law c.diversions_have_forwards.ensures.law kept.texts kept.last kept.told;
     }

@@ -1,5 +1,6 @@
 use Rattle.mmtel_run_secret.proofs.Offers.{masks_once, offers_keep, offers_keep_in_one, seen_by_notices}
 use Rattle.mmtel_run_secret.proofs.Secret.{both, one}
+use Rattle.mmtel_run_secret.proofs.Sending.{Once}
 use Rattle.mmtel_run_secret.proofs.Telling.{Below}
 use Rattle.mmtel_run_secret.proofs.laws.runs_keep_the_secret.Goals as goal
 
@@ -13,7 +14,12 @@ returns c =
       kin = c.equal_masks_are_kin.ensures.kin;
       wholes = c.messages_are_whole.ensures.law;
       tables = c.tables_stay_alike.ensures.law;
-      answers = c.alike_tables_answer_alike.ensures.law;
+      laws = record {
+        answers = c.alike_tables_answer_alike.ensures.law;
+        rooms = c.rooms_stay_alike.ensures.tables;
+        seen = c.rooms_stay_alike.ensures.steps;
+        seats = c.alike_rooms_answer_alike.ensures.law;
+      };
       told = c.records_are_those_kept.ensures.told;
     } in
     let keeps = c.transactions_are_of_one_peer.ensures.kept in
@@ -21,12 +27,13 @@ returns c =
     let others = c.puts_change_one_account.ensures.others in
     let tied = c.runs_are_tied.ensures.tied in
     let secret = both below keeps its others tied in
-    let once = c.calls_send_once.ensures in
+    let calls = c.calls_send_once.ensures in
+    let once : Once = record { steps = calls.step; openings = calls.opening; ends = calls.end; lent = calls.lent; returned = calls.returned; rooms = c.rooms_send_once.ensures.once } in
     record {
       both = secret;
       one = one below keeps its others tied;
       masked = masks_once;
-      offers = offers_keep once.step once.opening secret;
-      offers_in_one = offers_keep_in_one once.step once.opening secret;
+      offers = offers_keep once secret;
+      offers_in_one = offers_keep_in_one once secret;
       seen = seen_by_notices;
     }

@@ -1,0 +1,9 @@
+use Rattle.mmtel_run_laws.proofs.Concluding.{seats_charged}
+use Rattle.mmtel_run_laws.proofs.laws.seats_of_runs_are_charged_once.Goals as goal
+
+pub returns : goal.returns
+returns c = record {
+  law =
+      seats_charged c.legs_go_back.ensures.law c.calls_take_their_steps.ensures.law c.calls_of_tables_are_exact.ensures.law c.rows_are_in_order.ensures.calls
+      c.participants_are_charged_once.ensures.charged c.rows_are_filed.ensures.all;
+}

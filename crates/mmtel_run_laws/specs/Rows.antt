@@ -1,0 +1,79 @@
+-- The charging rows of a run: those of its calls, and those of the seats of its rooms, of which each that was left has one (TS 32.260 §5).
+use Rattle.std.specs.Prelude.{◌≡◌, ℕ, ◌+◌, Bool, true, false, not, List, [], ◌∷◌, ◌++◌, IfSome, count_by, filter, option_to_list}
+use Rattle.mmtel_charging.specs.Meters.{Noted}
+use Rattle.mmtel_charging.specs.declared.rows.Kind.{Kind}
+use Rattle.mmtel_charging.specs.declared.rows.Kind.TheVariants.{Origin, Terminating, Diversion, Participant}
+use Rattle.mmtel_charging.specs.declared.rows.Row.{Row}
+use Rattle.mmtel_directory.specs.declared.directories.Directory.{Directory}
+use Rattle.mmtel_focus_laws.specs.Charging.{Entry, IsBegun, among, rows_at, running}
+use Rattle.mmtel_in_force.specs.Texts.{Texts}
+use Rattle.mmtel_run.specs.Calls.{site_of}
+use Rattle.mmtel_run.specs.Events.{Happened}
+use Rattle.mmtel_run.specs.Filed.{rows_closed, rows_left}
+use Rattle.mmtel_run.specs.Rooms.{rooms_site}
+use Rattle.mmtel_run.specs.Run.{IsEnough, world_after}
+use Rattle.mmtel_run.specs.Short.{IsShortRun}
+use Rattle.mmtel_run.specs.World.{World, rooms_in}
+
+-- ---- whose a row is
+
+abbrev pub is_participant : Kind → Bool
+is_participant Origin = false
+is_participant Terminating = false
+is_participant Diversion = false
+is_participant Participant = true
+
+-- of a seat of a room, or of a call
+abbrev pub is_seat_row : Row → Bool
+is_seat_row row = is_participant row.kind
+
+abbrev pub is_call_row : Row → Bool
+is_call_row row = not (is_participant row.kind)
+
+-- those that the keeper took and those that wait
+abbrev pub all_rows : World → List Row
+all_rows world = world.filed ++ world.waiting
+
+-- ---- the book of the seats
+
+-- an entry, and its moment
+pub record Dated : Type 0 where
+  pub at : ℕ
+  pub entry : Entry
+
+-- by these entries, one after another, the meters that run become others, and these rows are filed
+abbrev pub RunsOn : (before : List Noted) → List Dated → (after : List Noted) → (rows : List Row) → Type 0
+RunsOn before [] after rows = (after ≡ before) × (rows ≡ [])
+RunsOn before (x ∷ book) after rows =
+    (later : List Row) × (rows ≡ rows_at x.at x.entry.closed ++ later) × (before ≡ among x.entry.front x.entry.closed x.entry.back) × IfSome x.entry.begun (IsBegun x.at)
+    × RunsOn (among x.entry.front x.entry.begun x.entry.back) book after later
+
+-- the meters that began, and those that were closed
+abbrev pub begun_in : List Dated → List Noted
+begun_in [] = []
+begun_in (x ∷ book) = option_to_list x.entry.begun ++ begun_in book
+
+abbrev pub closed_in : List Dated → List Noted
+closed_in [] = []
+closed_in (x ∷ book) = option_to_list x.entry.closed ++ closed_in book
+
+-- ---- of a run
+
+pub record RowsAreCharged (directory : Directory) (world : World) : Type 0 where
+  -- of all rows those of calls are those that the calls closed, in their order, and those of participants those of the seats that were left, in theirs
+  pub calls : filter is_call_row (all_rows world) ≡ rows_closed (site_of directory) world.deeds
+  pub seats : filter is_seat_row (all_rows world) ≡ rows_left (rooms_site directory) world.rooms
+  -- a meter begins where somebody is seated with an account; it runs until the seat is left, and is closed by one row then
+  pub book : List Dated
+  pub booked : RunsOn [] book (running (rooms_in directory world).live) (filter is_seat_row (all_rows world))
+  -- whichever meters one counts: each that began was closed once, or runs
+  pub once : (is_counted : Noted → Bool) → count_by is_counted (begun_in book) ≡ count_by is_counted (closed_in book) + count_by is_counted (running (rooms_in directory world).live)
+
+abbrev pub SeatsAreChargedOnce : Directory → (token : List ℕ) → (loaded : Texts) → List Happened → Type 0
+SeatsAreChargedOnce directory token loaded happened =
+    (fuel : ℕ) → IsEnough directory token loaded fuel happened → RowsAreCharged directory (world_after directory token loaded fuel happened)
+
+-- of every run that is not longer than numbers count
+abbrev pub SeatsOfRunsAreChargedOnce : Type 0
+SeatsOfRunsAreChargedOnce = (directory : Directory) (token : List ℕ) (loaded : Texts) (happened : List Happened) → IsShortRun directory token loaded happened →
+    SeatsAreChargedOnce directory token loaded happened

@@ -8,6 +8,7 @@ use Rattle.mmtel_outside.specs.Shelf.{Shelf, called}
 use Rattle.mmtel_outside.specs.declared.events.Event.{Event}
 use Rattle.mmtel_run_laws.specs.Clean.{HomesAreClean, RunsSendCleanMessages}
 use Rattle.mmtel_run_laws.specs.Outcome.{CallsOfRunsComeToOutcome}
+use Rattle.mmtel_run_laws.specs.Rows.{SeatsOfRunsAreChargedOnce}
 use Rattle.mmtel_run_secret.specs.Headline.{ConfigurationsAreRead}
 use Rattle.mmtel_script.specs.Script.{events_of}
 use Rattle.mmtel_uploads.specs.Uploads.{upload_of}
@@ -32,7 +33,7 @@ use Rattle.mmtel_cli.specs.declared.reports.Report.TheVariants.{Usage, Line, Fil
 
 -- ---- what was written, where it is known what is due
 
-module _ (outcomes : CallsOfRunsComeToOutcome) (sends : RunsSendCleanMessages) (homes : HomesAreClean) (reads : ConfigurationsAreRead) (keeper later : KeeperSeen) (status : ℕ) (before after : Option (List ℕ)) (faults now : ℕ) where
+module _ (outcomes : CallsOfRunsComeToOutcome) (charged : SeatsOfRunsAreChargedOnce) (sends : RunsSendCleanMessages) (homes : HomesAreClean) (reads : ConfigurationsAreRead) (keeper later : KeeperSeen) (status : ℕ) (before after : Option (List ℕ)) (faults now : ℕ) where
   abbrev EndsSo : Report → Type 0
   EndsSo outcome = Ends outcome status before after faults now
 
@@ -97,6 +98,7 @@ module _ (outcomes : CallsOfRunsComeToOutcome) (sends : RunsSendCleanMessages) (
     offers = lists.lists.offers;
     run = lists.lists.run;
     outcome = λ short. outcomes directory token lists.loaded lists.lists.run.happened short;
+    seats = λ short. charged directory token lists.loaded lists.lists.run.happened short;
     clean = λ short. sends directory token lists.loaded lists.lists.run.happened suits.home (token_clean token right) short;
     branches = suits.branches token right;
     written = let P : List ℕ → Type 0 = λ t. WroteListing t status before after faults now in subst P lists.lists.listing wrote;

@@ -258,7 +258,7 @@ module _ (asked : Asked) (keeper later : KeeperSeen) (status : ℕ) (before afte
   ending_listed : (directory : Directory) (events : List Event) → Listed directory asked.token events keeper later status before after faults now → EndsReplay
   ending_listed directory events l =
       ending_written AtZero ⊥ AtSix status faults now (listing_of l.offers) before after
-      (λ w. (directory, events, record { loaded = l.loaded; opening = l.opening; opened = l.opened; offers = l.offers; run = l.run; branches = l.branches; outcome = l.outcome; clean = l.clean; written = w })) l.written
+      (λ w. (directory, events, record { loaded = l.loaded; opening = l.opening; opened = l.opened; offers = l.offers; run = l.run; branches = l.branches; outcome = l.outcome; seats = l.seats; clean = l.clean; written = w })) l.written
 
   ending_events : (directory : Directory) (events : Result (List Event) ℕ) → EndsOfEvents directory asked.token events keeper later status before after faults now → EndsReplay
   ending_events directory (Ok events) (inl e) = ending_listed directory events e

@@ -18,7 +18,7 @@ use Rattle.mmtel_run.specs.Headline.{Gives}
 use Rattle.mmtel_run.specs.InForce.{upload_at, uploads_of}
 use Rattle.mmtel_run.specs.Run.{IsEnough, IsEnoughAfter, after, world_after}
 use Rattle.mmtel_run.specs.Short.{IsShort, IsShortRun}
-use Rattle.mmtel_run.specs.World.{World, beginning, rows_waiting}
+use Rattle.mmtel_run.specs.World.{World, beginning}
 use Rattle.mmtel_run_secret.specs.Headline.{OffersKeepTheSecret}
 use Rattle.mmtel_script.specs.Script.{unheard}
 use Rattle.mmtel_server.specs.Driven.{Driven, EachAnswers, EachCounted, EachRead, EndsAfter, HeardMore, to_come, with_all}
@@ -209,7 +209,7 @@ took_where_kept one (other ∷ happened) faults count e kept =
 
 -- none waits then
 none_waits : (d : Directory) (token : List ℕ) (loaded : Texts) (fuel : ℕ) (happened : List Happened) (faults count : ℕ) → EachCounted happened faults count
-    → RowsCharged d (world_after d token loaded fuel happened) happened → (Rose faults count → ⊥) → rows_waiting d (world_after d token loaded fuel happened) ≡ []
+    → RowsCharged d (world_after d token loaded fuel happened) happened → (Rose faults count → ⊥) → (world_after d token loaded fuel happened).waiting ≡ []
 none_waits d token loaded fuel [] faults count e charged kept = refl
 none_waits d token loaded fuel (one ∷ happened) faults count e charged kept = charged.none (took_where_kept one happened faults count e kept)
 

@@ -12,7 +12,7 @@ use Rattle.mmtel_run.specs.Headline.{Gives}
 use Rattle.mmtel_run.specs.InForce.{uploads_of}
 use Rattle.mmtel_run.specs.Run.{IsEnough, world_after}
 use Rattle.mmtel_run.specs.Short.{IsShortRun}
-use Rattle.mmtel_run.specs.World.{World, rows_waiting}
+use Rattle.mmtel_run.specs.World.{World}
 use Rattle.mmtel_run_secret.specs.Headline.{SeesAlike}
 use Rattle.mmtel_script.specs.Listing.{listing_of}
 use Rattle.mmtel_server.specs.Driven.{EachAnswers, EachCounted, with_all}
@@ -27,10 +27,10 @@ HoldsAll directory token loaded happened held later =
 
 -- the charging rows where a world has come of this (3GPP TS 32.260 §5)
 pub record Charges (directory : Directory) (world : World) (happened : List Happened) (faults count : ℕ) : Type 0 where
-  -- those that the keeper took, and behind them those that wait, are all that the calls closed, in that order; and none waits behind an event at whose end it took what was handed to it
+  -- those that the keeper took, and behind them those that wait, are all that the calls closed and all of the seats of rooms that were left, each in the order in which they were closed; and none waits behind an event at whose end it took what was handed to it
   pub rows : RowsCharged directory world happened
   -- so none waits where its count of faults did not rise
-  pub taken : (Rose faults count → ⊥) → rows_waiting directory world ≡ []
+  pub taken : (Rose faults count → ⊥) → world.waiting ≡ []
 
 -- so it is after the run in which this happened
 abbrev pub ChargesAll : Directory → (token : List ℕ) → (loaded : Texts) → List Happened → (faults count : ℕ) → Type 0
@@ -53,7 +53,7 @@ pub record OffersRun (directory : Directory) (token : List ℕ) (loaded : Texts)
   pub bound : IsShortRun directory token loaded happened → IsBoundStill keeper.calls later.calls
   -- it holds what it held before with the uploads that were kept and the rows that it took,
   pub held : IsShortRun directory token loaded happened → HoldsAll directory token loaded happened keeper.held later.held
-  -- and the calls of the run are charged exactly
+  -- and the calls and the seats of the run are charged exactly
   pub charged : IsShortRun directory token loaded happened → ChargesAll directory token loaded happened keeper.faults later.faults
 
 -- the text lists what was offered so

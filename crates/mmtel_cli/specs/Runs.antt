@@ -12,6 +12,7 @@ use Rattle.mmtel_outside.specs.declared.events.Offer.{Offer}
 use Rattle.mmtel_run.specs.Short.{IsShortRun}
 use Rattle.mmtel_run_laws.specs.Clean.{SendsCleanMessages}
 use Rattle.mmtel_run_laws.specs.Outcome.{CallsComeToOutcome}
+use Rattle.mmtel_run_laws.specs.Rows.{SeatsAreChargedOnce}
 use Rattle.mmtel_run_secret.specs.Headline.{BranchesAreRead}
 use Rattle.mmtel_script.specs.Listing.{listing_of}
 use Rattle.mmtel_script.specs.Script.{events_of}
@@ -71,6 +72,8 @@ pub record Listed (directory : Directory) (token : List ℕ) (events : List Even
   pub branches : BranchesAreRead directory token
   -- where the run is short, each of its calls came to what the precedence of services makes of how its attempts ended and of how things stood when it reached each target, within the bound on diversions, and is charged so,
   pub outcome : IsShortRun directory token loaded run.happened → CallsComeToOutcome directory token loaded run.happened
+  -- whoever has left a seat of a conference room is charged for it once,
+  pub seats : IsShortRun directory token loaded run.happened → SeatsAreChargedOnce directory token loaded run.happened
   -- what was offered to peers are messages with their own lines and nobody else's,
   pub clean : IsShortRun directory token loaded run.happened → SendsCleanMessages directory token loaded run.happened
   -- and its listing was written: whole with status 0, and else a front of it with status 7

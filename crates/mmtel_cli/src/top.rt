@@ -21,7 +21,7 @@ use mmtel_keeper::{KeepFault, Keeper};
 use mmtel_outside::{FileFault, Files, Sink};
 use mmtel_run_laws::{
     calls_of_runs_come_to_their_outcome, homes_of_configurations_are_clean,
-    runs_send_clean_messages,
+    runs_send_clean_messages, seats_of_runs_are_charged_once,
 };
 use mmtel_run_secret::configurations_are_read;
 use mmtel_scan::Text;
@@ -187,7 +187,7 @@ fn prepare<F: Files, K: Keeper>(
 
 /// Runs the command that the words ask for over these files and this keeper, writes what is due to the sink, and answers the status.
 ///
-/// `words` are those behind the program's own name. There are two commands so far. `replay CONFIG SCRIPT --token T` reads the configuration and then the script, each once, binds the keeper to the store of the configuration and loads it, each once, and writes the listing of what the server offers; records that are uploaded in the script are kept by the keeper, and the charging rows of its calls are handed to it. `check RECORDS` reads that file once, and writes `ok` where it is a service record, and else the line that tells its first fault. The status is 0 where the listing or `ok` was written whole, 1 where the words are not of the grammar (`usage`), 2 where the configuration, or else the script, breaks its grammar (`line N`), 3 where the file that is checked is no service record (`not toml`, `unknown KEY`, `wrong KEY` or `many KEY LIMIT`), 5 where the configuration, or else the script, or the file that is checked cannot be read (`file`), 6 where the keeper cannot be bound or not be loaded (`keeper`), 7 where the sink failed before the listing or `ok` was whole, and 8 for want of memory (`memory`).
+/// `words` are those behind the program's own name. There are two commands so far. `replay CONFIG SCRIPT --token T` reads the configuration and then the script, each once, binds the keeper to the store of the configuration and loads it, each once, and writes the listing of what the server offers; records that are uploaded in the script are kept by the keeper, and the charging rows of its calls and rooms are handed to it. `check RECORDS` reads that file once, and writes `ok` where it is a service record, and else the line that tells its first fault. The status is 0 where the listing or `ok` was written whole, 1 where the words are not of the grammar (`usage`), 2 where the configuration, or else the script, breaks its grammar (`line N`), 3 where the file that is checked is no service record (`not toml`, `unknown KEY`, `wrong KEY` or `many KEY LIMIT`), 5 where the configuration, or else the script, or the file that is checked cannot be read (`file`), 6 where the keeper cannot be bound or not be loaded (`keeper`), 7 where the sink failed before the listing or `ok` was whole, and 8 for want of memory (`memory`).
 pub fn run<F: Files, K: Keeper, S: Sink>(
     alloc: Global,
     words: &[Text],
@@ -195,7 +195,7 @@ pub fn run<F: Files, K: Keeper, S: Sink>(
     keeper: &mut K,
     out: &mut S,
 ) -> u8
-    // What was written and answered: by the words as their grammar spells them and by what the files answered, the listing of exactly the offers that the definitions of the run give over what the keeper gave, which keep the secret of restricted callers, with what the keeper holds then, the charging rows of the calls, and what each call came to; or that it could not be bound to the store of the configuration or not be loaded; or what a text that was checked is; or the text of another status.
+    // What was written and answered: by the words as their grammar spells them and by what the files answered, the listing of exactly the offers that the definitions of the run give over what the keeper gave, which keep the secret of restricted callers, with what the keeper holds then, the charging rows of the calls and of the seats of conference rooms, and what each call came to; or that it could not be bound to the store of the configuration or not be loaded; or what a text that was checked is; or the text of another status.
     ensures ran { Ran (F.told files.old) (seen (K.held keeper.old) (K.calls keeper.old) (K.faults keeper.old))
         (seen (K.held keeper.new) (K.calls keeper.new) (K.faults keeper.new)) words.now result (S.written out.old) (S.written out.new) (S.faults out.old) (S.faults out.new) }
     // What was asked of the files.
@@ -206,6 +206,7 @@ pub fn run<F: Files, K: Keeper, S: Sink>(
     ensures keeper { IsSpared words.now result keeper.old keeper.new }
 {
     calls_of_runs_come_to_their_outcome();
+    seats_of_runs_are_charged_once();
     runs_send_clean_messages();
     homes_of_configurations_are_clean();
     configurations_are_read();

@@ -1,4 +1,4 @@
--- Which deadline of a call comes first: by its place among those that are armed.
+-- Which deadline of a call or a seat comes first: by its place among those that are armed.
 use Rattle.std.proofs.Common.{◌≡◌, ℕ, zero, suc, ◌+◌, ◌<◌, ◌≤◌, List, [], ◌∷◌, ◌++◌, length, drop, take, get_or, map, refl, sym, ap, ◌∙◌, arith, drop-cons, length-drop, Option, Some, None, subst, IfSome}
 use Rattle.std.specs.Prelude.{Bool, true, false, nat_le, slice_get, if◌then◌else◌}
 use Rattle.std.specs.Option.{option_map}
@@ -6,8 +6,8 @@ use Rattle.std.proofs.lemmas.Bool.{le-leb, leb-true, lt-leb}
 use Rattle.std.proofs.lemmas.List.{drop-map, drop_all, length-map, map-append, take-map}
 use Rattle.std.proofs.lemmas.Option.{none-some, same_Some, slice_get-get_or, slice_get-map}
 use Rattle.mmtel_transaction.specs.Answers.{Next}
-use Rattle.mmtel_server.specs.Arming.{IsAmong, IsDueBy, armed_in, chosen_at, deadline_in, of_call, queue_of, sooner_of, sooner_place}
-use Rattle.mmtel_run.specs.Deadlines.{Armed, Chosen, Deadline, OfCall, OfMessage, choose, chosen, comes_before, first_armed, first_of, is_sooner, sooner}
+use Rattle.mmtel_server.specs.Arming.{IsAmong, IsDueBy, armed_in, chosen_at, deadline_in, of_alarm, queue_of, sooner_of, sooner_place}
+use Rattle.mmtel_run.specs.Deadlines.{Armed, Chosen, Deadline, OfAlarm, OfMessage, choose, chosen, comes_before, first_armed, first_of, is_sooner, sooner}
 use Rattle.mmtel_server.specs.declared.armed.Armed as declared
 use Rattle.mmtel_server.specs.declared.servers.deadlines.Deadline as deadlines
 use Rattle.mmtel_server.specs.declared.servers.deadlines.Deadline.TheVariants as deadline
@@ -173,16 +173,16 @@ one_at (suc place) (x ∷ xs) less = one_at place xs (omega (arith, less))
 -- the code's deadline is one
 pub deadline_is : (x : deadlines.Deadline) (xs : List declared.Armed) → IsAmong (length xs) x → (first : Deadline) × (deadline_in x (queue_of xs) ≡ Some first)
 deadline_is deadline.OfMessage xs less = (OfMessage, refl)
-deadline_is (deadline.OfCall place) xs less =
+deadline_is (deadline.OfAlarm place) xs less =
     let queue = queue_of xs in
     let one = one_at place queue (omega (arith, less, length-map xs (λ a. armed_in a))) in
     let others : List Armed = take place queue ++ drop (place + 1) queue in
-    (of_call (choose one.0 others), ap (λ (o : Option Armed). option_map of_call (option_map (λ first. choose first others) o)) one.1)
+    (of_alarm (choose one.0 others), ap (λ (o : Option Armed). option_map of_alarm (option_map (λ first. choose first others) o)) one.1)
 
--- that of a call is the one at its place
-pub call_is : (o : Option Chosen) (x : Deadline) → option_map of_call o ≡ Some x → (call : Chosen) × (o ≡ Some call) × (of_call call ≡ x)
-call_is None x e = absurd (none-some x e)
-call_is (Some call) x e = (call, refl, same_Some (of_call call) x e)
+-- that of a call or a seat is the one at its place
+pub alarm_is : (o : Option Chosen) (x : Deadline) → option_map of_alarm o ≡ Some x → (call : Chosen) × (o ≡ Some call) × (of_alarm call ≡ x)
+alarm_is None x e = absurd (none-some x e)
+alarm_is (Some call) x e = (call, refl, same_Some (of_alarm call) x e)
 
 -- which the code takes out
 pub taken_out : (place : ℕ) (xs rest : List declared.Armed) (x : declared.Armed) → slice_get xs place ≡ Some x → rest ≡ take place xs ++ drop (place + 1) xs
@@ -227,6 +227,6 @@ first_of_due now (Some next) None due = tt
 first_of_due now None (Some call) due = due
 first_of_due now (Some next) (Some call) due = test (comes_before next call.first)
   where
-    test : (b : Bool) → IfSome (if b then Some OfMessage else Some (OfCall call.first call.others)) (IsDueBy now)
+    test : (b : Bool) → IfSome (if b then Some OfMessage else Some (OfAlarm call.first call.others)) (IsDueBy now)
     test true = tt
     test false = due

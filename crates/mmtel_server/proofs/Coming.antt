@@ -3,15 +3,15 @@ use Rattle.std.proofs.Common.{ℕ, Bool, List, ◌++◌, refl}
 use Rattle.mmtel_directory.specs.declared.directories.Directory.{Directory}
 use Rattle.mmtel_outside.specs.declared.events.Offer.{Offer}
 use Rattle.mmtel_run.specs.Events.{Digest}
-use Rattle.mmtel_run.specs.Short.{CallsDrawOn, IsShort}
+use Rattle.mmtel_run.specs.Short.{IsShort}
 use Rattle.mmtel_run.specs.World.{World, begun, came, met}
-use Rattle.mmtel_server.specs.Follows.{Breaks, Follows}
+use Rattle.mmtel_server.specs.Follows.{AllDrawOn, Breaks, Follows}
 use Rattle.mmtel_server.specs.Stands.{Did}
 use Rattle.mmtel_server.specs.declared.servers.Server.{Server}
-use Rattle.mmtel_server.proofs.Grows.{begins, cut_of, ends, front_of, front_on, grows_on, met_grows, same, short_of}
+use Rattle.mmtel_server.proofs.Grows.{begins, cut_of, ends, front_of, front_on, grows_on, met_grows, short_of}
 use Rattle.mmtel_server.proofs.Runs.{begun_came, clocked_did}
 
-module _ (law : CallsDrawOn) (old mid : Server) (out : List Offer) (at : ℕ) (begin : Follows old out mid out (λ d token. begun)) (x : Directory → Digest) (took : Bool) where
+module _ (law : AllDrawOn) (old mid : Server) (out : List Offer) (at : ℕ) (begin : Follows old out mid out (λ d token. begun)) (x : Directory → Digest) (took : Bool) where
   module _ (d : Directory) (token : List ℕ) (before : List Offer) (w : World) (did : Did d token before old out w) (short : IsShort (came d token at (x d) took w)) where
     abbrev there : World
     there = record (begun w) { clock = at }

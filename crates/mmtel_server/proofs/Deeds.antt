@@ -1,6 +1,7 @@
 -- What is offered once numbers were drawn, and one after another.
-use Rattle.std.proofs.Common.{Option, append_assoc, ◌++◌, ◌≡◌, ℕ, ◌+◌, ◌≤◌, ◌<◌, ◌^◌, List, [], ◌∷◌, length, refl, sym, ap, ◌∙◌, subst, arith, drop, get_or, add-one, drop-cons}
-use Rattle.std.proofs.lemmas.List.{drop_all}
+use Rattle.std.proofs.Common.{Option, append_assoc, ◌++◌, ◌≡◌, ℕ, ◌+◌, ◌-◌, ◌≤◌, ◌<◌, ◌^◌, List, [], ◌∷◌, length, refl, sym, ap, ◌∙◌, subst, arith, drop, get_or, add-one, drop-cons}
+use Rattle.std.proofs.lemmas.List.{drop_all, map-append}
+use Rattle.mmtel_desk.specs.declared.desks.Desk.{Desk}
 use Rattle.mmtel_directory.specs.declared.directories.Directory.{Directory}
 use Rattle.mmtel_message.specs.Message.{Message}
 use Rattle.mmtel_message.specs.Texts.{message_text}
@@ -9,7 +10,8 @@ use Rattle.mmtel_outside.specs.declared.events.Offer.{Offer}
 use Rattle.mmtel_outside.specs.declared.events.Offer.TheVariants as offer
 use Rattle.mmtel_run.specs.Answers.{tag_for, tags_due}
 use Rattle.mmtel_run.specs.Short.{IsShort}
-use Rattle.mmtel_run.specs.World.{World, drawing, emit_one, emitted}
+use Rattle.mmtel_run.specs.Deadlines as deadlines
+use Rattle.mmtel_run.specs.World.{World, arming, drawing, emit_one, emitted}
 use Rattle.mmtel_transaction.specs.Calls.{Done, DidAsk}
 use Rattle.mmtel_transaction.specs.Laws.{FewAreOpened}
 use Rattle.mmtel_transaction.specs.Stands.{MayOpen}
@@ -20,8 +22,10 @@ use Rattle.mmtel_transaction.specs.declared.words.Emit.TheVariants as emit
 use Rattle.mmtel_types.specs.declared.numbers.Peer.{Peer}
 use Rattle.mmtel_server.proofs.Counts.{has_room}
 use Rattle.mmtel_server.proofs.Grows.{draws_emits, short_of}
-use Rattle.mmtel_server.specs.Follows.{Follows}
-use Rattle.mmtel_server.specs.Stands.{Did}
+use Rattle.mmtel_server.specs.Arming.{alarm_in, armed_in, queue_of}
+use Rattle.mmtel_server.specs.Follows.{Breaks, Follows, HasDone}
+use Rattle.mmtel_server.specs.Stands.{Did, IsCut}
+use Rattle.mmtel_server.specs.declared.armed.Armed.{Armed}
 use Rattle.mmtel_server.specs.declared.servers.Server.{Server}
 
 -- so many numbers were drawn
@@ -37,7 +41,11 @@ drew d token before s t out w n did e = record {
     texts = did.stands.texts;
     registered = did.stands.registered;
     calls = did.stands.calls;
+    rooms = did.stands.rooms;
     armed = did.stands.armed;
+    waiting = did.stands.waiting;
+    drained = did.stands.drained;
+    cleared = did.stands.cleared;
     whole = did.stands.whole;
   };
   offered = did.offered;
@@ -86,7 +94,11 @@ asked few s t out out2 peer m at text P opens is offered d token before w did sh
     texts = did.stands.texts;
     registered = did.stands.registered;
     calls = did.stands.calls;
+    rooms = did.stands.rooms;
     armed = did.stands.armed;
+    waiting = did.stands.waiting;
+    drained = did.stands.drained;
+    cleared = did.stands.cleared;
     whole = did.stands.whole;
   };
   offered = offered ∙ (ap (λ (os : List Offer). os ++ offer.To peer at text ∷ []) did.offered
@@ -102,3 +114,49 @@ next_emit at i es e w less is =
 
 pub no_emit : (at i : ℕ) (es : List Emit) (w : World) → length es ≤ i → emitted at (drop i es) w ≡ w
 no_emit at i es w less = ap (λ (l : List Emit). emitted at l w) (drop_all i es less)
+
+-- ---- what was done on the calls or the rooms, and then what came of it
+
+module _ (old mid : Server) (desk : Directory → List ℕ → World → Desk) (there : Directory → List ℕ → World → World) (emits given : List Emit) (at : ℕ) (out now : List Offer)
+    (done : HasDone old mid desk there emits) (same : given ≡ emits) where
+  pub done_follows : (new : Server) → Follows mid out new now (λ d token. emitted at given) → Follows old out new now (λ d token w. emitted at (desk d token w).out (there d token w))
+  done_follows new follows d token before w did short =
+      let first = done d token before out w did in
+      let all = same ∙ first.0 in
+      subst (λ (l : List Emit). Did d token before new now (emitted at l (there d token w))) all
+      (follows d token before (there d token w) first.1 (subst (λ (l : List Emit). IsShort (emitted at l (there d token w))) (sym all) short))
+
+  -- where what was done offers nothing of itself
+  pub done_breaks : Breaks mid out now (λ d token. emitted at given) → Breaks old out now (λ d token w. emitted at (desk d token w).out (there d token w))
+  done_breaks breaks d token before w did short =
+      let first = done d token before out w did in
+      let all = same ∙ first.0 in
+      subst (λ (l : List Emit). IsCut out now (before ++ (emitted at l (there d token w)).offers)) all
+      (breaks d token before (there d token w) first.1 (subst (λ (l : List Emit). IsShort (emitted at l (there d token w))) (sym all) short))
+
+-- a deadline is armed, in the step that goes on
+pub armed_more : (s : Server) (a : Armed) (rest : List Armed) (out : List Offer) → rest ≡ s.armed ++ a ∷ [] → a.step ≡ s.steps - 1
+    → Follows s out (record s { armed = rest }) out (λ d token w. arming (record { alarm = alarm_in a.alarm; at = a.at; step = w.steps - 1 }) w)
+armed_more s a rest out more step d token before w did short = record {
+  stands = record {
+    directory_same = did.stands.directory_same;
+    tokens = did.stands.tokens;
+    transactions = did.stands.transactions;
+    clock = did.stands.clock;
+    steps = did.stands.steps;
+    texts = did.stands.texts;
+    registered = did.stands.registered;
+    calls = did.stands.calls;
+    rooms = did.stands.rooms;
+    armed =
+        ap queue_of more
+        ∙ (map-append (λ b. armed_in b) s.armed (a ∷ [])
+        ∙ (ap (λ (l : List deadlines.Armed). l ++ armed_in a ∷ []) did.stands.armed
+        ∙ ap (λ (n : ℕ). w.armed ++ (let r : deadlines.Armed = record { alarm = alarm_in a.alarm; at = a.at; step = n } in r) ∷ []) (step ∙ ap (λ (n : ℕ). n - 1) did.stands.steps)));
+    waiting = did.stands.waiting;
+    drained = did.stands.drained;
+    cleared = did.stands.cleared;
+    whole = did.stands.whole;
+  };
+  offered = did.offered;
+}

@@ -1,5 +1,5 @@
 -- What is done of the events that came, turn after turn.
-use Rattle.std.proofs.Common.{◌≡◌, ◌+◌, ◌<◌, ◌≤◌, ℕ, Bool, true, false, List, [], ◌∷◌, ◌++◌, length, refl, sym, ap, ◌∙◌, subst, append-nil, append_assoc, length-append, Option, Result, Ok, Err, arith}
+use Rattle.std.proofs.Common.{◌≡◌, ◌+◌, ◌<◌, ◌≤◌, ℕ, Bool, true, false, List, [], ◌∷◌, ◌++◌, length, refl, sym, ap, ◌∙◌, subst, append-nil, append_assoc, length-append, Option, Ok, Err, arith}
 use Rattle.std.specs.Option.{option_map}
 use Rattle.mmtel_charging.specs.declared.rows.Row.{Row}
 use Rattle.mmtel_directory.specs.declared.directories.Directory.{Directory}
@@ -13,12 +13,12 @@ use Rattle.mmtel_run.specs.Filed.{NoneWaits, RowsAreFiled}
 use Rattle.mmtel_run.specs.Headline.{GivesAlways}
 use Rattle.mmtel_run.specs.InForce.{uploads_of}
 use Rattle.mmtel_run.specs.Run.{IsEnough, gives, world_after}
-use Rattle.mmtel_run.specs.Short.{CallsDrawOn, IsShortRun}
+use Rattle.mmtel_run.specs.Short.{IsShortRun}
 use Rattle.mmtel_run_laws.specs.Clean.{RunsSendCleanMessages}
 use Rattle.mmtel_run_laws.specs.Outcome.{CallsOfRunsComeToOutcome}
+use Rattle.mmtel_run_laws.specs.Rows.{SeatsOfRunsAreChargedOnce}
 use Rattle.mmtel_serving.specs.Calls.{Counted}
-use Rattle.mmtel_web.specs.Answers.{Kept}
-use Rattle.mmtel_server.specs.Driven.{AnswersAll, AnswersButLast, BrokeOff, CameToOutcome, Driven, EachCounted, HeardMore, HoldsUploads, IsAtEnd, KeptTheSecret, ReadEach, SentClean, WentOn, with_all}
+use Rattle.mmtel_server.specs.Driven.{AnswersAll, AnswersButLast, BrokeOff, CameToOutcome, ChargedSeats, Driven, HeardMore, HoldsUploads, IsAtEnd, KeptTheSecret, ReadEach, SentClean, WentOn, with_all}
 use Rattle.mmtel_server.specs.Handed.{taken_of}
 use Rattle.mmtel_server.specs.Laws.{WentSeesAlike}
 use Rattle.mmtel_server.specs.Stands.{BreaksOff, IsPrefixOf, Went}
@@ -31,6 +31,7 @@ use Rattle.mmtel_server.proofs.Charging.{charged}
 use Rattle.mmtel_server.proofs.Fronts.{enough_of_front, offers_front, offers_given, short_front}
 use Rattle.mmtel_server.proofs.Heard.{heard_nothing, heard_still, heard_then, read_all_last, read_lost_last, read_nothing, read_then}
 use Rattle.mmtel_server.proofs.Keeping.{all_then, answers_last, answers_lost, answers_one, answers_then, counted_last, counted_lost, counted_one, counted_then, events_lost, holds_lost, holds_nothing, holds_one, holds_untaken, length_lost, lost_events, uploads_both}
+use Rattle.mmtel_server.specs.Follows.{AllDrawOn}
 
 -- ---- lists
 
@@ -43,6 +44,9 @@ events_both (x ∷ xs) ys = ap (λ (es : List Event). x.event ∷ es) (events_bo
 came : CallsOfRunsComeToOutcome → (happened : List Happened) (old : Server) (out : List Offer) → CameToOutcome happened old out
 came law happened old out d token loaded es before went short = law d token loaded (es ++ happened) short
 
+seated : SeatsOfRunsAreChargedOnce → (happened : List Happened) (old : Server) (out : List Offer) → ChargedSeats happened old out
+seated law happened old out d token loaded es before went short = law d token loaded (es ++ happened) short
+
 sent : RunsSendCleanMessages → (happened : List Happened) (old : Server) (out : List Offer) → SentClean happened old out
 sent law happened old out d token loaded es before went short home text = law d token loaded (es ++ happened) home text short
 
@@ -52,7 +56,7 @@ went_nothing : (s : Server) (out : List Offer) → WentOn [] s out s out
 went_nothing s out d token loaded es before went short = subst (λ (l : List Happened). Went d token loaded l before s out) (sym (append-nil es)) went
 
 -- of all of these and then of these the front is few enough, and the rest begins where it ended
-module _ (law : CallsDrawOn) (always : GivesAlways) (xs ys : List Happened) (s t : Server) (out between : List Offer) (first : WentOn xs s out t between) where
+module _ (law : AllDrawOn) (always : GivesAlways) (xs ys : List Happened) (s t : Server) (out between : List Offer) (first : WentOn xs s out t between) where
   whole : (es : List Happened) → es ++ (xs ++ ys) ≡ (es ++ xs) ++ ys
   whole es = sym (append_assoc es xs ys)
 
@@ -122,13 +126,13 @@ module _ (law : CallsDrawOn) (always : GivesAlways) (xs ys : List Happened) (s t
   }
 
 -- memory ran out in doing one event more
-pub broke_then : CallsDrawOn → GivesAlways → (xs : List Happened) (one : Happened) (s t : Server) (out between now : List Offer) → WentOn xs s out t between → BreaksOff t between now one
+pub broke_then : AllDrawOn → GivesAlways → (xs : List Happened) (one : Happened) (s t : Server) (out between now : List Offer) → WentOn xs s out t between → BreaksOff t between now one
     → BrokeOff (xs ++ one ∷ []) s out now
 broke_then law always xs one s t out between now first second =
     broke_in law always xs (one ∷ []) s t out between first now (omega arith) (λ d token loaded before es fuel went short enough. second d token loaded es before fuel went short enough)
 
 -- memory ran out before anything of what came then was done
-pub broke_there : CallsDrawOn → GivesAlways → (xs ys : List Happened) (s t : Server) (out now : List Offer) → length ys ≤ 1 → WentOn xs s out t now → BrokeOff (xs ++ ys) s out now
+pub broke_there : AllDrawOn → GivesAlways → (xs ys : List Happened) (s t : Server) (out now : List Offer) → length ys ≤ 1 → WentOn xs s out t now → BrokeOff (xs ++ ys) s out now
 broke_there law always xs ys s t out now one first =
     broke_in law always xs ys s t out now first now one
     (λ d token loaded before es fuel went short enough. (([], append-nil now), offers_front d token loaded law before es ys fuel t now went enough))
@@ -157,8 +161,9 @@ holds_step t new between offers e held left calls after count faulty step d toke
 -- the laws of runs that this takes
 pub record RunLaws : Type 0 where
   pub outcome : CallsOfRunsComeToOutcome
+  pub seats : SeatsOfRunsAreChargedOnce
   pub clean : RunsSendCleanMessages
-  pub draws : CallsDrawOn
+  pub draws : AllDrawOn
   pub always : GivesAlways
   pub filed : RowsAreFiled
   pub none : NoneWaits
@@ -234,6 +239,7 @@ module _ (laws : RunLaws) (ear : Option Ear) (giving : ℕ) (held : Option Held)
             };
             charged = charged laws.filed laws.none (d.happened ++ one ∷ []) old out;
             outcome = came laws.outcome (d.happened ++ one ∷ []) old out;
+            seats = seated laws.seats (d.happened ++ one ∷ []) old out;
             clean = sent laws.clean (d.happened ++ one ∷ []) old out;
             kept = tt;
           }
@@ -260,6 +266,7 @@ module _ (laws : RunLaws) (ear : Option Ear) (giving : ℕ) (held : Option Held)
             };
             charged = charged laws.filed laws.none (d.happened ++ ys) old out;
             outcome = came laws.outcome (d.happened ++ ys) old out;
+            seats = seated laws.seats (d.happened ++ ys) old out;
             clean = sent laws.clean (d.happened ++ ys) old out;
             kept = tt;
           }
@@ -277,6 +284,7 @@ module _ (laws : RunLaws) (ear : Option Ear) (giving : ℕ) (held : Option Held)
           keeper = record { answers = d.answers; sheets = d.sheets; counted = d.counted };
           charged = charged laws.filed laws.none d.happened old out;
           outcome = came laws.outcome d.happened old out;
+          seats = seated laws.seats d.happened old out;
           clean = sent laws.clean d.happened old out;
           kept = kept secret d.happened old server out between d.did;
         }
@@ -293,6 +301,7 @@ module _ (laws : RunLaws) (ear : Option Ear) (giving : ℕ) (held : Option Held)
           keeper = record { answers = d.answers; sheets = d.sheets; counted = d.counted };
           charged = charged laws.filed laws.none d.happened old out;
           outcome = came laws.outcome d.happened old out;
+          seats = seated laws.seats d.happened old out;
           clean = sent laws.clean d.happened old out;
           kept = kept secret d.happened old server out between d.did;
         }
@@ -309,6 +318,7 @@ module _ (laws : RunLaws) (ear : Option Ear) (giving : ℕ) (held : Option Held)
       keeper = record { answers = d.answers; sheets = d.sheets; counted = d.counted };
       charged = charged laws.filed laws.none d.happened old out;
       outcome = came laws.outcome d.happened old out;
+      seats = seated laws.seats d.happened old out;
       clean = sent laws.clean d.happened old out;
       kept = kept secret d.happened old server out between d.did;
     }

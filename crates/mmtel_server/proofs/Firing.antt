@@ -72,7 +72,11 @@ offers s out now os e d token before w did short = record {
     texts = did.stands.texts;
     registered = did.stands.registered;
     calls = did.stands.calls;
+    rooms = did.stands.rooms;
     armed = did.stands.armed;
+    waiting = did.stands.waiting;
+    drained = did.stands.drained;
+    cleared = did.stands.cleared;
     whole = did.stands.whole;
   };
   offered = e ∙ (ap (λ (x : List Offer). x ++ os) did.offered ∙ append_assoc before w.offers os);
@@ -91,7 +95,11 @@ acted d token before out s t w acts did stands = record {
     texts = did.stands.texts;
     registered = did.stands.registered;
     calls = did.stands.calls;
+    rooms = did.stands.rooms;
     armed = did.stands.armed;
+    waiting = did.stands.waiting;
+    drained = did.stands.drained;
+    cleared = did.stands.cleared;
     whole = did.stands.whole;
   };
   offered = did.offered;
@@ -110,7 +118,11 @@ left d token before out s rest w did = record {
     texts = did.stands.texts;
     registered = did.stands.registered;
     calls = did.stands.calls;
+    rooms = did.stands.rooms;
     armed = refl;
+    waiting = did.stands.waiting;
+    drained = did.stands.drained;
+    cleared = did.stands.cleared;
     whole = did.stands.whole;
   };
   offered = did.offered;

@@ -6,13 +6,14 @@ use Rattle.mmtel_outside.specs.declared.events.Offer.{Offer}
 use Rattle.mmtel_run.specs.Events.{Happened, Notice, notice_of, notices}
 use Rattle.mmtel_run.specs.Headline.{GivesAlways}
 use Rattle.mmtel_run.specs.Run.{IsEnough, IsEnoughAfter, after, clock_at, gives, one_more, settled}
-use Rattle.mmtel_run.specs.Short.{CallsDrawOn, IsShortRun}
+use Rattle.mmtel_run.specs.Short.{IsShortRun}
 use Rattle.mmtel_run.specs.World.{World, beginning}
 use Rattle.mmtel_server.specs.Stands.{IsPrefixOf, Went}
 use Rattle.mmtel_server.specs.declared.servers.Server.{Server}
 use Rattle.mmtel_server.proofs.Grows.{Grows, came_grows, front_of, grows_on, same, short_of}
 use Rattle.mmtel_server.proofs.Runs.{run_same, stands_by}
 use Rattle.mmtel_server.proofs.Settling.{settles}
+use Rattle.mmtel_server.specs.Follows.{AllDrawOn}
 
 pub notices_both : (d : Directory) (es more : List Happened) → notices d (es ++ more) ≡ notices d es ++ notices d more
 notices_both d [] more = refl
@@ -44,7 +45,7 @@ module _ (d : Directory) (token : List ℕ) where
         → Went d token loaded es before s out → IsEnough d token loaded fuel es → out ≡ before ++ gives d token loaded fuel es
     offers_given before es fuel s out went e = (stands_by d token loaded es before out s fuel went e).offered
 
-    module _ (law : CallsDrawOn) where
+    module _ (law : AllDrawOn) where
       one_more_grows : (fuel : ℕ) (x : Notice) (w : World) → Grows w (one_more d token fuel x w)
       one_more_grows fuel x w =
           let at : ℕ = clock_at w x.at in

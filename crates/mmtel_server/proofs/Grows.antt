@@ -2,25 +2,29 @@
 use Rattle.std.proofs.Common.{◌≡◌, ℕ, ◌≤◌, ◌<◌, ◌^◌, List, [], ◌∷◌, ◌++◌, length, refl, sym, ap, ◌∙◌, arith, append-nil, append_assoc, subst, Option, Some, None}
 use Rattle.std.specs.Prelude.{Bool, true, false, OnErr, Result, Ok, Err}
 use Rattle.mmtel_answers.specs.Said.{Said}
-use Rattle.mmtel_b2bua.specs.Histories.{Hears, hears_after}
+use Rattle.mmtel_b2bua.specs.Histories.{Deed, Finishes, Hears}
 use Rattle.mmtel_b2bua.specs.declared.signals.Signal.{Signal}
 use Rattle.mmtel_b2bua.specs.declared.signals.Signal.TheVariants as signal
+use Rattle.mmtel_call.specs.Table.{invite_answered}
 use Rattle.mmtel_charging.specs.declared.rows.Row.{Row}
+use Rattle.mmtel_desk.specs.declared.desks.Desk.{Desk}
 use Rattle.mmtel_directory.specs.declared.directories.Directory.{Directory}
+use Rattle.mmtel_focus.specs.Histories as rooms
+use Rattle.mmtel_focus.specs.declared.signals.RoomSignal.{RoomSignal}
+use Rattle.mmtel_focus.specs.declared.signals.RoomSignal.TheVariants as of_room
 use Rattle.mmtel_http.specs.Requests.{Request}
 use Rattle.mmtel_message.specs.Message.{Message}
 use Rattle.mmtel_message.specs.Texts.{message_text}
 use Rattle.mmtel_message.specs.declared.messages.Start.{Start}
 use Rattle.mmtel_outside.specs.declared.events.Offer.{Offer}
-use Rattle.mmtel_outside.specs.declared.events.Offer.TheVariants as offer
 use Rattle.mmtel_run.specs.Answers.{Answer, completed_reply, plainly, response_to, tag_for, tags_due, to_tag_in}
-use Rattle.mmtel_run.specs.Calls.{are_full, arrived, asked_by, named_by, site_of}
+use Rattle.mmtel_run.specs.Calls.{are_full, arrived, asked_by, site_of}
 use Rattle.mmtel_run.specs.Events.{Digest, Nothing, Refused, Heard, Asked, message_in}
 use Rattle.mmtel_run.specs.Records.{until_of}
-use Rattle.mmtel_run.specs.Refusals.{Course, Refuse, Enter, Open, Register, course}
-use Rattle.mmtel_run.specs.Refusals as refusals
-use Rattle.mmtel_run.specs.Short.{CallsDrawOn, IsShort}
-use Rattle.mmtel_run.specs.World.{World, acknowledging, answering, begun, calls_in, came, cancelling, cancelling_call, drawing, emit_one, emitted, ended, entering, handing, heard_now, hearing, met, offering, refusing, registering, repeating, replying, replying_plainly, rows_waiting, serving, signalled, taking, taking_fresh, told, told_as}
+use Rattle.mmtel_run.specs.Refusals.{Course, Refuse, Enter, EnterRoom, Open, OpenRoom, JoinRoom, Register, course}
+use Rattle.mmtel_run.specs.Rooms.{Holder, InCall, InRoom, is_of_calls, rooms_site}
+use Rattle.mmtel_run.specs.Short.{IsShort, tokens_of}
+use Rattle.mmtel_run.specs.World.{World, acknowledging, acknowledging_by, answering, begun, bringing, calls_in, came, cancelling, cancelling_call, comes_of, drawing, emit_one, emitted, ended, entering_room, finishing, handing, heard_now, hearing, holder_in, housed, joining_room, lending, lodging, met, noticed, offering, opening_room, refusing, registering, repeating, replying, replying_plainly, responding, responding_to, seated, serving, signalled, taking, taking_fresh, tokens_now, told, told_as}
 use Rattle.mmtel_transaction.specs.Answers.{hear_says, is_merged}
 use Rattle.mmtel_transaction.specs.Calls.{Done, live}
 use Rattle.mmtel_transaction.specs.declared.words.Emit.{Emit}
@@ -31,9 +35,11 @@ use Rattle.mmtel_transaction.specs.declared.words.TKey.{TKey}
 use Rattle.mmtel_types.specs.declared.addrs.Addr.{Addr}
 use Rattle.mmtel_types.specs.declared.numbers.CallNo.{CallNo}
 use Rattle.mmtel_types.specs.declared.numbers.Peer.{Peer}
+use Rattle.mmtel_types.specs.declared.numbers.RoomNo.{RoomNo}
 use Rattle.mmtel_types.specs.declared.sides.Side.{Side}
 use Rattle.mmtel_web.specs.Answers.{Kept}
-use Rattle.mmtel_server.specs.Follows.{Breaks, Follows}
+use Rattle.mmtel_server.proofs.RoomWords as words
+use Rattle.mmtel_server.specs.Follows.{AllDrawOn, Breaks, Follows, brought_in, desk_at_end, desk_of, lodged_in}
 use Rattle.mmtel_server.specs.Stands.{IsCut, IsPrefixOf}
 use Rattle.mmtel_server.specs.declared.servers.Server.{Server}
 
@@ -80,22 +86,69 @@ emits at (emit.Reply key m) w = record { acts = omega arith; steps = omega arith
 emits at (emit.Plain peer text) w = record { acts = omega arith; steps = omega arith; drawn = λ less. omega arith; front = (_, refl) }
 emits at (emit.Ack key m) w = record { acts = omega arith; steps = omega arith; drawn = λ less. omega arith; front = (_, refl) }
 emits at (emit.Arm call what when) w = record { acts = omega arith; steps = omega arith; drawn = λ less. omega arith; front = ([], append-nil w.offers) }
-emits at (emit.ArmSeat room seat what when) w = same w
+emits at (emit.ArmSeat room seat what when) w = record { acts = omega arith; steps = omega arith; drawn = λ less. omega arith; front = ([], append-nil w.offers) }
 
 pub emits_all : (at : ℕ) (es : List Emit) (w : World) → Grows w (emitted at es w)
 emits_all at [] w = same w
 emits_all at (e ∷ es) w = grows_on w (emit_one at e w) (emitted at es (emit_one at e w)) (emits at e w) (emits_all at es (emit_one at e w))
 
--- calls hear a signal
-pub signals : CallsDrawOn → (d : Directory) (token : List ℕ) (at : ℕ) (x : Signal) (w : World) → Grows w (signalled d token at x w)
-signals law d token at x w =
-    let v : World = record w { deeds = Hears (heard_now token at x w) ∷ w.deeds; drawn = (hears_after (site_of d) w.deeds (heard_now token at x w)).desk.tokens.drawn } in
-    let first : Grows w v = record { acts = omega arith; steps = omega arith; drawn = (law (site_of d) w.deeds (heard_now token at x w)).on; front = ([], append-nil w.offers) } in
-    grows_on w v (signalled d token at x w) first (emits_all at (hears_after (site_of d) w.deeds (heard_now token at x w)).desk.out v)
-
 -- numbers are drawn, and then something is done
 pub draws_emits : (n at : ℕ) (es : List Emit) (w : World) → Grows w (emitted at es (drawing n w))
 draws_emits n at es w = grows_on w (drawing n w) (emitted at es (drawing n w)) (draws n w) (emits_all at es (drawing n w))
+
+-- ---- what is done on the calls
+
+brings : (at : ℕ) (deed : Deed) (desk : Desk) (w : World) → (desk.tokens.drawn < 2 ^ 60 → w.drawn ≤ desk.tokens.drawn) → Grows w (bringing at deed desk w)
+brings at deed desk w on =
+    let v : World = brought_in deed desk w in
+    let first : Grows w v = record { acts = omega arith; steps = omega arith; drawn = on; front = ([], append-nil w.offers) } in
+    grows_on w v (bringing at deed desk w) first (emits_all at desk.out v)
+
+pub signals : AllDrawOn → (d : Directory) (token : List ℕ) (at : ℕ) (x : Signal) (w : World) → Grows w (signalled d token at x w)
+signals law d token at x w = brings at (Hears (heard_now token at x w)) (desk_of d token at x w) w (law.calls (site_of d) w.deeds (heard_now token at x w)).on
+
+pub finishes : AllDrawOn → (d : Directory) (token : List ℕ) (at : ℕ) (call : CallNo) (w : World) → Grows w (finishing d token at call w)
+finishes law d token at call w = brings at (Finishes call.0 at (tokens_now token w)) (desk_at_end d token at call w) w (law.ends (site_of d) w.deeds call.0 at (tokens_now token w)).on
+
+pub lends : (deed : Deed) (w : World) → Grows w (lending deed w)
+lends deed w = record { acts = omega arith; steps = omega arith; drawn = λ less. omega arith; front = ([], append-nil w.offers) }
+
+-- ---- what is done on the rooms
+
+pub lodges : (at : ℕ) (deed : rooms.Deed) (desk : Desk) (w : World) → Grows w (lodging at deed desk w)
+lodges at deed desk w =
+    let v : World = lodged_in deed desk w in
+    let first : Grows w v = record { acts = omega arith; steps = omega arith; drawn = λ less. omega arith; front = ([], append-nil w.offers) } in
+    grows_on w v (lodging at deed desk w) first (emits_all at desk.out v)
+
+pub houses : AllDrawOn → (d : Directory) (at : ℕ) (deed : rooms.Deed) (w : World) → (tokens_of deed).drawn ≡ w.drawn → Grows w (housed d at deed w)
+houses law d at deed w same_drawn =
+    let desk = comes_of d deed w in
+    let v : World = record w { drawn = desk.tokens.drawn } in
+    let on = (law.rooms (rooms_site d) w.rooms deed).on in
+    let first : Grows w v = record {
+      acts = omega arith;
+      steps = omega arith;
+      drawn = λ less. let more : (tokens_of deed).drawn ≤ desk.tokens.drawn = on less in omega (arith, more, same_drawn);
+      front = ([], append-nil w.offers);
+    } in
+    grows_on w v (housed d at deed w) first (lodges at deed desk v)
+
+module _ (law : AllDrawOn) (d : Directory) (token : List ℕ) (at : ℕ) where
+  pub seats : (x : RoomSignal) (w : World) → Grows w (seated d token at x w)
+  seats = words.seats Grows grows_on d token at same (draws 1) (emits_all at) (lodges at) (houses law d at) lends (finishes law d token at)
+
+  pub notices : (room : RoomNo) (seat code : ℕ) (w : World) → Grows w (noticed d token at room seat code w)
+  notices = words.notices Grows grows_on d token at same (draws 1) (emits_all at) (lodges at) (houses law d at) lends (finishes law d token at)
+
+  pub opens_room : (key : TKey) (s : Said) (w : World) → Grows w (opening_room d token at key s w)
+  opens_room = words.opens_room Grows grows_on d token at same (draws 1) (emits_all at) (lodges at) (houses law d at) lends (finishes law d token at)
+
+  pub joins_room : (key : TKey) (s : Said) (room : RoomNo) (w : World) → Grows w (joining_room d token at key s room w)
+  joins_room = words.joins_room Grows grows_on d token at same (draws 1) (emits_all at) (lodges at) (houses law d at) lends (finishes law d token at)
+
+  pub enters_room : (key : TKey) (s : Said) (room : RoomNo) (seat : ℕ) (w : World) → Grows w (entering_room d token at key s room seat w)
+  enters_room = words.enters_room Grows grows_on d token at same (draws 1) (emits_all at) (lodges at) (houses law d at) lends (finishes law d token at)
 
 -- ---- messages
 
@@ -108,23 +161,21 @@ replies_plainly d token at s a w = draws_emits (tags_due s.heard.to_tag) at (emi
 pub refuses : (token : List ℕ) (at : ℕ) (peer : Peer) (source : Addr) (m : Message Start) (w : World) → Grows w (refusing token at peer source m w)
 refuses token at peer source m w = draws_emits (tags_due (to_tag_in m.lines)) at (emit.Plain peer (message_text (completed_reply (tag_for token w.drawn (to_tag_in m.lines)) source m)) ∷ []) w
 
-module _ (law : CallsDrawOn) (d : Directory) (token : List ℕ) (at : ℕ) where
-  pub enters : (f : CallNo → Side → Signal) (o : Option (CallNo × Side)) (w : World) → Grows w (entering d token at f o w)
-  enters f None w = same w
-  enters f (Some x) w = signals law d token at (f x.0 x.1) w
-
+module _ (law : AllDrawOn) (d : Directory) (token : List ℕ) (at : ℕ) where
   pub takes : (key : TKey) (s : Said) (c : Course) (w : World) → Grows w (taking d token at key s c w)
   takes key s (Refuse a) w = replies d token at key s a w
   takes key s (Enter call side) w = signals law d token at (signal.Request call side key s) w
+  takes key s (EnterRoom room seat) w = enters_room law d token at key s room seat w
   takes key s Open w = signals law d token at (arrived d.names.accounts key s) w
+  takes key s OpenRoom w = opens_room law d token at key s w
+  takes key s (JoinRoom room) w = joins_room law d token at key s room w
   takes key s (Register account seconds) w =
       let v = registering account (until_of at seconds) w in
       let g = replies d token at key s (plainly 200) v in
       record { acts = g.acts; steps = g.steps; drawn = g.drawn; front = g.front }
-  takes key s refusals.Unbuilt w = adds (offer.Unbuilt at ∷ []) w
 
   pub takes_fresh : (key : TKey) (s : Said) (w : World) → Grows w (taking_fresh d token at key s w)
-  takes_fresh key s w = takes key s (course d (is_merged key.0 (live w.acts)) (are_full (calls_in d w).entries) (named_by s.heard (calls_in d w).entries) s.heard) w
+  takes_fresh key s w = takes key s (course d (is_merged key.0 (live w.acts)) (are_full (calls_in d w).entries) (holder_in d s.heard w) s.heard) w
 
   pub repeats : (o : Option (Peer × List ℕ)) (w : World) → Grows w (repeating at o w)
   repeats None w = same w
@@ -138,13 +189,25 @@ module _ (law : CallsDrawOn) (d : Directory) (token : List ℕ) (at : ℕ) where
   cancels key s None w = replies d token at key s (plainly 481) w
   cancels key s (Some invite) w = cancels_call key s invite (asked_by invite (calls_in d w).entries) w
 
+  pub acknowledges_by : (s : Said) (o : Option Holder) (w : World) → Grows w (acknowledging_by d token at s o w)
+  acknowledges_by s None w = same w
+  acknowledges_by s (Some (InCall call side)) w = signals law d token at (signal.Ack call side s) w
+  acknowledges_by s (Some (InRoom room seat)) w = seats law d token at (of_room.Ack room seat s) w
+
   pub acknowledges : (s : Said) (w : World) → Grows w (acknowledging d token at s w)
-  acknowledges s w = enters (λ call side. signal.Ack call side s) (named_by s.heard (calls_in d w).entries) w
+  acknowledges s w = acknowledges_by s (holder_in d s.heard w) w
+
+  pub responds_to : (key : TKey) (s : Said) (of_calls : Bool) (w : World) → Grows w (responding_to d token at key s of_calls w)
+  responds_to key s true w = signals law d token at (signal.Answer key s) w
+  responds_to key s false w = seats law d token at (of_room.Answer key s) w
+
+  pub responds : (key : TKey) (s : Said) (w : World) → Grows w (responding d token at key s w)
+  responds key s w = responds_to key s (is_of_calls (invite_answered s) (calls_in d w).entries) w
 
   pub answers : (s : Said) (o : Option transaction.Heard) (w : World) → Grows w (answering d token at s o w)
   answers s None w = replies_plainly d token at s (plainly 503) w
   answers s (Some (heard.Fresh key x)) w = takes_fresh key s w
-  answers s (Some (heard.Answer key x)) w = signals law d token at (signal.Answer key s) w
+  answers s (Some (heard.Answer key x)) w = responds key s w
   answers s (Some (heard.Repeat sent)) w = repeats sent w
   answers s (Some (heard.Acked key)) w = same w
   answers s (Some (heard.Cancel key invite x)) w = cancels key s invite w
@@ -181,14 +244,14 @@ module _ (law : CallsDrawOn) (d : Directory) (token : List ℕ) (at : ℕ) where
   hands true (row ∷ rows) w = record { acts = omega arith; steps = omega arith; drawn = λ less. omega arith; front = ([], append-nil w.offers) }
   hands false (row ∷ rows) w = same w
 
-  pub ends : (took : Bool) (w : World) → Grows w (ended d took w)
-  ends took w = hands took (rows_waiting d w) w
+  pub ends : (took : Bool) (w : World) → Grows w (ended took w)
+  ends took w = hands took w.waiting w
 
   pub came_grows : (x : Digest) (took : Bool) (w : World) → Grows w (came d token at x took w)
   came_grows x took w =
       let there : World = record (begun w) { clock = at } in
       let done : World = met d token at x there in
-      grows_on w there (came d token at x took w) (clocked w) (grows_on there done (ended d took done) (met_grows x there) (ends took done))
+      grows_on w there (came d token at x took w) (clocked w) (grows_on there done (ended took done) (met_grows x there) (ends took done))
 
 -- ---- what follows for the code
 

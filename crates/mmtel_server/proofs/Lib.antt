@@ -1,9 +1,14 @@
+mod RoomWords
 pub mod Grows
 mod Arming
 mod Counts
 mod Deeds
 mod Asked
 mod Calls
+mod Known
+mod Housing
+mod Lending
+mod Seating
 mod Courses
 mod Filing
 mod Charging

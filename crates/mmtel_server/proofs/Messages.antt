@@ -8,7 +8,7 @@ use Rattle.mmtel_directory.specs.declared.directories.Directory.{Directory}
 use Rattle.mmtel_message.specs.Message.{Message}
 use Rattle.mmtel_message.specs.declared.messages.Start.{Start}
 use Rattle.mmtel_outside.specs.declared.events.Offer.{Offer}
-use Rattle.mmtel_run.specs.Short.{CallsDrawOn, IsShort}
+use Rattle.mmtel_run.specs.Short.{IsShort}
 use Rattle.mmtel_run.specs.World.{World, answering, told, told_as}
 use Rattle.mmtel_transaction.specs.Answers.{by_key, gives_again, gives_same, hear_says, hears, is_invite_of, key_of, part_of, says, says_opened, then_gives, tkey}
 use Rattle.mmtel_transaction.specs.Calls.{Done, live, opened}
@@ -28,7 +28,7 @@ use Rattle.mmtel_types.specs.declared.addrs.Addr.{Addr}
 use Rattle.mmtel_types.specs.declared.numbers.Peer.{Peer}
 use Rattle.mmtel_server.proofs.Counts.{has_room}
 use Rattle.mmtel_server.proofs.Grows.{short_of, told_grows}
-use Rattle.mmtel_server.specs.Follows.{Breaks, Follows, IsTaken}
+use Rattle.mmtel_server.specs.Follows.{AllDrawOn, Breaks, Follows, IsTaken}
 use Rattle.mmtel_server.specs.Stands.{Did, IsCut}
 use Rattle.mmtel_server.specs.declared.servers.Server.{Server}
 
@@ -67,13 +67,17 @@ goes_on d token before s t out w h did stands = record {
     texts = did.stands.texts;
     registered = did.stands.registered;
     calls = did.stands.calls;
+    rooms = did.stands.rooms;
     armed = did.stands.armed;
+    waiting = did.stands.waiting;
+    drained = did.stands.drained;
+    cleared = did.stands.cleared;
     whole = did.stands.whole;
   };
   offered = did.offered;
 }
 
-module _ (law : CallsDrawOn) (few : FewAreOpened) (s : Server) (t : Transactions) (out : List Offer) (at : ℕ) (peer : Peer) (source : Addr) (trusted : Bool) (m : Message Start) (taken : Heard)
+module _ (law : AllDrawOn) (few : FewAreOpened) (s : Server) (t : Transactions) (out : List Offer) (at : ℕ) (peer : Peer) (source : Addr) (trusted : Bool) (m : Message Start) (taken : Heard)
     (hears_it : MayOpen s.transactions t (λ h. hears h peer m at) (λ h. Some taken ≡ hear_says h peer m)) (d : Directory) (token : List ℕ) (before : List Offer) (w : World)
     (did : Did d token before s out w) (short : IsShort (told d token at (said peer source trusted m) w)) where
   heard_so : Stands t (hears w.acts peer m at) × (Some taken ≡ hear_says w.acts peer m)

@@ -37,7 +37,11 @@ module _ (s : Server) (r : Held) where
       texts = ap (λ (t : Table). t.texts) texts ∙ did.stands.texts;
       registered = registers w.registrations did.stands.registered;
       calls = did.stands.calls;
+      rooms = did.stands.rooms;
       armed = did.stands.armed;
+      waiting = did.stands.waiting;
+      drained = did.stands.drained;
+      cleared = did.stands.cleared;
       whole = did.stands.whole;
     };
     offered = did.offered;
@@ -72,7 +76,11 @@ module _ (s : Server) (r : Held) where
               ∙ ap (put_kept (kept_upload kept (upload_in d.names request))) did.stands.texts);
           registered = registers w.registrations did.stands.registered;
           calls = did.stands.calls;
+          rooms = did.stands.rooms;
           armed = did.stands.armed;
+          waiting = did.stands.waiting;
+          drained = did.stands.drained;
+          cleared = did.stands.cleared;
           whole = did.stands.whole;
         };
         offered = offered ∙ (ap (λ (os : List Offer). os ++ offer.Web at reply ∷ []) did.offered

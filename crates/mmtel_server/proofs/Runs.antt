@@ -7,9 +7,9 @@ use Rattle.mmtel_outside.specs.declared.events.Offer.{Offer}
 use Rattle.mmtel_run.specs.Events.{Digest, Happened, Notice, digest, moment_of, notice_of, notices}
 use Rattle.mmtel_run.specs.Headline.{GivesAlways}
 use Rattle.mmtel_run.specs.Run.{IsEnough, IsEnoughAfter, IsSettled, after, clock_at, one_more, settled}
-use Rattle.mmtel_run.specs.Short.{CallsDrawOn, IsShort, IsShortRun}
-use Rattle.mmtel_run.specs.World.{World, beginning, begun, came, ended, met, rows_waiting}
-use Rattle.mmtel_server.specs.Follows.{Breaks, BreaksTo, Follows, FollowsTo, IsReady, IsSettledBy, going}
+use Rattle.mmtel_run.specs.Short.{IsShort, IsShortRun}
+use Rattle.mmtel_run.specs.World.{World, beginning, begun, came, ended, met}
+use Rattle.mmtel_server.specs.Follows.{AllDrawOn, Breaks, BreaksTo, Follows, FollowsTo, IsReady, IsSettledBy, going}
 use Rattle.mmtel_server.specs.Handed.{left_of, taken_of}
 use Rattle.mmtel_server.specs.Stands.{BreaksOff, Did, GoesOn, IsCut, Went}
 use Rattle.mmtel_server.specs.Stepped.{WaitedAfter, WaitedIn}
@@ -53,13 +53,13 @@ module _ (d : Directory) (token : List ℕ) where
 -- ---- one event
 
 -- from the beginning of the step on it only adds
-pub begun_came : CallsDrawOn → (d : Directory) (token : List ℕ) (at : ℕ) (x : Digest) (took : Bool) (w : World) → Grows (begun w) (came d token at x took w)
+pub begun_came : AllDrawOn → (d : Directory) (token : List ℕ) (at : ℕ) (x : Digest) (took : Bool) (w : World) → Grows (begun w) (came d token at x took w)
 begun_came law d token at x took w =
     let there : World = record (begun w) { clock = at } in
     let done : World = met d token at x there in
     let still = same (begun w) in
     grows_on (begun w) there (came d token at x took w) (record { acts = still.acts; steps = still.steps; drawn = still.drawn; front = still.front })
-    (grows_on there done (ended d took done) (met_grows law d token at x there) (ends law d token at took done))
+    (grows_on there done (ended took done) (met_grows law d token at x there) (ends law d token at took done))
 
 -- the clock is set
 pub clocked_did : (d : Directory) (token : List ℕ) (before out : List Offer) (s : Server) (at : ℕ) (w : World) → Did d token before s out w
@@ -74,7 +74,11 @@ clocked_did d token before out s at w did = record {
     texts = did.stands.texts;
     registered = did.stands.registered;
     calls = did.stands.calls;
+    rooms = did.stands.rooms;
     armed = did.stands.armed;
+    waiting = did.stands.waiting;
+    drained = did.stands.drained;
+    cleared = did.stands.cleared;
     whole = did.stands.whole;
   };
   offered = did.offered;
@@ -91,7 +95,7 @@ pub record AtClock (d : Directory) (token : List ℕ) (fuel now : ℕ) (event : 
   pub short : IsShort (came d token now (digest d event) event.took (settled d token fuel now w))
   pub between : IsShort (settled d token fuel now w)
 
-at_clock : CallsDrawOn → (d : Directory) (token : List ℕ) (fuel now : ℕ) (event : Happened) (w : World) → now ≡ clock_at w (moment_of event.event) → IsReady fuel event d token w
+at_clock : AllDrawOn → (d : Directory) (token : List ℕ) (fuel now : ℕ) (event : Happened) (w : World) → now ≡ clock_at w (moment_of event.event) → IsReady fuel event d token w
     → IsShort (going fuel event d token w) → AtClock d token fuel now event w
 at_clock law d token fuel now event w at ready few =
     let whole : going fuel event d token w ≡ came d token now (digest d event) event.took (settled d token fuel now w) = ap (λ (k : ℕ). came d token k (digest d event) event.took (settled d token fuel k w)) (sym at) in
@@ -104,11 +108,11 @@ at_clock law d token fuel now event w at ready few =
     }
 
 -- of the rows that waited, these were filed, and those wait still
-abbrev pub WaitsBy : Directory → World → World → Bool → List Row → Type 0
-WaitsBy d w later took waiting = (later.filed ≡ w.filed ++ taken_of took waiting) × (rows_waiting d later ≡ left_of took waiting)
+abbrev pub WaitsBy : World → World → Bool → List Row → Type 0
+WaitsBy w later took waiting = (later.filed ≡ w.filed ++ taken_of took waiting) × (later.waiting ≡ left_of took waiting)
 
 -- the deadlines fire, and then the event comes
-module _ (law : CallsDrawOn) (old mid : Server) (out between : List Offer) (event : Happened) (now : ℕ) (clock : (w : World) → old.clock ≡ w.clock → now ≡ clock_at w (moment_of event.event)) where
+module _ (law : AllDrawOn) (old mid : Server) (out between : List Offer) (event : Happened) (now : ℕ) (clock : (w : World) → old.clock ≡ w.clock → now ≡ clock_at w (moment_of event.event)) where
   -- the deadlines alone
   pub cut_before : ((fuel : ℕ) → BreaksTo old out between (IsSettledBy fuel now) (λ d token. settled d token fuel now)) → (fuel : ℕ) → BreaksTo old out between (IsReady fuel event) (going fuel event)
   cut_before breaks fuel d token before w did ready few =
@@ -150,7 +154,7 @@ module _ (law : CallsDrawOn) (old mid : Server) (out between : List Offer) (even
     -- the deadlines file no row
     pub waited_there : (waiting : List Row)
         → ((d : Directory) (token : List ℕ) (before : List Offer) (w : World) → Did d token before mid between w → IsShort (came d token now (digest d event) event.took w)
-        → WaitsBy d w (came d token now (digest d event) event.took w) event.took waiting)
+        → WaitsBy w (came d token now (digest d event) event.took w) event.took waiting)
         → WaitedAfter old out event waiting
     waited_there waiting waits d token before w fuel did ready few =
         let here = at_clock law d token fuel now event w (clock w did.stands.clock) ready few in
@@ -158,7 +162,7 @@ module _ (law : CallsDrawOn) (old mid : Server) (out between : List Offer) (even
         let there = settles_all fuel d token before w did here.ready here.between in
         let left = waits d token before v there here.short in
         let filed = left.0 ∙ ap (λ (rows : List Row). rows ++ taken_of event.took waiting) (settled_none d token fuel now w) in
-        subst (λ (u : World). WaitsBy d w u event.took waiting) (sym here.whole) (filed, left.1)
+        subst (λ (u : World). WaitsBy w u event.took waiting) (sym here.whole) (filed, left.1)
 
     -- the configuration is that of the run still
     pub directory_there : (fuel : ℕ) (d : Directory) (token : List ℕ) (before : List Offer) (w : World) → Did d token before old out w → IsReady fuel event d token w → IsShort (going fuel event d token w) → mid.directory ≡ d
@@ -198,7 +202,11 @@ whole_again d token before out s w did = record {
     texts = did.stands.texts;
     registered = did.stands.registered;
     calls = did.stands.calls;
+    rooms = did.stands.rooms;
     armed = did.stands.armed;
+    waiting = did.stands.waiting;
+    drained = did.stands.drained;
+    cleared = did.stands.cleared;
     whole = refl;
   };
   offered = did.offered;
@@ -254,4 +262,4 @@ waited_in old out event waiting waits d token loaded events before fuel went sho
     (stands_by d token loaded events before out old fuel went (enough_front d token fuel events event (beginning loaded) enough))
     (enough_last d token fuel events event (beginning loaded) enough)
     (subst IsShort last (short fuel enough)) in
-    subst (λ (u : World). WaitsBy d shorter u event.took waiting) (sym last) here
+    subst (λ (u : World). WaitsBy shorter u event.took waiting) (sym last) here

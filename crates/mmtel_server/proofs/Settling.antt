@@ -1,21 +1,26 @@
 -- Deadlines that fire: how many firings are enough, and that firings only add.
-use Rattle.std.proofs.Common.{◌≡◌, ℕ, zero, suc, ◌+◌, ◌≤◌, List, [], ◌∷◌, length, refl, sym, ap, ◌∙◌, arith, append-nil, Option, Some, None, subst}
+use Rattle.std.proofs.Common.{◌≡◌, ℕ, zero, suc, ◌+◌, ◌≤◌, List, [], ◌∷◌, length, refl, sym, ap, ◌∙◌, arith, append-nil, Bool, true, false, Option, Some, None, subst}
+use Rattle.mmtel_b2bua.specs.Histories.{Hears}
 use Rattle.mmtel_b2bua.specs.declared.signals.Signal.{Signal}
 use Rattle.mmtel_b2bua.specs.declared.signals.Signal.TheVariants as signal
+use Rattle.mmtel_call.specs.Table.{invite_silent}
 use Rattle.mmtel_directory.specs.declared.directories.Directory.{Directory}
+use Rattle.mmtel_focus.specs.declared.signals.RoomSignal.{RoomSignal}
+use Rattle.mmtel_focus.specs.declared.signals.RoomSignal.TheVariants as of_room
 use Rattle.mmtel_outside.specs.declared.events.Offer.TheVariants as offer
-use Rattle.mmtel_run.specs.Deadlines.{Armed, Deadline, OfCall, OfMessage}
+use Rattle.mmtel_run.specs.Deadlines.{Alarm, Armed, Deadline, OfAlarm, OfCall, OfMessage, OfSeat}
+use Rattle.mmtel_run.specs.Rooms.{is_key_of_calls, is_of_calls}
 use Rattle.mmtel_run.specs.Run.{IsSettled, due_in, fire_one, fired_if, settled}
-use Rattle.mmtel_run.specs.Short.{CallsDrawOn}
-use Rattle.mmtel_run.specs.World.{World, begun, emit_one, emitted, fired, fired_in, rung, signalled, struck}
+use Rattle.mmtel_run.specs.World.{World, alarmed, begun, calls_in, comes_of, emit_one, emitted, ended_of, fired, fired_in, heard_in_rooms, heard_now, rung, seated, signalled, silenced, struck}
 use Rattle.mmtel_transaction.specs.Answers.{Next, fires, next_due, says_due}
 use Rattle.mmtel_transaction.specs.Calls.{Done, live}
 use Rattle.mmtel_transaction.specs.declared.words.Due.{Due}
 use Rattle.mmtel_transaction.specs.declared.words.Due.TheVariants as due
 use Rattle.mmtel_transaction.specs.declared.words.Emit.{Emit}
 use Rattle.mmtel_transaction.specs.declared.words.Emit.TheVariants as emit
-use Rattle.mmtel_server.proofs.Grows.{Grows, acts_more, adds, begins, grows_on, same, signals}
-use Rattle.mmtel_server.specs.Follows.{heard_in, moved_in}
+use Rattle.mmtel_transaction.specs.declared.words.TKey.{TKey}
+use Rattle.mmtel_server.proofs.Grows.{Grows, acts_more, adds, begins, grows_on, same, seats, signals}
+use Rattle.mmtel_server.specs.Follows.{AllDrawOn, brought_in, desk_of, housed_in}
 
 fires_more : (o : Option Next) (h : List Done) → length h ≤ length (fires h o)
 fires_more None h = omega arith
@@ -37,19 +42,36 @@ emits_steps at (e ∷ es) w = emits_steps at es (emit_one at e w) ∙ emit_steps
 
 module _ (d : Directory) (token : List ℕ) where
   signal_steps : (at : ℕ) (x : Signal) (w : World) → (signalled d token at x w).steps ≡ w.steps
-  signal_steps at x w = emits_steps at (moved_in d token at x w).desk.out (heard_in d token at x w)
+  signal_steps at x w = emits_steps at (desk_of d token at x w).out (brought_in (Hears (heard_now token at x w)) (desk_of d token at x w) w)
+
+  seat_steps : (at : ℕ) (x : RoomSignal) (w : World) → (seated d token at x w).steps ≡ w.steps
+  seat_steps at x w =
+      let deed = heard_in_rooms token at x w in
+      emits_steps at (comes_of d deed w).out (housed_in deed (comes_of d deed w) w)
+
+  silenced_steps : (at : ℕ) (branch method : List ℕ) (of_calls : Bool) (w : World) → (silenced d token at branch method of_calls w).steps ≡ w.steps
+  silenced_steps at branch method true w = signal_steps at (signal.Silent branch method) w
+  silenced_steps at branch method false w = seat_steps at (of_room.Silent branch method) w
+
+  ended_steps : (at : ℕ) (key : TKey) (of_calls : Bool) (w : World) → (ended_of d token at key of_calls w).steps ≡ w.steps
+  ended_steps at key true w = signal_steps at (signal.Over key) w
+  ended_steps at key false w = seat_steps at (of_room.Over key) w
 
   rung_steps : (x : Due) (w : World) → (rung d token x w).steps ≡ w.steps
   rung_steps (due.Again peer at text) w = refl
-  rung_steps (due.Silent key branch method at) w = signal_steps at (signal.Silent branch method) w
-  rung_steps (due.Over key at) w = signal_steps at (signal.Over key) w
+  rung_steps (due.Silent key branch method at) w = silenced_steps at branch method (is_of_calls (invite_silent branch method) (calls_in d w).entries) w
+  rung_steps (due.Over key at) w = ended_steps at key (is_key_of_calls key (calls_in d w).entries) w
   rung_steps due.Nothing w = refl
+
+  alarmed_steps : (at : ℕ) (x : Alarm) (w : World) → (alarmed d token at x w).steps ≡ w.steps
+  alarmed_steps at (OfCall call what) w = signal_steps at (signal.Due call what) w
+  alarmed_steps at (OfSeat room seat what) w = seat_steps at (of_room.Due room seat what) w
 
   pub fired_steps : (now : ℕ) (x : Deadline) (w : World) → (fired d token now x w).steps ≡ w.steps + 1
   fired_steps now OfMessage w =
       let next = next_due now (live (begun w).acts) in
       rung_steps (says_due next) (record (begun w) { acts = fires (begun w).acts next })
-  fired_steps now (OfCall armed others) w = signal_steps armed.at (signal.Due armed.call armed.what) (record (begun w) { armed = others })
+  fired_steps now (OfAlarm armed others) w = alarmed_steps armed.at armed.alarm (record (begun w) { armed = others })
 
   -- ---- so many are enough
 
@@ -70,12 +92,24 @@ module _ (d : Directory) (token : List ℕ) where
 
   -- ---- firings only add
 
-  module _ (law : CallsDrawOn) where
+  module _ (law : AllDrawOn) where
+    pub silences : (at : ℕ) (branch method : List ℕ) (of_calls : Bool) (w : World) → Grows w (silenced d token at branch method of_calls w)
+    silences at branch method true w = signals law d token at (signal.Silent branch method) w
+    silences at branch method false w = seats law d token at (of_room.Silent branch method) w
+
+    pub ends_one : (at : ℕ) (key : TKey) (of_calls : Bool) (w : World) → Grows w (ended_of d token at key of_calls w)
+    ends_one at key true w = signals law d token at (signal.Over key) w
+    ends_one at key false w = seats law d token at (of_room.Over key) w
+
     pub rings : (x : Due) (w : World) → Grows w (rung d token x w)
     rings (due.Again peer at text) w = adds (offer.To peer at text ∷ []) w
-    rings (due.Silent key branch method at) w = signals law d token at (signal.Silent branch method) w
-    rings (due.Over key at) w = signals law d token at (signal.Over key) w
+    rings (due.Silent key branch method at) w = silences at branch method (is_of_calls (invite_silent branch method) (calls_in d w).entries) w
+    rings (due.Over key at) w = ends_one at key (is_key_of_calls key (calls_in d w).entries) w
     rings due.Nothing w = same w
+
+    pub alarms : (at : ℕ) (x : Alarm) (w : World) → Grows w (alarmed d token at x w)
+    alarms at (OfCall call what) w = signals law d token at (signal.Due call what) w
+    alarms at (OfSeat room seat what) w = seats law d token at (of_room.Due room seat what) w
 
     pub fires_in : (now : ℕ) (w : World) → Grows w (fired_in d token now w)
     fires_in now w =
@@ -87,11 +121,11 @@ module _ (d : Directory) (token : List ℕ) where
     strikes armed others w =
         let fewer : World = record w { armed = others } in
         let first : Grows w fewer = record { acts = omega arith; steps = omega arith; drawn = λ less. omega arith; front = ([], append-nil w.offers) } in
-        grows_on w fewer (struck d token armed others w) first (signals law d token armed.at (signal.Due armed.call armed.what) fewer)
+        grows_on w fewer (struck d token armed others w) first (alarms armed.at armed.alarm fewer)
 
     pub fires_next : (now : ℕ) (x : Deadline) (w : World) → Grows w (fired d token now x w)
     fires_next now OfMessage w = grows_on w (begun w) (fired d token now OfMessage w) (begins w) (fires_in now (begun w))
-    fires_next now (OfCall armed others) w = grows_on w (begun w) (fired d token now (OfCall armed others) w) (begins w) (strikes armed others (begun w))
+    fires_next now (OfAlarm armed others) w = grows_on w (begun w) (fired d token now (OfAlarm armed others) w) (begins w) (strikes armed others (begun w))
 
     fires_if : (now : ℕ) (o : Option Deadline) (w : World) → Grows w (fired_if d token now o w)
     fires_if now None w = same w

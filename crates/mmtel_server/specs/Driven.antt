@@ -20,6 +20,7 @@ use Rattle.mmtel_run.specs.Short.{IsShortRun}
 use Rattle.mmtel_call_heads.specs.Clean.{IsClean}
 use Rattle.mmtel_run_laws.specs.Clean.{SendsCleanMessages}
 use Rattle.mmtel_run_laws.specs.Outcome.{CallsComeToOutcome}
+use Rattle.mmtel_run_laws.specs.Rows.{SeatsAreChargedOnce}
 use Rattle.mmtel_run_secret.specs.Headline.{SeesAlike}
 use Rattle.mmtel_serving.specs.Calls.{Answers, Counted, MayBeCalled}
 use Rattle.mmtel_server.specs.Stands.{IsCut, Went}
@@ -168,6 +169,12 @@ CameToOutcome happened old out =
     (directory : Directory) (token : List ℕ) (loaded : Texts) (earlier : List Happened) (before : List Offer) →
     Went directory token loaded earlier before old out → IsShortRun directory token loaded (earlier ++ happened) → CallsComeToOutcome directory token loaded (earlier ++ happened)
 
+-- each seat of its rooms that was left was charged once
+abbrev pub ChargedSeats : List Happened → Server → List Offer → Type 0
+ChargedSeats happened old out =
+    (directory : Directory) (token : List ℕ) (loaded : Texts) (earlier : List Happened) (before : List Offer) →
+    Went directory token loaded earlier before old out → IsShortRun directory token loaded (earlier ++ happened) → SeatsAreChargedOnce directory token loaded (earlier ++ happened)
+
 -- and each text that is offered to a peer in it has its own lines and nobody else's, under a home domain and a token of one line each
 abbrev pub SentClean : List Happened → Server → List Offer → Type 0
 SentClean happened old out =
@@ -277,8 +284,9 @@ pub record Driven (ear later : Option Ear) (giving gave : ℕ) (held left : Opti
   pub keeper : KeeperWentOn happened old out held left calls after faults count result
   -- the charging rows that it took in the whole run, and behind them those that wait, are all that were closed in it, in their order,
   pub charged : Charged happened old out
-  -- each call comes to its outcome, and what is offered has its own lines,
+  -- each call comes to its outcome, each seat that was left was charged once, and what is offered has its own lines,
   pub outcome : CameToOutcome happened old out
+  pub seats : ChargedSeats happened old out
   pub clean : SentClean happened old out
   -- and the secret was kept
   pub kept : KeptAll happened old out now result

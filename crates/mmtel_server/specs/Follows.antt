@@ -1,40 +1,74 @@
 -- What a deed of the server does, whatever it stood for.
-use Rattle.std.specs.Prelude.{◌≡◌, ◌≤◌, ℕ, List, ◌∷◌, ◌++◌, ⊤}
-use Rattle.mmtel_b2bua.specs.Histories.{Hears, hears_after}
-use Rattle.mmtel_b2bua.specs.Tables.{Moved}
+use Rattle.std.specs.Prelude.{◌≡◌, ◌≤◌, ℕ, List, ◌∷◌, ◌++◌, ⊤, length}
+use Rattle.mmtel_b2bua.specs.Histories.{Deed, Drops, Finishes, Hears, finished_by, hears_after}
 use Rattle.mmtel_b2bua.specs.declared.signals.Signal.{Signal}
+use Rattle.mmtel_desk.specs.declared.desks.Desk.{Desk}
 use Rattle.mmtel_directory.specs.declared.directories.Directory.{Directory}
+use Rattle.mmtel_focus.specs.Histories as rooms
 use Rattle.mmtel_message.specs.Message.{Message}
 use Rattle.mmtel_message.specs.declared.messages.Start.{Start}
 use Rattle.mmtel_outside.specs.declared.events.Offer.{Offer}
 use Rattle.mmtel_run.specs.Calls.{site_of}
 use Rattle.mmtel_run.specs.Events.{Happened, moment_of, notice_of}
 use Rattle.mmtel_run.specs.Run.{IsSettled, clock_at, one_more}
-use Rattle.mmtel_run.specs.Short.{IsShort}
-use Rattle.mmtel_run.specs.World.{World, heard_now}
+use Rattle.mmtel_run.specs.Short.{CallsDrawOn, CallsEndOn, IsShort, RoomsDrawOn}
+use Rattle.mmtel_run.specs.World.{World, calls_in, comes_of, heard_now, tokens_now}
 use Rattle.mmtel_transaction.specs.declared.words.Due.{Due}
 use Rattle.mmtel_transaction.specs.declared.words.Emit.{Emit}
 use Rattle.mmtel_transaction.specs.declared.words.Due.TheVariants as due
 use Rattle.mmtel_transaction.specs.declared.words.Heard.{Heard}
 use Rattle.mmtel_transaction.specs.declared.words.Heard.TheVariants as heard
+use Rattle.mmtel_types.specs.declared.numbers.CallNo.{CallNo}
 use Rattle.mmtel_server.specs.Stands.{Did, IsCut}
 use Rattle.mmtel_server.specs.declared.servers.Server.{Server}
 
--- ---- calls
+-- ---- calls and rooms
 
--- what calls bring forth on a signal
-abbrev pub moved_in : Directory → (token : List ℕ) → ℕ → Signal → World → Moved
-moved_in directory token at signal world = hears_after (site_of directory) world.deeds (heard_now token at signal world)
+-- whatever is done on them, no number is drawn back
+pub record AllDrawOn : Type 0 where
+  pub calls : CallsDrawOn
+  pub ends : CallsEndOn
+  pub rooms : RoomsDrawOn
 
--- they heard it, and nothing of that is done yet
-abbrev pub heard_in : Directory → (token : List ℕ) → ℕ → Signal → World → World
-heard_in directory token at signal world = record world { deeds = Hears (heard_now token at signal world) ∷ world.deeds; drawn = (moved_in directory token at signal world).desk.tokens.drawn }
+-- this was done on the calls, and its rows were taken from them; nothing of what came of it is emitted yet
+abbrev pub brought_in : Deed → Desk → World → World
+brought_in deed desk world = record world { deeds = Drops (length desk.rows) ∷ deed ∷ world.deeds; drawn = desk.tokens.drawn; waiting = world.waiting ++ desk.rows }
 
--- it stands for that, and these are to be done
-abbrev pub CallsHear : Server → Server → ℕ → Signal → List Emit → Type 0
-CallsHear old new at signal emits =
+-- the same of the rooms, by a deed by which no number was drawn, and by one by which so many were
+abbrev pub lodged_in : rooms.Deed → Desk → World → World
+lodged_in deed desk world = record world { rooms = rooms.Drops (length desk.rows) ∷ deed ∷ world.rooms; waiting = world.waiting ++ desk.rows }
+
+abbrev pub housed_in : rooms.Deed → Desk → World → World
+housed_in deed desk world = lodged_in deed desk (record world { drawn = desk.tokens.drawn })
+
+-- whatever it stood for, it stands for what is there now, and these are to be emitted
+abbrev pub HasDone : Server → Server → (desk : Directory → List ℕ → World → Desk) → (there : Directory → List ℕ → World → World) → List Emit → Type 0
+HasDone old new desk there emits =
     (directory : Directory) (token : List ℕ) (before out : List Offer) (world : World) → Did directory token before old out world →
-    (emits ≡ (moved_in directory token at signal world).desk.out) × Did directory token before new out (heard_in directory token at signal world)
+    (emits ≡ (desk directory token world).out) × Did directory token before new out (there directory token world)
+
+-- what comes of a signal that the calls hear, and of the end of a call whose leg is away
+abbrev pub desk_of : Directory → (token : List ℕ) → ℕ → Signal → World → Desk
+desk_of directory token at signal world = (hears_after (site_of directory) world.deeds (heard_now token at signal world)).desk
+
+abbrev pub desk_at_end : Directory → (token : List ℕ) → ℕ → CallNo → World → Desk
+desk_at_end directory token at call world = (finished_by (site_of directory) call.0 at (tokens_now token world) (calls_in directory world)).desk
+
+abbrev pub CallsHear : Server → Server → ℕ → Signal → List Emit → Type 0
+CallsHear old new at signal emits = HasDone old new (λ d token. desk_of d token at signal) (λ d token world. brought_in (Hears (heard_now token at signal world)) (desk_of d token at signal world) world) emits
+
+abbrev pub CallEnds : Server → Server → ℕ → CallNo → List Emit → Type 0
+CallEnds old new at call emits =
+    HasDone old new (λ d token. desk_at_end d token at call) (λ d token world. brought_in (Finishes call.0 at (tokens_now token world)) (desk_at_end d token at call world) world) emits
+
+-- a deed on the rooms, by which no number was drawn, or some may have been
+abbrev pub RoomsOpen : Server → Server → (Directory → List ℕ → World → rooms.Deed) → List Emit → Type 0
+RoomsOpen old new deed emits =
+    HasDone old new (λ d token world. comes_of d (deed d token world) world) (λ d token world. lodged_in (deed d token world) (comes_of d (deed d token world) world) world) emits
+
+abbrev pub RoomsDo : Server → Server → (Directory → List ℕ → World → rooms.Deed) → List Emit → Type 0
+RoomsDo old new deed emits =
+    HasDone old new (λ d token world. comes_of d (deed d token world) world) (λ d token world. housed_in (deed d token world) (comes_of d (deed d token world) world) world) emits
 
 -- ---- deeds
 

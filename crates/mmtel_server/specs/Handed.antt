@@ -7,12 +7,11 @@ use Rattle.mmtel_in_force.specs.Texts.{Texts}
 use Rattle.mmtel_keeper.specs.Kept.{Held, KeeperCalls, with_rows}
 use Rattle.mmtel_outside.specs.Counts.{Rose}
 use Rattle.mmtel_outside.specs.declared.events.Offer.{Offer}
-use Rattle.mmtel_run.specs.Calls.{site_of}
 use Rattle.mmtel_run.specs.Events.{Happened}
-use Rattle.mmtel_run.specs.Filed.{rows_closed}
+use Rattle.mmtel_run.specs.Filed.{AreFiled}
 use Rattle.mmtel_run.specs.Run.{IsEnough, world_after}
 use Rattle.mmtel_run.specs.Short.{IsShortRun}
-use Rattle.mmtel_run.specs.World.{World, rows_waiting}
+use Rattle.mmtel_run.specs.World.{World}
 use Rattle.mmtel_serving.specs.Calls.{MayBeCalled, WasCalled}
 use Rattle.mmtel_server.specs.Stands.{Went}
 use Rattle.mmtel_server.specs.declared.servers.Server.{Server}
@@ -49,10 +48,10 @@ took_last (one ∷ other ∷ happened) = took_last (other ∷ happened)
 
 -- where a world has come of these events
 pub record RowsCharged (directory : Directory) (world : World) (happened : List Happened) : Type 0 where
-  -- the rows that the keeper took in the whole run, and behind them those that wait, are all the rows that its calls closed, in the order in which they were closed: none is lost, and none comes twice;
-  pub all : world.filed ++ rows_waiting directory world ≡ rows_closed (site_of directory) world.deeds
+  -- the rows that the keeper took in the whole run, and behind them those that wait, are all the rows that its calls closed and all those of the seats that were left, each in the order in which they were closed: none is lost, and none comes twice;
+  pub all : AreFiled directory world
   -- and none waits behind an event at whose end the keeper took what was handed to it
-  pub none : took_last happened ≡ true → rows_waiting directory world ≡ []
+  pub none : took_last happened ≡ true → world.waiting ≡ []
 
 -- whatever run the server went through, so it is of that run and what happened here
 abbrev pub Charged : List Happened → Server → List Offer → Type 0

@@ -2,13 +2,14 @@
 use Rattle.std.specs.Prelude.{◌≡◌, ℕ, false, List, [], ◌∷◌, ◌++◌}
 use Rattle.mmtel_b2bua.specs.Histories.{CallsView}
 use Rattle.mmtel_directory.specs.declared.directories.Directory.{Directory}
+use Rattle.mmtel_focus.specs.Histories.{RoomsView}
 use Rattle.mmtel_outside.specs.declared.events.Offer.{Offer}
 use Rattle.mmtel_in_force.specs.Held.{IsRegisteredBy}
 use Rattle.mmtel_in_force.specs.Texts.{Texts}
 use Rattle.mmtel_run.specs.Events.{Happened}
 use Rattle.mmtel_run.specs.Run.{IsEnough, gives, world_after}
 use Rattle.mmtel_run.specs.Short.{IsShortRun}
-use Rattle.mmtel_run.specs.World.{World, calls_in}
+use Rattle.mmtel_run.specs.World.{World, calls_in, rooms_in}
 use Rattle.mmtel_server.specs.Arming.{queue_of}
 use Rattle.mmtel_server.specs.declared.servers.Server.{Server}
 use Rattle.mmtel_transaction.specs.Stands as transactions
@@ -16,6 +17,10 @@ use Rattle.mmtel_transaction.specs.Stands as transactions
 -- the calls of a server of this configuration
 abbrev pub calls_of : Directory → World → CallsView
 calls_of directory world = record { sip = directory.sip; home = directory.home; bound = directory.bound; table = calls_in directory world; has_failed = false }
+
+-- and its rooms
+abbrev pub rooms_of : Directory → World → RoomsView
+rooms_of directory world = record { sip = directory.sip; mixer = directory.mixer; table = rooms_in directory world; has_failed = false }
 
 -- what a server keeps of what was done; one that has failed for want of memory stands for nothing
 pub record Stands (directory : Directory) (token : List ℕ) (server : Server) (world : World) : Type 0 where
@@ -27,10 +32,15 @@ pub record Stands (directory : Directory) (token : List ℕ) (server : Server) (
   -- the records in force, and the registrations
   pub texts : server.records.texts.texts ≡ world.texts
   pub registered : IsRegisteredBy server.records world.registrations
-  -- the calls, as they stand after what was done on them, with the rows that wait
+  -- the calls and the rooms, as they stand after what was done on them
   pub calls : server.calls ≡ calls_of directory world
+  pub rooms : server.rooms ≡ rooms_of directory world
   -- their deadlines
   pub armed : queue_of server.armed ≡ world.armed
+  -- the rows that wait: each was taken from the calls or the rooms as soon as it was closed
+  pub waiting : server.waiting ≡ world.waiting
+  pub drained : (calls_in directory world).rows ≡ []
+  pub cleared : (rooms_in directory world).rows ≡ []
   pub whole : server.failed ≡ false
 
 -- it stands for that, and this was offered behind what stood there before

@@ -15,7 +15,7 @@ use Rattle.mmtel_run.specs.Short.{IsShortRun}
 use Rattle.mmtel_serving.specs.Calls.{Answers, Call, Counted, call_in, none}
 use Rattle.mmtel_web.specs.Answers.{Kept}
 use Rattle.mmtel_run.specs.Short.{IsShort}
-use Rattle.mmtel_run.specs.World.{World, came, rows_waiting}
+use Rattle.mmtel_run.specs.World.{World, came}
 use Rattle.mmtel_server.specs.Follows.{Follows, IsReady, going}
 use Rattle.mmtel_server.specs.Handed.{Charged, Handed, HandedCounted, StoppedHanding, left_of, taken_of}
 use Rattle.mmtel_server.specs.Stands.{Did, GoesOn, Went}
@@ -46,7 +46,7 @@ WaitedIn old out one waiting =
     IsEnough directory token loaded fuel (happened ++ one ∷ []) →
     let world : World = world_after directory token loaded fuel happened in
     let later : World = world_after directory token loaded fuel (happened ++ one ∷ []) in
-    (later.filed ≡ world.filed ++ taken_of one.took waiting) × (rows_waiting directory later ≡ left_of one.took waiting)
+    (later.filed ≡ world.filed ++ taken_of one.took waiting) × (later.waiting ≡ left_of one.took waiting)
 
 -- the server and the offers before and after, and what the keeper tells and counts before and after
 pub record Stepped (old : Server) (out : List Offer) (new : Server) (now : List Offer) (event : Event) (held later : Option Held) (calls after : Option KeeperCalls) (faults count : ℕ) : Type 0 where
@@ -102,7 +102,7 @@ WaitedAfter old out one waiting =
     (directory : Directory) (token : List ℕ) (before : List Offer) (world : World) (fuel : ℕ) →
     Did directory token before old out world → IsReady fuel one directory token world → IsShort (going fuel one directory token world) →
     let later : World = going fuel one directory token world in
-    (later.filed ≡ world.filed ++ taken_of one.took waiting) × (rows_waiting directory later ≡ left_of one.took waiting)
+    (later.filed ≡ world.filed ++ taken_of one.took waiting) × (later.waiting ≡ left_of one.took waiting)
 
 -- what one event gave: the server stands for it when the clock stands so
 pub record Came (old : Server) (out : List Offer) (new : Server) (now : List Offer) (at : ℕ) (event : Event) (kept : Kept) (rows : List Row) (took : Bool)
@@ -117,7 +117,7 @@ pub record Came (old : Server) (out : List Offer) (new : Server) (now : List Off
   pub waited : (directory : Directory) (token : List ℕ) (before : List Offer) (world : World) → Did directory token before old out world →
       IsShort (came directory token at (digest_event directory event kept rows) took world) →
       let later : World = came directory token at (digest_event directory event kept rows) took world in
-      (later.filed ≡ world.filed ++ taken_of took waiting) × (rows_waiting directory later ≡ left_of took waiting)
+      (later.filed ≡ world.filed ++ taken_of took waiting) × (later.waiting ≡ left_of took waiting)
   pub handed : Handed took waiting between later midst after
   pub handed_counted : HandedCounted took mid count
 

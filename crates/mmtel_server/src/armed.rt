@@ -1,32 +1,61 @@
-//! The deadlines of calls (RFC 3261 §13.3.1.4, TS 24.604 §4.8), and which of them comes first.
+//! The deadlines of calls and of seats of rooms (RFC 3261 §13.3.1.4, TS 24.604 §4.8, RFC 3515 §2.4.5), and which of them comes first.
 ghost use Rattle.std.specs.Prelude.{◌≡◌, ◌<◌, length, IfSome};
 ghost use Rattle.mmtel_run.specs.Deadlines.{first_armed, is_sooner, rank};
-ghost use Rattle.mmtel_server.specs.Arming.{armed_in, chosen_at, queue_of, sooner_place};
+ghost use Rattle.mmtel_server.specs.Arming.{alarm_in, armed_in, chosen_at, queue_of, sooner_place};
 
-use mmtel_transaction::DueWord;
-use mmtel_types::CallNo;
+use mmtel_transaction::{DueWord, RoomWord};
+use mmtel_types::{CallNo, RoomNo};
 
-/// A deadline of a call that did not fire.
+/// What is due.
+#[derive(Clone, Copy)]
+pub enum Alarm {
+    /// Of a call.
+    OfCall {
+        /// The call.
+        call: CallNo,
+        /// What it is.
+        what: DueWord,
+    },
+    /// Of a seat of a conference room.
+    OfSeat {
+        /// The room.
+        room: RoomNo,
+        /// The number of the seat.
+        seat: u64,
+        /// What it is.
+        what: RoomWord,
+    },
+}
+
+/// A deadline of a call or of a seat that did not fire.
 #[derive(Clone, Copy)]
 pub struct Armed {
-    /// The call.
-    pub call: CallNo,
     /// What is due.
-    pub what: DueWord,
+    pub alarm: Alarm,
     /// Its moment, in milliseconds since 1970-01-01T00:00:00Z.
     pub at: u64,
     /// The step in which it was armed.
     pub step: u64,
 }
 
-/// The order of those of one call that were armed in one step for one moment.
-fn rank(what: DueWord) -> u64
-    ensures { result ≡ rank what }
+/// The order of those that were armed in one step for one moment.
+fn rank(alarm: Alarm) -> u64
+    ensures { result ≡ rank (alarm_in alarm) }
 {
-    match what {
-        DueWord::NoReply(_) => 0,
-        DueWord::Cap(_) => 1,
-        DueWord::NoAck(_) => 2,
+    match alarm {
+        Alarm::OfCall { call: _, what } => match what {
+            DueWord::NoReply(_) => 0,
+            DueWord::Cap(_) => 1,
+            DueWord::NoAck(_) => 2,
+        },
+        Alarm::OfSeat {
+            room: _,
+            seat: _,
+            what,
+        } => match what {
+            RoomWord::Cap(_) => 1,
+            RoomWord::NoAck(_) => 2,
+        },
     }
 }
 
@@ -37,7 +66,7 @@ fn is_sooner(one: &Armed, other: &Armed) -> bool
     one.at < other.at
         || (one.at == other.at
             && (one.step < other.step
-                || (one.step == other.step && rank(one.what) < rank(other.what))))
+                || (one.step == other.step && rank(one.alarm) < rank(other.alarm))))
 }
 
 /// The place of the one that comes first, of the one at a place and the first of those behind it.

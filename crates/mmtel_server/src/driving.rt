@@ -9,15 +9,17 @@ ghost use Rattle.mmtel_server.specs.Stepped.{AskedIn, Stepped, StoppedAt, happen
 ghost use Rattle.mmtel_server.specs.Turns.{HasRead, IsReading, ReadsOn, Takes, is_unfinished};
 ghost use Rattle.mmtel_web.specs.Answers.{Kept};
 
-use crate::laws::servers_offer_what_runs_give;
+use crate::laws::{numbers_are_drawn_on, servers_offer_what_runs_give};
 use crate::servers::Server;
 use mmtel_http::laws::whole_requests_stand;
 use mmtel_http::{Whole, whole};
 use mmtel_keeper::Keeper;
 use mmtel_link::{Arrival, Event, Link};
 use mmtel_outside::Offer;
-use mmtel_run::{calls_draw_on, enough_comes, rows_are_filed};
-use mmtel_run_laws::{calls_of_runs_come_to_their_outcome, runs_send_clean_messages};
+use mmtel_run::{enough_comes, rows_are_filed};
+use mmtel_run_laws::{
+    calls_of_runs_come_to_their_outcome, runs_send_clean_messages, seats_of_runs_are_charged_once,
+};
 use mmtel_scan::{List, NoMemory, Text};
 use mmtel_types::Failed;
 use std::alloc::Global;
@@ -172,10 +174,11 @@ pub fn drive<L: Link, K: Keeper>(
     ensures calls { CalledWithin (L.calls link.old) (L.calls link.new) (turns * calls_a_turn) }
     ensures cause { HasDriveCause (L.taking link.old) (L.taking link.new) result }
 {
-    calls_draw_on();
+    numbers_are_drawn_on();
     enough_comes();
     rows_are_filed();
     calls_of_runs_come_to_their_outcome();
+    seats_of_runs_are_charged_once();
     runs_send_clean_messages();
     servers_offer_what_runs_give();
     'turns: for _turn in 0..turns {

@@ -1,7 +1,9 @@
 //! Laws of what a server went through: each is the contract of a function that does nothing.
+ghost use Rattle.mmtel_server.specs.Follows.{AllDrawOn};
 ghost use Rattle.mmtel_server.specs.Laws.{ReadOutSaysAll, UnfailedAreReadOut, WentGives, WentSeesAlike};
 
 use mmtel_http::laws::whole_requests_stand;
+use mmtel_run::{calls_draw_on, rooms_draw_on};
 use mmtel_run_secret::runs_keep_the_secret;
 
 /// Whatever a server went through from its beginning, it offered exactly what the run gives.
@@ -19,4 +21,12 @@ pub fn connections_are_read_out()
     ensures all { ReadOutSaysAll }
 {
     whole_requests_stand();
+}
+
+/// Whatever is done on calls and rooms, no number is drawn back.
+pub(crate) fn numbers_are_drawn_on()
+    ensures { AllDrawOn }
+{
+    calls_draw_on();
+    rooms_draw_on();
 }

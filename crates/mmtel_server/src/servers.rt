@@ -5,11 +5,15 @@ mod deadlines;
 mod deeds;
 mod messages;
 mod requests;
+mod rooms;
+mod rows;
 mod steps;
 
 use crate::armed::Armed;
 use mmtel_b2bua::Calls;
+use mmtel_charging::Row;
 use mmtel_directory::Directory;
+use mmtel_focus::Rooms;
 use mmtel_in_force::Records;
 use mmtel_scan::List;
 use mmtel_transaction::{Tokens, Transactions};
@@ -23,10 +27,14 @@ pub struct Server {
     tokens: Tokens,
     /// The transactions.
     transactions: Transactions,
-    /// The calls, and the charging rows that wait for the keeper.
+    /// The calls.
     calls: Calls,
-    /// The deadlines of calls that did not fire, in the order in which they were armed.
+    /// The conference rooms.
+    rooms: Rooms,
+    /// The deadlines of calls and of seats that did not fire, in the order in which they were armed.
     armed: List<Armed>,
+    /// The charging rows that wait for the keeper, in the order in which they were closed: each is taken from the calls or the rooms as soon as they have closed it.
+    waiting: List<Row>,
     /// The records in force, and the registrations.
     records: Records,
     /// The greatest moment so far.

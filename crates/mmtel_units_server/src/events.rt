@@ -21,14 +21,32 @@ account 2 sip:bob@home.example
 operator sip:op@home.example
 ";
 
-/// That configuration; None for want of memory.
-pub fn directory(alloc: Global) -> Option<Directory>
+/// A trusted peer, an account, where the mixer takes media, and the URI at which rooms are made.
+const WITH_ROOMS: &str = "sip 127.0.0.1:5060
+home home.example
+peer 1 127.0.0.1:5071 trusted
+route home.example 1
+account 1 sip:alice@home.example
+operator sip:op@home.example
+mixer 127.0.0.1 40000
+factory sip:conf@home.example
+";
+
+/// The configuration of this text; None for want of memory.
+fn directory_of(alloc: Global, config: &str) -> Option<Directory>
     ensures { IfSome result (λ directory. directory.bound ≤ 16) }
 {
-    match read_directory(alloc, CONFIG.as_bytes()) {
+    match read_directory(alloc, config.as_bytes()) {
         Ok(directory) => Some(directory),
         Err(_) => None,
     }
+}
+
+/// The configuration of the tests; None for want of memory.
+pub fn directory(alloc: Global) -> Option<Directory>
+    ensures { IfSome result (λ directory. directory.bound ≤ 16) }
+{
+    directory_of(alloc, CONFIG)
 }
 
 /// The texts of records, each of an account.
@@ -52,6 +70,11 @@ pub fn server_over(alloc: Global, directory: Directory, records: &[(u32, &str)])
 /// A server of the tests' configuration, for which no record was loaded; None for want of memory.
 pub fn server(alloc: Global) -> Option<Server> {
     server_over(alloc, directory(alloc)?, &[])
+}
+
+/// A server of the configuration with rooms; None for want of memory.
+pub fn server_with_rooms(alloc: Global) -> Option<Server> {
+    server_over(alloc, directory_of(alloc, WITH_ROOMS)?, &[])
 }
 
 /// These numbers, as a list.
@@ -128,6 +151,84 @@ pub const AGAIN: &str = "at 500 to 2
 |
 ";
 
+/// Alice comes to the factory of rooms, with audio.
+const TO_FACTORY: &str = "INVITE sip:conf@home.example SIP/2.0\r
+Via: SIP/2.0/UDP 127.0.0.1:5071;branch=z9hG4bKc2\r
+Max-Forwards: 68\r
+From: \"Alice\" <sip:alice@home.example>;tag=t2\r
+To: <sip:conf@home.example>\r
+Call-ID: call2\r
+CSeq: 7 INVITE\r
+Contact: <sip:alice@127.0.0.1:5071>\r
+P-Asserted-Identity: <sip:alice@home.example>\r
+Content-Type: application/sdp\r
+Content-Length: 123\r
+\r
+v=0\r
+o=- 1 1 IN IP4 127.0.0.1\r
+s=-\r
+c=IN IP4 127.0.0.1\r
+t=0 0\r
+m=audio 5004 RTP/AVP 8 0\r
+a=rtpmap:8 PCMA/8000\r
+a=sendrecv\r
+";
+
+/// Her ACK of the 2xx.
+const ACKNOWLEDGED: &str = "ACK sip:room-1@127.0.0.1:5060 SIP/2.0\r
+Via: SIP/2.0/UDP 127.0.0.1:5071;branch=z9hG4bKk2\r
+Max-Forwards: 68\r
+From: \"Alice\" <sip:alice@home.example>;tag=t2\r
+To: <sip:conf@home.example>;tag=0123456789abcdef-1\r
+Call-ID: call2\r
+CSeq: 7 ACK\r
+Content-Length: 0\r
+\r
+";
+
+/// She leaves her seat.
+const LEFT: &str = "BYE sip:room-1@127.0.0.1:5060 SIP/2.0\r
+Via: SIP/2.0/UDP 127.0.0.1:5071;branch=z9hG4bKy2\r
+Max-Forwards: 68\r
+From: \"Alice\" <sip:alice@home.example>;tag=t2\r
+To: <sip:conf@home.example>;tag=0123456789abcdef-1\r
+Call-ID: call2\r
+CSeq: 9 BYE\r
+Content-Length: 0\r
+\r
+";
+
+/// What is offered for these: the 200 of the room, with what its mixer takes, and the 200 of her BYE (RFC 4579 §5.4).
+pub const SEATED: &str = "at 1000 to 1
+|SIP/2.0 200 OK
+|Via: SIP/2.0/UDP 127.0.0.1:5071;branch=z9hG4bKc2
+|From: \"Alice\" <sip:alice@home.example>;tag=t2
+|To: <sip:conf@home.example>;tag=0123456789abcdef-1
+|Call-ID: call2
+|CSeq: 7 INVITE
+|Contact: <sip:room-1@127.0.0.1:5060>;isfocus
+|Content-Type: application/sdp
+|Content-Length: 126
+|
+|v=0
+|o=mixer 1 1 IN IP4 127.0.0.1
+|s=-
+|c=IN IP4 127.0.0.1
+|t=0 0
+|m=audio 40000 RTP/AVP 8
+|a=rtpmap:8 PCMA/8000
+|a=sendrecv
+at 4000 to 1
+|SIP/2.0 200 OK
+|Via: SIP/2.0/UDP 127.0.0.1:5071;branch=z9hG4bKy2
+|From: \"Alice\" <sip:alice@home.example>;tag=t2
+|To: <sip:conf@home.example>;tag=0123456789abcdef-1
+|Call-ID: call2
+|CSeq: 9 BYE
+|Content-Length: 0
+|
+";
+
 fn moment(ms: u16) -> Moment {
     match Moment::new(u64::from(ms)) {
         Some(moment) => moment,
@@ -177,7 +278,14 @@ impl Events {
         self.add(alloc, Event::Quiet { at: moment(ms) });
     }
 
-    /// Her INVITE, a web connection, a datagram of nobody, and nothing up to 500.
+    /// Alice opens a room, and leaves it.
+    pub fn add_seat(&mut self, alloc: Global) {
+        self.add_datagram(alloc, 5071, 1000, TO_FACTORY);
+        self.add_datagram(alloc, 5071, 1100, ACKNOWLEDGED);
+        self.add_datagram(alloc, 5071, 4000, LEFT);
+    }
+
+    /// Erin's INVITE, a web connection, a datagram of nobody, and nothing up to 500.
     pub fn add_run(&mut self, alloc: Global) {
         self.add_datagram(alloc, 5071, 0, RESTRICTED);
         self.add_web(alloc, 200);

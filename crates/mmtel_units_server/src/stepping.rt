@@ -1,6 +1,6 @@
 //! Steps of a server.
 
-use crate::events::{AGAIN, Events, OPENING, UNASKED, keeper, server};
+use crate::events::{AGAIN, Events, OPENING, SEATED, UNASKED, keeper, server, server_with_rooms};
 use crate::pages::Page;
 use mmtel_keeper::MemoryKeeper;
 use mmtel_link::Event;
@@ -25,10 +25,14 @@ pub fn step_all(
     page.add_offers(alloc, &out);
 }
 
-/// The same of the run of the tests, with the charging rows that wait.
-fn run_all(alloc: Global, mut server: Server, mut keeper: MemoryKeeper, page: &mut Page) {
-    let mut events = Events::new();
-    events.add_run(alloc);
+/// The same of a run, with the charging rows that wait.
+fn run_all(
+    alloc: Global,
+    events: &Events,
+    mut server: Server,
+    mut keeper: MemoryKeeper,
+    page: &mut Page,
+) {
     if events.failed {
         page.fail();
     }
@@ -43,9 +47,11 @@ fn run_all(alloc: Global, mut server: Server, mut keeper: MemoryKeeper, page: &m
 fn steps_of_a_run(rt: HostRuntime) {
     let alloc = rt.alloc();
     let mut page = Page::new();
+    let mut events = Events::new();
+    events.add_run(alloc);
     match keeper(alloc, &[]) {
         Some(keeper) => match server(alloc) {
-            Some(server) => run_all(alloc, server, keeper, &mut page),
+            Some(server) => run_all(alloc, &events, server, keeper, &mut page),
             None => page.fail(),
         },
         None => page.fail(),
@@ -55,5 +61,25 @@ fn steps_of_a_run(rt: HostRuntime) {
     due.add(alloc, UNASKED);
     due.add(alloc, AGAIN);
     due.add(alloc, "rows 0\n");
+    assert!(rt; due.is_like(&page));
+}
+
+/// A room is opened and its seat is left; the keeper does not take the row, which waits.
+#[test]
+fn steps_of_a_room(rt: HostRuntime) {
+    let alloc = rt.alloc();
+    let mut page = Page::new();
+    let mut events = Events::new();
+    events.add_seat(alloc);
+    match keeper(alloc, &[1]) {
+        Some(keeper) => match server_with_rooms(alloc) {
+            Some(server) => run_all(alloc, &events, server, keeper, &mut page),
+            None => page.fail(),
+        },
+        None => page.fail(),
+    }
+    let mut due = Page::new();
+    due.add(alloc, SEATED);
+    due.add(alloc, "rows 1\n");
     assert!(rt; due.is_like(&page));
 }

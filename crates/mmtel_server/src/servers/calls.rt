@@ -1,30 +1,51 @@
 //! What the calls hear, and what is done of it.
-ghost use Rattle.std.specs.Prelude.{◌≡◌, IfOk, OnErr, OnOk, Some, false};
+ghost use Rattle.std.specs.Prelude.{◌≡◌, ℕ, List, IfOk, OnErr, OnOk, Some, false, true};
+ghost use Rattle.std.specs.Option.{option_copied, option_map};
+ghost use Rattle.mmtel_b2bua.specs.Lending.{entry_of, is_away};
 ghost use Rattle.mmtel_b2bua.specs.Tables.{is_full, is_opening};
-ghost use Rattle.mmtel_run.specs.Calls.{are_full, arrived};
-ghost use Rattle.mmtel_run.specs.World.{acknowledging, cancelling, signalled};
+ghost use Rattle.mmtel_directory.specs.declared.directories.Directory.{Directory};
+ghost use Rattle.mmtel_intake.specs.Courses.{holder_in};
+ghost use Rattle.mmtel_intake.specs.Dialogs.{name_in};
+ghost use Rattle.mmtel_run.specs.Calls.{are_full, arrived, find_dialog};
+ghost use Rattle.mmtel_run.specs.Rooms.{find_seat, in_call_or, in_room};
+ghost use Rattle.mmtel_run.specs.World.{World, acknowledging, acknowledging_by, calls_in, cancelling, finishing, responding, rooms_in, signalled};
 ghost use Rattle.mmtel_server.specs.Calling.{Names};
-ghost use Rattle.mmtel_server.specs.Follows.{Breaks, CallsHear, Follows};
+ghost use Rattle.mmtel_server.specs.Follows.{Breaks, CallEnds, CallsHear, Follows};
+ghost use Rattle.mmtel_server.specs.Stands.{Stands};
 
 use super::Server;
+use super::rows::take_rows_of_calls;
+use crate::laws::numbers_are_drawn_on;
 use mmtel_answers::Hearing;
 use mmtel_b2bua::{CallFault, Signal};
-use mmtel_intake::{arrived, dialog_name, plainly};
+use mmtel_call::invite_answered;
+use mmtel_focus::RoomSignal;
+use mmtel_intake::{DialogName, Holder, arrived, dialog_name, plainly};
 use mmtel_outside::Offer;
-use mmtel_run::{calls_draw_on, records_are_those_kept};
-use mmtel_scan::{List, NoMemory};
+use mmtel_run::records_are_those_kept;
+use mmtel_scan::{List, NoMemory, Text};
 use mmtel_transaction::{Emits, TKey};
-use mmtel_types::{CallNo, Moment, Side};
+use mmtel_types::{CallNo, Moment};
 use std::alloc::Global;
 
+/// The bytes of a text, where there is one.
+fn bytes_of(text: &Option<Text>) -> Option<&[u8]>
+    ensures { option_copied result ≡ text.now }
+{
+    match text {
+        None => None,
+        Some(text) => Some(text.bytes()),
+    }
+}
+
 impl Server {
-    /// What the calls bring forth on a signal that opens none too many, with what is in force and the tokens.
+    /// What the calls bring forth on a signal that opens none too many, with what is in force and the tokens; their rows are taken from them.
     fn tell_calls(&mut self, alloc: Global, signal: Signal, at: Moment) -> Result<Emits, NoMemory>
         requires { is_full signal self.old.calls.table.entries ≡ false }
         ensures { IfOk result (λ emits. CallsHear self.old self.new at signal emits) }
     {
         records_are_those_kept();
-        calls_draw_on();
+        numbers_are_drawn_on();
         match self.calls.signal(
             alloc,
             signal,
@@ -34,7 +55,10 @@ impl Server {
             &mut self.tokens,
             at,
         ) {
-            Ok(emits) => Ok(emits),
+            Ok(emits) => {
+                take_rows_of_calls(alloc, &mut self.calls, &mut self.waiting)?;
+                Ok(emits)
+            }
             Err(CallFault::Full(_)) => unreachable!(),
             Err(CallFault::NoMemory) => Err(NoMemory),
         }
@@ -56,7 +80,7 @@ impl Server {
         ensures done { OnOk result (Follows self.old out.old self.new out.new (λ d token. signalled d token at signal)) }
         ensures err { OnErr result (Breaks self.old out.old out.new (λ d token. signalled d token at signal)) }
     {
-        calls_draw_on();
+        numbers_are_drawn_on();
         let emits = self.tell_calls(alloc, signal, at)?;
         self.emit_all(alloc, emits.items(), at, out)
     }
@@ -97,29 +121,97 @@ impl Server {
         ensures done { OnOk result (Follows self.old out.old self.new out.new (λ d token. signalled d token at (arrived d.names.accounts key invite))) }
         ensures err { OnErr result (Breaks self.old out.old out.new (λ d token. signalled d token at (arrived d.names.accounts key invite))) }
     {
-        calls_draw_on();
+        numbers_are_drawn_on();
         let signal = arrived(alloc, &self.directory.names.accounts, key, invite)?;
         self.bring(alloc, signal, at, out)
     }
 
-    /// The call that lives and the side whose dialog a message names (RFC 3261 §12.2.2).
-    pub(super) fn named(
-        &self,
+    /// What the calls bring forth where one of them, whose leg is away, ends; their rows are taken from them.
+    fn end_call(&mut self, alloc: Global, call: CallNo, at: Moment) -> Result<Emits, NoMemory>
+        requires { is_away (entry_of call.0 self.old.calls.table.entries) ≡ true }
+        ensures { IfOk result (λ emits. CallEnds self.old self.new at call emits) }
+    {
+        numbers_are_drawn_on();
+        let emits = self.calls.finish(
+            alloc,
+            call,
+            &self.directory.peers,
+            &self.directory.names.accounts,
+            &mut self.tokens,
+            at,
+        )?;
+        take_rows_of_calls(alloc, &mut self.calls, &mut self.waiting)?;
+        Ok(emits)
+    }
+
+    /// A call whose leg is away ends without it.
+    ///
+    /// # Errors
+    ///
+    /// Want of memory alone; a front of what is to be offered is then offered.
+    pub(super) fn finish(
+        &mut self,
         alloc: Global,
-        message: &Hearing,
-    ) -> Result<Option<(CallNo, Side)>, NoMemory>
+        call: CallNo,
+        at: Moment,
+        out: &mut List<Offer>,
+    ) -> Result<(), NoMemory>
+        requires { is_away (entry_of call.0 self.old.calls.table.entries) ≡ true }
+        ensures done { OnOk result (Follows self.old out.old self.new out.new (λ d token. finishing d token at call)) }
+        ensures err { OnErr result (Breaks self.old out.old out.new (λ d token. finishing d token at call)) }
+    {
+        numbers_are_drawn_on();
+        let emits = self.end_call(alloc, call, at)?;
+        self.emit_all(alloc, emits.items(), at, out)
+    }
+
+    /// Who has the dialog of this name: a side of a call, or else a seat of a room.
+    fn holder(&self, name: &DialogName) -> Option<Holder>
+        ensures { (directory : Directory) (token : List ℕ) (world : World) → Stands directory token self.now world →
+            option_map holder_in result ≡ in_call_or (in_room (find_seat (Some (name_in name.now)) (rooms_in directory world).live)) (find_dialog (Some (name_in name.now)) (calls_in directory world).entries) }
+    {
+        let call_id = name.call_id.bytes();
+        let local = name.local.bytes();
+        let remote = name.remote.bytes();
+        match self.calls.find(call_id, local, remote) {
+            Some((call, side)) => Some(Holder::InCall { call, side }),
+            None => match self.rooms.find(call_id, local, remote) {
+                Some((room, seat)) => Some(Holder::InRoom { room, seat }),
+                None => None,
+            },
+        }
+    }
+
+    /// Who has the dialog that a message names (RFC 3261 §12.2.2).
+    pub(super) fn named(&self, alloc: Global, message: &Hearing) -> Result<Option<Holder>, NoMemory>
         ensures { IfOk result (λ named. Names self.now message.now named) }
     {
         let name = dialog_name(alloc, message)?;
         match name {
             None => Ok(None),
-            Some(name) => Ok(
-                self.calls.find(
-                    name.call_id.bytes(),
-                    name.local.bytes(),
-                    name.remote.bytes(),
-                ),
-            ),
+            Some(name) => Ok(self.holder(&name)),
+        }
+    }
+
+    /// Whoever has the dialog of an ACK of a 2xx hears it.
+    fn hear_ack_of(
+        &mut self,
+        alloc: Global,
+        holder: Holder,
+        ack: Hearing,
+        at: Moment,
+        out: &mut List<Offer>,
+    ) -> Result<(), NoMemory>
+        ensures done { OnOk result (Follows self.old out.old self.new out.new (λ d token. acknowledging_by d token at ack (Some (holder_in holder)))) }
+        ensures err { OnErr result (Breaks self.old out.old out.new (λ d token. acknowledging_by d token at ack (Some (holder_in holder)))) }
+    {
+        match holder {
+            Holder::InCall { call, side } => {
+                self.signal(alloc, Signal::Ack { call, side, ack }, at, out)
+            }
+            Holder::InRoom { room, seat } => {
+                self.seat_signal(alloc, RoomSignal::Ack { room, seat, ack }, at, out)
+            }
         }
     }
 
@@ -134,11 +226,33 @@ impl Server {
         ensures done { OnOk result (Follows self.old out.old self.new out.new (λ d token. acknowledging d token at ack)) }
         ensures err { OnErr result (Breaks self.old out.old out.new (λ d token. acknowledging d token at ack)) }
     {
-        calls_draw_on();
+        numbers_are_drawn_on();
         let named = self.named(alloc, &ack)?;
         match named {
             None => Ok(()),
-            Some((call, side)) => self.signal(alloc, Signal::Ack { call, side, ack }, at, out),
+            Some(holder) => self.hear_ack_of(alloc, holder, ack, at, out),
+        }
+    }
+
+    /// Does what is due of a response: it is of the calls where an INVITE of one has the branch that it answers, and else of the rooms (RFC 3261 §17.1.3).
+    pub(super) fn hear_answer(
+        &mut self,
+        alloc: Global,
+        key: TKey,
+        response: Hearing,
+        at: Moment,
+        out: &mut List<Offer>,
+    ) -> Result<(), NoMemory>
+        ensures done { OnOk result (Follows self.old out.old self.new out.new (λ d token. responding d token at key response)) }
+        ensures err { OnErr result (Breaks self.old out.old out.new (λ d token. responding d token at key response)) }
+    {
+        numbers_are_drawn_on();
+        let branch = invite_answered(alloc, &response)?;
+        let is_of_calls = self.calls.has_sent(bytes_of(&branch));
+        if is_of_calls {
+            self.signal(alloc, Signal::Answer { key, response }, at, out)
+        } else {
+            self.seat_signal(alloc, RoomSignal::Answer { key, response }, at, out)
         }
     }
 
@@ -155,7 +269,7 @@ impl Server {
         ensures done { OnOk result (Follows self.old out.old self.new out.new (λ d token. cancelling d token at key cancel invite)) }
         ensures err { OnErr result (Breaks self.old out.old out.new (λ d token. cancelling d token at key cancel invite)) }
     {
-        calls_draw_on();
+        numbers_are_drawn_on();
         match invite {
             None => self.replying(alloc, key, &cancel, &plainly(481), at, out),
             Some(invite) => self.cancel_invite(alloc, key, invite, cancel, at, out),
@@ -175,7 +289,7 @@ impl Server {
         ensures done { OnOk result (Follows self.old out.old self.new out.new (λ d token. cancelling d token at key cancel (Some invite))) }
         ensures err { OnErr result (Breaks self.old out.old out.new (λ d token. cancelling d token at key cancel (Some invite))) }
     {
-        calls_draw_on();
+        numbers_are_drawn_on();
         match self.calls.asked_by(invite) {
             None => self.replying(alloc, key, &cancel, &plainly(200), at, out),
             Some((call, _)) => {

@@ -3,9 +3,11 @@ ghost use Rattle.std.specs.Prelude.{◌≡◌, ◌<◌, ◌≤◌, ℕ, List, If
 ghost use Rattle.mmtel_outside.specs.declared.events.Offer.{Offer};
 ghost use Rattle.mmtel_run.specs.Deadlines as deadlines;
 ghost use Rattle.mmtel_run.specs.Deadlines.{Chosen, first_armed, first_of};
+ghost use Rattle.mmtel_call.specs.Table.{invite_silent};
+ghost use Rattle.mmtel_run.specs.Rooms.{is_key_of_calls, is_of_calls};
 ghost use Rattle.mmtel_run.specs.Run.{settled};
-ghost use Rattle.mmtel_run.specs.World.{begun, fired, fired_in, rung, struck};
-ghost use Rattle.mmtel_server.specs.Arming.{IsAmong, IsDueBy, armed_in, chosen_at, deadline_by, deadline_in, is_before, queue_of};
+ghost use Rattle.mmtel_run.specs.World.{alarmed, begun, calls_in, ended_of, fired, fired_in, rung, silenced, struck};
+ghost use Rattle.mmtel_server.specs.Arming.{IsAmong, IsDueBy, alarm_in, armed_in, chosen_at, deadline_by, deadline_in, is_before, queue_of};
 ghost use Rattle.mmtel_server.specs.Follows.{Breaks, BreaksTo, Follows, FollowsTo, IsBy, IsSettledBy};
 ghost use Rattle.mmtel_transaction.specs.Answers.{Next, next_due, upcoming_of};
 ghost use Rattle.mmtel_transaction.specs.Calls.{Done, live};
@@ -13,12 +15,14 @@ ghost use Rattle.mmtel_transaction.specs.Stands as table;
 
 use super::Server;
 use super::deeds::offer_to;
-use crate::armed::{Armed, first_armed};
+use crate::armed::{Alarm, Armed, first_armed};
+use crate::laws::numbers_are_drawn_on;
 use mmtel_b2bua::Signal;
+use mmtel_call::invite_silent;
+use mmtel_focus::RoomSignal;
 use mmtel_outside::Offer;
-use mmtel_run::calls_draw_on;
-use mmtel_scan::{List, NoMemory};
-use mmtel_transaction::Due;
+use mmtel_scan::{List, NoMemory, Text};
+use mmtel_transaction::{Due, TKey};
 use mmtel_types::Moment;
 use std::alloc::Global;
 
@@ -29,32 +33,32 @@ const FIRINGS: u64 = 1 << 60;
 pub(super) enum Deadline {
     /// One of a message.
     OfMessage,
-    /// One of a call, at this place among those that are armed.
-    OfCall(usize),
+    /// One of a call or of a seat, at this place among those that are armed.
+    OfAlarm(usize),
 }
 
-/// Whether a deadline of a message, of this moment and step, comes before one of a call: unless its moment is later, or of one moment its step.
+/// Whether a deadline of a message, of this moment and step, comes before one of a call or a seat: unless its moment is later, or of one moment its step.
 fn comes_before(at: u64, step: u64, armed: &Armed) -> bool
     ensures { result ≡ is_before at step (armed_in armed.now) }
 {
     at < armed.at || (at == armed.at && step <= armed.step)
 }
 
-/// The first of the first deadline of messages and the first one of calls.
-fn first_of(next: Option<(u64, u64)>, call: Option<usize>, armed: &[Armed]) -> Option<Deadline>
-    requires { IfSome call (λ place. place < length armed.now) }
-    ensures first { (message : Option Next) → next ≡ upcoming_of message → deadline_by result (queue_of armed.now) ≡ first_of message (chosen_at call (queue_of armed.now)) }
+/// The first of the first deadline of messages and the first one of calls and seats.
+fn first_of(next: Option<(u64, u64)>, alarm: Option<usize>, armed: &[Armed]) -> Option<Deadline>
+    requires { IfSome alarm (λ place. place < length armed.now) }
+    ensures first { (message : Option Next) → next ≡ upcoming_of message → deadline_by result (queue_of armed.now) ≡ first_of message (chosen_at alarm (queue_of armed.now)) }
     ensures there { IfSome result (IsAmong (length armed.now)) }
 {
-    match (next, call) {
+    match (next, alarm) {
         (None, None) => None,
         (Some(_), None) => Some(Deadline::OfMessage),
-        (None, Some(place)) => Some(Deadline::OfCall(place)),
+        (None, Some(place)) => Some(Deadline::OfAlarm(place)),
         (Some((at, step)), Some(place)) => {
             if comes_before(at, step, &armed[place]) {
                 Some(Deadline::OfMessage)
             } else {
-                Some(Deadline::OfCall(place))
+                Some(Deadline::OfAlarm(place))
             }
         }
     }
@@ -81,6 +85,47 @@ impl Server {
         self.steps = self.steps.saturating_add(1);
     }
 
+    /// A request was given up: the calls hear of an INVITE of theirs, and the rooms of all others.
+    fn silence(
+        &mut self,
+        alloc: Global,
+        branch: Text,
+        method: Text,
+        at: Moment,
+        out: &mut List<Offer>,
+    ) -> Result<(), NoMemory>
+        ensures done { OnOk result (Follows self.old out.old self.new out.new (λ d token world. silenced d token at branch method (is_of_calls (invite_silent branch method) (calls_in d world).entries) world)) }
+        ensures err { OnErr result (Breaks self.old out.old out.new (λ d token world. silenced d token at branch method (is_of_calls (invite_silent branch method) (calls_in d world).entries) world)) }
+    {
+        let is_of_calls = self
+            .calls
+            .has_sent(invite_silent(branch.bytes(), method.bytes()));
+        if is_of_calls {
+            self.signal(alloc, Signal::Silent { branch, method }, at, out)
+        } else {
+            self.seat_signal(alloc, RoomSignal::Silent { branch, method }, at, out)
+        }
+    }
+
+    /// The client transaction of a request that was answered has ended: the calls hear of an INVITE of theirs, and the rooms of all others.
+    fn end_transaction(
+        &mut self,
+        alloc: Global,
+        key: TKey,
+        at: Moment,
+        out: &mut List<Offer>,
+    ) -> Result<(), NoMemory>
+        ensures done { OnOk result (Follows self.old out.old self.new out.new (λ d token world. ended_of d token at key (is_key_of_calls key (calls_in d world).entries) world)) }
+        ensures err { OnErr result (Breaks self.old out.old out.new (λ d token world. ended_of d token at key (is_key_of_calls key (calls_in d world).entries) world)) }
+    {
+        let is_of_calls = self.calls.has_heard(key);
+        if is_of_calls {
+            self.signal(alloc, Signal::Over { key }, at, out)
+        } else {
+            self.seat_signal(alloc, RoomSignal::Over { key }, at, out)
+        }
+    }
+
     /// Brings what a deadline of a message brings.
     ///
     /// # Errors
@@ -96,7 +141,7 @@ impl Server {
         ensures done { OnOk result (IsBy now due → Follows self.old out.old self.new out.new (λ d token. rung d token due)) }
         ensures err { OnErr result (IsBy now due → Breaks self.old out.old out.new (λ d token. rung d token due)) }
     {
-        calls_draw_on();
+        numbers_are_drawn_on();
         match due {
             Due::Again(peer, at, text) => offer_to(alloc, peer, at, text, out),
             Due::Silent {
@@ -104,13 +149,8 @@ impl Server {
                 branch,
                 method,
                 at,
-            } => self.signal(
-                alloc,
-                Signal::Silent { branch, method },
-                moment_by(at, now),
-                out,
-            ),
-            Due::Over(key, at) => self.signal(alloc, Signal::Over { key }, moment_by(at, now), out),
+            } => self.silence(alloc, branch, method, moment_by(at, now), out),
+            Due::Over(key, at) => self.end_transaction(alloc, key, moment_by(at, now), out),
             Due::Nothing => Ok(()),
         }
     }
@@ -125,12 +165,31 @@ impl Server {
         ensures done { OnOk result (Follows self.old out.old self.new out.new (λ d token. fired_in d token now)) }
         ensures err { OnErr result (Breaks self.old out.old out.new (λ d token. fired_in d token now)) }
     {
-        calls_draw_on();
+        numbers_are_drawn_on();
         let said = self.transactions.due(alloc, now)?;
         self.ring(alloc, said, now, out)
     }
 
-    /// The deadline of a call at this place fires, at its own moment.
+    /// A deadline of a call or of a seat comes.
+    fn sound(
+        &mut self,
+        alloc: Global,
+        alarm: Alarm,
+        at: Moment,
+        out: &mut List<Offer>,
+    ) -> Result<(), NoMemory>
+        ensures done { OnOk result (Follows self.old out.old self.new out.new (λ d token. alarmed d token at (alarm_in alarm))) }
+        ensures err { OnErr result (Breaks self.old out.old out.new (λ d token. alarmed d token at (alarm_in alarm))) }
+    {
+        match alarm {
+            Alarm::OfCall { call, what } => self.signal(alloc, Signal::Due { call, what }, at, out),
+            Alarm::OfSeat { room, seat, what } => {
+                self.seat_signal(alloc, RoomSignal::Due { room, seat, what }, at, out)
+            }
+        }
+    }
+
+    /// The deadline of a call or of a seat at this place fires, at its own moment.
     fn strike(
         &mut self,
         alloc: Global,
@@ -143,11 +202,7 @@ impl Server {
         ensures err { OnErr result ((first : Chosen) → chosen_at (Some place) (queue_of self.old.armed) ≡ Some first → first.first.at ≤ now → Breaks self.old out.old out.new (λ d token. struck d token first.first first.others)) }
     {
         let armed = self.armed.remove(place);
-        let signal = Signal::Due {
-            call: armed.call,
-            what: armed.what,
-        };
-        self.signal(alloc, signal, moment_by(armed.at, now), out)
+        self.sound(alloc, armed.alarm, moment_by(armed.at, now), out)
     }
 
     /// A deadline that is due, the first of all, fires, at its own moment.
@@ -166,11 +221,11 @@ impl Server {
         ensures done { OnOk result ((first : deadlines.Deadline) → deadline_in deadline (queue_of self.old.armed) ≡ Some first → IsDueBy now first → Follows self.old out.old self.new out.new (λ d token. fired d token now first)) }
         ensures err { OnErr result ((first : deadlines.Deadline) → deadline_in deadline (queue_of self.old.armed) ≡ Some first → IsDueBy now first → Breaks self.old out.old out.new (λ d token. fired d token now first)) }
     {
-        calls_draw_on();
+        numbers_are_drawn_on();
         self.begin();
         match deadline {
             Deadline::OfMessage => self.fire_message(alloc, now, out),
-            Deadline::OfCall(place) => self.strike(alloc, place, now, out),
+            Deadline::OfAlarm(place) => self.strike(alloc, place, now, out),
         }
     }
 
@@ -201,7 +256,7 @@ impl Server {
         ensures done { OnOk result ((fuel : ℕ) → FollowsTo self.old out.old self.new out.new (IsSettledBy fuel now) (λ d token. settled d token fuel now)) }
         ensures err { OnErr result ((fuel : ℕ) → BreaksTo self.old out.old out.new (IsSettledBy fuel now) (λ d token. settled d token fuel now)) }
     {
-        calls_draw_on();
+        numbers_are_drawn_on();
         for i in 0..FIRINGS {
             match self.next_deadline(now) {
                 None => return Ok(()),

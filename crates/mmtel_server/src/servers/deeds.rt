@@ -1,21 +1,22 @@
 //! What is offered: whatever the layers want done goes through here.
-ghost use Rattle.std.specs.Prelude.{◌≡◌, ◌<◌, ◌^◌, ◌+◌, ◌++◌, ◌∷◌, [], ℕ, List, IfOk, OnErr, OnOk};
+ghost use Rattle.std.specs.Prelude.{◌≡◌, ◌<◌, ◌^◌, ◌+◌, ◌-◌, ◌++◌, ◌∷◌, [], ℕ, List, IfOk, OnErr, OnOk};
 ghost use Rattle.mmtel_outside.specs.declared.events.Offer.{Offer};
 ghost use Rattle.mmtel_outside.specs.declared.events.Offer.TheVariants as offer;
 ghost use Rattle.mmtel_run.specs.Answers.{tag_for, tags_due, to_tag_in};
-ghost use Rattle.mmtel_run.specs.World.{emit_one, emitted, to_peer};
+ghost use Rattle.mmtel_run.specs.World.{arming, emit_one, emitted, to_peer};
 ghost use Rattle.mmtel_transaction.specs.declared.words.Emit.TheVariants as emit;
+ghost use Rattle.mmtel_server.specs.Arming.{alarm_in};
 ghost use Rattle.mmtel_server.specs.Follows.{Breaks, Follows};
 
-use crate::armed::Armed;
+use crate::armed::{Alarm, Armed};
 use crate::servers::Server;
 use mmtel_intake::is_untagged;
 use mmtel_message::Msg;
 use mmtel_outside::Offer;
 use mmtel_scan::{List, NoMemory, Text};
 use mmtel_transaction::laws::numbers_are_distinct;
-use mmtel_transaction::{DueWord, Emit, TKey, Tokens};
-use mmtel_types::{CallNo, Moment, Peer};
+use mmtel_transaction::{Emit, TKey, Tokens};
+use mmtel_types::{Moment, Peer};
 use std::alloc::Global;
 
 /// Adds an offer to a peer.
@@ -50,15 +51,6 @@ fn offer_to_peer(
     }
 }
 
-/// Adds an event of a form that is not built yet.
-pub(super) fn offer_unbuilt(alloc: Global, at: u64, out: &mut List<Offer>) -> Result<(), NoMemory>
-    ensures done { OnOk result (out.new ≡ out.old ++ offer.Unbuilt at ∷ []) }
-    ensures err { OnErr result (out.new ≡ out.old) }
-{
-    out.push(alloc, Offer::Unbuilt { at })?;
-    Ok(())
-}
-
 /// Draws the tag of a response to a message whose To has none (RFC 3261 §8.2.6.2); no bytes where it has one.
 pub(super) fn drawn_tag(alloc: Global, tokens: &mut Tokens, message: &Msg) -> Result<Text, NoMemory>
     ensures tag { tokens.old.drawn < 2 ^ 60 → IfOk result (λ tag. tag ≡ tag_for tokens.old.token tokens.old.drawn (to_tag_in message.now.lines)) }
@@ -84,6 +76,7 @@ impl Server {
     ) -> Result<(), NoMemory>
         ensures done { OnOk result (Follows self.old out.old self.new out.new (λ d token. emit_one at (emit.Ask peer message.now))) }
         ensures err { OnErr result (out.new ≡ out.old) }
+        ensures calls { self.new.calls ≡ self.old.calls }
     {
         numbers_are_distinct();
         let text = message.text(alloc)?;
@@ -102,6 +95,7 @@ impl Server {
     ) -> Result<(), NoMemory>
         ensures done { OnOk result (Follows self.old out.old self.new out.new (λ d token. emit_one at (emit.Reply key message.now))) }
         ensures err { OnErr result (out.new ≡ out.old) }
+        ensures calls { self.new.calls ≡ self.old.calls }
     {
         let text = message.text(alloc)?;
         let peer = self.transactions.peer(key);
@@ -120,6 +114,7 @@ impl Server {
     ) -> Result<(), NoMemory>
         ensures done { OnOk result (Follows self.old out.old self.new out.new (λ d token. emit_one at (emit.Ack key message.now))) }
         ensures err { OnErr result (out.new ≡ out.old) }
+        ensures calls { self.new.calls ≡ self.old.calls }
     {
         let text = message.text(alloc)?;
         let peer = self.transactions.peer(key);
@@ -138,25 +133,19 @@ impl Server {
     ) -> Result<(), NoMemory>
         ensures done { OnOk result (Follows self.old out.old self.new out.new (λ d token. emit_one at (emit.Plain peer text.now))) }
         ensures err { OnErr result (out.new ≡ out.old) }
+        ensures calls { self.new.calls ≡ self.old.calls }
     {
         let text = Text::of(alloc, text)?;
         offer_to(alloc, peer, at.ms(), text, out)
     }
 
-    /// Arms a deadline of a call, in this step.
-    fn arm(&mut self, alloc: Global, call: CallNo, what: DueWord, at: u64) -> Result<(), NoMemory>
-        ensures done { OnOk result ((now : ℕ) (out : List Offer) → Follows self.old out self.new out (λ d token. emit_one now (emit.Arm call what at))) }
+    /// Arms a deadline, in this step.
+    fn arm(&mut self, alloc: Global, alarm: Alarm, at: u64) -> Result<(), NoMemory>
+        ensures done { OnOk result ((out : List Offer) → Follows self.old out self.new out (λ d token world. arming (record { alarm = alarm_in alarm; at = at; step = world.steps - 1 }) world)) }
+        ensures calls { self.new.calls ≡ self.old.calls }
     {
         let step = self.steps.saturating_sub(1);
-        self.armed.push(
-            alloc,
-            Armed {
-                call,
-                what,
-                at,
-                step,
-            },
-        )?;
+        self.armed.push(alloc, Armed { alarm, at, step })?;
         Ok(())
     }
 
@@ -170,6 +159,7 @@ impl Server {
     ) -> Result<(), NoMemory>
         ensures done { OnOk result (Follows self.old out.old self.new out.new (λ d token. emit_one at emit.now)) }
         ensures err { OnErr result (out.new ≡ out.old) }
+        ensures calls { self.new.calls ≡ self.old.calls }
     {
         match emit {
             Emit::Ask { peer, msg } => self.ask(alloc, *peer, msg, at, out),
@@ -180,8 +170,26 @@ impl Server {
                 call,
                 what,
                 at: when,
-            } => self.arm(alloc, *call, *what, *when),
-            Emit::ArmSeat { .. } => Ok(()),
+            } => {
+                let alarm = Alarm::OfCall {
+                    call: *call,
+                    what: *what,
+                };
+                self.arm(alloc, alarm, *when)
+            }
+            Emit::ArmSeat {
+                room,
+                seat,
+                what,
+                at: when,
+            } => {
+                let alarm = Alarm::OfSeat {
+                    room: *room,
+                    seat: *seat,
+                    what: *what,
+                };
+                self.arm(alloc, alarm, *when)
+            }
         }
     }
 
@@ -195,6 +203,7 @@ impl Server {
     ) -> Result<(), NoMemory>
         ensures done { OnOk result (Follows self.old out.old self.new out.new (λ d token. emitted at emits.now)) }
         ensures err { OnErr result (Breaks self.old out.old out.new (λ d token. emitted at emits.now)) }
+        ensures calls { self.new.calls ≡ self.old.calls }
     {
         for emit in emits {
             self.emit(alloc, emit, at, out)?;

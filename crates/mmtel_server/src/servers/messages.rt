@@ -1,24 +1,26 @@
 //! What is done with messages.
-ghost use Rattle.std.specs.Prelude.{◌≡◌, None, OnErr, OnOk, Some, false};
+ghost use Rattle.std.specs.Prelude.{◌≡◌, None, OnErr, OnOk, Some, false, true};
 ghost use Rattle.mmtel_answers.specs.Said.{said};
 ghost use Rattle.mmtel_intake.specs.Courses.{answer_in, course_in};
 ghost use Rattle.mmtel_intake.specs.Told.{digest_in};
 ghost use Rattle.mmtel_message.specs.Message.{Message};
 ghost use Rattle.mmtel_message.specs.declared.messages.Start.{Start};
+ghost use Rattle.mmtel_run.specs.Audio.{is_for_room};
 ghost use Rattle.mmtel_run.specs.Calls.{are_full};
 ghost use Rattle.mmtel_run.specs.Records.{until_of};
 ghost use Rattle.mmtel_run.specs.Refusals.{Open};
-ghost use Rattle.mmtel_run.specs.World.{answering, met, refusing, registered, repeating, replying, replying_plainly, taking, taking_fresh, told, unbuilt};
+ghost use Rattle.mmtel_run.specs.World.{answering, met, refusing, registered, repeating, replying, replying_plainly, taking, taking_fresh, told};
+ghost use Rattle.mmtel_sdp.specs.Offers.{offers_audio};
 ghost use Rattle.mmtel_server.specs.Follows.{Breaks, Follows, IsTaken};
 
+use crate::laws::numbers_are_drawn_on;
 use crate::servers::Server;
-use crate::servers::deeds::{drawn_tag, offer_unbuilt};
+use crate::servers::deeds::drawn_tag;
 use mmtel_answers::Hearing;
 use mmtel_b2bua::Signal;
 use mmtel_intake::{Answer, Course, Standing, Told, completed_reply, course, plainly, response_to};
 use mmtel_message::Msg;
 use mmtel_outside::Offer;
-use mmtel_run::calls_draw_on;
 use mmtel_scan::{List, NoMemory, Text};
 use mmtel_transaction::laws::numbers_are_distinct;
 use mmtel_transaction::{HearFault, Heard, TKey};
@@ -137,20 +139,7 @@ impl Server {
         self.replying(alloc, key, request, &plainly(200), at, out)
     }
 
-    /// Notes an event of a form that is not built yet.
-    pub(super) fn pass_over(
-        &mut self,
-        alloc: Global,
-        at: Moment,
-        out: &mut List<Offer>,
-    ) -> Result<(), NoMemory>
-        ensures done { OnOk result (Follows self.old out.old self.new out.new (λ d token. unbuilt at)) }
-        ensures err { OnErr result (out.new ≡ out.old) }
-    {
-        offer_unbuilt(alloc, at.ms(), out)
-    }
-
-    /// Does with a request what is decided of it; a call is opened only where fewer live than may.
+    /// Does with a request what is decided of it; a call is opened only where fewer live than may, and a room or a seat asked for only by whoever offers audio.
     fn take(
         &mut self,
         alloc: Global,
@@ -160,11 +149,12 @@ impl Server {
         at: Moment,
         out: &mut List<Offer>,
     ) -> Result<(), NoMemory>
-        requires { course_in course ≡ Open → are_full self.old.calls.table.entries ≡ false }
+        requires below { course_in course ≡ Open → are_full self.old.calls.table.entries ≡ false }
+        requires audio { is_for_room (course_in course) ≡ true → offers_audio request.heard.body ≡ true }
         ensures done { OnOk result (Follows self.old out.old self.new out.new (λ d token. taking d token at key request (course_in course))) }
         ensures err { OnErr result (Breaks self.old out.old out.new (λ d token. taking d token at key request (course_in course))) }
     {
-        calls_draw_on();
+        numbers_are_drawn_on();
         match course {
             Course::Refuse(answer) => self.replying(alloc, key, &request, &answer, at, out),
             Course::Enter { call, side } => {
@@ -176,11 +166,15 @@ impl Server {
                 };
                 self.signal(alloc, signal, at, out)
             }
+            Course::EnterRoom { room, seat } => {
+                self.enter_room(alloc, key, request, room, seat, at, out)
+            }
             Course::Open => self.open(alloc, key, request, at, out),
+            Course::OpenRoom => self.open_room(alloc, key, &request, at, out),
+            Course::JoinRoom { room } => self.join_room(alloc, key, &request, room, at, out),
             Course::Register { account, seconds } => {
                 self.register(alloc, key, &request, account, seconds, at, out)
             }
-            Course::Unbuilt => self.pass_over(alloc, at, out),
         }
     }
 
@@ -196,7 +190,7 @@ impl Server {
         ensures done { OnOk result (Follows self.old out.old self.new out.new (λ d token. taking_fresh d token at key request)) }
         ensures err { OnErr result (Breaks self.old out.old out.new (λ d token. taking_fresh d token at key request)) }
     {
-        calls_draw_on();
+        numbers_are_drawn_on();
         let merged = self.transactions.merged(key);
         let full = self.calls.is_full();
         let named = self.named(alloc, &request)?;
@@ -245,7 +239,7 @@ impl Server {
         ensures err { OnErr result ((message : Message Start) → IsTaken message taken →
             Breaks self.old out.old out.new (λ d token. answering d token at (said peer source trusted message) (Some taken))) }
     {
-        calls_draw_on();
+        numbers_are_drawn_on();
         let heard = Whence {
             peer,
             source,
@@ -260,8 +254,7 @@ impl Server {
                 out,
             ),
             Heard::Answer(key, message) => {
-                let response = heard.hearing(message);
-                self.signal(alloc, Signal::Answer { key, response }, at, out)
+                self.hear_answer(alloc, key, heard.hearing(message), at, out)
             }
             Heard::Repeat(sent) => self.repeat(alloc, sent, at, out),
             Heard::Acked(_) => Ok(()),
@@ -299,7 +292,7 @@ impl Server {
         ensures err { OnErr result (Breaks self.old out.old out.new (λ d token. told d token at heard)) }
     {
         numbers_are_distinct();
-        calls_draw_on();
+        numbers_are_drawn_on();
         let Hearing {
             peer,
             source,
@@ -336,7 +329,7 @@ impl Server {
         ensures done { OnOk result (Follows self.old out.old self.new out.new (λ d token. met d token at (digest_in told))) }
         ensures err { OnErr result (Breaks self.old out.old out.new (λ d token. met d token at (digest_in told))) }
     {
-        calls_draw_on();
+        numbers_are_drawn_on();
         match told {
             Told::Nothing => Ok(()),
             Told::Refused {

@@ -6,7 +6,7 @@ ghost use Rattle.mmtel_in_force.specs.Texts.{Texts};
 ghost use Rattle.mmtel_outside.specs.declared.events.Offer.{Offer};
 ghost use Rattle.mmtel_run.specs.Events.{Happened, digest_datagram, digest_event};
 ghost use Rattle.mmtel_run.specs.Run.{world_after};
-ghost use Rattle.mmtel_run.specs.World.{came, ended, met, rows_waiting};
+ghost use Rattle.mmtel_run.specs.World.{came, ended, met};
 ghost use Rattle.mmtel_server.specs.Follows.{Breaks, BreaksTo, Follows, FollowsTo, IsReady, going};
 ghost use Rattle.mmtel_server.specs.Handed.{Handed, HandedCounted, StoppedHanding};
 ghost use Rattle.mmtel_server.specs.Stands.{BreaksOff, Went};
@@ -17,14 +17,16 @@ ghost use Rattle.mmtel_web.specs.Answers.{Kept};
 
 use super::Server;
 use super::requests::{Answered, unasked};
+use crate::laws::numbers_are_drawn_on;
 use mmtel_b2bua::Calls;
 use mmtel_charging::Row;
 use mmtel_directory::Directory;
+use mmtel_focus::Rooms;
 use mmtel_in_force::Records;
 use mmtel_intake::{digest, moment};
 use mmtel_keeper::{KeepFault, Keeper};
 use mmtel_outside::{Event, Offer};
-use mmtel_run::{calls_draw_on, enough_comes, rows_are_filed};
+use mmtel_run::{enough_comes, rows_are_filed};
 use mmtel_scan::{List, NoMemory, Text};
 use mmtel_transaction::{Tokens, Transactions};
 use mmtel_types::{Account, Addr, Moment};
@@ -70,12 +72,21 @@ impl Server {
         let records = Records::load(alloc, loaded)?;
         let home = directory.home.copied(alloc)?;
         let calls = Calls::new(alloc, home, directory.sip, directory.bound)?;
+        let rooms = match Rooms::new(alloc, directory.mixer, directory.sip) {
+            Ok(rooms) => rooms,
+            Err(NoMemory) => {
+                calls.give_up();
+                return Err(NoMemory);
+            }
+        };
         Ok(Server {
             directory,
             tokens: Tokens::new(token),
             transactions: Transactions::new(),
             calls,
+            rooms,
             armed: List::new(),
+            waiting: List::new(),
             records,
             clock: first_moment(),
             steps: 0,
@@ -116,11 +127,11 @@ impl Server {
         }
     }
 
-    /// The charging rows of calls that are over which the keeper has not taken, in the order in which they were closed.
+    /// The charging rows of calls that are over and of seats that were left which the keeper has not taken, in the order in which they were closed.
     pub fn rows_waiting(&self) -> &[Row]
-        ensures waiting { (directory : Directory) (token : List ℕ) (loaded : Texts) (happened : List Happened) (before out : List Offer) (went : Went directory token loaded happened before self.now out) → result.now ≡ rows_waiting directory (world_after directory token loaded went.fuel happened) }
+        ensures waiting { (directory : Directory) (token : List ℕ) (loaded : Texts) (happened : List Happened) (before out : List Offer) (went : Went directory token loaded happened before self.now out) → result.now ≡ (world_after directory token loaded went.fuel happened).waiting }
     {
-        self.calls.rows_waiting()
+        self.waiting.items()
     }
 
     /// Spends what is still live, without rows. It takes no memory.
@@ -130,13 +141,16 @@ impl Server {
             tokens: _,
             transactions: _,
             calls,
+            rooms,
             armed: _,
+            waiting: _,
             records: _,
             clock: _,
             steps: _,
             failed: _,
         } = self;
         calls.give_up();
+        rooms.give_up();
     }
 
     /// Meets a datagram.
@@ -151,7 +165,7 @@ impl Server {
         ensures done { OnOk result (Follows self.old out.old self.new out.new (λ d token. met d token at (digest_datagram d from bytes.now))) }
         ensures err { OnErr result (Breaks self.old out.old out.new (λ d token. met d token at (digest_datagram d from bytes.now))) }
     {
-        calls_draw_on();
+        numbers_are_drawn_on();
         let told = digest(alloc, &self.directory, from, bytes)?;
         self.meet(alloc, told, at, out)
     }
@@ -171,7 +185,7 @@ impl Server {
         ensures counted { IfOk result (λ a. Counted (kept_in a.kept) (K.faults keeper.old) (K.faults keeper.new)) }
         ensures met { OnErr result (Met (call_of self.old.directory.names event.now) (K.held keeper.old) (K.held keeper.new) (K.calls keeper.old) (K.calls keeper.new) (K.faults keeper.old) (K.faults keeper.new)) }
     {
-        calls_draw_on();
+        numbers_are_drawn_on();
         match event {
             Event::Datagram { from, bytes, .. } => {
                 self.meet_datagram(alloc, at, *from, bytes.bytes(), out)?;
@@ -188,18 +202,18 @@ impl Server {
     ///
     /// Want of memory alone; each of them waits still.
     fn hand_rows<K: Keeper>(&mut self, alloc: Global, keeper: &mut K) -> Result<bool, NoMemory>
-        ensures done { IfOk result (λ took. (out : List Offer) → Follows self.old out self.new out (λ d token. ended d took)) }
-        ensures handed { IfOk result (λ took. Handed took self.old.calls.table.rows (K.held keeper.old) (K.held keeper.new) (K.calls keeper.old) (K.calls keeper.new)) }
+        ensures done { IfOk result (λ took. (out : List Offer) → Follows self.old out self.new out (λ d token. ended took)) }
+        ensures handed { IfOk result (λ took. Handed took self.old.waiting (K.held keeper.old) (K.held keeper.new) (K.calls keeper.old) (K.calls keeper.new)) }
         ensures counted { IfOk result (λ took. HandedCounted took (K.faults keeper.old) (K.faults keeper.new)) }
         ensures met { OnErr result (StoppedHanding (K.held keeper.old) (K.held keeper.new) (K.calls keeper.old) (K.calls keeper.new) (K.faults keeper.old) (K.faults keeper.new)) }
     {
-        let count = self.calls.rows_waiting().len();
+        let count = self.waiting.items().len();
         if count == 0 {
             return Ok(true);
         }
-        match keeper.add_rows(alloc, self.calls.rows_waiting()) {
+        match keeper.add_rows(alloc, self.waiting.items()) {
             Ok(()) => {
-                self.calls.drop_rows(count);
+                self.waiting = List::new();
                 Ok(true)
             }
             Err(KeepFault::Failed) => Ok(false),
@@ -221,7 +235,7 @@ impl Server {
             (λ kept rows between midst. Answers (call_of self.old.directory.names event.now) kept rows (K.held keeper.old) between (K.calls keeper.old) midst)
             (K.held keeper.new) (K.calls keeper.new) (K.faults keeper.old) (K.faults keeper.new)) }
     {
-        calls_draw_on();
+        numbers_are_drawn_on();
         self.begin();
         self.clock = at;
         let answered = self.meet_event(alloc, at, event, keeper, out)?;
@@ -243,7 +257,7 @@ impl Server {
             (λ kept rows between midst. (took : Bool) → AskedAfter self.old out.old (happened_in event.now kept rows took) (K.held keeper.old) between (K.calls keeper.old) midst)
             (K.held keeper.new) (K.calls keeper.new) (K.faults keeper.old) (K.faults keeper.new)) }
     {
-        calls_draw_on();
+        numbers_are_drawn_on();
         let clock = later(self.clock, moment(event));
         self.settle(alloc, clock, out)?;
         self.come_at(alloc, clock, event, keeper, out)

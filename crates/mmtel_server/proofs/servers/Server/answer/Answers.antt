@@ -1,8 +1,7 @@
 use Rattle.std.proofs.Common.{Some, ap, ◌∙◌, sym, subst}
 use Rattle.std.proofs.lemmas.Result.{on_err_weaker, on_ok_weaker}
 use Rattle.mmtel_answers.specs.Said.{Said, said}
-use Rattle.mmtel_b2bua.specs.declared.signals.Signal.TheVariants as signal
-use Rattle.mmtel_run.specs.World.{acknowledging, answering, cancelling, signalled, taking_fresh}
+use Rattle.mmtel_run.specs.World.{acknowledging, answering, cancelling, responding, taking_fresh}
 use Rattle.mmtel_transaction.specs.declared.words.Heard.{Heard}
 use Rattle.mmtel_server.proofs.Grows.{answers, stops}
 use Rattle.mmtel_server.proofs.servers.Server.answer.Goals as goal
@@ -23,18 +22,18 @@ returns-in-Fresh-clause-err c = on_err_weaker c.take_fresh.result (λ holds mess
     c.take_fresh.ensures.err
 
 pub returns-in-Answer-clause-done : goal.returns-in-Answer-clause-done
-returns-in-Answer-clause-done c = on_ok_weaker c.signal.result (λ holds message back.
+returns-in-Answer-clause-done c = on_ok_weaker c.hear_answer.result (λ holds message back.
     let same = subst (λ (x : Heard). IsTaken message x) c.in-Answer.is back in
-    subst (λ (x : Heard). Follows c.args.self.now c.args.out.now c.signal.new.self c.signal.new.out (λ d token. answering d token c.args.at (said c.args.peer c.args.source c.args.trusted message) (Some x))) (sym c.in-Answer.is)
-    (subst (λ (y : Said). Follows c.args.self.now c.args.out.now c.signal.new.self c.signal.new.out (λ d token. signalled d token c.args.at (signal.Answer c.in-Answer.key y))) (c.hearing-response.ensures ∙ ap (said c.args.peer c.args.source c.args.trusted) same) holds))
-    c.signal.ensures.done
+    subst (λ (x : Heard). Follows c.args.self.now c.args.out.now c.hear_answer.new.self c.hear_answer.new.out (λ d token. answering d token c.args.at (said c.args.peer c.args.source c.args.trusted message) (Some x))) (sym c.in-Answer.is)
+    (subst (λ (y : Said). Follows c.args.self.now c.args.out.now c.hear_answer.new.self c.hear_answer.new.out (λ d token. responding d token c.args.at c.in-Answer.key y)) (c.hearing-in-Answer.ensures ∙ ap (said c.args.peer c.args.source c.args.trusted) same) holds))
+    c.hear_answer.ensures.done
 
 pub returns-in-Answer-clause-err : goal.returns-in-Answer-clause-err
-returns-in-Answer-clause-err c = on_err_weaker c.signal.result (λ holds message back.
+returns-in-Answer-clause-err c = on_err_weaker c.hear_answer.result (λ holds message back.
     let same = subst (λ (x : Heard). IsTaken message x) c.in-Answer.is back in
-    subst (λ (x : Heard). Breaks c.args.self.now c.args.out.now c.signal.new.out (λ d token. answering d token c.args.at (said c.args.peer c.args.source c.args.trusted message) (Some x))) (sym c.in-Answer.is)
-    (subst (λ (y : Said). Breaks c.args.self.now c.args.out.now c.signal.new.out (λ d token. signalled d token c.args.at (signal.Answer c.in-Answer.key y))) (c.hearing-response.ensures ∙ ap (said c.args.peer c.args.source c.args.trusted) same) holds))
-    c.signal.ensures.err
+    subst (λ (x : Heard). Breaks c.args.self.now c.args.out.now c.hear_answer.new.out (λ d token. answering d token c.args.at (said c.args.peer c.args.source c.args.trusted message) (Some x))) (sym c.in-Answer.is)
+    (subst (λ (y : Said). Breaks c.args.self.now c.args.out.now c.hear_answer.new.out (λ d token. responding d token c.args.at c.in-Answer.key y)) (c.hearing-in-Answer.ensures ∙ ap (said c.args.peer c.args.source c.args.trusted) same) holds))
+    c.hear_answer.ensures.err
 
 pub returns-in-Cancel-clause-done : goal.returns-in-Cancel-clause-done
 returns-in-Cancel-clause-done c = on_ok_weaker c.hear_cancel.result (λ holds message back.
@@ -73,4 +72,4 @@ returns-in-Repeat-clause-done c = on_ok_weaker c.repeat.result (λ follows messa
 pub returns-in-Repeat-clause-err : goal.returns-in-Repeat-clause-err
 returns-in-Repeat-clause-err c = on_err_weaker c.repeat.result
     (λ e message so. stops (λ d token. answering d token c.args.at (said c.args.peer c.args.source c.args.trusted message) (Some c.args.taken)) c.args.self.now c.args.out.now c.repeat.new.out
-    (λ d token w. answers c.calls_draw_on.ensures.law d token c.args.at (said c.args.peer c.args.source c.args.trusted message) (Some c.args.taken) w) e) c.repeat.ensures.err
+    (λ d token w. answers c.numbers_are_drawn_on.ensures d token c.args.at (said c.args.peer c.args.source c.args.trusted message) (Some c.args.taken) w) e) c.repeat.ensures.err

@@ -15,7 +15,11 @@ returns c = record {
       texts = did.stands.texts;
       registered = did.stands.registered;
       calls = did.stands.calls;
+      rooms = did.stands.rooms;
       armed = did.stands.armed;
+      waiting = did.stands.waiting;
+      drained = did.stands.drained;
+      cleared = did.stands.cleared;
       whole = did.stands.whole;
     };
     offered = did.offered;

@@ -1,11 +1,9 @@
-use Rattle.std.proofs.Common.{◌≡◌, Option, None, Some, List, ℕ, sym, subst}
+use Rattle.std.proofs.Common.{Option, Some, sym, subst}
 use Rattle.std.proofs.lemmas.Result.{on_err_weaker, on_ok_weaker}
-use Rattle.std.specs.Prelude.{OnOk}
 use Rattle.mmtel_b2bua.specs.Names.{first_side, side_asking}
-use Rattle.mmtel_directory.specs.declared.directories.Directory.{Directory}
 use Rattle.mmtel_run.specs.Answers.{Answer}
 use Rattle.mmtel_run.specs.Calls.{asked_by}
-use Rattle.mmtel_run.specs.World.{World, calls_in, cancelling, cancelling_call, replying}
+use Rattle.mmtel_run.specs.World.{calls_in, cancelling, cancelling_call, replying}
 use Rattle.mmtel_types.specs.declared.numbers.CallNo.{CallNo}
 use Rattle.mmtel_types.specs.declared.sides.Side.{Side}
 use Rattle.mmtel_server.proofs.Asked.{asked, breaks_so, follows_so}
@@ -25,7 +23,7 @@ returns-in-None-clause-done c = on_ok_weaker c.replying.result (λ follows.
 
 pub returns-in-None-clause-err : goal.returns-in-None-clause-err
 returns-in-None-clause-err c = stops_on c.replying.result (λ d token. cancelling d token c.args.at c.args.key c.args.cancel (Some c.args.invite)) c.args.self.now c.args.out.now c.replying.new.out
-    (λ d token w. cancels c.calls_draw_on.ensures.law d token c.args.at c.args.key c.args.cancel (Some c.args.invite) w) c.replying.ensures.err
+    (λ d token w. cancels c.numbers_are_drawn_on.ensures d token c.args.at c.args.key c.args.cancel (Some c.args.invite) w) c.replying.ensures.err
 
 pub returns-in-Some-clause-done : goal.returns-in-Some-clause-done
 returns-in-Some-clause-done c = on_ok_weaker c.signal.result (λ follows.

@@ -1,5 +1,4 @@
 use Rattle.std.proofs.Common.{◌++◌, ◌∙◌, List, ap, inl, refl, subst}
-use Rattle.mmtel_b2bua.specs.Histories.{CallsView}
 use Rattle.mmtel_charging.specs.declared.rows.Row.{Row}
 use Rattle.mmtel_directory.specs.declared.directories.Directory.{Directory}
 use Rattle.mmtel_run.specs.Events.{digest_event}
@@ -16,7 +15,7 @@ use Rattle.mmtel_server.specs.Stepped.{call_of}
 
 pub returns-clause-done : goal.returns-clause-done
 returns-clause-done g c =
-    let law = c.calls_draw_on.ensures.law in
+    let law = c.numbers_are_drawn_on.ensures in
     let a = c.in_ok-answered.answered in
     let took = c.in_ok-took.took in
     record {
@@ -28,7 +27,7 @@ returns-clause-done g c =
           let clocked = clocked_did d token before c.args.out.now c.begin.new.self c.args.at (begun w) (c.begin.ensures.done c.args.out.now d token before w did few) in
           let between = short_of done (came d token c.args.at x took w) (ends law d token c.args.at took done) short in
           c.in_ok-took.ensures.done c.meet_event.new.out d token before done (c.in_ok-answered.ensures.done d token before there clocked between) short;
-      waiting = c.meet_event.new.self.calls.table.rows;
+      waiting = c.meet_event.new.self.waiting;
       between = g.K.Keeper.held c.meet_event.new.keeper;
       midst = g.K.Keeper.calls c.meet_event.new.keeper;
       mid = g.K.Keeper.faults c.meet_event.new.keeper;
@@ -42,9 +41,9 @@ returns-clause-done g c =
           let done : World = met d token c.args.at x there in
           let clocked = clocked_did d token before c.args.out.now c.begin.new.self c.args.at (begun w) (c.begin.ensures.done c.args.out.now d token before w did few) in
           let between = short_of done (came d token c.args.at x took w) (ends law d token c.args.at took done) short in
-          let rows = c.meet_event.new.self.calls.table.rows in
+          let rows = c.meet_event.new.self.waiting in
           let met_did = c.in_ok-answered.ensures.done d token before there clocked between in
-          let filed = ended_is d took rows done (ap (λ (v : CallsView). v.table.rows) met_did.stands.calls) in
+          let filed = ended_is took rows done met_did.stands.waiting in
           (filed.0 ∙ ap (λ (l : List Row). l ++ taken_of took rows) (met_none d token c.args.at x there), filed.1);
       handed = c.in_ok-took.ensures.handed;
       handed_counted = c.in_ok-took.ensures.counted;
@@ -56,7 +55,7 @@ returns-in_err-answered-clause-met g c =
     on_err c.from_residual.result _ (record {
       kept = m.kept;
       rows = m.rows;
-      broke = λ took. broke_meeting c.calls_draw_on.ensures.law c.args.self.now c.begin.new.self c.args.out.now c.args.at (c.begin.ensures.done c.args.out.now)
+      broke = λ took. broke_meeting c.numbers_are_drawn_on.ensures c.args.self.now c.begin.new.self c.args.out.now c.args.at (c.begin.ensures.done c.args.out.now)
           (λ d. digest_event d c.args.event.now m.kept m.rows) took c.meet_event.new.out (c.in_err-answered.ensures.err m.kept m.rows);
       between = g.K.Keeper.held c.meet_event.new.keeper;
       midst = g.K.Keeper.calls c.meet_event.new.keeper;
@@ -73,7 +72,7 @@ returns-in_err-took-clause-met g c =
     on_err c.from_residual-in_err-took.result _ (record {
       kept = kept_in a.kept;
       rows = a.rows;
-      broke = λ took. broke_handing c.calls_draw_on.ensures.law c.args.self.now c.begin.new.self c.args.out.now c.args.at (c.begin.ensures.done c.args.out.now)
+      broke = λ took. broke_handing c.numbers_are_drawn_on.ensures c.args.self.now c.begin.new.self c.args.out.now c.args.at (c.begin.ensures.done c.args.out.now)
           (λ d. digest_event d c.args.event.now (kept_in a.kept) a.rows) took c.meet_event.new.self c.meet_event.new.out c.in_ok-answered.ensures.done;
       between = g.K.Keeper.held c.meet_event.new.keeper;
       midst = g.K.Keeper.calls c.meet_event.new.keeper;

@@ -27,5 +27,10 @@ returns-in-Ack-clause-done c = subst (λ (x : Emit). OnOk c.acknowledge.result
 
 pub returns-in-Arm-clause-done : goal.returns-in-Arm-clause-done
 returns-in-Arm-clause-done c = on_ok_weaker c.arm.result (λ follows.
-    subst (λ (x : Emit). Follows c.args.self.now c.args.out.now c.arm.new.self c.args.out.now (λ d token. emit_one c.args.at x)) (sym c.in-Arm.is) (follows c.args.at c.args.out.now))
+    subst (λ (x : Emit). Follows c.args.self.now c.args.out.now c.arm.new.self c.args.out.now (λ d token. emit_one c.args.at x)) (sym c.in-Arm.is) (follows c.args.out.now))
     c.arm.ensures.done
+
+pub returns-in-ArmSeat-clause-done : goal.returns-in-ArmSeat-clause-done
+returns-in-ArmSeat-clause-done c = on_ok_weaker c.arm-in-ArmSeat.result (λ follows.
+    subst (λ (x : Emit). Follows c.args.self.now c.args.out.now c.arm-in-ArmSeat.new.self c.args.out.now (λ d token. emit_one c.args.at x)) (sym c.in-ArmSeat.is) (follows c.args.out.now))
+    c.arm-in-ArmSeat.ensures.done

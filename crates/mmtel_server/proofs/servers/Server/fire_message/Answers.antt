@@ -8,7 +8,7 @@ use Rattle.mmtel_server.proofs.servers.Server.fire_message.Goals as goal
 
 pub returns-in_err-said-clause-err : goal.returns-in_err-said-clause-err
 returns-in_err-said-clause-err c = on_err c.from_residual.result _
-    (stops (λ d token. fired_in d token c.args.now) c.args.self.now c.args.out.now c.args.out.now (λ d token w. fires_in d token c.calls_draw_on.ensures.law c.args.now w) refl)
+    (stops (λ d token. fired_in d token c.args.now) c.args.self.now c.args.out.now c.args.out.now (λ d token w. fires_in d token c.numbers_are_drawn_on.ensures c.args.now w) refl)
 
 pub returns-clause-done : goal.returns-clause-done
 returns-clause-done c = on_ok_weaker c.ring.result (λ rings.

@@ -11,14 +11,14 @@ pub returns-in-Ok-clause-done : goal.returns-in-Ok-clause-done
 returns-in-Ok-clause-done c = on_ok_weaker c.answer.result (λ follows.
     let m = c.heard.inside in
     subst (λ (x : Said). Follows c.args.self.now c.args.out.now c.answer.new.self c.answer.new.out (λ d token. told d token c.args.at x)) c.heard.view_is (λ d token before w did short.
-    heard_done c.calls_draw_on.ensures.law c.numbers_are_distinct.ensures.few c.args.self.now c.hear.new.self c.args.out.now c.args.at m.peer m.source m.trusted m.message c.in-Ok.taken c.in-Ok.ensures.done d token before w did short c.answer.new.self c.answer.new.out follows))
+    heard_done c.numbers_are_drawn_on.ensures c.numbers_are_distinct.ensures.few c.args.self.now c.hear.new.self c.args.out.now c.args.at m.peer m.source m.trusted m.message c.in-Ok.taken c.in-Ok.ensures.done d token before w did short c.answer.new.self c.answer.new.out follows))
     c.answer.ensures.done
 
 pub returns-in-Ok-clause-err : goal.returns-in-Ok-clause-err
 returns-in-Ok-clause-err c = on_err_weaker c.answer.result (λ breaks.
     let m = c.heard.inside in
     subst (λ (x : Said). Breaks c.args.self.now c.args.out.now c.answer.new.out (λ d token. told d token c.args.at x)) c.heard.view_is (λ d token before w did short.
-    heard_cut c.calls_draw_on.ensures.law c.numbers_are_distinct.ensures.few c.args.self.now c.hear.new.self c.args.out.now c.args.at m.peer m.source m.trusted m.message c.in-Ok.taken c.in-Ok.ensures.done d token before w did short c.answer.new.out breaks))
+    heard_cut c.numbers_are_drawn_on.ensures c.numbers_are_distinct.ensures.few c.args.self.now c.hear.new.self c.args.out.now c.args.at m.peer m.source m.trusted m.message c.in-Ok.taken c.in-Ok.ensures.done d token before w did short c.answer.new.out breaks))
     c.answer.ensures.err
 
 pub returns-in-Err-Full-clause-done : goal.returns-in-Err-Full-clause-done
@@ -31,8 +31,8 @@ returns-in-Err-Full-clause-done c = on_ok_weaker c.turn_away.result (λ follows.
 
 pub returns-in-Err-Full-clause-err : goal.returns-in-Err-Full-clause-err
 returns-in-Err-Full-clause-err c = stops_on c.turn_away.result (λ d token. told d token c.args.at c.args.heard) c.args.self.now c.args.out.now c.turn_away.new.out
-    (λ d token w. told_grows c.calls_draw_on.ensures.law d token c.args.at c.args.heard w) c.turn_away.ensures.err
+    (λ d token w. told_grows c.numbers_are_drawn_on.ensures d token c.args.at c.args.heard w) c.turn_away.ensures.err
 
 pub returns-in-Err-NoMemory-clause-err : goal.returns-in-Err-NoMemory-clause-err
 returns-in-Err-NoMemory-clause-err c = stops (λ d token. told d token c.args.at c.args.heard) c.args.self.now c.args.out.now c.args.out.now
-    (λ d token w. told_grows c.calls_draw_on.ensures.law d token c.args.at c.args.heard w) refl
+    (λ d token w. told_grows c.numbers_are_drawn_on.ensures d token c.args.at c.args.heard w) refl

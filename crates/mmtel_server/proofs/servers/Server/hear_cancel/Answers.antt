@@ -1,4 +1,4 @@
-use Rattle.std.proofs.Common.{Option, None, Some, sym, subst}
+use Rattle.std.proofs.Common.{Option, sym, subst}
 use Rattle.std.specs.Prelude.{OnErr, OnOk}
 use Rattle.mmtel_run.specs.Answers.{Answer}
 use Rattle.mmtel_run.specs.World.{cancelling, replying}
@@ -15,7 +15,7 @@ returns-in-None-clause-done c =
 
 pub returns-in-None-clause-err : goal.returns-in-None-clause-err
 returns-in-None-clause-err c = stops_on c.replying.result (λ d token. cancelling d token c.args.at c.args.key c.args.cancel c.args.invite) c.args.self.now c.args.out.now c.replying.new.out
-    (λ d token w. cancels c.calls_draw_on.ensures.law d token c.args.at c.args.key c.args.cancel c.args.invite w) c.replying.ensures.err
+    (λ d token w. cancels c.numbers_are_drawn_on.ensures d token c.args.at c.args.key c.args.cancel c.args.invite w) c.replying.ensures.err
 
 pub returns-in-Some-clause-done : goal.returns-in-Some-clause-done
 returns-in-Some-clause-done c =

@@ -13,7 +13,7 @@ returns-in-Refused-clause-done c = subst (λ (x : Told). OnOk c.refusing.result
 
 pub returns-in-Refused-clause-err : goal.returns-in-Refused-clause-err
 returns-in-Refused-clause-err c = stops_on c.refusing.result (λ d token. met d token c.args.at (digest_in c.args.told)) c.args.self.now c.args.out.now c.refusing.new.out
-    (λ d token w. met_grows c.calls_draw_on.ensures.law d token c.args.at (digest_in c.args.told) w) c.refusing.ensures.err
+    (λ d token w. met_grows c.numbers_are_drawn_on.ensures d token c.args.at (digest_in c.args.told) w) c.refusing.ensures.err
 
 pub returns-in-Heard-clause-done : goal.returns-in-Heard-clause-done
 returns-in-Heard-clause-done c = subst (λ (x : Told). OnOk c.hear.result

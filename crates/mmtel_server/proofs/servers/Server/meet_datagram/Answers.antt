@@ -10,7 +10,7 @@ use Rattle.mmtel_server.proofs.servers.Server.meet_datagram.Goals as goal
 pub returns-in_err-told-clause-err : goal.returns-in_err-told-clause-err
 returns-in_err-told-clause-err c = on_err c.from_residual.result _
     (stops (λ d token. met d token c.args.at (digest_datagram d c.args.from c.args.bytes.now)) c.args.self.now c.args.out.now c.args.out.now
-    (λ d token w. met_grows c.calls_draw_on.ensures.law d token c.args.at (digest_datagram d c.args.from c.args.bytes.now) w) refl)
+    (λ d token w. met_grows c.numbers_are_drawn_on.ensures d token c.args.at (digest_datagram d c.args.from c.args.bytes.now) w) refl)
 
 pub returns-clause-done : goal.returns-clause-done
 returns-clause-done c = on_ok_weaker c.meet.result

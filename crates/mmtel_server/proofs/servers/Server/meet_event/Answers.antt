@@ -6,9 +6,9 @@ use Rattle.mmtel_outside.specs.declared.events.Event.{Event}
 use Rattle.mmtel_run.specs.Events.{Asked, digest_datagram, digest_event}
 use Rattle.mmtel_run.specs.World.{met}
 use Rattle.mmtel_serving.specs.Outcomes.{kept_in}
-use Rattle.mmtel_server.proofs.Grows.{met_grows, on_err, stops}
+use Rattle.mmtel_server.proofs.Grows.{met_grows, stops}
 use Rattle.mmtel_server.proofs.servers.Server.meet_event.Goals as goal
-use Rattle.mmtel_server.specs.Follows.{Breaks, Follows}
+use Rattle.mmtel_server.specs.Follows.{Follows}
 
 pub returns-in_ok-meet_datagram-in-Datagram-clause-done : goal.returns-in_ok-meet_datagram-in-Datagram-clause-done
 returns-in_ok-meet_datagram-in-Datagram-clause-done g c =
@@ -26,4 +26,4 @@ returns-in-Web-clause-done g c =
 
 pub returns-in-Web-clause-err : goal.returns-in-Web-clause-err
 returns-in-Web-clause-err g c = on_err_weaker c.serve.result (λ e kept rows. stops (λ d token. met d token c.args.at (digest_event d c.args.event.now kept rows))
-    c.args.self.now c.args.out.now c.serve.new.out (λ d token w. met_grows c.calls_draw_on.ensures.law d token c.args.at (digest_event d c.args.event.now kept rows) w) e) c.serve.ensures.err
+    c.args.self.now c.args.out.now c.serve.new.out (λ d token w. met_grows c.numbers_are_drawn_on.ensures d token c.args.at (digest_event d c.args.event.now kept rows) w) e) c.serve.ensures.err

@@ -11,15 +11,19 @@ returns-clause-begins c before = record {
   did = record {
     stands = record {
       directory_same = refl;
-      tokens = c.new-2.ensures;
-      transactions = c.new-3.ensures.stands;
+      tokens = c.new-3.ensures;
+      transactions = c.new-4.ensures.stands;
       clock = c.first_moment.ensures;
       steps = refl;
       texts = c.in_ok-records.ensures.texts;
       registered = c.in_ok-records.ensures.registered;
       calls = c.in_ok-calls.ensures
           ∙ ap (λ (home : List ℕ). let calls : CallsView = record { sip = c.args.directory.sip; home = home; bound = c.args.directory.bound; table = no_calls; has_failed = false } in calls) c.in_ok-home.ensures.copy;
-      armed = ap queue_of c.new-4.ensures;
+      rooms = c.in-Ok.ensures.rooms;
+      waiting = c.new-6.ensures;
+      drained = refl;
+      cleared = refl;
+      armed = ap queue_of c.new-5.ensures;
       whole = refl;
     };
     offered = sym (append-nil before);

@@ -1,10 +1,10 @@
-use Rattle.std.proofs.Common.{◌≡◌, List, ℕ, false, ap, ◌∙◌, refl, sym, subst}
+use Rattle.std.proofs.Common.{◌≡◌, false, ap, ◌∙◌, refl, sym, subst}
 use Rattle.std.proofs.lemmas.Result.{on_err_weaker, on_ok_weaker}
 use Rattle.mmtel_b2bua.specs.Tables.{is_full}
 use Rattle.mmtel_b2bua.specs.declared.signals.Signal.{Signal}
 use Rattle.mmtel_directory.specs.declared.directories.Directory.{Directory}
 use Rattle.mmtel_run.specs.Calls.{arrived}
-use Rattle.mmtel_run.specs.World.{World, signalled}
+use Rattle.mmtel_run.specs.World.{signalled}
 use Rattle.mmtel_server.proofs.Asked.{breaks_so, follows_so}
 use Rattle.mmtel_server.proofs.Grows.{on_err, signals, stops}
 use Rattle.mmtel_server.proofs.servers.Server.open.Goals as goal
@@ -15,7 +15,7 @@ bring-requires c = subst (λ (x : Signal). is_full x c.args.self.now.calls.table
 pub returns-in_err-signal-clause-err : goal.returns-in_err-signal-clause-err
 returns-in_err-signal-clause-err c = on_err c.from_residual.result _
     (stops (λ d token. signalled d token c.args.at (arrived d.names.accounts c.args.key c.args.invite)) c.args.self.now c.args.out.now c.args.out.now
-    (λ d token w. signals c.calls_draw_on.ensures.law d token c.args.at (arrived d.names.accounts c.args.key c.args.invite) w) refl)
+    (λ d token w. signals c.numbers_are_drawn_on.ensures d token c.args.at (arrived d.names.accounts c.args.key c.args.invite) w) refl)
 
 pub returns-clause-done : goal.returns-clause-done
 returns-clause-done c = on_ok_weaker c.bring.result (λ follows.

@@ -1,8 +1,9 @@
 use Rattle.std.proofs.Common.{[], ◌∷◌, ℕ, sym, subst}
 use Rattle.std.proofs.lemmas.Result.{on_err_weaker, on_ok_weaker}
-use Rattle.mmtel_b2bua.specs.declared.signals.Signal.TheVariants as signal
+use Rattle.mmtel_call.specs.Table.{invite_silent}
 use Rattle.mmtel_outside.specs.declared.events.Offer.TheVariants as offer
-use Rattle.mmtel_run.specs.World.{rung, signalled}
+use Rattle.mmtel_run.specs.Rooms.{is_key_of_calls, is_of_calls}
+use Rattle.mmtel_run.specs.World.{calls_in, ended_of, rung, silenced}
 use Rattle.mmtel_transaction.specs.declared.words.Due.{Due}
 use Rattle.mmtel_server.proofs.Firing.{offers}
 use Rattle.mmtel_server.proofs.Grows.{stops}
@@ -17,31 +18,31 @@ returns-in-Again-clause-done c = on_ok_weaker c.offer_to.result (λ is by.
 
 pub returns-in-Again-clause-err : goal.returns-in-Again-clause-err
 returns-in-Again-clause-err c = on_err_weaker c.offer_to.result (λ is by.
-    stops (λ d token. rung d token c.args.due) c.args.self.now c.args.out.now c.offer_to.new.out (λ d token w. rings d token c.calls_draw_on.ensures.law c.args.due w) is) c.offer_to.ensures.err
+    stops (λ d token. rung d token c.args.due) c.args.self.now c.args.out.now c.offer_to.new.out (λ d token w. rings d token c.numbers_are_drawn_on.ensures c.args.due w) is) c.offer_to.ensures.err
 
 pub returns-in-Silent-clause-done : goal.returns-in-Silent-clause-done
-returns-in-Silent-clause-done c = on_ok_weaker c.signal.result (λ follows by.
-    subst (λ (x : Due). Follows c.args.self.now c.args.out.now c.signal.new.self c.signal.new.out (λ d token. rung d token x)) (sym c.in-Silent.is)
-    (subst (λ (n : ℕ). Follows c.args.self.now c.args.out.now c.signal.new.self c.signal.new.out (λ d token. signalled d token n (signal.Silent c.in-Silent.branch c.in-Silent.method)))
-    (c.moment_by.ensures (subst (IsBy c.args.now) c.in-Silent.is by)) follows)) c.signal.ensures.done
+returns-in-Silent-clause-done c = on_ok_weaker c.silence.result (λ holds by.
+    subst (λ (x : Due). Follows c.args.self.now c.args.out.now c.silence.new.self c.silence.new.out (λ d token. rung d token x)) (sym c.in-Silent.is)
+    (subst (λ (n : ℕ). Follows c.args.self.now c.args.out.now c.silence.new.self c.silence.new.out (λ d token w. silenced d token n c.in-Silent.branch c.in-Silent.method (is_of_calls (invite_silent c.in-Silent.branch c.in-Silent.method) (calls_in d w).entries) w))
+    (c.moment_by.ensures (subst (IsBy c.args.now) c.in-Silent.is by)) holds)) c.silence.ensures.done
 
 pub returns-in-Silent-clause-err : goal.returns-in-Silent-clause-err
-returns-in-Silent-clause-err c = on_err_weaker c.signal.result (λ breaks by.
-    subst (λ (x : Due). Breaks c.args.self.now c.args.out.now c.signal.new.out (λ d token. rung d token x)) (sym c.in-Silent.is)
-    (subst (λ (n : ℕ). Breaks c.args.self.now c.args.out.now c.signal.new.out (λ d token. signalled d token n (signal.Silent c.in-Silent.branch c.in-Silent.method)))
-    (c.moment_by.ensures (subst (IsBy c.args.now) c.in-Silent.is by)) breaks)) c.signal.ensures.err
+returns-in-Silent-clause-err c = on_err_weaker c.silence.result (λ holds by.
+    subst (λ (x : Due). Breaks c.args.self.now c.args.out.now c.silence.new.out (λ d token. rung d token x)) (sym c.in-Silent.is)
+    (subst (λ (n : ℕ). Breaks c.args.self.now c.args.out.now c.silence.new.out (λ d token w. silenced d token n c.in-Silent.branch c.in-Silent.method (is_of_calls (invite_silent c.in-Silent.branch c.in-Silent.method) (calls_in d w).entries) w))
+    (c.moment_by.ensures (subst (IsBy c.args.now) c.in-Silent.is by)) holds)) c.silence.ensures.err
 
 pub returns-in-Over-clause-done : goal.returns-in-Over-clause-done
-returns-in-Over-clause-done c = on_ok_weaker c.signal-in-Over.result (λ follows by.
-    subst (λ (x : Due). Follows c.args.self.now c.args.out.now c.signal-in-Over.new.self c.signal-in-Over.new.out (λ d token. rung d token x)) (sym c.in-Over.is)
-    (subst (λ (n : ℕ). Follows c.args.self.now c.args.out.now c.signal-in-Over.new.self c.signal-in-Over.new.out (λ d token. signalled d token n (signal.Over c.in-Over.key)))
-    (c.moment_by-in-Over.ensures (subst (IsBy c.args.now) c.in-Over.is by)) follows)) c.signal-in-Over.ensures.done
+returns-in-Over-clause-done c = on_ok_weaker c.end_transaction.result (λ holds by.
+    subst (λ (x : Due). Follows c.args.self.now c.args.out.now c.end_transaction.new.self c.end_transaction.new.out (λ d token. rung d token x)) (sym c.in-Over.is)
+    (subst (λ (n : ℕ). Follows c.args.self.now c.args.out.now c.end_transaction.new.self c.end_transaction.new.out (λ d token w. ended_of d token n c.in-Over.key (is_key_of_calls c.in-Over.key (calls_in d w).entries) w))
+    (c.moment_by-in-Over.ensures (subst (IsBy c.args.now) c.in-Over.is by)) holds)) c.end_transaction.ensures.done
 
 pub returns-in-Over-clause-err : goal.returns-in-Over-clause-err
-returns-in-Over-clause-err c = on_err_weaker c.signal-in-Over.result (λ breaks by.
-    subst (λ (x : Due). Breaks c.args.self.now c.args.out.now c.signal-in-Over.new.out (λ d token. rung d token x)) (sym c.in-Over.is)
-    (subst (λ (n : ℕ). Breaks c.args.self.now c.args.out.now c.signal-in-Over.new.out (λ d token. signalled d token n (signal.Over c.in-Over.key)))
-    (c.moment_by-in-Over.ensures (subst (IsBy c.args.now) c.in-Over.is by)) breaks)) c.signal-in-Over.ensures.err
+returns-in-Over-clause-err c = on_err_weaker c.end_transaction.result (λ holds by.
+    subst (λ (x : Due). Breaks c.args.self.now c.args.out.now c.end_transaction.new.out (λ d token. rung d token x)) (sym c.in-Over.is)
+    (subst (λ (n : ℕ). Breaks c.args.self.now c.args.out.now c.end_transaction.new.out (λ d token w. ended_of d token n c.in-Over.key (is_key_of_calls c.in-Over.key (calls_in d w).entries) w))
+    (c.moment_by-in-Over.ensures (subst (IsBy c.args.now) c.in-Over.is by)) holds)) c.end_transaction.ensures.err
 
 pub returns-in-Nothing-clause-done : goal.returns-in-Nothing-clause-done
 returns-in-Nothing-clause-done c = λ by.

@@ -22,7 +22,7 @@ returns-in-None-clause-done c fuel d token before w did e s =
 
 pub loop-i-preserved : goal.loop-i-preserved
 loop-i-preserved c fuel d token before w did e s =
-    let law = c.calls_draw_on.ensures.law in
+    let law = c.numbers_are_drawn_on.ensures in
     let now = c.args.now in
     let i = c.loop-i.i in
     let so_far = c.loop-i.invariant fuel d token before w did e s in
@@ -39,7 +39,7 @@ loop-i-preserved c fuel d token before w did e s =
 
 pub returns-in_err-fire-in-Some-clause-err : goal.returns-in_err-fire-in-Some-clause-err
 returns-in_err-fire-in-Some-clause-err c = on_err c.from_residual.result _ (λ fuel d token before w did e s.
-    let law = c.calls_draw_on.ensures.law in
+    let law = c.numbers_are_drawn_on.ensures in
     let now = c.args.now in
     let i = c.loop-i.i in
     let so_far = c.loop-i.invariant fuel d token before w did e s in
@@ -59,4 +59,4 @@ returns-in_err-fire-in-Some-clause-err c = on_err c.from_residual.result _ (λ f
 pub returns-clause-done : goal.returns-clause-done
 returns-clause-done c fuel d token before w did e s =
     let so_far = c.loop-i.invariant fuel d token before w did e s in
-    absurd (omega (arith, c.loop-i-test.false, so_far.1, s.steps, (never_longer d token c.calls_draw_on.ensures.law c.loop-i.i fuel c.args.now w e).steps))
+    absurd (omega (arith, c.loop-i-test.false, so_far.1, s.steps, (never_longer d token c.numbers_are_drawn_on.ensures c.loop-i.i fuel c.args.now w e).steps))

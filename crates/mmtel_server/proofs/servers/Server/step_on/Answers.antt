@@ -13,7 +13,7 @@ use Rattle.mmtel_server.specs.Stepped.{call_of, happened_in}
 pub returns-clause-done : goal.returns-clause-done
 returns-clause-done g c = IfOk-weaker c.come_at.result _ _ (λ a came.
     let one = happened_in c.args.event.now (kept_in a.0.kept) a.0.rows a.1 in
-    went_all c.calls_draw_on.ensures.law c.args.self.now c.settle.new.self c.args.out.now c.settle.new.out one c.later-clock.result
+    went_all c.numbers_are_drawn_on.ensures c.args.self.now c.settle.new.self c.args.out.now c.settle.new.out one c.later-clock.result
     (clock_is c.later-clock.result c.args.self.now.clock c.moment.result one c.later-clock.ensures c.moment.ensures.moment)
     c.in_ok-settle.ensures.done c.come_at.new.self c.come_at.new.out came.went)
     c.come_at.ensures.done
@@ -29,10 +29,10 @@ returns-clause-keeper g c = IfOk-weaker c.come_at.result _ _ (λ a came.
       mid = came.mid;
       asked = λ d token before w fuel did ready short.
           subst (λ (x : Directory). Answers (call_of x.names c.args.event.now) (kept_in a.0.kept) a.0.rows (g.K.Keeper.held c.args.keeper.now) came.between (g.K.Keeper.calls c.args.keeper.now) came.midst)
-          (directory_there c.calls_draw_on.ensures.law c.args.self.now c.settle.new.self c.args.out.now c.settle.new.out one c.later-clock.result clock
+          (directory_there c.numbers_are_drawn_on.ensures c.args.self.now c.settle.new.self c.args.out.now c.settle.new.out one c.later-clock.result clock
           c.in_ok-settle.ensures.done fuel d token before w did ready short) came.asked;
       counted = came.counted;
-      waited = waited_there c.calls_draw_on.ensures.law c.args.self.now c.settle.new.self c.args.out.now c.settle.new.out one c.later-clock.result clock
+      waited = waited_there c.numbers_are_drawn_on.ensures c.args.self.now c.settle.new.self c.args.out.now c.settle.new.out one c.later-clock.result clock
           c.in_ok-settle.ensures.done came.waiting came.waited;
       handed = came.handed;
       handed_counted = came.handed_counted;
@@ -43,7 +43,7 @@ pub returns-in_err-settle-clause-met : goal.returns-in_err-settle-clause-met
 returns-in_err-settle-clause-met g c = on_err c.from_residual.result _ (record {
   kept = no_memory;
   rows = [];
-  broke = λ took. cut_before c.calls_draw_on.ensures.law c.args.self.now c.settle.new.self c.args.out.now c.settle.new.out (happened_in c.args.event.now no_memory [] took) c.later-clock.result
+  broke = λ took. cut_before c.numbers_are_drawn_on.ensures c.args.self.now c.settle.new.self c.args.out.now c.settle.new.out (happened_in c.args.event.now no_memory [] took) c.later-clock.result
       (clock_is c.later-clock.result c.args.self.now.clock c.moment.result (happened_in c.args.event.now no_memory [] took) c.later-clock.ensures c.moment.ensures.moment)
       c.in_err-settle.ensures.err;
   between = g.K.Keeper.held c.args.keeper.now;
@@ -61,7 +61,7 @@ returns-clause-met g c = on_err_weaker c.come_at.result (λ m.
       rows = m.rows;
       broke = λ took.
           let one = happened_in c.args.event.now m.kept m.rows took in
-          cut_within c.calls_draw_on.ensures.law c.args.self.now c.settle.new.self c.args.out.now c.settle.new.out one c.later-clock.result
+          cut_within c.numbers_are_drawn_on.ensures c.args.self.now c.settle.new.self c.args.out.now c.settle.new.out one c.later-clock.result
           (clock_is c.later-clock.result c.args.self.now.clock c.moment.result one c.later-clock.ensures c.moment.ensures.moment)
           c.in_ok-settle.ensures.done c.come_at.new.self c.come_at.new.out (m.broke took);
       between = m.between;
@@ -70,7 +70,7 @@ returns-clause-met g c = on_err_weaker c.come_at.result (λ m.
       asked = λ took d token before w fuel did ready short.
           let one = happened_in c.args.event.now m.kept m.rows took in
           subst (λ (x : Directory). Answers (call_of x.names c.args.event.now) m.kept m.rows (g.K.Keeper.held c.args.keeper.now) m.between (g.K.Keeper.calls c.args.keeper.now) m.midst)
-          (directory_there c.calls_draw_on.ensures.law c.args.self.now c.settle.new.self c.args.out.now c.settle.new.out one c.later-clock.result
+          (directory_there c.numbers_are_drawn_on.ensures c.args.self.now c.settle.new.self c.args.out.now c.settle.new.out one c.later-clock.result
           (clock_is c.later-clock.result c.args.self.now.clock c.moment.result one c.later-clock.ensures c.moment.ensures.moment)
           c.in_ok-settle.ensures.done fuel d token before w did ready short) m.asked;
       counted = m.counted;

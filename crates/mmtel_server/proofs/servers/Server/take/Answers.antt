@@ -2,6 +2,7 @@ use Rattle.std.proofs.Common.{ap, sym, subst}
 use Rattle.std.specs.Prelude.{OnErr, OnOk}
 use Rattle.mmtel_intake.specs.Courses.{course_in}
 use Rattle.mmtel_intake.specs.declared.answers.Course.{Course}
+use Rattle.mmtel_run.specs.Audio.{is_for_room}
 use Rattle.mmtel_run.specs.World.{taking}
 use Rattle.mmtel_server.proofs.Grows.{stops_on, takes}
 use Rattle.mmtel_server.proofs.servers.Server.take.Goals as goal
@@ -15,7 +16,7 @@ returns-in-Refuse-clause-done c = subst (λ (x : Course). OnOk c.replying.result
 pub returns-in-Refuse-clause-err : goal.returns-in-Refuse-clause-err
 returns-in-Refuse-clause-err c = stops_on c.replying.result
     (λ d token. taking d token c.args.at c.args.key c.args.request (course_in c.args.course)) c.args.self.now c.args.out.now c.replying.new.out
-    (λ d token w. takes c.calls_draw_on.ensures.law d token c.args.at c.args.key c.args.request (course_in c.args.course) w) c.replying.ensures.err
+    (λ d token w. takes c.numbers_are_drawn_on.ensures d token c.args.at c.args.key c.args.request (course_in c.args.course) w) c.replying.ensures.err
 
 pub returns-in-Enter-clause-done : goal.returns-in-Enter-clause-done
 returns-in-Enter-clause-done c = subst (λ (x : Course). OnOk c.signal.result
@@ -27,7 +28,7 @@ returns-in-Enter-clause-err c = subst (λ (x : Course). OnErr c.signal.result
     (Breaks c.args.self.now c.args.out.now c.signal.new.out (λ d token. taking d token c.args.at c.args.key c.args.request (course_in x)))) (sym c.in-Enter.is) c.signal.ensures.err
 
 pub open-requires : goal.open-requires
-open-requires c = c.requires (ap course_in c.in-Open.is)
+open-requires c = c.requires.below (ap course_in c.in-Open.is)
 
 pub returns-in-Open-clause-done : goal.returns-in-Open-clause-done
 returns-in-Open-clause-done c = subst (λ (x : Course). OnOk c.open.result
@@ -46,14 +47,37 @@ returns-in-Register-clause-done c = subst (λ (x : Course). OnOk c.register.resu
 pub returns-in-Register-clause-err : goal.returns-in-Register-clause-err
 returns-in-Register-clause-err c = stops_on c.register.result
     (λ d token. taking d token c.args.at c.args.key c.args.request (course_in c.args.course)) c.args.self.now c.args.out.now c.register.new.out
-    (λ d token w. takes c.calls_draw_on.ensures.law d token c.args.at c.args.key c.args.request (course_in c.args.course) w) c.register.ensures.err
+    (λ d token w. takes c.numbers_are_drawn_on.ensures d token c.args.at c.args.key c.args.request (course_in c.args.course) w) c.register.ensures.err
 
-pub returns-in-Unbuilt-clause-done : goal.returns-in-Unbuilt-clause-done
-returns-in-Unbuilt-clause-done c = subst (λ (x : Course). OnOk c.pass_over.result
-    (Follows c.args.self.now c.args.out.now c.pass_over.new.self c.pass_over.new.out (λ d token. taking d token c.args.at c.args.key c.args.request (course_in x))))
-    (sym c.in-Unbuilt.is) c.pass_over.ensures.done
+pub returns-in-EnterRoom-clause-done : goal.returns-in-EnterRoom-clause-done
+returns-in-EnterRoom-clause-done c = subst (λ (x : Course). OnOk c.enter_room.result
+    (Follows c.args.self.now c.args.out.now c.enter_room.new.self c.enter_room.new.out (λ d token. taking d token c.args.at c.args.key c.args.request (course_in x))))
+    (sym c.in-EnterRoom.is) c.enter_room.ensures.done
 
-pub returns-in-Unbuilt-clause-err : goal.returns-in-Unbuilt-clause-err
-returns-in-Unbuilt-clause-err c = stops_on c.pass_over.result
-    (λ d token. taking d token c.args.at c.args.key c.args.request (course_in c.args.course)) c.args.self.now c.args.out.now c.pass_over.new.out
-    (λ d token w. takes c.calls_draw_on.ensures.law d token c.args.at c.args.key c.args.request (course_in c.args.course) w) c.pass_over.ensures.err
+pub returns-in-EnterRoom-clause-err : goal.returns-in-EnterRoom-clause-err
+returns-in-EnterRoom-clause-err c = subst (λ (x : Course). OnErr c.enter_room.result
+    (Breaks c.args.self.now c.args.out.now c.enter_room.new.out (λ d token. taking d token c.args.at c.args.key c.args.request (course_in x)))) (sym c.in-EnterRoom.is) c.enter_room.ensures.err
+
+pub open_room-requires : goal.open_room-requires
+open_room-requires c = c.requires.audio (ap (λ (x : Course). is_for_room (course_in x)) c.in-OpenRoom.is)
+
+pub returns-in-OpenRoom-clause-done : goal.returns-in-OpenRoom-clause-done
+returns-in-OpenRoom-clause-done c = subst (λ (x : Course). OnOk c.open_room.result
+    (Follows c.args.self.now c.args.out.now c.open_room.new.self c.open_room.new.out (λ d token. taking d token c.args.at c.args.key c.args.request (course_in x))))
+    (sym c.in-OpenRoom.is) c.open_room.ensures.done
+
+pub returns-in-OpenRoom-clause-err : goal.returns-in-OpenRoom-clause-err
+returns-in-OpenRoom-clause-err c = subst (λ (x : Course). OnErr c.open_room.result
+    (Breaks c.args.self.now c.args.out.now c.open_room.new.out (λ d token. taking d token c.args.at c.args.key c.args.request (course_in x)))) (sym c.in-OpenRoom.is) c.open_room.ensures.err
+
+pub join_room-requires : goal.join_room-requires
+join_room-requires c = c.requires.audio (ap (λ (x : Course). is_for_room (course_in x)) c.in-JoinRoom.is)
+
+pub returns-in-JoinRoom-clause-done : goal.returns-in-JoinRoom-clause-done
+returns-in-JoinRoom-clause-done c = subst (λ (x : Course). OnOk c.join_room.result
+    (Follows c.args.self.now c.args.out.now c.join_room.new.self c.join_room.new.out (λ d token. taking d token c.args.at c.args.key c.args.request (course_in x))))
+    (sym c.in-JoinRoom.is) c.join_room.ensures.done
+
+pub returns-in-JoinRoom-clause-err : goal.returns-in-JoinRoom-clause-err
+returns-in-JoinRoom-clause-err c = subst (λ (x : Course). OnErr c.join_room.result
+    (Breaks c.args.self.now c.args.out.now c.join_room.new.out (λ d token. taking d token c.args.at c.args.key c.args.request (course_in x)))) (sym c.in-JoinRoom.is) c.join_room.ensures.err

@@ -1,15 +1,15 @@
-use Rattle.std.proofs.Common.{◌≡◌, Bool, List, ℕ, Option, ap, ◌∙◌, sym, refl}
+use Rattle.std.proofs.Common.{Bool, Option, ap, ◌∙◌, sym, refl}
 use Rattle.std.proofs.lemmas.Result.{on_err_weaker, on_ok_weaker}
 use Rattle.mmtel_b2bua.specs.Histories.{CallsView}
 use Rattle.mmtel_directory.specs.declared.directories.Directory.{Directory}
-use Rattle.mmtel_intake.specs.Courses.{course_in}
-use Rattle.mmtel_run.specs.Calls.{are_full, named_by}
-use Rattle.mmtel_run.specs.Refusals.{Course, course}
-use Rattle.mmtel_run.specs.World.{World, calls_in, taking, taking_fresh}
+use Rattle.std.specs.Option.{option_map}
+use Rattle.mmtel_intake.specs.Courses.{course_in, holder_in as holder_of}
+use Rattle.mmtel_run.specs.Calls.{are_full}
+use Rattle.mmtel_run.specs.Refusals.{course}
+use Rattle.mmtel_run.specs.Rooms.{Holder}
+use Rattle.mmtel_run.specs.World.{World, calls_in, holder_in, taking, taking_fresh}
 use Rattle.mmtel_transaction.specs.Answers.{is_merged}
 use Rattle.mmtel_transaction.specs.Calls.{live}
-use Rattle.mmtel_types.specs.declared.numbers.CallNo.{CallNo}
-use Rattle.mmtel_types.specs.declared.sides.Side.{Side}
 use Rattle.mmtel_server.proofs.Asked.{breaks_so, follows_so}
 use Rattle.mmtel_server.proofs.Courses.{opened_below}
 use Rattle.mmtel_server.proofs.Grows.{on_err, stops, takes_fresh}
@@ -18,17 +18,19 @@ use Rattle.mmtel_server.proofs.servers.Server.take_fresh.Goals as goal
 pub returns-in_err-named-clause-err : goal.returns-in_err-named-clause-err
 returns-in_err-named-clause-err c = on_err c.from_residual.result _
     (stops (λ d token. taking_fresh d token c.args.at c.args.key c.args.request) c.args.self.now c.args.out.now c.args.out.now
-    (λ d token w. takes_fresh c.calls_draw_on.ensures.law d token c.args.at c.args.key c.args.request w) refl)
+    (λ d token w. takes_fresh c.numbers_are_drawn_on.ensures d token c.args.at c.args.key c.args.request w) refl)
 
 pub returns-in_err-course-clause-err : goal.returns-in_err-course-clause-err
 returns-in_err-course-clause-err c = on_err c.from_residual-in_err-course.result _
     (stops (λ d token. taking_fresh d token c.args.at c.args.key c.args.request) c.args.self.now c.args.out.now c.args.out.now
-    (λ d token w. takes_fresh c.calls_draw_on.ensures.law d token c.args.at c.args.key c.args.request w) refl)
+    (λ d token w. takes_fresh c.numbers_are_drawn_on.ensures d token c.args.at c.args.key c.args.request w) refl)
 
 pub take-requires : goal.take-requires
-take-requires c = λ opens.
-    sym c.is_full-full.ensures
-    ∙ opened_below c.args.self.now.directory c.merged-merged.result c.is_full-full.result c.in_ok-named.named c.args.request.heard (sym c.in_ok-course.ensures.course ∙ opens)
+take-requires c = record {
+  below = λ opens. sym c.is_full-full.ensures
+      ∙ opened_below c.args.self.now.directory c.merged-merged.result c.is_full-full.result (option_map holder_of c.in_ok-named.named) c.args.request.heard (sym c.in_ok-course.ensures.course ∙ opens);
+  audio = c.in_ok-course.ensures.audio;
+}
 
 pub returns-clause-done : goal.returns-clause-done
 returns-clause-done c = on_ok_weaker c.take.result (λ follows.
@@ -36,12 +38,12 @@ returns-clause-done c = on_ok_weaker c.take.result (λ follows.
     let s = c.args.self.now in
     let merged : World → Bool = λ w. is_merged c.args.key.0 (live w.acts) in
     let full : Directory → World → Bool = λ d w. are_full (calls_in d w).entries in
-    follows_so (course_in c.in_ok-course.course) (λ d w. course d (merged w) (full d w) (named_by m (calls_in d w).entries) m) (λ x d token. taking d token c.args.at c.args.key c.args.request x) s c.args.out.now
+    follows_so (course_in c.in_ok-course.course) (λ d w. course d (merged w) (full d w) (holder_in d m w) m) (λ x d token. taking d token c.args.at c.args.key c.args.request x) s c.args.out.now
     (λ d token w have. c.in_ok-course.ensures.course
-    ∙ (ap (λ (b : Bool). course s.directory b c.is_full-full.result c.in_ok-named.named m) (c.merged-merged.ensures.live w.acts have.transactions)
-    ∙ (ap (λ (b : Bool). course s.directory (merged w) b c.in_ok-named.named m) (c.is_full-full.ensures ∙ ap (λ (v : CallsView). are_full v.table.entries) have.calls)
-    ∙ (ap (λ (n : Option (CallNo × Side)). course s.directory (merged w) (full d w) n m) (c.in_ok-named.ensures d token w have)
-    ∙ ap (λ (x : Directory). course x (merged w) (full d w) (named_by m (calls_in d w).entries) m) have.directory_same))))
+    ∙ (ap (λ (b : Bool). course s.directory b c.is_full-full.result (option_map holder_of c.in_ok-named.named) m) (c.merged-merged.ensures.live w.acts have.transactions)
+    ∙ (ap (λ (b : Bool). course s.directory (merged w) b (option_map holder_of c.in_ok-named.named) m) (c.is_full-full.ensures ∙ ap (λ (v : CallsView). are_full v.table.entries) have.calls)
+    ∙ (ap (λ (n : Option Holder). course s.directory (merged w) (full d w) n m) (c.in_ok-named.ensures d token w have)
+    ∙ ap (λ (x : Directory). course x (merged w) (full d w) (holder_in d m w) m) have.directory_same))))
     c.take.new.self c.take.new.out follows)
     c.take.ensures.done
 
@@ -51,11 +53,11 @@ returns-clause-err c = on_err_weaker c.take.result (λ breaks.
     let s = c.args.self.now in
     let merged : World → Bool = λ w. is_merged c.args.key.0 (live w.acts) in
     let full : Directory → World → Bool = λ d w. are_full (calls_in d w).entries in
-    breaks_so (course_in c.in_ok-course.course) (λ d w. course d (merged w) (full d w) (named_by m (calls_in d w).entries) m) (λ x d token. taking d token c.args.at c.args.key c.args.request x) s c.args.out.now
+    breaks_so (course_in c.in_ok-course.course) (λ d w. course d (merged w) (full d w) (holder_in d m w) m) (λ x d token. taking d token c.args.at c.args.key c.args.request x) s c.args.out.now
     (λ d token w have. c.in_ok-course.ensures.course
-    ∙ (ap (λ (b : Bool). course s.directory b c.is_full-full.result c.in_ok-named.named m) (c.merged-merged.ensures.live w.acts have.transactions)
-    ∙ (ap (λ (b : Bool). course s.directory (merged w) b c.in_ok-named.named m) (c.is_full-full.ensures ∙ ap (λ (v : CallsView). are_full v.table.entries) have.calls)
-    ∙ (ap (λ (n : Option (CallNo × Side)). course s.directory (merged w) (full d w) n m) (c.in_ok-named.ensures d token w have)
-    ∙ ap (λ (x : Directory). course x (merged w) (full d w) (named_by m (calls_in d w).entries) m) have.directory_same))))
+    ∙ (ap (λ (b : Bool). course s.directory b c.is_full-full.result (option_map holder_of c.in_ok-named.named) m) (c.merged-merged.ensures.live w.acts have.transactions)
+    ∙ (ap (λ (b : Bool). course s.directory (merged w) b (option_map holder_of c.in_ok-named.named) m) (c.is_full-full.ensures ∙ ap (λ (v : CallsView). are_full v.table.entries) have.calls)
+    ∙ (ap (λ (n : Option Holder). course s.directory (merged w) (full d w) n m) (c.in_ok-named.ensures d token w have)
+    ∙ ap (λ (x : Directory). course x (merged w) (full d w) (holder_in d m w) m) have.directory_same))))
     c.take.new.out breaks)
     c.take.ensures.err

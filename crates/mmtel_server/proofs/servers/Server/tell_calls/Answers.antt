@@ -10,10 +10,11 @@ returns-in-Ok c = λ directory token before out world did.
     let peers = s.directory.peers in
     let accounts = s.directory.names.accounts in
     let heard : InForce → Heard = λ v. record { at = c.args.at; view = v; tokens = s.tokens; signal = c.args.signal } in
-    hear c.records_are_those_kept.ensures.told c.records_are_those_kept.ensures.seen c.calls_draw_on.ensures.law
+    hear c.records_are_those_kept.ensures.told c.records_are_those_kept.ensures.seen c.numbers_are_drawn_on.ensures
     directory token before out s world did c.view.ensures.agrees c.args.at c.args.signal
-    c.signal.new.self c.signal.new.tokens c.in-Ok.emits
+    c.signal.new.self c.take_rows_of_calls.new.calls c.signal.new.tokens c.in-Ok.emits c.take_rows_of_calls.new.waiting
     (subst (λ (v : InForce). (deeds : List Deed) → Stands peers accounts s.calls deeds → Stands peers accounts c.signal.new.self (Hears (heard v) ∷ deeds)) c.view.ensures.all c.in-Ok.ensures.done)
     (subst (λ (v : InForce). (deeds : List Deed) → Stands peers accounts s.calls deeds → c.in-Ok.emits ≡ (hears_after (site_of s.calls peers accounts) deeds (heard v)).desk.out) c.view.ensures.all c.in-Ok.ensures.emits)
     (subst (λ (v : InForce). (deeds : List Deed) → Stands peers accounts s.calls deeds → c.signal.new.tokens ≡ (hears_after (site_of s.calls peers accounts) deeds (heard v)).desk.tokens) c.view.ensures.all c.in-Ok.ensures.tokens)
     c.in-Ok.ensures.site
+    c.in_ok-take_rows_of_calls-in-Ok.ensures.waiting c.in_ok-take_rows_of_calls-in-Ok.ensures.done c.in_ok-take_rows_of_calls-in-Ok.ensures.site

@@ -1,0 +1,319 @@
+-- Who has a seat, and what a REFER with Replaces brings: what the code reads and does, one after another, is what is due.
+use Rattle.std.proofs.Common.{◌≡◌, ◌+◌, ◌<◌, ◌^◌, ◌++◌, ℕ, List, append-nil, refl, sym, ap, ◌∙◌, subst, Bool, true, false, Option, Some, None, Result, Ok, Err}
+use Rattle.std.specs.Prelude.{◌&&◌, if◌then◌else◌, codes, IsOk}
+use Rattle.std.proofs.lemmas.Bool.{false≢true}
+use Rattle.mmtel_answers.specs.Said.{Said}
+use Rattle.mmtel_b2bua.specs.Histories.{CallsView, Restores}
+use Rattle.mmtel_b2bua.specs.Lending.{leg_out}
+use Rattle.mmtel_b2bua.specs.Names.{party}
+use Rattle.mmtel_directory.specs.declared.directories.Directory.{Directory}
+use Rattle.mmtel_focus.specs.Histories.{Coming, Deed, Joins, Opens, RoomsView, coming, entering}
+use Rattle.mmtel_focus.specs.Joining.{come}
+use Rattle.mmtel_focus.specs.Referrals.{referral_in}
+use Rattle.mmtel_focus.specs.Table.{access, has_no_room}
+use Rattle.mmtel_focus.specs.declared.faults.RoomFault.{RoomFault}
+use Rattle.mmtel_focus.specs.declared.referrals.Replaces.{Replaces}
+use Rattle.mmtel_focus.specs.declared.signals.Joining.{Joining}
+use Rattle.mmtel_focus.specs.declared.signals.Joining.TheVariants as joining
+use Rattle.mmtel_focus.specs.declared.signals.RoomSignal.TheVariants as of_room
+use Rattle.mmtel_leg.specs.Legs.{Leg}
+use Rattle.mmtel_leg.specs.declared.legs.Released.{Released}
+use Rattle.mmtel_leg.specs.declared.legs.Released.TheVariants as released
+use Rattle.mmtel_message.specs.Faults.{is_method}
+use Rattle.mmtel_outside.specs.declared.events.Offer.{Offer}
+use Rattle.mmtel_run.specs.Rooms.{account_at, account_of_side, is_accepted, is_with, leg_by, replacement_in, replaces_by, side_replaced, status_by}
+use Rattle.mmtel_run.specs.Short.{IsShort, tokens_of}
+use Rattle.mmtel_run.specs.World.{World, adopting, adoption_of, calls_in, comes_of, drawing, emitted, entering_room, finishing, heard_in_rooms, housed, lending, lodging, next_tag, noticed, replaced, replaced_by, replaced_with, replacing, room_joined, room_opened, rooms_in, seated, taken_out, tokens_now, turned_away}
+use Rattle.mmtel_scan.specs.Numbers.{token_text}
+use Rattle.mmtel_transaction.specs.Tokens.{Drawn}
+use Rattle.mmtel_transaction.specs.declared.words.Emit.{Emit}
+use Rattle.mmtel_transaction.specs.declared.words.TKey.{TKey}
+use Rattle.mmtel_trust.specs.Digest.{HeardMessage, caller_account}
+use Rattle.mmtel_types.specs.declared.numbers.Account.{Account}
+use Rattle.mmtel_types.specs.declared.numbers.CallNo.{CallNo}
+use Rattle.mmtel_types.specs.declared.numbers.Peer.{Peer}
+use Rattle.mmtel_types.specs.declared.numbers.RoomNo.{RoomNo}
+use Rattle.mmtel_types.specs.declared.sides.Side.{Side}
+use Rattle.mmtel_server.proofs.Asked.{breaks_so, follows_so}
+use Rattle.mmtel_server.proofs.Deeds.{done_breaks, done_follows, drawn_small, drew}
+use Rattle.mmtel_server.proofs.Grows.{Grows, broken, draws, emits_all, finishes, followed, front_of, front_on, grows_on, houses, lends, lodges, same, seats, short_of}
+use Rattle.mmtel_server.proofs.Housing.{Closes}
+use Rattle.mmtel_server.proofs.RoomWords as words
+use Rattle.mmtel_server.specs.Follows.{AllDrawOn, Breaks, Follows, RoomsDo, RoomsOpen, housed_in, lodged_in}
+use Rattle.mmtel_server.specs.Stands.{Did, IsCut, Stands}
+use Rattle.mmtel_server.specs.declared.servers.Server.{Server}
+
+-- ---- deeds on rooms
+
+-- who opens a room leaves none
+pub opens_closes : (c : Coming) → Closes (Opens c)
+unfolding come
+opens_closes c site table = sym (append-nil table.rows)
+
+pub enters_closes : (room at : ℕ) (leg : Released) (account : Option Account) (how : Joining) (t : Drawn) → Closes (entering room at t leg account how)
+enters_closes room at leg account (joining.Invited key invite) t site table = refl
+enters_closes room at leg account (joining.Referred by) t site table = refl
+
+pub enters_own : (room at : ℕ) (leg : Released) (account : Option Account) (how : Joining) (t : Drawn) → tokens_of (entering room at t leg account how) ≡ t
+enters_own room at leg account (joining.Invited key invite) t = refl
+enters_own room at leg account (joining.Referred by) t = refl
+
+-- ---- more is done with each of them
+
+module _ (law : AllDrawOn) (d : Directory) (token : List ℕ) (at : ℕ) where
+  pub turns_away_grows : (key : TKey) (s : Said) (tag : List ℕ) (code : ℕ) (w : World) → Grows w (turned_away d at key s tag code w)
+  turns_away_grows = words.turns_away Grows grows_on d token at same (draws 1) (emits_all at) (lodges at) (houses law d at) lends (finishes law d token at)
+
+  pub room_opens_grows : (key : TKey) (s : Said) (tag : List ℕ) (full : Bool) (w : World) → Grows w (room_opened d at key s tag full w)
+  room_opens_grows = words.room_opens Grows grows_on d token at same (draws 1) (emits_all at) (lodges at) (houses law d at) lends (finishes law d token at)
+
+  pub room_joins_grows : (key : TKey) (s : Said) (room : RoomNo) (tag : List ℕ) (found : Result ℕ RoomFault) (w : World) → Grows w (room_joined d token at key s room tag found w)
+  room_joins_grows = words.room_joins Grows grows_on d token at same (draws 1) (emits_all at) (lodges at) (houses law d at) lends (finishes law d token at)
+
+  pub adopts_grows : (room : RoomNo) (seat : ℕ) (call : CallNo) (leg : Released) (account : Option Account) (found : Result ℕ RoomFault) (w : World)
+      → Grows w (adopting d token at room seat call leg account found w)
+  adopts_grows = words.adopts Grows grows_on d token at same (draws 1) (emits_all at) (lodges at) (houses law d at) lends (finishes law d token at)
+
+  pub takes_out_grows : (room : RoomNo) (seat : ℕ) (call : CallNo) (side : Side) (account : Option Account) (leg : Option Released) (w : World)
+      → Grows w (taken_out d token at room seat call side account leg w)
+  takes_out_grows = words.takes_out Grows grows_on d token at same (draws 1) (emits_all at) (lodges at) (houses law d at) lends (finishes law d token at)
+
+  pub replaces_grows : (peer : Peer) (room : RoomNo) (seat : ℕ) (x : Replaces) (w : World) → Grows w (replaced d token at peer room seat x w)
+  replaces_grows = words.replaces Grows grows_on d token at same (draws 1) (emits_all at) (lodges at) (houses law d at) lends (finishes law d token at)
+
+  pub replaces_asked_grows : (peer : Peer) (room : RoomNo) (seat : ℕ) (x : Option Replaces) (w : World) → Grows w (replacing d token at peer room seat x w)
+  replaces_asked_grows = words.replaces_asked Grows grows_on d token at same (draws 1) (emits_all at) (lodges at) (houses law d at) lends (finishes law d token at)
+
+-- ---- a tag is drawn first
+
+module _ (s : Server) (t : Drawn) (tag : List ℕ) (out : List Offer)
+    (drawn : s.tokens.drawn < 2 ^ 60 → t ≡ record { token = s.tokens.token; drawn = s.tokens.drawn + 1 })
+    (tags : s.tokens.drawn < 2 ^ 60 → tag ≡ token_text s.tokens.token (s.tokens.drawn + 1))
+    (g : List ℕ → Directory → List ℕ → World → World) (grows : (x : List ℕ) (d : Directory) (token : List ℕ) (w : World) → Grows w (g x d token w)) where
+  module _ (d : Directory) (token : List ℕ) (before : List Offer) (w : World) (did : Did d token before s out w) (short : IsShort (g (next_tag token w) d token (drawing 1 w))) where
+    small : s.tokens.drawn < 2 ^ 60
+    small =
+        let all : World = g (next_tag token w) d token (drawing 1 w) in
+        drawn_small d token before s out w did (short_of w all (grows_on w (drawing 1 w) all (draws 1 w) (grows (next_tag token w) d token (drawing 1 w))) short)
+
+    is_next : tag ≡ next_tag token w
+    is_next = tags small ∙ ap (λ (x : Drawn). token_text x.token (x.drawn + 1)) did.stands.tokens
+
+    there : Did d token before (record s { tokens = t }) out (drawing 1 w)
+    there = drew d token before s t out w 1 did (drawn small)
+
+    few : IsShort (g tag d token (drawing 1 w))
+    few = subst (λ (x : List ℕ). IsShort (g x d token (drawing 1 w))) (sym is_next) short
+
+  pub follows_tagged : (new : Server) (now : List Offer) → Follows (record s { tokens = t }) out new now (g tag) → Follows s out new now (λ d token w. g (next_tag token w) d token (drawing 1 w))
+  follows_tagged new now follows d token before w did short =
+      subst (λ (x : List ℕ). Did d token before new now (g x d token (drawing 1 w))) (is_next d token before w did short)
+      (follows d token before (drawing 1 w) (there d token before w did short) (few d token before w did short))
+
+  pub breaks_tagged : (now : List Offer) → Breaks (record s { tokens = t }) out now (g tag) → Breaks s out now (λ d token w. g (next_tag token w) d token (drawing 1 w))
+  breaks_tagged now breaks d token before w did short =
+      subst (λ (x : List ℕ). IsCut out now (before ++ (g x d token (drawing 1 w)).offers)) (is_next d token before w did short)
+      (breaks d token before (drawing 1 w) (there d token before w did short) (few d token before w did short))
+
+-- ---- what was read decides
+
+-- what is so of deeds, where it is so of a deed that reads what stands there once it is of that which names it
+abbrev pub Reads : Server → ((Directory → List ℕ → World → World) → Type 0) → Type 1
+Reads s P =
+    (A : Type 0) (x : A) (f : Directory → World → A) (deed : A → Directory → List ℕ → World → World) →
+    ((d : Directory) (token : List ℕ) (w : World) → Stands d token s w → x ≡ f d w) → P (deed x) → P (λ d token w. deed (f d w) d token w)
+
+pub follows_reads : (s : Server) (out : List Offer) (new : Server) (now : List Offer) → Reads s (Follows s out new now)
+follows_reads s out new now A x f deed is follows = follows_so x f deed s out is new now follows
+
+pub breaks_reads : (s : Server) (out now : List Offer) → Reads s (Breaks s out now)
+breaks_reads s out now A x f deed is breaks = breaks_so x f deed s out is now breaks
+
+module _ (s : Server) (P : (Directory → List ℕ → World → World) → Type 0) (reads : Reads s P) (at : ℕ) where
+  -- who comes to the factory
+  module _ (key : TKey) (said : Said) (tag : List ℕ) where
+    is_full : (d : Directory) (token : List ℕ) (w : World) → Stands d token s w → has_no_room s.rooms.table.live ≡ has_no_room (rooms_in d w).live
+    is_full d token w have = ap (λ (r : RoomsView). has_no_room r.table.live) have.rooms
+
+    is_callers : (account : Option Account) → account ≡ caller_account s.directory.names.accounts said.heard
+        → (d : Directory) (token : List ℕ) (w : World) → Stands d token s w → account ≡ caller_account d.names.accounts said.heard
+    is_callers account is d token w have = is ∙ ap (λ (x : Directory). caller_account x.names.accounts said.heard) have.directory_same
+
+    abbrev opened_as : Option Account → Directory → List ℕ → World → World
+    opened_as a d token w = let deed : Deed = Opens (coming at (leg_by tag said) a key said) in lodging at deed (comes_of d deed w) w
+
+    pub opened_so : (leg : Leg) (account : Option Account) → leg ≡ leg_by tag said → account ≡ caller_account s.directory.names.accounts said.heard → has_no_room s.rooms.table.live ≡ false
+        → P (λ d token w. lodging at (Opens (coming at leg account key said)) (comes_of d (Opens (coming at leg account key said)) w) w)
+        → P (λ d token w. room_opened d at key said tag (has_no_room (rooms_in d w).live) w)
+    opened_so leg account is_leg is_account free p =
+        let mine : P (opened_as account) = subst (λ (l : Leg). P (λ d token w. lodging at (Opens (coming at l account key said)) (comes_of d (Opens (coming at l account key said)) w) w)) is_leg p in
+        let theirs : P (λ d token w. room_opened d at key said tag false w) = reads (Option Account) account (λ d w. caller_account d.names.accounts said.heard) opened_as (is_callers account is_account) mine in
+        reads Bool (has_no_room s.rooms.table.live) (λ d w. has_no_room (rooms_in d w).live) (λ b d token w. room_opened d at key said tag b w) is_full
+        (subst (λ (b : Bool). P (λ d token w. room_opened d at key said tag b w)) (sym free) theirs)
+
+    pub unopened_so : has_no_room s.rooms.table.live ≡ true → P (λ d token w. turned_away d at key said tag 503 w) → P (λ d token w. room_opened d at key said tag (has_no_room (rooms_in d w).live) w)
+    unopened_so full p =
+        reads Bool (has_no_room s.rooms.table.live) (λ d w. has_no_room (rooms_in d w).live) (λ b d token w. room_opened d at key said tag b w) is_full
+        (subst (λ (b : Bool). P (λ d token w. room_opened d at key said tag b w)) (sym full) p)
+
+  -- ---- whether a room takes another seat
+
+  module _ (room : RoomNo) where
+    is_found : (d : Directory) (token : List ℕ) (w : World) → Stands d token s w → access room.0 s.rooms.table.live ≡ access room.0 (rooms_in d w).live
+    is_found d token w have = ap (λ (r : RoomsView). access room.0 r.table.live) have.rooms
+
+    found_so : (g : Result ℕ RoomFault → Directory → List ℕ → World → World) (x : Result ℕ RoomFault) → access room.0 s.rooms.table.live ≡ x → P (g x) → P (λ d token w. g (access room.0 (rooms_in d w).live) d token w)
+    found_so g x is p = reads (Result ℕ RoomFault) (access room.0 s.rooms.table.live) (λ d w. access room.0 (rooms_in d w).live) g is_found (subst (λ (y : Result ℕ RoomFault). P (g y)) (sym is) p)
+
+    -- who comes to it
+    module _ (key : TKey) (said : Said) (tag : List ℕ) where
+      abbrev joined_as : Option Account → Directory → List ℕ → World → World
+      joined_as a d token w =
+          housed d at (Joins room.0 (record { at = at; tokens = tokens_now token w; leg = released.Caller (leg_by tag said); account = a; key = key; invite = said })) w
+
+      joined_in : (x : Result ℕ RoomFault) → IsOk x → (account : Option Account) → account ≡ caller_account s.directory.names.accounts said.heard
+          → P (joined_as account) → P (λ d token w. room_joined d token at key said room tag x w)
+      joined_in (Ok place) ok account is p = reads (Option Account) account (λ d w. caller_account d.names.accounts said.heard) joined_as (is_callers key said tag account is) p
+      joined_in (Err fault) ok account is p = absurd (false≢true ok)
+
+      pub joined_so : (leg : Leg) (account : Option Account) → leg ≡ leg_by tag said → account ≡ caller_account s.directory.names.accounts said.heard → IsOk (access room.0 s.rooms.table.live)
+          → P (λ d token w. housed d at (Joins room.0 (record { at = at; tokens = tokens_now token w; leg = released.Caller leg; account = account; key = key; invite = said })) w)
+          → P (λ d token w. room_joined d token at key said room tag (access room.0 (rooms_in d w).live) w)
+      joined_so leg account is_leg is_account free p =
+          found_so (λ x d token w. room_joined d token at key said room tag x w) (access room.0 s.rooms.table.live) refl
+          (joined_in (access room.0 s.rooms.table.live) free account is_account
+          (subst (λ (l : Leg). P (λ d token w. housed d at (Joins room.0 (record { at = at; tokens = tokens_now token w; leg = released.Caller l; account = account; key = key; invite = said })) w)) is_leg p))
+
+      pub unjoined_so : (fault : RoomFault) → access room.0 s.rooms.table.live ≡ Err fault → P (λ d token w. turned_away d at key said tag (status_by fault) w)
+          → P (λ d token w. room_joined d token at key said room tag (access room.0 (rooms_in d w).live) w)
+      unjoined_so fault is p = found_so (λ x d token w. room_joined d token at key said room tag x w) (Err fault) is p
+
+    -- whose leg comes out of a call
+    module _ (seat : ℕ) (call : CallNo) (leg : Released) (account : Option Account) where
+      adopted_in : (x : Result ℕ RoomFault) → IsOk x → P (λ d token w. finishing d token at call (housed d at (adoption_of token at room seat leg account w) w))
+          → P (λ d token w. adopting d token at room seat call leg account x w)
+      adopted_in (Ok place) ok p = p
+      adopted_in (Err fault) ok p = absurd (false≢true ok)
+
+      pub adopted_so : IsOk (access room.0 s.rooms.table.live) → P (λ d token w. finishing d token at call (housed d at (adoption_of token at room seat leg account w) w))
+          → P (λ d token w. adopting d token at room seat call leg account (access room.0 (rooms_in d w).live) w)
+      adopted_so free p =
+          found_so (λ x d token w. adopting d token at room seat call leg account x w) (access room.0 s.rooms.table.live) refl (adopted_in (access room.0 s.rooms.table.live) free p)
+
+      pub unadopted_so : (fault : RoomFault) → access room.0 s.rooms.table.live ≡ Err fault → P (λ d token w. noticed d token at room seat 503 (lending (Restores call.0 leg) w))
+          → P (λ d token w. adopting d token at room seat call leg account (access room.0 (rooms_in d w).live) w)
+      unadopted_so fault is p = found_so (λ x d token w. adopting d token at room seat call leg account x w) (Err fault) is p
+
+  -- ---- the leg that is asked for
+
+  module _ (room : RoomNo) (seat : ℕ) where
+    pub taken_so : (call : CallNo) (side : Side) (known : Option (Peer × Option Account)) (account : Option Account) (leg : Option Released) → account ≡ account_at known
+        → ((d : Directory) (token : List ℕ) (w : World) → Stands d token s w → known ≡ party call.0 side (calls_in d w).entries) → leg_out call.0 side s.calls.table.entries ≡ leg
+        → P (λ d token w. taken_out d token at room seat call side account leg w)
+        → P (λ d token w. taken_out d token at room seat call side (account_of_side call side (calls_in d w).entries) (leg_out call.0 side (calls_in d w).entries) w)
+    taken_so call side known account leg is_account is_known is_leg p =
+        reads (Option Account × Option Released) (account, leg) (λ d w. (account_of_side call side (calls_in d w).entries, leg_out call.0 side (calls_in d w).entries)) (λ x d token w. taken_out d token at room seat call side x.0 x.1 w)
+        (λ d token w have i. (
+          (is_account ∙ ap account_at (is_known d token w have)) i,
+          (sym is_leg ∙ ap (λ (c : CallsView). leg_out call.0 side c.table.entries) have.calls) i,
+        ))
+        p
+
+    pub side_so : (peer : Peer) (call : CallNo) (side : Side) (known : Option (Peer × Option Account)) (its : Bool) → its ≡ is_with peer known
+        → ((d : Directory) (token : List ℕ) (w : World) → Stands d token s w → known ≡ party call.0 side (calls_in d w).entries)
+        → P (λ d token w. replaced_with d token at room seat call side its w) → P (λ d token w. replaced_by d token at peer room seat (Some (call, side)) w)
+    side_so peer call side known its is is_known p =
+        reads Bool its (λ d w. is_with peer (party call.0 side (calls_in d w).entries)) (λ b d token w. replaced_with d token at room seat call side b w)
+        (λ d token w have. is ∙ ap (is_with peer) (is_known d token w have)) p
+
+    pub dialog_so : (peer : Peer) (replaces : Replaces) (named : Option (CallNo × Side))
+        → ((d : Directory) (token : List ℕ) (w : World) → Stands d token s w → named ≡ side_replaced replaces (calls_in d w).entries)
+        → P (λ d token w. replaced_by d token at peer room seat named w) → P (λ d token w. replaced d token at peer room seat replaces w)
+    dialog_so peer replaces named is p = reads (Option (CallNo × Side)) named (λ d w. side_replaced replaces (calls_in d w).entries) (λ o d token w. replaced_by d token at peer room seat o w) is p
+
+-- ---- what was done on the rooms, and then what came of it
+
+module _ (deed : Directory → List ℕ → World → Deed) (old mid : Server) (emits given : List Emit) (at : ℕ) (out now : List Offer) (is : given ≡ emits) where
+  pub housed_follows : RoomsDo old mid deed emits → (new : Server) → Follows mid out new now (λ d token. emitted at given) → Follows old out new now (λ d token w. housed d at (deed d token w) w)
+  housed_follows done new follows =
+      done_follows old mid (λ d token w. comes_of d (deed d token w) w) (λ d token w. housed_in (deed d token w) (comes_of d (deed d token w) w) w) emits given at out now done is new follows
+
+  pub housed_breaks : RoomsDo old mid deed emits → Breaks mid out now (λ d token. emitted at given) → Breaks old out now (λ d token w. housed d at (deed d token w) w)
+  housed_breaks done breaks =
+      done_breaks old mid (λ d token w. comes_of d (deed d token w) w) (λ d token w. housed_in (deed d token w) (comes_of d (deed d token w) w) w) emits given at out now done is breaks
+
+  pub lodged_follows : RoomsOpen old mid deed emits → (new : Server) → Follows mid out new now (λ d token. emitted at given)
+      → Follows old out new now (λ d token w. lodging at (deed d token w) (comes_of d (deed d token w) w) w)
+  lodged_follows done new follows =
+      done_follows old mid (λ d token w. comes_of d (deed d token w) w) (λ d token w. lodged_in (deed d token w) (comes_of d (deed d token w) w) w) emits given at out now done is new follows
+
+  pub lodged_breaks : RoomsOpen old mid deed emits → Breaks mid out now (λ d token. emitted at given) → Breaks old out now (λ d token w. lodging at (deed d token w) (comes_of d (deed d token w) w) w)
+  lodged_breaks done breaks =
+      done_breaks old mid (λ d token w. comes_of d (deed d token w) w) (λ d token w. lodged_in (deed d token w) (comes_of d (deed d token w) w) w) emits given at out now done is breaks
+
+-- it broke off in the first of two
+pub broke_first : (f h : Directory → List ℕ → World → World) (old : Server) (out now : List Offer) → ((d : Directory) (token : List ℕ) (w : World) → Grows (f d token w) (h d token w))
+    → Breaks old out now f → Breaks old out now h
+broke_first f h old out now grows breaks d token before w did short =
+    let left : World = f d token w in
+    let all : World = h d token w in
+    let cut = breaks d token before w did (short_of left all (grows d token w) short) in
+    (cut.0, front_on now (before ++ left.offers) (before ++ all.offers) cut.1 (front_of before (before ++ left.offers) left all (grows d token w) refl))
+
+-- ---- a request of a seat, and what follows of it where it was accepted
+
+both : (b c : Bool) (x : Option Replaces) → (if c then (if b then x else None) else None) ≡ (if b && c then x else None)
+both true true x = refl
+both true false x = refl
+both false true x = refl
+both false false x = refl
+
+module _ (m : HeardMessage) (asked accepted : Option Replaces) (emits given : List Emit) where
+  pub accepted_is : asked ≡ (if is_method (codes "REFER") m.start then replaces_by (referral_in m.refer_to) else None) → accepted ≡ (if is_accepted given then asked else None) → given ≡ emits
+      → accepted ≡ replacement_in m emits
+  accepted_is is where_accepted same_emits =
+      where_accepted
+      ∙ (ap (λ (l : List Emit). if is_accepted l then asked else None) same_emits
+      ∙ (ap (λ (o : Option Replaces). if is_accepted emits then o else None) is
+      ∙ both (is_method (codes "REFER") m.start) (is_accepted emits) (replaces_by (referral_in m.refer_to))))
+
+module _ (law : AllDrawOn) (at : ℕ) (key : TKey) (said : Said) (room : RoomNo) (seat : ℕ) (s mid : Server) (emits given : List Emit) (out between : List Offer)
+    (told : RoomsDo s mid (λ d token w. heard_in_rooms token at (of_room.Request room seat key said) w) emits) (is : given ≡ emits) where
+  abbrev heard : Directory → List ℕ → World → World
+  heard d token = seated d token at (of_room.Request room seat key said)
+
+  abbrev due : Directory → List ℕ → World → Option Replaces
+  due d token w = replacement_in said.heard (comes_of d (heard_in_rooms token at (of_room.Request room seat key said) w) w).out
+
+  -- memory ran out over what the request brought forth
+  pub heard_breaks : Breaks mid out between (λ d token. emitted at given) → Breaks s out between (λ d token. entering_room d token at key said room seat)
+  heard_breaks breaks =
+      broke_first heard (λ d token. entering_room d token at key said room seat) s out between (λ d token w. replaces_asked_grows law d token at said.peer room seat (due d token w) (heard d token w))
+      (housed_breaks (λ d token w. heard_in_rooms token at (of_room.Request room seat key said) w) s mid emits given at out between is told breaks)
+
+  module _ (accepted : Option Replaces) (is_due : accepted ≡ replacement_in said.heard emits) (there : Server) (first : Follows mid out there between (λ d token. emitted at given)) (now : List Offer) where
+    abbrev then_due : Directory → List ℕ → World → World
+    then_due d token = replacing d token at said.peer room seat accepted
+
+    heard_first : Follows s out there between heard
+    heard_first = housed_follows (λ d token w. heard_in_rooms token at (of_room.Request room seat key said) w) s mid emits given at out between is told there first
+
+    module _ (d : Directory) (token : List ℕ) (before : List Offer) (w : World) (did : Did d token before s out w) (short : IsShort (entering_room d token at key said room seat w)) where
+      same_due : accepted ≡ due d token w
+      same_due = is_due ∙ ap (replacement_in said.heard) (told d token before out w did).0
+
+      few_due : IsShort (then_due d token (heard d token w))
+      few_due = subst (λ (o : Option Replaces). IsShort (replacing d token at said.peer room seat o (heard d token w))) (sym same_due) short
+
+    pub entered_follows : (new : Server) → Follows there between new now (λ d token. replacing d token at said.peer room seat accepted) → Follows s out new now (λ d token. entering_room d token at key said room seat)
+    entered_follows new follows d token before w did short =
+        subst (λ (o : Option Replaces). Did d token before new now (replacing d token at said.peer room seat o (heard d token w))) (same_due d token before w did short)
+        (followed heard then_due s there new out between now (λ d token w. replaces_asked_grows law d token at said.peer room seat accepted w) heard_first follows
+        d token before w did (few_due d token before w did short))
+
+    pub entered_breaks : Breaks there between now (λ d token. replacing d token at said.peer room seat accepted) → Breaks s out now (λ d token. entering_room d token at key said room seat)
+    entered_breaks breaks d token before w did short =
+        subst (λ (o : Option Replaces). IsCut out now (before ++ (replacing d token at said.peer room seat o (heard d token w)).offers)) (same_due d token before w did short)
+        (broken heard then_due s there out between now (λ d token w. seats law d token at (of_room.Request room seat key said) w)
+        (λ d token w. replaces_asked_grows law d token at said.peer room seat accepted w) heard_first breaks
+        d token before w did (few_due d token before w did short))

@@ -1,0 +1,31 @@
+use Rattle.std.proofs.Common.{refl}
+use Rattle.std.proofs.lemmas.Result.{on_err_weaker, on_ok_weaker}
+use Rattle.mmtel_b2bua.specs.Histories.{Finishes}
+use Rattle.mmtel_run.specs.World.{finishing, tokens_now}
+use Rattle.mmtel_server.proofs.Deeds.{done_breaks, done_follows}
+use Rattle.mmtel_server.proofs.Grows.{finishes, on_err, stops}
+use Rattle.mmtel_server.proofs.servers.Server.finish.Goals as goal
+use Rattle.mmtel_server.specs.Follows.{brought_in, desk_at_end}
+
+pub returns-in_err-emits-clause-err : goal.returns-in_err-emits-clause-err
+returns-in_err-emits-clause-err c =
+    on_err c.from_residual.result _
+    (stops (λ d token. finishing d token c.args.at c.args.call) c.args.self.now c.args.out.now c.args.out.now (λ d token w. finishes c.numbers_are_drawn_on.ensures d token c.args.at c.args.call w) refl)
+
+pub returns-clause-done : goal.returns-clause-done
+returns-clause-done c =
+    let at = c.args.at in
+    let call = c.args.call in
+    on_ok_weaker c.emit_all.result
+    (done_follows c.args.self.now c.end_call.new.self (λ d token. desk_at_end d token at call) (λ d token w. brought_in (Finishes call.0 at (tokens_now token w)) (desk_at_end d token at call w) w)
+    c.in_ok-emits.emits c.items.result.now at c.args.out.now c.emit_all.new.out c.in_ok-emits.ensures c.items.ensures c.emit_all.new.self)
+    c.emit_all.ensures.done
+
+pub returns-clause-err : goal.returns-clause-err
+returns-clause-err c =
+    let at = c.args.at in
+    let call = c.args.call in
+    on_err_weaker c.emit_all.result
+    (done_breaks c.args.self.now c.end_call.new.self (λ d token. desk_at_end d token at call) (λ d token w. brought_in (Finishes call.0 at (tokens_now token w)) (desk_at_end d token at call w) w)
+    c.in_ok-emits.emits c.items.result.now at c.args.out.now c.emit_all.new.out c.in_ok-emits.ensures c.items.ensures)
+    c.emit_all.ensures.err

@@ -1,0 +1,22 @@
+use Rattle.std.proofs.Common.{ap, ◌∙◌}
+use Rattle.std.proofs.lemmas.Result.{on_ok_weaker}
+use Rattle.mmtel_directory.specs.declared.directories.Directory.{Directory}
+use Rattle.mmtel_message.specs.Message.{Message}
+use Rattle.mmtel_message.specs.declared.messages.Start.{Start}
+use Rattle.mmtel_run.specs.Answers.{Answer, plainly, response_to}
+use Rattle.mmtel_run.specs.World.{emit_one}
+use Rattle.mmtel_transaction.specs.declared.words.Emit.TheVariants as emit
+use Rattle.mmtel_server.proofs.Asked.{follows_so}
+use Rattle.mmtel_server.proofs.servers.Server.turn_from_room.Goals as goal
+
+pub returns-clause-done : goal.returns-clause-done
+returns-clause-done c = on_ok_weaker c.reply.result (λ follows.
+    let s = c.args.self.now in
+    let said = c.args.invite.now in
+    follows_so c.in_ok-response.response (λ d w. response_to d.sip c.args.tag.now said (plainly c.args.code)) (λ (m : Message Start) d token. emit_one c.args.at (emit.Reply c.args.key m)) s c.args.out.now
+    (λ d token w have.
+    c.in_ok-response.ensures.message
+    ∙ (ap (λ (a : Answer). response_to s.directory.sip c.args.tag.now said a) c.plainly.ensures.answer
+    ∙ ap (λ (x : Directory). response_to x.sip c.args.tag.now said (plainly c.args.code)) have.directory_same))
+    c.reply.new.self c.reply.new.out follows)
+    c.reply.ensures.done

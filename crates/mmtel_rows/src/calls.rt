@@ -2,8 +2,7 @@
 //!
 //! Each is a script and the listing that is due, in the form of `cases`. Records stand as comments before the bytes in which they are put.
 
-use crate::cases::wrong_run;
-use crate::openings::CONFIG;
+use mmtel_worked_runs::{CONFIG, wrong_run};
 
 /// The runs; the first is cut short in `faults`.
 pub const CALLS: &str =
@@ -1310,34 +1309,6 @@ at 0 to 1
 |CSeq: 7 INVITE
 |Content-Length: 0
 |
-~ An INVITE to the factory of rooms, and one to a room.
-at 0 peer 1
-|INVITE sip:conf@home.example SIP/2.0
-|Via: SIP/2.0/UDP 127.0.0.1:5071;branch=z9hG4bKf
-|Max-Forwards: 70
-|From: "Erin" <sip:erin@other.example>;tag=a
-|To: <sip:conf@home.example>
-|Call-ID: c1
-|CSeq: 1 INVITE
-|Contact: <sip:x@127.0.0.1:5071>
-|P-Asserted-Identity: <sip:erin@other.example>
-|Content-Length: 0
-|
-at 10 peer 1
-|INVITE sip:room-7@127.0.0.1:5060 SIP/2.0
-|Via: SIP/2.0/UDP 127.0.0.1:5071;branch=z9hG4bKg
-|Max-Forwards: 70
-|From: "Erin" <sip:erin@other.example>;tag=a
-|To: <sip:room-7@127.0.0.1:5060>
-|Call-ID: c2
-|CSeq: 1 INVITE
-|Contact: <sip:x@127.0.0.1:5071>
-|P-Asserted-Identity: <sip:erin@other.example>
-|Content-Length: 0
-|
-~ Rooms are not built yet.
-at 0 unbuilt
-at 10 unbuilt
 ~ The INVITE of a trusted peer comes again from one that is not.
 at 0 peer 1
 |INVITE sip:vm@far.example SIP/2.0

@@ -1,6 +1,6 @@
 //! Files that are checked: whether each is a service record, and else its first fault.
 
-use crate::runs::{Devices, is_right, sound};
+use mmtel_worked_runs::{Devices, is_right, sound};
 use std::alloc::Global;
 
 /// A rule of 65 identities, one more than there may be.

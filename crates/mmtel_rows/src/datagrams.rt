@@ -1,6 +1,6 @@
 //! Scripts of one datagram of Erin's peer, and what is answered to it.
 
-use crate::pages::Page;
+use mmtel_worked_runs::Page;
 
 /// What a row says of Erin's request.
 #[derive(Clone, Copy)]

@@ -1,7 +1,7 @@
 //! Files, keepers and sinks that fail, and files that break their grammars.
 
-use crate::openings::{CONFIG, RESTRICTED, RESTRICTED_OFFERS};
-use crate::runs::{Devices, is_right, sound};
+use crate::openings::{RESTRICTED, RESTRICTED_OFFERS};
+use mmtel_worked_runs::{CONFIG, Devices, is_right, sound};
 use std::alloc::Global;
 
 const REPLAY: &str = "replay|server.cfg|run.script|--token|0123456789abcdef";

@@ -1,10 +1,9 @@
 //! Calls over keepers and sinks that fail, and datagrams that are cut short.
 
 use crate::calls::CALLS;
-use crate::cases::{REPLAY, two, wrong_run_over};
-use crate::openings::{CONFIG, is_listed};
-use crate::pages::Page;
-use crate::runs::{Devices, is_right, sound};
+use mmtel_worked_runs::{
+    CONFIG, Devices, Page, REPLAY, is_listed, is_right, sound, two, wrong_run_over,
+};
 use std::alloc::Global;
 
 /// The bytes of a datagram, an INVITE of Erin to bob.

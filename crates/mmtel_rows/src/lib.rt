@@ -6,8 +6,6 @@
 #[cfg(test)]
 mod calls;
 #[cfg(test)]
-mod cases;
-#[cfg(test)]
 mod checks;
 #[cfg(test)]
 mod datagrams;
@@ -20,17 +18,11 @@ mod limits;
 #[cfg(test)]
 mod openings;
 #[cfg(test)]
-mod pages;
-#[cfg(test)]
 mod pairs;
 #[cfg(test)]
 mod registration;
 #[cfg(test)]
-mod runs;
-#[cfg(test)]
 mod services;
-#[cfg(test)]
-mod steps;
 #[cfg(test)]
 mod tables;
 #[cfg(test)]

@@ -1,8 +1,7 @@
 //! Limits and refusals of a datagram (RFC 3261 §7.3, §8.1.1.7, §8.2, §16.3 and §18.3): what is read of a datagram, what is refused and with which status, and what is dropped. A datagram has 16,384 bytes and 128 header lines at most.
 
 use crate::datagrams::{Request, begin, end, invite, open, refuse};
-use crate::openings::is_listed;
-use crate::pages::{Page, is_written};
+use mmtel_worked_runs::{Page, is_listed, is_written};
 use std::alloc::Global;
 
 /// Whether the request is refused with this status and this line.

@@ -1,25 +1,9 @@
 //! Openings: the INVITE of a caller who asks for privacy, from a trusted peer to one that is not.
 
-use crate::runs::{is_right, sound};
 use mmtel_cli::{MemoryKeeper, ScriptLink, Server, drive, listing, read_directory};
 use mmtel_scan::{List, Text};
+use mmtel_worked_runs::{CONFIG, is_listed};
 use std::alloc::Global;
-
-/// A server with a trusted peer and one that is not.
-pub const CONFIG: &str = "sip 127.0.0.1:5060
-web 127.0.0.1:8080
-home home.example
-peer 1 127.0.0.1:5071 trusted
-peer 2 127.0.0.1:5072 untrusted
-route home.example 1
-route far.example 2
-account 1 sip:alice@home.example tel:+4930111
-account 2 sip:bob@home.example
-account 3 sip:carol@home.example
-operator sip:op@home.example
-mixer 127.0.0.1 40000
-factory sip:conf@home.example
-";
 
 /// Erin calls bob, and asks that her identity be kept private.
 pub const RESTRICTED: &str = "at 0 peer 1
@@ -231,13 +215,6 @@ at 0 to 2
 |Content-Length: 0
 |
 ";
-
-/// Whether a run of the script lists this.
-pub fn is_listed(alloc: Global, script: &str, offers: &str) -> bool {
-    let files = [("server.cfg", CONFIG), ("run.script", script)];
-    let words = "replay|server.cfg|run.script|--token|0123456789abcdef";
-    is_right(alloc, words, sound(&files), 0, offers)
-}
 
 /// RFC 3323 §4.1 and RFC 3325 §9.3: who asks for privacy is anonymous towards a network that is not trusted.
 #[test]

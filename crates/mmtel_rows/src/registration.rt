@@ -1,6 +1,6 @@
 //! Registrations (3GPP TS 24.229 §5.7.1.1; RFC 3261 §10.3): a trusted peer tells that an account registered, or that its registration ended.
 
-use crate::openings::is_listed;
+use mmtel_worked_runs::is_listed;
 
 /// Bob's registration ends, and it is told again a second later; of an account that is not here; for the longest time, and for no time that is told; bob's from a peer that is not trusted.
 const SCRIPT: &str = "at 0 peer 1

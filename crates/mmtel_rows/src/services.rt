@@ -2,8 +2,7 @@
 //!
 //! Each is a script and the listing that is due, in the form of `cases`. Records stand as comments before the bytes in which they are put.
 
-use crate::cases::wrong_run;
-use crate::openings::CONFIG;
+use mmtel_worked_runs::{CONFIG, wrong_run};
 
 /// Presentation, restriction and barring.
 const PRESENTED: &str =

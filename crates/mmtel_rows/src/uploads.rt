@@ -1,7 +1,6 @@
 //! Records over HTTP (3GPP TS 24.623 §5; RFC 9110 §9.3 and §15): who may read, put and delete one, what is refused and with which status, and that one is in force exactly where the keeper stored it.
 
-use crate::openings::{CONFIG, is_listed};
-use crate::runs::{Devices, is_right, sound};
+use mmtel_worked_runs::{CONFIG, Devices, is_listed, is_right, sound};
 
 /// Bob puts a record twice and reads it; alice and somebody who has no account put it in his name; he puts a text that is no record.
 const UPLOADS: &str = "at 0 web

@@ -1,7 +1,7 @@
 //! The words of the command line.
 
-use crate::runs::{sound, written};
 use crate::tables::{Table, cut, wrong_row};
+use mmtel_worked_runs::{sound, written};
 use std::alloc::Global;
 
 /// What each list of words, parted here by `|`, makes a run write. The name of the configuration is that of a file whose first line is bad, so that a run ends with its number, and that is no service record; every other name is of no file, and no file is read for words that ask for nothing.

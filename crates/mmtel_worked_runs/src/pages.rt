@@ -1,6 +1,6 @@
 //! Texts in the making.
 
-use crate::openings::is_listed;
+use crate::cases::is_listed;
 use std::alloc::Global;
 
 /// A text in the making, which remembers that memory ran out.

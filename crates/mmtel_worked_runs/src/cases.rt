@@ -8,6 +8,22 @@ use std::alloc::Global;
 /// The words of a replay with the token that the listings have.
 pub const REPLAY: &str = "replay|server.cfg|run.script|--token|0123456789abcdef";
 
+/// A server with a trusted peer and one that is not.
+pub const CONFIG: &str = "sip 127.0.0.1:5060
+web 127.0.0.1:8080
+home home.example
+peer 1 127.0.0.1:5071 trusted
+peer 2 127.0.0.1:5072 untrusted
+route home.example 1
+route far.example 2
+account 1 sip:alice@home.example tel:+4930111
+account 2 sip:bob@home.example
+account 3 sip:carol@home.example
+operator sip:op@home.example
+mixer 127.0.0.1 40000
+factory sip:conf@home.example
+";
+
 /// What follows a line that begins with `~`, up to the next such line, and what stands behind that one's `~`; None where there is no line.
 pub fn piece(text: &str) -> Option<(&str, &str)> {
     let (_, text) = text.split_once('\n')?;
@@ -51,4 +67,11 @@ pub fn wrong_run_over(alloc: Global, config: &str, failing: &[u64], table: &str)
 /// The same, with a keeper that does not fail.
 pub fn wrong_run(alloc: Global, config: &str, table: &str) -> usize {
     wrong_run_over(alloc, config, &[], table)
+}
+
+/// Whether a run of the script lists this.
+pub fn is_listed(alloc: Global, script: &str, offers: &str) -> bool {
+    let files = [("server.cfg", CONFIG), ("run.script", script)];
+    let words = "replay|server.cfg|run.script|--token|0123456789abcdef";
+    is_right(alloc, words, sound(&files), 0, offers)
 }

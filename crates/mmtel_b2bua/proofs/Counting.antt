@@ -3,7 +3,7 @@ use Rattle.std.proofs.Common.{◌≡◌, ℕ, ◌+◌, ◌∷◌, ◌++◌, [], 
 use Rattle.std.proofs.lemmas.List.{flat_map_more}
 use Rattle.std.proofs.lemmas.List.Sums.{sum_by-append}
 use Rattle.std.specs.Prelude.{count_by, flat_map, min, ◌^◌, ◌-◌}
-use Rattle.mmtel_call.specs.Site.{is_account}
+use Rattle.mmtel_call_decisions.specs.Site.{is_account}
 use Rattle.mmtel_b2bua.specs.Entries.{accounts_of}
 use Rattle.mmtel_b2bua.specs.Names.{live}
 use Rattle.mmtel_b2bua.specs.declared.entries.Entry.{Entry}

@@ -1,6 +1,6 @@
 -- A table of calls and all that was done on it. What a table is after deeds is told from the list of the deeds alone.
 use Rattle.std.specs.Prelude.{ℕ, ◌≡◌, Bool, false, List, [], ◌∷◌, drop}
-use Rattle.mmtel_call.specs.Site.{Site}
+use Rattle.mmtel_call_decisions.specs.Site.{Site}
 use Rattle.mmtel_desk.specs.Desks.{fresh}
 use Rattle.mmtel_desk.specs.declared.desks.Desk.{Desk}
 use Rattle.mmtel_leg.specs.declared.legs.Released.{Released}

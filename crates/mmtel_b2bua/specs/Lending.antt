@@ -1,8 +1,8 @@
 -- A leg of a talking call of the table is taken out, put back, or the call ends without it.
 use Rattle.std.specs.Prelude.{ℕ, Bool, false, Option, Some, None, List, [], position, slice_get, slice_set}
+use Rattle.mmtel_call_decisions.specs.Site.{Site}
 use Rattle.mmtel_call.specs.Closing.{Step}
 use Rattle.mmtel_call.specs.Lending.{finished, fits_in, is_lent, lent_in, put_back_in, taken_out_in}
-use Rattle.mmtel_call.specs.Site.{Site}
 use Rattle.mmtel_desk.specs.declared.desks.Desk.{Desk}
 use Rattle.mmtel_leg.specs.declared.legs.Released.{Released}
 use Rattle.mmtel_types.specs.declared.sides.Side.{Side}

@@ -1,13 +1,14 @@
 -- The table of calls: a signal is of one call, which takes its step; an INVITE opens a call.
 use Rattle.std.specs.Prelude.{ℕ, nat_le, Bool, true, false, if◌then◌else◌, Option, Some, None, List, [], ◌∷◌, ◌++◌, count_by, option_to_list, position, remove, slice_get, slice_set}
 use Rattle.mmtel_answers.specs.Said.{Said}
+use Rattle.mmtel_call_decisions.specs.Invites.{invite_answered, invite_silent}
+use Rattle.mmtel_call_decisions.specs.Site.{Site, calls_among}
+use Rattle.mmtel_call_decisions.specs.declared.openings.Arrival.{Arrival}
 use Rattle.mmtel_call.specs.Closing.{Step}
 use Rattle.mmtel_call.specs.Opening.{opened}
 use Rattle.mmtel_call.specs.Requests.{is_invite}
 use Rattle.mmtel_call.specs.Settled.{is_settled}
-use Rattle.mmtel_call.specs.Site.{Site, calls_among}
-use Rattle.mmtel_call.specs.Table.{invite_answered, invite_silent, step}
-use Rattle.mmtel_call.specs.declared.openings.Arrival.{Arrival}
+use Rattle.mmtel_call.specs.Table.{step}
 use Rattle.mmtel_call.specs.declared.signals.Signal as calls
 use Rattle.mmtel_call.specs.declared.signals.Signal.TheVariants as of_call
 use Rattle.mmtel_charging.specs.declared.rows.Row.{Row}

@@ -1,14 +1,15 @@
 //! Whom the calls keep busy.
 ghost use Rattle.std.specs.Prelude.{◌≡◌, ◌≤◌, ◌++◌, IfOk, OnOk, count_by, option_to_list};
 ghost use Rattle.std.specs.Option.{option_copied, option_map};
+ghost use Rattle.mmtel_call_decisions.specs.Site.{is_account};
 ghost use Rattle.mmtel_call.specs.Closing.{account_in};
-ghost use Rattle.mmtel_call.specs.Site.{is_account};
 ghost use Rattle.mmtel_b2bua.specs.Entries.{accounts_of, beside, busy_beside, origin_of, served_of};
 ghost use Rattle.mmtel_b2bua.specs.Names.{live};
 ghost use Rattle.mmtel_b2bua.specs.Tables.{busy_with};
 
 use crate::entries::Entry;
-use mmtel_call::{Arrival, Phase, Service};
+use mmtel_call::Phase;
+use mmtel_call_decisions::{Arrival, Service};
 use mmtel_desk::file;
 use mmtel_scan::{List, NoMemory};
 use mmtel_types::{Account, CallNo};

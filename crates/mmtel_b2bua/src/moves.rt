@@ -1,8 +1,8 @@
 //! A signal moves the calls: the one that it is of takes its step, or one is opened.
 ghost use Rattle.std.specs.Prelude.{◌≡◌, ◌<◌, ◌++◌, ℕ, IfOk, OnOk, Some, length, option_to_list, position, slice_get};
 ghost use Rattle.std.specs.Option.{option_copied};
+ghost use Rattle.mmtel_call_decisions.specs.Invites.{invite_answered, invite_silent};
 ghost use Rattle.mmtel_call.specs.Settled.{is_settled};
-ghost use Rattle.mmtel_call.specs.Table.{invite_answered, invite_silent};
 ghost use Rattle.mmtel_b2bua.specs.Entries.{busy_beside, heard_by, is_numbered, kept, sent_it};
 ghost use Rattle.mmtel_b2bua.specs.Lending.{ended};
 ghost use Rattle.mmtel_b2bua.specs.Tables.{arrived, entry_after, heard, invites_by, moved_at, moved_by, moved_in, open_of, step_of, taken};
@@ -12,9 +12,8 @@ use crate::busy::{busy_beside, busy_with};
 use crate::entries::{Entry, InviteKey};
 use crate::signals::Signal;
 use mmtel_answers::Hearing;
-use mmtel_call::{
-    Arrival, Call, Present, Setting, Signal as CallSignal, invite_answered, invite_silent,
-};
+use mmtel_call::{Call, Signal as CallSignal};
+use mmtel_call_decisions::{Arrival, Present, Setting, invite_answered, invite_silent};
 use mmtel_desk::{Desk, file};
 use mmtel_message::is_method;
 use mmtel_scan::{List, NoMemory, Text};

@@ -5,8 +5,8 @@ use Rattle.std.specs.Prelude.{if◌then◌else◌}
 use Rattle.mmtel_desk.specs.declared.desks.Desk.{Desk}
 use Rattle.mmtel_transaction.specs.declared.words.Emit.{Emit}
 use Rattle.mmtel_types.specs.declared.sides.Side.{Side}
+use Rattle.mmtel_call_decisions.specs.Site.{Site}
 use Rattle.mmtel_call.specs.Lending.{finished, lent_in}
-use Rattle.mmtel_call.specs.Site.{Site}
 use Rattle.mmtel_call.specs.declared.calls.Call.{Call}
 use Rattle.mmtel_call_heads.specs.Clean.{IsClean}
 use Rattle.mmtel_call_heads.specs.Emits.{Each, IsCleanDesk, IsCleanEmit}

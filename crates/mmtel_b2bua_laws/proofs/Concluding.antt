@@ -147,7 +147,7 @@ filed-at law charged s events heard cause l fits over_by_cause (Later stands kep
     let same : causes.Ended ≡ cause = cc in
     let begun = law.parts s heard (stands-on (story.call_after s heard).phase stands) in (
       ap (λ phase. running_in phase c.past) over ∙ past,
-      is fits ∙ ap (λ (p : Parts). Rattle.mmtel_call.specs.Closing.rows_by (ended_at c (over_at s events)) p.past p.first p.last) begun ∙ (λ i.
+      is fits ∙ ap (λ (p : Parts). Rattle.mmtel_call_decisions.specs.Rows.rows_by (ended_at c (over_at s events)) p.past p.first p.last) begun ∙ (λ i.
           rows_of_parts (record { answered = c.answered; at = over_at s events; holds = c.hold.holds; cause = same i })
           (sym (known-same s events heard l) i) s.arrival.number (sym (outcome-same s events heard l) i).targets),
     )

@@ -12,11 +12,11 @@ use Rattle.mmtel_precedence.specs.Targets.{served_at}
 use Rattle.mmtel_types.specs.declared.causes.Cause.{Cause}
 use Rattle.mmtel_types.specs.declared.numbers.Account.{Account}
 use Rattle.mmtel_types.specs.declared.numbers.CallNo.{CallNo}
-use Rattle.mmtel_call.specs.Closing.{last_row, past_answer, past_row, with_answer}
-use Rattle.mmtel_call.specs.Site.{Site}
+use Rattle.mmtel_call_decisions.specs.Rows.{last_row, past_answer, past_row, with_answer}
+use Rattle.mmtel_call_decisions.specs.Site.{Site}
+use Rattle.mmtel_call_decisions.specs.declared.rows.Ending.{Ending}
 use Rattle.mmtel_call.specs.declared.calls.Phase.TheVariants.{Lent, Offered, Over, Stood}
 use Rattle.mmtel_call.specs.declared.calls.Phase.{Phase}
-use Rattle.mmtel_call.specs.declared.closing.Ending.{Ending}
 use Rattle.mmtel_call_laws.specs.Charged.{diverting_part, last_part, origin_part, part_of, past_parts, rows_of_parts, served_part}
 use Rattle.mmtel_call_laws.specs.GoingOn.{CallsGoOn}
 use Rattle.mmtel_call_laws.specs.Laws.{ChargingIsExact}

@@ -12,9 +12,10 @@ use Rattle.mmtel_precedence.specs.Calls.{Standing}
 use Rattle.mmtel_types.specs.declared.causes.Cause.TheVariants as causes
 use Rattle.mmtel_types.specs.declared.sides.Side.{Side}
 use Rattle.mmtel_types.specs.declared.sides.Side.TheVariants.{Caller, Callee}
-use Rattle.mmtel_call.specs.Closing.{Step, cause_by, onward, rows_by}
+use Rattle.mmtel_call_decisions.specs.Rows.{cause_by, rows_by}
+use Rattle.mmtel_call_decisions.specs.Site.{Site}
+use Rattle.mmtel_call.specs.Closing.{Step, onward}
 use Rattle.mmtel_call.specs.Lending.{finished, finished_in, first_of, fits_in, last_of, lent_in, put_back_in}
-use Rattle.mmtel_call.specs.Site.{Site}
 use Rattle.mmtel_call.specs.Table.{step}
 use Rattle.mmtel_call.specs.declared.calls.Call.{Call}
 use Rattle.mmtel_call.specs.declared.calls.Loan.{Loan}

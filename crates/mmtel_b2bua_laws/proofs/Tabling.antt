@@ -3,7 +3,7 @@ use Rattle.std.proofs.Common.{◌≡◌, ℕ, List, [], ◌∷◌, ◌++◌, Non
 use Rattle.std.proofs.lemmas.List.{append-nil, take-append-drop}
 use Rattle.std.proofs.lemmas.Option.{none-some}
 use Rattle.mmtel_charging.specs.declared.rows.Row.{Row}
-use Rattle.mmtel_call.specs.Site.{Site}
+use Rattle.mmtel_call_decisions.specs.Site.{Site}
 use Rattle.mmtel_call_laws.specs.GoingOn.{CallsGoOn}
 use Rattle.mmtel_call_laws.specs.Laws.{ChargingIsExact, ComesToItsOutcome, DiversionsAreCounted, ShowsItsOutcome}
 use Rattle.mmtel_b2bua.specs.Histories.{Deed, Drops, Finishes, Hears, Releases, Restores, table_after}

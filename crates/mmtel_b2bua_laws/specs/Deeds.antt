@@ -7,10 +7,10 @@ use Rattle.mmtel_scan.specs.Numbers.{next_number}
 use Rattle.mmtel_transaction.specs.declared.words.Emit.{Emit}
 use Rattle.mmtel_transaction.specs.declared.words.TKey.{TKey}
 use Rattle.mmtel_types.specs.declared.sides.Side.TheVariants.{Caller}
+use Rattle.mmtel_call_decisions.specs.Invites.{invite_answered, invite_silent}
+use Rattle.mmtel_call_decisions.specs.Site.{Site}
+use Rattle.mmtel_call_decisions.specs.declared.openings.Arrival.{Arrival}
 use Rattle.mmtel_call.specs.Settled.{is_settled}
-use Rattle.mmtel_call.specs.Site.{Site}
-use Rattle.mmtel_call.specs.Table.{invite_answered, invite_silent}
-use Rattle.mmtel_call.specs.declared.openings.Arrival.{Arrival}
 use Rattle.mmtel_call.specs.declared.signals.Signal as calls
 use Rattle.mmtel_call.specs.declared.signals.Signal.TheVariants as of_call
 use Rattle.mmtel_call_heads.specs.Emits.{Each}

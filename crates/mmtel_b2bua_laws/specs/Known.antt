@@ -7,9 +7,9 @@ use Rattle.mmtel_precedence.specs.Calls as precedence
 use Rattle.mmtel_precedence.specs.Calls.{Ended, Standing}
 use Rattle.mmtel_precedence.specs.Outcome.{outcome}
 use Rattle.mmtel_types.specs.declared.causes.Cause.{Cause}
+use Rattle.mmtel_call_decisions.specs.declared.rows.Ending.{Ending}
 use Rattle.mmtel_call.specs.Lending.{fits_in}
 use Rattle.mmtel_call.specs.declared.calls.Call.{Call}
-use Rattle.mmtel_call.specs.declared.closing.Ending.{Ending}
 use Rattle.mmtel_transaction.specs.declared.words.TKey.{TKey}
 use Rattle.mmtel_call_laws.specs.Charged.{parts_of, rows_of_parts}
 use Rattle.mmtel_call_laws.specs.Endings.{ending_by}

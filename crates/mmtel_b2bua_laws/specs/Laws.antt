@@ -3,7 +3,7 @@ use Rattle.std.specs.Prelude.{◌++◌, ◌≡◌, ◌+◌, ◌==◌, ℕ, Bool,
 use Rattle.mmtel_charging.specs.declared.rows.Row.{Row}
 use Rattle.mmtel_precedence.specs.Laws.{diversions_made}
 use Rattle.mmtel_types.specs.declared.causes.Cause.{Cause}
-use Rattle.mmtel_call.specs.Site.{Site}
+use Rattle.mmtel_call_decisions.specs.Site.{Site}
 use Rattle.mmtel_call.specs.declared.calls.Phase.TheVariants.{Over}
 use Rattle.mmtel_call_laws.specs.Charged.{running}
 use Rattle.mmtel_call_laws.specs.Endings.{answer_in}

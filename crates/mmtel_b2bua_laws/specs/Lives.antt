@@ -6,8 +6,8 @@ use Rattle.mmtel_desk.specs.declared.desks.Desk.{Desk}
 use Rattle.mmtel_leg.specs.declared.legs.Released.{Released}
 use Rattle.mmtel_transaction.specs.declared.words.Emit.{Emit}
 use Rattle.mmtel_types.specs.declared.sides.Side.{Side}
+use Rattle.mmtel_call_decisions.specs.Site.{Site}
 use Rattle.mmtel_call.specs.Lending.{finished, lent_in, put_back_in}
-use Rattle.mmtel_call.specs.Site.{Site}
 use Rattle.mmtel_call.specs.Table.{step}
 use Rattle.mmtel_call.specs.declared.calls.Call.{Call}
 use Rattle.mmtel_call_laws.specs.Shown.{is_offered}

@@ -11,8 +11,8 @@ use Rattle.mmtel_types.specs.declared.numbers.CallNo.{CallNo}
 use Rattle.mmtel_types.specs.declared.numbers.Peer.{Peer}
 use Rattle.mmtel_types.specs.declared.sides.Side.{Side}
 use Rattle.mmtel_types.specs.declared.sides.Side.TheVariants.{Caller, Callee}
+use Rattle.mmtel_call_decisions.specs.Site.{calls_among}
 use Rattle.mmtel_call.specs.Lending.{fits, fits_in, is_lent}
-use Rattle.mmtel_call.specs.Site.{calls_among}
 use Rattle.mmtel_call.specs.declared.calls.Call.{Call}
 use Rattle.mmtel_call.specs.declared.calls.Phase.{Phase}
 use Rattle.mmtel_call.specs.declared.calls.Phase.TheVariants.{Lent, Offered, Over, Stood}

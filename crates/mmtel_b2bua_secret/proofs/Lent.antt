@@ -10,9 +10,9 @@ use Rattle.mmtel_transaction.specs.Tokens.{Drawn}
 use Rattle.mmtel_transaction.specs.declared.words.TKey.{TKey}
 use Rattle.mmtel_types.specs.declared.numbers.Peer.{Peer}
 use Rattle.mmtel_types.specs.declared.sides.Side.{Side}
+use Rattle.mmtel_call_decisions.specs.Site.{Site, trusts}
 use Rattle.mmtel_call.specs.Lending.{finished}
 use Rattle.mmtel_call.specs.Closing.{Step}
-use Rattle.mmtel_call.specs.Site.{Site, trusts}
 use Rattle.mmtel_call_secret.specs.Alike.{AlikeCalls}
 use Rattle.mmtel_call_secret.specs.Parts.{public_released}
 use Rattle.mmtel_call_secret.specs.Seen.{AlikeDesks, AlikeSteps, Trust, trust_of}

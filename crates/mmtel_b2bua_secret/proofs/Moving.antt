@@ -18,12 +18,13 @@ use Rattle.mmtel_transaction.specs.declared.words.TKey.{TKey}
 use Rattle.mmtel_types.specs.declared.numbers.Account.{Account}
 use Rattle.mmtel_types.specs.declared.numbers.Peer.{Peer}
 use Rattle.mmtel_types.specs.declared.sides.Side.TheVariants.{Caller}
+use Rattle.mmtel_call_decisions.specs.Invites.{invite_answered, invite_silent}
+use Rattle.mmtel_call_decisions.specs.Opening.{origin_sheet}
+use Rattle.mmtel_call_decisions.specs.Site.{Site, trusts}
+use Rattle.mmtel_call_decisions.specs.declared.openings.Arrival.{Arrival}
 use Rattle.mmtel_call.specs.Closing.{Step}
-use Rattle.mmtel_call.specs.Opening.{opened, origin_sheet}
+use Rattle.mmtel_call.specs.Opening.{opened}
 use Rattle.mmtel_call.specs.Settled.{is_settled}
-use Rattle.mmtel_call.specs.Site.{Site, trusts}
-use Rattle.mmtel_call.specs.Table.{invite_answered, invite_silent}
-use Rattle.mmtel_call.specs.declared.openings.Arrival.{Arrival}
 use Rattle.mmtel_call.specs.declared.signals.Signal as calls
 use Rattle.mmtel_call.specs.declared.signals.Signal.TheVariants as of_call
 use Rattle.mmtel_call_secret.specs.Alike.{AlikeCalls, IsHeard}

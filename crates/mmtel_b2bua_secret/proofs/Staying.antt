@@ -4,7 +4,7 @@ use Rattle.mmtel_charging.specs.declared.rows.Row.{Row}
 use Rattle.mmtel_sheet_values.specs.declared.values.Sheet.{Sheet}
 use Rattle.mmtel_transaction.specs.declared.words.TKey.{TKey}
 use Rattle.mmtel_types.specs.declared.numbers.Peer.{Peer}
-use Rattle.mmtel_call.specs.Site.{Site, trusts}
+use Rattle.mmtel_call_decisions.specs.Site.{Site, trusts}
 use Rattle.mmtel_b2bua.specs.Histories.{did, finished_by}
 use Rattle.mmtel_b2bua.specs.Tables.{Table, standing}
 use Rattle.mmtel_sheet_values.specs.View.{InForce}

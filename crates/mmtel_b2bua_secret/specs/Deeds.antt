@@ -8,7 +8,7 @@ use Rattle.mmtel_transaction.specs.declared.words.TKey.{TKey}
 use Rattle.mmtel_types.specs.declared.numbers.Account.{Account}
 use Rattle.mmtel_types.specs.declared.numbers.Peer.{Peer}
 use Rattle.mmtel_types.specs.declared.sides.Side.{Side}
-use Rattle.mmtel_call.specs.Site.{Site, trusts}
+use Rattle.mmtel_call_decisions.specs.Site.{Site, trusts}
 use Rattle.mmtel_call_secret.specs.Directories.{EqualButForAccounts, RecordsLeadAlike}
 use Rattle.mmtel_call_secret.specs.Parts.{public_released}
 use Rattle.mmtel_call_secret.specs.Premises.{AreAsked}

@@ -12,13 +12,13 @@ use Rattle.mmtel_targets.specs.declared.targets.Target.{Target}
 use Rattle.mmtel_transaction.specs.declared.words.TKey.{TKey}
 use Rattle.mmtel_types.specs.declared.causes.Cause.{Cause}
 use Rattle.mmtel_types.specs.declared.numbers.Peer.{Peer}
+use Rattle.mmtel_call_decisions.specs.Decisions.{decided_after, decided_at, handed_on, is_barred, is_status, its_sheet, peer_for, redirect_of, service_at, target_of, time_of}
+use Rattle.mmtel_call_decisions.specs.Site.{Site}
 use Rattle.mmtel_call.specs.Calls.{Attempt, Call, Offered, Phase, Service, Trial}
 use Rattle.mmtel_call.specs.Closing.{Step, onward, over, with_past}
-use Rattle.mmtel_call.specs.Decisions.{decided_after, decided_at, is_barred, its_sheet, peer_for, redirect_of, service_at}
-use Rattle.mmtel_call.specs.Diverting.{at_target, divert, diverted, goes_on, handed_on, is_status, made, offer_where, on_end, on_turn, passed_by, refused, target_of, told_of, too_many, unless_barred}
-use Rattle.mmtel_call.specs.Ringing.{answered, armed_in, callee_after, cancelled_attempt, early_said, failed, having_met, left, noted, on_response, proceeding, ringing, silenced, time_of, timed_out, tried}
+use Rattle.mmtel_call.specs.Diverting.{at_target, divert, diverted, goes_on, made, offer_where, on_end, on_turn, passed_by, refused, told_of, too_many, unless_barred}
+use Rattle.mmtel_call.specs.Ringing.{answered, armed_in, callee_after, cancelled_attempt, early_said, failed, having_met, left, noted, on_response, proceeding, ringing, silenced, timed_out, tried}
 use Rattle.mmtel_call.specs.Sending.{relayed_to_caller}
-use Rattle.mmtel_call.specs.Site.{Site}
 
 -- ---- words
 

@@ -7,10 +7,10 @@ use Rattle.mmtel_precedence.specs.Calls.{Standing}
 use Rattle.mmtel_precedence.specs.Services.{DueDiversion}
 use Rattle.mmtel_targets.specs.declared.targets.Target.{Target}
 use Rattle.mmtel_types.specs.declared.causes.Cause.TheVariants.{OutgoingBarred}
+use Rattle.mmtel_call_decisions.specs.Decisions.{is_barred, target_of}
+use Rattle.mmtel_call_decisions.specs.Site.{Site}
 use Rattle.mmtel_call.specs.Calls.{Call, Service}
-use Rattle.mmtel_call.specs.Decisions.{is_barred}
-use Rattle.mmtel_call.specs.Diverting.{at_target, divert, diverted, made, refused, target_of, told_of, too_many, unless_barred}
-use Rattle.mmtel_call.specs.Site.{Site}
+use Rattle.mmtel_call.specs.Diverting.{at_target, divert, diverted, made, refused, told_of, too_many, unless_barred}
 
 -- outgoing barring refuses it
 pub divert-barred : (left : ℕ) (site : Site) (now : Standing) (caller : Leg) (service : Option Service) (due : DueDiversion) (c : Call) (desk : Desk) →

@@ -1,4 +1,2 @@
 pub mod AnyPhase
-mod Barrings
 mod DueDiversions
-pub mod FirstVia

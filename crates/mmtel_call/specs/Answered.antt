@@ -12,11 +12,11 @@ use Rattle.mmtel_transaction.specs.declared.words.DueWord.TheVariants as due
 use Rattle.mmtel_types.specs.Sides.{other_of}
 use Rattle.mmtel_types.specs.declared.sides.Side.{Side}
 use Rattle.mmtel_types.specs.declared.sides.Side.TheVariants.{Caller, Callee}
+use Rattle.mmtel_call_decisions.specs.Requests.{is_same_number, is_same_side, number_of}
+use Rattle.mmtel_call_decisions.specs.Showing.{shown_to}
+use Rattle.mmtel_call_decisions.specs.Site.{Site}
 use Rattle.mmtel_call.specs.Calls.{Call, Pair, Parting, Stage, Stood, Success, Taken, Talking}
 use Rattle.mmtel_call.specs.Closing.{Step, onward, over_stood}
-use Rattle.mmtel_call.specs.Requests.{is_same_number, is_same_side, number_of}
-use Rattle.mmtel_call.specs.Sending.{shown_to}
-use Rattle.mmtel_call.specs.Site.{Site}
 
 -- ---- both sides
 

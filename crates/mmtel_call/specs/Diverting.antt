@@ -1,5 +1,5 @@
 -- How a call goes on: it comes to one target after another until it is offered to one, or refused (TS 24.604 §4.5.2.6, RFC 7044 §7).
-use Rattle.std.specs.Prelude.{ℕ, zero, suc, ◌==◌, not, Bool, false, List, if◌then◌else◌, Option, Some, None}
+use Rattle.std.specs.Prelude.{ℕ, zero, suc, ◌==◌, not, Bool, List, if◌then◌else◌, Option, Some, None}
 use Rattle.mmtel_answers.specs.Said.{Said, status_of as status_in}
 use Rattle.mmtel_charging.specs.declared.rows.Kind.TheVariants.{Diversion, Terminating}
 use Rattle.mmtel_desk.specs.declared.desks.Desk.{Desk}
@@ -10,34 +10,23 @@ use Rattle.mmtel_lex.specs.Grammar.{uri_text}
 use Rattle.mmtel_precedence.specs.Calls.{End, Standing}
 use Rattle.mmtel_precedence.specs.Services.{DueDiversion}
 use Rattle.mmtel_precedence.specs.Turns.{AfterEnd, EndAnswered, EndDivert, EndRefuse, Turn, TurnDivert, TurnOffer, TurnRefuse}
-use Rattle.mmtel_targets.specs.Targets.{diverted_target}
 use Rattle.mmtel_targets.specs.declared.targets.Target.{Target}
 use Rattle.mmtel_types.specs.Causes.{status_of}
 use Rattle.mmtel_types.specs.declared.causes.Cause.{Cause}
 use Rattle.mmtel_types.specs.declared.causes.Cause.TheVariants as causes
 use Rattle.mmtel_types.specs.declared.numbers.Peer.{Peer}
+use Rattle.mmtel_call_decisions.specs.Decisions.{aim_at, decided_after, decided_at, handed_on, is_barred, is_status, peer_for, service_at, target_of}
+use Rattle.mmtel_call_decisions.specs.Site.{Site}
 use Rattle.mmtel_call.specs.Calls.{Call, Diverted, Service, Trial}
 use Rattle.mmtel_call.specs.Closing.{Step, meter_for, over, with_past}
-use Rattle.mmtel_call.specs.Decisions.{decided_after, decided_at, is_barred, peer_for, service_at}
-use Rattle.mmtel_call.specs.Offering.{aim_at, offer}
+use Rattle.mmtel_call.specs.Offering.{offer}
 use Rattle.mmtel_call.specs.Sending.{relayed_to_caller, told_caller, told_diversion}
-use Rattle.mmtel_call.specs.Site.{Site}
 
 -- ---- the final to the caller
 
 -- a final of the server's own
 abbrev pub refused : Site → (at : ℕ) → Leg → Cause → Call → Desk → Step
 refused site at caller cause c desk = over at cause caller.meter None c (told_caller site c (status_of cause) desk)
-
--- the status of a target's final that a cause hands on
-abbrev pub handed_on : Cause → Option ℕ
-handed_on (causes.Relayed code) = Some code
-handed_on (causes.Unreachable code) = Some code
-handed_on cause = None
-
-abbrev pub is_status : ℕ → Option ℕ → Bool
-is_status code None = false
-is_status code (Some other) = other == code
 
 -- the final that was heard, where the cause hands it on, and else one of the server's own
 abbrev pub refused_by : Site → (at : ℕ) → Leg → Option Service → Option Said → Cause → Call → Desk → Step
@@ -96,10 +85,6 @@ where_served divert site now caller service peer cause target c desk =
 abbrev pub at_target : (divert : Option Service → DueDiversion → Call → Desk → Step) → Site → Standing → Leg → (cause : Option ℕ) → Target → Call → Desk → Step
 at_target divert site now caller cause target c desk =
     where_served divert site now caller (service_at site now c.opening cause target) (peer_for site c.opening target) cause target c desk
-
--- the target of a diversion
-abbrev pub target_of : Site → DueDiversion → Target
-target_of site due = diverted_target site.home due.forward.target
 
 -- a diversion is made, after which so many are left, and the caller is told of it; `onward` says what is done at the target
 abbrev pub made : (onward : Call → Desk → Step) → Site → Target → (at left : ℕ) → Option Service → DueDiversion → Call → Desk → Step

@@ -10,10 +10,10 @@ use Rattle.mmtel_leg.specs.declared.legs.Released.TheVariants as released
 use Rattle.mmtel_types.specs.declared.causes.Cause.TheVariants.{Ended}
 use Rattle.mmtel_types.specs.declared.sides.Side.{Side}
 use Rattle.mmtel_types.specs.declared.sides.Side.TheVariants.{Caller, Callee}
+use Rattle.mmtel_call_decisions.specs.Site.{Site}
 use Rattle.mmtel_call.specs.Answered.{at_stage, leg_of}
 use Rattle.mmtel_call.specs.Calls.{Answered, Asking, Call, Lent, Loan, Offered, Over, Pair, Parting, Phase, Stage, Stood, Talking}
 use Rattle.mmtel_call.specs.Closing.{Step, onward, over}
-use Rattle.mmtel_call.specs.Site.{Site}
 
 -- ---- a leg is taken out
 

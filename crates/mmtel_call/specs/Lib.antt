@@ -1,9 +1,6 @@
 -- What public clauses cite: a call and what it is given, how it opens, and its step table.
 pub mod Tried
-pub mod Diverted
 pub mod Calls
-pub mod Site
-pub mod Decisions
 pub mod Sending
 pub mod Closing
 pub mod Offering

@@ -1,6 +1,6 @@
 -- How a call is offered to a target: the INVITE that opened it goes there, and the longest time that it may ring begins (RFC 3261 §16.6, TS 24.604 §4.5.2.6).
-use Rattle.std.specs.Prelude.{ℕ, ◌+◌, Bool, false, Option, Some, None}
-use Rattle.mmtel_answers.specs.Attempts.{called, diverted_aim, first_aim}
+use Rattle.std.specs.Prelude.{ℕ, ◌+◌, Bool, false, Option}
+use Rattle.mmtel_answers.specs.Attempts.{called}
 use Rattle.mmtel_answers.specs.declared.attempts.Aim.{Aim}
 use Rattle.mmtel_charging.specs.declared.rows.Kind.TheVariants.{Terminating}
 use Rattle.mmtel_desk.specs.Desks.{drew, emitted, token}
@@ -10,15 +10,13 @@ use Rattle.mmtel_desk.specs.declared.desks.Desk.{Desk}
 use Rattle.mmtel_leg.specs.Legs.{Leg}
 use Rattle.mmtel_leg.specs.declared.dialogues.Dialogue.{Dialogue}
 use Rattle.mmtel_scan.specs.Numbers.{next_number}
-use Rattle.mmtel_targets.specs.declared.targets.Target.{Target}
 use Rattle.mmtel_transaction.specs.declared.words.DueWord.TheVariants as due
 use Rattle.mmtel_transaction.specs.declared.words.Emit.TheVariants as emit
-use Rattle.mmtel_types.specs.declared.numbers.Peer.{Peer}
 use Rattle.mmtel_types.specs.declared.sides.Side.TheVariants.{Caller}
+use Rattle.mmtel_call_decisions.specs.Showing.{shown_to}
+use Rattle.mmtel_call_decisions.specs.Site.{Site}
 use Rattle.mmtel_call.specs.Calls.{Attempt, Call, Offered, Opening, Service, TriedView}
 use Rattle.mmtel_call.specs.Closing.{Step, meter_for}
-use Rattle.mmtel_call.specs.Sending.{shown_to}
-use Rattle.mmtel_call.specs.Site.{Site}
 
 -- the longest time that an attempt may take, in milliseconds
 abbrev pub longest_time : ℕ
@@ -27,11 +25,6 @@ longest_time = 180000
 -- the number of the next attempt
 abbrev pub next_attempt : Call → ℕ
 next_attempt c = next_number c.attempts
-
--- to whom it goes: the first target as it was asked for, or that of a diversion by this cause
-abbrev pub aim_at : Opening → Peer → (cause : Option ℕ) → Target → Aim
-aim_at o peer None target = first_aim peer o.routes o.invite.heard
-aim_at o peer (Some cause) target = diverted_aim peer o.routes target.uri cause
 
 -- its dialog, before its INVITE is sent
 abbrev pub dialog_of : Opening → Aim → Desk → Dialogue

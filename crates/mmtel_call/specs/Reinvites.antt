@@ -18,13 +18,14 @@ use Rattle.mmtel_types.specs.declared.sides.Side.{Side}
 use Rattle.mmtel_types.specs.declared.sides.Side.TheVariants.{Caller, Callee}
 use Rattle.mmtel_waiting.specs.Hold.{noted}
 use Rattle.mmtel_waiting.specs.declared.hold.HoldState.{HoldState}
+use Rattle.mmtel_call_decisions.specs.Requests.{is_same_side}
+use Rattle.mmtel_call_decisions.specs.Showing.{shown_to}
+use Rattle.mmtel_call_decisions.specs.Site.{Site}
 use Rattle.mmtel_call.specs.Answered.{at_stage, bye_to, leg_of, shown_across, with_leg}
 use Rattle.mmtel_call.specs.Calls.{Answered, Asking, Call, Pair, Reinvite, Stood, Talking}
 use Rattle.mmtel_call.specs.Closing.{Step, onward, over_stood}
-use Rattle.mmtel_call.specs.Requests.{is_same_side}
 use Rattle.mmtel_call.specs.Ringing.{awaiting_ack, next_success, success_of, taken_by, with_loose}
-use Rattle.mmtel_call.specs.Sending.{replied_to, shown_to}
-use Rattle.mmtel_call.specs.Site.{Site}
+use Rattle.mmtel_call.specs.Sending.{replied_to}
 
 -- ---- it goes to the other side
 

@@ -1,11 +1,10 @@
 -- Requests of a side in its dialog: which are heard (RFC 3261 §12.2.2, §14.2), and what is answered to those that are not, and to those that no row of the step table has.
-use Rattle.std.specs.Prelude.{ℕ, ◌==◌, Bool, true, false, if◌then◌else◌, Option, Some, None, List, [], Result, codes}
-use Rattle.mmtel_scan.specs.Chain.{◌>>=◌}
+use Rattle.std.specs.Prelude.{ℕ, Bool, if◌then◌else◌, List, [], Result, codes}
 use Rattle.mmtel_answers.specs.Answers.{allowed, retry_after}
 use Rattle.mmtel_answers.specs.Said.{Said}
 use Rattle.mmtel_desk.specs.Sending.{answered}
 use Rattle.mmtel_desk.specs.declared.desks.Desk.{Desk}
-use Rattle.mmtel_leg.specs.Dialogues.{last_after, number_at, unless_busy, unless_old}
+use Rattle.mmtel_leg.specs.Dialogues.{last_after, unless_busy, unless_old}
 use Rattle.mmtel_leg.specs.Legs.{Leg, with_dialogue}
 use Rattle.mmtel_leg.specs.declared.dialogues.DialogueFault.{DialogueFault}
 use Rattle.mmtel_leg.specs.declared.dialogues.DialogueFault.TheVariants.{OldCSeq, Pending, Unfinished}
@@ -13,35 +12,16 @@ use Rattle.mmtel_leg.specs.declared.dialogues.InFlight.{InFlight}
 use Rattle.mmtel_message.specs.Faults.{is_method}
 use Rattle.mmtel_message.specs.Message.{Line}
 use Rattle.mmtel_transaction.specs.declared.words.TKey.{TKey}
-use Rattle.mmtel_types.specs.declared.sides.Side.{Side}
-use Rattle.mmtel_types.specs.declared.sides.Side.TheVariants.{Caller, Callee}
+use Rattle.mmtel_call_decisions.specs.Requests.{number_of}
+use Rattle.mmtel_call_decisions.specs.Site.{Site}
 use Rattle.mmtel_call.specs.Calls.{Call}
 use Rattle.mmtel_call.specs.Sending.{replied_to}
-use Rattle.mmtel_call.specs.Site.{Site}
-
-abbrev pub is_same_side : Side → Side → Bool
-is_same_side Caller Caller = true
-is_same_side Caller Callee = false
-is_same_side Callee Caller = false
-is_same_side Callee Callee = true
 
 abbrev pub is_bye : Said → Bool
 is_bye m = is_method (codes "BYE") m.heard.start
 
 abbrev pub is_invite : Said → Bool
 is_invite m = is_method (codes "INVITE") m.heard.start
-
--- the number of its CSeq
-abbrev pub number_of : Said → Option ℕ
-number_of m = m.heard.cseq >>= number_at
-
-abbrev pub is_number : ℕ → Option ℕ → Bool
-is_number n None = false
-is_number n (Some m) = n == m
-
-abbrev pub is_same_number : Option ℕ → Option ℕ → Bool
-is_same_number None other = false
-is_same_number (Some n) other = is_number n other
 
 -- ---- whether it is heard
 

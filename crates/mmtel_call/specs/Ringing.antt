@@ -17,8 +17,6 @@ use Rattle.mmtel_leg.specs.declared.remotes.Remote.{Remote}
 use Rattle.mmtel_precedence.specs.Attempts.{end_by_final, end_by_time, rings}
 use Rattle.mmtel_precedence.specs.Calls.{End, NoReply, NotReachable, Standing}
 use Rattle.mmtel_scan.specs.Numbers.{next_number}
-use Rattle.mmtel_sheet_values.specs.NoReply.{no_reply_time}
-use Rattle.mmtel_sheet_values.specs.declared.values.Sheet.{Sheet}
 use Rattle.mmtel_transaction.specs.declared.words.DueWord.{DueWord}
 use Rattle.mmtel_transaction.specs.declared.words.DueWord.TheVariants as due
 use Rattle.mmtel_transaction.specs.declared.words.Emit.TheVariants as emit
@@ -26,13 +24,14 @@ use Rattle.mmtel_transaction.specs.declared.words.TKey.{TKey}
 use Rattle.mmtel_types.specs.declared.causes.Cause.TheVariants as causes
 use Rattle.mmtel_types.specs.declared.sides.Side.{Side}
 use Rattle.mmtel_types.specs.declared.sides.Side.TheVariants.{Caller, Callee}
+use Rattle.mmtel_call_decisions.specs.Decisions.{its_sheet, redirect_of, time_of}
+use Rattle.mmtel_call_decisions.specs.Requests.{number_of}
+use Rattle.mmtel_call_decisions.specs.Site.{Site}
 use Rattle.mmtel_call.specs.Calls.{Answered, Attempt, Call, Offered, Pair, Stood, Success, Taken, Trial, TriedView}
 use Rattle.mmtel_call.specs.Closing.{Step, onward, over_offered}
-use Rattle.mmtel_call.specs.Decisions.{its_sheet, redirect_of}
 use Rattle.mmtel_call.specs.Diverting.{goes_on}
-use Rattle.mmtel_call.specs.Requests.{having_heard, is_bye, number_of, says, unheard, unlisted}
+use Rattle.mmtel_call.specs.Requests.{having_heard, is_bye, says, unheard, unlisted}
 use Rattle.mmtel_call.specs.Sending.{relayed_to_caller, replied_to, told_caller}
-use Rattle.mmtel_call.specs.Site.{Site}
 
 -- ---- an attempt that is left
 
@@ -80,11 +79,6 @@ ringing code attempt = record attempt { rang = attempt.rang || rings code }
 -- 100: nothing
 abbrev pub tried : TKey → Trial → Call → Desk → Step
 tried key x c desk = onward (record c { phase = Offered (record x { attempt = noted key x.attempt }) }) desk
-
--- the no-reply time of the record, which begins with the first 180 to 183
-abbrev pub time_of : Option Sheet → Option ℕ
-time_of None = None
-time_of (Some sheet) = no_reply_time sheet
 
 abbrev pub armed_in : Option ℕ → (at : ℕ) → Attempt → Call → Desk → Desk
 armed_in None at attempt c desk = desk

@@ -8,13 +8,14 @@ use Rattle.mmtel_leg.specs.declared.dialogues.InFlight.TheVariants as in_flight
 use Rattle.mmtel_transaction.specs.declared.words.DueWord.{DueWord}
 use Rattle.mmtel_transaction.specs.declared.words.TKey.{TKey}
 use Rattle.mmtel_types.specs.declared.sides.Side.{Side}
+use Rattle.mmtel_call_decisions.specs.Requests.{is_same_side}
+use Rattle.mmtel_call_decisions.specs.Site.{Site}
 use Rattle.mmtel_call.specs.Answered.{acked_across, acknowledges, at_stage, bye_across, bye_before_ack, is_due, leg_of, parted, unacknowledged, with_leg}
 use Rattle.mmtel_call.specs.Calls.{Answered, Asking, Call, Pair, Parting, Stage, Talking}
 use Rattle.mmtel_call.specs.Closing.{Step, onward, over_stood}
 use Rattle.mmtel_call.specs.Reinvites.{bye_while_asking, cancelled_across, invited, on_response_across, silenced_across}
-use Rattle.mmtel_call.specs.Requests.{having_heard, is_bye, is_invite, is_same_side, says, unheard, unlisted}
+use Rattle.mmtel_call.specs.Requests.{having_heard, is_bye, is_invite, says, unheard, unlisted}
 use Rattle.mmtel_call.specs.Sending.{replied_to}
-use Rattle.mmtel_call.specs.Site.{Site}
 
 -- ---- requests
 

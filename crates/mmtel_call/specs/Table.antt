@@ -1,66 +1,23 @@
 -- The step table of a call: what it does on each signal, by its phase (RFC 3261 §12 to §15, TS 24.604 §4.5.2.6). How it opens is said by Opening.
-use Rattle.std.specs.Prelude.{ℕ, Bool, false, if◌then◌else◌, Option, Some, None, List, [], ◌∷◌, codes}
+use Rattle.std.specs.Prelude.{ℕ, Bool, false, if◌then◌else◌, Option, Some, None, List}
 use Rattle.std.specs.Str.{bytes_eq}
-use Rattle.mmtel_scan.specs.Chain.{◌>>=◌}
-use Rattle.mmtel_scan.specs.Scanning.{after_text}
 use Rattle.mmtel_answers.specs.Said.{Said, status_of}
 use Rattle.mmtel_desk.specs.declared.desks.Desk.{Desk}
 use Rattle.mmtel_desk.specs.declared.invitations.Invitation.{Invitation}
-use Rattle.mmtel_lex.specs.Params.{param_value}
-use Rattle.mmtel_message.specs.Fields.{cseq_at, via_at}
-use Rattle.mmtel_message.specs.declared.fields.CSeq.{CSeq}
-use Rattle.mmtel_message.specs.declared.fields.Via.{Via}
 use Rattle.mmtel_precedence.specs.Calls.{Standing}
 use Rattle.mmtel_transaction.specs.declared.words.DueWord.{DueWord}
 use Rattle.mmtel_transaction.specs.declared.words.TKey.{TKey}
 use Rattle.mmtel_types.specs.declared.sides.Side.{Side}
+use Rattle.mmtel_call_decisions.specs.Invites.{invite_answered, invite_silent}
+use Rattle.mmtel_call_decisions.specs.Site.{Site}
 use Rattle.mmtel_call.specs.Calls.{Answered, Asking, Call, Lent, Offered, Over, Parting, Phase, Stage, Stood, Talking}
 use Rattle.mmtel_call.specs.Closing.{Step, onward}
 use Rattle.mmtel_call.specs.Leaving.{answered_other, without_key, without_silent}
 use Rattle.mmtel_call.specs.Ringing.{on_cancel, on_due, on_request, on_response, silenced}
 use Rattle.mmtel_call.specs.Sending.{replied_to}
-use Rattle.mmtel_call.specs.Site.{Site}
 use Rattle.mmtel_call.specs.Stages.{on_ack_at, on_cancel_at, on_due_at, on_request_at, on_response_at, on_silence_at}
 use Rattle.mmtel_call.specs.declared.signals.Signal.{Signal}
 use Rattle.mmtel_call.specs.declared.signals.Signal.TheVariants as signal
-
--- ---- which INVITE a response answers (RFC 3261 §17.1.3)
-
--- what stands behind the cookie of a branch (§8.1.1.7)
-abbrev pub behind_cookie : List ℕ → Option (List ℕ)
-behind_cookie branch = after_text (codes "z9hG4bK") branch
-
-abbrev pub first_via : List (List ℕ) → Option Via
-first_via [] = None
-first_via (value ∷ values) = via_at value
-
-abbrev pub via_branch : Via → Option (List ℕ)
-via_branch via = param_value (codes "branch") via.params
-
-abbrev pub is_invite_method : List ℕ → Bool
-is_invite_method method = bytes_eq method (codes "INVITE")
-
-abbrev pub of_invite : Option CSeq → Bool
-of_invite None = false
-of_invite (Some cseq) = is_invite_method cseq.method
-
-abbrev pub behind : Option (List ℕ) → Option (List ℕ)
-behind branch = branch >>= behind_cookie
-
--- of the first Via, and of a CSeq
-abbrev pub branch_in : List (List ℕ) → Option (List ℕ)
-branch_in vias = behind (first_via vias >>= via_branch)
-
-abbrev pub answers_invite : Option (List ℕ) → Bool
-answers_invite cseq = of_invite (cseq >>= cseq_at)
-
--- the branch of the INVITE that it answers; none where it answers another request
-unfoldable pub invite_answered : Said → Option (List ℕ)
-invite_answered m = if answers_invite m.heard.cseq then branch_in m.heard.vias else None
-
--- that of the INVITE that was given up
-abbrev pub invite_silent : (branch method : List ℕ) → Option (List ℕ)
-invite_silent branch method = if is_invite_method method then behind_cookie branch else None
 
 -- ---- the INVITE that the call waits on
 

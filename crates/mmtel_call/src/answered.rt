@@ -4,15 +4,14 @@ ghost use Rattle.mmtel_desk.specs.Desks.{token};
 ghost use Rattle.mmtel_desk.specs.Sending.{acked, acked_for, asked_for, relayed_ack_text};
 ghost use Rattle.mmtel_types.specs.Sides.{other_of};
 ghost use Rattle.mmtel_types.specs.declared.causes.Cause.TheVariants.{Ended as HasEnded};
+ghost use Rattle.mmtel_call_decisions.specs.Requests.{is_same_side};
 ghost use Rattle.mmtel_call.specs.Answered.{acked_across, acked_and_left, acknowledges, bye_across, bye_before_ack, bye_to, is_due, keeps_ack, leg_of, parted, shown_across, unacknowledged, with_ack};
 ghost use Rattle.mmtel_call.specs.Calls.{Over};
 ghost use Rattle.mmtel_call.specs.Closing.{over_stood};
-ghost use Rattle.mmtel_call.specs.Requests.{is_same_number, is_same_side};
 
-use crate::attempts::number_of;
 use crate::calls::{Call, Pair, Phase, Stage, Success, Taken};
-use crate::settings::Setting;
 use mmtel_answers::Hearing;
+use mmtel_call_decisions::{Setting, is_ack_of, is_same_side, number_of};
 use mmtel_desk::{Desk, Invitation};
 use mmtel_leg::Ended;
 use mmtel_message::Line;
@@ -20,35 +19,6 @@ use mmtel_scan::{List, NoMemory, Text};
 use mmtel_transaction::DueWord;
 use mmtel_types::{Cause, Moment, Peer, Side};
 use std::alloc::Global;
-
-/// Whether two sides are one.
-pub fn is_same_side(one: Side, other: Side) -> bool
-    ensures { result ≡ is_same_side one other }
-{
-    match one {
-        Side::Caller => match other {
-            Side::Caller => true,
-            Side::Callee => false,
-        },
-        Side::Callee => match other {
-            Side::Caller => false,
-            Side::Callee => true,
-        },
-    }
-}
-
-/// Whether there are two numbers, and they are equal.
-fn is_same_number(one: Option<u32>, other: Option<u32>) -> bool
-    ensures { result ≡ is_same_number one other }
-{
-    match one {
-        None => false,
-        Some(one) => match other {
-            None => false,
-            Some(other) => one == other,
-        },
-    }
-}
 
 /// Whether an ACK of this side is that of the 2xx.
 pub fn acknowledges(
@@ -61,7 +31,7 @@ pub fn acknowledges(
     ensures { IfOk result (λ yes. yes ≡ acknowledges waiting success.now side m.now) }
 {
     let number = number_of(alloc, m)?;
-    Ok(is_same_side(waiting, side) && is_same_number(number, success.cseq))
+    Ok(is_ack_of(waiting, success.cseq, side, number))
 }
 
 impl Success {
@@ -236,7 +206,9 @@ impl Call {
         ensures { IfOk result (λ ls. ls ≡ shown_across setting.now self.now x.now side m.now) }
     {
         let peer = x.peer_of(side.other());
-        self.shown_to(alloc, setting, x.service.as_ref(), side, peer, m)
+        let service = x.service.as_ref();
+        let opening = &self.opening;
+        opening.shown_to(alloc, setting, &self.diversions, service, side, peer, m)
     }
 
     /// The call is over, and both legs leave.

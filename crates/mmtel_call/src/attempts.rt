@@ -1,54 +1,31 @@
 //! What an attempt is once it proceeds, is answered or left: its INVITE, its times and its end.
-ghost use Rattle.std.specs.Prelude.{◌≡◌, ◌≤◌, ◌∷◌, ◌++◌, [], false, Some, IfOk, IfSome, OnErr, OnOk};
-ghost use Rattle.std.specs.Option.{option_copied};
+ghost use Rattle.std.specs.Prelude.{◌≡◌, ◌∷◌, ◌++◌, [], false, Some, IfOk, OnErr, OnOk};
 ghost use Rattle.mmtel_desk.specs.Invitations.{has_said, once_cancelled};
 ghost use Rattle.mmtel_leg.specs.Dialogues.{met};
 ghost use Rattle.mmtel_leg.specs.Legs.{with_dialogue};
+ghost use Rattle.mmtel_call_decisions.specs.Decisions.{time_of};
+ghost use Rattle.mmtel_call_decisions.specs.Requests.{number_of};
 ghost use Rattle.mmtel_call.specs.Sending.{relayed_to_caller};
-ghost use Rattle.mmtel_precedence.specs.Attempts.{end_by_final, end_by_time};
-ghost use Rattle.mmtel_sheet_values.specs.NoReply.{no_reply_time};
-ghost use Rattle.mmtel_precedence.specs.Told.{told_end};
 ghost use Rattle.mmtel_types.specs.declared.causes.Cause.TheVariants.{Ended as HasEnded};
 ghost use Rattle.mmtel_types.specs.declared.sides.Side.TheVariants.{Callee as TheCallee, Caller};
 ghost use Rattle.mmtel_leg.specs.Remotes.{remote_of};
 ghost use Rattle.mmtel_call.specs.Calls.{Answered, Offered, Over, Stood};
-ghost use Rattle.mmtel_call.specs.Decisions.{its_sheet};
-ghost use Rattle.mmtel_call.specs.Requests.{number_of};
-ghost use Rattle.mmtel_call.specs.Ringing.{answered, armed, awaiting_ack, early_said, having_met, loose, next_success, noted, proceeding, ringing, success_of, tag_given, time_of, with_loose};
+ghost use Rattle.mmtel_call.specs.Ringing.{answered, armed, awaiting_ack, early_said, having_met, loose, next_success, noted, proceeding, ringing, success_of, tag_given, with_loose};
 
-use crate::calls::{Attempt, Call, Pair, Phase, Service, Stage, Success, Taken, Trial};
+use crate::calls::{Attempt, Call, Pair, Phase, Stage, Success, Taken, Trial};
 use crate::legs::said_by_callee;
-use crate::sending::its_sheet;
-use crate::settings::Setting;
 use mmtel_answers::Hearing;
+use mmtel_call_decisions::{Setting, number_of, time_of};
 use mmtel_desk::{Desk, Invitation, Loose, file, once_cancelled, with_early};
 use mmtel_leg::Remote;
-use mmtel_lex::{LexFault, Uri};
-use mmtel_message::{first_of, read_cseq};
-use mmtel_precedence::{AttemptEnd, AttemptEvent, end_by, rings};
+use mmtel_precedence::rings;
 use mmtel_scan::{NoMemory, Text};
-use mmtel_sheet_values::Sheet;
 use mmtel_transaction::{DueWord, Emit, TKey};
 use mmtel_types::{Moment, Side};
 use std::alloc::Global;
 
 /// For so long a 2xx waits for its ACK, in milliseconds.
 const ACK_TIME: u64 = 32_000;
-
-/// The number of CSeq of a request, where that can be read.
-#[tactic(auto, unfolding(mmtel_leg::specs::Dialogues::number_at))]
-pub fn number_of(alloc: Global, request: &Hearing) -> Result<Option<u32>, NoMemory>
-    ensures { IfOk result (λ n. n ≡ number_of request.now) }
-{
-    match first_of(request.message.lines(), b"CSeq") {
-        None => Ok(None),
-        Some(value) => match read_cseq(alloc, value) {
-            Ok(cseq) => Ok(Some(cseq.number)),
-            Err(LexFault::Malformed { at: _ }) => Ok(None),
-            Err(LexFault::NoMemory) => Err(NoMemory),
-        },
-    }
-}
 
 /// An INVITE of which this response came by this client transaction.
 pub fn has_said(key: TKey, invitation: Invitation) -> Invitation
@@ -107,55 +84,6 @@ impl Attempt {
             rang,
             invitation: has_said(key, invitation),
         }
-    }
-}
-
-/// The no-reply time of a record.
-fn time_in(sheet: &Sheet) -> Option<u64>
-    ensures exact { result ≡ no_reply_time sheet.now }
-    ensures bound { IfSome result (λ time. time ≤ 65535000) }
-{
-    match &sheet.diversion {
-        None => None,
-        Some(part) => {
-            let seconds = part.no_reply;
-            match sheet.no_reply_time() {
-                None => None,
-                Some(_) => Some(u64::from(seconds) * 1000),
-            }
-        }
-    }
-}
-
-/// The no-reply time of the record of the account that is served.
-fn time_of(service: Option<&Service>) -> Option<u64>
-    ensures exact { result ≡ time_of (its_sheet (option_copied service.entry)) }
-    ensures bound { IfSome result (λ time. time ≤ 65535000) }
-{
-    match its_sheet(service) {
-        None => None,
-        Some(sheet) => time_in(sheet),
-    }
-}
-
-/// How a final from 300 ends an attempt.
-pub fn end_of<'a>(code: u16, target: Option<&'a Uri>, rang: bool) -> AttemptEnd<'a>
-    requires { 200 ≤ code }
-    ensures { told_end result ≡ end_by_final code (option_copied target.entry) rang }
-{
-    match end_by(AttemptEvent::Response { code, target }, rang) {
-        Some(end) => end,
-        None => unreachable!(),
-    }
-}
-
-/// How the longest time ends an attempt.
-pub fn end_of_time(rang: bool) -> AttemptEnd<'static>
-    ensures { told_end result ≡ end_by_time rang }
-{
-    match end_by(AttemptEvent::LongestTime, rang) {
-        Some(end) => end,
-        None => unreachable!(),
     }
 }
 

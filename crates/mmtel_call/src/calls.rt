@@ -1,55 +1,16 @@
 //! What is kept of a call. What is private stands in places of its own: in the lines, the History-Info and the redirect of a message that was heard,
 //! in the identities of the caller, in the list of the diversions, and in remote and target of a dialog. All else is public.
 
-use crate::diversions::Diversions;
 use mmtel_answers::Hearing;
+use mmtel_call_decisions::{Diversions, Opening, Service};
 use mmtel_charging::Meter;
 use mmtel_desk::{Invitation, Loose};
 use mmtel_leg::{Asked, CalleeLeg, CallerLeg, Early, Released, Standing};
-use mmtel_rules::Identities2;
 use mmtel_scan::{List, Text};
-use mmtel_sheet_values::SharedSheet;
-use mmtel_targets::{RegistrationState, Served};
 use mmtel_transaction::TKey;
-use mmtel_types::{Account, CallNo, Cause, Moment, Side};
+use mmtel_types::{Cause, Moment, Side};
 use mmtel_waiting::HoldState;
 use std::marker::Model;
-
-/// What is known of a call as it opens, and stays.
-#[derive(Drop)]
-pub struct Opening {
-    /// The number of the call.
-    pub number: CallNo,
-    /// The server transaction of the INVITE that opened it.
-    pub key: TKey,
-    /// That INVITE.
-    pub invite: Hearing,
-    /// The server's tag in the caller's dialog.
-    pub tag: Text,
-    /// Whom the server serves in it (RFC 5502 §6).
-    pub served: Served,
-    /// What was said of the registration of its first target, where something was.
-    pub registration: Option<RegistrationState>,
-    /// The record of the account that is served as the caller, as it stood; None where none is.
-    pub sheet: Option<SharedSheet>,
-    /// The caller hides who it is (TS 24.607 §4.5.2).
-    pub restricted: bool,
-    /// Who the caller is.
-    pub identities: Identities2,
-    /// The kinds of media that it offered.
-    pub media: List<Text>,
-    /// The Route values that each of its attempts keeps.
-    pub routes: List<Text>,
-}
-
-/// The account that is served at a target, with its record as it stood when the call reached it.
-#[derive(Drop)]
-pub struct Service {
-    /// The account.
-    pub account: Account,
-    /// Its record.
-    pub sheet: SharedSheet,
-}
 
 /// An attempt: the call is offered to a target.
 #[derive(Drop)]

@@ -1,65 +1,28 @@
 //! How a call goes on: it comes to one target after another until it is offered to one, or refused.
-ghost use Rattle.std.specs.Prelude.{◌≡◌, ◌-◌, ◌<◌, false, Some, IfOk, OnOk};
+ghost use Rattle.std.specs.Prelude.{◌≡◌, ◌-◌, ◌<◌, false, IfOk, Some, OnOk};
 ghost use Rattle.std.specs.Option.{option_copied};
 ghost use Rattle.mmtel_lex.specs.Grammar.{uri_text};
 ghost use Rattle.mmtel_precedence.specs.Told.{told_due, told_end};
 ghost use Rattle.mmtel_types.specs.declared.causes.Cause.TheVariants.{Ended as HasEnded};
+ghost use Rattle.mmtel_call_decisions.specs.Decisions.{decided_after, is_barred, peer_for, service_at, target_of};
+ghost use Rattle.mmtel_call_decisions.specs.Site.{standing};
 ghost use Rattle.mmtel_call.specs.Calls.{Over};
-ghost use Rattle.mmtel_call.specs.Decisions.{decided_after, is_barred, peer_for, service_at};
-ghost use Rattle.mmtel_call.specs.Diverting.{at_target, divert, diverted, diverted_list, handed_on, is_status, offer_where, on_end, passed_by, refused, refused_by, target_of, told_of, where_served};
-ghost use Rattle.mmtel_call.specs.Site.{standing};
+ghost use Rattle.mmtel_call.specs.Diverting.{at_target, divert, diverted, diverted_list, offer_where, on_end, passed_by, refused, refused_by, told_of, where_served};
 
-use crate::calls::{Call, Service};
+use crate::calls::Call;
 use crate::closing::meter_for;
 use crate::legs::give_up_caller;
-use crate::settings::{Present, Setting};
-use crate::uris::uri_copied;
 use mmtel_answers::{Hearing, status_of};
+use mmtel_call_decisions::{Present, Service, Setting, is_handed_on};
 use mmtel_charging::Kind;
 use mmtel_desk::Desk;
 use mmtel_leg::{CallerLeg, Ended, Standing, request_uri};
 use mmtel_lex::print_uri;
 use mmtel_precedence::{AfterEnding, AttemptEnd, Onward, Turn};
 use mmtel_scan::{NoMemory, Text};
-use mmtel_targets::{Target, diverted_target};
+use mmtel_targets::Target;
 use mmtel_types::{Cause, Moment, Peer};
 use std::alloc::Global;
-
-/// The status of a target's final that a cause hands on.
-fn handed_on(cause: Cause) -> Option<u16>
-    ensures { result ≡ handed_on cause }
-{
-    match cause {
-        Cause::Relayed(code) => Some(code),
-        Cause::Unreachable(code) => Some(code),
-        Cause::OutgoingBarred => None,
-        Cause::IncomingBarred => None,
-        Cause::AnonymousRejected => None,
-        Cause::NotRegistered => None,
-        Cause::NetworkBusy => None,
-        Cause::NoReply => None,
-        Cause::TooManyDiversions { busy: _ } => None,
-        Cause::Cancelled => None,
-        Cause::NoAccount => None,
-        Cause::NoRoute => None,
-        Cause::BadScheme => None,
-        Cause::Hops => None,
-        Cause::Extension => None,
-        Cause::Critical => None,
-        Cause::Merged => None,
-        Cause::Full => None,
-        Cause::Ended => None,
-    }
-}
-
-fn is_status(code: u16, other: Option<u16>) -> bool
-    ensures { result ≡ is_status code other }
-{
-    match other {
-        None => false,
-        Some(other) => other == code,
-    }
-}
 
 impl Call {
     /// Refuses the call by a final of the server's own, which ends it.
@@ -99,7 +62,7 @@ impl Call {
         ensures call { OnOk result (self.new ≡ (refused_by setting.now at caller (option_copied service.entry) (Some response.now) cause self.old desk.old).call) }
         ensures desk { OnOk result (desk.new ≡ (refused_by setting.now at caller (option_copied service.entry) (Some response.now) cause self.old desk.old).desk) }
     {
-        if !is_status(status_of(response.message.start()), handed_on(cause)) {
+        if !is_handed_on(cause, status_of(response.message.start())) {
             return self.refuse(alloc, setting, at, caller, cause, desk);
         }
         let relayed = self.relay_to_caller(alloc, setting, service, response, desk);
@@ -176,28 +139,7 @@ impl Call {
         let kept = self.keep_meter(alloc, meter, at);
         noted?;
         kept?;
-        if due.notify_caller {
-            return self.tell_diversion(alloc, setting, desk);
-        }
-        Ok(())
-    }
-
-    /// The target of a diversion, and whether outgoing barring refuses it.
-    fn weigh_diversion(
-        &self,
-        alloc: Global,
-        setting: &Setting<'_>,
-        at: Moment,
-        service: Option<&Service>,
-        due: &Onward<'_>,
-    ) -> Result<(Target, bool), NoMemory>
-        ensures target { IfOk result (λ r. r.0 ≡ target_of setting.now (told_due due.entry.now)) }
-        ensures barred { IfOk result (λ r. r.1 ≡ is_barred setting.now self.now.opening at (option_copied service.entry) (told_due due.entry.now)) }
-    {
-        let asked = diverted_target(alloc, setting.home, uri_copied(alloc, due.target)?)?;
-        let barred = self.opening.is_barred(at, service, asked);
-        let target = diverted_target(alloc, setting.home, uri_copied(alloc, due.target)?)?;
-        Ok((target, barred))
+        self.tell_of(alloc, setting, due, desk)
     }
 
     /// What a diversion comes to that is due: it is made and the call comes to its target, unless outgoing barring or the bound refuses it.
@@ -216,7 +158,8 @@ impl Call {
         ensures call { OnOk result (self.new ≡ (divert self.old.diversions.left setting.now (standing present.now) caller (option_copied service.entry) (told_due due.entry.now) self.old desk.old).call) }
         ensures desk { OnOk result (desk.new ≡ (divert self.old.diversions.left setting.now (standing present.now) caller (option_copied service.entry) (told_due due.entry.now) self.old desk.old).desk) }
     {
-        match self.weigh_diversion(alloc, setting, present.at, service, due) {
+        let opening = &self.opening;
+        match opening.weigh_diversion(alloc, setting, present.at, service, due) {
             Err(error) => {
                 give_up_caller(caller, present.at);
                 Err(error)
@@ -280,11 +223,8 @@ impl Call {
         ensures service { IfOk result (λ r. r.0 ≡ service_at setting.now (standing present.now) self.now.opening cause target.now) }
         ensures peer { IfOk result (λ r. r.1 ≡ peer_for setting.now self.now.opening target.now) }
     {
-        let service = self
-            .opening
-            .service_at(alloc, setting, present, cause, target)?;
-        let peer = self.opening.peer_for(alloc, setting, target)?;
-        Ok((service, peer))
+        self.opening
+            .weigh_target(alloc, setting, present, cause, target)
     }
 
     /// The call comes to a target.
@@ -448,7 +388,7 @@ impl Call {
         ensures desk { OnOk result (desk.new ≡ (on_end setting.now (standing present.now) caller (option_copied service.entry) (option_copied response.entry) (decided_after self.old.opening present.now.at (option_copied service.entry) (told_end how.entry.now)) self.old desk.old).desk) }
     {
         let at = present.at;
-        match self.opening.decide_after(at, service, how) {
+        match self.opening.decide_after(present, service, how) {
             AfterEnding::Answered => {
                 let Ended { meter } = caller.leave();
                 self.close(alloc, at, Cause::Ended, meter, None, desk)

@@ -8,8 +8,8 @@ ghost use Rattle.mmtel_call.specs.Ringing.{given_up, heard_by, on_cancel, on_hea
 
 use crate::calls::{Attempt, Call, Phase, Trial};
 use crate::legs::hear;
-use crate::settings::Setting;
 use mmtel_answers::Hearing;
+use mmtel_call_decisions::Setting;
 use mmtel_desk::Desk;
 use mmtel_leg::{DialogueFault, Ended, InFlight};
 use mmtel_message::is_method;

@@ -6,8 +6,8 @@ ghost use Rattle.mmtel_call.specs.Ringing.{tag_given};
 
 use crate::calls::{Call, Phase, Stage, Taken};
 use crate::legs::said_by_callee;
-use crate::settings::Setting;
 use mmtel_answers::{Hearing, status_of};
+use mmtel_call_decisions::{Setting, is_other_dialog};
 use mmtel_desk::{Desk, Loose, file, loose_at};
 use mmtel_scan::{List, NoMemory};
 use mmtel_transaction::{Emit, TKey};
@@ -40,7 +40,7 @@ impl Taken {
     fn is_fork(&self, tag: &[u8]) -> bool
         ensures { (m : Said) → tag.now ≡ tag_given m → result ≡ is_fork self.now m }
     {
-        !self.within && tag != self.tag.bytes()
+        is_other_dialog(self.within, self.tag.bytes(), tag)
     }
 }
 

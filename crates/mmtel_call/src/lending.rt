@@ -8,7 +8,7 @@ ghost use Rattle.mmtel_call.specs.Lending.{finished, finished_by, first_of, fits
 
 use crate::calls::{Call, Loan, Pair, Phase, Stage};
 use crate::closing::give_up_meter;
-use crate::settings::Setting;
+use mmtel_call_decisions::Setting;
 use mmtel_charging::Meter;
 use mmtel_desk::Desk;
 use mmtel_leg::{Ended, LegOf, Released};

@@ -8,42 +8,23 @@ ghost use Rattle.mmtel_types.specs.declared.causes.Cause.TheVariants.{Ended as H
 ghost use Rattle.mmtel_charging.specs.declared.rows.Kind.TheVariants.{Terminating};
 ghost use Rattle.mmtel_call.specs.Calls.{Offered, Over};
 ghost use Rattle.mmtel_call.specs.Closing.{meter_for};
-ghost use Rattle.mmtel_call.specs.Offering.{aim_at, dialog_of, next_attempt, offer, sent_to};
+ghost use Rattle.mmtel_call.specs.Offering.{dialog_of, next_attempt, offer, sent_to};
 
-use crate::calls::{Attempt, Call, Opening, Phase, Service, Trial, Tried, TriedLeg};
+use crate::calls::{Attempt, Call, Phase, Trial, Tried, TriedLeg};
 use crate::closing::meter_for;
 use crate::legs::give_up_caller;
-use crate::settings::Setting;
-use mmtel_answers::{Aim, called, diverted_aim, first_aim};
+use mmtel_answers::{Aim, called};
+use mmtel_call_decisions::{Service, Setting};
 use mmtel_charging::Kind;
 use mmtel_desk::{Desk, Invitation};
 use mmtel_leg::{CalleeLeg, CallerLeg, Dialogue, Standing};
 use mmtel_scan::NoMemory;
-use mmtel_targets::Target;
 use mmtel_transaction::{DueWord, Emit};
-use mmtel_types::{Moment, Peer, Side};
+use mmtel_types::{Moment, Side};
 use std::alloc::Global;
 
 /// The longest time that an attempt may take, in milliseconds.
 const LONGEST_TIME: u64 = 180_000;
-
-impl Opening {
-    /// To whom an attempt goes: to the first target as it was asked for, or to that of a diversion by this cause.
-    pub fn aim_at(
-        &self,
-        alloc: Global,
-        peer: Peer,
-        cause: Option<u16>,
-        target: &Target,
-    ) -> Result<Aim, NoMemory>
-        ensures { IfOk result (λ aim. aim ≡ aim_at self.now peer cause target.now) }
-    {
-        match cause {
-            None => first_aim(alloc, peer, self.routes.items(), &self.invite),
-            Some(cause) => diverted_aim(alloc, peer, self.routes.items(), &target.uri, cause),
-        }
-    }
-}
 
 impl Call {
     /// The number of the next attempt.
@@ -69,7 +50,16 @@ impl Call {
     {
         let opening = &self.opening;
         let peer = aim.peer;
-        let lines = self.shown_to(alloc, setting, service, Side::Caller, peer, &opening.invite)?;
+        let caller = Side::Caller;
+        let lines = opening.shown_to(
+            alloc,
+            setting,
+            &self.diversions,
+            service,
+            caller,
+            peer,
+            &opening.invite,
+        )?;
         let invitation = desk.offer(
             alloc,
             setting.sip,

@@ -1,177 +1,22 @@
 //! How a call opens.
-ghost use Rattle.std.specs.Prelude.{◌≡◌, ◌≤◌, length, IfOk, OnOk};
-ghost use Rattle.std.specs.Option.{option_copied};
+ghost use Rattle.std.specs.Prelude.{◌≡◌, IfOk, OnOk};
 ghost use Rattle.mmtel_types.specs.declared.causes.Cause.TheVariants.{Ended as HasEnded};
-ghost use Rattle.mmtel_parties.specs.Routing.{kept_routes};
+ghost use Rattle.mmtel_call_decisions.specs.Opening.{first_of};
+ghost use Rattle.mmtel_call_decisions.specs.Site.{standing};
 ghost use Rattle.mmtel_call.specs.Calls.{Over};
-ghost use Rattle.mmtel_call.specs.Opening.{begins, caller_of, first_of, new_call, nowhere, opened, opening_of, origin_sheet, received_list, refusal_of, undiverted, unless_refused};
-ghost use Rattle.mmtel_call.specs.Site.{standing};
+ghost use Rattle.mmtel_call.specs.Opening.{begins, caller_of, new_call, opened, unless_refused};
 
-use crate::calls::{Call, Opening, Phase};
+use crate::calls::{Call, Phase};
 use crate::closing::{give_up_meter, meter_of};
-use crate::deciding::sheet_at;
-use crate::diversions::Diversions;
-use crate::settings::{Present, Setting};
-use crate::uris::uri_copied;
-use mmtel_answers::Hearing;
+use mmtel_call_decisions::{Arrival, Diversions, Opening, Present, Setting, opening_of};
 use mmtel_charging::Kind;
 use mmtel_desk::Desk;
-use mmtel_history::{History, HistoryFault, read_values};
-use mmtel_identity::caller_restricted;
-use mmtel_leg::{CallerLeg, Standing, request_uri};
-use mmtel_lex::Uri;
-use mmtel_message::line_texts;
-use mmtel_parties::kept_routes;
-use mmtel_precedence::{party_of, refused_at_opening};
-use mmtel_rules::Identities2;
-use mmtel_scan::{List, NoMemory, Text};
-use mmtel_sdp::kinds_of;
-use mmtel_sheet_values::{SharedSheet, Sheet};
-use mmtel_targets::{RegistrationState, Served, Target, first_target};
-use mmtel_transaction::TKey;
-use mmtel_trust::wants;
-use mmtel_types::{CallNo, Cause, Moment};
+use mmtel_leg::{CallerLeg, Standing};
+use mmtel_scan::{List, NoMemory};
+use mmtel_targets::Target;
+use mmtel_types::{Cause, Moment};
 use mmtel_waiting::HoldState;
 use std::alloc::Global;
-
-/// An INVITE that opens a call, with what was read of its parties.
-#[derive(Drop)]
-pub struct Arrival {
-    /// The number that the call has.
-    pub number: CallNo,
-    /// The server transaction that the INVITE opened.
-    pub key: TKey,
-    /// The INVITE.
-    pub invite: Hearing,
-    /// Whom the server serves (RFC 5502 §6).
-    pub served: Served,
-    /// What was said of the registration of its target, where something was.
-    pub registration: Option<RegistrationState>,
-    /// Who the caller is.
-    pub identities: Identities2,
-}
-
-/// The record of the account that is served as the caller, where one is.
-fn origin_sheet(
-    alloc: Global,
-    present: &Present<'_>,
-    served: &Served,
-) -> Result<Option<SharedSheet>, NoMemory>
-    ensures { IfOk result (λ sheet. sheet ≡ origin_sheet (standing present.now) served.now) }
-{
-    match served.origin {
-        None => Ok(None),
-        Some(account) => Ok(Some(sheet_at(alloc, present, account)?)),
-    }
-}
-
-/// A record that is kept, as one that is asked.
-fn kept_sheet(sheet: &Option<SharedSheet>) -> Option<&Sheet>
-    ensures { option_copied result ≡ sheet.now }
-{
-    match sheet {
-        None => None,
-        Some(sheet) => Some(sheet.sheet()),
-    }
-}
-
-/// The Route values that each attempt keeps.
-fn routes_of(alloc: Global, setting: &Setting<'_>, invite: &Hearing) -> Result<List<Text>, NoMemory>
-    ensures { IfOk result (λ routes. routes ≡ kept_routes setting.now.sip invite.now.heard.routes) }
-{
-    let values = line_texts(alloc, invite.message.lines(), b"Route")?;
-    kept_routes(alloc, setting.sip, values)
-}
-
-/// What is known of a call as it opens, where its caller's dialog has this tag of the server.
-fn opening_of(
-    alloc: Global,
-    setting: &Setting<'_>,
-    present: &Present<'_>,
-    tag: Text,
-    arrival: Arrival,
-) -> Result<Opening, NoMemory>
-    ensures { IfOk result (λ o. o ≡ opening_of setting.now (standing present.now) tag arrival) }
-{
-    let sheet = origin_sheet(alloc, present, &arrival.served)?;
-    let restricted = caller_restricted(&wants(&arrival.invite.message), kept_sheet(&sheet));
-    let media = kinds_of(alloc, arrival.invite.message.body())?;
-    let routes = routes_of(alloc, setting, &arrival.invite)?;
-    Ok(Opening {
-        number: arrival.number,
-        key: arrival.key,
-        invite: arrival.invite,
-        tag,
-        served: arrival.served,
-        registration: arrival.registration,
-        sheet,
-        restricted,
-        identities: arrival.identities,
-        media,
-        routes,
-    })
-}
-
-/// The History-Info of an INVITE.
-fn received_list(alloc: Global, invite: &Hearing) -> Result<History, NoMemory>
-    ensures list { IfOk result (λ h. h ≡ received_list invite.now) }
-    ensures few { IfOk result (λ h. length h ≤ 32) }
-{
-    let values = line_texts(alloc, invite.message.lines(), b"History-Info")?;
-    match read_values(alloc, &values) {
-        Ok(history) => Ok(history),
-        Err(HistoryFault::Malformed { at: _ }) => Ok(History::new(alloc)),
-        Err(HistoryFault::NoMemory) => Err(NoMemory),
-    }
-}
-
-/// How often a call may be diverted.
-fn undiverted(setting: &Setting<'_>, history: History) -> Diversions
-    requires { length history ≤ 32 }
-    ensures { result ≡ undiverted setting.now.bound history }
-{
-    Diversions::new(history, setting.bound)
-}
-
-/// Where a Request-URI names no target, there is nowhere to go.
-fn nowhere() -> Target
-    ensures { result ≡ nowhere }
-{
-    Target {
-        uri: Uri::Tel {
-            number: Text::new(),
-            params: List::new(),
-        },
-        of_number: false,
-    }
-}
-
-impl Opening {
-    /// The first target.
-    fn first_of(&self, alloc: Global) -> Result<Target, NoMemory>
-        ensures { IfOk result (λ target. target ≡ first_of self.now) }
-    {
-        match first_target(alloc, request_uri(self.invite.message.start()))? {
-            None => Ok(nowhere()),
-            Some(target) => Ok(target),
-        }
-    }
-
-    /// What refuses the call, which would come to this target.
-    fn refusal_of(
-        &self,
-        alloc: Global,
-        at: Moment,
-        target: &Target,
-    ) -> Result<Option<Cause>, NoMemory>
-        ensures { target.now ≡ first_of self.now → IfOk result (λ cause. cause ≡ refusal_of at self.now) }
-    {
-        let party = party_of(uri_copied(alloc, &target.uri)?);
-        let words = wants(&self.invite.message);
-        let sheet = self.origin_sheet();
-        Ok(refused_at_opening(&words, &self.served, sheet, &self.facts(&party, at)))
-    }
-}
 
 impl Call {
     /// A call as it opens.
@@ -302,7 +147,7 @@ impl Call {
         let tag = desk.draw(alloc)?;
         let opening = opening_of(alloc, setting, present, tag, arrival)?;
         let target = opening.first_of(alloc)?;
-        let diversions = undiverted(setting, received_list(alloc, &opening.invite)?);
+        let diversions = opening.undiverted(alloc, setting)?;
         let mut call = Call::new(setting, opening, diversions);
         match call.begin(alloc, setting, present, target, desk) {
             Ok(()) => Ok(call),

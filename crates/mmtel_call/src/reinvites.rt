@@ -14,12 +14,11 @@ ghost use Rattle.mmtel_call.specs.Reinvites.{agreed, asked_across, bye_to_both, 
 ghost use Rattle.mmtel_call.specs.Ringing.{awaiting_ack, next_success, success_of, tag_given, with_loose};
 ghost use Rattle.mmtel_call.specs.Sending.{replied_to};
 
-use crate::answered::is_same_side;
 use crate::attempts::{has_said, taken_by};
 use crate::calls::{Call, Pair, Phase, Reinvite, Stage, Success, Taken};
 use crate::legs::said_by_callee;
-use crate::settings::Setting;
 use mmtel_answers::{Hearing, status_of};
+use mmtel_call_decisions::{Setting, is_same_side};
 use mmtel_desk::{Desk, Invitation, file, once_cancelled};
 use mmtel_leg::Dialogue;
 use mmtel_message::Line;
@@ -261,8 +260,10 @@ impl Call {
     {
         let peer = q.request.peer;
         let service = x.service.as_ref();
-        let lines = self.shown_to(alloc, setting, service, side.other(), peer, m)?;
-        let tag = self.opening.tag.bytes();
+        let opening = &self.opening;
+        let other = side.other();
+        let lines = opening.shown_to(alloc, setting, &self.diversions, service, other, peer, m)?;
+        let tag = opening.tag.bytes();
         desk.relay(alloc, setting.sip, q.key, &q.request, tag, lines.items(), m)
     }
 

@@ -6,11 +6,11 @@ ghost use Rattle.mmtel_call.specs.Stages.{busy_in, has_left, is_due_at, left_by,
 ghost use Rattle.mmtel_call.specs.Answered.{leg_of, with_leg};
 ghost use Rattle.mmtel_call.specs.Requests.{having_heard, says};
 
-use crate::answered::{acknowledges, is_same_side};
+use crate::answered::acknowledges;
 use crate::calls::{Call, Pair, Phase, Stage, Success};
 use crate::legs::hear;
-use crate::settings::Setting;
 use mmtel_answers::Hearing;
+use mmtel_call_decisions::{Setting, is_same_side};
 use mmtel_desk::Desk;
 use mmtel_leg::{DialogueFault, InFlight};
 use mmtel_message::is_method;

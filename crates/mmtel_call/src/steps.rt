@@ -1,102 +1,24 @@
 //! The step table of a call: which INVITE a response answers, and what a call does on each signal, by its phase.
-ghost use Rattle.std.specs.Prelude.{◌≡◌, IfOk, OnOk};
+ghost use Rattle.std.specs.Prelude.{◌≡◌, OnOk};
 ghost use Rattle.std.specs.Option.{option_copied};
 ghost use Rattle.mmtel_answers.specs.Said.{status_of};
 ghost use Rattle.mmtel_types.specs.declared.causes.Cause.TheVariants.{Ended as HasEnded};
+ghost use Rattle.mmtel_call_decisions.specs.Invites.{invite_answered, invite_silent};
+ghost use Rattle.mmtel_call_decisions.specs.Site.{standing};
 ghost use Rattle.mmtel_call.specs.Calls.{Offered, Over};
 ghost use Rattle.mmtel_call.specs.Ringing.{on_response};
-ghost use Rattle.mmtel_call.specs.Site.{standing};
-ghost use Rattle.mmtel_call.specs.Table.{ack_in, answer_to, answers_invite, behind, branch_in, cancel_in, current, due_in, first_via, invite_answered, invite_silent, is_branch, request_in, response_in, silence_in, silence_of, step};
+ghost use Rattle.mmtel_call.specs.Table.{ack_in, answer_to, cancel_in, current, due_in, is_branch, request_in, response_in, silence_in, silence_of, step};
 
 use crate::calls::{Call, Phase, Stage, Trial};
-use crate::settings::{Present, Setting};
 use crate::signals::Signal;
 use mmtel_answers::Hearing;
+use mmtel_call_decisions::{Present, Setting, invite_answered, invite_silent};
 use mmtel_desk::Desk;
-use mmtel_lex::LexFault;
-use mmtel_message::{Via, first_of, param_value, read_cseq, read_via};
-use mmtel_scan::{NoMemory, Text, skip_text};
+use mmtel_scan::NoMemory;
 use mmtel_transaction::{DueWord, TKey};
 use mmtel_types::{Cause, Moment, Side};
 use std::alloc::Global;
 use std::mem;
-
-/// The branch behind its cookie.
-fn behind_cookie(branch: Option<&[u8]>) -> Option<&[u8]>
-    ensures { option_copied result ≡ behind (option_copied branch.entry) }
-{
-    match branch {
-        None => None,
-        Some(branch) => skip_text(b"z9hG4bK", branch),
-    }
-}
-
-/// The first Via of a message, where it can be read.
-#[tactic(auto, using(crate::proofs::FirstVia::via_read))]
-fn first_via(alloc: Global, m: &Hearing) -> Result<Option<Via>, NoMemory>
-    ensures { IfOk result (λ via. via ≡ first_via m.now.heard.vias) }
-{
-    match first_of(m.message.lines(), b"Via") {
-        None => Ok(None),
-        Some(value) => match read_via(alloc, value) {
-            Ok(via) => Ok(Some(via)),
-            Err(LexFault::Malformed { at: _ }) => Ok(None),
-            Err(LexFault::NoMemory) => Err(NoMemory),
-        },
-    }
-}
-
-/// The branch, behind its cookie, of the first Via of a response.
-fn branch_of(alloc: Global, m: &Hearing) -> Result<Option<Text>, NoMemory>
-    ensures { IfOk result (λ branch. branch ≡ branch_in m.now.heard.vias) }
-{
-    match first_via(alloc, m)? {
-        None => Ok(None),
-        Some(via) => match behind_cookie(param_value(via.params.items(), b"branch")) {
-            None => Ok(None),
-            Some(branch) => Ok(Some(Text::of(alloc, branch)?)),
-        },
-    }
-}
-
-/// Whether a response answers an INVITE.
-fn is_of_invite(alloc: Global, m: &Hearing) -> Result<bool, NoMemory>
-    ensures { IfOk result (λ yes. yes ≡ answers_invite m.now.heard.cseq) }
-{
-    match first_of(m.message.lines(), b"CSeq") {
-        None => Ok(false),
-        Some(value) => match read_cseq(alloc, value) {
-            Ok(cseq) => Ok(cseq.method.bytes() == b"INVITE".as_slice()),
-            Err(LexFault::Malformed { at: _ }) => Ok(false),
-            Err(LexFault::NoMemory) => Err(NoMemory),
-        },
-    }
-}
-
-/// The branch, behind its cookie, of the INVITE that a response answers; None where it answers another request.
-///
-/// # Errors
-///
-/// Want of memory alone.
-#[tactic(auto, unfolding(crate::specs::Table::invite_answered))]
-pub fn invite_answered(alloc: Global, m: &Hearing) -> Result<Option<Text>, NoMemory>
-    ensures { IfOk result (λ branch. branch ≡ invite_answered m.now) }
-{
-    if is_of_invite(alloc, m)? {
-        return branch_of(alloc, m);
-    }
-    Ok(None)
-}
-
-/// That of the INVITE that was given up, whose branch and method these are.
-pub fn invite_silent<'a>(branch: &'a [u8], method: &[u8]) -> Option<&'a [u8]>
-    ensures { option_copied result ≡ invite_silent branch.now method.now }
-{
-    if method == b"INVITE".as_slice() {
-        return skip_text(b"z9hG4bK", branch);
-    }
-    None
-}
 
 impl Phase {
     /// Whether the INVITE that the call waits on is of this branch.

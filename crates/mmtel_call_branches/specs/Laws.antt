@@ -1,12 +1,12 @@
 -- What is said of each step of a call: its INVITEs were sent, each once.
 use Rattle.std.specs.Prelude.{◌≡◌, ◌<◌, ◌^◌, ℕ, List, ◌++◌}
+use Rattle.mmtel_call_decisions.specs.Site.{Site}
+use Rattle.mmtel_call_decisions.specs.declared.openings.Arrival.{Arrival}
 use Rattle.mmtel_call.specs.Closing.{Step}
 use Rattle.mmtel_call.specs.Lending.{finished, lent_in, put_back_in}
 use Rattle.mmtel_call.specs.Opening.{opened}
-use Rattle.mmtel_call.specs.Site.{Site}
 use Rattle.mmtel_call.specs.Table.{step}
 use Rattle.mmtel_call.specs.declared.calls.Call.{Call}
-use Rattle.mmtel_call.specs.declared.openings.Arrival.{Arrival}
 use Rattle.mmtel_call.specs.declared.signals.Signal.{Signal}
 use Rattle.mmtel_desk.specs.Desks.{fresh}
 use Rattle.mmtel_leg.specs.declared.legs.Released.{Released}

@@ -25,16 +25,17 @@ use Rattle.mmtel_types.specs.declared.causes.Cause.TheVariants as causes
 use Rattle.mmtel_types.specs.declared.numbers.Account.{Account}
 use Rattle.mmtel_types.specs.declared.numbers.Peer.{Peer}
 use Rattle.mmtel_types.specs.declared.sides.Side.TheVariants.{Caller}
+use Rattle.mmtel_call_decisions.specs.Decisions.{account_by, aim_at, decided_after, decided_at, handed_on, is_barred, is_status, its_sheet, of_caller, peer_for, reach_at, served_at, service_at, service_of, target_of, told_at}
+use Rattle.mmtel_call_decisions.specs.Showing.{shown_to}
+use Rattle.mmtel_call_decisions.specs.Site.{Site}
+use Rattle.mmtel_call_decisions.specs.declared.openings.Opening.{Opening}
+use Rattle.mmtel_call_decisions.specs.declared.openings.Service.{Service}
 use Rattle.mmtel_call.specs.declared.calls.Call.{Call}
-use Rattle.mmtel_call.specs.declared.calls.Opening.{Opening}
-use Rattle.mmtel_call.specs.declared.calls.Service.{Service}
 use Rattle.mmtel_call.specs.declared.calls.Trial.{Trial}
 use Rattle.mmtel_call.specs.Closing.{Step, over, with_past}
-use Rattle.mmtel_call.specs.Decisions.{account_by, decided_after, decided_at, is_barred, its_sheet, of_caller, peer_for, reach_at, served_at, service_at, service_of, told_at}
-use Rattle.mmtel_call.specs.Diverting.{at_target, divert, diverted, goes_on, handed_on, is_status, made, offer_where, on_end, on_turn, passed_by, reach, refused, refused_by, target_of, told_of, too_many, unless_barred}
-use Rattle.mmtel_call.specs.Offering.{aim_at, dialog_of, longest_time, next_attempt, offer}
-use Rattle.mmtel_call.specs.Sending.{relayed_to_caller, shown_to, told_caller, told_diversion}
-use Rattle.mmtel_call.specs.Site.{Site}
+use Rattle.mmtel_call.specs.Diverting.{at_target, divert, diverted, goes_on, made, offer_where, on_end, on_turn, passed_by, reach, refused, refused_by, told_of, too_many, unless_barred}
+use Rattle.mmtel_call.specs.Offering.{dialog_of, longest_time, next_attempt, offer}
+use Rattle.mmtel_call.specs.Sending.{relayed_to_caller, told_caller, told_diversion}
 use Rattle.mmtel_call_heads.specs.Clean.{IsClean}
 use Rattle.mmtel_call_heads.specs.Emits.{IsCleanDesk}
 use Rattle.mmtel_call_heads.specs.Heard.{AreCleanSheets, IsCleanSheet, IsCleanUri}

@@ -18,11 +18,11 @@ use Rattle.mmtel_transaction.specs.declared.words.TKey.{TKey}
 use Rattle.mmtel_trust.specs.Digest.{HeardMessage}
 use Rattle.mmtel_types.specs.declared.addrs.Addr.{Addr}
 use Rattle.mmtel_types.specs.declared.sides.Side.TheVariants.{Callee}
+use Rattle.mmtel_call_decisions.specs.Site.{Site}
 use Rattle.mmtel_call.specs.declared.calls.Call.{Call}
 use Rattle.mmtel_call.specs.declared.calls.Taken.{Taken}
 use Rattle.mmtel_call.specs.Closing.{onward}
 use Rattle.mmtel_call.specs.Leaving.{acked_again, answered_at, answered_loose, answered_other, answered_taken, answered_taken_at, as_loose, forked, is_fork, is_loose_key, is_success, is_taken, is_taken_key, is_talking, repeated, taken_again, with_rest, without, without_at, without_key, without_silent}
-use Rattle.mmtel_call.specs.Site.{Site}
 use Rattle.mmtel_call_heads.specs.Emits.{Each, IsCleanDesk, IsTextOfClean}
 use Rattle.mmtel_call_heads.specs.Kept.{IsCleanDialogue}
 use Rattle.mmtel_call_heads.proofs.Going.{called_clean}

@@ -18,18 +18,18 @@ use Rattle.mmtel_transaction.specs.declared.words.TKey.{TKey}
 use Rattle.mmtel_types.specs.declared.causes.Cause.TheVariants as causes
 use Rattle.mmtel_types.specs.declared.sides.Side.{Side}
 use Rattle.mmtel_types.specs.declared.sides.Side.TheVariants.{Caller, Callee}
+use Rattle.mmtel_call_decisions.specs.Decisions.{its_sheet, redirect_of, time_of}
+use Rattle.mmtel_call_decisions.specs.Site.{Site}
 use Rattle.mmtel_call.specs.declared.calls.Attempt.{Attempt}
 use Rattle.mmtel_call.specs.declared.calls.Call.{Call}
 use Rattle.mmtel_call.specs.declared.calls.Phase.TheVariants.{Offered}
 use Rattle.mmtel_call.specs.declared.calls.Trial.{Trial}
 use Rattle.mmtel_call.specs.Tried.{TriedView}
 use Rattle.mmtel_call.specs.Closing.{onward}
-use Rattle.mmtel_call.specs.Decisions.{its_sheet, redirect_of}
 use Rattle.mmtel_call.specs.Diverting.{goes_on}
 use Rattle.mmtel_call.specs.Requests.{is_bye, unheard, unlisted}
-use Rattle.mmtel_call.specs.Ringing.{ack_time, answered, armed, armed_in, awaiting_ack, callee_after, cancelled_attempt, early_said, failed, given_up, heard_by, left, loose, met_by, next_success, on_cancel, on_due, on_heard, on_request, on_request_if, on_response, proceeding, says_offered, silenced, tag_given, taken_by, time_of, timed_out, tried, with_loose}
+use Rattle.mmtel_call.specs.Ringing.{ack_time, answered, armed, armed_in, awaiting_ack, callee_after, cancelled_attempt, early_said, failed, given_up, heard_by, left, loose, met_by, next_success, on_cancel, on_due, on_heard, on_request, on_request_if, on_response, proceeding, says_offered, silenced, tag_given, taken_by, timed_out, tried, with_loose}
 use Rattle.mmtel_call.specs.Sending.{relayed_to_caller, replied_to, told_caller}
-use Rattle.mmtel_call.specs.Site.{Site}
 use Rattle.mmtel_call_heads.specs.Emits.{IsCleanDesk}
 use Rattle.mmtel_call_heads.proofs.Deciding.{EndsClean, final_clean}
 use Rattle.mmtel_call_heads.proofs.Going.{IsGood, goes_on_clean}

@@ -10,16 +10,16 @@ use Rattle.mmtel_precedence.specs.Moves as moves
 use Rattle.mmtel_precedence.specs.Moves.{Kept, account_at}
 use Rattle.mmtel_precedence.specs.Turns as turns
 use Rattle.mmtel_types.specs.declared.causes.Cause.{Cause}
+use Rattle.mmtel_call_decisions.specs.Decisions.{its_sheet}
+use Rattle.mmtel_call_decisions.specs.Site.{Site}
+use Rattle.mmtel_call_decisions.specs.declared.openings.Opening.{Opening}
+use Rattle.mmtel_call_decisions.specs.declared.rows.Ending.{Ending}
 use Rattle.mmtel_call.specs.Closing.{Step, account_in}
-use Rattle.mmtel_call.specs.Decisions.{its_sheet}
-use Rattle.mmtel_call.specs.Site.{Site}
 use Rattle.mmtel_call.specs.declared.calls.Call.{Call}
-use Rattle.mmtel_call.specs.declared.calls.Opening.{Opening}
 use Rattle.mmtel_call.specs.declared.calls.Pair.{Pair}
 use Rattle.mmtel_call.specs.declared.calls.Phase.TheVariants.{Offered, Stood, Over}
 use Rattle.mmtel_call.specs.declared.calls.Stage.{Stage}
 use Rattle.mmtel_call.specs.declared.calls.Trial.{Trial}
-use Rattle.mmtel_call.specs.declared.closing.Ending.{Ending}
 use Rattle.mmtel_call_laws.specs.Charged.{last_part, origin_part, past_parts, rows_of_parts}
 use Rattle.mmtel_call_laws.specs.Shown.{Sign, sign_of_result, signs_of, signs_of_targets}
 use Rattle.mmtel_call_laws.specs.Known.{known_as, over_by, received_in}

@@ -28,17 +28,19 @@ use Rattle.mmtel_targets.specs.declared.targets.Target.{Target}
 use Rattle.mmtel_types.specs.declared.causes.Cause.{Cause}
 use Rattle.mmtel_types.specs.declared.causes.Cause.TheVariants as causes
 use Rattle.mmtel_types.specs.declared.numbers.Peer.{Peer}
-use Rattle.mmtel_call.specs.Closing.{Step, account_in, begun, cause_by, meter_for, over, rows_by}
-use Rattle.mmtel_call.specs.Decisions as decisions
-use Rattle.mmtel_call.specs.Decisions.{decided_at, is_barred, its_sheet, peer_for, reach_at, service_at}
-use Rattle.mmtel_call.specs.Diverting.{at_target, divert, diverted, made, on_turn, passed_by, refused, target_of, told_of, too_many, unless_barred}
-use Rattle.mmtel_call.specs.Sending.{relayed_to_caller, shown_to, told_caller, told_diversion}
+use Rattle.mmtel_call_decisions.specs.Decisions as decisions
+use Rattle.mmtel_call_decisions.specs.Decisions.{aim_at, decided_at, is_barred, its_sheet, peer_for, reach_at, service_at, target_of}
+use Rattle.mmtel_call_decisions.specs.Rows.{cause_by, rows_by}
+use Rattle.mmtel_call_decisions.specs.Showing.{shown_to}
+use Rattle.mmtel_call_decisions.specs.Site.{Site}
+use Rattle.mmtel_call_decisions.specs.declared.openings.Opening.{Opening}
+use Rattle.mmtel_call_decisions.specs.declared.openings.Service.{Service}
+use Rattle.mmtel_call_decisions.specs.declared.rows.Ending.{Ending}
+use Rattle.mmtel_call.specs.Closing.{Step, account_in, begun, meter_for, over}
+use Rattle.mmtel_call.specs.Diverting.{at_target, divert, diverted, made, on_turn, passed_by, refused, told_of, too_many, unless_barred}
+use Rattle.mmtel_call.specs.Sending.{relayed_to_caller, told_caller, told_diversion}
 use Rattle.mmtel_types.specs.Causes.{status_of}
-use Rattle.mmtel_call.specs.Site.{Site}
 use Rattle.mmtel_call.specs.declared.calls.Call.{Call}
-use Rattle.mmtel_call.specs.declared.calls.Opening.{Opening}
-use Rattle.mmtel_call.specs.declared.calls.Service.{Service}
-use Rattle.mmtel_call.specs.declared.closing.Ending.{Ending}
 use Rattle.mmtel_call_laws.specs.Charged.{last_part, origin_part, past_parts, rows_of_parts}
 use Rattle.mmtel_call_laws.specs.Shown.{Invited, Sign, asked_uri, final_sign, sign_if, sign_of_result, signs_of, signs_of_targets}
 use Rattle.mmtel_call_laws.proofs.Signs.{Quiet, quiet, quiet-if, quiet-provisional, shows-reply, signs-more}
@@ -52,7 +54,7 @@ use Rattle.mmtel_types.specs.declared.sides.Side.TheVariants.{Callee, Caller}
 use Rattle.mmtel_answers.specs.Answers.{relayed_reply}
 use Rattle.mmtel_answers.specs.Said.{Said, status_of as status_in}
 use Rattle.mmtel_message.specs.Addresses.{contact_text}
-use Rattle.mmtel_call.specs.Offering.{aim_at, longest_time, next_attempt, sent_to}
+use Rattle.mmtel_call.specs.Offering.{longest_time, next_attempt, sent_to}
 use Rattle.mmtel_call_laws.specs.Known.{known_as, over_by, received_in}
 use Rattle.mmtel_call_laws.proofs.Agreeing.{Comes, Ends, IsReady, Rings, total}
 use Rattle.mmtel_call_laws.proofs.Falling.{divert-leaves, target-leaves}

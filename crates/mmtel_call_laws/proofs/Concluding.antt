@@ -14,12 +14,12 @@ use Rattle.mmtel_precedence.specs.Moves.{Kept, MovesGiveTheOutcome, account_at, 
 use Rattle.mmtel_precedence.specs.Services.{AccountState}
 use Rattle.mmtel_precedence.specs.Turns.{EndingsAreMoves, TurnsAreMoves}
 use Rattle.mmtel_types.specs.declared.causes.Cause.{Cause}
-use Rattle.mmtel_call.specs.Closing.{last_row, past_row, rows_by}
-use Rattle.mmtel_call.specs.Site.{Site}
+use Rattle.mmtel_call_decisions.specs.Rows.{last_row, past_row, rows_by}
+use Rattle.mmtel_call_decisions.specs.Site.{Site}
+use Rattle.mmtel_call_decisions.specs.declared.openings.Opening.{Opening}
+use Rattle.mmtel_call_decisions.specs.declared.rows.Ending.{Ending}
 use Rattle.mmtel_call.specs.declared.calls.Call.{Call}
-use Rattle.mmtel_call.specs.declared.calls.Opening.{Opening}
 use Rattle.mmtel_call.specs.declared.calls.Phase.TheVariants.{Offered, Over, Stood}
-use Rattle.mmtel_call.specs.declared.closing.Ending.{Ending}
 use Rattle.mmtel_call_laws.specs.Charged.{last_part, origin_part, parts_of, past_parts, rows_of_parts, running, running_in}
 use Rattle.mmtel_call_laws.specs.Endings.{endings_after}
 use Rattle.mmtel_call_laws.specs.Known.{known_after, known_as, outcome_after, over_by, result_in, result_of, stood_after}
@@ -167,10 +167,10 @@ count-append p xs ys = sum_by-append (λ x. cond (p x) 1 0) xs ys
 past-begun : (end : Ending) (parts : List Noted) → map begun_in_row (map (past_row end) parts) ≡ map begun_of parts
 unfolding past_row
 past-begun end [] = refl
-past-begun end (part ∷ parts) = go (Rattle.mmtel_call.specs.Closing.past_answer part.kind end.answered) part ∙ ap (λ l. begun_of part ∷ l) (past-begun end parts)
+past-begun end (part ∷ parts) = go (Rattle.mmtel_call_decisions.specs.Rows.past_answer part.kind end.answered) part ∙ ap (λ l. begun_of part ∷ l) (past-begun end parts)
   where
     go : (answered : Option ℕ) (part : Noted) →
-        begun_in_row (Rattle.mmtel_charging.specs.Meters.row_of (Rattle.mmtel_call.specs.Closing.with_answer answered part) end.at end.holds end.cause) ∷ map begun_in_row (map (past_row end) parts) ≡ begun_of part ∷ map begun_in_row (map (past_row end) parts)
+        begun_in_row (Rattle.mmtel_charging.specs.Meters.row_of (Rattle.mmtel_call_decisions.specs.Rows.with_answer answered part) end.at end.holds end.cause) ∷ map begun_in_row (map (past_row end) parts) ≡ begun_of part ∷ map begun_in_row (map (past_row end) parts)
     go None part = refl
     go (Some at) part = refl
 
@@ -179,7 +179,7 @@ unfolding last_row
 last-begun end None = refl
 last-begun end (Some part) = go end.answered
   where
-    go : (answered : Option ℕ) → begun_in_row (Rattle.mmtel_charging.specs.Meters.row_of (Rattle.mmtel_call.specs.Closing.with_answer answered part) end.at end.holds end.cause) ∷ [] ≡ begun_of part ∷ []
+    go : (answered : Option ℕ) → begun_in_row (Rattle.mmtel_charging.specs.Meters.row_of (Rattle.mmtel_call_decisions.specs.Rows.with_answer answered part) end.at end.holds end.cause) ∷ [] ≡ begun_of part ∷ []
     go None = refl
     go (Some at) = refl
 

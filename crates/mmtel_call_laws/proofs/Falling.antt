@@ -8,12 +8,12 @@ use Rattle.mmtel_precedence.specs.Services.{DueDiversion}
 use Rattle.mmtel_precedence.specs.Turns.{Turn, TurnDivert, TurnOffer, TurnRefuse}
 use Rattle.mmtel_targets.specs.declared.targets.Target.{Target}
 use Rattle.mmtel_types.specs.declared.numbers.Peer.{Peer}
+use Rattle.mmtel_call_decisions.specs.Decisions.{decided_at, is_barred, peer_for, service_at, target_of}
+use Rattle.mmtel_call_decisions.specs.Site.{Site}
+use Rattle.mmtel_call_decisions.specs.declared.openings.Service.{Service}
 use Rattle.mmtel_call.specs.Closing.{Step}
-use Rattle.mmtel_call.specs.Decisions.{decided_at, is_barred, peer_for, service_at}
-use Rattle.mmtel_call.specs.Diverting.{at_target, divert, diverted, made, on_turn, passed_by, refused, target_of, told_of, too_many, unless_barred}
-use Rattle.mmtel_call.specs.Site.{Site}
+use Rattle.mmtel_call.specs.Diverting.{at_target, divert, diverted, made, on_turn, passed_by, refused, told_of, too_many, unless_barred}
 use Rattle.mmtel_call.specs.declared.calls.Call.{Call}
-use Rattle.mmtel_call.specs.declared.calls.Service.{Service}
 
 -- at most so many are left after the step
 abbrev pub Leaves : ℕ → Step → Type 0

@@ -18,14 +18,15 @@ use Rattle.mmtel_transaction.specs.declared.words.TKey.{TKey}
 use Rattle.mmtel_types.specs.declared.causes.Cause.TheVariants as causes
 use Rattle.mmtel_types.specs.declared.sides.Side.{Side}
 use Rattle.mmtel_types.specs.declared.sides.Side.TheVariants.{Caller, Callee}
+use Rattle.mmtel_call_decisions.specs.Decisions.{its_sheet, redirect_of, time_of}
+use Rattle.mmtel_call_decisions.specs.Invites.{invite_answered, invite_silent}
+use Rattle.mmtel_call_decisions.specs.Site.{Site}
 use Rattle.mmtel_call.specs.Closing.{Step, onward, over_offered}
-use Rattle.mmtel_call.specs.Decisions.{its_sheet, redirect_of}
 use Rattle.mmtel_call.specs.Diverting.{goes_on}
 use Rattle.mmtel_call.specs.Requests.{is_bye, says, unheard, unlisted}
-use Rattle.mmtel_call.specs.Ringing.{ack_time, next_success, answered, armed_in, cancelled_attempt, failed, given_up, heard_by, left, on_cancel, on_due, on_request, on_request_if, on_response, proceeding, silenced, time_of, timed_out, tried}
+use Rattle.mmtel_call.specs.Ringing.{ack_time, next_success, answered, armed_in, cancelled_attempt, failed, given_up, heard_by, left, on_cancel, on_due, on_request, on_request_if, on_response, proceeding, silenced, timed_out, tried}
 use Rattle.mmtel_call.specs.Sending.{relayed_to_caller, replied_to, told_caller}
-use Rattle.mmtel_call.specs.Site.{Site}
-use Rattle.mmtel_call.specs.Table.{answer_to, invite_answered, invite_silent, silence_of, step}
+use Rattle.mmtel_call.specs.Table.{answer_to, silence_of, step}
 use Rattle.mmtel_call.specs.declared.calls.Call.{Call}
 use Rattle.mmtel_call.specs.declared.calls.Pair.{Pair}
 use Rattle.mmtel_call.specs.declared.calls.Phase.TheVariants.{Offered, Stood}

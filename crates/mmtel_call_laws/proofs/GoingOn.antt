@@ -10,11 +10,12 @@ use Rattle.mmtel_precedence.specs.Moves.{Kept, MovesGiveTheOutcome}
 use Rattle.mmtel_precedence.specs.Turns.{EndingsAreMoves, TurnsAreMoves}
 use Rattle.mmtel_types.specs.declared.causes.Cause.TheVariants as causes
 use Rattle.std.specs.Prelude.{Option, Some, None, is_some}
-use Rattle.mmtel_call.specs.Closing.{Step, cause_by, over_stood, rows_by}
-use Rattle.mmtel_call.specs.Site.{Site}
+use Rattle.mmtel_call_decisions.specs.Rows.{cause_by, rows_by}
+use Rattle.mmtel_call_decisions.specs.Site.{Site}
+use Rattle.mmtel_call_decisions.specs.declared.openings.Opening.{Opening}
+use Rattle.mmtel_call.specs.Closing.{Step, over_stood}
 use Rattle.mmtel_call.specs.Table.{step}
 use Rattle.mmtel_call.specs.declared.calls.Call.{Call}
-use Rattle.mmtel_call.specs.declared.calls.Opening.{Opening}
 use Rattle.mmtel_call.specs.declared.calls.Pair.{Pair}
 use Rattle.mmtel_call.specs.declared.calls.Phase.{Phase}
 use Rattle.mmtel_call.specs.declared.calls.Phase.TheVariants.{Lent, Offered, Over, Stood}

@@ -19,12 +19,12 @@ use Rattle.mmtel_targets.specs.declared.served.RegistrationState.{RegistrationSt
 use Rattle.mmtel_targets.specs.declared.targets.Target.{Target}
 use Rattle.mmtel_types.specs.declared.numbers.Account.{Account}
 use Rattle.mmtel_types.specs.declared.numbers.Peer.{Peer}
-use Rattle.mmtel_call.specs.Decisions as decisions
-use Rattle.mmtel_call.specs.Decisions.{account_by, account_for, its_sheet, peer_for, reach_at, served_at, service_at, service_of, told_at}
-use Rattle.mmtel_call.specs.Opening.{first_of, nowhere}
-use Rattle.mmtel_call.specs.Site.{Site}
-use Rattle.mmtel_call.specs.declared.calls.Opening.{Opening}
-use Rattle.mmtel_call.specs.declared.calls.Service.{Service}
+use Rattle.mmtel_call_decisions.specs.Decisions as decisions
+use Rattle.mmtel_call_decisions.specs.Decisions.{account_by, account_for, its_sheet, peer_for, reach_at, served_at, service_at, service_of, told_at}
+use Rattle.mmtel_call_decisions.specs.Opening.{first_of, nowhere}
+use Rattle.mmtel_call_decisions.specs.Site.{Site}
+use Rattle.mmtel_call_decisions.specs.declared.openings.Opening.{Opening}
+use Rattle.mmtel_call_decisions.specs.declared.openings.Service.{Service}
 use Rattle.mmtel_call_laws.specs.Known.{known_as}
 
 -- what the opening knows of the record of the account that is served as the caller, where things stood so

@@ -11,16 +11,17 @@ use Rattle.mmtel_precedence.specs.Turns.{AfterEnd, EndAnswered, EndDivert, EndRe
 use Rattle.mmtel_targets.specs.declared.targets.Target.{Target}
 use Rattle.mmtel_types.specs.declared.causes.Cause.{Cause}
 use Rattle.mmtel_types.specs.declared.numbers.Peer.{Peer}
+use Rattle.mmtel_call_decisions.specs.Decisions.{decided_after, decided_at, handed_on, is_barred, is_status, peer_for, service_at, target_of}
+use Rattle.mmtel_call_decisions.specs.Opening.{first_of, refusal_of}
+use Rattle.mmtel_call_decisions.specs.Site.{Site}
+use Rattle.mmtel_call_decisions.specs.declared.openings.Service.{Service}
 use Rattle.mmtel_call.specs.Closing.{Step, over, with_past}
-use Rattle.mmtel_call.specs.Decisions.{decided_after, decided_at, is_barred, peer_for, service_at}
-use Rattle.mmtel_call.specs.Diverting.{at_target, divert, diverted, goes_on, handed_on, is_status, made, on_end, on_turn, passed_by, refused, refused_by, target_of, told_of, too_many, unless_barred}
-use Rattle.mmtel_call.specs.Opening.{caller_of, first_of, new_call, opened, refusal_of, unless_refused}
+use Rattle.mmtel_call.specs.Diverting.{at_target, divert, diverted, goes_on, made, on_end, on_turn, passed_by, refused, refused_by, told_of, too_many, unless_barred}
+use Rattle.mmtel_call.specs.Opening.{caller_of, new_call, opened, unless_refused}
 use Rattle.mmtel_call.specs.Sending.{relayed_to_caller, told_caller}
-use Rattle.mmtel_call.specs.Site.{Site}
 use Rattle.mmtel_call.specs.declared.calls.Call.{Call}
 use Rattle.mmtel_call.specs.declared.calls.Phase.{Phase}
 use Rattle.mmtel_call.specs.declared.calls.Phase.TheVariants.{Lent, Offered, Over, Stood}
-use Rattle.mmtel_call.specs.declared.calls.Service.{Service}
 use Rattle.mmtel_call.specs.declared.calls.Trial.{Trial}
 use Rattle.mmtel_call_laws.specs.Endings.{answer_in, answer_of, end_in, ended_at, ending_by, endings_after, last_or}
 use Rattle.mmtel_call_laws.specs.Shown.{IsOthers}

@@ -10,8 +10,8 @@ use Rattle.mmtel_precedence.specs.Calls.{Target, standing_after}
 use Rattle.mmtel_precedence.specs.Targets.{served_at}
 use Rattle.mmtel_types.specs.declared.numbers.Account.{Account}
 use Rattle.mmtel_types.specs.declared.numbers.CallNo.{CallNo}
-use Rattle.mmtel_call.specs.Closing.{last_row, past_answer, past_row, rows_by, with_answer}
-use Rattle.mmtel_call.specs.declared.closing.Ending.{Ending}
+use Rattle.mmtel_call_decisions.specs.Rows.{last_row, past_answer, past_row, rows_by, with_answer}
+use Rattle.mmtel_call_decisions.specs.declared.rows.Ending.{Ending}
 use Rattle.mmtel_call_laws.specs.Charged.{diverting_part, last_part, past_parts, served_part}
 
 -- the account that is served at the last target, or else this one

@@ -17,13 +17,14 @@ use Rattle.mmtel_precedence.specs.Turns.{EndingsAreMoves, TurnsAreMoves}
 use Rattle.mmtel_rules.specs.Circumstances.{Circumstances}
 use Rattle.mmtel_types.specs.Causes.{status_of}
 use Rattle.mmtel_types.specs.declared.causes.Cause.{Cause}
+use Rattle.mmtel_call_decisions.specs.Diverted.{Diverted}
+use Rattle.mmtel_call_decisions.specs.Opening.{first_of, refusal_of}
+use Rattle.mmtel_call_decisions.specs.Site.{Site}
+use Rattle.mmtel_call_decisions.specs.declared.openings.Opening.{Opening}
 use Rattle.mmtel_call.specs.Closing.{Step}
-use Rattle.mmtel_call.specs.Diverted.{Diverted}
-use Rattle.mmtel_call.specs.Opening.{caller_of, first_of, new_call, opened, refusal_of, unless_refused}
+use Rattle.mmtel_call.specs.Opening.{caller_of, new_call, opened, unless_refused}
 use Rattle.mmtel_call.specs.Sending.{told_caller}
-use Rattle.mmtel_call.specs.Site.{Site}
 use Rattle.mmtel_call.specs.declared.calls.Call.{Call}
-use Rattle.mmtel_call.specs.declared.calls.Opening.{Opening}
 use Rattle.mmtel_call.specs.declared.calls.Pair.{Pair}
 use Rattle.mmtel_call.specs.declared.calls.Phase.{Phase}
 use Rattle.mmtel_call.specs.declared.calls.Phase.TheVariants.{Offered, Over, Stood}
@@ -112,7 +113,7 @@ begins-came law (Some cause) site now o later desk rows old known same shown sta
 
 pub refusal-known : (site : Site) (now : Standing) (o : Opening) (later : ℕ → Standing) → IsKnown now o → refusal_of now.at o ≡ refusal_at_opening (known_as site now o later)
 refusal-known site now o later known =
-    ap (λ sheet. refusal_by o.invite.heard.wants o.served sheet (Rattle.mmtel_call.specs.Decisions.of_target o now.at (first_of o).uri)) known.sheet
+    ap (λ sheet. refusal_by o.invite.heard.wants o.served sheet (Rattle.mmtel_call_decisions.specs.Decisions.of_target o now.at (first_of o).uri)) known.sheet
     ∙ ap (λ (k : Circumstances). refusal_by o.invite.heard.wants o.served (option_map (Rattle.mmtel_precedence.specs.Calls.sheet_at now) o.served.origin) k) (of_target-known site now o later now.at (first_of o).uri known)
 
 -- what stands behind what was there

@@ -22,20 +22,21 @@ use Rattle.mmtel_sheet_values.specs.declared.values.Sheet.{Sheet}
 use Rattle.mmtel_types.specs.Causes.{status_of}
 use Rattle.mmtel_types.specs.declared.causes.Cause.{Cause}
 use Rattle.mmtel_types.specs.declared.causes.Cause.TheVariants as causes
-use Rattle.mmtel_call.specs.Closing.{Step, account_in, cause_by, over, over_offered, over_stood, rows_by, with_past}
-use Rattle.mmtel_call.specs.Decisions as decisions
-use Rattle.mmtel_call.specs.Decisions.{decided_after, its_sheet}
-use Rattle.mmtel_call.specs.Diverted.{Diverted}
-use Rattle.mmtel_call.specs.Diverting.{goes_on, handed_on, is_status, on_end, refused_by}
+use Rattle.mmtel_call_decisions.specs.Decisions as decisions
+use Rattle.mmtel_call_decisions.specs.Decisions.{decided_after, handed_on, is_status, its_sheet}
+use Rattle.mmtel_call_decisions.specs.Diverted.{Diverted}
+use Rattle.mmtel_call_decisions.specs.Rows.{cause_by, rows_by}
+use Rattle.mmtel_call_decisions.specs.Site.{Site}
+use Rattle.mmtel_call_decisions.specs.declared.openings.Opening.{Opening}
+use Rattle.mmtel_call_decisions.specs.declared.openings.Service.{Service}
+use Rattle.mmtel_call_decisions.specs.declared.rows.Ending.{Ending}
+use Rattle.mmtel_call.specs.Closing.{Step, account_in, over, over_offered, over_stood, with_past}
+use Rattle.mmtel_call.specs.Diverting.{goes_on, on_end, refused_by}
 use Rattle.mmtel_call.specs.Sending.{relayed_to_caller, told_caller}
-use Rattle.mmtel_call.specs.Site.{Site}
 use Rattle.mmtel_call.specs.declared.calls.Call.{Call}
-use Rattle.mmtel_call.specs.declared.calls.Opening.{Opening}
 use Rattle.mmtel_call.specs.declared.calls.Pair.{Pair}
-use Rattle.mmtel_call.specs.declared.calls.Service.{Service}
 use Rattle.mmtel_call.specs.declared.calls.Stage.{Stage}
 use Rattle.mmtel_call.specs.declared.calls.Trial.{Trial}
-use Rattle.mmtel_call.specs.declared.closing.Ending.{Ending}
 use Rattle.mmtel_call_laws.specs.Charged.{origin_part, past_parts}
 use Rattle.mmtel_call_laws.specs.Shown.{Accepted, Sign, final_sign, sign_of_result, signs_of}
 use Rattle.std.proofs.lemmas.Bool.Decides.{nat_tests}

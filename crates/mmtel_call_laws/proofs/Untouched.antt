@@ -19,13 +19,13 @@ use Rattle.mmtel_transaction.specs.declared.words.TKey.{TKey}
 use Rattle.mmtel_trust.specs.Digest.{HeardMessage}
 use Rattle.mmtel_types.specs.declared.addrs.Addr.{Addr}
 use Rattle.mmtel_types.specs.declared.sides.Side.TheVariants.{Callee}
+use Rattle.mmtel_call_decisions.specs.Site.{Site}
 use Rattle.mmtel_call.specs.Closing.{Step, onward}
 use Rattle.mmtel_call.specs.Leaving.{acked_again, answered_at, answered_loose, answered_other, answered_taken, answered_taken_at, as_loose, is_fork, is_success, is_taken, is_talking, without_key, without_silent}
 use Rattle.mmtel_call.specs.Requests.{answered_to, unheard, unlisted}
 use Rattle.mmtel_call.specs.Sending.{replied_to}
 use Rattle.mmtel_message.specs.Faults.{is_method}
 use Rattle.mmtel_answers.specs.Answers.{allowed}
-use Rattle.mmtel_call.specs.Site.{Site}
 use Rattle.mmtel_call.specs.declared.calls.Call.{Call}
 use Rattle.mmtel_call.specs.declared.calls.Taken.{Taken}
 

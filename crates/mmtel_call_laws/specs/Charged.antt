@@ -10,12 +10,13 @@ use Rattle.mmtel_precedence.specs.Calls.{Target, standing_after}
 use Rattle.mmtel_precedence.specs.Targets.{served_at}
 use Rattle.mmtel_types.specs.declared.numbers.Account.{Account}
 use Rattle.mmtel_types.specs.declared.numbers.CallNo.{CallNo}
-use Rattle.mmtel_call.specs.Closing.{begun, rows_by}
+use Rattle.mmtel_call_decisions.specs.Rows.{rows_by}
+use Rattle.mmtel_call_decisions.specs.declared.rows.Ending.{Ending}
+use Rattle.mmtel_call.specs.Closing.{begun}
 use Rattle.mmtel_call.specs.Lending.{first_of, last_of}
 use Rattle.mmtel_call.specs.declared.calls.Call.{Call}
 use Rattle.mmtel_call.specs.declared.calls.Phase.{Phase}
 use Rattle.mmtel_call.specs.declared.calls.Phase.TheVariants.{Lent, Offered, Over, Stood}
-use Rattle.mmtel_call.specs.declared.closing.Ending.{Ending}
 
 -- ---- whose parts began, and when
 

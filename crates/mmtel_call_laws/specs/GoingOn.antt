@@ -6,14 +6,15 @@ use Rattle.mmtel_desk.specs.declared.desks.Desk.{Desk}
 use Rattle.mmtel_precedence.specs.Calls.{Standing}
 use Rattle.mmtel_types.specs.declared.causes.Cause.{Cause}
 use Rattle.mmtel_types.specs.declared.causes.Cause.TheVariants.{Ended}
-use Rattle.mmtel_call.specs.Closing.{Step, rows_by}
+use Rattle.mmtel_call_decisions.specs.Rows.{rows_by}
+use Rattle.mmtel_call_decisions.specs.Site.{Site}
+use Rattle.mmtel_call_decisions.specs.declared.rows.Ending.{Ending}
+use Rattle.mmtel_call.specs.Closing.{Step}
 use Rattle.mmtel_call.specs.Lending.{first_of, last_of}
-use Rattle.mmtel_call.specs.Site.{Site}
 use Rattle.mmtel_call.specs.Table.{step}
 use Rattle.mmtel_call.specs.declared.calls.Call.{Call}
 use Rattle.mmtel_call.specs.declared.calls.Phase.{Phase}
 use Rattle.mmtel_call.specs.declared.calls.Phase.TheVariants.{Lent, Offered, Over, Stood}
-use Rattle.mmtel_call.specs.declared.closing.Ending.{Ending}
 use Rattle.mmtel_call.specs.declared.signals.Signal.{Signal}
 use Rattle.mmtel_call_laws.specs.Charged.{last_part, origin_part, past_parts}
 use Rattle.mmtel_call_laws.specs.Known.{known_after, outcome_after}

@@ -8,10 +8,10 @@ use Rattle.mmtel_precedence.specs.Calls.{Standing}
 use Rattle.mmtel_precedence.specs.Outcome.{outcome}
 use Rattle.mmtel_rules.specs.Identities.{has_identity, identity_holds}
 use Rattle.mmtel_trust.specs.Accounts.{account_of}
-use Rattle.mmtel_call.specs.Opening.{first_of, received_list}
-use Rattle.mmtel_call.specs.Site.{Site}
+use Rattle.mmtel_call_decisions.specs.Opening.{first_of, received_list}
+use Rattle.mmtel_call_decisions.specs.Site.{Site}
+use Rattle.mmtel_call_decisions.specs.declared.openings.Opening.{Opening}
 use Rattle.mmtel_call.specs.declared.calls.Call.{Call}
-use Rattle.mmtel_call.specs.declared.calls.Opening.{Opening}
 use Rattle.mmtel_call.specs.declared.calls.Phase.{Phase}
 use Rattle.mmtel_call.specs.declared.calls.Phase.TheVariants.{Lent, Offered, Over, Stood}
 use Rattle.mmtel_call_laws.specs.Endings.{endings_after}

@@ -7,8 +7,8 @@ use Rattle.mmtel_precedence.specs.Laws.{diversions_made}
 use Rattle.mmtel_types.specs.declared.causes.Cause.{Cause}
 use Rattle.mmtel_types.specs.declared.numbers.Account.{Account}
 use Rattle.mmtel_types.specs.declared.numbers.CallNo.{CallNo}
+use Rattle.mmtel_call_decisions.specs.declared.rows.Ending.{Ending}
 use Rattle.mmtel_call.specs.declared.calls.Phase.TheVariants.{Over}
-use Rattle.mmtel_call.specs.declared.closing.Ending.{Ending}
 use Rattle.mmtel_call_laws.specs.Charged.{parts_of, rows_of_parts, running}
 use Rattle.mmtel_call_laws.specs.Endings.{answer_in, endings_after}
 use Rattle.mmtel_call_laws.specs.Known.{known_after, left_at_first, outcome_after, result_of}

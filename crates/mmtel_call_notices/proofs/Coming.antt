@@ -27,16 +27,17 @@ use Rattle.mmtel_types.specs.declared.causes.Cause.{Cause}
 use Rattle.mmtel_types.specs.declared.causes.Cause.TheVariants as causes
 use Rattle.mmtel_types.specs.declared.numbers.Peer.{Peer}
 use Rattle.mmtel_types.specs.declared.sides.Side.TheVariants.{Caller}
+use Rattle.mmtel_call_decisions.specs.Decisions as decisions
+use Rattle.mmtel_call_decisions.specs.Decisions.{aim_at, decided_at, is_barred, its_sheet, peer_for, reach_at, service_at, target_of}
+use Rattle.mmtel_call_decisions.specs.Showing.{shown_to}
+use Rattle.mmtel_call_decisions.specs.Site.{Site}
+use Rattle.mmtel_call_decisions.specs.declared.openings.Opening.{Opening}
+use Rattle.mmtel_call_decisions.specs.declared.openings.Service.{Service}
 use Rattle.mmtel_call.specs.Closing.{Step, over}
-use Rattle.mmtel_call.specs.Decisions.{decided_at, is_barred, its_sheet, peer_for, reach_at, service_at}
-use Rattle.mmtel_call.specs.Decisions as decisions
-use Rattle.mmtel_call.specs.Diverting.{at_target, divert, diverted, made, on_turn, passed_by, refused, target_of, told_of, too_many, unless_barred}
-use Rattle.mmtel_call.specs.Offering.{aim_at, longest_time, next_attempt, sent_to}
-use Rattle.mmtel_call.specs.Sending.{shown_to, told_caller, told_diversion}
-use Rattle.mmtel_call.specs.Site.{Site}
+use Rattle.mmtel_call.specs.Diverting.{at_target, divert, diverted, made, on_turn, passed_by, refused, told_of, too_many, unless_barred}
+use Rattle.mmtel_call.specs.Offering.{longest_time, next_attempt, sent_to}
+use Rattle.mmtel_call.specs.Sending.{told_caller, told_diversion}
 use Rattle.mmtel_call.specs.declared.calls.Call.{Call}
-use Rattle.mmtel_call.specs.declared.calls.Opening.{Opening}
-use Rattle.mmtel_call.specs.declared.calls.Service.{Service}
 use Rattle.mmtel_call_laws.specs.Known.{known_as, received_in}
 use Rattle.mmtel_call_laws.proofs.Agreeing.{total}
 use Rattle.mmtel_call_laws.proofs.Coming.{StandsThen, at-bound, below-bound, by_bound, go_on_if, more, move-known, same-number, stands-next, stands-on, target_as}
@@ -196,9 +197,9 @@ unless-tells site now first later caller false onward rest uri due c desk kept e
 
 -- the caller is told of it where the forward says so
 notice-adds : (site : Site) (due : DueDiversion) (d : Call) (desk : Desk) (b : Bool) → Adds d.opening.key desk (if b then told_diversion site d desk else desk)
-    (if b then notice site d.opening (Rattle.mmtel_call.specs.Sending.told_list d.diversions) ∷ [] else [])
+    (if b then notice site d.opening (Rattle.mmtel_call_decisions.specs.Showing.told_list d.diversions) ∷ [] else [])
 notice-adds site due d desk true =
-    subst (λ to_caller. Adds d.opening.key desk (told_diversion site d desk) (if to_caller then notice site d.opening (Rattle.mmtel_call.specs.Sending.told_list d.diversions) ∷ [] else [])) (both (d.opening.key.0 == d.opening.key.0) (same-number d.opening.key.0))
+    subst (λ to_caller. Adds d.opening.key desk (told_diversion site d desk) (if to_caller then notice site d.opening (Rattle.mmtel_call_decisions.specs.Showing.told_list d.diversions) ∷ [] else [])) (both (d.opening.key.0 == d.opening.key.0) (same-number d.opening.key.0))
     (adds-reply d.opening.key d.opening.key _ _ _ desk true refl)
   where
     both : (b : Bool) → b ≡ true → (Rattle.std.specs.Prelude.◌&&◌ b true) ≡ true

@@ -15,15 +15,16 @@ use Rattle.mmtel_transaction.specs.declared.words.DueWord.TheVariants as due
 use Rattle.mmtel_transaction.specs.declared.words.TKey.{TKey}
 use Rattle.mmtel_types.specs.declared.sides.Side.{Side}
 use Rattle.mmtel_types.specs.declared.sides.Side.TheVariants.{Caller, Callee}
+use Rattle.mmtel_call_decisions.specs.Decisions.{its_sheet, redirect_of, time_of}
+use Rattle.mmtel_call_decisions.specs.Invites.{invite_answered, invite_silent}
+use Rattle.mmtel_call_decisions.specs.Site.{Site}
 use Rattle.mmtel_call.specs.Closing.{Step, onward}
-use Rattle.mmtel_call.specs.Decisions.{its_sheet, redirect_of}
 use Rattle.mmtel_call.specs.Diverting.{goes_on}
 use Rattle.mmtel_call.specs.Leaving.{without_silent}
 use Rattle.mmtel_call.specs.Requests.{is_bye, says, unheard, unlisted}
-use Rattle.mmtel_call.specs.Ringing.{answered, armed_in, cancelled_attempt, failed, given_up, heard_by, left, on_due, on_request, on_request_if, on_response, proceeding, time_of, timed_out, tried}
+use Rattle.mmtel_call.specs.Ringing.{answered, armed_in, cancelled_attempt, failed, given_up, heard_by, left, on_due, on_request, on_request_if, on_response, proceeding, timed_out, tried}
 use Rattle.mmtel_call.specs.Sending.{relayed_to_caller, replied_to, told_caller}
-use Rattle.mmtel_call.specs.Site.{Site}
-use Rattle.mmtel_call.specs.Table.{answer_to, invite_answered, invite_silent, silence_of, step}
+use Rattle.mmtel_call.specs.Table.{answer_to, silence_of, step}
 use Rattle.mmtel_call.specs.declared.calls.Call.{Call}
 use Rattle.mmtel_call.specs.declared.calls.Trial.{Trial}
 use Rattle.mmtel_call.specs.declared.signals.Signal.{Signal}

@@ -23,19 +23,20 @@ use Rattle.mmtel_precedence.specs.Turns.{AfterEnd, EndAnswered, EndDivert, EndRe
 use Rattle.mmtel_types.specs.Causes.{status_of}
 use Rattle.mmtel_types.specs.declared.causes.Cause.{Cause}
 use Rattle.mmtel_types.specs.declared.causes.Cause.TheVariants as causes
+use Rattle.mmtel_call_decisions.specs.Decisions as decisions
+use Rattle.mmtel_call_decisions.specs.Decisions.{decided_after, handed_on, is_status, its_sheet}
+use Rattle.mmtel_call_decisions.specs.Diverted.{Diverted}
+use Rattle.mmtel_call_decisions.specs.Opening.{first_of, received_list, refusal_of}
+use Rattle.mmtel_call_decisions.specs.Site.{Site}
+use Rattle.mmtel_call_decisions.specs.declared.openings.Opening.{Opening}
+use Rattle.mmtel_call_decisions.specs.declared.openings.Service.{Service}
 use Rattle.mmtel_call.specs.Closing.{Step, over, with_past}
-use Rattle.mmtel_call.specs.Decisions as decisions
-use Rattle.mmtel_call.specs.Decisions.{decided_after, its_sheet}
-use Rattle.mmtel_call.specs.Diverted.{Diverted}
-use Rattle.mmtel_call.specs.Diverting.{goes_on, handed_on, is_status, on_end, refused_by}
-use Rattle.mmtel_call.specs.Opening.{caller_of, first_of, new_call, opened, received_list, refusal_of, unless_refused}
+use Rattle.mmtel_call.specs.Diverting.{goes_on, on_end, refused_by}
+use Rattle.mmtel_call.specs.Opening.{caller_of, new_call, opened, unless_refused}
 use Rattle.mmtel_call.specs.Sending.{relayed_to_caller, told_caller}
-use Rattle.mmtel_call.specs.Site.{Site}
 use Rattle.mmtel_call.specs.declared.calls.Call.{Call}
-use Rattle.mmtel_call.specs.declared.calls.Opening.{Opening}
 use Rattle.mmtel_call.specs.declared.calls.Pair.{Pair}
 use Rattle.mmtel_call.specs.declared.calls.Phase.TheVariants.{Offered, Over, Stood}
-use Rattle.mmtel_call.specs.declared.calls.Service.{Service}
 use Rattle.mmtel_call.specs.declared.calls.Trial.{Trial}
 use Rattle.mmtel_call_laws.specs.Endings.{end_in, ended_at, ending_by, endings_after}
 use Rattle.mmtel_call_laws.specs.Known.{known_as, over_by, stood_after}

@@ -15,6 +15,8 @@ use Rattle.mmtel_trust.specs.Members.{IsIn}
 use Rattle.mmtel_types.specs.declared.numbers.Peer.{Peer}
 use Rattle.mmtel_types.specs.declared.sides.Side.{Side}
 use Rattle.mmtel_types.specs.declared.sides.Side.TheVariants.{Caller, Callee}
+use Rattle.mmtel_call_decisions.specs.Showing.{masks_all, shown_to}
+use Rattle.mmtel_call_decisions.specs.Site.{Site, trusts}
 use Rattle.mmtel_call.specs.Answered.{acked_across, acknowledges, at_stage, bye_to, parted, with_ack}
 use Rattle.mmtel_call.specs.declared.calls.Call.{Call}
 use Rattle.mmtel_call.specs.declared.calls.Pair.{Pair}
@@ -24,8 +26,6 @@ use Rattle.mmtel_call.specs.declared.calls.Taken.{Taken}
 use Rattle.mmtel_call.specs.declared.calls.Stage.TheVariants.{Answered, Asking, Parting, Talking}
 use Rattle.mmtel_call.specs.Closing.{Step, onward}
 use Rattle.mmtel_call.specs.Leaving.{is_taken}
-use Rattle.mmtel_call.specs.Sending.{masks_all, shown_to}
-use Rattle.mmtel_call.specs.Site.{Site, trusts}
 use Rattle.mmtel_call.specs.Stages.{on_ack_at}
 use Rattle.mmtel_call_secret.specs.Parts.{nobody, public_call, public_dialog_by, public_diverted, public_opening, public_pair, public_part, public_stage, public_taken}
 use Rattle.mmtel_call_secret.specs.Premises.{Fits, SentAcross, stage_is_sent}

@@ -20,6 +20,8 @@ use Rattle.mmtel_types.specs.Sides.{other_of}
 use Rattle.mmtel_types.specs.declared.numbers.Peer.{Peer}
 use Rattle.mmtel_types.specs.declared.sides.Side.{Side}
 use Rattle.mmtel_types.specs.declared.sides.Side.TheVariants.{Caller, Callee}
+use Rattle.mmtel_call_decisions.specs.Showing.{masks_all, shown_to}
+use Rattle.mmtel_call_decisions.specs.Site.{Site, trusts}
 use Rattle.mmtel_call.specs.Answered.{acked_and_left, at_stage, bye_to, leg_of, with_leg}
 use Rattle.mmtel_call.specs.declared.calls.Call.{Call}
 use Rattle.mmtel_call.specs.declared.calls.Pair.{Pair}
@@ -32,8 +34,7 @@ use Rattle.mmtel_call.specs.Closing.{onward, over_stood}
 use Rattle.mmtel_call.specs.Reinvites.{agreed, bye_to_both, cancelled_across, cancelled_if_due, cancelling, ends_dialog, having_invited, held_by, invited, on_response_across, proceeding, proceeding_across, refused_back, reinvite_of, relayed_back}
 use Rattle.mmtel_call.specs.Requests.{having_heard, is_bye, is_invite, says, unheard, unlisted}
 use Rattle.mmtel_call.specs.Ringing.{ack_time, awaiting_ack, next_success, success_of, taken_by}
-use Rattle.mmtel_call.specs.Sending.{masks_all, replied_to, shown_to}
-use Rattle.mmtel_call.specs.Site.{Site, trusts}
+use Rattle.mmtel_call.specs.Sending.{replied_to}
 use Rattle.mmtel_call.specs.Stages.{busy_in, has_left, is_due_at, left_by, on_bye, on_cancel_at, on_due_at, on_heard_at, on_invite, on_request_at, on_request_at_if, on_silence_at, rung_out}
 use Rattle.mmtel_call_secret.specs.Parts.{everything, nobody, public_call, public_dialog_by, public_diverted, public_invitation, public_opening, public_pair, public_part, public_reinvite, public_request, public_stage, public_taken}
 use Rattle.mmtel_call_secret.specs.Premises.{Fits, IsAnswer, IsAsked, stage_is_asked}

@@ -29,14 +29,16 @@ use Rattle.mmtel_trust.specs.Mask.{AllEntries, Entries, MarkedEntries, NoEntries
 use Rattle.mmtel_types.specs.declared.causes.Cause.{Cause}
 use Rattle.mmtel_types.specs.declared.numbers.Peer.{Peer}
 use Rattle.mmtel_types.specs.declared.sides.Side.TheVariants.{Caller}
+use Rattle.mmtel_call_decisions.specs.Opening.{first_of, opening_of, received_list, refusal_of}
+use Rattle.mmtel_call_decisions.specs.Showing.{masks_all}
+use Rattle.mmtel_call_decisions.specs.Site.{Site, trusts}
+use Rattle.mmtel_call_decisions.specs.declared.openings.Arrival.{Arrival}
+use Rattle.mmtel_call_decisions.specs.declared.openings.Opening.{Opening}
 use Rattle.mmtel_call.specs.declared.calls.Call.{Call}
-use Rattle.mmtel_call.specs.declared.calls.Opening.{Opening}
 use Rattle.mmtel_call.specs.Closing.{Step}
 use Rattle.mmtel_call.specs.Diverting.{divert}
-use Rattle.mmtel_call.specs.Opening.{begins, caller_of, first_of, new_call, opened, opening_of, received_list, refusal_of, unless_refused}
-use Rattle.mmtel_call.specs.Sending.{masks_all, told_caller}
-use Rattle.mmtel_call.specs.Site.{Site, trusts}
-use Rattle.mmtel_call.specs.declared.openings.Arrival.{Arrival}
+use Rattle.mmtel_call.specs.Opening.{begins, caller_of, new_call, opened, unless_refused}
+use Rattle.mmtel_call.specs.Sending.{told_caller}
 use Rattle.mmtel_call_secret.specs.Opening.{OpeningsGiveAlike, OpeningsKeepAlike, OpeningsSeePublicParts, public_arrival}
 use Rattle.mmtel_call_secret.specs.Parts.{public_call, public_dialog_by, public_leg, public_opening}
 use Rattle.mmtel_call_secret.specs.Premises.{AreAsked, DecideAlike, IsAsked}

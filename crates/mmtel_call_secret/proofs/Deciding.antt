@@ -15,8 +15,8 @@ use Rattle.mmtel_rules.specs.declared.values.When.TheVariants as event
 use Rattle.mmtel_sheet_values.specs.declared.values.Sheet.{Sheet}
 use Rattle.mmtel_types.specs.declared.causes.Cause.{Cause}
 use Rattle.mmtel_types.specs.declared.causes.Cause.TheVariants as causes
-use Rattle.mmtel_call.specs.Decisions.{circumstances}
-use Rattle.mmtel_call.specs.declared.calls.Opening.{Opening}
+use Rattle.mmtel_call_decisions.specs.Decisions.{circumstances}
+use Rattle.mmtel_call_decisions.specs.declared.openings.Opening.{Opening}
 use Rattle.mmtel_call_secret.specs.Premises.{DecideAlike, IsAmong}
 
 module _ (law : VerdictsSeeAnswersAlone) (records : List Sheet) (one other : Identities2) (alike : DecideAlike records one other) (o : Opening) (at : ℕ) where

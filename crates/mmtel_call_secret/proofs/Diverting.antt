@@ -30,16 +30,16 @@ use Rattle.mmtel_types.specs.declared.causes.Cause.TheVariants as causes
 use Rattle.mmtel_types.specs.declared.numbers.Account.{Account}
 use Rattle.mmtel_types.specs.declared.numbers.Peer.{Peer}
 use Rattle.mmtel_types.specs.declared.sides.Side.TheVariants.{Callee}
+use Rattle.mmtel_call_decisions.specs.Decisions.{aim_at, circumstances, decided_after, decided_at, handed_on, is_barred, is_status, its_sheet, peer_for, reach_at, served_at, service_of, target_of}
+use Rattle.mmtel_call_decisions.specs.Showing.{masks_all, told_list}
+use Rattle.mmtel_call_decisions.specs.Site.{Site, trusts}
+use Rattle.mmtel_call_decisions.specs.declared.openings.Opening.{Opening}
+use Rattle.mmtel_call_decisions.specs.declared.openings.Service.{Service}
 use Rattle.mmtel_call.specs.declared.calls.Call.{Call}
-use Rattle.mmtel_call.specs.declared.calls.Opening.{Opening}
-use Rattle.mmtel_call.specs.declared.calls.Service.{Service}
 use Rattle.mmtel_call.specs.declared.calls.Trial.{Trial}
 use Rattle.mmtel_call.specs.Closing.{Step, over, with_past}
-use Rattle.mmtel_call.specs.Decisions.{circumstances, decided_after, decided_at, is_barred, its_sheet, peer_for, reach_at, served_at, service_of}
-use Rattle.mmtel_call.specs.Diverting.{at_target, divert, diverted, goes_on, handed_on, is_status, made, offer_where, on_end, on_turn, passed_by, refused, refused_by, target_of, told_of, too_many}
-use Rattle.mmtel_call.specs.Offering.{aim_at}
-use Rattle.mmtel_call.specs.Sending.{masks_all, relayed_to_caller, told_caller, told_diversion, told_list}
-use Rattle.mmtel_call.specs.Site.{Site, trusts}
+use Rattle.mmtel_call.specs.Diverting.{at_target, divert, diverted, goes_on, made, offer_where, on_end, on_turn, passed_by, refused, refused_by, told_of, too_many}
+use Rattle.mmtel_call.specs.Sending.{relayed_to_caller, told_caller, told_diversion}
 use Rattle.mmtel_call_secret.specs.Parts.{public_call, public_leg, public_trial}
 use Rattle.mmtel_call_secret.specs.Premises.{AreAsked, DecideAlike, Fits, IsAmong, IsAsked, ServiceIsAsked}
 use Rattle.mmtel_call_secret.specs.Roles.{Role, opening_role, private_places, without_private}

@@ -19,13 +19,13 @@ use Rattle.mmtel_trust.specs.Asserted.{or_no_uri}
 use Rattle.mmtel_trust.specs.Mask.{hidden_uri}
 use Rattle.mmtel_types.specs.declared.numbers.Peer.{Peer}
 use Rattle.mmtel_types.specs.declared.sides.Side.TheVariants.{Callee}
+use Rattle.mmtel_call_decisions.specs.Decisions.{redirect_of}
+use Rattle.mmtel_call_decisions.specs.Site.{Site, trusts}
 use Rattle.mmtel_call.specs.declared.calls.Call.{Call}
 use Rattle.mmtel_call.specs.declared.calls.Trial.{Trial}
 use Rattle.mmtel_call.specs.Closing.{onward}
-use Rattle.mmtel_call.specs.Decisions.{redirect_of}
 use Rattle.mmtel_call.specs.Diverting.{goes_on}
 use Rattle.mmtel_call.specs.Ringing.{answered, cancelled_attempt, failed, left, on_due, on_response, proceeding, silenced, timed_out, tried}
-use Rattle.mmtel_call.specs.Site.{Site, trusts}
 use Rattle.mmtel_call_secret.specs.Parts.{public_call, public_invitation, public_trial}
 use Rattle.mmtel_call_secret.specs.Premises.{CanGoOn, Fits, IsTargets, ServiceIsAsked}
 use Rattle.mmtel_call_secret.specs.Roles.{Plain, Role, private_places, without_private}

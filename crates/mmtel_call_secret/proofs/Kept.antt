@@ -23,32 +23,35 @@ use Rattle.mmtel_types.specs.declared.causes.Cause.TheVariants as causes
 use Rattle.mmtel_types.specs.declared.numbers.Peer.{Peer}
 use Rattle.mmtel_types.specs.declared.sides.Side.{Side}
 use Rattle.mmtel_types.specs.declared.sides.Side.TheVariants.{Caller, Callee}
+use Rattle.mmtel_call_decisions.specs.Decisions.{decided_after, decided_at, handed_on, is_barred, is_status, peer_for, redirect_of, served_at, service_at, service_of, target_of}
+use Rattle.mmtel_call_decisions.specs.Invites.{invite_answered, invite_silent}
+use Rattle.mmtel_call_decisions.specs.Opening.{first_of, opening_of, refusal_of}
+use Rattle.mmtel_call_decisions.specs.Requests.{is_same_side}
+use Rattle.mmtel_call_decisions.specs.Site.{Site}
+use Rattle.mmtel_call_decisions.specs.declared.openings.Arrival.{Arrival}
+use Rattle.mmtel_call_decisions.specs.declared.openings.Opening.{Opening}
+use Rattle.mmtel_call_decisions.specs.declared.openings.Service.{Service}
 use Rattle.mmtel_call.specs.Answered.{acked_across, acked_and_left, acknowledges, at_stage, leg_of, parted, with_leg}
 use Rattle.mmtel_call.specs.declared.calls.Call.{Call}
-use Rattle.mmtel_call.specs.declared.calls.Opening.{Opening}
 use Rattle.mmtel_call.specs.declared.calls.Pair.{Pair}
 use Rattle.mmtel_call.specs.declared.calls.Phase.{Phase}
 use Rattle.mmtel_call.specs.declared.calls.Reinvite.{Reinvite}
-use Rattle.mmtel_call.specs.declared.calls.Service.{Service}
 use Rattle.mmtel_call.specs.declared.calls.Stage.{Stage}
 use Rattle.mmtel_call.specs.declared.calls.Taken.{Taken}
 use Rattle.mmtel_call.specs.declared.calls.Trial.{Trial}
 use Rattle.mmtel_call.specs.declared.calls.Phase.TheVariants.{Lent, Offered, Over, Stood}
 use Rattle.mmtel_call.specs.declared.calls.Stage.TheVariants.{Answered, Asking, Parting, Talking}
 use Rattle.mmtel_call.specs.Closing.{Step, onward, over, over_stood, with_past}
-use Rattle.mmtel_call.specs.Decisions.{redirect_of, decided_after, decided_at, is_barred, peer_for, served_at, service_at, service_of}
-use Rattle.mmtel_call.specs.Diverting.{handed_on, is_status, at_target, divert, diverted, goes_on, offer_where, on_end, on_turn, passed_by, refused, refused_by, target_of, told_of, too_many}
+use Rattle.mmtel_call.specs.Diverting.{at_target, divert, diverted, goes_on, offer_where, on_end, on_turn, passed_by, refused, refused_by, told_of, too_many}
 use Rattle.mmtel_call.specs.Leaving.{answered_at, answered_loose, answered_other, answered_taken, answered_taken_at, forked, is_fork, is_success, is_taken, repeated, without_silent}
-use Rattle.mmtel_call.specs.Opening.{caller_of, first_of, new_call, opened, opening_of, refusal_of, unless_refused}
+use Rattle.mmtel_call.specs.Opening.{caller_of, new_call, opened, unless_refused}
 use Rattle.mmtel_call.specs.Reinvites.{agreed, bye_to_both, cancelled_across, ends_dialog, on_response_across, proceeding_across, refused_back}
 use Rattle.mmtel_call.specs.Ringing.{answered, cancelled_attempt, failed, given_up, heard_by, left, proceeding, timed_out, tried, on_due, on_heard, on_request_if, on_response, says_offered}
-use Rattle.mmtel_call.specs.Requests.{having_heard, is_bye, is_invite, is_same_side, says, unlisted}
+use Rattle.mmtel_call.specs.Requests.{having_heard, is_bye, is_invite, says, unlisted}
 use Rattle.mmtel_call.specs.Sending.{relayed_to_caller, replied_to, told_caller}
-use Rattle.mmtel_call.specs.Site.{Site}
 use Rattle.mmtel_call.specs.Stages.{busy_in, has_left, is_due_at, left_by, on_ack_at, on_bye, on_cancel_at, on_heard_at, on_invite, on_request_at_if, on_response_at, on_silence_at, rung_out}
-use Rattle.mmtel_call.specs.Table.{ack_in, answer_to, cancel_in, due_in, invite_answered, invite_silent, is_current, request_in, response_in, silence_in, silence_of, step}
+use Rattle.mmtel_call.specs.Table.{ack_in, answer_to, cancel_in, due_in, is_current, request_in, response_in, silence_in, silence_of, step}
 use Rattle.mmtel_call.specs.declared.signals.Signal.TheVariants as signal
-use Rattle.mmtel_call.specs.declared.openings.Arrival.{Arrival}
 use Rattle.mmtel_call.specs.Lending.{finished, finished_in, lent_in, put_back_in}
 use Rattle.mmtel_call.specs.declared.signals.Signal.{Signal}
 use Rattle.mmtel_leg.specs.declared.legs.Released.{Released}

@@ -15,16 +15,16 @@ use Rattle.mmtel_types.specs.declared.causes.Cause.TheVariants.{Ended}
 use Rattle.mmtel_types.specs.declared.numbers.Peer.{Peer}
 use Rattle.mmtel_types.specs.declared.sides.Side.{Side}
 use Rattle.mmtel_types.specs.declared.sides.Side.TheVariants.{Caller, Callee}
+use Rattle.mmtel_call_decisions.specs.Site.{Site, trusts}
+use Rattle.mmtel_call_decisions.specs.declared.openings.Opening.{Opening}
 use Rattle.mmtel_call.specs.declared.calls.Call.{Call}
 use Rattle.mmtel_call.specs.declared.calls.Loan.{Loan}
-use Rattle.mmtel_call.specs.declared.calls.Opening.{Opening}
 use Rattle.mmtel_call.specs.declared.calls.Phase.{Phase}
 use Rattle.mmtel_call.specs.declared.calls.Phase.TheVariants.{Lent, Offered, Over, Stood}
 use Rattle.mmtel_call.specs.declared.calls.Stage.TheVariants.{Answered, Asking, Parting, Talking}
 use Rattle.mmtel_call.specs.Answered.{at_stage}
 use Rattle.mmtel_call.specs.Closing.{Step, over}
 use Rattle.mmtel_call.specs.Lending.{finished, finished_in, first_of, last_of, lent_in, put_back_in, taken_out_in, with_meter}
-use Rattle.mmtel_call.specs.Site.{Site, trusts}
 use Rattle.mmtel_call_secret.specs.Alike.{AlikeCalls}
 use Rattle.mmtel_call_secret.specs.Lending.{LendingKeepsAlike}
 use Rattle.mmtel_call_secret.specs.Parts.{nobody, public_call, public_leg, public_loan, public_part, public_phase, public_released}

@@ -33,16 +33,16 @@ use Rattle.mmtel_trust.specs.Passed.{attempt_from, is_shown, shown_lines}
 use Rattle.mmtel_trust.specs.declared.showing.Facing.{Facing}
 use Rattle.mmtel_types.specs.declared.numbers.Peer.{Peer}
 use Rattle.mmtel_types.specs.declared.sides.Side.TheVariants.{Caller}
+use Rattle.mmtel_call_decisions.specs.Showing.{masks_all, shown_to}
+use Rattle.mmtel_call_decisions.specs.Site.{Site, trusts}
+use Rattle.mmtel_call_decisions.specs.declared.openings.Opening.{Opening}
+use Rattle.mmtel_call_decisions.specs.declared.openings.Service.{Service}
 use Rattle.mmtel_call.specs.Tried.{TriedView}
 use Rattle.mmtel_call.specs.declared.calls.Attempt.{Attempt}
 use Rattle.mmtel_call.specs.declared.calls.Call.{Call}
-use Rattle.mmtel_call.specs.declared.calls.Opening.{Opening}
-use Rattle.mmtel_call.specs.declared.calls.Service.{Service}
 use Rattle.mmtel_call.specs.declared.calls.Phase.TheVariants.{Offered}
 use Rattle.mmtel_call.specs.Closing.{Step, meter_for}
 use Rattle.mmtel_call.specs.Offering.{dialog_of, longest_time, next_attempt, offer}
-use Rattle.mmtel_call.specs.Sending.{masks_all, shown_to}
-use Rattle.mmtel_call.specs.Site.{Site, trusts}
 use Rattle.mmtel_call_secret.specs.Parts.{nobody, public_attempt, public_call, public_diverted, public_leg, public_opening, public_part, public_tried}
 use Rattle.mmtel_call_secret.specs.Roles.{Plain, hides, hidden_by, opening_role, private_places, without_private}
 use Rattle.mmtel_call_secret.specs.Seen.{AlikeDesks, AlikeSteps, Trust, seen, seen_all, trust_of, with_out}

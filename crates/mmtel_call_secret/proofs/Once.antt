@@ -23,10 +23,11 @@ use Rattle.mmtel_trust.specs.Mask.{AllEntries, Entries, MarkedEntries, NoEntries
 use Rattle.mmtel_types.specs.declared.numbers.Peer.{Peer}
 use Rattle.mmtel_types.specs.declared.sides.Side.{Side}
 use Rattle.mmtel_types.specs.declared.sides.Side.TheVariants.{Caller, Callee}
+use Rattle.mmtel_call_decisions.specs.Showing.{masks_all}
+use Rattle.mmtel_call_decisions.specs.declared.openings.Opening.{Opening}
 use Rattle.mmtel_call.specs.Tried.{TriedView}
 use Rattle.mmtel_call.specs.declared.calls.Attempt.{Attempt}
 use Rattle.mmtel_call.specs.declared.calls.Call.{Call}
-use Rattle.mmtel_call.specs.declared.calls.Opening.{Opening}
 use Rattle.mmtel_call.specs.declared.calls.Pair.{Pair}
 use Rattle.mmtel_call.specs.declared.calls.Phase.{Phase}
 use Rattle.mmtel_call.specs.declared.calls.Reinvite.{Reinvite}
@@ -35,7 +36,6 @@ use Rattle.mmtel_call.specs.declared.calls.Taken.{Taken}
 use Rattle.mmtel_call.specs.declared.calls.Trial.{Trial}
 use Rattle.mmtel_call.specs.declared.calls.Phase.TheVariants.{Lent, Offered, Over, Stood}
 use Rattle.mmtel_call.specs.declared.calls.Stage.TheVariants.{Answered, Asking, Parting, Talking}
-use Rattle.mmtel_call.specs.Sending.{masks_all}
 use Rattle.mmtel_call_secret.specs.Common.{PublicPartsAreOnce}
 use Rattle.mmtel_call_secret.specs.Parts.{everything, public_attempt, public_call, public_dialog, public_dialog_by, public_invitation, public_leg, public_loose, public_opening, public_pair, public_phase, public_reinvite, public_released, public_remote, public_request, public_said, public_stage, public_taken, public_trial, public_tried}
 use Rattle.mmtel_call_secret.specs.Roles.{Role, hidden_by, opening_role, private_places, without_private}

@@ -18,18 +18,19 @@ use Rattle.mmtel_transaction.specs.declared.words.TKey.{TKey}
 use Rattle.mmtel_trust.specs.Digest.{HeardMessage}
 use Rattle.mmtel_types.specs.declared.numbers.Peer.{Peer}
 use Rattle.mmtel_types.specs.declared.sides.Side.TheVariants.{Caller, Callee}
+use Rattle.mmtel_call_decisions.specs.Decisions.{its_sheet, time_of}
+use Rattle.mmtel_call_decisions.specs.Showing.{masks_all, shown_to}
+use Rattle.mmtel_call_decisions.specs.Site.{Site, trusts}
+use Rattle.mmtel_call_decisions.specs.declared.openings.Service.{Service}
 use Rattle.mmtel_call.specs.Tried.{TriedView}
 use Rattle.mmtel_call.specs.declared.calls.Attempt.{Attempt}
 use Rattle.mmtel_call.specs.declared.calls.Call.{Call}
-use Rattle.mmtel_call.specs.declared.calls.Service.{Service}
 use Rattle.mmtel_call.specs.declared.calls.Taken.{Taken}
 use Rattle.mmtel_call.specs.declared.calls.Trial.{Trial}
 use Rattle.mmtel_call.specs.declared.calls.Phase.TheVariants.{Offered, Stood}
 use Rattle.mmtel_call.specs.declared.calls.Stage.TheVariants.{Answered}
-use Rattle.mmtel_call.specs.Decisions.{its_sheet}
-use Rattle.mmtel_call.specs.Ringing.{armed_in, early_said, having_met, met_by, next_success, noted, pair_of, proceeding, ringing, success_of, tag_given, taken_by, time_of, tried, answered, callee_after}
-use Rattle.mmtel_call.specs.Sending.{masks_all, relayed_to_caller, shown_to}
-use Rattle.mmtel_call.specs.Site.{Site, trusts}
+use Rattle.mmtel_call.specs.Ringing.{armed_in, early_said, having_met, met_by, next_success, noted, pair_of, proceeding, ringing, success_of, tag_given, taken_by, tried, answered, callee_after}
+use Rattle.mmtel_call.specs.Sending.{relayed_to_caller}
 use Rattle.mmtel_call_secret.specs.Parts.{nobody, public_attempt, public_call, public_dialog, public_diverted, public_leg, public_opening, public_pair, public_part, public_said, public_tried, public_trial}
 use Rattle.mmtel_call_secret.specs.Premises.{Fits, IsAsked, IsWhole}
 use Rattle.mmtel_call_secret.specs.Roles.{Role, opening_role, private_places, without_private}

@@ -24,6 +24,10 @@ use Rattle.mmtel_types.specs.declared.causes.Cause.TheVariants as causes
 use Rattle.mmtel_types.specs.declared.numbers.Peer.{Peer}
 use Rattle.mmtel_types.specs.declared.sides.Side.{Side}
 use Rattle.mmtel_types.specs.declared.sides.Side.TheVariants.{Caller, Callee}
+use Rattle.mmtel_call_decisions.specs.Requests.{is_same_side}
+use Rattle.mmtel_call_decisions.specs.Rows.{rows_by}
+use Rattle.mmtel_call_decisions.specs.Showing.{masks_all, shown_to}
+use Rattle.mmtel_call_decisions.specs.Site.{Site, trusts}
 use Rattle.mmtel_call.specs.Answered.{acked_and_left, at_stage, bye_before_ack, bye_to, leg_of, shown_across}
 use Rattle.mmtel_call.specs.declared.calls.Call.{Call}
 use Rattle.mmtel_call.specs.declared.calls.Pair.{Pair}
@@ -33,12 +37,11 @@ use Rattle.mmtel_call.specs.declared.calls.Success.{Success}
 use Rattle.mmtel_call.specs.declared.calls.Trial.{Trial}
 use Rattle.mmtel_call.specs.declared.calls.Phase.TheVariants.{Offered}
 use Rattle.mmtel_call.specs.declared.calls.Stage.TheVariants.{Answered, Asking, Parting, Talking}
-use Rattle.mmtel_call.specs.Closing.{Step, ending_of, filed_all, onward, over, over_stood, rows_by}
+use Rattle.mmtel_call.specs.Closing.{Step, ending_of, filed_all, onward, over, over_stood}
 use Rattle.mmtel_call.specs.Reinvites.{bye_to_both, bye_while_asking, loose_across}
-use Rattle.mmtel_call.specs.Requests.{answered_to, is_bye, is_same_side, unheard, unlisted}
+use Rattle.mmtel_call.specs.Requests.{answered_to, is_bye, unheard, unlisted}
 use Rattle.mmtel_call.specs.Ringing.{given_up, heard_by, left, loose, on_cancel, on_heard, on_request, on_request_if, says_offered, with_loose}
-use Rattle.mmtel_call.specs.Sending.{masks_all, replied_to, shown_to, told_caller}
-use Rattle.mmtel_call.specs.Site.{Site, trusts}
+use Rattle.mmtel_call.specs.Sending.{replied_to, told_caller}
 use Rattle.mmtel_call.specs.Stages.{left_by}
 use Rattle.mmtel_call_secret.specs.Parts.{everything, nobody, public_call, public_diverted, public_invitation, public_leg, public_loose, public_opening, public_pair, public_part, public_reinvite, public_request, public_stage, public_trial}
 use Rattle.mmtel_call_secret.specs.Premises.{Fits, IsAsked, stage_is_asked}

@@ -28,11 +28,11 @@ use Rattle.mmtel_trust.specs.declared.showing.Facing.{Facing}
 use Rattle.mmtel_types.specs.declared.numbers.Peer.{Peer}
 use Rattle.mmtel_types.specs.declared.sides.Side.{Side}
 use Rattle.mmtel_types.specs.declared.sides.Side.TheVariants.{Caller, Callee}
-use Rattle.mmtel_call.specs.Diverted.{Diverted}
-use Rattle.mmtel_call.specs.Sending.{facing, list_for, masks_all, shown_to, told_list}
-use Rattle.mmtel_call.specs.Site.{Site, trusts}
-use Rattle.mmtel_call.specs.declared.calls.Opening.{Opening}
-use Rattle.mmtel_call.specs.declared.calls.Service.{Service}
+use Rattle.mmtel_call_decisions.specs.Diverted.{Diverted}
+use Rattle.mmtel_call_decisions.specs.Showing.{facing, list_for, masks_all, shown_to, told_list}
+use Rattle.mmtel_call_decisions.specs.Site.{Site, trusts}
+use Rattle.mmtel_call_decisions.specs.declared.openings.Opening.{Opening}
+use Rattle.mmtel_call_decisions.specs.declared.openings.Service.{Service}
 use Rattle.std.specs.Prelude.{Option}
 use Rattle.mmtel_call_secret.specs.Parts.{public_dialog_by, public_diverted, public_opening, public_remote, public_said}
 use Rattle.mmtel_call_secret.specs.Premises.{Fits}

@@ -3,8 +3,8 @@ use Rattle.std.proofs.Common.{Bool, List, [], ◌∷◌}
 use Rattle.mmtel_precedence.specs.Laws.{VerdictsSeeAnswersAlone}
 use Rattle.mmtel_sheet_values.specs.declared.values.Sheet.{Sheet}
 use Rattle.mmtel_transaction.specs.declared.words.TKey.{TKey}
+use Rattle.mmtel_call_decisions.specs.Site.{Site, trusts}
 use Rattle.mmtel_call.specs.declared.calls.Call.{Call}
-use Rattle.mmtel_call.specs.Site.{Site, trusts}
 use Rattle.mmtel_call_secret.specs.Alike.{AlikeCalls}
 use Rattle.mmtel_call_secret.specs.Seen.{AlikeSteps, trust_of}
 use Rattle.mmtel_call_secret.specs.Stories.{AllHearAlike, Both, StoriesStayAlike, next, one_after, other_after}

@@ -16,13 +16,14 @@ use Rattle.mmtel_targets.specs.Targets.{first_target, new_target}
 use Rattle.mmtel_targets.specs.declared.targets.Target.{Target}
 use Rattle.mmtel_transaction.specs.declared.words.TKey.{TKey}
 use Rattle.mmtel_trust.specs.Accounts.{account_of}
+use Rattle.mmtel_call_decisions.specs.Decisions.{redirect_of}
+use Rattle.mmtel_call_decisions.specs.Opening.{nowhere}
+use Rattle.mmtel_call_decisions.specs.Site.{Site, trusts}
+use Rattle.mmtel_call_decisions.specs.declared.openings.Arrival.{Arrival}
 use Rattle.mmtel_call.specs.declared.calls.Call.{Call}
-use Rattle.mmtel_call.specs.Decisions.{redirect_of}
 use Rattle.mmtel_call.specs.Lending.{finished}
-use Rattle.mmtel_call.specs.Opening.{nowhere, opened}
-use Rattle.mmtel_call.specs.Site.{Site, trusts}
+use Rattle.mmtel_call.specs.Opening.{opened}
 use Rattle.mmtel_call.specs.Table.{step}
-use Rattle.mmtel_call.specs.declared.openings.Arrival.{Arrival}
 use Rattle.mmtel_call.specs.declared.signals.Signal.{Signal}
 use Rattle.mmtel_call.specs.declared.signals.Signal.TheVariants as signal
 use Rattle.mmtel_call_secret.specs.Alike.{AlikeCalls, IsHeard}

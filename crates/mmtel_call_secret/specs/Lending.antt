@@ -7,9 +7,9 @@ use Rattle.mmtel_sheet_values.specs.declared.values.Sheet.{Sheet}
 use Rattle.mmtel_transaction.specs.declared.words.TKey.{TKey}
 use Rattle.mmtel_types.specs.declared.numbers.Peer.{Peer}
 use Rattle.mmtel_types.specs.declared.sides.Side.{Side}
+use Rattle.mmtel_call_decisions.specs.Site.{Site, trusts}
 use Rattle.mmtel_call.specs.declared.calls.Call.{Call}
 use Rattle.mmtel_call.specs.Lending.{finished, lent_in, put_back_in, taken_out_in}
-use Rattle.mmtel_call.specs.Site.{Site, trusts}
 use Rattle.mmtel_call_secret.specs.Alike.{AlikeCalls}
 use Rattle.mmtel_call_secret.specs.Parts.{public_released}
 use Rattle.mmtel_call_secret.specs.Seen.{AlikeDesks, AlikeSteps, trust_of}

@@ -6,9 +6,10 @@ use Rattle.mmtel_precedence.specs.Calls.{Standing}
 use Rattle.mmtel_rules.specs.declared.values.Identities2.{Identities2}
 use Rattle.mmtel_sheet_values.specs.declared.values.Sheet.{Sheet}
 use Rattle.mmtel_transaction.specs.declared.words.TKey.{TKey}
-use Rattle.mmtel_call.specs.Opening.{opened, origin_sheet}
-use Rattle.mmtel_call.specs.Site.{Site, trusts}
-use Rattle.mmtel_call.specs.declared.openings.Arrival.{Arrival}
+use Rattle.mmtel_call_decisions.specs.Opening.{origin_sheet}
+use Rattle.mmtel_call_decisions.specs.Site.{Site, trusts}
+use Rattle.mmtel_call_decisions.specs.declared.openings.Arrival.{Arrival}
+use Rattle.mmtel_call.specs.Opening.{opened}
 use Rattle.mmtel_call_secret.specs.Alike.{AlikeCalls}
 use Rattle.mmtel_call_secret.specs.Parts.{nobody}
 use Rattle.mmtel_call_secret.specs.Premises.{AreAsked, DecideAlike, IsAsked}

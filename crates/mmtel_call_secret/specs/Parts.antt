@@ -17,12 +17,13 @@ use Rattle.mmtel_trust.specs.Mask.{AllEntries, Places, hide_if}
 use Rattle.mmtel_types.specs.declared.numbers.Peer.{Peer}
 use Rattle.mmtel_types.specs.declared.sides.Side.{Side}
 use Rattle.mmtel_types.specs.declared.sides.Side.TheVariants.{Caller, Callee}
-use Rattle.mmtel_call.specs.Diverted.{Diverted}
+use Rattle.mmtel_call_decisions.specs.Diverted.{Diverted}
+use Rattle.mmtel_call_decisions.specs.Showing.{masks_all}
+use Rattle.mmtel_call_decisions.specs.declared.openings.Opening.{Opening}
 use Rattle.mmtel_call.specs.Tried.{TriedView}
 use Rattle.mmtel_call.specs.declared.calls.Attempt.{Attempt}
 use Rattle.mmtel_call.specs.declared.calls.Call.{Call}
 use Rattle.mmtel_call.specs.declared.calls.Loan.{Loan}
-use Rattle.mmtel_call.specs.declared.calls.Opening.{Opening}
 use Rattle.mmtel_call.specs.declared.calls.Pair.{Pair}
 use Rattle.mmtel_call.specs.declared.calls.Phase.{Phase}
 use Rattle.mmtel_call.specs.declared.calls.Reinvite.{Reinvite}
@@ -31,7 +32,6 @@ use Rattle.mmtel_call.specs.declared.calls.Taken.{Taken}
 use Rattle.mmtel_call.specs.declared.calls.Trial.{Trial}
 use Rattle.mmtel_call.specs.declared.calls.Phase.TheVariants.{Lent, Offered, Over, Stood}
 use Rattle.mmtel_call.specs.declared.calls.Stage.TheVariants.{Answered, Asking, Parting, Talking}
-use Rattle.mmtel_call.specs.Sending.{masks_all}
 use Rattle.mmtel_call_secret.specs.Roles.{hidden_by, opening_role, without_private}
 
 -- ---- a dialog

@@ -16,11 +16,13 @@ use Rattle.mmtel_types.specs.declared.numbers.Account.{Account}
 use Rattle.mmtel_types.specs.declared.numbers.Peer.{Peer}
 use Rattle.mmtel_types.specs.declared.sides.Side.{Side}
 use Rattle.mmtel_types.specs.declared.sides.Side.TheVariants.{Callee}
+use Rattle.mmtel_call_decisions.specs.Decisions.{its_sheet}
+use Rattle.mmtel_call_decisions.specs.Showing.{facing}
+use Rattle.mmtel_call_decisions.specs.declared.openings.Opening.{Opening}
+use Rattle.mmtel_call_decisions.specs.declared.openings.Service.{Service}
 use Rattle.mmtel_call.specs.declared.calls.Trial.{Trial}
 use Rattle.mmtel_call.specs.declared.calls.Call.{Call}
-use Rattle.mmtel_call.specs.declared.calls.Opening.{Opening}
 use Rattle.mmtel_call.specs.declared.calls.Phase.{Phase}
-use Rattle.mmtel_call.specs.declared.calls.Service.{Service}
 use Rattle.mmtel_call.specs.declared.calls.Stage.{Stage}
 use Rattle.mmtel_call.specs.declared.calls.Phase.TheVariants.{Lent, Offered, Over, Stood}
 use Rattle.mmtel_call.specs.declared.calls.Stage.TheVariants.{Answered, Asking, Parting, Talking}
@@ -28,10 +30,8 @@ use Rattle.mmtel_types.specs.Sides.{other_of}
 use Rattle.mmtel_call.specs.Answered.{acknowledges, leg_of}
 use Rattle.mmtel_call.specs.declared.calls.Pair.{Pair}
 use Rattle.mmtel_call.specs.declared.calls.Success.{Success}
-use Rattle.mmtel_call.specs.Decisions.{its_sheet}
 use Rattle.mmtel_call.specs.Leaving.{is_taken}
 use Rattle.mmtel_call.specs.declared.calls.Taken.{Taken}
-use Rattle.mmtel_call.specs.Sending.{facing}
 use Rattle.mmtel_call_secret.specs.Roles.{Role, hides, private_places, without_private}
 use Rattle.mmtel_call_secret.specs.Seen.{Trust}
 

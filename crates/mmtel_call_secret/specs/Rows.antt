@@ -11,6 +11,7 @@ use Rattle.mmtel_transaction.specs.declared.words.TKey.{TKey}
 use Rattle.mmtel_types.specs.Sides.{other_of}
 use Rattle.mmtel_types.specs.declared.sides.Side.{Side}
 use Rattle.mmtel_types.specs.declared.sides.Side.TheVariants.{Callee}
+use Rattle.mmtel_call_decisions.specs.Site.{Site, trusts}
 use Rattle.mmtel_call.specs.declared.calls.Call.{Call}
 use Rattle.mmtel_call.specs.declared.calls.Pair.{Pair}
 use Rattle.mmtel_call.specs.declared.calls.Reinvite.{Reinvite}
@@ -20,7 +21,6 @@ use Rattle.mmtel_call.specs.declared.calls.Stage.TheVariants.{Asking}
 use Rattle.mmtel_call.specs.Diverting.{goes_on}
 use Rattle.mmtel_call.specs.Leaving.{answered_other}
 use Rattle.mmtel_call.specs.Ringing.{answered, on_cancel, on_due, on_request, on_response, proceeding, silenced, tried}
-use Rattle.mmtel_call.specs.Site.{Site, trusts}
 use Rattle.mmtel_call.specs.Stages.{on_ack_at, on_cancel_at, on_due_at, on_request_at, on_response_at, on_silence_at}
 use Rattle.mmtel_call_secret.specs.Parts.{public_call, public_pair, public_stage, public_trial}
 use Rattle.mmtel_call_secret.specs.Premises.{AreAsked, CanGoOn, DecideAlike, Fits, HearsOther, IsAnswer, IsAsked, IsTargets, IsWhole, ServiceIsAsked, stage_is_asked, stage_is_sent}

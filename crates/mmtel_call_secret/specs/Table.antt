@@ -8,12 +8,13 @@ use Rattle.mmtel_sheet_values.specs.declared.values.Sheet.{Sheet}
 use Rattle.mmtel_transaction.specs.declared.words.TKey.{TKey}
 use Rattle.mmtel_types.specs.Sides.{other_of}
 use Rattle.mmtel_types.specs.declared.sides.Side.{Side}
+use Rattle.mmtel_call_decisions.specs.Invites.{invite_answered}
+use Rattle.mmtel_call_decisions.specs.Site.{Site, trusts}
 use Rattle.mmtel_call.specs.declared.calls.Call.{Call}
 use Rattle.mmtel_call.specs.declared.calls.Phase.{Phase}
 use Rattle.mmtel_call.specs.declared.calls.Phase.TheVariants.{Lent, Offered, Over, Stood}
 use Rattle.mmtel_call.specs.declared.calls.Stage.TheVariants.{Answered, Asking, Parting, Talking}
-use Rattle.mmtel_call.specs.Site.{Site, trusts}
-use Rattle.mmtel_call.specs.Table.{invite_answered, is_current, step}
+use Rattle.mmtel_call.specs.Table.{is_current, step}
 use Rattle.mmtel_call.specs.declared.signals.Signal.{Signal}
 use Rattle.mmtel_call.specs.declared.signals.Signal.TheVariants as signal
 use Rattle.mmtel_call_secret.specs.Parts.{public_call}

@@ -16,15 +16,16 @@ use Rattle.mmtel_transaction.specs.declared.words.TKey.{TKey}
 use Rattle.mmtel_types.specs.declared.causes.Cause.TheVariants as causes
 use Rattle.mmtel_types.specs.declared.sides.Side.{Side}
 use Rattle.mmtel_types.specs.declared.sides.Side.TheVariants.{Caller, Callee}
+use Rattle.mmtel_call_decisions.specs.Decisions.{its_sheet, redirect_of, time_of}
+use Rattle.mmtel_call_decisions.specs.Invites.{invite_answered, invite_silent}
+use Rattle.mmtel_call_decisions.specs.Site.{Site}
 use Rattle.mmtel_call.specs.Closing.{Step, onward}
-use Rattle.mmtel_call.specs.Decisions.{its_sheet, redirect_of}
 use Rattle.mmtel_call.specs.Diverting.{goes_on}
 use Rattle.mmtel_call.specs.Leaving.{without_key, without_silent}
 use Rattle.mmtel_call.specs.Requests.{is_bye, says, unheard, unlisted}
-use Rattle.mmtel_call.specs.Ringing.{ack_time, answered, armed, armed_in, awaiting_ack, callee_after, cancelled_attempt, early_said, failed, given_up, heard_by, left, met_by, next_success, on_due, on_request, on_request_if, on_response, proceeding, time_of, timed_out, tried}
+use Rattle.mmtel_call.specs.Ringing.{ack_time, answered, armed, armed_in, awaiting_ack, callee_after, cancelled_attempt, early_said, failed, given_up, heard_by, left, met_by, next_success, on_due, on_request, on_request_if, on_response, proceeding, timed_out, tried}
 use Rattle.mmtel_call.specs.Sending.{relayed_to_caller, replied_to, told_caller}
-use Rattle.mmtel_call.specs.Site.{Site}
-use Rattle.mmtel_call.specs.Table.{answer_to, invite_answered, invite_silent, silence_of, step}
+use Rattle.mmtel_call.specs.Table.{answer_to, silence_of, step}
 use Rattle.mmtel_call.specs.Tried.{TriedView}
 use Rattle.mmtel_call.specs.declared.calls.Attempt.{Attempt}
 use Rattle.mmtel_call.specs.declared.calls.Call.{Call}
@@ -132,7 +133,7 @@ module _ (site : Site) (now : Standing) (x : Trial) (c : Call) (before : Desk) w
   -- ---- requests
 
   caller_heard : (key : TKey) (m : Said) (said : Result (Unit {0}) DialogueFault) (desk : Desk) → So desk →
-      Does (if is_ok said then Rattle.mmtel_leg.specs.Dialogues.last_after (Rattle.mmtel_call.specs.Requests.number_of m) Last else Last) false (if is_ok said && is_bye m then Some Cancel else None)
+      Does (if is_ok said then Rattle.mmtel_leg.specs.Dialogues.last_after (Rattle.mmtel_call_decisions.specs.Requests.number_of m) Last else Last) false (if is_ok said && is_bye m then Some Cancel else None)
       (on_request_if said site now.at x Caller key m (offered x c) desk)
   caller_heard key m (Ok heard) desk had =
       let y = heard_by Caller m x in

@@ -21,13 +21,13 @@ use Rattle.mmtel_transaction.specs.declared.words.TKey.{TKey}
 use Rattle.mmtel_trust.specs.Digest.{HeardMessage}
 use Rattle.mmtel_types.specs.declared.numbers.CallNo.{CallNo}
 use Rattle.mmtel_types.specs.declared.sides.Side.TheVariants.{Callee}
+use Rattle.mmtel_call_decisions.specs.Site.{Site}
+use Rattle.mmtel_call_decisions.specs.declared.openings.Service.{Service}
 use Rattle.mmtel_call.specs.Closing.{Step}
 use Rattle.mmtel_call.specs.Leaving.{acked_again, answered_at, answered_loose, answered_other, answered_taken, answered_taken_at, as_loose, is_fork, is_success, is_taken, is_talking}
 use Rattle.mmtel_call.specs.Requests.{answered_to, unheard, unlisted}
 use Rattle.mmtel_call.specs.Sending.{relayed_to_caller, replied_to, told_caller, told_diversion}
-use Rattle.mmtel_call.specs.Site.{Site}
 use Rattle.mmtel_call.specs.declared.calls.Call.{Call}
-use Rattle.mmtel_call.specs.declared.calls.Service.{Service}
 use Rattle.mmtel_call.specs.declared.calls.Taken.{Taken}
 use Rattle.mmtel_call_trace.proofs.Reading.{Adds, adds_quiet}
 

@@ -14,12 +14,14 @@ use Rattle.mmtel_transaction.specs.declared.words.TKey.{TKey}
 use Rattle.mmtel_types.specs.declared.sides.Side.{Side}
 use Rattle.mmtel_types.specs.declared.sides.Side.TheVariants.{Caller, Callee}
 use Rattle.mmtel_answers.specs.Said.{Said}
+use Rattle.mmtel_call_decisions.specs.Invites.{invite_answered, invite_silent}
+use Rattle.mmtel_call_decisions.specs.Opening.{received_list, refusal_of}
+use Rattle.mmtel_call_decisions.specs.Site.{Site}
+use Rattle.mmtel_call_decisions.specs.declared.openings.Opening.{Opening}
 use Rattle.mmtel_call.specs.Closing.{Step}
-use Rattle.mmtel_call.specs.Opening.{new_call, opened, refusal_of}
+use Rattle.mmtel_call.specs.Opening.{new_call, opened}
 use Rattle.mmtel_call.specs.Sending.{told_caller}
-use Rattle.mmtel_call.specs.Table.{invite_answered, invite_silent}
 use Rattle.mmtel_call.specs.declared.calls.Call.{Call}
-use Rattle.mmtel_call.specs.declared.calls.Opening.{Opening}
 use Rattle.mmtel_call.specs.declared.calls.Phase.{Phase}
 use Rattle.mmtel_call.specs.declared.calls.Phase.TheVariants.{Lent, Offered, Over, Stood}
 use Rattle.mmtel_call.specs.declared.calls.Trial.{Trial}
@@ -35,8 +37,6 @@ use Rattle.mmtel_call_trace.proofs.Going.{Came, Moves, begins_moves}
 use Rattle.mmtel_call_trace.proofs.Hearing.{IsArmed, Leaves, Passes, StillWaits, Waits, going_of, offered, passes}
 use Rattle.mmtel_call_trace.proofs.Reading.{Adds, adds_nothing}
 use Rattle.mmtel_call_trace.proofs.Sending.{told_unseen}
-use Rattle.mmtel_call.specs.Opening.{received_list}
-use Rattle.mmtel_call.specs.Site.{Site}
 use Rattle.mmtel_call_laws.specs.Endings.{end_by_answer, end_by_request, end_by_silence}
 use Rattle.mmtel_call_laws.specs.Shown.{is_offered}
 use Rattle.mmtel_call_trace.specs.Laws.{number_of_deadline}

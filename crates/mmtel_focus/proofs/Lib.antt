@@ -1,2 +1,3 @@
 mod FirstVia
 mod Places
+mod Bids

@@ -1,6 +1,5 @@
 -- Items at their places.
-use Rattle.std.proofs.Common.{◌≡◌, ◌<◌, ◌+◌, ◌++◌, append-nil, ℕ, zero, suc, List, [], ◌∷◌, Some, length, slice_get, slice_set, drop, refl, ap, arith, ◌∙◌, slice_index_or}
-use Rattle.std.proofs.lemmas.List.{drop-drop}
+use Rattle.std.proofs.Common.{◌≡◌, ◌<◌, ◌++◌, append-nil, ℕ, zero, suc, List, [], ◌∷◌, Some, length, slice_get, slice_set, refl, ap, arith, slice_index_or}
 use Rattle.std.proofs.lemmas.Option.{slice_get_read}
 use Rattle.std.specs.Prelude.{insert, remove}
 
@@ -22,7 +21,3 @@ pub put_in : {A : Type 0} → (l : List A) (i : ℕ) (x : A) → i < length l �
 put_in [] i x below = absurd (omega arith)
 put_in (z ∷ l) zero x below = refl
 put_in (z ∷ l) (suc i) x below = ap (λ r. z ∷ r) (put_in l i x (omega arith))
-
--- what is taken off one by one
-pub dropped : {A : Type 0} (k : ℕ) (xs : List A) → drop 1 (drop k xs) ≡ drop (k + 1) xs
-dropped k xs = drop-drop 1 k xs ∙ ap (λ n. drop n xs) (omega arith)

@@ -1,37 +1,27 @@
 -- What comes of the server's INVITE to a seat (RFC 3261 §13.2.2, RFC 3515 §2.4.5): its responses, silence, and its deadlines; and of a 2xx without ACK (RFC 3261 §13.3.1.4).
-use Rattle.std.specs.Prelude.{ℕ, ◌==◌, ◌&&◌, not, nat_le, nat_lt, Bool, false, if◌then◌else◌, Option, Some, None, List, [], slice_set}
+use Rattle.std.specs.Prelude.{ℕ, ◌&&◌, not, nat_le, nat_lt, Bool, false, if◌then◌else◌, Option, Some, None, List, [], slice_set}
 use Rattle.std.specs.Option.{unwrap_or}
 use Rattle.std.specs.Str.{bytes_eq}
 use Rattle.mmtel_answers.specs.Said.{Said, phrase_in, status_of}
 use Rattle.mmtel_desk.specs.Desks.{emitted, token}
-use Rattle.mmtel_desk.specs.Invitations.{has_said, once_cancelled}
-use Rattle.mmtel_desk.specs.Sending.{ack_text, acked, cancelled, final_acked}
-use Rattle.mmtel_desk.specs.declared.desks.Desk.{Desk}
-use Rattle.mmtel_leg.specs.Dialogues.{met}
-use Rattle.mmtel_leg.specs.Legs.{with_dialogue}
+use Rattle.mmtel_desk.specs.Sending.{ack_text, acked}
 use Rattle.mmtel_leg.specs.Remotes.{remote_of}
 use Rattle.mmtel_leg.specs.declared.remotes.Remote.{Remote}
 use Rattle.mmtel_transaction.specs.declared.words.Emit.TheVariants as emit
 use Rattle.mmtel_transaction.specs.declared.words.RoomWord.{RoomWord}
 use Rattle.mmtel_transaction.specs.declared.words.RoomWord.TheVariants as due
 use Rattle.mmtel_transaction.specs.declared.words.TKey.{TKey}
-use Rattle.mmtel_types.specs.declared.addrs.Addr.{Addr}
-use Rattle.mmtel_types.specs.declared.numbers.Account.{Account}
 use Rattle.mmtel_types.specs.declared.numbers.RoomNo.{RoomNo}
 use Rattle.mmtel_types.specs.declared.sides.Side.TheVariants.{Callee}
-use Rattle.mmtel_focus.specs.Joining.{metered}
-use Rattle.mmtel_focus.specs.Rooms.{Agreed, Awaited, Brought, Came, Invite, Invited, Party, Seat, Step, Waiting, with_desk}
+use Rattle.mmtel_focus.specs.Rooms.{Agreed, Invite, Seat, Step, Waiting, with_desk}
 use Rattle.mmtel_focus.specs.Requests.{is_waiting}
-use Rattle.mmtel_focus.specs.Seats.{at_seat, closed_with, dialogue_of, dismissed, is_seated, meter_of, put, told_by}
+use Rattle.mmtel_focus.specs.Seats.{at_seat, closed_with, dialogue_of, dismissed, is_seated, put, told_by}
 use Rattle.mmtel_focus.specs.Site.{Site}
 use Rattle.mmtel_focus.specs.Texts.{own_status, status_line}
+use Rattle.mmtel_seats.specs.Invites.{agreed_by, cancelled_in, failure_acked, is_awaited, noted, once_cancelled_in, seated, waits}
+pub use Rattle.mmtel_seats.specs.Invites.{agreed_by, cancelled_in, failure_acked, is_awaited, noted, once_cancelled_in, seated, stood, waits}
 
 -- ---- a provisional response
-
-abbrev pub noted : TKey → Option Invite → Option Invite
-noted key None = None
-noted key (Some (Waiting number i)) = Some (Waiting number (has_said key i))
-noted key (Some (Agreed branch tag ack)) = Some (Agreed branch tag ack)
 
 abbrev pub on_provisional : TKey → (place : ℕ) → Seat → Step → Step
 on_provisional key place seat s = put place (record seat { invite = noted key seat.invite }) s
@@ -42,27 +32,12 @@ on_provisional key place seat s = put place (record seat { invite = noted key se
 abbrev pub tag_given : Said → List ℕ
 tag_given m = unwrap_or m.heard.to_tag []
 
--- somebody who is invited is seated, and has a meter from now on
-abbrev pub stood : RoomNo → (now : ℕ) → Option Account → Remote → Party → Party
-stood room now account remote (Invited leg) = Brought (metered (meter_of room now account) (with_dialogue leg (met leg.dialogue remote)))
-stood room now account remote (Came leg) = Came leg
-stood room now account remote (Brought leg) = Brought leg
-
-abbrev pub seated : RoomNo → (now : ℕ) → Remote → Seat → Seat
-seated room now remote seat = record seat { party = stood room now seat.account remote seat.party }
-
 abbrev pub stood_in : RoomNo → (now : ℕ) → Remote → (place : ℕ) → Option Seat → List Seat → List Seat
 stood_in room now remote place None seats = seats
 stood_in room now remote place (Some seat) seats = slice_set seats place (seated room now remote seat)
 
 abbrev pub standing : (now : ℕ) → Remote → (place : ℕ) → Seat → Step → Step
 standing now remote place seat s = record s { room = record s.room { seats = stood_in s.room.number now remote place (Some seat) s.room.seats } }
-
--- the ACK is kept, since it goes out again for each repeat of the 2xx
-abbrev pub agreed_by : (tag ack : List ℕ) → Option Invite → Option Invite
-agreed_by tag ack None = None
-agreed_by tag ack (Some (Waiting number i)) = Some (Agreed i.branch tag ack)
-agreed_by tag ack (Some (Agreed branch before sent)) = Some (Agreed branch before sent)
 
 abbrev pub acknowledged : Site → (tag : List ℕ) → (place : ℕ) → Seat → Step → Step
 acknowledged site tag place seat s =
@@ -83,12 +58,6 @@ ended_without site now line place seat s = told_by site false line seat.by (dism
 -- the INVITE has ended, and is not loose
 abbrev pub ended_unasked : Site → (now : ℕ) → (line : List ℕ) → (place : ℕ) → Seat → Step → Step
 ended_unasked site now line place seat s = at_seat (ended_without site now line) place (put place (record seat { invite = None }) s)
-
--- a final from 300 has its ACK (RFC 3261 §17.1.1.3)
-abbrev pub failure_acked : Addr → TKey → Said → Option Invite → Desk → Desk
-failure_acked sip key m None desk = desk
-failure_acked sip key m (Some (Waiting number i)) desk = final_acked sip key i m.heard desk
-failure_acked sip key m (Some (Agreed branch tag ack)) desk = desk
 
 abbrev pub on_failure : Site → (now : ℕ) → TKey → Said → (place : ℕ) → Seat → Step → Step
 on_failure site now key m place seat s =
@@ -129,27 +98,11 @@ on_silence site now place seat s = if is_waiting seat.invite then ended_unasked 
 
 -- ---- deadlines; one whose invitation or 2xx no longer waits for it brings nothing
 
--- an invitation rang too long: CANCEL where a provisional response came (RFC 3261 §9.1), and it is loose
-abbrev pub cancelled_in : Addr → Option Invite → Desk → Desk
-cancelled_in sip None desk = desk
-cancelled_in sip (Some (Waiting number i)) desk = cancelled sip i desk
-cancelled_in sip (Some (Agreed branch tag ack)) desk = desk
-
-abbrev pub once_cancelled_in : Option Invite → Option Invite
-once_cancelled_in None = None
-once_cancelled_in (Some (Waiting number i)) = Some (Waiting number (once_cancelled i))
-once_cancelled_in (Some (Agreed branch tag ack)) = Some (Agreed branch tag ack)
-
+-- an invitation rang too long: CANCEL where a provisional response came, and it is loose
 abbrev pub too_long : Site → (now : ℕ) → (place : ℕ) → Seat → Step → Step
 too_long site now place seat s =
     at_seat (ended_without site now (own_status 408)) place
     (put place (record seat { invite = once_cancelled_in seat.invite }) (with_desk (cancelled_in site.sip seat.invite s.effects.desk) s))
-
--- the invitation of this number waits
-abbrev pub waits : (due : ℕ) → Option Invite → Bool
-waits due None = false
-waits due (Some (Waiting number i)) = number == due
-waits due (Some (Agreed branch tag ack)) = false
 
 -- somebody who is seated does not ring
 abbrev pub on_cap : Site → (now : ℕ) → (due : ℕ) → (place : ℕ) → Seat → Step → Step
@@ -158,10 +111,6 @@ on_cap site now due place seat s = if not (is_seated seat) && waits due seat.inv
 -- no ACK came: the seat is left
 abbrev pub unacknowledged : Site → (now : ℕ) → (place : ℕ) → Seat → Step → Step
 unacknowledged site now place seat s = closed_with site now seat.number (dismissed site now place seat s)
-
-abbrev pub is_awaited : (due : ℕ) → Option Awaited → Bool
-is_awaited due None = false
-is_awaited due (Some awaited) = awaited.number == due
 
 abbrev pub on_no_ack : Site → (now : ℕ) → (due : ℕ) → (place : ℕ) → Seat → Step → Step
 on_no_ack site now due place seat s = if is_awaited due seat.awaited then unacknowledged site now place seat s else s

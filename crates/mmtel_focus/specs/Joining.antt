@@ -1,6 +1,5 @@
 -- How a seat is taken: by an INVITE that comes to the factory or to the room (RFC 4579 §5.4, §5.1), by an invitation (§5.5), and by a leg out of a call (§5.6).
 use Rattle.std.specs.Prelude.{ℕ, ◌+◌, Bool, false, true, if◌then◌else◌, Option, Some, None, List, [], ◌∷◌, ◌++◌, codes}
-use Rattle.mmtel_answers.specs.Attempts.{bracketed, called, calling}
 use Rattle.mmtel_answers.specs.Said.{Said}
 use Rattle.mmtel_charging.specs.Meters.{Noted}
 use Rattle.mmtel_desk.specs.Desks.{drew, emitted, token}
@@ -26,22 +25,21 @@ use Rattle.mmtel_types.specs.declared.numbers.Account.{Account}
 use Rattle.mmtel_types.specs.declared.numbers.Peer.{Peer}
 use Rattle.mmtel_types.specs.declared.numbers.RoomNo.{RoomNo}
 use Rattle.mmtel_focus.specs.Referrals.{target_of}
-use Rattle.mmtel_focus.specs.Rooms.{Brought, Came, Invited, Party, Room, Seat, Step, Waiting, with_desk}
+use Rattle.mmtel_focus.specs.Rooms.{Brought, Came, Party, Room, Seat, Step, Waiting, with_desk}
 use Rattle.mmtel_focus.specs.Seats.{is_full, meter_of, told_to}
 use Rattle.mmtel_focus.specs.Site.{Site}
-use Rattle.mmtel_focus.specs.Texts.{answer_in, contact_value, described, own_status, room_from, sdp_lines}
+use Rattle.mmtel_focus.specs.Texts.{answer_in, contact_value, described, own_status, sdp_lines}
+use Rattle.mmtel_seats.specs.Inviting.{invitation_dialog, invite_sent, seat_of}
+pub use Rattle.mmtel_seats.specs.Inviting.{invitation_dialog, invite_sent, longest_ringing}
+use Rattle.mmtel_seats.specs.Seats.{metered, next_of}
+pub use Rattle.mmtel_seats.specs.Seats.{metered}
+use Rattle.mmtel_seats.specs.declared.numbers.Next.{Next}
 
--- for so long a 2xx waits for its ACK (RFC 3261 §13.3.1.4), and so long an invitation may ring, in milliseconds
+-- for so long a 2xx waits for its ACK (RFC 3261 §13.3.1.4), in milliseconds
 abbrev pub ack_time : ℕ
 ack_time = 32000
 
-abbrev pub longest_ringing : ℕ
-longest_ringing = 180000
-
 -- ---- a leg that comes to a room without a meter
-
-abbrev pub metered : Option Noted → Leg → Leg
-metered meter leg = record leg { meter = meter }
 
 -- who it is of, with a participant's meter
 abbrev pub party_of : Option Noted → Released → Party
@@ -82,26 +80,12 @@ new_room number = record { number = number; taken = 0; counted = 0; seats = [] }
 
 -- ---- somebody is invited
 
--- the dialog of the INVITE to this URI, whose Call-ID and tag are drawn
-abbrev pub invitation_dialog : Site → RoomNo → Peer → (uri : List ℕ) → Desk → Dialogue
-invitation_dialog site room peer uri desk =
-    calling (record { peer = peer; uri = uri; to = bracketed uri; routes = [] }) (token desk) (token (drew desk)) (room_from site.sip room (token (drew desk)))
+-- the numbers of the room's next seat
+abbrev pub next_in : Room → Next
+next_in room = next_of room.number room.taken room.counted
 
 abbrev pub invited_seat : Room → (by : ℕ) → Option Account → Dialogue → (branch : List ℕ) → Seat
-invited_seat room by account d branch = record {
-  number = next_number room.taken;
-  by = Some by;
-  account = account;
-  awaited = None;
-  invite = Some (Waiting (next_number room.counted) (sent d 1 branch));
-  party = Invited (record { dialogue = called d; meter = None });
-}
-
--- the INVITE in this dialog, and the deadline of its ringing
-abbrev pub invite_sent : Site → (now : ℕ) → RoomNo → (seat number : ℕ) → Dialogue → Desk → Desk
-invite_sent site now room seat number d desk =
-    emitted (emit.ArmSeat room seat (due.Cap number) (now + longest_ringing))
-    (asked_with site.sip (codes "INVITE") d (described site.sip room) (offer_text site.mixer) desk)
+invited_seat room by account d branch = seat_of (next_in room) by account d branch
 
 -- in this dialog, for which two tokens were drawn
 abbrev pub invited_in : Site → (now by : ℕ) → Option Account → Dialogue → Step → Step

@@ -6,8 +6,10 @@ use Rattle.mmtel_leg.specs.declared.dialogues.Dialogue.{Dialogue}
 use Rattle.mmtel_leg.specs.declared.legs.Ended.{Ended}
 use Rattle.mmtel_types.specs.declared.numbers.RoomNo.{RoomNo}
 use Rattle.mmtel_focus.specs.Rooms.{Room, Seat}
-use Rattle.mmtel_focus.specs.Seats.{dialogue_of, is_seated, leg_of}
+use Rattle.mmtel_focus.specs.Seats.{dialogue_of, is_seated}
 use Rattle.mmtel_focus.specs.Table.{room_at, room_of}
+use Rattle.mmtel_seats.specs.Seats.{ended}
+pub use Rattle.mmtel_seats.specs.Seats.{ended}
 
 -- by Call-ID, the server's tag and the other side's
 abbrev pub has_name : (call_id local remote : List ℕ) → Dialogue → Bool
@@ -54,9 +56,6 @@ seats_of room live = seats_in (room_of room live)
 abbrev pub seats_taken : (room : ℕ) → List Room → ℕ
 seats_taken room live = min (length (seats_of room live)) (2 ^ 32 - 1)
 
--- what is left of a seat whose room is closed
-abbrev pub ended : Seat → Ended
-ended seat = record { meter = (leg_of seat.party).meter }
-
+-- what is left of the seats of a room that is closed
 abbrev pub all_ended : (room : ℕ) → List Room → List Ended
 all_ended room live = map ended (seats_of room live)

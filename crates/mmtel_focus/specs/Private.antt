@@ -1,4 +1,4 @@
--- What private functions alone cite: a leg that is handed back to whoever gave it, and a request that the seat at a place hears.
+-- What private functions alone cite: a leg that is handed back to whoever gave it, a request that the seat at a place hears, and what a room makes of a REFER.
 use Rattle.std.specs.Prelude.{ℕ, Option, Some, None, Result, Ok, slice_set}
 use Rattle.mmtel_answers.specs.Said.{Said}
 use Rattle.mmtel_leg.specs.Legs.{Leg}
@@ -6,8 +6,13 @@ use Rattle.mmtel_leg.specs.declared.dialogues.DialogueFault.{DialogueFault}
 use Rattle.mmtel_leg.specs.declared.legs.Released.{Released}
 use Rattle.mmtel_leg.specs.declared.legs.Released.TheVariants as released
 use Rattle.mmtel_focus.specs.Requests.{busy, heard_seat, says}
-use Rattle.mmtel_focus.specs.Rooms.{Room, Seat}
+use Rattle.mmtel_focus.specs.Joining.{told_failure, with_new}
+use Rattle.mmtel_focus.specs.Rooms.{Room, Seat, Step, with_desk}
 use Rattle.mmtel_focus.specs.Seats.{leg_of}
+use Rattle.mmtel_focus.specs.Site.{Site}
+use Rattle.mmtel_seats.specs.Inviting.{Bidding}
+use Rattle.mmtel_seats.specs.declared.inviting.Bid.{Bid}
+use Rattle.mmtel_seats.specs.declared.inviting.Bid.TheVariants.{Begun, Refused}
 
 -- a caller's
 abbrev pub caller_in : Released → Option Leg
@@ -23,3 +28,11 @@ says_at m (Some seat) = says (leg_of seat.party) m (busy seat)
 abbrev pub heard_at : Said → (place : ℕ) → Option Seat → Room → Room
 heard_at m place None room = room
 heard_at m place (Some seat) room = record room { seats = slice_set room.seats place (heard_seat m seat) }
+
+-- whoever is invited has the seat, and else the seat that asked is told
+abbrev pub after_bid : Site → (by : ℕ) → Bid → Step → Step
+after_bid site by (Begun seat) s = record s { room = with_new seat s.room }
+after_bid site by (Refused code) s = told_failure site by code s
+
+abbrev pub after_bidding : Site → (by : ℕ) → Bidding → Step → Step
+after_bidding site by b s = after_bid site by b.bid (with_desk b.desk s)

@@ -1,13 +1,14 @@
 -- What a REFER asks for: Refer-To (RFC 3515 §2.1), the method in its URI (RFC 3261 §19.1.1), and a Replaces in the header part of that URI (RFC 3891 §3, §6.1).
-use Rattle.std.specs.Prelude.{ℕ, not, Bool, true, if◌then◌else◌, Option, Some, None, List, [], ◌∷◌, codes, filter, find}
+use Rattle.std.specs.Prelude.{ℕ, Bool, true, if◌then◌else◌, Option, Some, None, List, [], ◌∷◌, codes, find}
 use Rattle.std.specs.Option.{option_map, unwrap_or}
-use Rattle.std.specs.Str.{bytes_eq, str_eq_ignore_ascii_case}
+use Rattle.std.specs.Str.{bytes_eq}
 use Rattle.mmtel_lex.specs.Percent.{percent_decoded}
 use Rattle.mmtel_lex.specs.UriPlaces.{behind, is_named, parts}
 use Rattle.mmtel_lex.specs.declared.values.Param.{Param}
 use Rattle.mmtel_lex.specs.declared.values.Uri.{Uri}
 use Rattle.mmtel_lex.specs.declared.values.Uri.TheVariants.{Sip, Tel}
 use Rattle.mmtel_trust.specs.Asserted.{uri_in}
+pub use Rattle.mmtel_seats.specs.Targets.{is_method, is_no_method, target_of}
 use Rattle.mmtel_focus.specs.declared.referrals.Referral.{Referral}
 use Rattle.mmtel_focus.specs.declared.referrals.Referral.TheVariants.{Invite, Missing, OtherMethod, Replace}
 use Rattle.mmtel_focus.specs.declared.referrals.Replaces.{Replaces}
@@ -33,12 +34,6 @@ replaces_of headers = option_map replaces_at (value_named (codes "Replaces") (pa
 
 -- ---- the URI
 
-abbrev pub is_method : Param → Bool
-is_method p = str_eq_ignore_ascii_case p.name (codes "method")
-
-abbrev pub is_no_method : Param → Bool
-is_no_method p = not (is_method p)
-
 -- INVITE is asked for, by name or because no method is
 abbrev pub is_invite : Option Param → Bool
 is_invite None = true
@@ -51,11 +46,6 @@ asks_invite (Tel number params) = is_invite (find is_method params)
 abbrev pub replaces_by : Uri → Option Replaces
 replaces_by (Sip user host port params headers) = replaces_of headers
 replaces_by (Tel number params) = None
-
--- what is left of it as the target of a request (RFC 3261 §19.1.5)
-abbrev pub target_of : Uri → Uri
-target_of (Sip user host port params headers) = Sip user host port (filter is_no_method params) []
-target_of (Tel number params) = Tel number (filter is_no_method params)
 
 -- ---- the request
 

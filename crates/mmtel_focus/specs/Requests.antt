@@ -1,28 +1,26 @@
 -- What a seat asks in its dialog: INVITE, BYE (RFC 3261 §14, §15), REFER (RFC 3515), OPTIONS (RFC 3261 §11), and what no row lists; and the ACK of a 2xx (§13.2.2.4).
 use Rattle.std.specs.Prelude.{ℕ, ◌==◌, Bool, true, false, if◌then◌else◌, Option, Some, None, List, [], codes, Result, Ok, Err}
-use Rattle.mmtel_scan.specs.Chain.{◌>>=◌}
 use Rattle.mmtel_scan.specs.Numbers.{next_number}
 use Rattle.mmtel_answers.specs.Answers.{allowed, retry_after}
 use Rattle.mmtel_answers.specs.Said.{Said}
 use Rattle.mmtel_desk.specs.Sending.{answered, answered_at, replied}
-use Rattle.mmtel_leg.specs.Dialogues.{last_after, number_at, unless_busy, unless_old}
-use Rattle.mmtel_leg.specs.Legs.{Leg, with_dialogue}
 use Rattle.mmtel_leg.specs.declared.dialogues.DialogueFault.{DialogueFault}
 use Rattle.mmtel_leg.specs.declared.dialogues.DialogueFault.TheVariants.{OldCSeq, Pending, Unfinished}
-use Rattle.mmtel_leg.specs.declared.dialogues.InFlight.{InFlight}
-use Rattle.mmtel_leg.specs.declared.dialogues.InFlight.TheVariants as in_flight
 use Rattle.mmtel_message.specs.Faults.{is_method}
 use Rattle.mmtel_message.specs.Message.{Line}
 use Rattle.mmtel_sdp.specs.Offers.{offers_audio}
 use Rattle.mmtel_transaction.specs.declared.words.TKey.{TKey}
 use Rattle.mmtel_focus.specs.Joining.{agreed, bidden}
 use Rattle.mmtel_focus.specs.Referrals.{referral_in}
-use Rattle.mmtel_focus.specs.Rooms.{Agreed, Awaited, Invite, Seat, Step, Waiting, with_desk}
-use Rattle.mmtel_focus.specs.Seats.{at_seat, closed_with, is_seated, left, leg_of, put, tag_of, told_to, with_leg}
+use Rattle.mmtel_focus.specs.Rooms.{Awaited, Seat, Step, with_desk}
+use Rattle.mmtel_focus.specs.Seats.{at_seat, closed_with, is_seated, left, leg_of, put, tag_of, told_to}
 use Rattle.mmtel_focus.specs.Site.{Site}
 use Rattle.mmtel_focus.specs.Texts.{contact_value, own_status}
 use Rattle.mmtel_focus.specs.declared.referrals.Referral.{Referral}
 use Rattle.mmtel_focus.specs.declared.referrals.Referral.TheVariants as referral
+use Rattle.mmtel_seats.specs.Asking.{awaiting, busy, heard_seat, number_of, says}
+pub use Rattle.mmtel_seats.specs.Asking.{awaiting, busy, busy_by, having_heard, heard_seat, number_of, says}
+pub use Rattle.mmtel_seats.specs.Invites.{is_waiting}
 
 -- ---- answers, with the tag of the seat's dialog
 
@@ -34,10 +32,6 @@ abbrev pub answered_with : Site → TKey → Said → (code : ℕ) → (named : 
 answered_with site key m code named place seat s = with_desk (answered site.sip key m (tag_of seat) code [] named [] s.effects.desk) s
 
 -- ---- INVITE: the mixer's answer to an offer of audio, and 488 to any other
-
--- its ACK is due
-abbrev pub awaiting : (number : ℕ) → Seat → Seat
-awaiting number seat = record seat { awaited = Some (record { number = number; cseq = (leg_of seat.party).dialogue.last }) }
 
 abbrev pub counting : Step → Step
 counting s = record s { room = record s.room { counted = next_number s.room.counted } }
@@ -82,34 +76,7 @@ on_heard site now key m place seat s =
     else if is_method (codes "OPTIONS") m.heard.start then answered_with site key m 200 allowed place seat s
     else refused site key m 481 place seat s
 
--- ---- whether it is heard (RFC 3261 §12.2.2, §14.2)
-
--- an INVITE of the server's own without a final, or a 2xx without its ACK
-abbrev pub is_waiting : Option Invite → Bool
-is_waiting None = false
-is_waiting (Some (Waiting number i)) = true
-is_waiting (Some (Agreed branch tag ack)) = false
-
-abbrev pub busy_by : Option Awaited → (waiting : Bool) → InFlight
-busy_by None false = in_flight.None
-busy_by None true = in_flight.Own
-busy_by (Some awaited) waiting = in_flight.Own
-
-abbrev pub busy : Seat → InFlight
-busy seat = busy_by seat.awaited (is_waiting seat.invite)
-
--- the number of its CSeq
-abbrev pub number_of : Said → Option ℕ
-number_of m = m.heard.cseq >>= number_at
-
-abbrev pub says : Leg → Said → InFlight → Result (Unit {0}) DialogueFault
-says leg m busy = unless_old (number_of m) leg.dialogue.last (unless_busy (is_method (codes "INVITE") m.heard.start) busy)
-
-abbrev pub having_heard : Said → Leg → Leg
-having_heard m leg = with_dialogue leg (record leg.dialogue { last = last_after (number_of m) leg.dialogue.last })
-
-abbrev pub heard_seat : Said → Seat → Seat
-heard_seat m seat = record seat { party = with_leg (having_heard m (leg_of seat.party)) seat.party }
+-- ---- whether it is heard
 
 -- what is out of order, or crosses an INVITE
 abbrev pub unheard : Site → TKey → Said → DialogueFault → (place : ℕ) → Seat → Step → Step

@@ -1,18 +1,17 @@
 -- A conference room, its focus and its seats (RFC 4579 §3), as the program keeps them; and a step of a room.
-use Rattle.std.specs.Prelude.{ℕ, false, List, []}
-use Rattle.mmtel_desk.specs.Desks.{fresh}
+use Rattle.std.specs.Prelude.{ℕ, List}
 use Rattle.mmtel_desk.specs.declared.desks.Desk.{Desk}
-use Rattle.mmtel_transaction.specs.Tokens.{Drawn}
 use Rattle.mmtel_types.specs.declared.numbers.RoomNo.{RoomNo}
-use Rattle.mmtel_focus.specs.declared.seats.Seat as kept
-use Rattle.mmtel_focus.specs.declared.rooms.Effects as kept_effects
-pub use Rattle.mmtel_focus.specs.declared.seats.Awaited.{Awaited}
-pub use Rattle.mmtel_focus.specs.declared.seats.Invite.{Invite}
-pub use Rattle.mmtel_focus.specs.declared.seats.Invite.TheVariants.{Agreed, Waiting}
-pub use Rattle.mmtel_focus.specs.declared.seats.Party.{Party}
-pub use Rattle.mmtel_focus.specs.declared.seats.Party.TheVariants.{Brought, Came, Invited}
-pub use Rattle.mmtel_focus.specs.declared.seats.Seat.{Seat}
-pub use Rattle.mmtel_focus.specs.declared.rooms.Effects.{Effects}
+use Rattle.mmtel_seats.specs.declared.seats.Seat as kept
+use Rattle.mmtel_seats.specs.declared.effects.Effects as kept_effects
+pub use Rattle.mmtel_seats.specs.Seats.{most_seats, nothing}
+pub use Rattle.mmtel_seats.specs.declared.seats.Awaited.{Awaited}
+pub use Rattle.mmtel_seats.specs.declared.seats.Invite.{Invite}
+pub use Rattle.mmtel_seats.specs.declared.seats.Invite.TheVariants.{Agreed, Waiting}
+pub use Rattle.mmtel_seats.specs.declared.seats.Party.{Party}
+pub use Rattle.mmtel_seats.specs.declared.seats.Party.TheVariants.{Brought, Came, Invited}
+pub use Rattle.mmtel_seats.specs.declared.seats.Seat.{Seat}
+pub use Rattle.mmtel_seats.specs.declared.effects.Effects.{Effects}
 
 pub record Room : Type 0 where
   pub number : RoomNo
@@ -27,13 +26,5 @@ pub record Step : Type 0 where
   pub room : Room
   pub effects : kept_effects.Effects
 
--- before anything has come of it, where these tokens were drawn
-abbrev pub nothing : Drawn → kept_effects.Effects
-nothing tokens = record { closes = false; loose = []; desk = fresh tokens }
-
 abbrev pub with_desk : Desk → Step → Step
 with_desk desk s = record s { effects = record s.effects { desk = desk } }
-
--- so many seats may be taken at once
-abbrev pub most_seats : ℕ
-most_seats = 32

@@ -23,7 +23,7 @@ use Rattle.mmtel_types.specs.declared.numbers.RoomNo.{RoomNo}
 use Rattle.mmtel_focus.specs.Answers.{on_answer, on_due, on_silence}
 use Rattle.mmtel_focus.specs.Joining.{adopted, come, new_room}
 use Rattle.mmtel_focus.specs.Requests.{on_ack, on_request}
-use Rattle.mmtel_focus.specs.Rooms.{Agreed, Effects, Invite, Room, Seat, Step, Waiting}
+use Rattle.mmtel_focus.specs.Rooms.{Effects, Room, Seat, Step}
 use Rattle.mmtel_focus.specs.Seats as seats
 use Rattle.mmtel_focus.specs.Seats.{at_place, is_full, is_seat, is_seated, leg_of, told_to}
 use Rattle.mmtel_focus.specs.Site.{Site}
@@ -34,6 +34,8 @@ use Rattle.mmtel_focus.specs.declared.signals.RoomSignal.{RoomSignal}
 use Rattle.mmtel_focus.specs.declared.signals.RoomSignal.TheVariants as signal
 use Rattle.mmtel_focus.specs.declared.signals.SeatSignal.{SeatSignal}
 use Rattle.mmtel_focus.specs.declared.signals.SeatSignal.TheVariants as of_seat
+use Rattle.mmtel_seats.specs.Invites.{is_asked}
+pub use Rattle.mmtel_seats.specs.Invites.{is_asked, is_sent}
 
 pub record Table : Type 0 where
   -- the rooms that are live, in the order in which they were opened
@@ -148,15 +150,6 @@ abbrev pub invite_silent : (branch method : List ℕ) → Option (List ℕ)
 invite_silent branch method = if is_invite_method method then behind_cookie branch else None
 
 -- ---- whose it is
-
-abbrev pub is_sent : (branch : List ℕ) → Option Invite → Bool
-is_sent branch None = false
-is_sent branch (Some (Waiting number i)) = bytes_eq i.branch branch
-is_sent branch (Some (Agreed other tag ack)) = bytes_eq other branch
-
--- the server's INVITE to the seat has this branch
-abbrev pub is_asked : (branch : List ℕ) → Seat → Bool
-is_asked branch seat = is_sent branch seat.invite
 
 abbrev pub asks : (branch : List ℕ) → Room → Bool
 asks branch room = list_any (is_asked branch) room.seats

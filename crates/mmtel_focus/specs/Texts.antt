@@ -1,4 +1,4 @@
--- How a conference room names itself (RFC 4579 §4.4, §5.1), and the texts of what it sends: its Contact, the mixer's descriptions (RFC 3264), and the NOTIFY that tells what became of a REFER (RFC 3515 §2.4.4, RFC 3420).
+-- Which room a URI names (RFC 4579 §4.4), and the texts of what a room sends: what it names itself and what a NOTIFY says is of its seats; the mixer's answer (RFC 3264), and status lines.
 use Rattle.std.specs.Prelude.{ℕ, ◌==◌, ◌&&◌, Bool, true, false, if◌then◌else◌, Option, Some, None, List, [], ◌∷◌, ◌++◌, ◌^◌, ◌-◌, codes, decimal}
 use Rattle.std.specs.Str.{bytes_eq}
 use Rattle.mmtel_scan.specs.Chain.{◌>>=◌}
@@ -6,8 +6,7 @@ use Rattle.mmtel_scan.specs.Numbers.{plain_number}
 use Rattle.mmtel_scan.specs.Scanning.{after_text}
 use Rattle.mmtel_lex.specs.declared.values.Uri.{Uri}
 use Rattle.mmtel_lex.specs.declared.values.Uri.TheVariants.{Sip, Tel}
-use Rattle.mmtel_message.specs.Addresses.{addr_text, ip_text}
-use Rattle.mmtel_message.specs.Message.{Line}
+use Rattle.mmtel_message.specs.Addresses.{ip_text}
 use Rattle.mmtel_message.specs.Phrases.{phrase_of}
 use Rattle.mmtel_message.specs.Texts.{start_text}
 use Rattle.mmtel_message.specs.declared.messages.Start.TheVariants.{Status}
@@ -16,23 +15,7 @@ use Rattle.mmtel_sdp.specs.Sdp.{sdp_of}
 use Rattle.mmtel_sdp.specs.declared.values.Mixer.{Mixer}
 use Rattle.mmtel_sdp.specs.declared.values.SdpView.{SdpView}
 use Rattle.mmtel_types.specs.declared.addrs.Addr.{Addr}
-use Rattle.mmtel_types.specs.declared.numbers.RoomNo.{RoomNo}
-
--- ---- the room's URI
-
-unfoldable pub room_uri : Addr → RoomNo → List ℕ
-room_uri sip room = codes "sip:room-" ++ (decimal room.0 ++ 64 ∷ addr_text sip)
-
--- as From of the INVITE to somebody who is invited, with this tag
-unfoldable pub room_from : Addr → RoomNo → (tag : List ℕ) → List ℕ
-room_from sip room tag = 60 ∷ (room_uri sip room ++ (codes ">;tag=" ++ tag))
-
--- as Contact, with the feature of a focus (RFC 3840 §9, RFC 4579 §5.1)
-unfoldable pub contact_value : Addr → RoomNo → List ℕ
-contact_value sip room = 60 ∷ (room_uri sip room ++ codes ">;isfocus")
-
-abbrev pub contact_line : Addr → RoomNo → Line
-contact_line sip room = (codes "Contact", contact_value sip room)
+pub use Rattle.mmtel_seats.specs.Texts.{contact_line, contact_value, described, fragment, notify_lines, room_from, room_uri, sdp_lines, subscription}
 
 -- ---- the room that a URI names
 
@@ -52,14 +35,6 @@ room_in sip (Tel number params) = None
 
 -- ---- the mixer's descriptions
 
--- the line that names a description
-abbrev pub sdp_lines : List Line
-sdp_lines = (codes "Content-Type", codes "application/sdp") ∷ []
-
--- the lines of a request of a room with a description
-abbrev pub described : Addr → RoomNo → List Line
-described sip room = contact_line sip room ∷ sdp_lines
-
 abbrev pub answer_to : Mixer → Option SdpView → List ℕ
 answer_to mixer None = []
 answer_to mixer (Some view) = answer_text view mixer
@@ -76,20 +51,3 @@ status_line code phrase = start_text (Status code phrase)
 
 abbrev pub own_status : (code : ℕ) → List ℕ
 own_status code = status_line code (phrase_of code)
-
--- the subscription that a REFER makes goes on while the request that it asks for is tried, and ends with its final (RFC 3515 §2.4.7)
-abbrev pub subscription : (goes_on : Bool) → List ℕ
-subscription true = codes "active;expires=180"
-subscription false = codes "terminated;reason=noresource"
-
-unfoldable pub notify_lines : Addr → RoomNo → (goes_on : Bool) → List Line
-notify_lines sip room goes_on =
-    contact_line sip room
-    ∷ (codes "Event", codes "refer")
-    ∷ (codes "Subscription-State", subscription goes_on)
-    ∷ (codes "Content-Type", codes "message/sipfrag;version=2.0")
-    ∷ []
-
--- a status line as a fragment of a message (RFC 3420 §2)
-abbrev pub fragment : (line : List ℕ) → List ℕ
-fragment line = line ++ codes "\r\n"

@@ -1,5 +1,5 @@
 //! What comes of the server's INVITE to a seat, and of its deadlines.
-ghost use Rattle.std.specs.Prelude.{◌≡◌, ◌<◌, IfOk, OnOk, Some, length, slice_get};
+ghost use Rattle.std.specs.Prelude.{◌≡◌, ◌<◌, IfOk, OnOk, length, slice_get};
 ghost use Rattle.mmtel_answers.specs.Requests.{bare};
 ghost use Rattle.mmtel_answers.specs.Said.{phrase_in, status_of};
 ghost use Rattle.mmtel_desk.specs.Desks.{token};
@@ -7,23 +7,20 @@ ghost use Rattle.mmtel_desk.specs.Sending.{ack_text, acked};
 ghost use Rattle.mmtel_leg.specs.Remotes.{remote_of};
 ghost use Rattle.mmtel_leg.specs.Requests.{ack_of};
 ghost use Rattle.mmtel_types.specs.declared.sides.Side.TheVariants.{Callee};
-ghost use Rattle.mmtel_focus.specs.Answers.{acknowledged, agreed_by, cancelled_in, ended_unasked, ended_without, failure_acked, is_awaited, is_success, noted, on_answer, on_cap, on_due, on_failure, on_no_ack, on_provisional, on_repeat, on_response, on_silence, on_success, once_cancelled_in, seated, stood, stood_in, tag_given, too_long, unacknowledged, waits};
-ghost use Rattle.mmtel_focus.specs.Requests.{is_waiting};
+ghost use Rattle.mmtel_focus.specs.Answers.{acknowledged, ended_unasked, ended_without, is_success, on_answer, on_cap, on_due, on_failure, on_no_ack, on_repeat, on_response, on_silence, on_success, stood_in, tag_given, too_long, unacknowledged};
 ghost use Rattle.mmtel_focus.specs.Seats.{at_seat};
 ghost use Rattle.mmtel_focus.specs.Texts.{status_line};
 
-use crate::joining::{meter_of, metered};
-use crate::rooms::{Effects, Room};
-use crate::seats::{Invite, Party, Seat};
-use crate::settings::Setting;
+use crate::rooms::Room;
 use crate::texts::{own_status, status_line};
 use mmtel_answers::{Hearing, bare, status_of};
-use mmtel_desk::{Desk, Invitation, once_cancelled};
+use mmtel_desk::Desk;
 use mmtel_leg::{Dialogue, Remote};
 use mmtel_message::{Msg, Start};
 use mmtel_scan::{NoMemory, Text};
+use mmtel_seats::{Effects, Invite, Seat, Setting};
 use mmtel_transaction::{Emit, RoomWord, TKey};
-use mmtel_types::{Account, Addr, Moment, RoomNo, Side};
+use mmtel_types::{Addr, Moment, RoomNo, Side};
 use std::alloc::Global;
 
 /// What the callee says of itself in a response.
@@ -83,194 +80,6 @@ fn acknowledge(
     let peer = dialogue.peer;
     desk.emit(alloc, Emit::Plain { peer, text })?;
     Ok(kept)
-}
-
-/// An INVITE of which a provisional response came by this client transaction.
-fn noted(key: TKey, invite: Option<Invite>) -> Option<Invite>
-    ensures { result ≡ noted key invite }
-{
-    match invite {
-        None => None,
-        Some(Invite::Waiting(number, invitation)) => {
-            let invitation = Invitation {
-                key: Some(key),
-                provisional: true,
-                ..invitation
-            };
-            Some(Invite::Waiting(number, invitation))
-        }
-        Some(Invite::Agreed(branch, tag, ack)) => Some(Invite::Agreed(branch, tag, ack)),
-    }
-}
-
-/// An INVITE that had a 2xx with this tag, and this ACK.
-fn agreed_by(tag: Text, ack: Text, invite: Option<Invite>) -> Option<Invite>
-    ensures { result ≡ agreed_by tag ack invite }
-{
-    match invite {
-        None => None,
-        Some(Invite::Waiting(_, invitation)) => {
-            let Invitation { branch, .. } = invitation;
-            Some(Invite::Agreed(branch, tag, ack))
-        }
-        Some(Invite::Agreed(branch, before, sent)) => Some(Invite::Agreed(branch, before, sent)),
-    }
-}
-
-/// An INVITE that was cancelled, where that was due.
-fn once_cancelled_in(invite: Option<Invite>) -> Option<Invite>
-    ensures { result ≡ once_cancelled_in invite }
-{
-    match invite {
-        None => None,
-        Some(Invite::Waiting(number, invitation)) => {
-            Some(Invite::Waiting(number, once_cancelled(invitation)))
-        }
-        Some(Invite::Agreed(branch, tag, ack)) => Some(Invite::Agreed(branch, tag, ack)),
-    }
-}
-
-impl Invite {
-    /// Acknowledges a final from 300, where there was none.
-    fn acknowledge_failure(
-        &self,
-        alloc: Global,
-        sip: Addr,
-        key: TKey,
-        m: &Hearing,
-        desk: &mut Desk,
-    ) -> Result<(), NoMemory>
-        ensures { OnOk result (desk.new ≡ failure_acked sip key m.now (Some self.now) desk.old) }
-    {
-        match self {
-            Invite::Waiting(_, invitation) => desk.acknowledge_final(
-                alloc, sip, key, invitation, m,
-            ),
-            Invite::Agreed(_, _, _) => Ok(()),
-        }
-    }
-}
-
-impl Party {
-    /// Whoever is invited is seated, and has a participant's meter from now on.
-    fn stand(self, room: RoomNo, now: Moment, account: Option<Account>, remote: Remote) -> Party
-        ensures { result ≡ stood room now account remote self }
-    {
-        match self {
-            Party::Invited(leg) => {
-                let meter = meter_of(room, now, account);
-                Party::Brought(metered(leg.stand(remote), meter, now))
-            }
-            Party::Came(leg) => Party::Came(leg),
-            Party::Brought(leg) => Party::Brought(leg),
-        }
-    }
-}
-
-impl Seat {
-    /// Whether the server's INVITE to it has no final.
-    fn is_waiting(&self) -> bool
-        ensures { result ≡ is_waiting self.now.invite }
-    {
-        match &self.invite {
-            Some(Invite::Waiting(_, _)) => true,
-            _ => false,
-        }
-    }
-
-    /// Whether that INVITE has this number in its room.
-    fn waits(&self, due: u64) -> bool
-        ensures { result ≡ waits due self.now.invite }
-    {
-        match &self.invite {
-            Some(Invite::Waiting(number, _)) => *number == due,
-            _ => false,
-        }
-    }
-
-    /// Whether the ACK of the 2xx of this number is due.
-    fn is_awaited(&self, due: u64) -> bool
-        ensures { result ≡ is_awaited due self.now.awaited }
-    {
-        match self.awaited {
-            None => false,
-            Some(awaited) => awaited.number == due,
-        }
-    }
-
-    /// Acknowledges a final from 300 of the server's INVITE to it.
-    fn acknowledge_failure(
-        &self,
-        alloc: Global,
-        sip: Addr,
-        key: TKey,
-        m: &Hearing,
-        desk: &mut Desk,
-    ) -> Result<(), NoMemory>
-        ensures { OnOk result (desk.new ≡ failure_acked sip key m.now self.now.invite desk.old) }
-    {
-        match &self.invite {
-            None => Ok(()),
-            Some(invite) => invite.acknowledge_failure(alloc, sip, key, m, desk),
-        }
-    }
-
-    /// Cancels the server's INVITE to it, where that is due.
-    fn cancel(&self, alloc: Global, sip: Addr, desk: &mut Desk) -> Result<(), NoMemory>
-        ensures { OnOk result (desk.new ≡ cancelled_in sip self.now.invite desk.old) }
-    {
-        match &self.invite {
-            Some(Invite::Waiting(_, invitation)) => desk.cancel(alloc, sip, invitation),
-            _ => Ok(()),
-        }
-    }
-
-    /// Notes a provisional response of that INVITE, by its client transaction.
-    fn note(&mut self, key: TKey)
-        ensures { self.new ≡ record self.old { invite = noted key self.old.invite } }
-    {
-        let invite = self.invite.take();
-        self.invite = noted(key, invite);
-    }
-
-    /// Keeps the tag of the 2xx of that INVITE, and the ACK that it had.
-    fn agree(&mut self, tag: Text, ack: Text)
-        ensures { self.new ≡ record self.old { invite = agreed_by tag ack self.old.invite } }
-    {
-        let invite = self.invite.take();
-        self.invite = agreed_by(tag, ack, invite);
-    }
-
-    /// Notes that the INVITE was cancelled, where that was due.
-    fn note_cancelled(&mut self)
-        ensures { self.new ≡ record self.old { invite = once_cancelled_in self.old.invite } }
-    {
-        let invite = self.invite.take();
-        self.invite = once_cancelled_in(invite);
-    }
-
-    /// The seat once whoever is invited is seated.
-    fn stand(self, room: RoomNo, now: Moment, remote: Remote) -> Seat
-        ensures { result ≡ seated room now remote self }
-    {
-        let Seat {
-            number,
-            by,
-            account,
-            awaited,
-            invite,
-            party,
-        } = self;
-        let party = party.stand(room, now, account, remote);
-        Seat {
-            number,
-            by,
-            account,
-            awaited,
-            invite,
-            party,
-        }
-    }
 }
 
 /// Whoever is invited to the seat at this place is seated.

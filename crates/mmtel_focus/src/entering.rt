@@ -9,14 +9,13 @@ ghost use Rattle.mmtel_focus.specs.Texts.{own_status};
 
 use crate::faults::RoomFault;
 use crate::moves::place_of;
-use crate::rooms::{Effects, Room};
-use crate::settings::Setting;
+use crate::rooms::Room;
 use crate::texts::own_status;
 use mmtel_answers::Hearing;
 use mmtel_leg::Released;
 use mmtel_scan::NoMemory;
+use mmtel_seats::{Effects, Setting, has_no_seat};
 use mmtel_transaction::TKey;
-use mmtel_types::limits::SEATS;
 use mmtel_types::{Account, Moment, RoomNo};
 use std::alloc::Global;
 
@@ -29,7 +28,7 @@ pub fn access(live: &[Room], room: RoomNo) -> Result<usize, RoomFault>
         None => Err(RoomFault::Gone),
         Some(place) => {
             let asked = &live[place];
-            if asked.seats.len() >= SEATS {
+            if has_no_seat(&asked.seats) {
                 return Err(RoomFault::RoomFull);
             }
             Ok(place)

@@ -5,8 +5,8 @@ ghost use Rattle.mmtel_focus.specs.Names.{found, found_in, has_dialog, has_name,
 
 use crate::moves::place_of;
 use crate::rooms::Room;
-use crate::seats::Seat;
 use mmtel_leg::Dialogue;
+use mmtel_seats::Seat;
 use mmtel_types::RoomNo;
 
 /// The names of a dialog: its Call-ID, the server's tag and the other side's.

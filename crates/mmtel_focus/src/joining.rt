@@ -7,50 +7,29 @@ ghost use Rattle.mmtel_leg.specs.Releases.{released_leg};
 ghost use Rattle.mmtel_scan.specs.Numbers.{next_number};
 ghost use Rattle.mmtel_sdp.specs.Mixing.{offer_text};
 ghost use Rattle.mmtel_sdp.specs.Offers.{offers_audio};
-ghost use Rattle.mmtel_focus.specs.Joining.{adopted, agreed, come, having_invited, having_invited_by, is_same_side, metered, new_room, new_seat, party_of};
+ghost use Rattle.mmtel_focus.specs.Joining.{adopted, agreed, come, having_invited, having_invited_by, is_same_side, new_room, new_seat, next_in, party_of};
 ghost use Rattle.mmtel_focus.specs.Rooms.{Waiting};
 ghost use Rattle.mmtel_focus.specs.Seats.{meter_of};
 ghost use Rattle.mmtel_focus.specs.Texts.{described};
 
-use crate::rooms::{Effects, Room};
-use crate::seats::{Awaited, Invite, Party, Seat, give_up_meter};
-use crate::settings::Setting;
-use crate::texts::{answer_in, contact_value, described, sdp_lines};
+use crate::rooms::Room;
+use crate::texts::answer_in;
 use mmtel_answers::Hearing;
-use mmtel_charging::{Kind, Meter};
+use mmtel_charging::Meter;
 use mmtel_desk::{Desk, Invitation};
 use mmtel_leg::{LegOf, Released, Standing};
 use mmtel_scan::NoMemory;
 use mmtel_sdp::mixer_offer;
+use mmtel_seats::{
+    Awaited, Effects, Invite, Next, Party, Seat, Setting, contact_value, described, meter_of,
+    metered, sdp_lines,
+};
 use mmtel_transaction::{Emit, RoomWord, TKey};
-use mmtel_types::{Account, CallNo, Moment, RoomNo};
+use mmtel_types::{Account, Moment, RoomNo};
 use std::alloc::Global;
 
 /// For so long a 2xx waits for its ACK, in milliseconds (RFC 3261 §13.3.1.4).
 const ACK_TIME: u64 = 32_000;
-
-/// A participant's meter, which begins, and is answered, when it is seated.
-pub fn meter_of(room: RoomNo, now: Moment, account: Option<Account>) -> Option<Meter>
-    ensures { result ≡ meter_of room now account }
-{
-    match account {
-        None => None,
-        Some(account) => {
-            let mut meter = Meter::start(Kind::Participant, account, CallNo(room.0), now);
-            meter.answered(now);
-            Some(meter)
-        }
-    }
-}
-
-/// Keeps this meter in a leg; one that ran there gives no row.
-pub fn metered<P, S>(leg: LegOf<P, S>, meter: Option<Meter>, now: Moment) -> LegOf<P, S>
-    ensures { result ≡ metered meter leg }
-{
-    let mut leg = leg;
-    give_up_meter(leg.swap_meter(meter), now);
-    leg
-}
 
 /// Who a leg is of, with a participant's meter.
 fn party_of(leg: Released, meter: Option<Meter>, now: Moment) -> Party
@@ -109,16 +88,18 @@ pub fn agree(
 fn new_seat(room: &Room, leg: Released, account: Option<Account>, now: Moment) -> Seat
     ensures { result ≡ new_seat now room.now leg account }
 {
+    let Next {
+        room: _,
+        seat,
+        number,
+    } = room.next();
     let cseq = leg.dialogue().last;
     let meter = meter_of(room.number, now, account);
     Seat {
-        number: room.taken.saturating_add(1),
+        number: seat,
         by: None,
         account,
-        awaited: Some(Awaited {
-            number: room.counted.saturating_add(1),
-            cseq,
-        }),
+        awaited: Some(Awaited { number, cseq }),
         invite: None,
         party: party_of(leg, meter, now),
     }
@@ -135,13 +116,18 @@ fn adopted_seat(
 ) -> Seat
     ensures { result ≡ record { number = next_number room.now.taken; by = Some by; account = account; awaited = None; invite = Some (Waiting (next_number room.now.counted) invitation); party = party_of (meter_of room.now.number now account) leg } }
 {
+    let Next {
+        room: _,
+        seat,
+        number,
+    } = room.next();
     let meter = meter_of(room.number, now, account);
     Seat {
-        number: room.taken.saturating_add(1),
+        number: seat,
         by: Some(by),
         account,
         awaited: None,
-        invite: Some(Invite::Waiting(room.counted.saturating_add(1), invitation)),
+        invite: Some(Invite::Waiting(number, invitation)),
         party: party_of(leg, meter, now),
     }
 }
@@ -209,12 +195,19 @@ impl Room {
         }
     }
 
-    /// Counts a seat that was taken, and with it an invitation or a 2xx.
-    pub fn count(&mut self)
-        ensures { self.new ≡ record self.old { taken = next_number self.old.taken; counted = next_number self.old.counted } }
+    /// The numbers of the next seat.
+    pub fn next(&self) -> Next
+        ensures { result ≡ next_in self.now }
     {
-        self.taken = self.taken.saturating_add(1);
-        self.counted = self.counted.saturating_add(1);
+        Next::after(self.number, self.taken, self.counted)
+    }
+
+    /// Counts a seat that was taken with these numbers, and with it an invitation or a 2xx.
+    pub fn count(&mut self, next: Next)
+        ensures { self.new ≡ record self.old { taken = next.seat; counted = next.number } }
+    {
+        self.taken = next.seat;
+        self.counted = next.number;
     }
 
     /// A leg comes to the room by an INVITE that offers audio: it has the mixer's answer, and a seat.
@@ -246,16 +239,15 @@ impl Room {
         if self.seats.reserve(1).is_err() {
             return Err(leg);
         }
-        let seat = self.taken.saturating_add(1);
-        let number = self.counted.saturating_add(1);
+        let next = self.next();
         let tag = leg.dialogue().local_tag.bytes();
         let agreed = agree(
             alloc,
             setting,
             now,
-            self.number,
-            seat,
-            number,
+            next.room,
+            next.seat,
+            next.number,
             key,
             invite,
             tag,
@@ -266,7 +258,7 @@ impl Room {
         }
         let seat = new_seat(self, leg, account, now);
         self.seats.push_reserved(seat);
-        self.count();
+        self.count(next);
         Ok(())
     }
 
@@ -301,9 +293,10 @@ impl Room {
         match ask_in(alloc, setting, self.number, leg, &mut effects.desk) {
             (leg, Err(_)) => Err(leg),
             (leg, Ok(invitation)) => {
+                let next = self.next();
                 let seat = adopted_seat(self, leg, account, by, invitation, now);
                 self.seats.push_reserved(seat);
-                self.count();
+                self.count(next);
                 Ok(())
             }
         }

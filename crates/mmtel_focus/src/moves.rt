@@ -6,14 +6,12 @@ ghost use Rattle.mmtel_focus.specs.Seats.{at_place, at_seat};
 ghost use Rattle.mmtel_focus.specs.Table.{answered_at, answered_loose, asks, heard_by, heard_in, heard_of, hears, is_asked, is_key, is_loose_key, place_of, silenced_at, stepped_at, stepped_in, taken, without};
 
 use crate::branches::{invite_answered, invite_silent};
-use crate::rooms::{Effects, Room};
-use crate::seats::Seat;
-use crate::settings::Setting;
+use crate::rooms::Room;
 use crate::signals::{RoomSignal, SeatSignal};
-use crate::telling;
 use mmtel_answers::Hearing;
 use mmtel_desk::{Loose, file, loose_at};
 use mmtel_scan::{List, NoMemory};
+use mmtel_seats::{self as seats, Effects, Seat, Setting};
 use mmtel_transaction::TKey;
 use mmtel_types::{Addr, Moment, RoomNo};
 use std::alloc::Global;
@@ -145,7 +143,7 @@ fn hear_in(
         None => Ok(()),
         Some(place) => {
             let asked = &live[place];
-            let seat = telling::place_of(&asked.seats, seat);
+            let seat = seats::place_of(&asked.seats, seat);
             step_at(live, alloc, setting, now, signal, place, seat, effects)
         }
     }

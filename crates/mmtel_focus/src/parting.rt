@@ -6,11 +6,10 @@ ghost use Rattle.mmtel_focus.specs.Table.{closed, left, left_at, room_left, row_
 
 use crate::moves::place_of;
 use crate::rooms::Room;
-use crate::seats::Seat;
-use crate::telling;
 use mmtel_charging::{Meter, Row};
 use mmtel_leg::Ended;
 use mmtel_scan::NoMemory;
+use mmtel_seats as seats;
 use mmtel_types::{Cause, Moment, RoomNo};
 use std::alloc::Global;
 
@@ -21,23 +20,6 @@ fn row_by(meter: Option<Meter>, now: Moment) -> Option<Row>
     match meter {
         None => None,
         Some(meter) => Some(meter.close(now, 0, Cause::Ended)),
-    }
-}
-
-impl Seat {
-    /// Lets the seat go, and gives what is left of its leg.
-    pub fn end(self) -> Ended
-        ensures { result ≡ ended self }
-    {
-        let Seat {
-            number: _,
-            by: _,
-            account: _,
-            awaited: _,
-            invite: _,
-            party,
-        } = self;
-        party.leave()
     }
 }
 
@@ -60,7 +42,7 @@ impl Room {
         ensures room { self.new ≡ seat_left seat self.old }
         ensures row { result ≡ row_in now (place_of seat self.old.seats) self.old.seats }
     {
-        match telling::place_of(&self.seats, seat) {
+        match seats::place_of(&self.seats, seat) {
             None => None,
             Some(place) => self.leave_at(place, now),
         }

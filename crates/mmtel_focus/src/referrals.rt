@@ -1,18 +1,19 @@
 //! What a REFER asks for.
-ghost use Rattle.std.specs.Prelude.{◌≡◌, ◌++◌, IfOk, OnOk, None, Some, filter, find};
+ghost use Rattle.std.specs.Prelude.{◌≡◌, IfOk, None, Some, find};
 ghost use Rattle.std.specs.Option.{option_copied, option_map};
 ghost use Rattle.mmtel_lex.specs.UriPlaces.{behind, is_named, parts};
 ghost use Rattle.mmtel_lex.specs.Reading.{uri_of};
 ghost use Rattle.mmtel_trust.specs.Asserted.{or_no_uri, uri_in};
-ghost use Rattle.mmtel_focus.specs.Referrals.{asks_invite, is_invite, is_method, is_no_method, referral_in, referral_to, replaces_at, replaces_by, replaces_in, replaces_of, target_of, value_named};
+ghost use Rattle.mmtel_focus.specs.Referrals.{asks_invite, is_invite, is_method, referral_in, referral_to, replaces_at, replaces_by, replaces_in, replaces_of, value_named};
 
 use mmtel_answers::Hearing;
 use mmtel_lex::{
-    LexFault, Param, Params, Uri, UriFault, cut, find_named, first_part, percent_decoded,
-    read_name_addr, read_uri,
+    LexFault, Param, Uri, UriFault, cut, find_named, first_part, percent_decoded, read_name_addr,
+    read_uri,
 };
 use mmtel_message::line_texts;
-use mmtel_scan::{List, NoMemory, Text};
+use mmtel_scan::{NoMemory, Text};
+use mmtel_seats::is_method;
 use std::alloc::Global;
 
 /// The dialog that is to be replaced (RFC 3891 §3), its escapes read.
@@ -105,12 +106,6 @@ fn replaces_by(alloc: Global, uri: &Uri) -> Result<Option<Replaces>, NoMemory>
     }
 }
 
-fn is_method(param: &Param) -> bool
-    ensures { result ≡ is_method param.now }
-{
-    param.name.bytes().eq_ignore_ascii_case(b"method")
-}
-
 /// The first parameter that names a method.
 fn method_of(params: &[Param]) -> Option<&Param>
     ensures { option_copied result ≡ find is_method params.now }
@@ -174,48 +169,6 @@ fn referral_to(alloc: Global, uri: Option<Uri>) -> Result<Referral, NoMemory>
                 None => Ok(Referral::Invite(Some(uri))),
                 Some(replaces) => Ok(Referral::Replace(replaces)),
             }
-        }
-    }
-}
-
-/// The parameters but those that name a method.
-fn without_method(alloc: Global, params: Params) -> Result<Params, NoMemory>
-    ensures { IfOk result (λ ps. ps ≡ filter is_no_method params) }
-{
-    let mut rest = params;
-    let mut kept = List::new();
-    'params: while let Some(param) = rest.pop_first() {
-        if !is_method(&param) {
-            kept.push(alloc, param)?;
-        }
-    }
-    Ok(kept)
-}
-
-/// What is left of a URI as the target of a request (RFC 3261 §19.1.5).
-pub fn target_of(alloc: Global, uri: Uri) -> Result<Uri, NoMemory>
-    ensures { IfOk result (λ u. u ≡ target_of uri) }
-{
-    match uri {
-        Uri::Sip {
-            user,
-            host,
-            port,
-            params,
-            headers: _,
-        } => {
-            let params = without_method(alloc, params)?;
-            Ok(Uri::Sip {
-                user,
-                host,
-                port,
-                params,
-                headers: Text::new(),
-            })
-        }
-        Uri::Tel { number, params } => {
-            let params = without_method(alloc, params)?;
-            Ok(Uri::Tel { number, params })
         }
     }
 }

@@ -3,21 +3,20 @@ ghost use Rattle.std.specs.Prelude.{◌≡◌, ◌<◌, IfOk, OnErr, OnOk, lengt
 ghost use Rattle.mmtel_answers.specs.Answers.{allowed};
 ghost use Rattle.mmtel_sdp.specs.Offers.{offers_audio};
 ghost use Rattle.mmtel_focus.specs.Private.{heard_at, says_at};
-ghost use Rattle.mmtel_focus.specs.Requests.{accepted, acknowledges, agreed_again, answered_with, awaiting, is_same_number, number_of, on_ack, on_bye, on_heard, on_hearing, on_invite, on_referral, on_request, refused, trying, unheard};
+ghost use Rattle.mmtel_focus.specs.Requests.{accepted, acknowledges, agreed_again, answered_with, is_same_number, number_of, on_ack, on_bye, on_heard, on_hearing, on_invite, on_referral, on_request, refused, trying, unheard};
 ghost use Rattle.mmtel_focus.specs.Seats.{at_seat};
 
 use crate::joining::agree;
 use crate::referrals::{Referral, referral_of};
-use crate::rooms::{Effects, Room};
-use crate::seats::{Awaited, Seat};
-use crate::settings::Setting;
-use crate::texts::{contact_value, own_status};
+use crate::rooms::Room;
+use crate::texts::own_status;
 use mmtel_answers::{Hearing, allowed, retry_after};
 use mmtel_leg::DialogueFault;
 use mmtel_lex::LexFault;
 use mmtel_message::{Line, first_of, is_method, read_cseq};
 use mmtel_scan::NoMemory;
 use mmtel_sdp::offers_audio;
+use mmtel_seats::{Awaited, Effects, Setting, contact_value};
 use mmtel_transaction::TKey;
 use mmtel_types::Moment;
 use std::alloc::Global;
@@ -57,16 +56,6 @@ fn acknowledges(alloc: Global, ack: &Hearing, awaited: Option<Awaited>) -> Resul
     match awaited {
         None => Ok(false),
         Some(awaited) => Ok(is_same_number(number_of(alloc, ack)?, awaited.cseq)),
-    }
-}
-
-impl Seat {
-    /// The ACK of the 2xx of this number is due, which answers the request that was heard last.
-    fn await_ack(&mut self, number: u64)
-        ensures { self.new ≡ awaiting number self.old }
-    {
-        let cseq = self.dialogue().last;
-        self.awaited = Some(Awaited { number, cseq });
     }
 }
 

@@ -1,21 +1,8 @@
 //! A room.
 
-use crate::seats::Seat;
-use mmtel_desk::{Desk, Loose};
-use mmtel_scan::List;
+use mmtel_seats::Seat;
 use mmtel_types::RoomNo;
 use std::marker::Model;
-
-/// What a step of a room brings forth beyond the room.
-#[derive(Drop)]
-pub struct Effects {
-    /// The room closes.
-    pub closes: bool,
-    /// INVITEs of its seats that were left before they had a final.
-    pub loose: List<Loose>,
-    /// The tokens that were drawn, what goes out, and the rows that were closed.
-    pub desk: Desk,
-}
 
 /// A conference room. It must be spent.
 pub struct Room {

@@ -1,5 +1,5 @@
 //! The table of rooms.
-ghost use Rattle.std.specs.Prelude.{◌≡◌, ◌≤◌, ◌<◌, ◌++◌, ◌∷◌, ℕ, false, true, drop, length, List, Err, IfErr, IfOk, IsErr, IsSome, None, Ok, OnErr, OnOk, Some};
+ghost use Rattle.std.specs.Prelude.{◌≡◌, ◌≤◌, ◌<◌, ◌++◌, ◌∷◌, ℕ, false, true, length, List, Err, IfErr, IfOk, IsErr, IsSome, None, Ok, OnErr, OnOk, Some};
 ghost use Rattle.mmtel_leg.specs.Releases.{released_leg};
 ghost use Rattle.mmtel_scan.specs.Numbers.{next_number};
 ghost use Rattle.mmtel_sdp.specs.Offers.{offers_audio};
@@ -9,7 +9,6 @@ ghost use Rattle.mmtel_focus.specs.Histories.{Closes, Deed, Drops, Hears, Leaves
 ghost use Rattle.mmtel_focus.specs.Joining.{is_same_side};
 ghost use Rattle.mmtel_focus.specs.Names.{all_ended, found, seats_taken};
 ghost use Rattle.mmtel_focus.specs.Private.{caller_in};
-ghost use Rattle.mmtel_focus.specs.Rooms.{nothing};
 ghost use Rattle.mmtel_focus.specs.Table.{access, has_no_room, no_rooms, opened, row_left};
 ghost use Rattle.mmtel_focus.specs.declared.faults.RoomFault.TheVariants as fault;
 
@@ -18,8 +17,7 @@ use crate::faults::RoomFault;
 use crate::finding::{self, DialogName};
 use crate::moves::{give_up_room, take};
 use crate::parting;
-use crate::rooms::{Effects, Room};
-use crate::settings::Setting;
+use crate::rooms::Room;
 use crate::signals::{Joining, RoomSignal};
 use mmtel_answers::Hearing;
 use mmtel_charging::Row;
@@ -27,6 +25,7 @@ use mmtel_desk::{Desk, Loose};
 use mmtel_leg::{CallerLeg, Ended, Released, Standing};
 use mmtel_scan::{List, NoMemory, Text};
 use mmtel_sdp::Mixer;
+use mmtel_seats::{Effects, Setting, drop_first};
 use mmtel_transaction::{Emits, TKey, Tokens};
 use mmtel_trust::{Accounts, PeerTable};
 use mmtel_types::limits::ROOMS;
@@ -52,36 +51,6 @@ impl Model for Rooms {
     ghost Value = { RoomsView };
 
     ghost view = { λ r. record { sip = r.sip; mixer = r.mixer; table = record { live = r.live.items; opened = r.opened; loose = r.loose; rows = r.rows }; has_failed = r.has_failed } };
-}
-
-impl Effects {
-    /// Nothing has come of a step before which these tokens were drawn.
-    fn new(tokens: Tokens) -> Effects
-        ensures { result ≡ nothing tokens }
-    {
-        Effects {
-            closes: false,
-            loose: List::new(),
-            desk: Desk::new(tokens),
-        }
-    }
-
-    /// What goes out.
-    fn into_emits(self) -> Emits
-        ensures { result ≡ self.desk.out }
-    {
-        let Effects {
-            closes: _,
-            loose: _,
-            desk,
-        } = self;
-        let Desk {
-            tokens: _,
-            out,
-            rows: _,
-        } = desk;
-        out
-    }
 }
 
 /// Tokens of which none is drawn.
@@ -596,24 +565,5 @@ fn beginning() -> Moment {
     match Moment::new(0) {
         Some(moment) => moment,
         None => unreachable!(),
-    }
-}
-
-/// Takes the first item.
-fn drop_one<T: Drop>(items: &mut List<T>)
-    requires { 0 < length items.old }
-    ensures { items.new ≡ drop 1 items.old }
-{
-    drop(items.remove(0));
-}
-
-/// Takes so many rows from the front.
-#[tactic(auto, using(crate::proofs::Places::dropped))]
-fn drop_first(rows: &mut List<Row>, count: usize)
-    requires { count ≤ length rows.old }
-    ensures { rows.new ≡ drop count rows.old }
-{
-    for _ in 0..count {
-        drop_one(rows);
     }
 }

@@ -1,74 +1,14 @@
-//! How a room names itself, and the texts of what it sends.
-ghost use Rattle.std.specs.Prelude.{◌≡◌, ◌∷◌, [], ◌++◌, IfOk, OnOk, true};
+//! Which room a URI names, and the texts of what a room sends beside its requests.
+ghost use Rattle.std.specs.Prelude.{◌≡◌, IfOk, true};
 ghost use Rattle.mmtel_sdp.specs.Offers.{offers_audio};
-ghost use Rattle.mmtel_focus.specs.Texts.{answer_in, contact_value, described, fragment, is_port, notify_lines, own_status, room_by, room_from, room_in, room_uri, sdp_lines, status_line, subscription};
+ghost use Rattle.mmtel_focus.specs.Texts.{answer_in, is_port, own_status, room_by, room_in, status_line};
 
 use mmtel_lex::Uri;
-use mmtel_message::{Line, add_bytes, add_line, addr_text, ip_text, phrase_of};
-use mmtel_scan::{List, NoMemory, Text, add_number, plain_number, skip_text};
+use mmtel_message::{ip_text, phrase_of};
+use mmtel_scan::{NoMemory, Text, add_number, plain_number, skip_text};
 use mmtel_sdp::{AnswerFault, Mixer, mixer_answer, view_of};
-use mmtel_types::{Addr, RoomNo};
+use mmtel_types::Addr;
 use std::alloc::Global;
-
-/// The URI of a room (RFC 4579 §4.4).
-#[tactic(auto, unfolding(crate::specs::Texts::room_uri))]
-fn room_uri(alloc: Global, sip: Addr, room: RoomNo) -> Result<Text, NoMemory>
-    ensures { IfOk result (λ t. t ≡ room_uri sip room) }
-{
-    let addr = addr_text(alloc, sip)?;
-    let mut out = Text::of(alloc, b"sip:room-")?;
-    add_number(alloc, &mut out, room.0)?;
-    out.push(alloc, b"@")?;
-    out.push(alloc, addr.bytes())?;
-    Ok(out)
-}
-
-/// The room as From of an INVITE, with this tag.
-#[tactic(auto, unfolding(crate::specs::Texts::room_from))]
-pub fn room_from(alloc: Global, sip: Addr, room: RoomNo, tag: &[u8]) -> Result<Text, NoMemory>
-    ensures { IfOk result (λ t. t ≡ room_from sip room tag.now) }
-{
-    let uri = room_uri(alloc, sip, room)?;
-    let mut out = Text::of(alloc, b"<")?;
-    out.push(alloc, uri.bytes())?;
-    out.push(alloc, b">;tag=")?;
-    out.push(alloc, tag)?;
-    Ok(out)
-}
-
-/// The room as Contact (RFC 4579 §5.1).
-#[tactic(auto, unfolding(crate::specs::Texts::contact_value))]
-pub fn contact_value(alloc: Global, sip: Addr, room: RoomNo) -> Result<Text, NoMemory>
-    ensures { IfOk result (λ t. t ≡ contact_value sip room) }
-{
-    let uri = room_uri(alloc, sip, room)?;
-    let mut out = Text::of(alloc, b"<")?;
-    out.push(alloc, uri.bytes())?;
-    out.push(alloc, b">;isfocus")?;
-    Ok(out)
-}
-
-/// The line that names a description.
-#[tactic(auto, unfolding(mmtel_message::specs::Message::line))]
-pub fn sdp_lines(alloc: Global) -> Result<List<Line>, NoMemory>
-    ensures { IfOk result (λ ls. ls ≡ sdp_lines) }
-{
-    let mut lines = List::new();
-    add_bytes(alloc, &mut lines, b"Content-Type", b"application/sdp")?;
-    Ok(lines)
-}
-
-/// The lines of a request of a room with a description.
-#[tactic(auto, unfolding(mmtel_message::specs::Message::line))]
-pub fn described(alloc: Global, sip: Addr, room: RoomNo) -> Result<List<Line>, NoMemory>
-    ensures { IfOk result (λ ls. ls ≡ described sip room) }
-{
-    let contact = contact_value(alloc, sip, room)?;
-    let mut lines = List::new();
-    add_line(alloc, &mut lines, b"Contact", contact)?;
-    add_bytes(alloc, &mut lines, b"Content-Type", b"application/sdp")?;
-    Ok(lines)
-}
 
 /// The mixer's answer to a body that offers audio (RFC 3264 §6).
 #[tactic(auto, unfolding(crate::specs::Texts::answer_in))]
@@ -102,55 +42,6 @@ pub fn own_status(alloc: Global, code: u16) -> Result<Text, NoMemory>
     ensures { IfOk result (λ t. t ≡ own_status code) }
 {
     status_line(alloc, code, phrase_of(code))
-}
-
-/// What a NOTIFY says of its subscription (RFC 3515 §2.4.7).
-fn subscription(goes_on: bool) -> &'static [u8]
-    ensures { result.now ≡ subscription goes_on }
-{
-    if goes_on {
-        b"active;expires=180"
-    } else {
-        b"terminated;reason=noresource"
-    }
-}
-
-/// The lines of a NOTIFY (RFC 3515 §2.4.4).
-#[tactic(auto, unfolding(crate::specs::Texts::notify_lines, mmtel_message::specs::Message::line))]
-pub fn notify_lines(
-    alloc: Global,
-    sip: Addr,
-    room: RoomNo,
-    goes_on: bool,
-) -> Result<List<Line>, NoMemory>
-    ensures { IfOk result (λ ls. ls ≡ notify_lines sip room goes_on) }
-{
-    let contact = contact_value(alloc, sip, room)?;
-    let mut lines = List::new();
-    add_line(alloc, &mut lines, b"Contact", contact)?;
-    add_bytes(alloc, &mut lines, b"Event", b"refer")?;
-    add_bytes(
-        alloc,
-        &mut lines,
-        b"Subscription-State",
-        subscription(goes_on),
-    )?;
-    add_bytes(
-        alloc,
-        &mut lines,
-        b"Content-Type",
-        b"message/sipfrag;version=2.0",
-    )?;
-    Ok(lines)
-}
-
-/// A status line as a fragment of a message (RFC 3420 §2).
-pub fn fragment(alloc: Global, line: &[u8]) -> Result<Text, NoMemory>
-    ensures { IfOk result (λ t. t ≡ fragment line.now) }
-{
-    let mut out = Text::of(alloc, line)?;
-    out.push(alloc, b"\r\n")?;
-    Ok(out)
 }
 
 /// Whether it is the server's port, where it is written or not.

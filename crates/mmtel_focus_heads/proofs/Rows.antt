@@ -47,11 +47,11 @@ use Rattle.mmtel_focus.specs.Site.{Site}
 use Rattle.mmtel_focus.specs.Texts.{answer_in, contact_value, described, own_status, sdp_lines, status_line}
 use Rattle.mmtel_focus.specs.declared.referrals.Referral.{Referral}
 use Rattle.mmtel_focus.specs.declared.referrals.Referral.TheVariants as referral
-use Rattle.mmtel_focus.specs.declared.seats.Invite.{Invite}
-use Rattle.mmtel_focus.specs.declared.seats.Invite.TheVariants.{Agreed, Waiting}
-use Rattle.mmtel_focus.specs.declared.seats.Party.{Party}
-use Rattle.mmtel_focus.specs.declared.seats.Party.TheVariants.{Brought, Came, Invited}
-use Rattle.mmtel_focus.specs.declared.seats.Seat.{Seat}
+use Rattle.mmtel_seats.specs.declared.seats.Invite.{Invite}
+use Rattle.mmtel_seats.specs.declared.seats.Invite.TheVariants.{Agreed, Waiting}
+use Rattle.mmtel_seats.specs.declared.seats.Party.{Party}
+use Rattle.mmtel_seats.specs.declared.seats.Party.TheVariants.{Brought, Came, Invited}
+use Rattle.mmtel_seats.specs.declared.seats.Seat.{Seat}
 use Rattle.mmtel_call_heads.specs.Clean.{AreCleanLines, IsClean}
 use Rattle.mmtel_call_heads.specs.Emits.{IsCleanDesk, IsTextOfClean}
 use Rattle.mmtel_call_heads.specs.Heard.{IsCleanUri}

@@ -14,12 +14,12 @@ use Rattle.mmtel_focus.specs.Rooms.{Room, Step, with_desk}
 use Rattle.mmtel_focus.specs.Seats.{at_place, at_seat, by_seat, closed, closed_with, dialogue_of, dismissed, dismissed_with, ended_dialogs, filed_by, having_had_bye, is_creator, is_seated, left, left_with, leg_of, loose_within, loosened, loosened_in, notified_by, place_of, put, told, told_by, told_party, told_seat, told_to, with_leg, without}
 use Rattle.mmtel_focus.specs.Site.{Site}
 use Rattle.mmtel_focus.specs.Texts.{fragment, notify_lines}
-use Rattle.mmtel_focus.specs.declared.rooms.Effects.{Effects}
-use Rattle.mmtel_focus.specs.declared.seats.Invite.{Invite}
-use Rattle.mmtel_focus.specs.declared.seats.Invite.TheVariants.{Agreed, Waiting}
-use Rattle.mmtel_focus.specs.declared.seats.Party.{Party}
-use Rattle.mmtel_focus.specs.declared.seats.Party.TheVariants.{Brought, Came, Invited}
-use Rattle.mmtel_focus.specs.declared.seats.Seat.{Seat}
+use Rattle.mmtel_seats.specs.declared.effects.Effects.{Effects}
+use Rattle.mmtel_seats.specs.declared.seats.Invite.{Invite}
+use Rattle.mmtel_seats.specs.declared.seats.Invite.TheVariants.{Agreed, Waiting}
+use Rattle.mmtel_seats.specs.declared.seats.Party.{Party}
+use Rattle.mmtel_seats.specs.declared.seats.Party.TheVariants.{Brought, Came, Invited}
+use Rattle.mmtel_seats.specs.declared.seats.Seat.{Seat}
 use Rattle.mmtel_call_heads.specs.Clean.{IsClean}
 use Rattle.mmtel_call_heads.specs.Emits.{Each, IsCleanDesk, IsTextOfClean}
 use Rattle.mmtel_call_heads.specs.Kept.{IsCleanDialogue}

@@ -15,7 +15,7 @@ use Rattle.mmtel_trust.specs.Asserted.{or_no_uri, uri_in}
 use Rattle.mmtel_types.specs.declared.addrs.Addr.{Addr}
 use Rattle.mmtel_types.specs.declared.numbers.RoomNo.{RoomNo}
 use Rattle.mmtel_focus.specs.Referrals.{asks_invite, is_no_method, referral_in, referral_to, replace_or_invite, replaces_by, target_of}
-use Rattle.mmtel_focus.specs.Texts.{contact_line, contact_value, described, notify_lines, room_from, room_uri, sdp_lines, subscription}
+use Rattle.mmtel_seats.specs.Texts.{contact_line, contact_value, described, notify_lines, room_from, room_uri, sdp_lines, subscription}
 use Rattle.mmtel_focus.specs.declared.referrals.Referral.{Referral}
 use Rattle.mmtel_focus.specs.declared.referrals.Referral.TheVariants as referral
 use Rattle.mmtel_focus.specs.declared.referrals.Replaces.{Replaces}

@@ -14,10 +14,10 @@ use Rattle.mmtel_types.specs.declared.numbers.Account.{Account}
 use Rattle.mmtel_focus.specs.Rooms.{Step, with_desk}
 use Rattle.mmtel_focus.specs.Seats.{at_place, at_seat, by_seat, closed, closed_with, dialogue_of, dismissed, dismissed_with, filed_by, having_had_bye, is_creator, is_seated, left, left_with, leg_of, meter_of, notified_by, place_of, put, told, told_by, told_party, told_seat, told_to, with_leg, without}
 use Rattle.mmtel_focus.specs.Site.{Site}
-use Rattle.mmtel_focus.specs.declared.rooms.Effects.{Effects}
-use Rattle.mmtel_focus.specs.declared.seats.Party.{Party}
-use Rattle.mmtel_focus.specs.declared.seats.Party.TheVariants.{Brought, Came, Invited}
-use Rattle.mmtel_focus.specs.declared.seats.Seat.{Seat}
+use Rattle.mmtel_seats.specs.declared.effects.Effects.{Effects}
+use Rattle.mmtel_seats.specs.declared.seats.Party.{Party}
+use Rattle.mmtel_seats.specs.declared.seats.Party.TheVariants.{Brought, Came, Invited}
+use Rattle.mmtel_seats.specs.declared.seats.Seat.{Seat}
 use Rattle.mmtel_focus_laws.specs.Charging.{IsBegun, IsBooked, among, meters_of, rows_at, runs, runs_in}
 use Rattle.mmtel_focus_laws.proofs.Books.{booked_begun, booked_closed, booked_same, booked_then, flat_among, flat_without, stands}
 

@@ -10,7 +10,7 @@ use Rattle.mmtel_types.specs.declared.causes.Cause.TheVariants as causes
 use Rattle.mmtel_focus.specs.Histories.{Deed, Opens, Joins, Adopts, Notifies, Hears, Leaves, Closes, Drops, table_after}
 use Rattle.mmtel_focus.specs.Names.{all_ended}
 use Rattle.mmtel_focus.specs.Rooms.{Room}
-use Rattle.mmtel_focus.specs.declared.seats.Seat.{Seat}
+use Rattle.mmtel_seats.specs.declared.seats.Seat.{Seat}
 use Rattle.mmtel_focus.specs.Seats.{leg_of}
 use Rattle.mmtel_focus.specs.Site.{Site}
 use Rattle.mmtel_focus.specs.Table.{Table, row_left}

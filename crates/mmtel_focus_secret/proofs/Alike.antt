@@ -19,11 +19,11 @@ use Rattle.mmtel_types.specs.declared.numbers.Peer.{Peer}
 use Rattle.mmtel_focus.specs.Answers.{agreed_by, noted, once_cancelled_in, waits}
 use Rattle.mmtel_focus.specs.Requests.{awaiting, heard_seat, is_waiting}
 use Rattle.mmtel_focus.specs.Rooms.{Room, most_seats}
-use Rattle.mmtel_focus.specs.declared.seats.Invite.{Invite}
-use Rattle.mmtel_focus.specs.declared.seats.Invite.TheVariants.{Agreed, Waiting}
-use Rattle.mmtel_focus.specs.declared.seats.Party.{Party}
-use Rattle.mmtel_focus.specs.declared.seats.Party.TheVariants.{Brought, Came, Invited}
-use Rattle.mmtel_focus.specs.declared.seats.Seat.{Seat}
+use Rattle.mmtel_seats.specs.declared.seats.Invite.{Invite}
+use Rattle.mmtel_seats.specs.declared.seats.Invite.TheVariants.{Agreed, Waiting}
+use Rattle.mmtel_seats.specs.declared.seats.Party.{Party}
+use Rattle.mmtel_seats.specs.declared.seats.Party.TheVariants.{Brought, Came, Invited}
+use Rattle.mmtel_seats.specs.declared.seats.Seat.{Seat}
 use Rattle.mmtel_focus.specs.Seats.{dialogue_of, ended_dialogs, having_had_bye, is_full, is_seated, is_seated_by, leg_of, loose_within, loosened, loosened_in, tag_of, told_party, told_seat}
 use Rattle.mmtel_focus.specs.Table.{is_asked, is_sent}
 use Rattle.mmtel_focus_secret.specs.Parts.{public_invite, public_party, public_room, public_seat, public_waiting}

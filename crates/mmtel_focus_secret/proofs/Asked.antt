@@ -9,9 +9,9 @@ use Rattle.mmtel_focus.specs.Names.{beside, found_in, has_dialog, has_name, is_n
 use Rattle.mmtel_focus.specs.Rooms.{Room}
 use Rattle.mmtel_focus.specs.Table.{Table, access, access_at, access_to, has_no_room, is_room, most_rooms, place_of, room_at}
 use Rattle.mmtel_focus.specs.declared.faults.RoomFault.TheVariants.{RoomFull}
-use Rattle.mmtel_focus.specs.declared.seats.Party.{Party}
-use Rattle.mmtel_focus.specs.declared.seats.Party.TheVariants.{Brought, Came, Invited}
-use Rattle.mmtel_focus.specs.declared.seats.Seat.{Seat}
+use Rattle.mmtel_seats.specs.declared.seats.Party.{Party}
+use Rattle.mmtel_seats.specs.declared.seats.Party.TheVariants.{Brought, Came, Invited}
+use Rattle.mmtel_seats.specs.declared.seats.Seat.{Seat}
 use Rattle.mmtel_focus_secret.specs.Answers.{AlikeRoomsAnswerAlike}
 use Rattle.mmtel_focus_secret.specs.Parts.{public_room, public_seat, public_table}
 use Rattle.mmtel_focus_secret.proofs.Alike.{full_public}

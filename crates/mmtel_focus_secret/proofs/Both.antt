@@ -4,7 +4,7 @@ use Rattle.mmtel_transaction.specs.declared.words.TKey.{TKey}
 use Rattle.mmtel_focus.specs.Histories.{did, effects_of}
 use Rattle.mmtel_focus.specs.Site.{Site}
 use Rattle.mmtel_focus.specs.Table.{Table}
-use Rattle.mmtel_focus.specs.declared.rooms.Effects.{Effects}
+use Rattle.mmtel_seats.specs.declared.effects.Effects.{Effects}
 use Rattle.mmtel_call_secret.proofs.Sent.{Heads}
 use Rattle.mmtel_focus_secret.specs.Directories.{EqualButForAccounts}
 use Rattle.mmtel_focus_secret.specs.Heard.{Deeds, one_deed, other_deed}

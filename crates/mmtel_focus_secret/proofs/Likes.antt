@@ -2,7 +2,7 @@
 use Rattle.std.proofs.Common.{◌≡◌, ℕ, Bool, true, false, List, [], ◌∷◌, ◌++◌, refl, ap, sym, ◌∙◌, subst}
 use Rattle.mmtel_answers.specs.Answers.{own_answer, own_reply}
 use Rattle.mmtel_answers.specs.Said.{Said}
-use Rattle.mmtel_call.specs.Site as calls
+use Rattle.mmtel_call_decisions.specs.Site as calls
 use Rattle.mmtel_call_secret.proofs.Across.{acked-final}
 use Rattle.mmtel_call_secret.proofs.Leaving.{RestsAlike, desks-back, desks-then, response-alike}
 use Rattle.mmtel_call_secret.proofs.Ringing.{met_alike}

@@ -17,9 +17,9 @@ use Rattle.mmtel_types.specs.declared.causes.Cause.TheVariants.{Ended}
 use Rattle.mmtel_types.specs.declared.numbers.Peer.{Peer}
 use Rattle.mmtel_types.specs.declared.numbers.RoomNo.{RoomNo}
 use Rattle.mmtel_focus.specs.Rooms.{Room, Step, with_desk}
-use Rattle.mmtel_focus.specs.declared.rooms.Effects.{Effects}
-use Rattle.mmtel_focus.specs.declared.seats.Party.{Party}
-use Rattle.mmtel_focus.specs.declared.seats.Seat.{Seat}
+use Rattle.mmtel_seats.specs.declared.effects.Effects.{Effects}
+use Rattle.mmtel_seats.specs.declared.seats.Party.{Party}
+use Rattle.mmtel_seats.specs.declared.seats.Seat.{Seat}
 use Rattle.mmtel_focus.specs.Seats.{at_place, at_seat, by_seat, closed, closed_with, dialogue_of, dismissed, dismissed_with, filed_by, having_had_bye, is_creator, is_seat, is_seated, left, left_with, leg_of, loosened_in, notified_by, place_of, put, tag_of, told, told_by, told_seat, told_to, without}
 use Rattle.mmtel_focus.specs.Site.{Site}
 use Rattle.mmtel_focus.specs.Texts.{fragment, notify_lines}

@@ -25,8 +25,8 @@ use Rattle.mmtel_focus.specs.Site.{Site}
 use Rattle.mmtel_focus.specs.Table.{Moved, Stepped, Table, access, answered_at, answered_by, answered_loose, answers_invite, asks, beside, branch_in, closed, closed_at, heard_by, heard_in, heard_of, hears, invite_answered, invite_silent, is_asked, is_loose_key, is_provisional, is_room, joined, left, left_at, left_in, next_room, notified, place_of, put_at, referred, room_left, room_left_at, seat_left, silenced_at, silenced_by, stays_at, stays_in, stepped_at, stepped_in, taken, through, unmoved, without, without_at, without_seat}
 use Rattle.mmtel_focus.specs.Texts.{own_status}
 use Rattle.mmtel_focus.specs.declared.faults.RoomFault.{RoomFault}
-use Rattle.mmtel_focus.specs.declared.rooms.Effects.{Effects}
-use Rattle.mmtel_focus.specs.declared.seats.Seat.{Seat}
+use Rattle.mmtel_seats.specs.declared.effects.Effects.{Effects}
+use Rattle.mmtel_seats.specs.declared.seats.Seat.{Seat}
 use Rattle.mmtel_focus.specs.declared.signals.SeatSignal.{SeatSignal}
 use Rattle.mmtel_focus.specs.declared.signals.SeatSignal.TheVariants as of_seat
 use Rattle.mmtel_focus_secret.specs.Heard as heard

@@ -16,9 +16,9 @@ use Rattle.mmtel_types.specs.declared.numbers.RoomNo.{RoomNo}
 use Rattle.mmtel_focus.specs.Histories as histories
 use Rattle.mmtel_focus.specs.Histories.{Adoption, Coming, Deed, Heard}
 use Rattle.mmtel_focus.specs.Rooms.{Room}
-use Rattle.mmtel_focus.specs.declared.seats.Invite.{Invite}
-use Rattle.mmtel_focus.specs.declared.seats.Invite.TheVariants.{Agreed, Waiting}
-use Rattle.mmtel_focus.specs.declared.seats.Seat.{Seat}
+use Rattle.mmtel_seats.specs.declared.seats.Invite.{Invite}
+use Rattle.mmtel_seats.specs.declared.seats.Invite.TheVariants.{Agreed, Waiting}
+use Rattle.mmtel_seats.specs.declared.seats.Seat.{Seat}
 use Rattle.mmtel_focus.specs.Seats.{dialogue_of}
 use Rattle.mmtel_focus.specs.Table.{Table, asks, invite_answered, is_asked}
 use Rattle.mmtel_focus.specs.declared.signals.RoomSignal.{RoomSignal}

@@ -10,32 +10,35 @@ use Rattle.mmtel_b2bua.specs.declared.entries.Entry.{Entry}
 use Rattle.mmtel_b2bua.specs.declared.entries.InviteKey.{InviteKey}
 use Rattle.mmtel_b2bua.specs.declared.signals.Signal as table
 use Rattle.mmtel_b2bua.specs.declared.signals.Signal.TheVariants as of_table
+use Rattle.mmtel_call_decisions.specs.Decisions.{decided_after, decided_at, handed_on, is_barred, is_status, its_sheet, peer_for, service_at, target_of, time_of}
+use Rattle.mmtel_call_decisions.specs.Invites.{invite_answered, invite_silent}
+use Rattle.mmtel_call_decisions.specs.Opening.{first_of, opening_of, refusal_of}
+use Rattle.mmtel_call_decisions.specs.Requests.{is_same_side}
+use Rattle.mmtel_call_decisions.specs.Site.{Site}
+use Rattle.mmtel_call_decisions.specs.declared.openings.Arrival.{Arrival}
+use Rattle.mmtel_call_decisions.specs.declared.openings.Service.{Service}
 use Rattle.mmtel_call.specs.Answered.{acknowledges, acked_across, parted}
 use Rattle.mmtel_call.specs.Closing.{Step, onward, over, with_past}
-use Rattle.mmtel_call.specs.Decisions.{decided_after, decided_at, is_barred, its_sheet, peer_for, service_at}
-use Rattle.mmtel_call.specs.Diverting.{at_target, divert, diverted, goes_on, handed_on, is_status, made, on_end, on_turn, passed_by, refused, refused_by, target_of, told_of, too_many, unless_barred}
+use Rattle.mmtel_call.specs.Diverting.{at_target, divert, diverted, goes_on, made, on_end, on_turn, passed_by, refused, refused_by, told_of, too_many, unless_barred}
 use Rattle.mmtel_call.specs.Leaving.{acked_again, answered_at, answered_loose, answered_other, answered_taken, answered_taken_at, as_loose, forked, is_fork, is_success, is_taken, is_talking, repeated, without_silent}
 use Rattle.mmtel_call.specs.Lending.{finished, finished_in}
-use Rattle.mmtel_call.specs.Opening.{caller_of, first_of, new_call, opened, opening_of, refusal_of, unless_refused}
+use Rattle.mmtel_call.specs.Opening.{caller_of, new_call, opened, unless_refused}
 use Rattle.mmtel_call.specs.Reinvites.{agreed, cancelled_across, ends_dialog, on_response_across, proceeding_across}
-use Rattle.mmtel_call.specs.Requests.{is_bye, is_invite, is_same_side, unheard, unlisted}
-use Rattle.mmtel_call.specs.Ringing.{answered, armed_in, cancelled_attempt, failed, given_up, heard_by as trial_heard, left, on_cancel, on_due, on_heard, on_request_if, on_response, proceeding, says_offered, silenced, time_of, timed_out, tried}
+use Rattle.mmtel_call.specs.Requests.{is_bye, is_invite, unheard, unlisted}
+use Rattle.mmtel_call.specs.Ringing.{answered, armed_in, cancelled_attempt, failed, given_up, heard_by as trial_heard, left, on_cancel, on_due, on_heard, on_request_if, on_response, proceeding, says_offered, silenced, timed_out, tried}
 use Rattle.mmtel_call.specs.Sending.{relayed_to_caller, replied_to, told_caller}
-use Rattle.mmtel_call.specs.Site.{Site}
 use Rattle.mmtel_call.specs.Stages.{has_left, is_due_at, left_by, on_ack_at, on_bye, on_cancel_at, on_heard_at, on_invite, on_request_at_if, on_response_at, on_silence_at, rung_out}
-use Rattle.mmtel_call.specs.Table.{ack_in, answer_to, cancel_in, due_in, invite_answered, invite_silent, is_current, request_in, response_in, silence_in, silence_of, step}
+use Rattle.mmtel_call.specs.Table.{ack_in, answer_to, cancel_in, due_in, is_current, request_in, response_in, silence_in, silence_of, step}
 use Rattle.mmtel_call.specs.declared.calls.Attempt.{Attempt}
 use Rattle.mmtel_call.specs.declared.calls.Call.{Call}
 use Rattle.mmtel_call.specs.declared.calls.Pair.{Pair}
 use Rattle.mmtel_call.specs.declared.calls.Phase.{Phase}
 use Rattle.mmtel_call.specs.declared.calls.Phase.TheVariants.{Lent, Offered, Over, Stood}
 use Rattle.mmtel_call.specs.declared.calls.Reinvite.{Reinvite}
-use Rattle.mmtel_call.specs.declared.calls.Service.{Service}
 use Rattle.mmtel_call.specs.declared.calls.Stage.{Stage}
 use Rattle.mmtel_call.specs.declared.calls.Stage.TheVariants.{Answered, Asking, Parting, Talking}
 use Rattle.mmtel_call.specs.declared.calls.Taken.{Taken}
 use Rattle.mmtel_call.specs.declared.calls.Trial.{Trial}
-use Rattle.mmtel_call.specs.declared.openings.Arrival.{Arrival}
 use Rattle.mmtel_call.specs.declared.signals.Signal.{Signal}
 use Rattle.mmtel_call.specs.declared.signals.Signal.TheVariants as signal
 use Rattle.mmtel_desk.specs.Desks.{drew, fresh, token}

@@ -14,8 +14,8 @@ use Rattle.mmtel_focus.specs.Site.{Site}
 use Rattle.mmtel_focus.specs.Table as table
 use Rattle.mmtel_focus.specs.Table.{Moved, Stepped, asks, heard_in, heard_of, hears, invite_silent, is_asked, silenced_at, silenced_by, stepped_at, stepped_by, stepped_in, taken}
 use Rattle.mmtel_focus.specs.Texts.{own_status}
-use Rattle.mmtel_focus.specs.declared.rooms.Effects.{Effects}
-use Rattle.mmtel_focus.specs.declared.seats.Seat.{Seat}
+use Rattle.mmtel_seats.specs.declared.effects.Effects.{Effects}
+use Rattle.mmtel_seats.specs.declared.seats.Seat.{Seat}
 use Rattle.mmtel_focus.specs.declared.signals.RoomSignal.{RoomSignal}
 use Rattle.mmtel_focus.specs.declared.signals.RoomSignal.TheVariants as signal
 use Rattle.mmtel_focus.specs.declared.signals.SeatSignal.{SeatSignal}

@@ -9,10 +9,10 @@ use Rattle.mmtel_b2bua.specs.Tables.{Moved, entry_after, heard, moved_at, moved_
 use Rattle.mmtel_b2bua.specs.declared.entries.Entry.{Entry}
 use Rattle.mmtel_b2bua.specs.declared.signals.Signal as table
 use Rattle.mmtel_b2bua.specs.declared.signals.Signal.TheVariants as signal
+use Rattle.mmtel_call_decisions.specs.Invites.{invite_silent}
+use Rattle.mmtel_call_decisions.specs.Site.{Site}
 use Rattle.mmtel_call.specs.Closing.{Step}
 use Rattle.mmtel_call.specs.Settled.{is_settled}
-use Rattle.mmtel_call.specs.Site.{Site}
-use Rattle.mmtel_call.specs.Table.{invite_silent}
 use Rattle.mmtel_call.specs.declared.signals.Signal.{Signal}
 use Rattle.mmtel_call.specs.declared.signals.Signal.TheVariants as of_call
 use Rattle.mmtel_desk.specs.declared.desks.Desk.{Desk}

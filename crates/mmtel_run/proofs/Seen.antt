@@ -7,11 +7,12 @@ use Rattle.mmtel_b2bua.specs.declared.entries.Entry.{Entry}
 use Rattle.mmtel_b2bua.specs.declared.entries.InviteKey.{InviteKey}
 use Rattle.mmtel_b2bua.specs.declared.signals.Signal.{Signal}
 use Rattle.mmtel_b2bua.specs.declared.signals.Signal.TheVariants as signal
+use Rattle.mmtel_call_decisions.specs.Invites.{invite_answered, invite_silent}
+use Rattle.mmtel_call_decisions.specs.Site.{Site, calls_among}
+use Rattle.mmtel_call_decisions.specs.declared.openings.Arrival.{Arrival}
 use Rattle.mmtel_call.specs.Closing.{Step}
 use Rattle.mmtel_call.specs.Opening.{opened}
-use Rattle.mmtel_call.specs.Site.{Site, calls_among}
-use Rattle.mmtel_call.specs.Table.{invite_answered, invite_silent, step}
-use Rattle.mmtel_call.specs.declared.openings.Arrival.{Arrival}
+use Rattle.mmtel_call.specs.Table.{step}
 use Rattle.mmtel_call.specs.declared.signals.Signal as calls
 use Rattle.mmtel_call.specs.declared.signals.Signal.TheVariants as of_call
 use Rattle.mmtel_desk.specs.declared.desks.Desk.{Desk}

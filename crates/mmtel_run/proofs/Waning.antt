@@ -2,23 +2,24 @@
 use Rattle.std.proofs.Common.{◌≡◌, ℕ, zero, suc, ◌+◌, ◌≤◌, List, refl, ap, Bool, true, false, Option, Some, None, inl, inr, arith}
 use Rattle.std.specs.Prelude.{◌⊎◌, ◌==◌, if◌then◌else◌}
 use Rattle.mmtel_answers.specs.Said.{Said}
+use Rattle.mmtel_call_decisions.specs.Decisions.{decided_after, decided_at, handed_on, is_barred, is_status, peer_for, service_at, target_of}
+use Rattle.mmtel_call_decisions.specs.Invites.{invite_silent}
+use Rattle.mmtel_call_decisions.specs.Site.{Site}
+use Rattle.mmtel_call_decisions.specs.declared.openings.Service.{Service}
 use Rattle.mmtel_call.specs.declared.calls.Call.{Call}
 use Rattle.mmtel_call.specs.declared.calls.Pair.{Pair}
 use Rattle.mmtel_call.specs.declared.calls.Phase.{Phase}
 use Rattle.mmtel_call.specs.declared.calls.Phase.TheVariants.{Lent, Offered, Over, Stood}
-use Rattle.mmtel_call.specs.declared.calls.Service.{Service}
 use Rattle.mmtel_call.specs.declared.calls.Stage.{Stage}
 use Rattle.mmtel_call.specs.declared.calls.Stage.TheVariants.{Answered, Asking, Parting, Talking}
 use Rattle.mmtel_call.specs.declared.calls.Trial.{Trial}
 use Rattle.mmtel_call.specs.Closing.{Step, onward, over, with_past}
 use Rattle.mmtel_call.specs.Sending.{relayed_to_caller}
-use Rattle.mmtel_call.specs.Decisions.{decided_after, decided_at, is_barred, peer_for, service_at}
-use Rattle.mmtel_call.specs.Diverting.{at_target, divert, diverted, goes_on, handed_on, is_status, made, on_end, on_turn, passed_by, refused, refused_by, target_of, told_of, too_many, unless_barred}
+use Rattle.mmtel_call.specs.Diverting.{at_target, divert, diverted, goes_on, made, on_end, on_turn, passed_by, refused, refused_by, told_of, too_many, unless_barred}
 use Rattle.mmtel_call.specs.Leaving.{without_key, without_silent}
 use Rattle.mmtel_call.specs.Ringing.{cancelled_attempt, left, on_due, timed_out}
-use Rattle.mmtel_call.specs.Site.{Site}
 use Rattle.mmtel_call.specs.Stages.{is_due_at, on_silence_at, rung_out}
-use Rattle.mmtel_call.specs.Table.{due_in, invite_silent, is_current, silence_in, silence_of, step}
+use Rattle.mmtel_call.specs.Table.{due_in, is_current, silence_in, silence_of, step}
 use Rattle.mmtel_call.specs.declared.signals.Signal.{Signal}
 use Rattle.mmtel_call.specs.declared.signals.Signal.TheVariants as signal
 use Rattle.mmtel_answers.specs.Said.{status_of as status_in}

@@ -8,7 +8,7 @@ use Rattle.mmtel_b2bua.specs.Tables.{Table, most_calls}
 use Rattle.mmtel_b2bua.specs.declared.entries.Entry.{Entry}
 use Rattle.mmtel_b2bua.specs.declared.signals.Signal.{Signal}
 use Rattle.mmtel_b2bua.specs.declared.signals.Signal.TheVariants as signal
-use Rattle.mmtel_call.specs.Site.{Site}
+use Rattle.mmtel_call_decisions.specs.Site.{Site}
 use Rattle.mmtel_directory.specs.declared.directories.Directory.{Directory}
 use Rattle.mmtel_parties.specs.Parties.{parties_of, served_accounts}
 use Rattle.mmtel_parties.specs.declared.parties.Parties.{Parties}

@@ -1,7 +1,7 @@
 -- Runs that are not longer than numbers count: fewer than 2^60 steps, calls on a layer and numbers drawn. At one per nanosecond such a run takes 36 years.
 use Rattle.std.specs.Prelude.{◌≡◌, ◌<◌, ◌≤◌, ◌^◌, ℕ, List, length}
 use Rattle.mmtel_b2bua.specs.Histories.{Deed, Heard, finished_by, hears_after, table_after}
-use Rattle.mmtel_call.specs.Site.{Site}
+use Rattle.mmtel_call_decisions.specs.Site.{Site}
 use Rattle.mmtel_directory.specs.declared.directories.Directory.{Directory}
 use Rattle.mmtel_focus.specs.Histories as rooms
 use Rattle.mmtel_focus.specs.Site as focus

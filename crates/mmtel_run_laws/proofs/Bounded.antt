@@ -3,7 +3,7 @@ use Rattle.std.proofs.Common.{◌≡◌, ℕ, ◌+◌, ◌≤◌, Bool, true, fa
 use Rattle.std.specs.Prelude.{max, cond, count_by, IsSome, if◌then◌else◌, nat_lt}
 use Rattle.std.specs.List.{AllByRecursion}
 use Rattle.std.proofs.lemmas.List.Sums.{sum_by-append, sum_by-cons}
-use Rattle.mmtel_call.specs.declared.calls.Opening.{Opening}
+use Rattle.mmtel_call_decisions.specs.declared.openings.Opening.{Opening}
 use Rattle.mmtel_call_laws.specs.Shown.{Accepted, Refused, Sign, final_sign, sign_if, asked_uri, sign_of_result, signs_of_targets}
 use Rattle.mmtel_precedence.specs.Calls.{Answered, Final, NotOffered, Offer, Offered, Outcome, Pending, Result, Target}
 use Rattle.mmtel_precedence.specs.Laws.{after_first, is_diverted_to}

@@ -7,8 +7,8 @@ use Rattle.mmtel_b2bua_laws.specs.Known.{endings_after, known_after, outcome_aft
 use Rattle.mmtel_b2bua_laws.specs.Laws.{BringForthTheirOwn, CallIsExact, CallsBringForthTheirOwn, CallsOfTablesAreExact, CallsTakeTheirSteps, RowsAreOfTheirCalls}
 use Rattle.mmtel_b2bua_laws.specs.Legs.{LegsGoBack}
 use Rattle.mmtel_b2bua_laws.specs.Lives.{Life}
-use Rattle.mmtel_call.specs.Opening.{received_list}
-use Rattle.mmtel_call.specs.Site.{Site}
+use Rattle.mmtel_call_decisions.specs.Opening.{received_list}
+use Rattle.mmtel_call_decisions.specs.Site.{Site}
 use Rattle.mmtel_call_heads.specs.Clean.{HasOwnLines, IsCleanMessage}
 use Rattle.mmtel_call_heads.specs.Read.{IsReadClean}
 use Rattle.mmtel_call_laws.specs.GoingOn.{CallsGoOn}

@@ -14,8 +14,8 @@ use Rattle.mmtel_b2bua_laws.specs.Deeds.{ArePutBack, arrival_of, as_heard, call_
 use Rattle.mmtel_b2bua_laws.specs.Legs.{LegsGoBack}
 use Rattle.mmtel_b2bua_laws.specs.Lives as lives
 use Rattle.mmtel_b2bua_laws.specs.Lives.{Event, Life}
-use Rattle.mmtel_call.specs.Site.{Site}
-use Rattle.mmtel_call.specs.declared.openings.Arrival.{Arrival}
+use Rattle.mmtel_call_decisions.specs.Site.{Site}
+use Rattle.mmtel_call_decisions.specs.declared.openings.Arrival.{Arrival}
 use Rattle.mmtel_call.specs.declared.signals.Signal as calls
 use Rattle.mmtel_desk.specs.Desks.{fresh}
 use Rattle.mmtel_leg.specs.declared.legs.Released.{Released}

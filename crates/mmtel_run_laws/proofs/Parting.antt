@@ -13,11 +13,11 @@ use Rattle.mmtel_b2bua_laws.specs.Deeds.{ArePutBack, HasNumbers, call_of, entry_
 use Rattle.mmtel_b2bua_laws.specs.Known.{ended_by, known_after, outcome_after}
 use Rattle.mmtel_b2bua_laws.specs.Laws.{CallIsExact, CallsOfTablesAreExact, CallsTakeTheirSteps, RowsAreOfTheirCalls, is_row_of}
 use Rattle.mmtel_b2bua_laws.specs.Lives.{Event, Life, call_after}
-use Rattle.mmtel_call.specs.Closing.{last_row, past_answer, past_row, with_answer}
-use Rattle.mmtel_call.specs.Site.{Site}
+use Rattle.mmtel_call_decisions.specs.Rows.{last_row, past_answer, past_row, with_answer}
+use Rattle.mmtel_call_decisions.specs.Site.{Site}
+use Rattle.mmtel_call_decisions.specs.declared.rows.Ending.{Ending}
 use Rattle.mmtel_call.specs.declared.calls.Phase.{Phase}
 use Rattle.mmtel_call.specs.declared.calls.Phase.TheVariants.{Lent, Offered, Over, Stood}
-use Rattle.mmtel_call.specs.declared.closing.Ending.{Ending}
 use Rattle.mmtel_call_heads.specs.Emits.{Each}
 use Rattle.mmtel_call_laws.specs.Charged.{diverting_part, last_part, origin_part, part_of, past_parts, rows_of_parts, served_part}
 use Rattle.mmtel_call_laws.specs.Story.{Start, is_over}

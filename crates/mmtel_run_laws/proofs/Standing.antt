@@ -11,8 +11,8 @@ use Rattle.mmtel_b2bua_laws.specs.Known.{standing_by, stood_after}
 use Rattle.mmtel_call_laws.specs.Known.{made_in}
 use Rattle.mmtel_b2bua_laws.specs.Lives as lives
 use Rattle.mmtel_b2bua_laws.specs.Lives.{Event, Life, call_after}
-use Rattle.mmtel_call.specs.Site.{Site, calls_among}
-use Rattle.mmtel_call.specs.declared.openings.Arrival.{Arrival}
+use Rattle.mmtel_call_decisions.specs.Site.{Site, calls_among}
+use Rattle.mmtel_call_decisions.specs.declared.openings.Arrival.{Arrival}
 use Rattle.mmtel_call.specs.declared.signals.Signal as calls
 use Rattle.mmtel_call_heads.specs.Emits.{Each}
 use Rattle.mmtel_call_laws.specs.Story.{Start}

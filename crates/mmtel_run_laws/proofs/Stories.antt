@@ -3,7 +3,7 @@ use Rattle.std.proofs.Common.{◌≡◌, Bool, true, false, List, [], ◌∷◌,
 use Rattle.mmtel_b2bua_laws.specs.Known.{outcome_after}
 use Rattle.mmtel_b2bua_laws.specs.Lives.{Event, call_after}
 use Rattle.mmtel_b2bua_laws.proofs.Living.{Beside, lived_beside, quiet}
-use Rattle.mmtel_call.specs.Opening.{received_list}
+use Rattle.mmtel_call_decisions.specs.Opening.{received_list}
 use Rattle.mmtel_call.specs.Table.{step}
 use Rattle.mmtel_call.specs.declared.calls.Call.{Call}
 use Rattle.mmtel_call_laws.specs.GoingOn.{CallsGoOn}

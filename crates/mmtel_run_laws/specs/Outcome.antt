@@ -1,6 +1,6 @@
 -- What each call of a run comes to: the precedence of services over how its attempts ended and over the records, registrations and live calls as they stood in the run when it reached each target; the bound on diversions; the 181s; and its rows (TS 24.604 §4.5.2.6, TS 24.611 §4.5.2, TS 24.615 §4.5.5, TS 32.260 §5).
 use Rattle.std.specs.Prelude.{◌≡◌, ◌≤◌, ◌⊎◌, ℕ, ◌+◌, ◌&&◌, max, Bool, true, false, List, [], ◌∷◌, ◌++◌, None, Some, count_by, filter, length}
-use Rattle.mmtel_call.specs.Opening.{received_list}
+use Rattle.mmtel_call_decisions.specs.Opening.{received_list}
 use Rattle.mmtel_call.specs.declared.calls.Phase.TheVariants.{Over}
 use Rattle.mmtel_call_laws.specs.Charged.{running}
 use Rattle.mmtel_call_laws.specs.Known.{received_in}

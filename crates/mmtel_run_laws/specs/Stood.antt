@@ -3,7 +3,7 @@ use Rattle.std.specs.Prelude.{◌≡◌, ◌≤◌, ℕ, List, [], ◌∷◌, �
 use Rattle.std.specs.Option.{option_map}
 use Rattle.mmtel_b2bua.specs.Entries.{busy_beside}
 use Rattle.mmtel_b2bua.specs.Histories.{Deed, Heard, Hears}
-use Rattle.mmtel_call.specs.Site.{calls_among}
+use Rattle.mmtel_call_decisions.specs.Site.{calls_among}
 use Rattle.mmtel_directory.specs.declared.directories.Directory.{Directory}
 use Rattle.mmtel_in_force.specs.Texts.{Texts, end_at}
 use Rattle.mmtel_precedence.specs.Calls.{Standing}

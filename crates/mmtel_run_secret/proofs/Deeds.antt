@@ -10,7 +10,7 @@ use Rattle.mmtel_b2bua_secret.specs.Alike.{AlikeEntries, AlikeTables, AreKept}
 use Rattle.mmtel_b2bua_secret.specs.Answers.{AlikeTablesAnswerAlike}
 use Rattle.mmtel_b2bua_secret.specs.Deeds.{BothFinish, BothHear, BothRelease, BothRestore, HearAlike, StandAlike, TablesStayAlike}
 use Rattle.mmtel_b2bua_secret.specs.Signals.{AsksWell, CallersAlike, LooksAlike, TableHears, public_signal}
-use Rattle.mmtel_call.specs.Table.{invite_silent}
+use Rattle.mmtel_call_decisions.specs.Invites.{invite_silent}
 use Rattle.mmtel_call_secret.specs.Parts.{public_released}
 use Rattle.mmtel_call_secret.specs.Premises.{AreAsked, IsAmong}
 use Rattle.mmtel_call_secret.specs.Roles.{Plain, Role}

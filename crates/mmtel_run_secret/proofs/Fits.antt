@@ -7,9 +7,9 @@ use Rattle.mmtel_answers.specs.Said.{Said}
 use Rattle.mmtel_b2bua.specs.Entries.{is_numbered}
 use Rattle.mmtel_b2bua.specs.Lending.{entry_at, entry_of}
 use Rattle.mmtel_b2bua.specs.declared.entries.Entry.{Entry}
+use Rattle.mmtel_call_decisions.specs.Showing.{facing}
+use Rattle.mmtel_call_decisions.specs.Site.{Site, trusts}
 use Rattle.mmtel_call.specs.Leaving.{is_taken}
-use Rattle.mmtel_call.specs.Sending.{facing}
-use Rattle.mmtel_call.specs.Site.{Site, trusts}
 use Rattle.mmtel_call.specs.Table.{current, is_current}
 use Rattle.mmtel_call.specs.declared.calls.Call.{Call}
 use Rattle.mmtel_call.specs.declared.calls.Phase.{Phase}

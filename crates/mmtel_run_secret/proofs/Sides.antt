@@ -7,7 +7,7 @@ use Rattle.mmtel_b2bua.specs.Entries.{is_numbered, sent_it}
 use Rattle.mmtel_b2bua.specs.Lending.{entry_at, entry_of}
 use Rattle.mmtel_b2bua.specs.declared.entries.Entry.{Entry}
 use Rattle.mmtel_b2bua_secret.specs.Signals.{CallHears}
-use Rattle.mmtel_call.specs.Table.{invite_answered}
+use Rattle.mmtel_call_decisions.specs.Invites.{invite_answered}
 use Rattle.mmtel_call.specs.declared.calls.Call.{Call}
 use Rattle.mmtel_call.specs.declared.calls.Phase.{Phase}
 use Rattle.mmtel_call.specs.declared.calls.Phase.TheVariants.{Lent, Offered, Over, Stood}
@@ -24,9 +24,9 @@ use Rattle.mmtel_desk.specs.declared.invitations.Loose.{Loose}
 use Rattle.mmtel_directory.specs.declared.directories.Directory.{Directory}
 use Rattle.mmtel_focus.specs.Histories as rooms
 use Rattle.mmtel_focus.specs.Rooms.{Room}
-use Rattle.mmtel_focus.specs.declared.seats.Invite.{Invite}
-use Rattle.mmtel_focus.specs.declared.seats.Invite.TheVariants.{Agreed, Waiting}
-use Rattle.mmtel_focus.specs.declared.seats.Seat.{Seat}
+use Rattle.mmtel_seats.specs.declared.seats.Invite.{Invite}
+use Rattle.mmtel_seats.specs.declared.seats.Invite.TheVariants.{Agreed, Waiting}
+use Rattle.mmtel_seats.specs.declared.seats.Seat.{Seat}
 use Rattle.mmtel_focus.specs.Seats.{dialogue_of}
 use Rattle.mmtel_focus.specs.Table as rooms_table
 use Rattle.mmtel_focus.specs.Table.{Table, asks, is_asked, no_rooms, room_at}

@@ -8,7 +8,7 @@ use Rattle.mmtel_b2bua.specs.declared.signals.Signal.TheVariants as signal
 use Rattle.mmtel_b2bua_secret.specs.Alike.{AlikeTables}
 use Rattle.mmtel_b2bua_secret.specs.Deeds.{TablesStayAlike}
 use Rattle.mmtel_b2bua_secret.specs.Signals.{public_signal}
-use Rattle.mmtel_call.specs.Table.{answers_invite, branch_in, invite_answered}
+use Rattle.mmtel_call_decisions.specs.Invites.{answers_invite, branch_in, invite_answered}
 use Rattle.mmtel_call_secret.specs.Common.{MessagesAreWhole}
 use Rattle.mmtel_call_secret.specs.Parts.{nobody}
 use Rattle.mmtel_call_secret.specs.Premises.{DecideAlike, IsAsked}

@@ -8,10 +8,11 @@ use Rattle.std.proofs.lemmas.Option.{get_or_from_slice_get}
 use Rattle.mmtel_answers.specs.Said.{Said}
 use Rattle.mmtel_b2bua.specs.Lending.{entry_at, place_of}
 use Rattle.mmtel_b2bua.specs.declared.entries.Entry.{Entry}
+use Rattle.mmtel_call_decisions.specs.Invites.{invite_answered}
+use Rattle.mmtel_call_decisions.specs.Requests.{is_same_number, is_same_side, number_of}
 use Rattle.mmtel_call.specs.Answered.{leg_of}
 use Rattle.mmtel_call.specs.Leaving.{is_taken}
-use Rattle.mmtel_call.specs.Requests.{is_same_number, is_same_side, number_of}
-use Rattle.mmtel_call.specs.Table.{current, current_at, is_branch, invite_answered}
+use Rattle.mmtel_call.specs.Table.{current, current_at, is_branch}
 use Rattle.mmtel_call.specs.declared.calls.Call.{Call}
 use Rattle.mmtel_call.specs.declared.calls.Pair.{Pair}
 use Rattle.mmtel_call.specs.declared.calls.Phase.{Phase}
@@ -36,8 +37,8 @@ use Rattle.mmtel_message.specs.declared.reading.ReadFault.TheVariants as fault
 use Rattle.mmtel_outside.specs.declared.events.Event.{Event}
 use Rattle.mmtel_outside.specs.declared.events.Event.TheVariants as event
 use Rattle.mmtel_scan.proofs.Runs.{and_true}
-use Rattle.mmtel_focus.specs.declared.seats.Invite.{Invite}
-use Rattle.mmtel_focus.specs.declared.seats.Invite.TheVariants.{Agreed, Waiting}
+use Rattle.mmtel_seats.specs.declared.seats.Invite.{Invite}
+use Rattle.mmtel_seats.specs.declared.seats.Invite.TheVariants.{Agreed, Waiting}
 use Rattle.mmtel_focus.specs.Seats.{dialogue_of}
 use Rattle.mmtel_focus.specs.Table as rooms
 use Rattle.mmtel_focus.specs.Table.{Table, is_asked, is_sent}

@@ -5,8 +5,9 @@ use Rattle.mmtel_b2bua.specs.Entries.{sent_it}
 use Rattle.mmtel_b2bua.specs.declared.entries.Entry.{Entry}
 use Rattle.mmtel_b2bua_secret.specs.Alike.{AlikeEntries}
 use Rattle.mmtel_b2bua_secret.specs.Deeds.{Configured}
+use Rattle.mmtel_call_decisions.specs.Invites.{invite_answered}
 use Rattle.mmtel_call.specs.Leaving.{is_taken}
-use Rattle.mmtel_call.specs.Table.{current, invite_answered, is_current}
+use Rattle.mmtel_call.specs.Table.{current, is_current}
 use Rattle.mmtel_call.specs.declared.calls.Call.{Call}
 use Rattle.mmtel_call.specs.declared.calls.Taken.{Taken}
 use Rattle.mmtel_call_secret.specs.Directories.{LooksUpAlike, RedirectsAlike, requested}
@@ -18,9 +19,9 @@ use Rattle.mmtel_desk.specs.declared.invitations.Invitation.{Invitation}
 use Rattle.mmtel_desk.specs.declared.invitations.Loose.{Loose}
 use Rattle.mmtel_directory.specs.declared.directories.Directory.{Directory}
 use Rattle.mmtel_focus.specs.Rooms.{Room}
-use Rattle.mmtel_focus.specs.declared.seats.Invite.{Invite}
-use Rattle.mmtel_focus.specs.declared.seats.Invite.TheVariants.{Agreed, Waiting}
-use Rattle.mmtel_focus.specs.declared.seats.Seat.{Seat}
+use Rattle.mmtel_seats.specs.declared.seats.Invite.{Invite}
+use Rattle.mmtel_seats.specs.declared.seats.Invite.TheVariants.{Agreed, Waiting}
+use Rattle.mmtel_seats.specs.declared.seats.Seat.{Seat}
 use Rattle.mmtel_focus.specs.Seats.{dialogue_of}
 use Rattle.mmtel_focus.specs.Table as rooms
 use Rattle.mmtel_focus.specs.Table.{Table, asks, is_asked}

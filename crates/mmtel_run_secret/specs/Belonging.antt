@@ -12,17 +12,18 @@ use Rattle.mmtel_b2bua.specs.Tables.{Table, standing}
 use Rattle.mmtel_b2bua.specs.declared.entries.Entry.{Entry}
 use Rattle.mmtel_b2bua.specs.declared.signals.Signal.{Signal}
 use Rattle.mmtel_b2bua.specs.declared.signals.Signal.TheVariants as signal
+use Rattle.mmtel_call_decisions.specs.Invites.{invite_answered}
+use Rattle.mmtel_call_decisions.specs.Opening.{origin_sheet}
+use Rattle.mmtel_call_decisions.specs.Showing.{facing}
+use Rattle.mmtel_call_decisions.specs.Site.{Site}
+use Rattle.mmtel_call_decisions.specs.declared.openings.Opening.{Opening}
+use Rattle.mmtel_call_decisions.specs.declared.openings.Service.{Service}
 use Rattle.mmtel_call.specs.Answered.{leg_of}
 use Rattle.mmtel_call.specs.Leaving.{is_taken}
-use Rattle.mmtel_call.specs.Opening.{origin_sheet}
-use Rattle.mmtel_call.specs.Sending.{facing}
-use Rattle.mmtel_call.specs.Site.{Site}
-use Rattle.mmtel_call.specs.Table.{invite_answered, is_current}
+use Rattle.mmtel_call.specs.Table.{is_current}
 use Rattle.mmtel_call.specs.declared.calls.Call.{Call}
-use Rattle.mmtel_call.specs.declared.calls.Opening.{Opening}
 use Rattle.mmtel_call.specs.declared.calls.Phase.{Phase}
 use Rattle.mmtel_call.specs.declared.calls.Phase.TheVariants.{Lent, Offered, Over, Stood}
-use Rattle.mmtel_call.specs.declared.calls.Service.{Service}
 use Rattle.mmtel_call.specs.declared.calls.Stage.TheVariants.{Answered, Asking, Parting, Talking}
 use Rattle.mmtel_call.specs.declared.calls.Taken.{Taken}
 use Rattle.mmtel_call_secret.specs.Roles.{Opens, Plain, Role, Says, opening_role}
@@ -32,9 +33,9 @@ use Rattle.mmtel_directory.specs.declared.directories.Directory.{Directory}
 use Rattle.mmtel_focus.specs.Histories as rooms
 use Rattle.mmtel_focus.specs.Names.{seats_of}
 use Rattle.mmtel_focus.specs.Rooms.{Room}
-use Rattle.mmtel_focus.specs.declared.seats.Invite.{Invite}
-use Rattle.mmtel_focus.specs.declared.seats.Invite.TheVariants.{Agreed, Waiting}
-use Rattle.mmtel_focus.specs.declared.seats.Seat.{Seat}
+use Rattle.mmtel_seats.specs.declared.seats.Invite.{Invite}
+use Rattle.mmtel_seats.specs.declared.seats.Invite.TheVariants.{Agreed, Waiting}
+use Rattle.mmtel_seats.specs.declared.seats.Seat.{Seat}
 use Rattle.mmtel_focus.specs.Seats.{dialogue_of, is_seat}
 use Rattle.mmtel_focus.specs.Site as focus
 use Rattle.mmtel_focus.specs.Table as table

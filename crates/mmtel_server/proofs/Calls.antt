@@ -6,7 +6,7 @@ use Rattle.mmtel_b2bua.specs.Histories as histories
 use Rattle.mmtel_b2bua.specs.Histories.{CallsView, Deed, Drops, Finishes, Hears, finished_by, hears_after, site_of as site_in, table_after}
 use Rattle.mmtel_b2bua.specs.Tables.{Moved, Table, opened_after, taken, with_moved}
 use Rattle.mmtel_b2bua.specs.declared.signals.Signal.{Signal}
-use Rattle.mmtel_call.specs.Site.{Site}
+use Rattle.mmtel_call_decisions.specs.Site.{Site}
 use Rattle.mmtel_charging.specs.declared.rows.Row.{Row}
 use Rattle.mmtel_desk.specs.Desks.{fresh}
 use Rattle.mmtel_desk.specs.declared.desks.Desk.{Desk}

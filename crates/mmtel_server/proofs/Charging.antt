@@ -8,7 +8,7 @@ use Rattle.mmtel_run.specs.Filed.{NoneWaits, RowsAreFiled}
 use Rattle.mmtel_run.specs.Run.{after, clock_at, one_more, settled}
 use Rattle.mmtel_run.specs.World.{World, beginning, begun, came, ended, met}
 use Rattle.mmtel_server.specs.Follows.{going}
-use Rattle.mmtel_server.specs.Handed.{Charged, took_last}
+use Rattle.mmtel_server.specs.Charged.{Charged, took_last}
 use Rattle.mmtel_server.specs.declared.servers.Server.{Server}
 use Rattle.mmtel_server.proofs.Filing.{met_none, settled_none}
 use Rattle.mmtel_server.proofs.Handing.{hands_none}

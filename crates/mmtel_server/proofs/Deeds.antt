@@ -22,10 +22,10 @@ use Rattle.mmtel_transaction.specs.declared.words.Emit.TheVariants as emit
 use Rattle.mmtel_types.specs.declared.numbers.Peer.{Peer}
 use Rattle.mmtel_server.proofs.Counts.{has_room}
 use Rattle.mmtel_server.proofs.Grows.{draws_emits, short_of}
-use Rattle.mmtel_server.specs.Arming.{alarm_in, armed_in, queue_of}
+use Rattle.mmtel_server_decisions.specs.Arming.{alarm_in, armed_in, queue_of}
 use Rattle.mmtel_server.specs.Follows.{Breaks, Follows, HasDone}
 use Rattle.mmtel_server.specs.Stands.{Did, IsCut}
-use Rattle.mmtel_server.specs.declared.armed.Armed.{Armed}
+use Rattle.mmtel_server_decisions.specs.declared.armed.Armed.{Armed}
 use Rattle.mmtel_server.specs.declared.servers.Server.{Server}
 
 -- so many numbers were drawn

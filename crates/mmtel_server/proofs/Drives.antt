@@ -19,7 +19,7 @@ use Rattle.mmtel_run_laws.specs.Outcome.{CallsOfRunsComeToOutcome}
 use Rattle.mmtel_run_laws.specs.Rows.{SeatsOfRunsAreChargedOnce}
 use Rattle.mmtel_serving.specs.Calls.{Counted}
 use Rattle.mmtel_server.specs.Driven.{AnswersAll, AnswersButLast, BrokeOff, CameToOutcome, ChargedSeats, Driven, HeardMore, HoldsUploads, IsAtEnd, KeptTheSecret, ReadEach, SentClean, WentOn, with_all}
-use Rattle.mmtel_server.specs.Handed.{taken_of}
+use Rattle.mmtel_server_decisions.specs.Handed.{taken_of}
 use Rattle.mmtel_server.specs.Laws.{WentSeesAlike}
 use Rattle.mmtel_server.specs.Stands.{BreaksOff, IsPrefixOf, Went}
 use Rattle.mmtel_server.specs.Stepped.{AskedIn, Stepped, StoppedAt, happened_in}

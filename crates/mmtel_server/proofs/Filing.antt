@@ -4,7 +4,7 @@ use Rattle.mmtel_answers.specs.Said.{Said}
 use Rattle.mmtel_b2bua.specs.Histories.{Finishes, Hears}
 use Rattle.mmtel_b2bua.specs.declared.signals.Signal.{Signal}
 use Rattle.mmtel_b2bua.specs.declared.signals.Signal.TheVariants as signal
-use Rattle.mmtel_call.specs.Table.{invite_answered, invite_silent}
+use Rattle.mmtel_call_decisions.specs.Invites.{invite_answered, invite_silent}
 use Rattle.mmtel_charging.specs.declared.rows.Row.{Row}
 use Rattle.mmtel_desk.specs.declared.desks.Desk.{Desk}
 use Rattle.mmtel_directory.specs.declared.directories.Directory.{Directory}
@@ -33,7 +33,7 @@ use Rattle.mmtel_types.specs.declared.numbers.Peer.{Peer}
 use Rattle.mmtel_types.specs.declared.sides.Side.{Side}
 use Rattle.mmtel_server.proofs.RoomWords as words
 use Rattle.mmtel_server.specs.Follows.{brought_in, desk_at_end, desk_of, housed_in, lodged_in}
-use Rattle.mmtel_server.specs.Handed.{left_of, taken_of}
+use Rattle.mmtel_server_decisions.specs.Handed.{left_of, taken_of}
 
 -- the second world has filed no more than the first
 abbrev pub FilesNone : World → World → Type 0

@@ -17,13 +17,13 @@ use Rattle.mmtel_transaction.specs.declared.entries.Entry.{Entry}
 use Rattle.mmtel_transaction.specs.declared.transactions.Transactions.{Transactions}
 use Rattle.mmtel_transaction.specs.declared.words.Due.{Due}
 use Rattle.mmtel_transaction.specs.declared.words.Due.TheVariants as due
-use Rattle.mmtel_server.proofs.Arming.{deadline_is, first_due, first_of_due}
-use Rattle.mmtel_server.specs.Arming.{IsAmong, IsDueBy, deadline_in, queue_of}
+use Rattle.mmtel_server_decisions.proofs.Arming.{deadline_is, first_due, first_of_due}
+use Rattle.mmtel_server_decisions.specs.Arming.{IsAmong, IsDueBy, deadline_in, queue_of}
 use Rattle.mmtel_server.specs.Follows.{Breaks, Follows, IsBy}
 use Rattle.mmtel_server.specs.Stands.{Did, IsCut}
-use Rattle.mmtel_server.specs.declared.armed.Armed.{Armed}
+use Rattle.mmtel_server_decisions.specs.declared.armed.Armed.{Armed}
 use Rattle.mmtel_server.specs.declared.servers.Server.{Server}
-use Rattle.mmtel_server.specs.declared.servers.deadlines.Deadline as deadlines
+use Rattle.mmtel_server_decisions.specs.declared.deadlines.Deadline as deadlines
 
 -- ---- what is due of messages by a moment is not past it
 

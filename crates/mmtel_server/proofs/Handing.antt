@@ -1,34 +1,22 @@
 -- The rows that wait at the end of an event, handed to the keeper.
-use Rattle.std.proofs.Common.{◌≡◌, ◌<◌, ◌∷◌, [], ℕ, true, false, List, length, refl, sym, ap, ◌∙◌, subst, arith}
+use Rattle.std.proofs.Common.{◌≡◌, ◌∷◌, ◌++◌, [], ℕ, Bool, true, false, List, refl, sym, subst}
 use Rattle.mmtel_charging.specs.declared.rows.Row.{Row}
 use Rattle.mmtel_directory.specs.declared.directories.Directory.{Directory}
 use Rattle.mmtel_outside.specs.declared.events.Offer.{Offer}
-use Rattle.mmtel_run.specs.World.{World, ended, filing, handing}
+use Rattle.mmtel_run.specs.World.{World, ended, handing}
 use Rattle.mmtel_server.specs.Follows.{Follows}
 use Rattle.mmtel_server.specs.Stands.{Did}
 use Rattle.mmtel_server.specs.declared.servers.Server.{Server}
+use Rattle.mmtel_server_decisions.specs.Handed.{left_of}
 
 pub hands_none : (rows : List Row) (w : World) → handing false rows w ≡ w
 hands_none [] w = refl
 hands_none (row ∷ rows) w = refl
 
-hands_all : (rows : List Row) (w : World) → 0 < length rows → handing true rows w ≡ filing rows w
-hands_all [] w some = absurd (omega (arith, some))
-hands_all (row ∷ rows) w some = refl
-
--- there are none
-none_of : (rows : List Row) → length rows ≡ 0 → rows ≡ []
-none_of [] none = refl
-none_of (row ∷ rows) none = absurd (omega (arith, none))
-
-pub none_handed : (s : Server) → length s.waiting ≡ 0 → (out : List Offer) → Follows s out s out (λ d token. ended true)
-none_handed s none out d token before w did short =
-    subst (λ (v : World). Did d token before s out v) (sym (ap (λ (rows : List Row). handing true rows w) (sym did.stands.waiting ∙ none_of s.waiting none))) did
-
--- it took them
-module _ (s : Server) (waiting : List Row) (none : waiting ≡ []) where
-  filed : (d : Directory) (token : List ℕ) (before out : List Offer) (w : World) → Did d token before s out w → Did d token before (record s { waiting = waiting }) out (filing w.waiting w)
-  filed d token before out w did = record {
+-- the server and the world with other rows that wait stand for one another where those are the same
+module _ (s : Server) (d : Directory) (token : List ℕ) (before out : List Offer) (w : World) (did : Did d token before s out w) where
+  waiting_so : (here there filed : List Row) → here ≡ there → Did d token before (record s { waiting = here }) out (record w { waiting = there; filed = filed })
+  waiting_so here there filed same = record {
     stands = record {
       directory_same = did.stands.directory_same;
       tokens = did.stands.tokens;
@@ -40,7 +28,7 @@ module _ (s : Server) (waiting : List Row) (none : waiting ≡ []) where
       calls = did.stands.calls;
       rooms = did.stands.rooms;
       armed = did.stands.armed;
-      waiting = none;
+      waiting = same;
       drained = did.stands.drained;
       cleared = did.stands.cleared;
       whole = did.stands.whole;
@@ -48,7 +36,13 @@ module _ (s : Server) (waiting : List Row) (none : waiting ≡ []) where
     offered = did.offered;
   }
 
-  pub all_taken : 0 < length s.waiting → (out : List Offer) → Follows s out (record s { waiting = waiting }) out (λ d token. ended true)
-  all_taken some out d token before w did short =
-      let more : 0 < length w.waiting = subst (λ (rows : List Row). 0 < length rows) did.stands.waiting some in
-      subst (λ (v : World). Did d token before (record s { waiting = waiting }) out v) (sym (hands_all w.waiting w more)) (filed d token before out w did)
+  -- where none waited, none does; else the keeper took all of them or none
+  handed : (took : Bool) (rows : List Row) → rows ≡ w.waiting → Did d token before (record s { waiting = left_of took s.waiting }) out (handing took rows w)
+  handed false [] none = waiting_so s.waiting w.waiting w.filed did.stands.waiting
+  handed true [] none = waiting_so [] w.waiting w.filed none
+  handed false (row ∷ rows) some = waiting_so s.waiting w.waiting w.filed did.stands.waiting
+  handed true (row ∷ rows) some = waiting_so [] [] (w.filed ++ row ∷ rows) refl
+
+pub rows_handed : (s : Server) (took : Bool) (waiting : List Row) → waiting ≡ left_of took s.waiting → (out : List Offer) → Follows s out (record s { waiting = waiting }) out (λ d token. ended took)
+rows_handed s took waiting is out d token before w did short =
+    subst (λ (rows : List Row). Did d token before (record s { waiting = rows }) out (handing took w.waiting w)) (sym is) (handed s d token before out w did took w.waiting refl)

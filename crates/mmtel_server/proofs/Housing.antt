@@ -6,7 +6,7 @@ use Rattle.mmtel_desk.specs.declared.desks.Desk.{Desk}
 use Rattle.mmtel_directory.specs.declared.directories.Directory.{Directory}
 use Rattle.mmtel_focus.specs.Histories as histories
 use Rattle.mmtel_focus.specs.Histories.{Deed, Drops, RoomsView, brought_after, did, effects_of, site_of, table_after}
-use Rattle.mmtel_focus.specs.declared.rooms.Effects.{Effects}
+use Rattle.mmtel_seats.specs.declared.effects.Effects.{Effects}
 use Rattle.mmtel_focus.specs.Site.{Site}
 use Rattle.mmtel_focus.specs.Table.{Table}
 use Rattle.mmtel_outside.specs.declared.events.Offer.{Offer}

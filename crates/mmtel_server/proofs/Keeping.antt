@@ -23,7 +23,7 @@ use Rattle.mmtel_web.specs.Uploads.{kept_upload, upload_by}
 use Rattle.mmtel_web.specs.declared.answers.Web.{Web}
 use Rattle.mmtel_web.specs.declared.answers.Web.TheVariants as web
 use Rattle.mmtel_server.specs.Driven.{EachAnswers, EachAnswersButLast, EachCounted, EachCountedButLast, HoldsUploads, LastAnswers, LastCounted, with_all}
-use Rattle.mmtel_server.specs.Handed.{Handed, HandedCounted, taken_of}
+use Rattle.mmtel_server_decisions.specs.Handed.{Handed, HandedCounted, taken_of}
 use Rattle.mmtel_server.specs.Stands.{Went}
 use Rattle.mmtel_server.specs.Stepped.{call_of, happened_in}
 use Rattle.mmtel_server.specs.declared.servers.Server.{Server}

@@ -6,8 +6,8 @@ use Rattle.mmtel_b2bua.specs.Histories.{CallsView, Deed, Releases, did, site_of 
 use Rattle.mmtel_b2bua.specs.Lending.{entry_at, leg_of_entry, leg_out, lent, lent_at, lent_by, place_of, released}
 use Rattle.mmtel_b2bua.specs.Tables.{Table}
 use Rattle.mmtel_b2bua.specs.declared.entries.Entry.{Entry}
+use Rattle.mmtel_call_decisions.specs.Site.{Site}
 use Rattle.mmtel_call.specs.Lending.{lent_in, taken_out_in}
-use Rattle.mmtel_call.specs.Site.{Site}
 use Rattle.mmtel_call.specs.declared.calls.Call.{Call}
 use Rattle.mmtel_call.specs.declared.calls.Phase.{Phase}
 use Rattle.mmtel_call.specs.declared.calls.Phase.TheVariants.{Lent, Offered, Over, Stood}

@@ -1,6 +1,5 @@
 mod RoomWords
 pub mod Grows
-mod Arming
 mod Counts
 mod Deeds
 mod Asked

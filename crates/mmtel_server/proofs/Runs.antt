@@ -10,7 +10,7 @@ use Rattle.mmtel_run.specs.Run.{IsEnough, IsEnoughAfter, IsSettled, after, clock
 use Rattle.mmtel_run.specs.Short.{IsShort, IsShortRun}
 use Rattle.mmtel_run.specs.World.{World, beginning, begun, came, ended, met}
 use Rattle.mmtel_server.specs.Follows.{AllDrawOn, Breaks, BreaksTo, Follows, FollowsTo, IsReady, IsSettledBy, going}
-use Rattle.mmtel_server.specs.Handed.{left_of, taken_of}
+use Rattle.mmtel_server_decisions.specs.Handed.{left_of, taken_of}
 use Rattle.mmtel_server.specs.Stands.{BreaksOff, Did, GoesOn, IsCut, Went}
 use Rattle.mmtel_server.specs.Stepped.{WaitedAfter, WaitedIn}
 use Rattle.mmtel_server.specs.declared.servers.Server.{Server}

@@ -24,7 +24,8 @@ use Rattle.mmtel_run_laws.specs.Rows.{SeatsAreChargedOnce}
 use Rattle.mmtel_run_secret.specs.Headline.{SeesAlike}
 use Rattle.mmtel_serving.specs.Calls.{Answers, Counted, MayBeCalled}
 use Rattle.mmtel_server.specs.Stands.{IsCut, Went}
-use Rattle.mmtel_server.specs.Handed.{Charged, Handed, HandedCounted}
+use Rattle.mmtel_server.specs.Charged.{Charged}
+use Rattle.mmtel_server_decisions.specs.Handed.{Handed, HandedCounted}
 use Rattle.mmtel_server.specs.Stepped.{call_of}
 use Rattle.mmtel_server.specs.declared.driving.DriveFault.{DriveFault}
 use Rattle.mmtel_server.specs.declared.driving.DriveFault.TheVariants.{LinkFault, NoMemory}

@@ -1,7 +1,6 @@
 -- What public clauses cite, which a user of the crate has to believe.
 pub mod Stands
-pub mod Arming
-pub mod Handed
+pub mod Charged
 pub mod Stepped
 pub mod Driven
 pub mod Laws

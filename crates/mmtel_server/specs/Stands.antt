@@ -10,7 +10,7 @@ use Rattle.mmtel_run.specs.Events.{Happened}
 use Rattle.mmtel_run.specs.Run.{IsEnough, gives, world_after}
 use Rattle.mmtel_run.specs.Short.{IsShortRun}
 use Rattle.mmtel_run.specs.World.{World, calls_in, rooms_in}
-use Rattle.mmtel_server.specs.Arming.{queue_of}
+use Rattle.mmtel_server_decisions.specs.Arming.{queue_of}
 use Rattle.mmtel_server.specs.declared.servers.Server.{Server}
 use Rattle.mmtel_transaction.specs.Stands as transactions
 

@@ -17,7 +17,8 @@ use Rattle.mmtel_web.specs.Answers.{Kept}
 use Rattle.mmtel_run.specs.Short.{IsShort}
 use Rattle.mmtel_run.specs.World.{World, came}
 use Rattle.mmtel_server.specs.Follows.{Follows, IsReady, going}
-use Rattle.mmtel_server.specs.Handed.{Charged, Handed, HandedCounted, StoppedHanding, left_of, taken_of}
+use Rattle.mmtel_server.specs.Charged.{Charged}
+use Rattle.mmtel_server_decisions.specs.Handed.{Handed, HandedCounted, StoppedHanding, left_of, taken_of}
 use Rattle.mmtel_server.specs.Stands.{Did, GoesOn, Went}
 use Rattle.mmtel_server.specs.declared.servers.Server.{Server}
 

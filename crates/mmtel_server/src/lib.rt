@@ -1,7 +1,6 @@
 //! The server: what each event of a run makes it offer.
 #![tactic(auto)]
 
-mod armed;
 mod driving;
 mod laws;
 mod servers;

@@ -9,13 +9,13 @@ mod rooms;
 mod rows;
 mod steps;
 
-use crate::armed::Armed;
 use mmtel_b2bua::Calls;
 use mmtel_charging::Row;
 use mmtel_directory::Directory;
 use mmtel_focus::Rooms;
 use mmtel_in_force::Records;
 use mmtel_scan::List;
+use mmtel_server_decisions::Armed;
 use mmtel_transaction::{Tokens, Transactions};
 use mmtel_types::Moment;
 

@@ -18,12 +18,13 @@ use super::rows::take_rows_of_calls;
 use crate::laws::numbers_are_drawn_on;
 use mmtel_answers::Hearing;
 use mmtel_b2bua::{CallFault, Signal};
-use mmtel_call::invite_answered;
+use mmtel_call_decisions::invite_answered;
 use mmtel_focus::RoomSignal;
 use mmtel_intake::{DialogName, Holder, arrived, dialog_name, plainly};
 use mmtel_outside::Offer;
 use mmtel_run::records_are_those_kept;
 use mmtel_scan::{List, NoMemory, Text};
+use mmtel_server_decisions::is_answer_of_calls;
 use mmtel_transaction::{Emits, TKey};
 use mmtel_types::{CallNo, Moment};
 use std::alloc::Global;
@@ -248,7 +249,7 @@ impl Server {
     {
         numbers_are_drawn_on();
         let branch = invite_answered(alloc, &response)?;
-        let is_of_calls = self.calls.has_sent(bytes_of(&branch));
+        let is_of_calls = is_answer_of_calls(&self.calls, bytes_of(&branch));
         if is_of_calls {
             self.signal(alloc, Signal::Answer { key, response }, at, out)
         } else {

@@ -1,78 +1,35 @@
 //! Deadlines: those that are due fire, each at its own moment (RFC 3261 §17).
-ghost use Rattle.std.specs.Prelude.{◌≡◌, ◌<◌, ◌≤◌, ℕ, List, IfSome, OnErr, OnOk, Option, Some, length};
+ghost use Rattle.std.specs.Prelude.{◌≡◌, ◌<◌, ◌≤◌, ℕ, List, IfSome, OnErr, OnOk, Some, length};
 ghost use Rattle.mmtel_outside.specs.declared.events.Offer.{Offer};
 ghost use Rattle.mmtel_run.specs.Deadlines as deadlines;
 ghost use Rattle.mmtel_run.specs.Deadlines.{Chosen, first_armed, first_of};
-ghost use Rattle.mmtel_call.specs.Table.{invite_silent};
+ghost use Rattle.mmtel_call_decisions.specs.Invites.{invite_silent};
 ghost use Rattle.mmtel_run.specs.Rooms.{is_key_of_calls, is_of_calls};
 ghost use Rattle.mmtel_run.specs.Run.{settled};
 ghost use Rattle.mmtel_run.specs.World.{alarmed, begun, calls_in, ended_of, fired, fired_in, rung, silenced, struck};
-ghost use Rattle.mmtel_server.specs.Arming.{IsAmong, IsDueBy, alarm_in, armed_in, chosen_at, deadline_by, deadline_in, is_before, queue_of};
+ghost use Rattle.mmtel_server_decisions.specs.Arming.{IsAmong, IsDueBy, alarm_in, chosen_at, deadline_by, deadline_in, queue_of};
 ghost use Rattle.mmtel_server.specs.Follows.{Breaks, BreaksTo, Follows, FollowsTo, IsBy, IsSettledBy};
-ghost use Rattle.mmtel_transaction.specs.Answers.{Next, next_due, upcoming_of};
+ghost use Rattle.mmtel_transaction.specs.Answers.{next_due};
 ghost use Rattle.mmtel_transaction.specs.Calls.{Done, live};
 ghost use Rattle.mmtel_transaction.specs.Stands as table;
 
 use super::Server;
 use super::deeds::offer_to;
-use crate::armed::{Alarm, Armed, first_armed};
 use crate::laws::numbers_are_drawn_on;
 use mmtel_b2bua::Signal;
-use mmtel_call::invite_silent;
+use mmtel_call_decisions::invite_silent;
 use mmtel_focus::RoomSignal;
 use mmtel_outside::Offer;
 use mmtel_scan::{List, NoMemory, Text};
+use mmtel_server_decisions::{
+    Alarm, Deadline, first_armed, first_of, is_answer_of_calls, moment_by,
+};
 use mmtel_transaction::{Due, TKey};
 use mmtel_types::Moment;
 use std::alloc::Global;
 
 /// The deadlines that fire before one event, at most: more than the steps of any run that numbers count.
 const FIRINGS: u64 = 1 << 60;
-
-/// The deadline that comes first of those that are due.
-pub(super) enum Deadline {
-    /// One of a message.
-    OfMessage,
-    /// One of a call or of a seat, at this place among those that are armed.
-    OfAlarm(usize),
-}
-
-/// Whether a deadline of a message, of this moment and step, comes before one of a call or a seat: unless its moment is later, or of one moment its step.
-fn comes_before(at: u64, step: u64, armed: &Armed) -> bool
-    ensures { result ≡ is_before at step (armed_in armed.now) }
-{
-    at < armed.at || (at == armed.at && step <= armed.step)
-}
-
-/// The first of the first deadline of messages and the first one of calls and seats.
-fn first_of(next: Option<(u64, u64)>, alarm: Option<usize>, armed: &[Armed]) -> Option<Deadline>
-    requires { IfSome alarm (λ place. place < length armed.now) }
-    ensures first { (message : Option Next) → next ≡ upcoming_of message → deadline_by result (queue_of armed.now) ≡ first_of message (chosen_at alarm (queue_of armed.now)) }
-    ensures there { IfSome result (IsAmong (length armed.now)) }
-{
-    match (next, alarm) {
-        (None, None) => None,
-        (Some(_), None) => Some(Deadline::OfMessage),
-        (None, Some(place)) => Some(Deadline::OfAlarm(place)),
-        (Some((at, step)), Some(place)) => {
-            if comes_before(at, step, &armed[place]) {
-                Some(Deadline::OfMessage)
-            } else {
-                Some(Deadline::OfAlarm(place))
-            }
-        }
-    }
-}
-
-/// The moment of a deadline that fires by another moment.
-fn moment_by(at: u64, now: Moment) -> Moment
-    ensures { at ≤ now → result ≡ at }
-{
-    match Moment::new(at.min(now.ms())) {
-        Some(moment) => moment,
-        None => unreachable!(),
-    }
-}
 
 impl Server {
     /// A step begins: deadlines that are armed in it carry its number.
@@ -97,9 +54,10 @@ impl Server {
         ensures done { OnOk result (Follows self.old out.old self.new out.new (λ d token world. silenced d token at branch method (is_of_calls (invite_silent branch method) (calls_in d world).entries) world)) }
         ensures err { OnErr result (Breaks self.old out.old out.new (λ d token world. silenced d token at branch method (is_of_calls (invite_silent branch method) (calls_in d world).entries) world)) }
     {
-        let is_of_calls = self
-            .calls
-            .has_sent(invite_silent(branch.bytes(), method.bytes()));
+        let is_of_calls = is_answer_of_calls(
+            &self.calls,
+            invite_silent(branch.bytes(), method.bytes()),
+        );
         if is_of_calls {
             self.signal(alloc, Signal::Silent { branch, method }, at, out)
         } else {

@@ -5,15 +5,15 @@ ghost use Rattle.mmtel_outside.specs.declared.events.Offer.TheVariants as offer;
 ghost use Rattle.mmtel_run.specs.Answers.{tag_for, tags_due, to_tag_in};
 ghost use Rattle.mmtel_run.specs.World.{arming, emit_one, emitted, to_peer};
 ghost use Rattle.mmtel_transaction.specs.declared.words.Emit.TheVariants as emit;
-ghost use Rattle.mmtel_server.specs.Arming.{alarm_in};
+ghost use Rattle.mmtel_server_decisions.specs.Arming.{alarm_in};
 ghost use Rattle.mmtel_server.specs.Follows.{Breaks, Follows};
 
-use crate::armed::{Alarm, Armed};
 use crate::servers::Server;
 use mmtel_intake::is_untagged;
 use mmtel_message::Msg;
 use mmtel_outside::Offer;
 use mmtel_scan::{List, NoMemory, Text};
+use mmtel_server_decisions::{Alarm, Armed};
 use mmtel_transaction::laws::numbers_are_distinct;
 use mmtel_transaction::{Emit, TKey, Tokens};
 use mmtel_types::{Moment, Peer};

@@ -8,7 +8,7 @@ ghost use Rattle.mmtel_focus.specs.Referrals.{referral_in};
 ghost use Rattle.mmtel_focus.specs.Table.{access, has_no_room};
 ghost use Rattle.mmtel_leg.specs.Releases.{released_leg};
 ghost use Rattle.mmtel_message.specs.Faults.{is_method};
-ghost use Rattle.mmtel_run.specs.Rooms.{account_at, account_of_side, is_accepted, is_with, leg_by, replaces_by, side_replaced, status_by};
+ghost use Rattle.mmtel_run.specs.Rooms.{account_at, account_of_side, is_accepted, leg_by, replaces_by, side_replaced, status_by};
 ghost use Rattle.mmtel_run.specs.World.{World, adopting, calls_in, entering_room, joining_room, noticed, opening_room, replaced, replaced_by, replacing, room_joined, room_opened, rooms_in, seated, taken_out, tokens_now, turned_away};
 ghost use Rattle.mmtel_scan.specs.Numbers.{token_text};
 ghost use Rattle.mmtel_sdp.specs.Offers.{offers_audio};
@@ -29,6 +29,7 @@ use mmtel_leg::{CallerLeg, Ended, Released, Standing};
 use mmtel_message::is_method;
 use mmtel_outside::Offer;
 use mmtel_scan::{List, NoMemory, Text};
+use mmtel_server_decisions::is_with;
 use mmtel_transaction::{Emit, Emits, TKey, Tokens};
 use mmtel_types::{Account, CallNo, Moment, Peer, RoomNo, Side};
 use std::alloc::Global;
@@ -106,16 +107,6 @@ fn status_by(fault: RoomFault) -> u16
         RoomFault::RoomFull => 503,
         RoomFault::Gone => 404,
         RoomFault::NoMemory => 503,
-    }
-}
-
-/// Whether a leg is of this peer.
-fn is_with(peer: Peer, party: Option<(Peer, Option<Account>)>) -> bool
-    ensures { result ≡ is_with peer party }
-{
-    match party {
-        None => false,
-        Some((other, _)) => other == peer,
     }
 }
 

@@ -8,7 +8,7 @@ ghost use Rattle.mmtel_run.specs.Events.{Happened, digest_datagram, digest_event
 ghost use Rattle.mmtel_run.specs.Run.{world_after};
 ghost use Rattle.mmtel_run.specs.World.{came, ended, met};
 ghost use Rattle.mmtel_server.specs.Follows.{Breaks, BreaksTo, Follows, FollowsTo, IsReady, going};
-ghost use Rattle.mmtel_server.specs.Handed.{Handed, HandedCounted, StoppedHanding};
+ghost use Rattle.mmtel_server_decisions.specs.Handed.{Handed, HandedCounted, StoppedHanding};
 ghost use Rattle.mmtel_server.specs.Stands.{BreaksOff, Went};
 ghost use Rattle.mmtel_server.specs.Stepped.{AskedAfter, AskedIn, Came, KeeperWent, Stepped, StoppedAt, call_of, happened_in};
 ghost use Rattle.mmtel_serving.specs.Calls.{Answers, Counted, Met};
@@ -24,10 +24,11 @@ use mmtel_directory::Directory;
 use mmtel_focus::Rooms;
 use mmtel_in_force::Records;
 use mmtel_intake::{digest, moment};
-use mmtel_keeper::{KeepFault, Keeper};
+use mmtel_keeper::Keeper;
 use mmtel_outside::{Event, Offer};
 use mmtel_run::{enough_comes, rows_are_filed};
 use mmtel_scan::{List, NoMemory, Text};
+use mmtel_server_decisions::hand_rows;
 use mmtel_transaction::{Tokens, Transactions};
 use mmtel_types::{Account, Addr, Moment};
 use std::alloc::Global;
@@ -207,18 +208,7 @@ impl Server {
         ensures counted { IfOk result (λ took. HandedCounted took (K.faults keeper.old) (K.faults keeper.new)) }
         ensures met { OnErr result (StoppedHanding (K.held keeper.old) (K.held keeper.new) (K.calls keeper.old) (K.calls keeper.new) (K.faults keeper.old) (K.faults keeper.new)) }
     {
-        let count = self.waiting.items().len();
-        if count == 0 {
-            return Ok(true);
-        }
-        match keeper.add_rows(alloc, self.waiting.items()) {
-            Ok(()) => {
-                self.waiting = List::new();
-                Ok(true)
-            }
-            Err(KeepFault::Failed) => Ok(false),
-            Err(KeepFault::NoMemory) => Err(NoMemory),
-        }
+        hand_rows(alloc, &mut self.waiting, keeper)
     }
 
     /// An event comes when the clock stands so: what it makes the server offer, and what the keeper answered in it.

@@ -11,5 +11,5 @@ returns c =
     c.in-Ok.ensures.items
     ∙ (ap (λ (l : List Seat). insert l c.args.place c.stand-seat.result) c.remove.ensures.items
     ∙ (put_in c.args.seats.now.items c.args.place c.stand-seat.result c.requires
-    ∙ (ap (λ (seat : Seat). slice_set c.args.seats.now.items c.args.place seat) c.stand-seat.ensures
+    ∙ (ap (λ (seat : Seat). slice_set c.args.seats.now.items c.args.place seat) c.stand-seat.ensures.seated
     ∙ ap (λ (o : Option Seat). stood_in c.args.room c.args.now c.args.remote c.args.place o c.args.seats.now.items) (sym (stands_at c.args.seats.now.items c.args.place c.remove.result c.requires c.remove.ensures.value)))))

@@ -1,9 +1,9 @@
 use Rattle.std.proofs.Common.{◌≡◌, ◌-◌, suc, true, OnOk, sym, subst, arith}
 use Rattle.std.specs.Option.{option_copied}
 use Rattle.mmtel_precedence.specs.Told.{told_due}
+use Rattle.mmtel_call_decisions.specs.Decisions.{is_barred}
+use Rattle.mmtel_call_decisions.specs.Site.{standing}
 use Rattle.mmtel_call.specs.Closing.{Step}
-use Rattle.mmtel_call.specs.Decisions.{is_barred}
-use Rattle.mmtel_call.specs.Site.{standing}
 use Rattle.mmtel_call.proofs.DueDiversions.{divert-barred, divert-at_bound, divert-onward}
 use Rattle.mmtel_call.proofs.calls.Call.+diverting.Goals as goal
 

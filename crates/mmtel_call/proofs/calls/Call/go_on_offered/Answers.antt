@@ -1,9 +1,9 @@
 -- the phase that the call leaves makes no difference
 use Rattle.std.proofs.Common.{◌≡◌, None, OnOk, subst, sym}
 use Rattle.mmtel_precedence.specs.Told.{told_end}
+use Rattle.mmtel_call_decisions.specs.Site.{standing}
 use Rattle.mmtel_call.specs.Calls.{Offered}
 use Rattle.mmtel_call.specs.Closing.{Step}
-use Rattle.mmtel_call.specs.Site.{standing}
 use Rattle.mmtel_call.proofs.AnyPhase.{goes_on_alike}
 use Rattle.mmtel_call.proofs.calls.Call.go_on_offered.Goals as goal
 

@@ -2,10 +2,10 @@
 use Rattle.std.proofs.Common.{◌≡◌, ◌∙◌, List, [], ◌∷◌, ◌++◌, Option, Some, Result, Ok, Err, OnOk, ap, slice_get, sym}
 use Rattle.std.specs.Prelude.{option_to_list}
 use Rattle.mmtel_desk.specs.Loose.{on_response}
+use Rattle.mmtel_call_decisions.specs.Site.{Site}
 use Rattle.mmtel_call.specs.Calls.{Taken}
 use Rattle.mmtel_desk.specs.declared.invitations.Loose.{Loose}
 use Rattle.mmtel_call.specs.Leaving.{as_loose, taken_again, without_at}
-use Rattle.mmtel_call.specs.Site.{Site}
 use Rattle.mmtel_call.proofs.calls.Call.hear_fork.Goals as goal
 
 always : {T E P : Type 0} (r : Result T E) → P → OnOk r P

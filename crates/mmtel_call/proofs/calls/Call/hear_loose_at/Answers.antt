@@ -2,8 +2,8 @@
 use Rattle.std.proofs.Common.{◌∙◌, Option, Result, Ok, Err, OnOk, ap, sym}
 use Rattle.mmtel_desk.specs.Loose.{on_response}
 use Rattle.mmtel_desk.specs.declared.invitations.Loose.{Loose}
+use Rattle.mmtel_call_decisions.specs.Site.{Site}
 use Rattle.mmtel_call.specs.Leaving.{answered_loose}
-use Rattle.mmtel_call.specs.Site.{Site}
 use Rattle.mmtel_call.proofs.calls.Call.hear_loose_at.Goals as goal
 
 always : {T E P : Type 0} (r : Result T E) → P → OnOk r P

@@ -1,9 +1,9 @@
 use Rattle.std.proofs.Common.{◌≡◌, subst, sym}
 use Rattle.std.specs.Prelude.{OnOk}
 use Rattle.mmtel_answers.specs.Said.{status_of}
+use Rattle.mmtel_call_decisions.specs.Site.{standing}
 use Rattle.mmtel_call.specs.Calls.{Offered}
 use Rattle.mmtel_call.specs.Closing.{Step}
-use Rattle.mmtel_call.specs.Site.{standing}
 use Rattle.mmtel_call.proofs.AnyPhase.{response_alike}
 use Rattle.mmtel_call.proofs.calls.Call.hear_response_offered.Goals as goal
 

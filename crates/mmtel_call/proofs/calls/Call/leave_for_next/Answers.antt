@@ -4,12 +4,12 @@ use Rattle.mmtel_desk.specs.Invitations.{once_cancelled}
 use Rattle.mmtel_desk.specs.Sending.{cancelled}
 use Rattle.mmtel_desk.specs.declared.desks.Desk.{Desk}
 use Rattle.mmtel_precedence.specs.Told.{told_end}
+use Rattle.mmtel_call_decisions.specs.Decisions.{decided_after}
+use Rattle.mmtel_call_decisions.specs.Site.{Site, standing}
 use Rattle.mmtel_call.specs.Calls.{Call}
 use Rattle.mmtel_call.specs.Closing.{Step, with_past}
-use Rattle.mmtel_call.specs.Decisions.{decided_after}
 use Rattle.mmtel_call.specs.Diverting.{on_end}
 use Rattle.mmtel_call.specs.Ringing.{loose, with_loose}
-use Rattle.mmtel_call.specs.Site.{Site, standing}
 use Rattle.mmtel_call.proofs.calls.Call.leave_for_next.Goals as goal
 
 both : (f : Call → Desk → Step) (a b : Call) (d e : Desk) → a ≡ b → d ≡ e → f a d ≡ f b e

@@ -1,9 +1,9 @@
 -- the phase that the call leaves makes no difference
 use Rattle.std.proofs.Common.{◌≡◌, OnOk, subst, sym}
 use Rattle.mmtel_precedence.specs.Told.{told_end}
+use Rattle.mmtel_call_decisions.specs.Site.{standing}
 use Rattle.mmtel_call.specs.Calls.{Offered}
 use Rattle.mmtel_call.specs.Closing.{Step}
-use Rattle.mmtel_call.specs.Site.{standing}
 use Rattle.mmtel_call.proofs.AnyPhase.{timed_out_alike}
 use Rattle.mmtel_call.proofs.calls.Call.time_out_offered.Goals as goal
 

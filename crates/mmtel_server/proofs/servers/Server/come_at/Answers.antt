@@ -10,7 +10,7 @@ use Rattle.mmtel_server.proofs.Coming.{broke_handing, broke_meeting}
 use Rattle.mmtel_server.proofs.Grows.{ends, on_err, short_of}
 use Rattle.mmtel_server.proofs.Runs.{begun_came, clocked_did}
 use Rattle.mmtel_server.proofs.servers.Server.come_at.Goals as goal
-use Rattle.mmtel_server.specs.Handed.{taken_of}
+use Rattle.mmtel_server_decisions.specs.Handed.{taken_of}
 use Rattle.mmtel_server.specs.Stepped.{call_of}
 
 pub returns-clause-done : goal.returns-clause-done

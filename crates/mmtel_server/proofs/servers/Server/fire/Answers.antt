@@ -3,14 +3,14 @@ use Rattle.std.proofs.lemmas.Option.{same_Some}
 use Rattle.std.proofs.lemmas.Result.{on_err_weaker, on_ok_weaker}
 use Rattle.mmtel_run.specs.Deadlines.{Deadline, OfMessage}
 use Rattle.mmtel_run.specs.World.{begun, fired, fired_in, struck}
-use Rattle.mmtel_server.proofs.Arming.{alarm_is}
+use Rattle.mmtel_server_decisions.proofs.Arming.{alarm_is}
 use Rattle.mmtel_server.proofs.Grows.{begins, broken, followed}
 use Rattle.mmtel_server.proofs.Settling.{fires_in, strikes}
 use Rattle.mmtel_server.proofs.servers.Server.fire.Goals as goal
-use Rattle.mmtel_server.specs.Arming.{IsAmong, IsDueBy, chosen_at, deadline_in, queue_of}
+use Rattle.mmtel_server_decisions.specs.Arming.{IsAmong, IsDueBy, chosen_at, deadline_in, queue_of}
 use Rattle.mmtel_server.specs.Follows.{Breaks, Follows}
-use Rattle.mmtel_server.specs.declared.armed.Armed.{Armed}
-use Rattle.mmtel_server.specs.declared.servers.deadlines.Deadline as deadlines
+use Rattle.mmtel_server_decisions.specs.declared.armed.Armed.{Armed}
+use Rattle.mmtel_server_decisions.specs.declared.deadlines.Deadline as deadlines
 
 pub returns-in-OfMessage-clause-done : goal.returns-in-OfMessage-clause-done
 returns-in-OfMessage-clause-done c = on_ok_weaker c.fire_message.result (λ follows first is by.

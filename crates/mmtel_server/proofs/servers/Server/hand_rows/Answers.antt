@@ -1,14 +1,6 @@
-use Rattle.std.proofs.Common.{◌≡◌, ◌<◌, List, arith, length, subst}
-use Rattle.mmtel_charging.specs.declared.rows.Row.{Row}
-use Rattle.mmtel_server.proofs.Handing.{all_taken, none_handed}
+use Rattle.std.proofs.lemmas.Result.{IfOk-weaker}
+use Rattle.mmtel_server.proofs.Handing.{rows_handed}
 use Rattle.mmtel_server.proofs.servers.Server.hand_rows.Goals as goal
 
-pub returns-then-count-eq0-clause-done : goal.returns-then-count-eq0-clause-done
-returns-then-count-eq0-clause-done g c =
-    let rows : c.items-count.result.now ≡ c.args.self.now.waiting = c.items-count.ensures in
-    none_handed c.args.self.now (subst (λ (l : List Row). length l ≡ 0) rows (omega (arith, c.if-count-eq0.true)))
-
-pub returns-in-Ok-clause-done : goal.returns-in-Ok-clause-done
-returns-in-Ok-clause-done g c =
-    let rows : c.items-count.result.now ≡ c.args.self.now.waiting = c.items-count.ensures in
-    all_taken c.args.self.now c.new.result c.new.ensures (subst (λ (l : List Row). 0 < length l) rows (omega (arith, c.if-count-eq0.false)))
+pub returns-clause-done : goal.returns-clause-done
+returns-clause-done g c = IfOk-weaker c.hand_rows.result _ _ (λ took left out. rows_handed c.args.self.now took c.hand_rows.new.waiting left out) c.hand_rows.ensures.left

@@ -1,7 +1,7 @@
 use Rattle.std.proofs.Common.{List, ℕ, false, ap, refl, sym, ◌∙◌, append-nil}
 use Rattle.mmtel_b2bua.specs.Histories.{CallsView}
 use Rattle.mmtel_b2bua.specs.Tables.{no_calls}
-use Rattle.mmtel_server.specs.Arming.{queue_of}
+use Rattle.mmtel_server_decisions.specs.Arming.{queue_of}
 use Rattle.mmtel_server.proofs.servers.Server.new.Goals as goal
 
 pub returns-clause-begins : goal.returns-clause-begins

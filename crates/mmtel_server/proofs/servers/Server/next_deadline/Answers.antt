@@ -3,8 +3,8 @@ use Rattle.mmtel_run.specs.Deadlines.{first_armed, first_of}
 use Rattle.mmtel_transaction.specs.Answers.{next_due}
 use Rattle.mmtel_transaction.specs.Calls.{live}
 use Rattle.mmtel_server.proofs.servers.Server.next_deadline.Goals as goal
-use Rattle.mmtel_server.specs.Arming.{IsAmong, chosen_at, deadline_by, queue_of}
-use Rattle.mmtel_server.specs.declared.armed.Armed.{Armed}
+use Rattle.mmtel_server_decisions.specs.Arming.{IsAmong, chosen_at, deadline_by, queue_of}
+use Rattle.mmtel_server_decisions.specs.declared.armed.Armed.{Armed}
 
 pub returns-clause-first : goal.returns-clause-first
 returns-clause-first c h stands =

@@ -2,9 +2,9 @@ use Rattle.std.proofs.Common.{sym, subst}
 use Rattle.std.specs.Prelude.{OnErr, OnOk}
 use Rattle.mmtel_run.specs.World.{alarmed}
 use Rattle.mmtel_server.proofs.servers.Server.sound.Goals as goal
-use Rattle.mmtel_server.specs.Arming.{alarm_in}
+use Rattle.mmtel_server_decisions.specs.Arming.{alarm_in}
 use Rattle.mmtel_server.specs.Follows.{Breaks, Follows}
-use Rattle.mmtel_server.specs.declared.armed.Alarm.{Alarm}
+use Rattle.mmtel_server_decisions.specs.declared.armed.Alarm.{Alarm}
 
 pub returns-in-OfCall-clause-done : goal.returns-in-OfCall-clause-done
 returns-in-OfCall-clause-done c = subst (λ (x : Alarm). OnOk c.signal.result (Follows c.args.self.now c.args.out.now c.signal.new.self c.signal.new.out (λ d token. alarmed d token c.args.at (alarm_in x)))) (sym c.in-OfCall.is) c.signal.ensures.done

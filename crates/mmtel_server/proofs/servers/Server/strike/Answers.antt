@@ -2,10 +2,10 @@ use Rattle.std.proofs.Common.{◌≡◌, ◌≤◌, ℕ, subst, sym}
 use Rattle.std.proofs.lemmas.Result.{on_err_weaker, on_ok_weaker}
 use Rattle.mmtel_run.specs.Deadlines.{Alarm, Chosen}
 use Rattle.mmtel_run.specs.World.{alarmed, struck}
-use Rattle.mmtel_server.proofs.Arming.{taken_out}
+use Rattle.mmtel_server_decisions.proofs.Arming.{taken_out}
 use Rattle.mmtel_server.proofs.Firing.{breaks_left, on_left}
 use Rattle.mmtel_server.proofs.servers.Server.strike.Goals as goal
-use Rattle.mmtel_server.specs.Arming.{alarm_in}
+use Rattle.mmtel_server_decisions.specs.Arming.{alarm_in}
 use Rattle.mmtel_server.specs.Follows.{Breaks, Follows}
 use Rattle.mmtel_server.specs.declared.servers.Server.{Server}
 

@@ -1,0 +1,2 @@
+mod Barrings
+mod FirstVia

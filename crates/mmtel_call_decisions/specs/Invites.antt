@@ -1,0 +1,46 @@
+-- Which INVITE of the server a response answers, by the branch behind its cookie (RFC 3261 §8.1.1.7, §17.1.3).
+use Rattle.std.specs.Prelude.{ℕ, Bool, false, if◌then◌else◌, Option, Some, None, List, [], ◌∷◌, codes}
+use Rattle.std.specs.Str.{bytes_eq}
+use Rattle.mmtel_scan.specs.Chain.{◌>>=◌}
+use Rattle.mmtel_scan.specs.Scanning.{after_text}
+use Rattle.mmtel_answers.specs.Said.{Said}
+use Rattle.mmtel_lex.specs.Params.{param_value}
+use Rattle.mmtel_message.specs.Fields.{cseq_at, via_at}
+use Rattle.mmtel_message.specs.declared.fields.CSeq.{CSeq}
+use Rattle.mmtel_message.specs.declared.fields.Via.{Via}
+
+-- what stands behind the cookie of a branch (§8.1.1.7)
+abbrev pub behind_cookie : List ℕ → Option (List ℕ)
+behind_cookie branch = after_text (codes "z9hG4bK") branch
+
+abbrev pub first_via : List (List ℕ) → Option Via
+first_via [] = None
+first_via (value ∷ values) = via_at value
+
+abbrev pub via_branch : Via → Option (List ℕ)
+via_branch via = param_value (codes "branch") via.params
+
+abbrev pub is_invite_method : List ℕ → Bool
+is_invite_method method = bytes_eq method (codes "INVITE")
+
+abbrev pub of_invite : Option CSeq → Bool
+of_invite None = false
+of_invite (Some cseq) = is_invite_method cseq.method
+
+abbrev pub behind : Option (List ℕ) → Option (List ℕ)
+behind branch = branch >>= behind_cookie
+
+-- of the first Via, and of a CSeq
+abbrev pub branch_in : List (List ℕ) → Option (List ℕ)
+branch_in vias = behind (first_via vias >>= via_branch)
+
+abbrev pub answers_invite : Option (List ℕ) → Bool
+answers_invite cseq = of_invite (cseq >>= cseq_at)
+
+-- the branch of the INVITE that it answers; none where it answers another request
+unfoldable pub invite_answered : Said → Option (List ℕ)
+invite_answered m = if answers_invite m.heard.cseq then branch_in m.heard.vias else None
+
+-- that of the INVITE that was given up
+abbrev pub invite_silent : (branch method : List ℕ) → Option (List ℕ)
+invite_silent branch method = if is_invite_method method then behind_cookie branch else None

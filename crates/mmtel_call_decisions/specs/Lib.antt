@@ -1,0 +1,11 @@
+-- What public clauses cite: what a decision is given, what is known of a call, and what is decided of it.
+pub mod Diverted
+pub mod Site
+pub mod Decisions
+pub mod Opening
+pub mod Showing
+pub mod Requests
+pub mod Invites
+pub mod Rows
+
+-- What private functions alone cite: nothing.

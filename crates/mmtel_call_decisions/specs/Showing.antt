@@ -1,0 +1,43 @@
+-- Which lines of a side's message the other side is shown (RFC 3325 §5 and §7, RFC 3323 §5.1), and what a 181 tells of diversions (TS 24.604 §4.5.2.6).
+use Rattle.std.specs.Prelude.{◌==◌, Bool, if◌then◌else◌, Option, Some, None, List}
+use Rattle.mmtel_answers.specs.Said.{Said, status_of}
+use Rattle.mmtel_history.specs.HistoryInfo.{told_to_caller}
+use Rattle.mmtel_history.specs.declared.entries.Entry.{Entry}
+use Rattle.mmtel_identity.specs.Restriction.{is_callee_restricted, is_presented}
+use Rattle.mmtel_message.specs.Message.{Line}
+use Rattle.mmtel_precedence.specs.Services.{DueDiversion}
+use Rattle.mmtel_trust.specs.Passed.{history_lines, shown_lines}
+use Rattle.mmtel_trust.specs.declared.showing.Facing.{Facing}
+use Rattle.mmtel_types.specs.declared.numbers.Peer.{Peer}
+use Rattle.mmtel_types.specs.declared.sides.Side.{Side}
+use Rattle.mmtel_types.specs.declared.sides.Side.TheVariants.{Caller, Callee}
+use Rattle.mmtel_call_decisions.specs.Decisions.{its_sheet}
+use Rattle.mmtel_call_decisions.specs.Diverted.{Diverted}
+use Rattle.mmtel_call_decisions.specs.Site.{Site, trusts}
+use Rattle.mmtel_call_decisions.specs.declared.openings.Opening.{Opening}
+use Rattle.mmtel_call_decisions.specs.declared.openings.Service.{Service}
+
+-- untrusted peers see no entry of History-Info as it is (RFC 7044 §10.1)
+abbrev pub masks_all : Opening → Bool
+masks_all o = o.invite.heard.wants.history
+
+-- who sees what of a side's message: the caller is restricted for the whole call, the callee by its own message and the record of its attempt; each side is shown the other by the record of the account that is served there
+abbrev pub facing : Opening → Option Service → Side → Said → Facing
+facing o service Caller m = record { from_trusted = m.heard.trusted; restricted = o.restricted; present = is_presented (its_sheet service) Callee; mask_all = masks_all o }
+facing o service Callee m = record { from_trusted = m.heard.trusted; restricted = is_callee_restricted m.heard.wants (its_sheet service); present = is_presented o.sheet Caller; mask_all = masks_all o }
+
+-- the list as a 181 tells it, of the last diversion
+abbrev pub told_list : Diverted → List Entry
+told_list d = told_to_caller d.hides_diverting d.hides_target d.history
+
+-- the call's list as it goes with a message
+abbrev pub list_for : Diverted → Said → List Entry
+list_for d m = if status_of m.heard.start == 181 then told_list d else d.history
+
+-- the lines of a side's message that are passed on to a peer
+unfoldable pub shown_to : Site → Opening → Diverted → Option Service → Side → Peer → Said → List Line
+shown_to site o d service side peer m = shown_lines (facing o service side m) (trusts site peer) (list_for d m) m.heard.start m.heard.lines
+
+-- the lines by which a 181 tells the caller of the last diversion, where the forward says that it is told
+abbrev pub notice_of : Site → Opening → Diverted → DueDiversion → Option (List Line)
+notice_of site o d due = if due.forward.notify_caller then Some (history_lines (masks_all o) (trusts site o.invite.peer) (told_list d)) else None

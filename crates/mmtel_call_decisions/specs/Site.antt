@@ -1,0 +1,33 @@
+-- What each step of a call is given: the server's configuration, and how things stand then.
+use Rattle.std.specs.Prelude.{ℕ, ◌==◌, ◌-◌, ◌^◌, min, Bool, List, count_by}
+use Rattle.mmtel_precedence.specs.Calls.{Standing}
+use Rattle.mmtel_sheet_values.specs.View.{end_in, sheet_in}
+use Rattle.mmtel_trust.specs.Peers.{Peers, is_trusted}
+use Rattle.mmtel_trust.specs.declared.accounts.AccountIdentity.{AccountIdentity}
+use Rattle.mmtel_types.specs.declared.addrs.Addr.{Addr}
+use Rattle.mmtel_types.specs.declared.numbers.Account.{Account}
+use Rattle.mmtel_types.specs.declared.numbers.Peer.{Peer}
+use Rattle.mmtel_call_decisions.specs.declared.settings.Present.{Present}
+
+pub record Site : Type 0 where
+  -- the server's address, its home domain, and the bound on diversions
+  pub sip : Addr
+  pub home : List ℕ
+  pub bound : ℕ
+  -- whom it speaks with, and whom it serves
+  pub peers : Peers
+  pub accounts : List AccountIdentity
+
+abbrev pub trusts : Site → Peer → Bool
+trusts site peer = is_trusted peer site.peers.known
+
+-- how many of the calls are of the account, in 32 bits
+abbrev pub is_account : ℕ → Account → Bool
+is_account number account = account.0 == number
+
+abbrev pub calls_among : List Account → ℕ → ℕ
+calls_among busy number = min (count_by (is_account number) busy) (2 ^ 32 - 1)
+
+-- how things stand
+abbrev pub standing : Present → Standing
+standing present = record { at = present.at; sheets = sheet_in present.sheets.now; ends = end_in present.sheets.now; live = calls_among present.busy.now }

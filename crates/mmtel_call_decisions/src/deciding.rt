@@ -1,0 +1,353 @@
+//! What is decided of a call at a target and after an attempt.
+ghost use Rattle.std.specs.Prelude.{◌≡◌, false, IfOk};
+ghost use Rattle.std.specs.Option.{option_copied, option_map_or};
+ghost use Rattle.mmtel_precedence.specs.Told.{told_account, told_after, told_due, told_end, told_reach, told_turn};
+ghost use Rattle.mmtel_precedence.specs.Calls.{sheet_at};
+ghost use Rattle.mmtel_precedence.specs.Services.{bars_outgoing};
+ghost use Rattle.mmtel_rules.specs.Circumstances.{known};
+ghost use Rattle.mmtel_lex.specs.Reading.{uri_of};
+ghost use Rattle.mmtel_trust.specs.Asserted.{or_no_uri, uri_in};
+ghost use Rattle.mmtel_trust.specs.Mask.{redirects};
+ghost use Rattle.mmtel_call_decisions.specs.Decisions.{account_by, account_for, aim_at, circumstances, decided_after, decided_at, is_barred, its_sheet, of_target, peer_for, reach_at, redirect_of, served_at, service_at, target_of, told_at};
+ghost use Rattle.mmtel_call_decisions.specs.Site.{calls_among, standing};
+
+use crate::openings::{Opening, Service};
+use crate::settings::{Present, Setting};
+use crate::showing::its_sheet;
+use crate::uris::uri_copied;
+use mmtel_answers::{Aim, Hearing, diverted_aim, first_aim};
+use mmtel_barring::outgoing;
+use mmtel_lex::{LexFault, Uri, UriFault, read_name_addr, read_uri};
+use mmtel_message::Start;
+use mmtel_parties::next_hop;
+use mmtel_precedence::{
+    AfterEnding, AttemptEnd, Onward, Reached, ServedAccount, Turn, party_of, turn_at, turn_on,
+};
+use mmtel_rules::laws::barred_where_no_rule_allows;
+use mmtel_rules::{Facts, Identities2};
+use mmtel_scan::NoMemory;
+use mmtel_sheet_values::{SharedSheet, Sheet};
+use mmtel_targets::{RegistrationState, Target, diverted_target, is_registered};
+use mmtel_types::{Account, Moment, Peer};
+use std::alloc::Global;
+
+/// How many of the calls are of the account.
+fn calls_among(busy: &[Account], account: Account) -> u32
+    ensures { result ≡ calls_among busy.now account.0 }
+{
+    let mut count = 0u32;
+    for one in busy {
+        if one.0 == account.0 {
+            count = count.saturating_add(1);
+        }
+    }
+    count
+}
+
+impl Opening {
+    /// What is known of the call, with these identities of the other party.
+    pub fn facts<'a>(&'a self, party: &'a Identities2, at: Moment) -> Facts<'a>
+        ensures { known result ≡ circumstances party.now self.now at }
+    {
+        Facts {
+            caller: party,
+            restricted: self.restricted,
+            media: &self.media,
+            now: at,
+        }
+    }
+
+    /// The account that is served at a target; the cause is that of the diversion that led there.
+    fn served_at(
+        &self,
+        setting: &Setting<'_>,
+        cause: Option<u16>,
+        target: &Target,
+    ) -> Option<Account>
+        ensures { result ≡ served_at setting.now self.now cause target.now }
+    {
+        match cause {
+            None => self.served.target,
+            Some(_) => self
+                .served
+                .diverted_served(setting.accounts.find(&target.uri)),
+        }
+    }
+
+    /// What was said of the registration of a target.
+    fn told_at(&self, cause: Option<u16>) -> Option<RegistrationState>
+        ensures { result ≡ told_at self.now cause }
+    {
+        match cause {
+            None => self.registration,
+            Some(_) => None,
+        }
+    }
+
+    /// Whose a target is.
+    fn account_for(
+        &self,
+        setting: &Setting<'_>,
+        cause: Option<u16>,
+        target: &Target,
+    ) -> Option<Account>
+        ensures { result ≡ account_for setting.now self.now cause target.now }
+    {
+        match self.served_at(setting, cause, target) {
+            Some(account) => Some(account),
+            None => setting.accounts.find(&target.uri),
+        }
+    }
+
+    /// The peer to which an attempt at a target goes.
+    fn peer_for(
+        &self,
+        alloc: Global,
+        setting: &Setting<'_>,
+        target: &Target,
+    ) -> Result<Option<Peer>, NoMemory>
+        ensures { IfOk result (λ peer. peer ≡ peer_for setting.now self.now target.now) }
+    {
+        next_hop(alloc, setting.peers, self.routes.items(), &target.uri)
+    }
+
+    /// The account that is served at a target, with its record as it stands.
+    fn service_at(
+        &self,
+        alloc: Global,
+        setting: &Setting<'_>,
+        present: &Present<'_>,
+        cause: Option<u16>,
+        target: &Target,
+    ) -> Result<Option<Service>, NoMemory>
+        ensures { IfOk result (λ service. service ≡ service_at setting.now (standing present.now) self.now cause target.now) }
+    {
+        match self.served_at(setting, cause, target) {
+            None => Ok(None),
+            Some(account) => {
+                let sheet = sheet_at(alloc, present, account)?;
+                Ok(Some(Service { account, sheet }))
+            }
+        }
+    }
+
+    /// How the account that is served at a target stands.
+    fn account_by<'a>(
+        &self,
+        present: &Present<'_>,
+        cause: Option<u16>,
+        service: &'a Service,
+    ) -> ServedAccount<'a>
+        ensures { told_account result ≡ account_by (standing present.now) (told_at self.now cause) service.entry.now }
+    {
+        let known = present.sheets.registered(service.account, present.at);
+        ServedAccount {
+            sheet: service.sheet.sheet(),
+            registered: is_registered(self.told_at(cause), known),
+            live: calls_among(present.busy, service.account),
+        }
+    }
+
+    /// How a target stands, where this account is served there and this peer leads to it.
+    fn reach_at<'a>(
+        &self,
+        setting: &Setting<'_>,
+        present: &Present<'_>,
+        cause: Option<u16>,
+        target: &Target,
+        service: Option<&'a Service>,
+        peer: Option<Peer>,
+    ) -> Reached<'a>
+        ensures { told_reach present.now.at result ≡ reach_at setting.now (standing present.now) self.now cause target.now (option_copied service.entry) peer }
+    {
+        let served = match service {
+            None => None,
+            Some(service) => Some(self.account_by(present, cause, service)),
+        };
+        let account = self.account_for(setting, cause, target);
+        Reached {
+            served,
+            is_unknown: target.is_unknown(setting.home, account),
+            has_no_peer: peer.is_none(),
+        }
+    }
+
+    /// What is done with the call at a target.
+    pub fn decide_at<'a>(
+        &self,
+        setting: &Setting<'_>,
+        present: &Present<'_>,
+        cause: Option<u16>,
+        target: &Target,
+        service: Option<&'a Service>,
+        peer: Option<Peer>,
+    ) -> Turn<'a>
+        ensures exact { told_turn result ≡ decided_at setting.now (standing present.now) self.now cause target.now (option_copied service.entry) peer }
+    {
+        let reached = self.reach_at(setting, present, cause, target, service, peer);
+        turn_at(&self.facts(&self.identities, present.at), &reached)
+    }
+
+    /// What is done with the call after an attempt that ended so: by the record under which it was offered, which the attempt keeps, and not by the one in force at its end (TS 24.604 §4.5.2.6).
+    pub fn decide_after<'a>(
+        &self,
+        present: &Present<'a>,
+        service: Option<&'a Service>,
+        how: &AttemptEnd<'a>,
+    ) -> AfterEnding<'a>
+        ensures exact { told_after result ≡ decided_after self.now present.now.at (option_copied service.entry) (told_end how.entry.now) }
+    {
+        turn_on(
+            &self.facts(&self.identities, present.at),
+            its_sheet(service),
+            how,
+        )
+    }
+
+    /// Whether the outgoing barring of the account that diverts refuses the new target.
+    fn bars_target(&self, at: Moment, party: &Identities2, sheet: &Sheet) -> bool
+        ensures { result ≡ bars_outgoing (circumstances party.now self.now at) sheet.now }
+    {
+        barred_where_no_rule_allows();
+        outgoing(sheet, &self.facts(party, at)).is_some()
+    }
+
+    /// The same, where an account is served.
+    fn is_barred(&self, at: Moment, service: Option<&Service>, target: Target) -> bool
+        ensures { result ≡ option_map_or (bars_outgoing (of_target self.now at target.uri)) (its_sheet (option_copied service.entry)) false }
+    {
+        let Target { uri, of_number: _ } = target;
+        let party = party_of(uri);
+        match service {
+            None => false,
+            Some(service) => self.bars_target(at, &party, service.sheet.sheet()),
+        }
+    }
+
+    /// The account that is served at a target, with its record as it stands, and the peer that leads there. The cause is that of the diversion to it; the first target has none.
+    ///
+    /// # Errors
+    ///
+    /// Want of memory alone.
+    pub fn weigh_target(
+        &self,
+        alloc: Global,
+        setting: &Setting<'_>,
+        present: &Present<'_>,
+        cause: Option<u16>,
+        target: &Target,
+    ) -> Result<(Option<Service>, Option<Peer>), NoMemory>
+        ensures service { IfOk result (λ r. r.0 ≡ service_at setting.now (standing present.now) self.now cause target.now) }
+        ensures peer { IfOk result (λ r. r.1 ≡ peer_for setting.now self.now target.now) }
+    {
+        let service = self.service_at(alloc, setting, present, cause, target)?;
+        let peer = self.peer_for(alloc, setting, target)?;
+        Ok((service, peer))
+    }
+
+    /// The target of a diversion that is due, and whether outgoing barring refuses it.
+    ///
+    /// # Errors
+    ///
+    /// Want of memory alone.
+    pub fn weigh_diversion(
+        &self,
+        alloc: Global,
+        setting: &Setting<'_>,
+        at: Moment,
+        service: Option<&Service>,
+        due: &Onward<'_>,
+    ) -> Result<(Target, bool), NoMemory>
+        ensures target { IfOk result (λ r. r.0 ≡ target_of setting.now (told_due due.entry.now)) }
+        ensures barred { IfOk result (λ r. r.1 ≡ is_barred setting.now self.now at (option_copied service.entry) (told_due due.entry.now)) }
+    {
+        let asked = diverted_target(alloc, setting.home, uri_copied(alloc, due.target)?)?;
+        let barred = self.is_barred(at, service, asked);
+        let target = diverted_target(alloc, setting.home, uri_copied(alloc, due.target)?)?;
+        Ok((target, barred))
+    }
+
+    /// To whom an attempt goes: to the first target as it was asked for, or to that of a diversion by this cause.
+    ///
+    /// # Errors
+    ///
+    /// Want of memory alone.
+    pub fn aim_at(
+        &self,
+        alloc: Global,
+        peer: Peer,
+        cause: Option<u16>,
+        target: &Target,
+    ) -> Result<Aim, NoMemory>
+        ensures aim { IfOk result (λ aim. aim ≡ aim_at self.now peer cause target.now) }
+    {
+        match cause {
+            None => first_aim(alloc, peer, self.routes.items(), &self.invite),
+            Some(cause) => diverted_aim(alloc, peer, self.routes.items(), &target.uri, cause),
+        }
+    }
+}
+
+/// The record of an account, to be kept; the empty one where it never said anything.
+pub fn sheet_at(
+    alloc: Global,
+    present: &Present<'_>,
+    account: Account,
+) -> Result<SharedSheet, NoMemory>
+    ensures { IfOk result (λ sheet. sheet ≡ sheet_at (standing present.now) account) }
+{
+    match present.sheets.shared(account)? {
+        Some(sheet) => Ok(sheet),
+        None => SharedSheet::of(alloc, Sheet::empty()),
+    }
+}
+
+/// The URI that the bytes spell, where it is a sip or tel URI.
+fn uri_of(alloc: Global, bytes: &[u8]) -> Result<Option<Uri>, NoMemory>
+    ensures { IfOk result (λ u. u ≡ or_no_uri (uri_of bytes.now)) }
+{
+    match read_uri(alloc, bytes) {
+        Ok(uri) => Ok(Some(uri)),
+        Err(UriFault::Malformed { at: _ }) => Ok(None),
+        Err(UriFault::Scheme) => Ok(None),
+        Err(UriFault::NoMemory) => Err(NoMemory),
+    }
+}
+
+/// The URI of a name-addr value, where it is a sip or tel URI.
+fn uri_in(alloc: Global, value: &[u8]) -> Result<Option<Uri>, NoMemory>
+    ensures { IfOk result (λ u. u ≡ uri_in value.now) }
+{
+    match read_name_addr(alloc, value) {
+        Ok(name) => uri_of(alloc, name.uri.bytes()),
+        Err(LexFault::Malformed { at: _ }) => Ok(None),
+        Err(LexFault::NoMemory) => Err(NoMemory),
+    }
+}
+
+/// Whether the response redirects (RFC 3261 §21.3).
+fn redirects(start: &Start) -> bool
+    ensures { result ≡ redirects start.now }
+{
+    match start {
+        Start::Request { method: _, uri: _ } => false,
+        Start::Status { code, phrase: _ } => 300 <= *code && *code <= 399,
+    }
+}
+
+/// To where a response redirects (RFC 3261 §21.3), where that is a sip or tel URI.
+///
+/// # Errors
+///
+/// Want of memory alone.
+pub fn redirect_of(alloc: Global, response: &Hearing) -> Result<Option<Uri>, NoMemory>
+    ensures uri { IfOk result (λ uri. uri ≡ redirect_of response.now) }
+{
+    if !redirects(response.message.start()) {
+        return Ok(None);
+    }
+    match response.message.first(b"Contact") {
+        None => Ok(None),
+        Some(value) => uri_in(alloc, value),
+    }
+}

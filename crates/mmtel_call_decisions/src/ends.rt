@@ -1,0 +1,100 @@
+//! How an attempt ends: its times, and the final that is handed on.
+ghost use Rattle.std.specs.Prelude.{◌≡◌, ◌≤◌, IfSome};
+ghost use Rattle.std.specs.Option.{option_copied};
+ghost use Rattle.mmtel_precedence.specs.Attempts.{end_by_final, end_by_time};
+ghost use Rattle.mmtel_precedence.specs.Told.{told_end};
+ghost use Rattle.mmtel_sheet_values.specs.NoReply.{no_reply_time};
+ghost use Rattle.mmtel_call_decisions.specs.Decisions.{handed_on, is_status, its_sheet, time_of};
+
+use crate::openings::Service;
+use crate::showing::its_sheet;
+use mmtel_lex::Uri;
+use mmtel_precedence::{AttemptEnd, AttemptEvent, end_by};
+use mmtel_sheet_values::Sheet;
+use mmtel_types::Cause;
+
+/// The no-reply time of a record.
+fn time_in(sheet: &Sheet) -> Option<u64>
+    ensures exact { result ≡ no_reply_time sheet.now }
+    ensures bound { IfSome result (λ time. time ≤ 65535000) }
+{
+    match &sheet.diversion {
+        None => None,
+        Some(part) => {
+            let seconds = part.no_reply;
+            match sheet.no_reply_time() {
+                None => None,
+                Some(_) => Some(u64::from(seconds) * 1000),
+            }
+        }
+    }
+}
+
+/// The no-reply time of the record of the account that is served, in milliseconds (TS 24.604 §4.5.2.6); None where there is none.
+pub fn time_of(service: Option<&Service>) -> Option<u64>
+    ensures exact { result ≡ time_of (its_sheet (option_copied service.entry)) }
+    ensures bound { IfSome result (λ time. time ≤ 65535000) }
+{
+    match its_sheet(service) {
+        None => None,
+        Some(sheet) => time_in(sheet),
+    }
+}
+
+/// How a final from 200 ends an attempt, with the target to which it redirects, where it does.
+pub fn end_of<'a>(code: u16, target: Option<&'a Uri>, rang: bool) -> AttemptEnd<'a>
+    requires { 200 ≤ code }
+    ensures exact { told_end result ≡ end_by_final code (option_copied target.entry) rang }
+{
+    match end_by(AttemptEvent::Response { code, target }, rang) {
+        Some(end) => end,
+        None => unreachable!(),
+    }
+}
+
+/// How the longest time ends an attempt.
+pub fn end_of_time(rang: bool) -> AttemptEnd<'static>
+    ensures exact { told_end result ≡ end_by_time rang }
+{
+    match end_by(AttemptEvent::LongestTime, rang) {
+        Some(end) => end,
+        None => unreachable!(),
+    }
+}
+
+/// The status of a target's final that a cause hands on.
+fn handed_on(cause: Cause) -> Option<u16>
+    ensures { result ≡ handed_on cause }
+{
+    match cause {
+        Cause::Relayed(code) => Some(code),
+        Cause::Unreachable(code) => Some(code),
+        Cause::OutgoingBarred => None,
+        Cause::IncomingBarred => None,
+        Cause::AnonymousRejected => None,
+        Cause::NotRegistered => None,
+        Cause::NetworkBusy => None,
+        Cause::NoReply => None,
+        Cause::TooManyDiversions { busy: _ } => None,
+        Cause::Cancelled => None,
+        Cause::NoAccount => None,
+        Cause::NoRoute => None,
+        Cause::BadScheme => None,
+        Cause::Hops => None,
+        Cause::Extension => None,
+        Cause::Critical => None,
+        Cause::Merged => None,
+        Cause::Full => None,
+        Cause::Ended => None,
+    }
+}
+
+/// Whether a target's final of this status is handed on to the caller, where the call is refused by this cause.
+pub fn is_handed_on(cause: Cause, code: u16) -> bool
+    ensures exact { result ≡ is_status code (handed_on cause) }
+{
+    match handed_on(cause) {
+        None => false,
+        Some(other) => other == code,
+    }
+}

@@ -1,0 +1,22 @@
+//! What is decided of a call: who is served where, what of its messages is shown to whom, what comes after an attempt, whose ACK it is, which rows it gives (TS 24.173, RFC 3261 §13.2.2.4, TS 32.260 §5).
+#![tactic(auto)]
+
+mod deciding;
+mod diversions;
+mod ends;
+mod invites;
+mod openings;
+mod requests;
+mod rows;
+mod settings;
+mod showing;
+mod uris;
+
+pub use deciding::redirect_of;
+pub use diversions::Diversions;
+pub use ends::{end_of, end_of_time, is_handed_on, time_of};
+pub use invites::{invite_answered, invite_silent};
+pub use openings::{Arrival, Opening, Service, opening_of};
+pub use requests::{is_ack_of, is_other_dialog, is_same_side, number_of, unlisted_status};
+pub use rows::{Ending, cause_by, file_rows};
+pub use settings::{Present, Setting};

@@ -1,0 +1,144 @@
+//! The rows that the meters of a call give once it is over.
+ghost use Rattle.std.specs.Prelude.{◌≡◌, ◌++◌, OnOk, map, option_to_list};
+ghost use Rattle.mmtel_call_decisions.specs.Rows.{cause_by, last_row, past_answer, past_row, rows_by, with_answer};
+
+use mmtel_charging::{Kind, Meter, Row};
+use mmtel_desk::file;
+use mmtel_scan::{List, NoMemory};
+use mmtel_types::{Cause, Moment};
+use std::alloc::Global;
+
+/// What the rows of a call that is over have in common.
+#[derive(Clone, Copy)]
+pub struct Ending {
+    /// When the call was answered.
+    pub answered: Option<Moment>,
+    /// When it ended.
+    pub at: Moment,
+    /// How often it was held.
+    pub holds: u32,
+    /// Why it ended.
+    pub cause: Cause,
+}
+
+/// A meter with the moment of the answer, where there is one.
+fn with_answer(meter: Meter, answered: Option<Moment>) -> Meter
+    ensures { result ≡ with_answer answered meter }
+{
+    let mut meter = meter;
+    match answered {
+        None => {}
+        Some(at) => meter.answered(at),
+    }
+    meter
+}
+
+/// When the part of a past meter was answered.
+fn past_answer(kind: Kind, answered: Option<Moment>) -> Option<Moment>
+    ensures { result ≡ past_answer kind answered }
+{
+    match kind {
+        Kind::Terminating => None,
+        Kind::Origin => answered,
+        Kind::Diversion => answered,
+        Kind::Participant => answered,
+    }
+}
+
+/// Why a call ended: one that was answered has ended, whatever ended it.
+pub fn cause_by(answered: Option<Moment>, cause: Cause) -> Cause
+    ensures exact { result ≡ cause_by answered cause }
+{
+    match answered {
+        None => cause,
+        Some(_) => Cause::Ended,
+    }
+}
+
+#[tactic(auto, unfolding(crate::specs::Rows::past_row))]
+fn past_row(meter: Meter, end: &Ending) -> Row
+    ensures { result ≡ past_row end.now meter }
+{
+    let kind = meter.kind();
+    with_answer(meter, past_answer(kind, end.answered)).close(end.at, end.holds, end.cause)
+}
+
+#[tactic(auto, unfolding(crate::specs::Rows::last_row))]
+fn last_row(meter: Meter, end: &Ending) -> Row
+    ensures { result ≡ last_row end.now meter }
+{
+    with_answer(meter, end.answered).close(end.at, end.holds, end.cause)
+}
+
+/// Files the row of the caller's meter, if there is one.
+fn file_first(
+    alloc: Global,
+    rows: &mut List<Row>,
+    first: Option<Meter>,
+    end: &Ending,
+) -> Result<(), NoMemory>
+    ensures { OnOk result (rows.new ≡ rows.old ++ map (past_row end.now) (option_to_list first)) }
+{
+    match first {
+        None => Ok(()),
+        Some(meter) => file(alloc, rows, past_row(meter, end)),
+    }
+}
+
+/// Files the row of the meter of the target that is left last, if there is one.
+fn file_last(
+    alloc: Global,
+    rows: &mut List<Row>,
+    last: Option<Meter>,
+    end: &Ending,
+) -> Result<(), NoMemory>
+    ensures { OnOk result (rows.new ≡ rows.old ++ map (last_row end.now) (option_to_list last)) }
+{
+    match last {
+        None => Ok(()),
+        Some(meter) => file(alloc, rows, last_row(meter, end)),
+    }
+}
+
+/// Files the rows of these meters, in order. Each meter is spent, also where memory runs out.
+fn file_past(
+    alloc: Global,
+    rows: &mut List<Row>,
+    past: List<Meter>,
+    end: &Ending,
+) -> Result<(), NoMemory>
+    ensures { OnOk result (rows.new ≡ rows.old ++ map (past_row end.now) past) }
+{
+    let mut past = past;
+    let mut kept = Ok(());
+    'past: while let Some(meter) = past.pop_first() {
+        if let Err(error) = file(alloc, rows, past_row(meter, end)) {
+            kept = Err(error);
+        }
+    }
+    past.destroy_empty();
+    kept
+}
+
+/// Files the rows of a call that is over: the caller's, those of what is past, and that of the target which is left last. Each meter is spent, also where memory runs out.
+///
+/// # Errors
+///
+/// Want of memory alone; of the rows nothing is said then.
+pub fn file_rows(
+    alloc: Global,
+    rows: &mut List<Row>,
+    past: List<Meter>,
+    first: Option<Meter>,
+    last: Option<Meter>,
+    end: &Ending,
+) -> Result<(), NoMemory>
+    ensures filed { OnOk result (rows.new ≡ rows.old ++ rows_by end.now past first last) }
+{
+    let filed_first = file_first(alloc, rows, first, end);
+    let filed_past = file_past(alloc, rows, past, end);
+    let filed_last = file_last(alloc, rows, last, end);
+    filed_first?;
+    filed_past?;
+    filed_last
+}

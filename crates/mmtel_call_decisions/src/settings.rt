@@ -1,0 +1,43 @@
+//! What each step of a call is given.
+
+use mmtel_sheet_values::SheetView;
+use mmtel_trust::{Accounts, PeerTable};
+use mmtel_types::{Account, Addr, Moment};
+use std::marker::Model;
+
+/// The server's configuration, as calls need it.
+#[derive(Drop)]
+pub struct Setting<'a> {
+    /// The server's address.
+    pub sip: Addr,
+    /// The home domain.
+    pub home: &'a [u8],
+    /// The bound on diversions, at most 16.
+    pub bound: u16,
+    /// The peers and the routes to them.
+    pub peers: &'a PeerTable,
+    /// The accounts by their identities.
+    pub accounts: &'a Accounts,
+}
+
+impl<'a> Model for Setting<'a> {
+    ghost use Rattle.std.specs.Prelude.{◌≤◌};
+    ghost use Rattle.mmtel_call_decisions.specs.Site.{Site};
+
+    ghost Value = { Site };
+
+    ghost view = { λ s. record { sip = s.sip; home = s.home.now; bound = s.bound; peers = s.peers.now; accounts = s.accounts.now } };
+
+    ghost invariant = { λ s. s.bound ≤ 16 };
+}
+
+/// How things stand at a step.
+#[derive(Clone, Copy)]
+pub struct Present<'a> {
+    /// The moment.
+    pub at: Moment,
+    /// The records in force, and the registrations.
+    pub sheets: &'a SheetView,
+    /// The accounts in calls that are not over: once for each call that an account makes, this one too, and once for each that is offered to it, this one never.
+    pub busy: &'a [Account],
+}

@@ -1,0 +1,145 @@
+//! What is shown of a call's messages to whom.
+ghost use Rattle.std.specs.Prelude.{◌≡◌, IfOk};
+ghost use Rattle.std.specs.Option.{option_copied};
+ghost use Rattle.mmtel_precedence.specs.Told.{told_due};
+ghost use Rattle.mmtel_trust.specs.Passed.{shown_lines};
+ghost use Rattle.mmtel_call_decisions.specs.Decisions.{its_sheet};
+ghost use Rattle.mmtel_call_decisions.specs.Showing.{facing, masks_all, notice_of, shown_to};
+ghost use Rattle.mmtel_call_decisions.specs.Site.{trusts};
+
+use crate::diversions::Diversions;
+use crate::openings::{Opening, Service};
+use crate::settings::Setting;
+use mmtel_answers::{Hearing, status_of};
+use mmtel_history::History;
+use mmtel_identity::{callee_restricted, present_to};
+use mmtel_message::{Line, Msg};
+use mmtel_precedence::Onward;
+use mmtel_scan::{List, NoMemory};
+use mmtel_sheet_values::Sheet;
+use mmtel_trust::{Facing, history_lines, shown, wants};
+use mmtel_types::{Peer, Side};
+use std::alloc::Global;
+
+/// The record of the account that is served, where one is.
+pub fn its_sheet(service: Option<&Service>) -> Option<&Sheet>
+    ensures { option_copied result ≡ its_sheet (option_copied service.entry) }
+{
+    match service {
+        None => None,
+        Some(service) => Some(service.sheet.sheet()),
+    }
+}
+
+impl Opening {
+    /// Whether untrusted peers see no entry of History-Info as it is.
+    fn masks_all(&self) -> bool
+        ensures { result ≡ masks_all self.now }
+    {
+        wants(&self.invite.message).history
+    }
+
+    /// The record of the account that is served as the caller, where one is.
+    pub fn origin_sheet(&self) -> Option<&Sheet>
+        ensures { option_copied result ≡ self.now.sheet }
+    {
+        match &self.sheet {
+            None => None,
+            Some(sheet) => Some(sheet.sheet()),
+        }
+    }
+
+    /// Who sees what of a side's message.
+    fn facing(&self, service: Option<&Service>, side: Side, message: &Hearing) -> Facing
+        ensures { result ≡ facing self.now (option_copied service.entry) side message.now }
+    {
+        let from_trusted = message.trusted;
+        let mask_all = self.masks_all();
+        match side {
+            Side::Caller => Facing {
+                from_trusted,
+                restricted: self.restricted,
+                present: present_to(its_sheet(service), Side::Callee),
+                mask_all,
+            },
+            Side::Callee => Facing {
+                from_trusted,
+                restricted: callee_restricted(&wants(&message.message), its_sheet(service)),
+                present: present_to(self.origin_sheet(), Side::Caller),
+                mask_all,
+            },
+        }
+    }
+}
+
+/// The lines of a message that are passed on, with this list of History-Info.
+fn shown_with(
+    alloc: Global,
+    setting: &Setting<'_>,
+    message: &Msg,
+    history: &History,
+    facing: &Facing,
+    peer: Peer,
+) -> Result<List<Line>, NoMemory>
+    ensures { IfOk result (λ ls. ls ≡ shown_lines facing.now (trusts setting.now peer) history.now message.now.start message.now.lines) }
+{
+    shown(alloc, message, history, facing, setting.peers.trusted(peer))
+}
+
+impl Opening {
+    /// The lines of a side's message that are passed on to a peer (RFC 3325 §5 and §7, RFC 3323 §5.1), where the call was diverted so and this account is served at its target.
+    ///
+    /// # Errors
+    ///
+    /// Want of memory alone.
+    #[tactic(auto, unfolding(crate::specs::Showing::shown_to))]
+    pub fn shown_to(
+        &self,
+        alloc: Global,
+        setting: &Setting<'_>,
+        diversions: &Diversions,
+        service: Option<&Service>,
+        side: Side,
+        peer: Peer,
+        message: &Hearing,
+    ) -> Result<List<Line>, NoMemory>
+        ensures lines { IfOk result (λ ls. ls ≡ shown_to setting.now self.now diversions.now (option_copied service.entry) side peer message.now) }
+    {
+        let facing = self.facing(service, side, message);
+        if status_of(message.message.start()) == 181 {
+            let told = diversions.told(alloc)?;
+            return shown_with(alloc, setting, &message.message, &told, &facing, peer);
+        }
+        shown_with(
+            alloc,
+            setting,
+            &message.message,
+            diversions.history(),
+            &facing,
+            peer,
+        )
+    }
+
+    /// The lines by which a 181 tells the caller of a diversion that was made, the last one, where the forward says that it is told (TS 24.604 §4.5.2.6); None where it is not.
+    ///
+    /// # Errors
+    ///
+    /// Want of memory alone.
+    pub fn notice_of(
+        &self,
+        alloc: Global,
+        setting: &Setting<'_>,
+        diversions: &Diversions,
+        due: &Onward<'_>,
+    ) -> Result<Option<List<Line>>, NoMemory>
+        ensures lines { IfOk result (λ ls. ls ≡ notice_of setting.now self.now diversions.now (told_due due.entry.now)) }
+    {
+        if !due.notify_caller {
+            return Ok(None);
+        }
+        let told = diversions.told(alloc)?;
+        let to_trusted = setting.peers.trusted(self.invite.peer);
+        let lines = history_lines(alloc, &told, self.masks_all(), to_trusted)?;
+        Ok(Some(lines))
+    }
+}

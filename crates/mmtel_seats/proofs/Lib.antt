@@ -1,0 +1,2 @@
+mod Bids
+mod Dropped

@@ -1,0 +1,183 @@
+//! The server's INVITE to a seat: what is noted of it, and its deadlines.
+ghost use Rattle.std.specs.Prelude.{◌≡◌, OnOk, Some};
+ghost use Rattle.mmtel_seats.specs.Invites.{agreed_by, cancelled_in, failure_acked, is_awaited, is_waiting, noted, once_cancelled_in, seated, stood, waits};
+
+use crate::meters::{meter_of, metered};
+use crate::seats::{Invite, Party, Seat};
+use mmtel_answers::Hearing;
+use mmtel_desk::{Desk, Invitation};
+use mmtel_leg::Remote;
+use mmtel_scan::{NoMemory, Text};
+use mmtel_transaction::TKey;
+use mmtel_types::{Account, Addr, Moment, RoomNo};
+use std::alloc::Global;
+
+/// An INVITE that had a 2xx with this tag, and this ACK.
+fn agreed_by(tag: Text, ack: Text, invite: Option<Invite>) -> Option<Invite>
+    ensures { result ≡ agreed_by tag ack invite }
+{
+    match invite {
+        None => None,
+        Some(Invite::Waiting(_, invitation)) => {
+            let Invitation { branch, .. } = invitation;
+            Some(Invite::Agreed(branch, tag, ack))
+        }
+        Some(Invite::Agreed(branch, before, sent)) => Some(Invite::Agreed(branch, before, sent)),
+    }
+}
+
+impl Invite {
+    /// Acknowledges a final from 300, where there was none.
+    fn acknowledge_failure(
+        &self,
+        alloc: Global,
+        sip: Addr,
+        key: TKey,
+        m: &Hearing,
+        desk: &mut Desk,
+    ) -> Result<(), NoMemory>
+        ensures { OnOk result (desk.new ≡ failure_acked sip key m.now (Some self.now) desk.old) }
+    {
+        match self {
+            Invite::Waiting(_, invitation) => desk.acknowledge_final(
+                alloc, sip, key, invitation, m,
+            ),
+            Invite::Agreed(_, _, _) => Ok(()),
+        }
+    }
+}
+
+impl Party {
+    /// Whoever is invited is seated, and has a participant's meter from now on.
+    fn stand(self, room: RoomNo, now: Moment, account: Option<Account>, remote: Remote) -> Party
+        ensures { result ≡ stood room now account remote self }
+    {
+        match self {
+            Party::Invited(leg) => {
+                let meter = meter_of(room, now, account);
+                Party::Brought(metered(leg.stand(remote), meter, now))
+            }
+            Party::Came(leg) => Party::Came(leg),
+            Party::Brought(leg) => Party::Brought(leg),
+        }
+    }
+}
+
+impl Seat {
+    /// Whether the server's INVITE to it has no final.
+    pub fn is_waiting(&self) -> bool
+        ensures waiting { result ≡ is_waiting self.now.invite }
+    {
+        match &self.invite {
+            Some(Invite::Waiting(_, _)) => true,
+            _ => false,
+        }
+    }
+
+    /// Whether that INVITE has this number in its room.
+    pub fn waits(&self, due: u64) -> bool
+        ensures waits { result ≡ waits due self.now.invite }
+    {
+        match &self.invite {
+            Some(Invite::Waiting(number, _)) => *number == due,
+            _ => false,
+        }
+    }
+
+    /// Whether the ACK of the 2xx of this number is due.
+    pub fn is_awaited(&self, due: u64) -> bool
+        ensures awaited { result ≡ is_awaited due self.now.awaited }
+    {
+        match self.awaited {
+            None => false,
+            Some(awaited) => awaited.number == due,
+        }
+    }
+
+    /// Acknowledges a final from 300 of the server's INVITE to it.
+    pub fn acknowledge_failure(
+        &self,
+        alloc: Global,
+        sip: Addr,
+        key: TKey,
+        m: &Hearing,
+        desk: &mut Desk,
+    ) -> Result<(), NoMemory>
+        ensures acked { OnOk result (desk.new ≡ failure_acked sip key m.now self.now.invite desk.old) }
+    {
+        match &self.invite {
+            None => Ok(()),
+            Some(invite) => invite.acknowledge_failure(alloc, sip, key, m, desk),
+        }
+    }
+
+    /// Cancels the server's INVITE to it, where that is due.
+    pub fn cancel(&self, alloc: Global, sip: Addr, desk: &mut Desk) -> Result<(), NoMemory>
+        ensures cancelled { OnOk result (desk.new ≡ cancelled_in sip self.now.invite desk.old) }
+    {
+        match &self.invite {
+            Some(Invite::Waiting(_, invitation)) => desk.cancel(alloc, sip, invitation),
+            _ => Ok(()),
+        }
+    }
+
+    /// Notes a provisional response of that INVITE, by its client transaction.
+    pub fn note(&mut self, key: TKey)
+        ensures noted { self.new ≡ record self.old { invite = noted key self.old.invite } }
+    {
+        match &mut self.invite {
+            None => {}
+            Some(Invite::Waiting(_, invitation)) => {
+                invitation.key = Some(key);
+                invitation.provisional = true;
+            }
+            Some(Invite::Agreed(_, _, _)) => {}
+        }
+    }
+
+    /// Keeps the tag of the 2xx of that INVITE, and the ACK that it had.
+    pub fn agree(&mut self, tag: Text, ack: Text)
+        ensures agreed { self.new ≡ record self.old { invite = agreed_by tag ack self.old.invite } }
+    {
+        let invite = self.invite.take();
+        self.invite = agreed_by(tag, ack, invite);
+    }
+
+    /// Notes that the INVITE was cancelled, where that was due.
+    pub fn note_cancelled(&mut self)
+        ensures cancelled { self.new ≡ record self.old { invite = once_cancelled_in self.old.invite } }
+    {
+        match &mut self.invite {
+            None => {}
+            Some(Invite::Waiting(_, invitation)) => {
+                if invitation.provisional && !invitation.cancelled {
+                    invitation.cancelled = true;
+                }
+            }
+            Some(Invite::Agreed(_, _, _)) => {}
+        }
+    }
+
+    /// The seat once whoever is invited is seated.
+    pub fn stand(self, room: RoomNo, now: Moment, remote: Remote) -> Seat
+        ensures seated { result ≡ seated room now remote self }
+    {
+        let Seat {
+            number,
+            by,
+            account,
+            awaited,
+            invite,
+            party,
+        } = self;
+        let party = party.stand(room, now, account, remote);
+        Seat {
+            number,
+            by,
+            account,
+            awaited,
+            invite,
+            party,
+        }
+    }
+}

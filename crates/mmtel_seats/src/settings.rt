@@ -1,0 +1,27 @@
+//! What each step of a room is given.
+
+use mmtel_sdp::Mixer;
+use mmtel_trust::{Accounts, PeerTable};
+use mmtel_types::Addr;
+use std::marker::Model;
+
+/// The server's configuration, as rooms need it.
+#[derive(Drop)]
+pub struct Setting<'a> {
+    /// The server's address.
+    pub sip: Addr,
+    /// Where the mixer takes media.
+    pub mixer: Mixer,
+    /// The peers and the routes to them.
+    pub peers: &'a PeerTable,
+    /// The accounts by their identities.
+    pub accounts: &'a Accounts,
+}
+
+impl<'a> Model for Setting<'a> {
+    ghost use Rattle.mmtel_seats.specs.Site.{Site};
+
+    ghost Value = { Site };
+
+    ghost view = { λ s. record { sip = s.sip; mixer = s.mixer; peers = s.peers.now; accounts = s.accounts.now } };
+}

@@ -1,0 +1,38 @@
+//! The charging rows that wait at the end of a step (TS 32.260 §5).
+ghost use Rattle.std.specs.Prelude.{◌≡◌, IfOk, OnErr};
+ghost use Rattle.mmtel_server_decisions.specs.Handed.{Handed, HandedCounted, StoppedHanding, left_of};
+
+use mmtel_charging::Row;
+use mmtel_keeper::{KeepFault, Keeper};
+use mmtel_scan::{List, NoMemory};
+use std::alloc::Global;
+
+/// Hands the rows that wait to the keeper, which takes all of them or none. True where none waits from then on. Where none waited the keeper is not called.
+///
+/// # Errors
+///
+/// Want of memory alone; each of them waits still.
+pub fn hand_rows<K: Keeper>(
+    alloc: Global,
+    waiting: &mut List<Row>,
+    keeper: &mut K,
+) -> Result<bool, NoMemory>
+    ensures left { IfOk result (λ took. waiting.new ≡ left_of took waiting.old) }
+    ensures handed { IfOk result (λ took. Handed took waiting.old (K.held keeper.old) (K.held keeper.new) (K.calls keeper.old) (K.calls keeper.new)) }
+    ensures counted { IfOk result (λ took. HandedCounted took (K.faults keeper.old) (K.faults keeper.new)) }
+    ensures met { OnErr result (StoppedHanding (K.held keeper.old) (K.held keeper.new) (K.calls keeper.old) (K.calls keeper.new) (K.faults keeper.old) (K.faults keeper.new)) }
+    ensures kept { OnErr result (waiting.new ≡ waiting.old) }
+{
+    let count = waiting.items().len();
+    if count == 0 {
+        return Ok(true);
+    }
+    match keeper.add_rows(alloc, waiting.items()) {
+        Ok(()) => {
+            *waiting = List::new();
+            Ok(true)
+        }
+        Err(KeepFault::Failed) => Ok(false),
+        Err(KeepFault::NoMemory) => Err(NoMemory),
+    }
+}

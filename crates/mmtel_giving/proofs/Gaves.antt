@@ -1,0 +1,116 @@
+-- What was given, and what more was given, is what is given of both.
+use Rattle.std.proofs.Common.{◌≡◌, Bool, true, false, inl, inr, ◌<◌, ◌+◌, ℕ, List, [], ◌∷◌, ◌++◌, length, take, drop, map, refl, sym, ap, ◌∙◌, subst, Option, Some, None, Result, Ok, Err, append_assoc, append-nil, arith, get_or, add-one, drop-cons}
+use Rattle.std.proofs.lemmas.List.{map-append, take-append-drop}
+use Rattle.std.proofs.lemmas.Option.{none-some}
+use Rattle.std.proofs.Math.Seq.{take-add}
+use Rattle.std.specs.Prelude.{IsErr, IsErrOf}
+use Rattle.mmtel_link.specs.Told.{Given, GivesTold, with_reply}
+use Rattle.mmtel_link.specs.declared.links.SendFault.{SendFault}
+use Rattle.mmtel_link.specs.declared.links.SendFault.TheVariants as fault
+use Rattle.mmtel_outside.specs.Counts.{Rose}
+use Rattle.mmtel_outside.specs.declared.events.Offer.{Offer}
+use Rattle.mmtel_outside.specs.declared.events.Offer.TheVariants as offer
+use Rattle.mmtel_scan.specs.declared.memory.NoMemory.{NoMemory}
+use Rattle.mmtel_trust.specs.Peers.{addr_of}
+use Rattle.mmtel_trust.specs.declared.parties.KnownPeer.{KnownPeer}
+use Rattle.mmtel_types.specs.declared.addrs.Addr.{Addr}
+use Rattle.mmtel_types.specs.declared.numbers.Peer.{Peer}
+use Rattle.mmtel_giving.specs.Giving.{Gave, GaveAll, GaveMore, LostOnlyWhereRose, replies_of, sends_of, sent_at, sent_of, text_of}
+
+-- ---- one offer
+
+pub gave_none : (known : List KnownPeer) (given : Option Given) → Gave known [] given given
+gave_none known None = refl
+gave_none known (Some given) =
+    record { sent = []; sends = sym (append-nil given.offers); sends_same = refl; replied = []; replies = sym (append-nil given.replies); replies_same = refl }
+
+-- to nobody
+pub sent_nowhere : (known : List KnownPeer) (peer : Peer) (at : ℕ) (text : List ℕ) → addr_of peer known ≡ None → (given : Option Given)
+    → Gave known (offer.To peer at text ∷ []) given given
+sent_nowhere known peer at text none None = refl
+sent_nowhere known peer at text none (Some given) = record {
+  sent = [];
+  sends = sym (append-nil given.offers);
+  sends_same = sym (ap (λ (o : Option Addr). sent_at o text []) none);
+  replied = [];
+  replies = sym (append-nil given.replies);
+  replies_same = refl;
+}
+
+-- a reply, lost or not
+replied_one : (known : List KnownPeer) (at : ℕ) (text : List ℕ) (lost : Bool) (given : Given) → GaveMore known (offer.Web at text ∷ []) given (with_reply text lost given)
+replied_one known at text lost given = record {
+  sent = [];
+  sends = sym (append-nil given.offers);
+  sends_same = refl;
+  replied = record { text = text; lost = lost } ∷ [];
+  replies = refl;
+  replies_same = refl;
+}
+
+pub replied : (known : List KnownPeer) (at : ℕ) (text : List ℕ) →
+    (before after : Option Given) (result : Result (Unit {0}) SendFault) → GivesTold before after (with_reply text) result → (IsErrOf result fault.NoMemory → ⊥)
+    → Gave known (offer.Web at text ∷ []) before after
+replied known at text None after result told not = told
+replied known at text (Some given) after (Ok x) told not =
+    subst (λ (o : Option Given). Gave known (offer.Web at text ∷ []) (Some given) o) (sym told) (replied_one known at text false given)
+replied known at text (Some given) after (Err fault.Failed) told not =
+    subst (λ (o : Option Given). Gave known (offer.Web at text ∷ []) (Some given) o) (sym told) (replied_one known at text true given)
+replied known at text (Some given) after (Err fault.NoMemory) told not = absurd (not refl)
+
+-- ---- one behind others
+
+sent_more : (o : Option Addr) (text : List ℕ) (xs ys : List (Addr × List ℕ)) → sent_at o text (xs ++ ys) ≡ sent_at o text xs ++ ys
+sent_more None text xs ys = refl
+sent_more (Some to) text xs ys = refl
+
+sends_more : (known : List KnownPeer) (xs ys : List Offer) → sends_of known (xs ++ ys) ≡ sends_of known xs ++ sends_of known ys
+sends_more known [] ys = refl
+sends_more known (offer.To peer at text ∷ xs) ys =
+    ap (sent_at (addr_of peer known) text) (sends_more known xs ys) ∙ sent_more (addr_of peer known) text (sends_of known xs) (sends_of known ys)
+sends_more known (offer.Web at text ∷ xs) ys = sends_more known xs ys
+
+replies_more : (xs ys : List Offer) → replies_of (xs ++ ys) ≡ replies_of xs ++ replies_of ys
+replies_more [] ys = refl
+replies_more (offer.To peer at text ∷ xs) ys = replies_more xs ys
+replies_more (offer.Web at text ∷ xs) ys = ap (λ (l : List (List ℕ)). text ∷ l) (replies_more xs ys)
+
+gave_both : (known : List KnownPeer) (xs ys : List Offer) (a b c : Given) → GaveMore known xs a b → GaveMore known ys b c → GaveMore known (xs ++ ys) a c
+gave_both known xs ys a b c one other = record {
+  sent = one.sent ++ other.sent;
+  sends = other.sends ∙ (ap (λ l. l ++ other.sent) one.sends ∙ append_assoc a.offers one.sent other.sent);
+  sends_same = map-append sent_of one.sent other.sent ∙ (ap (λ l. l ++ map sent_of other.sent) one.sends_same ∙ (ap (λ l. sends_of known xs ++ l) other.sends_same ∙ sym (sends_more known xs ys)));
+  replied = one.replied ++ other.replied;
+  replies = other.replies ∙ (ap (λ l. l ++ other.replied) one.replies ∙ append_assoc a.replies one.replied other.replied);
+  replies_same = map-append text_of one.replied other.replied ∙ (ap (λ l. l ++ map text_of other.replied) one.replies_same ∙ (ap (λ l. replies_of xs ++ l) other.replies_same ∙ sym (replies_more xs ys)));
+}
+
+pub gave_more : (known : List KnownPeer) (xs ys : List Offer) (a b c : Option Given) → Gave known xs a b → Gave known ys b c → Gave known (xs ++ ys) a c
+gave_more known xs ys None None c one other = other
+gave_more known xs ys None (Some b) c one other = absurd (none-some b (sym one))
+gave_more known xs ys (Some a) None c one other = absurd one
+gave_more known xs ys (Some a) (Some b) None one other = absurd other
+gave_more known xs ys (Some a) (Some b) (Some c) one other = gave_both known xs ys a b c one other
+
+-- one more of a list of offers
+pub take_next : (i : ℕ) (es : List Offer) (e : Offer) → i < length es → e ≡ get_or es i e → take (i + 1) es ≡ take i es ++ e ∷ []
+take_next i es e less is =
+    let here : drop i es ≡ get_or es i e ∷ drop (i + 1) es = rw (add-one, drop-cons es i e) refl in
+    take-add i 1 es ∙ ap (λ (l : List Offer). take i es ++ take 1 l) (here ∙ ap (λ (x : Offer). x ∷ drop (i + 1) es) (sym is))
+
+-- and where memory ran out they are a front of them
+pub gave_front : (known : List KnownPeer) (i : ℕ) (es : List Offer) (a b : Option Given) (result : Result (Unit {0}) NoMemory) → IsErr result → Gave known (take i es) a b
+    → GaveAll known es a b result
+gave_front known i es a b (Ok x) is gave = absurd cc
+gave_front known i es a b (Err e) is gave = (take i es, drop i es, take-append-drop i es, gave)
+
+-- ---- what was lost
+
+pub lost_none : (given : Option Given) (giving : ℕ) → LostOnlyWhereRose given given giving giving
+lost_none given giving = inl (refl, refl)
+
+pub lost_then : (a b c : Option Given) (n m k : ℕ) → LostOnlyWhereRose a b n m → LostOnlyWhereRose b c m k → LostOnlyWhereRose a c n k
+lost_then a b c n m k (inl one) (inl other) = inl (other.0 ∙ one.0, other.1 ∙ one.1)
+lost_then a b c n m k (inl one) (inr rose) = inr (subst (λ (l : ℕ). Rose l k) one.1 rose)
+lost_then a b c n m k (inr rose) (inl other) = inr (subst (λ (l : ℕ). Rose n l) (sym other.1) rose)
+lost_then a b c n m k (inr rose) (inr more) = inr (omega (arith, rose, more))

@@ -1,0 +1,81 @@
+-- What a link is given of what a server offers: each datagram at the address of its peer, and each reply on a web connection, in the order of the offers.
+use Rattle.std.specs.Prelude.{◌≡◌, ◌⊎◌, ℕ, ◌+◌, List, [], ◌∷◌, ◌++◌, if◌then◌else◌, map, filter, length, Option, Some, None, Result, Ok, Err}
+use Rattle.std.specs.Option.{option_map}
+use Rattle.mmtel_link.specs.Told.{Given}
+use Rattle.mmtel_link.specs.declared.events.Replied.{Replied}
+use Rattle.mmtel_link.specs.declared.events.Sent.{Sent}
+use Rattle.mmtel_outside.specs.Counts.{Rose}
+use Rattle.mmtel_outside.specs.declared.events.Offer.{Offer}
+use Rattle.mmtel_outside.specs.declared.events.Offer.TheVariants as offer
+use Rattle.mmtel_scan.specs.declared.memory.NoMemory.{NoMemory}
+use Rattle.mmtel_trust.specs.Peers.{addr_of}
+use Rattle.mmtel_trust.specs.declared.parties.KnownPeer.{KnownPeer}
+use Rattle.mmtel_types.specs.Addrs.{is_same_addr}
+use Rattle.mmtel_types.specs.declared.addrs.Addr.{Addr}
+
+-- ---- datagrams and replies
+
+-- a datagram at that address, before others; what is offered to no peer of the configuration is sent nowhere
+abbrev pub sent_at : Option Addr → List ℕ → List (Addr × List ℕ) → List (Addr × List ℕ)
+sent_at None text sends = sends
+sent_at (Some to) text sends = (to, text) ∷ sends
+
+-- the datagrams of these offers, in order: each at the address of its peer
+abbrev pub sends_of : List KnownPeer → List Offer → List (Addr × List ℕ)
+sends_of known [] = []
+sends_of known (offer.To peer at text ∷ offers) = sent_at (addr_of peer known) text (sends_of known offers)
+sends_of known (offer.Web at text ∷ offers) = sends_of known offers
+
+-- the replies on web connections among them, in order
+abbrev pub replies_of : List Offer → List (List ℕ)
+replies_of [] = []
+replies_of (offer.To peer at text ∷ offers) = replies_of offers
+replies_of (offer.Web at text ∷ offers) = text ∷ replies_of offers
+
+-- the bytes that are sent to one address, in order
+abbrev pub bytes_to : Addr → List (Addr × List ℕ) → List (List ℕ)
+bytes_to addr [] = []
+bytes_to addr (send ∷ sends) = if is_same_addr send.0 addr then send.1 ∷ bytes_to addr sends else bytes_to addr sends
+
+-- ---- what a link was given
+
+-- a datagram or a reply that it was given, lost or not
+abbrev pub sent_of : Sent → Addr × List ℕ
+sent_of sent = (sent.to, sent.text)
+
+abbrev pub text_of : Replied → List ℕ
+text_of replied = replied.text
+
+-- exactly the datagrams and the replies of these offers were given more, in their order
+pub record GaveMore (known : List KnownPeer) (offers : List Offer) (before after : Given) : Type 0 where
+  pub sent : List Sent
+  pub sends : after.offers ≡ before.offers ++ sent
+  pub sends_same : map sent_of sent ≡ sends_of known offers
+  pub replied : List Replied
+  pub replies : after.replies ≡ before.replies ++ replied
+  pub replies_same : map text_of replied ≡ replies_of offers
+
+-- where the link tells what it was given
+abbrev pub Gave : List KnownPeer → List Offer → Option Given → Option Given → Type 0
+Gave known offers None after = after ≡ None
+Gave known offers (Some before) None = ⊥
+Gave known offers (Some before) (Some after) = GaveMore known offers before after
+
+-- all of them; or, for want of memory, a front of them
+abbrev pub GaveAll : List KnownPeer → List Offer → Option Given → Option Given → Result (Unit {0}) NoMemory → Type 0
+GaveAll known offers before after (Ok x) = Gave known offers before after
+GaveAll known offers before after (Err e) = (front : List Offer) × (rest : List Offer) × (front ++ rest ≡ offers) × Gave known front before after
+
+-- ---- what was lost
+
+-- how much of what it was given
+abbrev pub lost_in : Given → ℕ
+lost_in given = length (filter (λ (sent : Sent). sent.lost) given.offers) + length (filter (λ (replied : Replied). replied.lost) given.replies)
+
+-- where the link tells it, no more than before
+abbrev pub LostNoMore : Option Given → Option Given → Type 0
+LostNoMore before after = option_map lost_in after ≡ option_map lost_in before
+
+-- nothing more, and the count of giving out stands; or that count rose
+abbrev pub LostOnlyWhereRose : Option Given → Option Given → (giving gave : ℕ) → Type 0
+LostOnlyWhereRose before after giving gave = (LostNoMore before after × (gave ≡ giving)) ⊎ Rose giving gave

@@ -1,0 +1,4 @@
+mod Adding
+mod Apart
+mod Seeing
+mod Parting

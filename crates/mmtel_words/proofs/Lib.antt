@@ -1,0 +1,12 @@
+pub mod Reader
+pub mod Walked
+pub mod Auto
+pub mod Readable
+pub mod Setups
+pub mod Forms
+pub mod Spelling
+pub mod Once
+pub mod Whole
+pub mod Lines
+pub mod Tellings
+pub mod Texts

@@ -1,9 +1,9 @@
 -- What the files gave, stage by stage.
 use Rattle.std.proofs.Common.{◌≡◌, ℕ, List, refl, sym, subst, Option, Some, None, Result, Ok, Err, IfSome}
 use Rattle.mmtel_directory.specs.Directory.{directory_of}
-use Rattle.mmtel_cli.specs.Due.{due_of_records, due_of_script, shelf_of_config, shelf_of_directory}
+use Rattle.mmtel_cli.specs.Due.{due_of_charges, due_of_records, due_of_script, shelf_of_config, shelf_of_directory}
 use Rattle.mmtel_cli.specs.Found.{HasCalled, IsDue}
-use Rattle.mmtel_cli.specs.Gives.{GivesScript, GivesBoth, GivesRecords}
+use Rattle.mmtel_cli.specs.Gives.{GivesScript, GivesBoth, GivesRecords, GivesCharges}
 use Rattle.mmtel_cli.specs.Keeping.{KeeperSeen}
 use Rattle.mmtel_outside.specs.Shelf.{Shelf, answer_at, called, ReadsTold}
 use Rattle.mmtel_cli.specs.Words.{Asked}
@@ -129,3 +129,16 @@ gives_no_text told after records h = record { text = None; told_text = none-is t
 
 pub gives_unread : (told : Option Shelf) (records : List ℕ) → GivesRecords told records Memory
 gives_unread told records = record { text = told_answer told records; told_text = told_answer-is told records; is_due = λ keeper. λ later. tt }
+
+-- ---- of `charges`
+
+module _ (keeper later : KeeperSeen) where
+  pub gives_charges : (told after : Option Shelf) (name config : List ℕ) (outcome : Report)
+      → ReadsTold told after name (Ok config) → IsDue keeper later outcome (due_of_charges (Some config)) → GivesCharges told keeper later name outcome
+  gives_charges told after name config outcome h d = record { text = Some config; told_text = some-is told after name config h; is_due = d }
+
+  pub gives_no_charges : (told after : Option Shelf) (name : List ℕ) → ReadsTold told after name (Err Failed) → GivesCharges told keeper later name File
+  gives_no_charges told after name h = record { text = None; told_text = none-is told after name h; is_due = refl }
+
+  pub gives_unread_charges : (told : Option Shelf) (name : List ℕ) → GivesCharges told keeper later name Memory
+  gives_unread_charges told name = record { text = told_answer told name; told_text = told_answer-is told name; is_due = tt }

@@ -1,4 +1,4 @@
--- The words of `check` are exactly those that the grammar spells, and so is each command that the program has.
+-- The words of `check` and of `charges` are exactly those that the grammar spells, and so is each command that the program has.
 use Rattle.std.proofs.Common.{◌≡◌, ◌↔◌, true, false, ℕ, List, [], ◌∷◌, ◌++◌, Option, Some, None, refl, sym, subst, ap, IfSome, ◌∙◌, codes, inl, inr}
 use Rattle.std.specs.Prelude.{◌&&◌}
 use Rattle.std.proofs.lemmas.Bool.{cases_Bool}
@@ -7,10 +7,10 @@ use Rattle.std.specs.Str.{bytes_eq}
 use Rattle.mmtel_scan.proofs.ChainLaws.{some_is}
 use Rattle.mmtel_scan.proofs.Runs.{and_true}
 use Rattle.mmtel_cli.proofs.LineRead.{reads_spelled, spelled_read}
-use Rattle.mmtel_cli.proofs.WordLaws.{equal}
-use Rattle.mmtel_cli.specs.CommandLine.{Piece, Word, Apart, Joined, spelling, EachMayStand, word_in, mark_words, behind_mark, Command, Serve, Replay, Check, Charges, Workload, IsCommand, IsCheck, IsHere, SpellsNone}
+use Rattle.mmtel_cli.proofs.WordLaws.{equal, equal_self}
+use Rattle.mmtel_cli.specs.CommandLine.{Piece, Word, Apart, Joined, spelling, EachMayStand, word_in, mark_words, behind_mark, Command, Serve, Replay, Check, Charges, Workload, IsCommand, IsCheck, IsCharges, IsHere, Spells, SpellsNone}
 use Rattle.mmtel_cli.specs.Commands.{command_from, command_of}
-use Rattle.mmtel_cli.specs.Words.{Asked, is_positional, only_word, replay_of, records_of}
+use Rattle.mmtel_cli.specs.Words.{Asked, is_positional, only_of, only_word, replay_of, records_of, config_of}
 
 -- ---- the one word
 
@@ -85,60 +85,86 @@ spelled_word records (word ∷ []) e = spelled_alone records word e
 spelled_word records (first ∷ second ∷ []) e = spelled_marked records first second e
 spelled_word records (first ∷ second ∷ third ∷ words) e = absurd cc
 
--- ---- `check`
+-- ---- a command of one word
 
-pub reads_checked : (records : List ℕ) (words : List (List ℕ)) → IsCheck records words → records_of words ≡ Some records
-reads_checked records words spells =
-    rw spells.whole (reads_pieces records spells.pieces spells.marked spells.may_stand spells.positionals)
+only_again : (name word : List ℕ) (words : List (List ℕ)) → only_word words ≡ Some word → only_of name (name ∷ words) ≡ Some word
+only_again name word words e = rw (equal_self name) e
 
-checked_rest : (records : List ℕ) (words : List (List ℕ)) → only_word words ≡ Some records → IsCheck records (codes "check" ∷ words)
-checked_rest records words e =
-    let rest = spelled_word records words e in
+reads_only : (name word : List ℕ) (words : List (List ℕ)) → Spells name (word ∷ []) [] words → only_of name words ≡ Some word
+reads_only name word words spells =
+    rw spells.whole (only_again name word (flat_map spelling spells.pieces ++ mark_words spells.marked)
+    (reads_pieces word spells.pieces spells.marked spells.may_stand spells.positionals))
+
+only_rest : (name word : List ℕ) (words : List (List ℕ)) → only_word words ≡ Some word → Spells name (word ∷ []) [] (name ∷ words)
+only_rest name word words e =
+    let rest = spelled_word word words e in
     record {
       pieces = rest.pieces;
       marked = rest.marked;
-      whole = ap (λ l. codes "check" ∷ l) rest.whole;
+      whole = ap (λ l. name ∷ l) rest.whole;
       may_stand = rest.may_stand;
       positionals = rest.words_are;
       each_once = tt;
     }
 
-pub checked_read : (records : List ℕ) (words : List (List ℕ)) → records_of words ≡ Some records → IsCheck records words
-checked_read records [] e = absurd cc
-checked_read records (word ∷ words) e =
-    elim (cases_Bool (bytes_eq word (codes "check"))) [
+only_read : (name word : List ℕ) (words : List (List ℕ)) → only_of name words ≡ Some word → Spells name (word ∷ []) [] words
+only_read name word [] e = absurd cc
+only_read name word (first ∷ words) e =
+    elim (cases_Bool (bytes_eq first name)) [
       | inl y ↦
-          let P : List ℕ → Type 0 = λ w. IsCheck records (w ∷ words) in
-          subst P (sym (equal word (codes "check") y)) (checked_rest records words (rw y at e))
+          let P : List ℕ → Type 0 = λ w. Spells name (word ∷ []) [] (w ∷ words) in
+          subst P (sym (equal first name y)) (only_rest name word words (rw y at e))
       | inr n ↦ absurd (let wrong = rw n at e in cc)
     ]
 
--- words of `check` are no words of `replay`
+-- ---- `check` and `charges`
+
+pub reads_checked : (records : List ℕ) (words : List (List ℕ)) → IsCheck records words → records_of words ≡ Some records
+reads_checked records words spells = reads_only (codes "check") records words spells
+
+pub reads_charged : (config : List ℕ) (words : List (List ℕ)) → IsCharges config words → config_of words ≡ Some config
+reads_charged config words spells = reads_only (codes "charges") config words spells
+
+-- words of `check` are no words of `replay`, and words of `charges` are neither
 pub check_is_no_replay : (records : List ℕ) (words : List (List ℕ)) → IsCheck records words → replay_of words ≡ None
 check_is_no_replay records words spells = rw spells.whole refl
+
+pub charges_are_no_replay : (config : List ℕ) (words : List (List ℕ)) → IsCharges config words → replay_of words ≡ None
+charges_are_no_replay config words spells = rw spells.whole refl
+
+pub charges_are_no_check : (config : List ℕ) (words : List (List ℕ)) → IsCharges config words → records_of words ≡ None
+charges_are_no_check config words spells = rw spells.whole refl
 
 -- ---- any command
 
 pub reads_command : (command : Command) (words : List (List ℕ)) → IsHere command → IsCommand command words → command_of words ≡ Some command
 reads_command (Serve config token turns) words here spells = absurd here
-reads_command (Replay asked) words here spells = ap (λ r. command_from r (records_of words)) (reads_spelled asked words spells)
+reads_command (Replay asked) words here spells = ap (λ r. command_from r (records_of words) (config_of words)) (reads_spelled asked words spells)
 reads_command (Check records) words here spells =
-    ap (λ r. command_from r (records_of words)) (check_is_no_replay records words spells) ∙ ap (λ r. command_from None r) (reads_checked records words spells)
-reads_command (Charges config) words here spells = absurd here
+    ap (λ r. command_from r (records_of words) (config_of words)) (check_is_no_replay records words spells)
+    ∙ ap (λ r. command_from None r (config_of words)) (reads_checked records words spells)
+reads_command (Charges config) words here spells =
+    ap (λ r. command_from r (records_of words) (config_of words)) (charges_are_no_replay config words spells)
+    ∙ (ap (λ r. command_from None r (config_of words)) (charges_are_no_check config words spells)
+    ∙ ap (λ r. command_from None None r) (reads_charged config words spells))
 reads_command (Workload calls salt) words here spells = absurd here
 
-spelled_from : (words : List (List ℕ)) (asked : Option Asked) (records : Option (List ℕ)) (command : Command) → replay_of words ≡ asked → records_of words ≡ records → command_from asked records ≡ Some command
+spelled_from : (words : List (List ℕ)) (asked : Option Asked) (records config : Option (List ℕ)) (command : Command)
+    → replay_of words ≡ asked → records_of words ≡ records → config_of words ≡ config → command_from asked records config ≡ Some command
     → IsHere command × IsCommand command words
-spelled_from words (Some asked) records command read other e =
+spelled_from words (Some asked) records config command read other last e =
     let P : Command → Type 0 = λ c. IsHere c × IsCommand c words in
     subst P (some_is (Replay asked) command e) (tt, spelled_read asked words read)
-spelled_from words None (Some records) command read other e =
+spelled_from words None (Some records) config command read other last e =
     let P : Command → Type 0 = λ c. IsHere c × IsCommand c words in
-    subst P (some_is (Check records) command e) (tt, checked_read records words other)
-spelled_from words None None command read other e = absurd cc
+    subst P (some_is (Check records) command e) (tt, only_read (codes "check") records words other)
+spelled_from words None None (Some config) command read other last e =
+    let P : Command → Type 0 = λ c. IsHere c × IsCommand c words in
+    subst P (some_is (Charges config) command e) (tt, only_read (codes "charges") config words last)
+spelled_from words None None None command read other last e = absurd cc
 
 pub spelled_command : (command : Command) (words : List (List ℕ)) → command_of words ≡ Some command → IsHere command × IsCommand command words
-spelled_command command words e = spelled_from words (replay_of words) (records_of words) command refl refl e
+spelled_command command words e = spelled_from words (replay_of words) (records_of words) (config_of words) command refl refl refl e
 
 -- so there is no command exactly where the grammar spells none
 none_of : (words : List (List ℕ)) (command : Option Command) → command_of words ≡ command → SpellsNone words → command_of words ≡ None

@@ -16,17 +16,17 @@ use Rattle.mmtel_uploads.specs.declared.uploads.Upload.{Upload}
 use Rattle.mmtel_uploads.specs.declared.uploads.Upload.TheVariants as upload
 use Rattle.mmtel_cli.proofs.CleanWords.{Suits, directory_suits, token_clean}
 use Rattle.mmtel_cli.proofs.LineChecked.{none_spelled, reads_command, spelled_command}
-use Rattle.mmtel_cli.specs.CommandLine.{Command, Serve, Replay, Check, Charges, Workload, IsReplay, IsCheck}
+use Rattle.mmtel_cli.specs.CommandLine.{Command, Serve, Replay, Check, Charges, Workload, IsReplay, IsCheck, IsCharges}
 use Rattle.mmtel_cli.specs.Commands.{command_of}
 use Rattle.mmtel_cli.specs.Due as due
-use Rattle.mmtel_cli.specs.Due.{due_of_events, due_of_script, due_of_directory, due_of_config, due_of_upload, due_of_records, shelf_of_config, shelf_after}
+use Rattle.mmtel_cli.specs.Due.{due_of_events, due_of_script, due_of_directory, due_of_config, due_of_store, due_of_charges, due_of_upload, due_of_records, shelf_of_config, shelf_after}
 use Rattle.mmtel_cli.specs.Ends.{Ends, WroteListing}
 use Rattle.mmtel_cli.specs.Found.{HasCalled, IsDue, SparedBy, Spares}
-use Rattle.mmtel_cli.specs.Gives.{GivesBoth, GivesRecords, GivesRun}
+use Rattle.mmtel_cli.specs.Gives.{GivesBoth, GivesCharges, GivesRecords, GivesRun}
 use Rattle.mmtel_cli.specs.Keeping.{IsNotLoaded, IsSpared, KeeperSeen}
-use Rattle.mmtel_cli.specs.Listings.{Lists}
-use Rattle.mmtel_cli.specs.Runs.{WroteMemory, WroteLine, WroteFile, WroteKeeper, WroteFault, Listed, Replayed, Checked, Ran, Called, CalledFor}
-use Rattle.mmtel_cli.specs.Runs.{EndsOfEvents, EndsOfScript, EndsOfDirectory, EndsOfConfig, EndsOfUpload, EndsOfRecords}
+use Rattle.mmtel_cli.specs.Listings.{Lists, ListsRows}
+use Rattle.mmtel_cli.specs.Runs.{WroteMemory, WroteLine, WroteFile, WroteKeeper, WroteFault, Listed, ListedRows, Replayed, Checked, Charged, Ran, RanReplay, RanCheck, RanCharges, RanNone, Called, CalledFor}
+use Rattle.mmtel_cli.specs.Runs.{EndsOfEvents, EndsOfScript, EndsOfDirectory, EndsOfConfig, EndsOfStore, EndsOfCharges, EndsOfUpload, EndsOfRecords}
 use Rattle.mmtel_cli.specs.Words.{Asked, is_token}
 use Rattle.mmtel_cli.specs.declared.reports.Report.{Report}
 use Rattle.mmtel_cli.specs.declared.reports.Report.TheVariants.{Usage, Line, File, Keeper, Memory, Listing, Sound, Unsound}
@@ -116,6 +116,26 @@ module _ (outcomes : CallsOfRunsComeToOutcome) (charged : SeatsOfRunsAreChargedO
   written_listing directory token events Sound suits right is ends = absurd (let wrong : due.Run directory token events ≡ due.Sound = is in cc)
   written_listing directory token events (Unsound other) suits right is ends = absurd (let wrong : due.Run directory token events ≡ due.Unsound other = is in cc)
 
+  listed_rows : (store text : List ℕ) → ListsRows store keeper later text → WroteListing text status before after faults now
+      → ListedRows store keeper later status before after faults now
+  listed_rows store text lists wrote = record {
+    rows = lists.rows;
+    given = lists.given;
+    written = let P : List ℕ → Type 0 = λ t. WroteListing t status before after faults now in subst P lists.listing wrote;
+  }
+
+  written_rows : (store : List ℕ) (outcome : Report) → IsDue keeper later outcome (due.Rows store) → EndsSo outcome
+      → (ListedRows store keeper later status before after faults now
+      ⊎ (IsNotLoaded store keeper later × WroteKeeper status before after faults now)) ⊎ OutOfMemory
+  written_rows store Usage is ends = absurd (let wrong : due.Rows store ≡ due.Usage = is in cc)
+  written_rows store (Line n) is ends = absurd (let wrong : due.Rows store ≡ due.Line n = is in cc)
+  written_rows store File is ends = absurd (let wrong : due.Rows store ≡ due.File = is in cc)
+  written_rows store Keeper is ends = inl (inr (is, ends))
+  written_rows store Memory is ends = inr ends
+  written_rows store (Listing text) is ends = inl (inl (listed_rows store text is ends))
+  written_rows store Sound is ends = absurd (let wrong : due.Rows store ≡ due.Sound = is in cc)
+  written_rows store (Unsound other) is ends = absurd (let wrong : due.Rows store ≡ due.Unsound other = is in cc)
+
   -- ---- stage by stage
 
   ends_of_events : (directory : Directory) (token : List ℕ) (events : Result (List Event) ℕ) (outcome : Report) → Suits directory → is_token token ≡ true → IsDue keeper later outcome (due_of_events directory token events)
@@ -164,6 +184,28 @@ module _ (outcomes : CallsOfRunsComeToOutcome) (charged : SeatsOfRunsAreChargedO
     ends = ends_of_records gives.text outcome (gives.is_due keeper later) ends;
   }
 
+  -- ---- the rows of a keeper
+
+  ends_of_store : (directory : Result Directory ℕ) (outcome : Report) → IsDue keeper later outcome (due_of_store directory) → EndsSo outcome
+      → EndsOfStore directory keeper later status before after faults now ⊎ OutOfMemory
+  ends_of_store (Ok directory) outcome due ends = written_rows directory.store outcome due ends
+  ends_of_store (Err line) outcome due ends = written_line outcome line due ends
+
+  ends_of_charges : (config : Option (List ℕ)) (outcome : Report) → IsDue keeper later outcome (due_of_charges config) → EndsSo outcome
+      → EndsOfCharges config keeper later status before after faults now ⊎ OutOfMemory
+  ends_of_charges None outcome due ends = written_file outcome due ends
+  ends_of_charges (Some config) outcome due ends = ends_of_store (directory_of config) outcome due ends
+
+  charged_by : (told : Option Shelf) (words : List (List ℕ)) (config : List ℕ) (outcome : Report)
+      → IsCharges config words → GivesCharges told keeper later config outcome → EndsSo outcome → Charged told keeper later words status before after faults now
+  charged_by told words config outcome spelled gives ends = record {
+    config = config;
+    spelled = spelled;
+    text = gives.text;
+    told_text = gives.told_text;
+    ends = ends_of_charges gives.text outcome gives.is_due ends;
+  }
+
   -- ---- a whole run
 
   replayed : (told : Option Shelf) (words : List (List ℕ)) (asked : Asked) (outcome : Report)
@@ -179,11 +221,11 @@ module _ (outcomes : CallsOfRunsComeToOutcome) (charged : SeatsOfRunsAreChargedO
       → command_of words ≡ command → GivesRun told keeper later command outcome → EndsSo outcome → Ran told keeper later words status before after faults now
   ran_command told words None outcome read gives ends =
       let P : Report → Type 0 = λ r. EndsSo r in
-      inr (inr (record { none = (none_spelled words).0 read; said = subst P gives ends }))
+      RanNone (record { none = (none_spelled words).0 read; said = subst P gives ends })
   ran_command told words (Some (Serve config token turns)) outcome read gives ends = absurd gives
-  ran_command told words (Some (Replay asked)) outcome read gives ends = inl (replayed told words asked outcome (spelled_command (Replay asked) words read).1 gives ends)
-  ran_command told words (Some (Check records)) outcome read gives ends = inr (inl (checked told words records outcome (spelled_command (Check records) words read).1 gives ends))
-  ran_command told words (Some (Charges config)) outcome read gives ends = absurd gives
+  ran_command told words (Some (Replay asked)) outcome read gives ends = RanReplay (replayed told words asked outcome (spelled_command (Replay asked) words read).1 gives ends)
+  ran_command told words (Some (Check records)) outcome read gives ends = RanCheck (checked told words records outcome (spelled_command (Check records) words read).1 gives ends)
+  ran_command told words (Some (Charges config)) outcome read gives ends = RanCharges (charged_by told words config outcome (spelled_command (Charges config) words read).1 gives ends)
   ran_command told words (Some (Workload calls salt)) outcome read gives ends = absurd gives
 
   pub ran : (told : Option Shelf) (words : List (List ℕ)) (outcome : Report)
@@ -215,6 +257,7 @@ called_for shelf words status after usage calls = record {
       called_last status after (called shelf) shelf (usage.1 read) (rw read at calls);
   each = λ asked. λ spelled. (rw (reads_command (Replay asked) words tt spelled) at calls);
   checked = λ records. λ spelled. called_once status after (called shelf) (rw (reads_command (Check records) words tt spelled) at calls);
+  charged = λ config. λ spelled. called_once status after (called shelf) (rw (reads_command (Charges config) words tt spelled) at calls);
 }
 
 not_eight : (n status : ℕ) → status ≡ n → (n ≡ 8 → ⊥) → status ≡ 8 → ⊥

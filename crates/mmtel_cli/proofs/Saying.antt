@@ -1,6 +1,7 @@
 -- What the statement on a whole run says of each status.
 use Rattle.std.proofs.Common.{◌≡◌, ◌⊎◌, ◌==◌, Bool, true, false, ℕ, List, [], ◌∷◌, refl, subst, sym, ap, ◌∙◌, inl, inr, codes, Option, Some, None, Result, Ok, Err}
 use Rattle.std.specs.List.{list_any}
+use Rattle.mmtel_charging.specs.Rows.{text_of}
 use Rattle.mmtel_directory.specs.Directory.{directory_of}
 use Rattle.mmtel_directory.specs.declared.directories.Directory.{Directory}
 use Rattle.mmtel_keeper.specs.Kept.{KeeperCalls}
@@ -13,16 +14,16 @@ use Rattle.mmtel_scan.proofs.ChainLaws.{some_is}
 use Rattle.mmtel_uploads.specs.Uploads.{upload_of}
 use Rattle.mmtel_uploads.specs.declared.uploads.Upload.{Upload}
 use Rattle.mmtel_uploads.specs.declared.uploads.Upload.TheVariants as upload
-use Rattle.mmtel_cli.proofs.LineChecked.{check_is_no_replay, reads_checked}
+use Rattle.mmtel_cli.proofs.LineChecked.{check_is_no_replay, charges_are_no_check, charges_are_no_replay, reads_charged, reads_checked}
 use Rattle.mmtel_cli.proofs.LineRead.{reads_spelled}
-use Rattle.mmtel_cli.specs.CommandLine.{Replay, Check, IsReplay, IsCheck}
+use Rattle.mmtel_cli.specs.CommandLine.{Replay, Check, Charges, IsReplay, IsCheck, IsCharges, SpellsNone}
 use Rattle.mmtel_cli.specs.Ends.{WroteListing}
 use Rattle.mmtel_cli.specs.Keeping.{IsNotLoaded, IsOpened, KeeperSeen, refuses}
-use Rattle.mmtel_cli.specs.Runs.{Listed, WroteMemory, Replayed, Checked, Ran}
-use Rattle.mmtel_cli.specs.Runs.{EndsOfEvents, EndsOfScript, EndsOfDirectory, EndsOfConfig, EndsOfUpload, EndsOfRecords}
-use Rattle.mmtel_cli.specs.Sayings.{IsGood, IsWilling, GoodOnesAreListed, GoodOnesSucceed, GoodOnesWantAKeeper}
-use Rattle.mmtel_cli.specs.Sayings.{ChecksAreTold, ChecksOne, RefusesOne, ZeroIsListed, OneIsUsage, ThreeIsRefused, SixRose, SevenRose, ZeroKept, StatusesAreThese, NoFaultNoFailure}
-use Rattle.mmtel_cli.specs.Words.{Asked, replay_of, records_of}
+use Rattle.mmtel_cli.specs.Runs.{Listed, ListedRows, WroteMemory, Replayed, Checked, Charged, Refused, Ran, RanReplay, RanCheck, RanCharges, RanNone}
+use Rattle.mmtel_cli.specs.Runs.{EndsOfEvents, EndsOfScript, EndsOfDirectory, EndsOfConfig, EndsOfStore, EndsOfCharges, EndsOfUpload, EndsOfRecords}
+use Rattle.mmtel_cli.specs.Sayings.{IsGood, IsKept, IsWilling, GoodOnesAreListed, GoodOnesSucceed, GoodOnesWantAKeeper, RowsAreListed, RowsWantAKeeper}
+use Rattle.mmtel_cli.specs.Sayings.{ChecksAreTold, ChecksOne, ChargesOne, DoneAtZero, DoneReplay, DoneCheck, DoneCharges, RefusesOne, ZeroIsListed, OneIsUsage, ThreeIsRefused, SixRose, SevenRose, ZeroKept, StatusesAreThese, NoFaultNoFailure}
+use Rattle.mmtel_cli.specs.Words.{Asked, replay_of, records_of, config_of}
 
 -- ---- the words spell one command at most
 
@@ -43,6 +44,26 @@ never_both asked records words one other =
     let read : replay_of words ≡ Some asked = reads_spelled asked words one in
     let none : replay_of words ≡ None = check_is_no_replay records words other in
     let wrong : Some asked ≡ None = sym read ∙ none in
+    cc
+
+same_config : (a b : List ℕ) (words : List (List ℕ)) → IsCharges a words → IsCharges b words → a ≡ b
+same_config a b words one other =
+    let read : config_of words ≡ Some a = reads_charged a words one in
+    let again : config_of words ≡ Some b = reads_charged b words other in
+    some_is a b (sym read ∙ again)
+
+never_replay_and_charges : (asked : Asked) (config : List ℕ) (words : List (List ℕ)) → IsReplay asked words → IsCharges config words → ⊥
+never_replay_and_charges asked config words one other =
+    let read : replay_of words ≡ Some asked = reads_spelled asked words one in
+    let none : replay_of words ≡ None = charges_are_no_replay config words other in
+    let wrong : Some asked ≡ None = sym read ∙ none in
+    cc
+
+never_check_and_charges : (records config : List ℕ) (words : List (List ℕ)) → IsCheck records words → IsCharges config words → ⊥
+never_check_and_charges records config words one other =
+    let read : records_of words ≡ Some records = reads_checked records words one in
+    let none : records_of words ≡ None = charges_are_no_check config words other in
+    let wrong : Some records ≡ None = sym read ∙ none in
     cc
 
 -- ---- files that are there and good
@@ -72,13 +93,14 @@ module _ (shelf : Shelf) (keeper later : KeeperSeen) (words : List (List ℕ)) (
       (subst P same r.ends)
 
   good_run : IsGood shelf words asked directory events → Ran (Some shelf) keeper later words status before after faults now → EndsWell ⊎ (status ≡ 8)
-  good_run good (inl r) =
+  good_run good (RanReplay r) =
       elim (good_replay good r) [
         | inl ends ↦ inl ends
         | inr memory ↦ inr memory.0
       ]
-  good_run good (inr (inl c)) = absurd (never_both asked c.records words good.spelled c.spelled)
-  good_run good (inr (inr refused)) = absurd (refused.none (Replay asked) tt good.spelled)
+  good_run good (RanCheck c) = absurd (never_both asked c.records words good.spelled c.spelled)
+  good_run good (RanCharges c) = absurd (never_replay_and_charges asked c.config words good.spelled c.spelled)
+  good_run good (RanNone refused) = absurd (refused.none (Replay asked) tt good.spelled)
 
 -- a keeper that can be bound and loaded is one that was not refused
 opens : (path : List ℕ) (calls since : Option KeeperCalls) (told : KeeperCalls) (refused : Bool) → IsOpened path calls since refused → calls ≡ Some told → refuses told ≡ refused
@@ -131,11 +153,50 @@ told_ends text there status before after faults now is (inl ends) =
 told_ends text there status before after faults now is (inr memory) = inr memory.0
 
 pub checks_are_told : ChecksAreTold
-checks_are_told shelf keeper later words text status before after faults now there (inl r) = absurd (never_both r.asked there.records words r.spelled there.spelled)
-checks_are_told shelf keeper later words text status before after faults now there (inr (inl c)) =
+checks_are_told shelf keeper later words text status before after faults now there (RanReplay r) = absurd (never_both r.asked there.records words r.spelled there.spelled)
+checks_are_told shelf keeper later words text status before after faults now there (RanCheck c) =
     told_ends c.text text status before after faults now
     (c.told_text ∙ (ap (answer_at shelf) (same_records c.records there.records words c.spelled there.spelled) ∙ there.there)) c.ends
-checks_are_told shelf keeper later words text status before after faults now there (inr (inr refused)) = absurd (refused.none (Check there.records) tt there.spelled)
+checks_are_told shelf keeper later words text status before after faults now there (RanCharges c) = absurd (never_check_and_charges there.records c.config words there.spelled c.spelled)
+checks_are_told shelf keeper later words text status before after faults now there (RanNone refused) = absurd (refused.none (Check there.records) tt there.spelled)
+
+-- ---- a store whose rows are asked for
+
+kept_ends : (text : Option (List ℕ)) (there : List ℕ) (directory : Directory) (keeper later : KeeperSeen) (status : ℕ) (before after : Option (List ℕ)) (faults now : ℕ)
+    → text ≡ Some there → directory_of there ≡ Ok directory
+    → EndsOfCharges text keeper later status before after faults now ⊎ WroteMemory status before after faults now
+    → EndsOfStore (Ok directory) keeper later status before after faults now ⊎ WroteMemory status before after faults now
+kept_ends text there directory keeper later status before after faults now is read ends = rw (is, read) at ends
+
+kept_run : (shelf : Shelf) (keeper later : KeeperSeen) (words : List (List ℕ)) (directory : Directory) (status : ℕ) (before after : Option (List ℕ)) (faults now : ℕ)
+    → IsKept shelf words directory → Ran (Some shelf) keeper later words status before after faults now
+    → EndsOfStore (Ok directory) keeper later status before after faults now ⊎ WroteMemory status before after faults now
+kept_run shelf keeper later words directory status before after faults now kept (RanReplay r) = absurd (never_replay_and_charges r.asked kept.config words r.spelled kept.spelled)
+kept_run shelf keeper later words directory status before after faults now kept (RanCheck c) = absurd (never_check_and_charges c.records kept.config words c.spelled kept.spelled)
+kept_run shelf keeper later words directory status before after faults now kept (RanCharges c) =
+    kept_ends c.text kept.text directory keeper later status before after faults now
+    (c.told_text ∙ (ap (answer_at shelf) (same_config c.config kept.config words c.spelled kept.spelled) ∙ kept.there)) kept.read c.ends
+kept_run shelf keeper later words directory status before after faults now kept (RanNone refused) = absurd (refused.none (Charges kept.config) tt kept.spelled)
+
+pub rows_are_listed : RowsAreListed
+rows_are_listed shelf keeper later words directory status before after faults now kept willing ran =
+    elim (kept_run shelf keeper later words directory status before after faults now kept ran) [
+      | inl ends ↦ elim ends [
+        | inl listed ↦ inl listed
+        | inr not ↦ absurd (never_unwilling directory.store keeper later willing not.0)
+      ]
+      | inr memory ↦ inr memory.0
+    ]
+
+pub rows_want_a_keeper : RowsWantAKeeper
+rows_want_a_keeper shelf keeper later calls words directory status before after faults now kept is unwilling ran =
+    elim (kept_run shelf keeper later words directory status before after faults now kept ran) [
+      | inl ends ↦ elim ends [
+        | inl listed ↦ absurd (let wrong : true ≡ false = sym unwilling ∙ opens directory.store keeper.calls later.calls calls false listed.given.calls is in cc)
+        | inr not ↦ inl not.1.0
+      ]
+      | inr memory ↦ inr memory.0
+    ]
 
 -- ---- each status
 
@@ -299,64 +360,142 @@ module _ (words : List (List ℕ)) (records : List ℕ) (spelled : IsCheck recor
   ending_records (Some text) (inl e) = ending_upload text (upload_of text) refl e
   ending_records text (inr memory) = ending_memory (ChecksOne words 0 before after faults now) (RefusesOne words) ⊥ status faults now memory.0
 
--- ---- the sayings
+-- ---- of `charges`
+
+module _ (words : List (List ℕ)) (config : List ℕ) (spelled : IsCharges config words) (keeper later : KeeperSeen) (status : ℕ) (before after : Option (List ℕ)) (faults now : ℕ) where
+  abbrev EndsCharges : Type 0
+  EndsCharges = Ending (ChargesOne keeper later words 0 before after faults now) ⊥ (Rose keeper.faults later.faults) status faults now
+
+  ending_rows : (directory : Directory) → ListedRows directory.store keeper later status before after faults now → EndsCharges
+  ending_rows directory l =
+      ending_written (ChargesOne keeper later words 0 before after faults now) ⊥ (Rose keeper.faults later.faults) status faults now (text_of l.rows) before after
+      (λ w. record { config = config; spelled = spelled; directory = directory; listed = record { rows = l.rows; given = l.given; written = w } }) l.written
+
+  ending_store : (directory : Result Directory ℕ) → EndsOfStore directory keeper later status before after faults now → EndsCharges
+  ending_store (Ok directory) (inl e) = ending_rows directory e
+  ending_store (Ok directory) (inr e) = ending_keeper (ChargesOne keeper later words 0 before after faults now) ⊥ (Rose keeper.faults later.faults) status faults now e.0.rose e.1.0
+  ending_store (Err line) e = ending_line (ChargesOne keeper later words 0 before after faults now) ⊥ (Rose keeper.faults later.faults) status faults now e.0
+
+  ending_charges : (text : Option (List ℕ)) → EndsOfCharges text keeper later status before after faults now ⊎ WroteMemory status before after faults now → EndsCharges
+  ending_charges None (inl e) = ending_file (ChargesOne keeper later words 0 before after faults now) ⊥ (Rose keeper.faults later.faults) status faults now e.0
+  ending_charges (Some config) (inl e) = ending_store (directory_of config) e
+  ending_charges text (inr memory) = ending_memory (ChargesOne keeper later words 0 before after faults now) ⊥ (Rose keeper.faults later.faults) status faults now memory.0
+
+-- ---- of each command that there is
+
+-- what it means at 0, at 3 and at 6 may be weakened
+weaker : (Zero Zero' Three Three' Six Six' : Type 0) (status faults now : ℕ) → (Zero → Zero') → (Three → Three') → (Six → Six')
+    → Ending Zero Three Six status faults now → Ending Zero' Three' Six' status faults now
+weaker Zero Zero' Three Three' Six Six' status faults now z t s e = record {
+  known = e.known;
+  other = e.other;
+  zero = λ is. z (e.zero is);
+  three = λ is. t (e.three is);
+  six = λ is. s (e.six is);
+  rose = e.rose;
+  kept = e.kept;
+  fine = e.fine;
+}
 
 module _ (told : Option Shelf) (keeper later : KeeperSeen) (words : List (List ℕ)) (status : ℕ) (before after : Option (List ℕ)) (faults now : ℕ) where
-  of_replay : (r : Replayed told keeper later words status before after faults now)
-      → Ending (ListsAtZero r.asked keeper later before after faults now) ⊥ (Rose keeper.faults later.faults) status faults now
-  of_replay r = ending_config r.asked keeper later status before after faults now r.answers.config r.answers.script r.ends
+  abbrev EndsAny : Type 0
+  EndsAny = Ending (DoneAtZero keeper later words before after faults now) (RefusesOne words) (Rose keeper.faults later.faults) status faults now
 
-  of_check : Checked told words status before after faults now → Ending (ChecksOne words 0 before after faults now) (RefusesOne words) ⊥ status faults now
-  of_check c = ending_records words c.records c.spelled status before after faults now c.text c.ends
+  -- the words spell a command, and it ended so
+  record EndsSome : Type 0 where
+    some : SpellsNone words → ⊥
+    end : EndsAny
+
+  of_replay : Replayed told keeper later words status before after faults now → EndsSome
+  of_replay r = record {
+    some = λ no_one. no_one (Replay r.asked) tt r.spelled;
+    end = weaker (ListsAtZero r.asked keeper later before after faults now) (DoneAtZero keeper later words before after faults now) ⊥ (RefusesOne words)
+        (Rose keeper.faults later.faults) (Rose keeper.faults later.faults) status faults now
+        (λ one. DoneReplay (record { asked = r.asked; spelled = r.spelled; directory = one.0; events = one.1; listed = one.2 })) (λ never. absurd never) (λ rose. rose)
+        (ending_config r.asked keeper later status before after faults now r.answers.config r.answers.script r.ends);
+  }
+
+  of_check : Checked told words status before after faults now → EndsSome
+  of_check c = record {
+    some = λ no_one. no_one (Check c.records) tt c.spelled;
+    end = weaker (ChecksOne words 0 before after faults now) (DoneAtZero keeper later words before after faults now) (RefusesOne words) (RefusesOne words)
+        ⊥ (Rose keeper.faults later.faults) status faults now (λ one. DoneCheck one) (λ one. one) (λ never. absurd never)
+        (ending_records words c.records c.spelled status before after faults now c.text c.ends);
+  }
+
+  of_charges : Charged told keeper later words status before after faults now → EndsSome
+  of_charges c = record {
+    some = λ no_one. no_one (Charges c.config) tt c.spelled;
+    end = weaker (ChargesOne keeper later words 0 before after faults now) (DoneAtZero keeper later words before after faults now) ⊥ (RefusesOne words)
+        (Rose keeper.faults later.faults) (Rose keeper.faults later.faults) status faults now (λ one. DoneCharges one) (λ never. absurd never) (λ rose. rose)
+        (ending_charges words c.config c.spelled keeper later status before after faults now c.text c.ends);
+  }
+
+  -- or they spell none
+  ends_so : Ran told keeper later words status before after faults now → EndsSome ⊎ Refused words status before after faults now
+  ends_so (RanReplay r) = inl (of_replay r)
+  ends_so (RanCheck c) = inl (of_check c)
+  ends_so (RanCharges c) = inl (of_charges c)
+  ends_so (RanNone refused) = inr refused
+
+-- ---- the sayings
 
 -- another status than that of `usage`
 not_usage : (n status : ℕ) → status ≡ 1 → (n ≡ 1 → ⊥) → status ≡ n → ⊥
 not_usage n status one other is = other (sym is ∙ one)
 
 pub zero_is_listed : ZeroIsListed
-zero_is_listed told keeper later words status before after faults now (inl r) zero =
-    let one = (of_replay told keeper later words status before after faults now r).zero zero in
-    inl (record { asked = r.asked; spelled = r.spelled; directory = one.0; events = one.1; listed = one.2 })
-zero_is_listed told keeper later words status before after faults now (inr (inl c)) zero = inr ((of_check told keeper later words status before after faults now c).zero zero)
-zero_is_listed told keeper later words status before after faults now (inr (inr refused)) zero = absurd (not_usage 0 status refused.said.0 (λ w. cc) zero)
+zero_is_listed told keeper later words status before after faults now ran zero =
+    elim (ends_so told keeper later words status before after faults now ran) [
+      | inl some ↦ some.end.zero zero
+      | inr refused ↦ absurd (not_usage 0 status refused.said.0 (λ w. cc) zero)
+    ]
 
 pub one_is_usage : OneIsUsage
-one_is_usage told keeper later words status before after faults now (inl r) =
-    (λ one. absurd ((of_replay told keeper later words status before after faults now r).other one), λ no_one. absurd (no_one (Replay r.asked) tt r.spelled))
-one_is_usage told keeper later words status before after faults now (inr (inl c)) =
-    (λ one. absurd ((of_check told keeper later words status before after faults now c).other one), λ no_one. absurd (no_one (Check c.records) tt c.spelled))
-one_is_usage told keeper later words status before after faults now (inr (inr refused)) = (λ one. refused.none, λ no_one. refused.said.0)
+one_is_usage told keeper later words status before after faults now ran =
+    elim (ends_so told keeper later words status before after faults now ran) [
+      | inl some ↦ (λ one. absurd (some.end.other one), λ no_one. absurd (some.some no_one))
+      | inr refused ↦ (λ one. refused.none, λ no_one. refused.said.0)
+    ]
 
 pub three_is_refused : ThreeIsRefused
-three_is_refused told keeper later words status before after faults now (inl r) three = absurd ((of_replay told keeper later words status before after faults now r).three three)
-three_is_refused told keeper later words status before after faults now (inr (inl c)) three = (of_check told keeper later words status before after faults now c).three three
-three_is_refused told keeper later words status before after faults now (inr (inr refused)) three = absurd (not_usage 3 status refused.said.0 (λ w. cc) three)
+three_is_refused told keeper later words status before after faults now ran three =
+    elim (ends_so told keeper later words status before after faults now ran) [
+      | inl some ↦ some.end.three three
+      | inr refused ↦ absurd (not_usage 3 status refused.said.0 (λ w. cc) three)
+    ]
 
 pub six_rose : SixRose
-six_rose told keeper later words status before after faults now (inl r) six = (of_replay told keeper later words status before after faults now r).six six
-six_rose told keeper later words status before after faults now (inr (inl c)) six = absurd ((of_check told keeper later words status before after faults now c).six six)
-six_rose told keeper later words status before after faults now (inr (inr refused)) six = absurd (not_usage 6 status refused.said.0 (λ w. cc) six)
+six_rose told keeper later words status before after faults now ran six =
+    elim (ends_so told keeper later words status before after faults now ran) [
+      | inl some ↦ some.end.six six
+      | inr refused ↦ absurd (not_usage 6 status refused.said.0 (λ w. cc) six)
+    ]
 
 pub seven_rose : SevenRose
-seven_rose told keeper later words status before after faults now (inl r) seven = (of_replay told keeper later words status before after faults now r).rose seven
-seven_rose told keeper later words status before after faults now (inr (inl c)) seven = (of_check told keeper later words status before after faults now c).rose seven
-seven_rose told keeper later words status before after faults now (inr (inr refused)) seven = absurd (not_usage 7 status refused.said.0 (λ w. cc) seven)
+seven_rose told keeper later words status before after faults now ran seven =
+    elim (ends_so told keeper later words status before after faults now ran) [
+      | inl some ↦ some.end.rose seven
+      | inr refused ↦ absurd (not_usage 7 status refused.said.0 (λ w. cc) seven)
+    ]
 
 pub zero_kept : ZeroKept
-zero_kept told keeper later words status before after faults now (inl r) zero = (of_replay told keeper later words status before after faults now r).kept zero
-zero_kept told keeper later words status before after faults now (inr (inl c)) zero = (of_check told keeper later words status before after faults now c).kept zero
-zero_kept told keeper later words status before after faults now (inr (inr refused)) zero = absurd (not_usage 0 status refused.said.0 (λ w. cc) zero)
+zero_kept told keeper later words status before after faults now ran zero =
+    elim (ends_so told keeper later words status before after faults now ran) [
+      | inl some ↦ some.end.kept zero
+      | inr refused ↦ absurd (not_usage 0 status refused.said.0 (λ w. cc) zero)
+    ]
 
 pub statuses_are_these : StatusesAreThese
-statuses_are_these told keeper later words status before after faults now (inl r) = (of_replay told keeper later words status before after faults now r).known
-statuses_are_these told keeper later words status before after faults now (inr (inl c)) = (of_check told keeper later words status before after faults now c).known
-statuses_are_these told keeper later words status before after faults now (inr (inr refused)) = rw (refused.said.0) refl
+statuses_are_these told keeper later words status before after faults now ran =
+    elim (ends_so told keeper later words status before after faults now ran) [
+      | inl some ↦ some.end.known
+      | inr refused ↦ rw (refused.said.0) refl
+    ]
 
 pub no_fault_no_failure : NoFaultNoFailure
-no_fault_no_failure told keeper later words status before after faults now (inl r) earlier since counts files kept sink =
-    let end = of_replay told keeper later words status before after faults now r in
-    end.fine (λ five. files (counts.rose five)) (λ six. kept (end.six six)) (λ seven. sink (end.rose seven))
-no_fault_no_failure told keeper later words status before after faults now (inr (inl c)) earlier since counts files kept sink =
-    let end = of_check told keeper later words status before after faults now c in
-    end.fine (λ five. files (counts.rose five)) (λ six. end.six six) (λ seven. sink (end.rose seven))
-no_fault_no_failure told keeper later words status before after faults now (inr (inr refused)) earlier since counts files kept sink = rw (refused.said.0) refl
+no_fault_no_failure told keeper later words status before after faults now ran earlier since counts files kept sink =
+    elim (ends_so told keeper later words status before after faults now ran) [
+      | inl some ↦ some.end.fine (λ five. files (counts.rose five)) (λ six. kept (some.end.six six)) (λ seven. sink (some.end.rose seven))
+      | inr refused ↦ rw (refused.said.0) refl
+    ]

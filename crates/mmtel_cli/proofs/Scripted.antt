@@ -22,7 +22,8 @@ use Rattle.mmtel_run.specs.World.{World, beginning}
 use Rattle.mmtel_run_secret.specs.Headline.{OffersKeepTheSecret}
 use Rattle.mmtel_script.specs.Script.{unheard}
 use Rattle.mmtel_server.specs.Driven.{Driven, EachAnswers, EachCounted, EachRead, EndsAfter, HeardMore, to_come, with_all}
-use Rattle.mmtel_server.specs.Handed.{Handed, HandedCounted, RowsCharged, took_last}
+use Rattle.mmtel_server.specs.Charged.{RowsCharged, took_last}
+use Rattle.mmtel_server_decisions.specs.Handed.{Handed, HandedCounted}
 use Rattle.mmtel_server.specs.Laws.{EachReadOut, IsEventReadOut, ReadOutSaysAll, UnfailedAreReadOut}
 use Rattle.mmtel_server.specs.Stands.{Went}
 use Rattle.mmtel_server.specs.Stepped.{call_of}

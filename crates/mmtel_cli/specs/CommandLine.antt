@@ -98,12 +98,16 @@ IsReplay asked words = IsCommand (Replay asked) words
 abbrev pub IsCheck : List ℕ → List (List ℕ) → Type 0
 IsCheck records words = IsCommand (Check records) words
 
+-- the words that ask for the rows of this configuration's store
+abbrev pub IsCharges : List ℕ → List (List ℕ) → Type 0
+IsCharges config words = IsCommand (Charges config) words
+
 -- the commands that the program has so far
 abbrev pub IsHere : Command → Type 0
 IsHere (Serve config token turns) = ⊥
 IsHere (Replay asked) = ⊤
 IsHere (Check records) = ⊤
-IsHere (Charges config) = ⊥
+IsHere (Charges config) = ⊤
 IsHere (Workload calls salt) = ⊥
 
 -- the words spell none of them

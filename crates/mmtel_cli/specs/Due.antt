@@ -1,5 +1,5 @@
 -- What a run is due to write, by what the files gave: of `replay` the configuration comes first, then the script, then the listing of what the server offers; of `check` the
--- file is a service record or is none.
+-- file is a service record or is none; of `charges` the rows that the keeper holds.
 use Rattle.std.specs.Prelude.{ℕ, List, Some, None, Ok, Err}
 use Rattle.std.specs.declared.option.Option.{Option}
 use Rattle.std.specs.declared.result.Result.{Result}
@@ -22,6 +22,8 @@ pub data Due : Type 0 where
   File : Due
   -- the listing of what the server offers in the run of these events
   Run : (directory : Directory) → (token : List ℕ) → (events : List Event) → Due
+  -- the rows that the keeper of this store holds
+  Rows : (store : List ℕ) → Due
   -- the file is a service record
   Sound : Due
   -- the file is none, and this line tells its first fault
@@ -57,19 +59,29 @@ abbrev pub due_of_records : Option (List ℕ) → Due
 due_of_records None = File
 due_of_records (Some text) = due_of_upload (upload_of text)
 
--- what is due of a command over files that tell: of `replay` the first call is for CONFIG, and the second for SCRIPT; of `check` there is one call. The others are not here yet
+-- what is due of `charges` once the configuration was read
+abbrev pub due_of_store : Result Directory ℕ → Due
+due_of_store (Ok directory) = Rows directory.store
+due_of_store (Err line) = Line line
+
+-- and once it was asked for
+abbrev pub due_of_charges : Option (List ℕ) → Due
+due_of_charges None = File
+due_of_charges (Some config) = due_of_store (directory_of config)
+
+-- what is due of a command over files that tell: of `replay` the first call is for CONFIG, and the second for SCRIPT; of `check` and of `charges` there is one call. The others are not here yet
 abbrev pub due_by : Shelf → Command → Due
 due_by shelf (Serve config token turns) = Usage
 due_by shelf (Replay asked) = due_of_config (answer_at shelf asked.config) asked.token (answer_at (called shelf) asked.script)
 due_by shelf (Check records) = due_of_records (answer_at shelf records)
-due_by shelf (Charges config) = Usage
+due_by shelf (Charges config) = due_of_charges (answer_at shelf config)
 due_by shelf (Workload calls salt) = Usage
 
 abbrev pub due_over : Shelf → Option Command → Due
 due_over shelf None = Usage
 due_over shelf (Some command) = due_by shelf command
 
--- the files after the calls that are due: none without a command, one of `check` and where CONFIG is not there or not good, and else two
+-- the files after the calls that are due: none without a command, one of `check`, of `charges` and where CONFIG is not there or not good, and else two
 abbrev pub shelf_of_directory : Shelf → Result Directory ℕ → Shelf
 shelf_of_directory shelf (Ok directory) = called shelf
 shelf_of_directory shelf (Err line) = shelf
@@ -82,7 +94,7 @@ abbrev pub shelf_by : Shelf → Command → Shelf
 shelf_by shelf (Serve config token turns) = shelf
 shelf_by shelf (Replay asked) = shelf_of_config (called shelf) (answer_at shelf asked.config)
 shelf_by shelf (Check records) = called shelf
-shelf_by shelf (Charges config) = shelf
+shelf_by shelf (Charges config) = called shelf
 shelf_by shelf (Workload calls salt) = shelf
 
 abbrev pub shelf_after : Shelf → Option Command → Shelf

@@ -7,7 +7,7 @@ use Rattle.mmtel_cli.specs.CommandLine.{Command, Serve, Replay, Check, Charges, 
 use Rattle.mmtel_cli.specs.Due as due
 use Rattle.mmtel_cli.specs.Due.{Due}
 use Rattle.mmtel_cli.specs.Keeping.{IsNotLoaded, KeeperSeen}
-use Rattle.mmtel_cli.specs.Listings.{Lists}
+use Rattle.mmtel_cli.specs.Listings.{Lists, ListsRows}
 use Rattle.mmtel_cli.specs.declared.reports.Report.{Report}
 use Rattle.mmtel_cli.specs.declared.reports.Report.TheVariants.{Usage, Line, File, Keeper, Memory, Listing, Sound, Unsound}
 
@@ -22,21 +22,23 @@ IsAsked (Listing text) = ⊤
 IsAsked Sound = ⊤
 IsAsked (Unsound line) = ⊤
 
--- the text lists the run that is to be listed
+-- the text lists the run or the rows that are to be listed
 abbrev pub IsListing : (keeper later : KeeperSeen) → List ℕ → Due → Type 0
 IsListing keeper later text due.Usage = ⊥
 IsListing keeper later text (due.Line number) = ⊥
 IsListing keeper later text due.File = ⊥
 IsListing keeper later text (due.Run directory token events) = Lists directory token events keeper later text
+IsListing keeper later text (due.Rows store) = ListsRows store keeper later text
 IsListing keeper later text due.Sound = ⊥
 IsListing keeper later text (due.Unsound line) = ⊥
 
--- a run is to be listed, and the keeper could not be bound to its store or not be loaded
+-- a run or rows are to be listed, and the keeper could not be bound to the store, or not answer
 abbrev pub IsUnkept : (keeper later : KeeperSeen) → Due → Type 0
 IsUnkept keeper later due.Usage = ⊥
 IsUnkept keeper later (due.Line number) = ⊥
 IsUnkept keeper later due.File = ⊥
 IsUnkept keeper later (due.Run directory token events) = IsNotLoaded directory.store keeper later
+IsUnkept keeper later (due.Rows store) = IsNotLoaded store keeper later
 IsUnkept keeper later due.Sound = ⊥
 IsUnkept keeper later (due.Unsound line) = ⊥
 
@@ -84,7 +86,7 @@ IsRead (Listing text) = ⊤
 IsRead Sound = ⊤
 IsRead (Unsound line) = ⊤
 
--- the keeper is as before where no run came to it
+-- the keeper is as before where neither a run nor `charges` came to it
 abbrev pub Spares : {K : Type 0} → Report → (before after : K) → Type 0
 Spares Usage before after = after ≡ before
 Spares (Line line) before after = after ≡ before
@@ -95,11 +97,11 @@ Spares (Listing text) before after = ⊤
 Spares Sound before after = after ≡ before
 Spares (Unsound line) before after = after ≡ before
 
--- of a command that is no run it always is
+-- of `check` it always is
 abbrev pub SparedBy : {K : Type 0} → Option Command → (before after : K) → Type 0
 SparedBy None before after = after ≡ before
 SparedBy (Some (Serve config token turns)) before after = ⊤
 SparedBy (Some (Replay asked)) before after = ⊤
 SparedBy (Some (Check records)) before after = after ≡ before
-SparedBy (Some (Charges config)) before after = after ≡ before
+SparedBy (Some (Charges config)) before after = ⊤
 SparedBy (Some (Workload calls salt)) before after = after ≡ before

@@ -2,6 +2,7 @@
 -- there (3GPP TS 24.623 §5).
 use Rattle.std.specs.Prelude.{◌≡◌, ◌≢◌, ℕ, ◌||◌, Bool, true, false, List, Option, Some, None, IfSome, if◌then◌else◌}
 use Rattle.std.specs.Option.{option_map}
+use Rattle.mmtel_charging.specs.declared.rows.Row.{Row}
 use Rattle.mmtel_in_force.specs.Texts.{Texts}
 use Rattle.mmtel_keeper.specs.Kept.{Held, KeeperCalls, called, fails_next}
 use Rattle.mmtel_outside.specs.Counts.{Rose}
@@ -18,11 +19,11 @@ seen held calls faults = record { held = held; calls = calls; faults = faults }
 
 -- ---- binding and loading
 
--- whether it refuses by the numbers of its calls: the next one, which binds it, fails, or else the one behind that, which loads it
+-- whether it refuses by the numbers of its calls: the next one, which binds it, fails, or else the one behind that, which loads it or, of `charges`, asks for its rows
 abbrev pub refuses : KeeperCalls → Bool
 refuses calls = fails_next calls || fails_next (called calls)
 
--- its calls then; where it cannot be bound it is not asked to load
+-- its calls then; where it cannot be bound it is asked nothing more
 abbrev pub opened : (path : List ℕ) → KeeperCalls → KeeperCalls
 opened path calls = if fails_next calls then called calls else called (record (called calls) { path = Some path })
 
@@ -38,7 +39,14 @@ pub record IsLoaded (path : List ℕ) (loaded : Texts) (keeper later : KeeperSee
   pub held : later.held ≡ keeper.held
   pub count : later.faults ≡ keeper.faults
 
--- it could not be bound to the path, or not be loaded: its count of faults rose, and what it holds is as before
+-- it was bound to the path and asked for its rows, and gave these, which are those that it holds, where it tells them
+pub record GivesRows (path : List ℕ) (rows : List Row) (keeper later : KeeperSeen) : Type 0 where
+  pub calls : IsOpened path keeper.calls later.calls false
+  pub told : IfSome keeper.held (λ held. rows ≡ held.rows)
+  pub held : later.held ≡ keeper.held
+  pub count : later.faults ≡ keeper.faults
+
+-- it could not be bound to the path, or not be loaded or, of `charges`, not give its rows: its count of faults rose, and what it holds is as before
 pub record IsNotLoaded (path : List ℕ) (keeper later : KeeperSeen) : Type 0 where
   pub calls : IsOpened path keeper.calls later.calls true
   pub held : later.held ≡ keeper.held

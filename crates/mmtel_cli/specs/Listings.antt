@@ -1,6 +1,8 @@
--- What the run of a script's events comes to.
+-- What the run of a script's events comes to, and what lists the rows of a keeper.
 use Rattle.std.specs.Prelude.{◌≡◌, ℕ, List, [], Option}
 use Rattle.std.specs.Option.{option_map}
+use Rattle.mmtel_charging.specs.Rows.{text_of}
+use Rattle.mmtel_charging.specs.declared.rows.Row.{Row}
 use Rattle.mmtel_directory.specs.declared.directories.Directory.{Directory}
 use Rattle.mmtel_in_force.specs.Texts.{Texts}
 use Rattle.mmtel_keeper.specs.Kept.{Held}
@@ -16,8 +18,8 @@ use Rattle.mmtel_run.specs.World.{World}
 use Rattle.mmtel_run_secret.specs.Headline.{SeesAlike}
 use Rattle.mmtel_script.specs.Listing.{listing_of}
 use Rattle.mmtel_server.specs.Driven.{EachAnswers, EachCounted, with_all}
-use Rattle.mmtel_server.specs.Handed.{RowsCharged}
-use Rattle.mmtel_cli.specs.Keeping.{IsBoundStill, IsLoaded, KeeperSeen}
+use Rattle.mmtel_server.specs.Charged.{RowsCharged}
+use Rattle.mmtel_cli.specs.Keeping.{GivesRows, IsBoundStill, IsLoaded, KeeperSeen}
 
 -- what a keeper holds after the run in which this happened, where it tells that: what it held before, over it each upload that was kept, in their order, and behind its rows those that it took
 abbrev pub HoldsAll : Directory → (token : List ℕ) → (loaded : Texts) → List Happened → (held later : Option Held) → Type 0
@@ -68,3 +70,9 @@ pub record Lists (directory : Directory) (token : List ℕ) (events : List Event
   pub opening : KeeperSeen
   pub opened : IsLoaded directory.store loaded keeper opening
   pub lists : ListsOver directory token loaded events opening later text
+
+-- the text has the charging rows that a keeper holds, which was bound to the store first (RFC 4180, 3GPP TS 32.260 §5)
+pub record ListsRows (store : List ℕ) (keeper later : KeeperSeen) (text : List ℕ) : Type 0 where
+  pub rows : List Row
+  pub given : GivesRows store rows keeper later
+  pub listing : text ≡ text_of rows

@@ -2,6 +2,8 @@
 use Rattle.std.specs.Prelude.{◌≡◌, ◌≢◌, ℕ, ◌⊎◌, List, codes, IfSome, Some, None, Ok, Err}
 use Rattle.std.specs.declared.option.Option.{Option}
 use Rattle.std.specs.declared.result.Result.{Result}
+use Rattle.mmtel_charging.specs.Rows.{text_of}
+use Rattle.mmtel_charging.specs.declared.rows.Row.{Row}
 use Rattle.mmtel_directory.specs.Directory.{directory_of}
 use Rattle.mmtel_directory.specs.declared.directories.Directory.{Directory}
 use Rattle.mmtel_in_force.specs.Texts.{Texts}
@@ -19,10 +21,10 @@ use Rattle.mmtel_script.specs.Script.{events_of}
 use Rattle.mmtel_uploads.specs.Uploads.{upload_of}
 use Rattle.mmtel_uploads.specs.declared.uploads.Upload.{Upload}
 use Rattle.mmtel_uploads.specs.declared.uploads.Upload.TheVariants as upload
-use Rattle.mmtel_cli.specs.CommandLine.{IsReplay, IsCheck, SpellsNone}
+use Rattle.mmtel_cli.specs.CommandLine.{IsReplay, IsCheck, IsCharges, SpellsNone}
 use Rattle.mmtel_cli.specs.Due.{shelf_of_config}
 use Rattle.mmtel_cli.specs.Ends.{Wrote, WroteListing, line_text}
-use Rattle.mmtel_cli.specs.Keeping.{IsLoaded, IsNotLoaded, KeeperSeen}
+use Rattle.mmtel_cli.specs.Keeping.{GivesRows, IsLoaded, IsNotLoaded, KeeperSeen}
 use Rattle.mmtel_cli.specs.Listings.{OffersRun}
 use Rattle.mmtel_cli.specs.Words.{Asked}
 
@@ -48,7 +50,7 @@ WroteLine line status before after faults now = Said (line_text line) 2 status b
 abbrev pub WroteFile : ℕ → Option (List ℕ) → Option (List ℕ) → ℕ → ℕ → Type 0
 WroteFile status before after faults now = Said (codes "file\n") 5 status before after faults now
 
--- a keeper that could not be bound or loaded: status 6, and `keeper`
+-- a keeper that could not be bound, or not be loaded or not give its rows: status 6, and `keeper`
 abbrev pub WroteKeeper : ℕ → Option (List ℕ) → Option (List ℕ) → ℕ → ℕ → Type 0
 WroteKeeper status before after faults now = Said (codes "keeper\n") 6 status before after faults now
 
@@ -117,6 +119,26 @@ abbrev pub EndsOfRecords : Option (List ℕ) → ℕ → Option (List ℕ) → O
 EndsOfRecords None status before after faults now = WroteFile status before after faults now
 EndsOfRecords (Some text) status before after faults now = EndsOfUpload (upload_of text) status before after faults now
 
+-- ---- how the writing of a keeper's rows ends
+
+-- the keeper was bound to the store and gave these rows, and their text was written: whole with status 0, and else a front of it with status 7 (RFC 4180, 3GPP TS 32.260 §5)
+pub record ListedRows (store : List ℕ) (keeper later : KeeperSeen) (status : ℕ) (before after : Option (List ℕ)) (faults now : ℕ) : Type 0 where
+  pub rows : List Row
+  pub given : GivesRows store rows keeper later
+  pub written : WroteListing (text_of rows) status before after faults now
+
+-- once the configuration was read: its store's rows were written, or the keeper could not be bound to it or not give them
+abbrev pub EndsOfStore : Result Directory ℕ → (keeper later : KeeperSeen) → ℕ → Option (List ℕ) → Option (List ℕ) → ℕ → ℕ → Type 0
+EndsOfStore (Ok directory) keeper later status before after faults now =
+    ListedRows directory.store keeper later status before after faults now
+    ⊎ (IsNotLoaded directory.store keeper later × WroteKeeper status before after faults now)
+EndsOfStore (Err line) keeper later status before after faults now = WroteLine line status before after faults now
+
+-- once the configuration was asked for
+abbrev pub EndsOfCharges : Option (List ℕ) → (keeper later : KeeperSeen) → ℕ → Option (List ℕ) → Option (List ℕ) → ℕ → ℕ → Type 0
+EndsOfCharges None keeper later status before after faults now = WroteFile status before after faults now
+EndsOfCharges (Some config) keeper later status before after faults now = EndsOfStore (directory_of config) keeper later status before after faults now
+
 -- ---- a run
 
 -- the answers that the files gave for CONFIG and SCRIPT: None where the read failed; where the files tell, those of the first call and of the second
@@ -141,14 +163,25 @@ pub record Checked (told : Option Shelf) (words : List (List ℕ)) (status : ℕ
   pub told_text : IfSome told (λ shelf. text ≡ answer_at shelf records)
   pub ends : EndsOfRecords text status before after faults now ⊎ WroteMemory status before after faults now
 
+-- the words spell a `charges`, and it ended as the files' answer for CONFIG, which is that of the first call where the files tell, and the keeper's say; or memory ran out
+pub record Charged (told : Option Shelf) (keeper later : KeeperSeen) (words : List (List ℕ)) (status : ℕ) (before after : Option (List ℕ)) (faults now : ℕ) : Type 0 where
+  pub config : List ℕ
+  pub spelled : IsCharges config words
+  pub text : Option (List ℕ)
+  pub told_text : IfSome told (λ shelf. text ≡ answer_at shelf config)
+  pub ends : EndsOfCharges text keeper later status before after faults now ⊎ WroteMemory status before after faults now
+
 -- the words spell no command
 pub record Refused (words : List (List ℕ)) (status : ℕ) (before after : Option (List ℕ)) (faults now : ℕ) : Type 0 where
   pub none : SpellsNone words
   pub said : WroteUsage status before after faults now
 
-abbrev pub Ran : Option Shelf → (keeper later : KeeperSeen) → List (List ℕ) → ℕ → Option (List ℕ) → Option (List ℕ) → ℕ → ℕ → Type 0
-Ran told keeper later words status before after faults now =
-    Replayed told keeper later words status before after faults now ⊎ (Checked told words status before after faults now ⊎ Refused words status before after faults now)
+-- one of these
+pub data Ran (told : Option Shelf) (keeper later : KeeperSeen) (words : List (List ℕ)) (status : ℕ) (before after : Option (List ℕ)) (faults now : ℕ) : Type 0 where
+  RanReplay : Replayed told keeper later words status before after faults now → Ran told keeper later words status before after faults now
+  RanCheck : Checked told words status before after faults now → Ran told keeper later words status before after faults now
+  RanCharges : Charged told keeper later words status before after faults now → Ran told keeper later words status before after faults now
+  RanNone : Refused words status before after faults now → Ran told keeper later words status before after faults now
 
 -- ---- the calls of files
 
@@ -157,12 +190,13 @@ pub record Called (status : ℕ) (after : Option Shelf) (first last : Shelf) : T
   pub all : status ≢ 8 → after ≡ Some last
   pub some : status ≡ 8 → (after ≡ Some first) ⊎ (after ≡ Some last)
 
--- of `replay` CONFIG and then SCRIPT, each once and no other name, SCRIPT only where CONFIG is there and good; of `check` RECORDS, once and no other name; nothing without a
--- command
+-- of `replay` CONFIG and then SCRIPT, each once and no other name, SCRIPT only where CONFIG is there and good; of `check` RECORDS, and of `charges` CONFIG, once and no other name; nothing
+-- without a command
 pub record CalledFor (shelf : Shelf) (words : List (List ℕ)) (status : ℕ) (after : Option Shelf) : Type 0 where
   pub none : SpellsNone words → after ≡ Some shelf
   pub each : (asked : Asked) → IsReplay asked words → Called status after (called shelf) (shelf_of_config (called shelf) (answer_at shelf asked.config))
   pub checked : (records : List ℕ) → IsCheck records words → after ≡ Some (called shelf)
+  pub charged : (config : List ℕ) → IsCharges config words → after ≡ Some (called shelf)
 
 -- the count of the files' faults rose at status 5, and is as before at every other
 pub record CountsAtFive (status before now : ℕ) : Type 0 where

@@ -12,10 +12,10 @@ use Rattle.mmtel_script.specs.Script.{events_of}
 use Rattle.mmtel_sheet_values.specs.declared.values.Sheet.{Sheet}
 use Rattle.mmtel_uploads.specs.Uploads.{upload_of}
 use Rattle.mmtel_uploads.specs.declared.uploads.Upload.TheVariants.{Accepted, Refused}
-use Rattle.mmtel_cli.specs.CommandLine.{IsReplay, IsCheck, SpellsNone}
+use Rattle.mmtel_cli.specs.CommandLine.{IsReplay, IsCheck, IsCharges, SpellsNone}
 use Rattle.mmtel_cli.specs.Ends.{WroteListing}
 use Rattle.mmtel_cli.specs.Keeping.{KeeperSeen, refuses}
-use Rattle.mmtel_cli.specs.Runs.{CountsAtFive, EndsOfUpload, Listed, Ran}
+use Rattle.mmtel_cli.specs.Runs.{CountsAtFive, EndsOfUpload, Listed, ListedRows, Ran}
 use Rattle.mmtel_cli.specs.Words.{Asked}
 
 -- the words spell a `replay` whose files are there and of their grammars
@@ -70,6 +70,30 @@ ChecksAreTold =
     IsThere shelf words text → Ran (Some shelf) keeper later words status before after faults now →
     EndsOfUpload (upload_of text) status before after faults now ⊎ (status ≡ 8)
 
+-- the words spell a `charges` whose configuration is there and of its grammar
+pub record IsKept (shelf : Shelf) (words : List (List ℕ)) (directory : Directory) : Type 0 where
+  pub config : List ℕ
+  pub spelled : IsCharges config words
+  pub text : List ℕ
+  pub there : answer_at shelf config ≡ Some text
+  pub read : directory_of text ≡ Ok directory
+
+-- of these, the rows that the keeper holds were written; or memory ran out
+abbrev pub RowsAreListed : Type 0
+RowsAreListed =
+    (shelf : Shelf) (keeper later : KeeperSeen) (words : List (List ℕ)) (directory : Directory)
+    (status : ℕ) (before after : Option (List ℕ)) (faults now : ℕ) →
+    IsKept shelf words directory → IsWilling keeper later → Ran (Some shelf) keeper later words status before after faults now →
+    ListedRows directory.store keeper later status before after faults now ⊎ (status ≡ 8)
+
+-- and where the keeper tells that it cannot be bound or not give them, the status is 6, or 8
+abbrev pub RowsWantAKeeper : Type 0
+RowsWantAKeeper =
+    (shelf : Shelf) (keeper later : KeeperSeen) (calls : KeeperCalls) (words : List (List ℕ)) (directory : Directory)
+    (status : ℕ) (before after : Option (List ℕ)) (faults now : ℕ) →
+    IsKept shelf words directory → keeper.calls ≡ Some calls → refuses calls ≡ true → Ran (Some shelf) keeper later words status before after faults now →
+    (status ≡ 6) ⊎ (status ≡ 8)
+
 -- a run that was listed, whatever the files tell
 pub record ListsOne (keeper later : KeeperSeen) (words : List (List ℕ)) (status : ℕ) (before after : Option (List ℕ)) (faults now : ℕ) : Type 0 where
   pub asked : Asked
@@ -93,10 +117,23 @@ pub record ChecksOne (words : List (List ℕ)) (status : ℕ) (before after : Op
   pub sound : upload_of text ≡ Accepted sheet
   pub written : WroteListing (codes "ok\n") status before after faults now
 
--- at status 0 there is a listing, or a service record was checked
+-- rows of a keeper that were written, whatever the files tell
+pub record ChargesOne (keeper later : KeeperSeen) (words : List (List ℕ)) (status : ℕ) (before after : Option (List ℕ)) (faults now : ℕ) : Type 0 where
+  pub config : List ℕ
+  pub spelled : IsCharges config words
+  pub directory : Directory
+  pub listed : ListedRows directory.store keeper later status before after faults now
+
+-- what was done where the status is 0
+pub data DoneAtZero (keeper later : KeeperSeen) (words : List (List ℕ)) (before after : Option (List ℕ)) (faults now : ℕ) : Type 0 where
+  DoneReplay : ListsOne keeper later words 0 before after faults now → DoneAtZero keeper later words before after faults now
+  DoneCheck : ChecksOne words 0 before after faults now → DoneAtZero keeper later words before after faults now
+  DoneCharges : ChargesOne keeper later words 0 before after faults now → DoneAtZero keeper later words before after faults now
+
+-- at status 0 there is a listing, or a service record was checked, or the rows of a keeper were written
 abbrev pub ZeroIsListed : Type 0
 ZeroIsListed = OfEachRun (λ keeper later words status before after faults now.
-    status ≡ 0 → ListsOne keeper later words 0 before after faults now ⊎ ChecksOne words 0 before after faults now)
+    status ≡ 0 → DoneAtZero keeper later words before after faults now)
 
 -- status 1 comes exactly where the words spell no command
 abbrev pub OneIsUsage : Type 0

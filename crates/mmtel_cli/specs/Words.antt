@@ -1,4 +1,4 @@
--- What the words of a command line ask of `replay` and of `check`, read from the left.
+-- What the words of a command line ask of `replay`, of `check` and of `charges`, read from the left.
 use Rattle.std.specs.Prelude.{ℕ, ◌==◌, ◌&&◌, ◌||◌, not, nat_le, nat_eq, List, [], ◌∷◌, ◌++◌, length, true, false, Bool, if◌then◌else◌, Some, None, codes}
 use Rattle.std.specs.List.{list_all, starts_with}
 use Rattle.std.specs.Option.{option_to_list}
@@ -150,7 +150,15 @@ only_word (first ∷ second ∷ []) =
     else None
 only_word (first ∷ second ∷ third ∷ words) = None
 
--- the name of the file that the words ask to check, the command first; None where they are no `check` of the grammar
+-- the one word behind the command of that name, the command first; None where the words are no such command of the grammar
+abbrev pub only_of : (name : List ℕ) → List (List ℕ) → Option (List ℕ)
+only_of name [] = None
+only_of name (word ∷ words) = if bytes_eq word name then only_word words else None
+
+-- the name of the file that the words ask to check
 abbrev pub records_of : List (List ℕ) → Option (List ℕ)
-records_of [] = None
-records_of (word ∷ words) = if bytes_eq word (codes "check") then only_word words else None
+records_of words = only_of (codes "check") words
+
+-- the name of the configuration whose store's rows the words ask for
+abbrev pub config_of : List (List ℕ) → Option (List ℕ)
+config_of words = only_of (codes "charges") words

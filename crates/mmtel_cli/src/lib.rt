@@ -1,6 +1,7 @@
 //! The program's work: the words of its command line, what is due to be written, and how it runs over what lies outside.
 #![tactic(auto)]
 
+mod charges;
 mod checks;
 mod laws;
 mod reports;

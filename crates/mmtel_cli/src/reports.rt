@@ -19,11 +19,11 @@ pub enum Report {
     Line(u64),
     /// `file`, status 5: a file could not be read.
     File,
-    /// `keeper`, status 6: the keeper could not be bound or not be loaded.
+    /// `keeper`, status 6: the keeper could not be bound, or not be loaded or not give its rows.
     Keeper,
     /// `memory`, status 8: memory ran out.
     Memory,
-    /// The listing of what was offered, status 0; 7 where it is not written whole.
+    /// The listing of what was offered, or the charging rows that the keeper holds, status 0; 7 where it is not written whole.
     Listing(Text),
     /// `ok`, status 0, and 7 where it is not written whole: the file is a service record.
     Sound,

@@ -12,6 +12,7 @@ ghost use Rattle.mmtel_cli.specs.Runs.{CalledFor, CountsAtFive, Ran};
 ghost use Rattle.mmtel_outside.specs.Shelf.{called};
 ghost use Rattle.mmtel_script.specs.Script.{unheard};
 
+use crate::charges::over_charges;
 use crate::checks::over_records;
 use crate::reports::{Report, write_report};
 use crate::runs::listed;
@@ -161,6 +162,7 @@ fn over_wanted<F: Files, K: Keeper>(
     match wanted {
         Wanted::Replay(replay) => over_replay(alloc, replay, files, keeper),
         Wanted::Check(records) => over_records(alloc, records, files),
+        Wanted::Charges(config) => over_charges(alloc, config, files, keeper),
     }
 }
 
@@ -187,7 +189,7 @@ fn prepare<F: Files, K: Keeper>(
 
 /// Runs the command that the words ask for over these files and this keeper, writes what is due to the sink, and answers the status.
 ///
-/// `words` are those behind the program's own name. There are two commands so far. `replay CONFIG SCRIPT --token T` reads the configuration and then the script, each once, binds the keeper to the store of the configuration and loads it, each once, and writes the listing of what the server offers; records that are uploaded in the script are kept by the keeper, and the charging rows of its calls and rooms are handed to it. `check RECORDS` reads that file once, and writes `ok` where it is a service record, and else the line that tells its first fault. The status is 0 where the listing or `ok` was written whole, 1 where the words are not of the grammar (`usage`), 2 where the configuration, or else the script, breaks its grammar (`line N`), 3 where the file that is checked is no service record (`not toml`, `unknown KEY`, `wrong KEY` or `many KEY LIMIT`), 5 where the configuration, or else the script, or the file that is checked cannot be read (`file`), 6 where the keeper cannot be bound or not be loaded (`keeper`), 7 where the sink failed before the listing or `ok` was whole, and 8 for want of memory (`memory`).
+/// `words` are those behind the program's own name. There are three commands so far. `replay CONFIG SCRIPT --token T` reads the configuration and then the script, each once, binds the keeper to the store of the configuration and loads it, each once, and writes the listing of what the server offers; records that are uploaded in the script are kept by the keeper, and the charging rows of its calls and rooms are handed to it. `check RECORDS` reads that file once, and writes `ok` where it is a service record, and else the line that tells its first fault. `charges CONFIG` reads the configuration once, binds the keeper to its store and asks for its rows, each once, and writes them as comma-separated values with a header line. The status is 0 where the listing, `ok` or the rows were written whole, 1 where the words are not of the grammar (`usage`), 2 where the configuration, or else the script, breaks its grammar (`line N`), 3 where the file that is checked is no service record (`not toml`, `unknown KEY`, `wrong KEY` or `many KEY LIMIT`), 5 where the configuration, or else the script, or the file that is checked cannot be read (`file`), 6 where the keeper cannot be bound, or not be loaded or not give its rows (`keeper`), 7 where the sink failed before the listing, `ok` or the rows were whole, and 8 for want of memory (`memory`).
 pub fn run<F: Files, K: Keeper, S: Sink>(
     alloc: Global,
     words: &[Text],
@@ -195,7 +197,7 @@ pub fn run<F: Files, K: Keeper, S: Sink>(
     keeper: &mut K,
     out: &mut S,
 ) -> u8
-    // What was written and answered: by the words as their grammar spells them and by what the files answered, the listing of exactly the offers that the definitions of the run give over what the keeper gave, which keep the secret of restricted callers, with what the keeper holds then, the charging rows of the calls and of the seats of conference rooms, and what each call came to; or that it could not be bound to the store of the configuration or not be loaded; or what a text that was checked is; or the text of another status.
+    // What was written and answered: by the words as their grammar spells them and by what the files answered, the listing of exactly the offers that the definitions of the run give over what the keeper gave, which keep the secret of restricted callers, with what the keeper holds then, the charging rows of the calls and of the seats of conference rooms, and what each call came to; or that it could not be bound to the store of the configuration or not be loaded; or what a text that was checked is; or the text of exactly the charging rows that the keeper gave, or that it could not be bound or not give them; or the text of another status.
     ensures ran { Ran (F.told files.old) (seen (K.held keeper.old) (K.calls keeper.old) (K.faults keeper.old))
         (seen (K.held keeper.new) (K.calls keeper.new) (K.faults keeper.new)) words.now result (S.written out.old) (S.written out.new) (S.faults out.old) (S.faults out.new) }
     // What was asked of the files.

@@ -4,7 +4,7 @@ ghost use Rattle.std.specs.Option.{option_to_list, option_copied};
 ghost use Rattle.std.specs.List.{list_all};
 ghost use Rattle.mmtel_cli.specs.CommandLine.{Command, IsHere, IsCommand};
 ghost use Rattle.mmtel_cli.specs.Commands.{command_given, command_of};
-ghost use Rattle.mmtel_cli.specs.Words.{Asked, is_hex, is_token, kind_of, kind_of_value, kind_of_joined, kind_of_other, kind_of_word, mode_after, with_positional, value_of, is_complete, is_positional, replay_from, replay_of_rest, replay_of, only_word, records_of};
+ghost use Rattle.mmtel_cli.specs.Words.{Asked, is_hex, is_token, kind_of, kind_of_value, kind_of_joined, kind_of_other, kind_of_word, mode_after, with_positional, value_of, is_complete, is_positional, replay_from, replay_of_rest, replay_of, only_of, only_word};
 ghost use Rattle.mmtel_cli.specs.Asked.{asked_of, positionals_of};
 
 use mmtel_scan::{Text, skip_text};
@@ -27,6 +27,8 @@ pub enum Wanted<'a> {
     Replay(Replay<'a>),
     /// That the file of this name be checked: whether it is a service record.
     Check(&'a [u8]),
+    /// That the charging rows be written that the store of the configuration of this name holds.
+    Charges(&'a [u8]),
 }
 
 /// The positional words so far.
@@ -287,12 +289,12 @@ fn only_word(words: &[Text]) -> Option<&[u8]>
     }
 }
 
-/// The name of the file that the words ask to check, the command first.
-fn read_check(words: &[Text]) -> Option<&[u8]>
-    ensures asked { option_copied result ≡ records_of words.now }
+/// The one positional word of the command of that name, the command first.
+fn read_only<'a>(name: &[u8], words: &'a [Text]) -> Option<&'a [u8]>
+    ensures asked { option_copied result ≡ only_of name.now words.now }
 {
     let (first, rest) = words.split_first()?;
-    if first.bytes() == b"check".as_slice() {
+    if first.bytes() == name {
         only_word(rest)
     } else {
         None
@@ -305,16 +307,19 @@ fn read_command(words: &[Text]) -> Option<Wanted<'_>>
 {
     match read_replay(words) {
         Some(replay) => Some(Wanted::Replay(replay)),
-        None => match read_check(words) {
+        None => match read_only(b"check", words) {
             Some(records) => Some(Wanted::Check(records)),
-            None => None,
+            None => match read_only(b"charges", words) {
+                Some(config) => Some(Wanted::Charges(config)),
+                None => None,
+            },
         },
     }
 }
 
 /// What the words ask for, the command first. It takes no memory.
 ///
-/// The commands so far are `replay CONFIG SCRIPT --token T` and `check RECORDS`. The words behind the command are read from the left: for `replay` `--token T` or `--token=T`, which stands exactly once; `--`, which makes all later words positional; any other word is positional if it is `-` or does not begin with `-`. The positional words are exactly as many as named. T is 16 lower-case hexadecimal digits. None exactly where the words are not of this grammar.
+/// The commands so far are `replay CONFIG SCRIPT --token T`, `check RECORDS` and `charges CONFIG`. The words behind the command are read from the left: for `replay` `--token T` or `--token=T`, which stands exactly once; `--`, which makes all later words positional; any other word is positional if it is `-` or does not begin with `-`. The positional words are exactly as many as named. T is 16 lower-case hexadecimal digits. None exactly where the words are not of this grammar.
 pub fn command(words: &[Text]) -> Option<Wanted<'_>>
     ensures asked { command_given result ≡ command_of words.now }
     ensures spelled { IfSome (command_given result) (λ wanted. IsHere wanted × IsCommand wanted words.now) }

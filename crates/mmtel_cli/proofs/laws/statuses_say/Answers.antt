@@ -1,4 +1,4 @@
-use Rattle.mmtel_cli.proofs.Saying.{checks_are_told, good_ones_are_listed, good_ones_succeed, good_ones_want_a_keeper, no_fault_no_failure, one_is_usage, seven_rose, six_rose, statuses_are_these, three_is_refused, zero_is_listed, zero_kept}
+use Rattle.mmtel_cli.proofs.Saying.{checks_are_told, good_ones_are_listed, good_ones_succeed, good_ones_want_a_keeper, no_fault_no_failure, one_is_usage, rows_are_listed, rows_want_a_keeper, seven_rose, six_rose, statuses_are_these, three_is_refused, zero_is_listed, zero_kept}
 use Rattle.mmtel_cli.proofs.laws.statuses_say.Goals as goal
 
 pub returns-clause-good : goal.returns-clause-good
@@ -12,6 +12,12 @@ returns-clause-unkept c = good_ones_want_a_keeper
 
 pub returns-clause-checked : goal.returns-clause-checked
 returns-clause-checked c = checks_are_told
+
+pub returns-clause-charged : goal.returns-clause-charged
+returns-clause-charged c = rows_are_listed
+
+pub returns-clause-uncharged : goal.returns-clause-uncharged
+returns-clause-uncharged c = rows_want_a_keeper
 
 pub returns-clause-zero : goal.returns-clause-zero
 returns-clause-zero c = zero_is_listed

@@ -1,0 +1,90 @@
+//! Writing the charging rows that a keeper holds.
+ghost use Rattle.std.specs.Prelude.{◌≡◌, ◌≢◌, IfOk, IfSome, IsErrOf, Some};
+ghost use Rattle.mmtel_cli.specs.Due as due;
+ghost use Rattle.mmtel_cli.specs.Due.{due_of_charges};
+ghost use Rattle.mmtel_cli.specs.Found.{CountsFiles, IsDue, IsRead, Spares};
+ghost use Rattle.mmtel_cli.specs.Gives.{GivesCharges};
+ghost use Rattle.mmtel_cli.specs.Keeping.{GivesRows, IsNotLoaded, seen};
+ghost use Rattle.mmtel_cli.specs.Listings.{ListsRows};
+ghost use Rattle.mmtel_keeper.specs.declared.keepers.KeepFault.TheVariants as fault;
+ghost use Rattle.mmtel_outside.specs.Shelf.{called};
+
+use crate::reports::Report;
+use mmtel_charging::{Row, rows_text};
+use mmtel_directory::{DirectoryFault, read_directory};
+use mmtel_keeper::{KeepFault, Keeper};
+use mmtel_outside::{FileFault, Files};
+use mmtel_scan::{List, Text};
+use std::alloc::Global;
+
+/// Binds a keeper to the place of that name, and asks for the rows that it holds there.
+fn rows_kept<K: Keeper>(alloc: Global, keeper: &mut K, store: &[u8]) -> Result<List<Row>, KeepFault>
+    ensures given { IfOk result (λ rows. GivesRows store.now rows (seen (K.held keeper.old) (K.calls keeper.old) (K.faults keeper.old))
+        (seen (K.held keeper.new) (K.calls keeper.new) (K.faults keeper.new))) }
+    ensures failed { IsErrOf result fault.Failed → IsNotLoaded store.now (seen (K.held keeper.old) (K.calls keeper.old) (K.faults keeper.old))
+        (seen (K.held keeper.new) (K.calls keeper.new) (K.faults keeper.new)) }
+{
+    keeper.bind(alloc, store)?;
+    keeper.rows(alloc)
+}
+
+/// The text of the rows that a keeper holds at the place of that name.
+fn rows_listed<K: Keeper>(alloc: Global, keeper: &mut K, store: &[u8]) -> Result<Text, KeepFault>
+    ensures lists { IfOk result (λ text. ListsRows store.now (seen (K.held keeper.old) (K.calls keeper.old) (K.faults keeper.old))
+        (seen (K.held keeper.new) (K.calls keeper.new) (K.faults keeper.new)) text) }
+    ensures failed { IsErrOf result fault.Failed → IsNotLoaded store.now (seen (K.held keeper.old) (K.calls keeper.old) (K.faults keeper.old))
+        (seen (K.held keeper.new) (K.calls keeper.new) (K.faults keeper.new)) }
+{
+    let rows = rows_kept(alloc, keeper, store)?;
+    let text = rows_text(alloc, rows.items())?;
+    Ok(text)
+}
+
+/// What is due over the store of that name.
+fn over_store<K: Keeper>(alloc: Global, keeper: &mut K, store: &[u8]) -> Report
+    ensures due { IsDue (seen (K.held keeper.old) (K.calls keeper.old) (K.faults keeper.old))
+        (seen (K.held keeper.new) (K.calls keeper.new) (K.faults keeper.new)) result (due.Rows store.now) }
+    ensures read { IsRead result }
+    ensures spares { Spares result keeper.old keeper.new }
+{
+    match rows_listed(alloc, keeper, store) {
+        Ok(text) => Report::Listing(text),
+        Err(KeepFault::Failed) => Report::Keeper,
+        Err(KeepFault::NoMemory) => Report::Memory,
+    }
+}
+
+/// What is due once the configuration's text is there.
+fn over_text<K: Keeper>(alloc: Global, config: &Text, keeper: &mut K) -> Report
+    ensures due { IsDue (seen (K.held keeper.old) (K.calls keeper.old) (K.faults keeper.old))
+        (seen (K.held keeper.new) (K.calls keeper.new) (K.faults keeper.new)) result (due_of_charges (Some config.now)) }
+    ensures read { IsRead result }
+    ensures spares { Spares result keeper.old keeper.new }
+{
+    match read_directory(alloc, config.bytes()) {
+        Ok(directory) => over_store(alloc, keeper, directory.store.bytes()),
+        Err(DirectoryFault::BadLine { line }) => Report::Line(line),
+        Err(DirectoryFault::NoMemory) => Report::Memory,
+    }
+}
+
+/// What is due of `charges`. The next call of the files is for the configuration.
+pub fn over_charges<F: Files, K: Keeper>(
+    alloc: Global,
+    config: &[u8],
+    files: &mut F,
+    keeper: &mut K,
+) -> Report
+    ensures gives { GivesCharges (F.told files.old) (seen (K.held keeper.old) (K.calls keeper.old) (K.faults keeper.old))
+        (seen (K.held keeper.new) (K.calls keeper.new) (K.faults keeper.new)) config.now result }
+    ensures calls { IfSome (F.told files.old) (λ shelf. F.told files.new ≡ Some (called shelf)) }
+    ensures count { CountsFiles result (F.faults files.old) (F.faults files.new) }
+    ensures asked { result ≢ Report.Usage }
+    ensures spares { Spares result keeper.old keeper.new }
+{
+    match files.read(alloc, config) {
+        Ok(config) => over_text(alloc, &config, keeper),
+        Err(FileFault::Failed) => Report::File,
+        Err(FileFault::NoMemory) => Report::Memory,
+    }
+}

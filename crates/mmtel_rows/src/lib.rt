@@ -1,16 +1,20 @@
-//! Worked rows over the top call: words, files, a keeper and a sink in memory, with the status and the text that come of them.
+//! Worked rows over the top call: words, files, a keeper and a sink in memory, with the status and the text that come of them; and tables over the calls right below it: of the server, and of what is read of events, decided of requests and built of them.
 //!
-//! What the contracts say needs no test. Here stand whole runs whose texts come from the standards and from the rules of the formats, and runs over files, keepers and sinks that fail, with memory enough, since a body that always answers want of memory meets its contract too.
+//! What the contracts say needs no test. Here stand whole runs whose texts come from the standards and from the rules of the formats, and runs over files, keepers, links and sinks that fail, with memory enough, since a body that always answers want of memory meets its contract too.
 #![tactic(auto)]
 
 #[cfg(test)]
 mod calls;
 #[cfg(test)]
+mod cases;
+#[cfg(test)]
 mod checks;
 #[cfg(test)]
-mod datagrams;
+mod courses;
 #[cfg(test)]
 mod devices;
+#[cfg(test)]
+mod digesting;
 #[cfg(test)]
 mod faults;
 #[cfg(test)]
@@ -18,13 +22,29 @@ mod limits;
 #[cfg(test)]
 mod openings;
 #[cfg(test)]
+mod pages;
+#[cfg(test)]
 mod pairs;
 #[cfg(test)]
 mod registration;
 #[cfg(test)]
+mod replying;
+#[cfg(test)]
+mod requests;
+#[cfg(test)]
+mod rooms;
+#[cfg(test)]
+mod runs;
+#[cfg(test)]
+mod secrets;
+#[cfg(test)]
+mod served;
+#[cfg(test)]
 mod services;
 #[cfg(test)]
-mod tables;
+mod serving;
+#[cfg(test)]
+mod steps;
 #[cfg(test)]
 mod uploads;
 #[cfg(test)]

@@ -1,483 +1,124 @@
 //! Records over HTTP (3GPP TS 24.623 §5; RFC 9110 §9.3 and §15): who may read, put and delete one, what is refused and with which status, and that one is in force exactly where the keeper stored it.
 
-use mmtel_worked_runs::{CONFIG, Devices, is_listed, is_right, sound};
+use crate::cases::wrong_run;
 
-/// Bob puts a record twice and reads it; alice and somebody who has no account put it in his name; he puts a text that is no record.
-const UPLOADS: &str = "at 0 web
-|PUT /simservs/2 HTTP/1.1
-|X-3GPP-Asserted-Identity: \"sip:bob@home.example\"
-|Content-Type: application/toml
-|Content-Length: 38
-|
+const UPLOADS: &str =
+    r#"~ Bob puts a record twice and reads it; alice and somebody who has no account put it in his name; he puts a text that is no record.
+at 0 web|PUT /simservs/2 HTTP/1.1|X-3GPP-Asserted-Identity: "sip:bob@home.example"|Content-Type: application/toml|Content-Length: 38|
 x5b636f6d6d756e69636174696f6e2d77616974696e675d0a616374697665203d20747275650a
-at 1 web
-|PUT /simservs/2 HTTP/1.1
-|X-3GPP-Asserted-Identity: \"sip:bob@home.example\"
-|Content-Type: application/toml
-|Content-Length: 38
-|
+at 1 web|PUT /simservs/2 HTTP/1.1|X-3GPP-Asserted-Identity: "sip:bob@home.example"|Content-Type: application/toml|Content-Length: 38|
 x5b636f6d6d756e69636174696f6e2d77616974696e675d0a616374697665203d20747275650a
-at 2 web
-|GET /simservs/2 HTTP/1.1
-|X-3GPP-Asserted-Identity: \"sip:bob@home.example\"
-|
-at 3 web
-|PUT /simservs/2 HTTP/1.1
-|X-3GPP-Asserted-Identity: \"sip:alice@home.example\"
-|Content-Type: application/toml
-|Content-Length: 38
-|
+at 2 web|GET /simservs/2 HTTP/1.1|X-3GPP-Asserted-Identity: "sip:bob@home.example"|
+at 3 web|PUT /simservs/2 HTTP/1.1|X-3GPP-Asserted-Identity: "sip:alice@home.example"|Content-Type: application/toml|Content-Length: 38|
 x5b636f6d6d756e69636174696f6e2d77616974696e675d0a616374697665203d20747275650a
-at 4 web
-|PUT /simservs/2 HTTP/1.1
-|X-3GPP-Asserted-Identity: \"sip:eve@other.example\"
-|Content-Type: application/toml
-|Content-Length: 38
-|
+at 4 web|PUT /simservs/2 HTTP/1.1|X-3GPP-Asserted-Identity: "sip:eve@other.example"|Content-Type: application/toml|Content-Length: 38|
 x5b636f6d6d756e69636174696f6e2d77616974696e675d0a616374697665203d20747275650a
-at 5 web
-|PUT /simservs/2 HTTP/1.1
-|X-3GPP-Asserted-Identity: \"sip:bob@home.example\"
-|Content-Type: application/toml
-|Content-Length: 23
-|
+at 5 web|PUT /simservs/2 HTTP/1.1|X-3GPP-Asserted-Identity: "sip:bob@home.example"|Content-Type: application/toml|Content-Length: 23|
 x5b636f6d6d756e69636174696f6e2d77616974696e5d0a
-";
-
-/// What each is told.
-const UPLOADED: &str = "at 0 web
-|HTTP/1.1 200 OK
-|Content-Length: 0
-|Connection: close
-|
-at 1 web
-|HTTP/1.1 200 OK
-|Content-Length: 0
-|Connection: close
-|
-at 2 web
-|HTTP/1.1 200 OK
-|Content-Type: application/toml
-|Content-Length: 38
-|Connection: close
-|
+~ What each is told.
+at 0 web|HTTP/1.1 200 OK|Content-Length: 0|Connection: close|
+at 1 web|HTTP/1.1 200 OK|Content-Length: 0|Connection: close|
+at 2 web|HTTP/1.1 200 OK|Content-Type: application/toml|Content-Length: 38|Connection: close|
 x5b636f6d6d756e69636174696f6e2d77616974696e675d0a616374697665203d20747275650a
-at 3 web
-|HTTP/1.1 403 Forbidden
-|Content-Length: 0
-|Connection: close
-|
-at 4 web
-|HTTP/1.1 403 Forbidden
-|Content-Length: 0
-|Connection: close
-|
-at 5 web
-|HTTP/1.1 409 Conflict
-|Content-Type: text/plain
-|Content-Length: 29
-|Connection: close
-|
+at 3 web|HTTP/1.1 403 Forbidden|Content-Length: 0|Connection: close|
+at 4 web|HTTP/1.1 403 Forbidden|Content-Length: 0|Connection: close|
+at 5 web|HTTP/1.1 409 Conflict|Content-Type: text/plain|Content-Length: 29|Connection: close|
 x756e6b6e6f776e20636f6d6d756e69636174696f6e2d77616974696e0a
-";
+~ Bob puts a record, which is the keeper's third call, reads it, puts it again, puts another, deletes it and reads it; the operator asks for the charging rows twice; bob deletes it and reads it.
+=keeps:3 5 6 7
+at 0 web|PUT /simservs/2 HTTP/1.1|X-3GPP-Asserted-Identity: "sip:bob@home.example"|Content-Type: application/toml|Content-Length: 38|
+x5b636f6d6d756e69636174696f6e2d77616974696e675d0a616374697665203d20747275650a
+at 1 web|GET /simservs/2 HTTP/1.1|X-3GPP-Asserted-Identity: "sip:bob@home.example"|
+at 2 web|PUT /simservs/2 HTTP/1.1|X-3GPP-Asserted-Identity: "sip:bob@home.example"|Content-Type: application/toml|Content-Length: 38|
+x5b636f6d6d756e69636174696f6e2d77616974696e675d0a616374697665203d20747275650a
+at 3 web|PUT /simservs/2 HTTP/1.1|X-3GPP-Asserted-Identity: "sip:bob@home.example"|Content-Type: application/toml|Content-Length: 34|
+x5b636f6d6d756e69636174696f6e2d77616974696e675d0a63616c6c73203d20330a
+at 4 web|DELETE /simservs/2 HTTP/1.1|X-3GPP-Asserted-Identity: "sip:bob@home.example"|
+at 5 web|GET /simservs/2 HTTP/1.1|X-3GPP-Asserted-Identity: "sip:bob@home.example"|
+at 6 web|GET /charges HTTP/1.1|X-3GPP-Asserted-Identity: "sip:op@home.example"|
+at 7 web|GET /charges HTTP/1.1|X-3GPP-Asserted-Identity: "sip:op@home.example"|
+at 8 web|DELETE /simservs/2 HTTP/1.1|X-3GPP-Asserted-Identity: "sip:bob@home.example"|
+at 9 web|GET /simservs/2 HTTP/1.1|X-3GPP-Asserted-Identity: "sip:bob@home.example"|
+~ Where a call of the keeper fails the reply is 503, and the record that was there is in force.
+at 0 web|HTTP/1.1 503 Service Unavailable|Content-Length: 0|Connection: close|
+at 1 web|HTTP/1.1 200 OK|Content-Length: 0|Connection: close|
+at 2 web|HTTP/1.1 200 OK|Content-Length: 0|Connection: close|
+at 3 web|HTTP/1.1 503 Service Unavailable|Content-Length: 0|Connection: close|
+at 4 web|HTTP/1.1 503 Service Unavailable|Content-Length: 0|Connection: close|
+at 5 web|HTTP/1.1 200 OK|Content-Type: application/toml|Content-Length: 38|Connection: close|
+x5b636f6d6d756e69636174696f6e2d77616974696e675d0a616374697665203d20747275650a
+at 6 web|HTTP/1.1 503 Service Unavailable|Content-Length: 0|Connection: close|
+at 7 web|HTTP/1.1 200 OK|Content-Type: text/csv|Content-Length: 58|Connection: close|
+x6b696e642c6163636f756e742c63616c6c2c626567616e2c616e7377657265642c656e6465642c686f6c64732c63617573652c7374617475730a
+at 8 web|HTTP/1.1 200 OK|Content-Length: 0|Connection: close|
+at 9 web|HTTP/1.1 200 OK|Content-Length: 0|Connection: close|
+~ Alice, bob and carol read; bob puts a record and reads it. Before, the keeper holds of bob no record, of alice one, and one of an account that is not here.
+=record:2 no record;
+=record:1 [communication-waiting];active = true;
+=record:9 [communication-waiting];calls = 2;
+at 0 web|GET /simservs/1 HTTP/1.1|X-3GPP-Asserted-Identity: "tel:+4930111"|
+at 1 web|GET /simservs/2 HTTP/1.1|X-3GPP-Asserted-Identity: "sip:bob@home.example"|
+at 2 web|GET /simservs/3 HTTP/1.1|X-3GPP-Asserted-Identity: "sip:carol@home.example"|
+at 3 web|PUT /simservs/2 HTTP/1.1|X-3GPP-Asserted-Identity: "sip:bob@home.example"|Content-Type: application/toml|Content-Length: 34|
+x5b636f6d6d756e69636174696f6e2d77616974696e675d0a63616c6c73203d20330a
+at 4 web|GET /simservs/2 HTTP/1.1|X-3GPP-Asserted-Identity: "sip:bob@home.example"|
+~ What the keeper held before is there until another is put, also where it is no record.
+at 0 web|HTTP/1.1 200 OK|Content-Type: application/toml|Content-Length: 38|Connection: close|
+x5b636f6d6d756e69636174696f6e2d77616974696e675d0a616374697665203d20747275650a
+at 1 web|HTTP/1.1 200 OK|Content-Type: application/toml|Content-Length: 10|Connection: close|
+x6e6f207265636f72640a
+at 2 web|HTTP/1.1 200 OK|Content-Length: 0|Connection: close|
+at 3 web|HTTP/1.1 200 OK|Content-Length: 0|Connection: close|
+at 4 web|HTTP/1.1 200 OK|Content-Type: application/toml|Content-Length: 34|Connection: close|
+x5b636f6d6d756e69636174696f6e2d77616974696e675d0a63616c6c73203d20330a
+~ A head that does not end, one with Transfer-Encoding, and one with two lengths; a body that is too large; no such places; methods that are not for them; no such account; nobody's identity, and one that is not the operator's; a body of another type, and one that is no record; then what may be asked.
+at 0 web|GET /simservs/2 HTTP/1.1|Host: x
+at 1 web|GET /simservs/2 HTTP/1.1|X-3GPP-Asserted-Identity: "sip:bob@home.example"|Transfer-Encoding: chunked|
+at 2 web|PUT /simservs/2 HTTP/1.1|X-3GPP-Asserted-Identity: "sip:bob@home.example"|Content-Length: 1|Content-Length: 1|
+at 3 web|PUT /simservs/2 HTTP/1.1|Content-Length: 65537|
+at 4 web|GET /simservs/02 HTTP/1.1|X-3GPP-Asserted-Identity: "sip:bob@home.example"|
+at 5 web|GET / HTTP/1.1|X-3GPP-Asserted-Identity: "sip:bob@home.example"|
+at 6 web|PUT /charges HTTP/1.1|X-3GPP-Asserted-Identity: "sip:op@home.example"|
+at 7 web|POST /simservs/9 HTTP/1.1|X-3GPP-Asserted-Identity: "sip:bob@home.example"|
+at 8 web|GET /simservs/9 HTTP/1.1|X-3GPP-Asserted-Identity: "sip:bob@home.example"|
+at 9 web|GET /simservs/2 HTTP/1.1|
+at 10 web|GET /charges HTTP/1.1|X-3GPP-Asserted-Identity: "sip:bob@home.example"|
+at 11 web|PUT /simservs/2 HTTP/1.1|X-3GPP-Asserted-Identity: "sip:bob@home.example"|Content-Type: text/plain|Content-Length: 38|
+x5b636f6d6d756e69636174696f6e2d77616974696e675d0a616374697665203d20747275650a
+at 12 web|PUT /simservs/2 HTTP/1.1|X-3GPP-Asserted-Identity: "sip:bob@home.example"|Content-Type: application/toml|Content-Length: 1|
+x78
+at 13 web|GET /charges HTTP/1.1|X-3GPP-Asserted-Identity: "sip:op@home.example"|
+at 14 web|GET /simservs/2 HTTP/1.1|X-3GPP-Asserted-Identity: "sip:bob@home.example"|
+~ The first cause that applies is the answer.
+at 0 web|HTTP/1.1 400 Bad Request|Content-Length: 0|Connection: close|
+at 1 web|HTTP/1.1 400 Bad Request|Content-Length: 0|Connection: close|
+at 2 web|HTTP/1.1 400 Bad Request|Content-Length: 0|Connection: close|
+at 3 web|HTTP/1.1 413 Payload Too Large|Content-Length: 0|Connection: close|
+at 4 web|HTTP/1.1 404 Not Found|Content-Length: 0|Connection: close|
+at 5 web|HTTP/1.1 404 Not Found|Content-Length: 0|Connection: close|
+at 6 web|HTTP/1.1 405 Method Not Allowed|Allow: GET|Content-Length: 0|Connection: close|
+at 7 web|HTTP/1.1 405 Method Not Allowed|Allow: GET, PUT, DELETE|Content-Length: 0|Connection: close|
+at 8 web|HTTP/1.1 404 Not Found|Content-Length: 0|Connection: close|
+at 9 web|HTTP/1.1 403 Forbidden|Content-Length: 0|Connection: close|
+at 10 web|HTTP/1.1 403 Forbidden|Content-Length: 0|Connection: close|
+at 11 web|HTTP/1.1 415 Unsupported Media Type|Content-Length: 0|Connection: close|
+at 12 web|HTTP/1.1 409 Conflict|Content-Type: text/plain|Content-Length: 9|Connection: close|
+x6e6f7420746f6d6c0a
+at 13 web|HTTP/1.1 200 OK|Content-Type: text/csv|Content-Length: 58|Connection: close|
+x6b696e642c6163636f756e742c63616c6c2c626567616e2c616e7377657265642c656e6465642c686f6c64732c63617573652c7374617475730a
+at 14 web|HTTP/1.1 200 OK|Content-Length: 0|Connection: close|
+~ What follows a request on its connection is not read.
+at 0 web|PUT /simservs/2 HTTP/1.1|X-3GPP-Asserted-Identity: "sip:bob@home.example"|Content-Type: application/toml|Content-Length: 38|
+x5b636f6d6d756e69636174696f6e2d77616974696e675d0a616374697665203d20747275650a
+x6d6f7265
+at 1 web|GET /simservs/2 HTTP/1.1|X-3GPP-Asserted-Identity: "sip:bob@home.example"||GET /simservs/1 HTTP/1.1
+~ The replies to the requests.
+at 0 web|HTTP/1.1 200 OK|Content-Length: 0|Connection: close|
+at 1 web|HTTP/1.1 200 OK|Content-Type: application/toml|Content-Length: 38|Connection: close|
+x5b636f6d6d756e69636174696f6e2d77616974696e675d0a616374697665203d20747275650a
+"#;
 
 #[test]
 fn uploads(rt: HostRuntime) {
-    assert!(rt; is_listed(rt.alloc(), UPLOADS, UPLOADED));
-}
-
-/// A run of the configuration and a script.
-const REPLAY: &str = "replay|server.cfg|run.script|--token|0123456789abcdef";
-
-/// Bob puts a record, which is the keeper's third call, reads it, puts it again, puts another, deletes it and reads it; the operator asks for the charging rows twice; bob deletes it and reads it.
-const UNKEPT: &str = "at 0 web
-|PUT /simservs/2 HTTP/1.1
-|X-3GPP-Asserted-Identity: \"sip:bob@home.example\"
-|Content-Type: application/toml
-|Content-Length: 38
-|
-x5b636f6d6d756e69636174696f6e2d77616974696e675d0a616374697665203d20747275650a
-at 1 web
-|GET /simservs/2 HTTP/1.1
-|X-3GPP-Asserted-Identity: \"sip:bob@home.example\"
-|
-at 2 web
-|PUT /simservs/2 HTTP/1.1
-|X-3GPP-Asserted-Identity: \"sip:bob@home.example\"
-|Content-Type: application/toml
-|Content-Length: 38
-|
-x5b636f6d6d756e69636174696f6e2d77616974696e675d0a616374697665203d20747275650a
-at 3 web
-|PUT /simservs/2 HTTP/1.1
-|X-3GPP-Asserted-Identity: \"sip:bob@home.example\"
-|Content-Type: application/toml
-|Content-Length: 34
-|
-x5b636f6d6d756e69636174696f6e2d77616974696e675d0a63616c6c73203d20330a
-at 4 web
-|DELETE /simservs/2 HTTP/1.1
-|X-3GPP-Asserted-Identity: \"sip:bob@home.example\"
-|
-at 5 web
-|GET /simservs/2 HTTP/1.1
-|X-3GPP-Asserted-Identity: \"sip:bob@home.example\"
-|
-at 6 web
-|GET /charges HTTP/1.1
-|X-3GPP-Asserted-Identity: \"sip:op@home.example\"
-|
-at 7 web
-|GET /charges HTTP/1.1
-|X-3GPP-Asserted-Identity: \"sip:op@home.example\"
-|
-at 8 web
-|DELETE /simservs/2 HTTP/1.1
-|X-3GPP-Asserted-Identity: \"sip:bob@home.example\"
-|
-at 9 web
-|GET /simservs/2 HTTP/1.1
-|X-3GPP-Asserted-Identity: \"sip:bob@home.example\"
-|
-";
-
-/// Where a call of the keeper fails the reply is 503, and the record that was there is in force.
-const UNKEPT_REPLIES: &str = "at 0 web
-|HTTP/1.1 503 Service Unavailable
-|Content-Length: 0
-|Connection: close
-|
-at 1 web
-|HTTP/1.1 200 OK
-|Content-Length: 0
-|Connection: close
-|
-at 2 web
-|HTTP/1.1 200 OK
-|Content-Length: 0
-|Connection: close
-|
-at 3 web
-|HTTP/1.1 503 Service Unavailable
-|Content-Length: 0
-|Connection: close
-|
-at 4 web
-|HTTP/1.1 503 Service Unavailable
-|Content-Length: 0
-|Connection: close
-|
-at 5 web
-|HTTP/1.1 200 OK
-|Content-Type: application/toml
-|Content-Length: 38
-|Connection: close
-|
-x5b636f6d6d756e69636174696f6e2d77616974696e675d0a616374697665203d20747275650a
-at 6 web
-|HTTP/1.1 503 Service Unavailable
-|Content-Length: 0
-|Connection: close
-|
-at 7 web
-|HTTP/1.1 200 OK
-|Content-Type: text/csv
-|Content-Length: 58
-|Connection: close
-|
-x6b696e642c6163636f756e742c63616c6c2c626567616e2c616e7377657265642c656e6465642c686f6c64732c63617573652c7374617475730a
-at 8 web
-|HTTP/1.1 200 OK
-|Content-Length: 0
-|Connection: close
-|
-at 9 web
-|HTTP/1.1 200 OK
-|Content-Length: 0
-|Connection: close
-|
-";
-
-const UNKEPT_FILES: &[(&str, &str)] = &[("server.cfg", CONFIG), ("run.script", UNKEPT)];
-
-#[test]
-fn failing_stores(rt: HostRuntime) {
-    let devices = Devices {
-        failing_keeps: &[3, 5, 6, 7],
-        ..sound(UNKEPT_FILES)
-    };
-    assert!(rt; is_right(rt.alloc(), REPLAY, devices, 0, UNKEPT_REPLIES));
-}
-
-/// Alice, bob and carol read; bob puts a record and reads it.
-const LOADED: &str = "at 0 web
-|GET /simservs/1 HTTP/1.1
-|X-3GPP-Asserted-Identity: \"tel:+4930111\"
-|
-at 1 web
-|GET /simservs/2 HTTP/1.1
-|X-3GPP-Asserted-Identity: \"sip:bob@home.example\"
-|
-at 2 web
-|GET /simservs/3 HTTP/1.1
-|X-3GPP-Asserted-Identity: \"sip:carol@home.example\"
-|
-at 3 web
-|PUT /simservs/2 HTTP/1.1
-|X-3GPP-Asserted-Identity: \"sip:bob@home.example\"
-|Content-Type: application/toml
-|Content-Length: 34
-|
-x5b636f6d6d756e69636174696f6e2d77616974696e675d0a63616c6c73203d20330a
-at 4 web
-|GET /simservs/2 HTTP/1.1
-|X-3GPP-Asserted-Identity: \"sip:bob@home.example\"
-|
-";
-
-/// What the keeper held before is there until another is put, also where it is no record.
-const LOADED_REPLIES: &str = "at 0 web
-|HTTP/1.1 200 OK
-|Content-Type: application/toml
-|Content-Length: 38
-|Connection: close
-|
-x5b636f6d6d756e69636174696f6e2d77616974696e675d0a616374697665203d20747275650a
-at 1 web
-|HTTP/1.1 200 OK
-|Content-Type: application/toml
-|Content-Length: 10
-|Connection: close
-|
-x6e6f207265636f72640a
-at 2 web
-|HTTP/1.1 200 OK
-|Content-Length: 0
-|Connection: close
-|
-at 3 web
-|HTTP/1.1 200 OK
-|Content-Length: 0
-|Connection: close
-|
-at 4 web
-|HTTP/1.1 200 OK
-|Content-Type: application/toml
-|Content-Length: 34
-|Connection: close
-|
-x5b636f6d6d756e69636174696f6e2d77616974696e675d0a63616c6c73203d20330a
-";
-
-const LOADED_FILES: &[(&str, &str)] = &[("server.cfg", CONFIG), ("run.script", LOADED)];
-
-/// What the keeper holds before: of bob no record, of alice one, and one of an account that is not here.
-const RECORDS: &[(u32, &str)] = &[
-    (2, "no record\n"),
-    (1, "[communication-waiting]\nactive = true\n"),
-    (9, "[communication-waiting]\ncalls = 2\n"),
-];
-
-#[test]
-fn loaded_records(rt: HostRuntime) {
-    let devices = Devices {
-        records: RECORDS,
-        ..sound(LOADED_FILES)
-    };
-    assert!(rt; is_right(rt.alloc(), REPLAY, devices, 0, LOADED_REPLIES));
-}
-
-/// A head that does not end, one with Transfer-Encoding, and one with two lengths; a body that is too large; no such places; methods that are not for them; no such account; nobody's identity, and one that is not the operator's; a body of another type, and one that is no record; then what may be asked.
-const REFUSED: &str = "at 0 web
-|GET /simservs/2 HTTP/1.1
-|Host: x
-at 1 web
-|GET /simservs/2 HTTP/1.1
-|X-3GPP-Asserted-Identity: \"sip:bob@home.example\"
-|Transfer-Encoding: chunked
-|
-at 2 web
-|PUT /simservs/2 HTTP/1.1
-|X-3GPP-Asserted-Identity: \"sip:bob@home.example\"
-|Content-Length: 1
-|Content-Length: 1
-|
-at 3 web
-|PUT /simservs/2 HTTP/1.1
-|Content-Length: 65537
-|
-at 4 web
-|GET /simservs/02 HTTP/1.1
-|X-3GPP-Asserted-Identity: \"sip:bob@home.example\"
-|
-at 5 web
-|GET / HTTP/1.1
-|X-3GPP-Asserted-Identity: \"sip:bob@home.example\"
-|
-at 6 web
-|PUT /charges HTTP/1.1
-|X-3GPP-Asserted-Identity: \"sip:op@home.example\"
-|
-at 7 web
-|POST /simservs/9 HTTP/1.1
-|X-3GPP-Asserted-Identity: \"sip:bob@home.example\"
-|
-at 8 web
-|GET /simservs/9 HTTP/1.1
-|X-3GPP-Asserted-Identity: \"sip:bob@home.example\"
-|
-at 9 web
-|GET /simservs/2 HTTP/1.1
-|
-at 10 web
-|GET /charges HTTP/1.1
-|X-3GPP-Asserted-Identity: \"sip:bob@home.example\"
-|
-at 11 web
-|PUT /simservs/2 HTTP/1.1
-|X-3GPP-Asserted-Identity: \"sip:bob@home.example\"
-|Content-Type: text/plain
-|Content-Length: 38
-|
-x5b636f6d6d756e69636174696f6e2d77616974696e675d0a616374697665203d20747275650a
-at 12 web
-|PUT /simservs/2 HTTP/1.1
-|X-3GPP-Asserted-Identity: \"sip:bob@home.example\"
-|Content-Type: application/toml
-|Content-Length: 1
-|
-x78
-at 13 web
-|GET /charges HTTP/1.1
-|X-3GPP-Asserted-Identity: \"sip:op@home.example\"
-|
-at 14 web
-|GET /simservs/2 HTTP/1.1
-|X-3GPP-Asserted-Identity: \"sip:bob@home.example\"
-|
-";
-
-/// The first cause that applies is the answer.
-const REFUSALS: &str = "at 0 web
-|HTTP/1.1 400 Bad Request
-|Content-Length: 0
-|Connection: close
-|
-at 1 web
-|HTTP/1.1 400 Bad Request
-|Content-Length: 0
-|Connection: close
-|
-at 2 web
-|HTTP/1.1 400 Bad Request
-|Content-Length: 0
-|Connection: close
-|
-at 3 web
-|HTTP/1.1 413 Payload Too Large
-|Content-Length: 0
-|Connection: close
-|
-at 4 web
-|HTTP/1.1 404 Not Found
-|Content-Length: 0
-|Connection: close
-|
-at 5 web
-|HTTP/1.1 404 Not Found
-|Content-Length: 0
-|Connection: close
-|
-at 6 web
-|HTTP/1.1 405 Method Not Allowed
-|Allow: GET
-|Content-Length: 0
-|Connection: close
-|
-at 7 web
-|HTTP/1.1 405 Method Not Allowed
-|Allow: GET, PUT, DELETE
-|Content-Length: 0
-|Connection: close
-|
-at 8 web
-|HTTP/1.1 404 Not Found
-|Content-Length: 0
-|Connection: close
-|
-at 9 web
-|HTTP/1.1 403 Forbidden
-|Content-Length: 0
-|Connection: close
-|
-at 10 web
-|HTTP/1.1 403 Forbidden
-|Content-Length: 0
-|Connection: close
-|
-at 11 web
-|HTTP/1.1 415 Unsupported Media Type
-|Content-Length: 0
-|Connection: close
-|
-at 12 web
-|HTTP/1.1 409 Conflict
-|Content-Type: text/plain
-|Content-Length: 9
-|Connection: close
-|
-x6e6f7420746f6d6c0a
-at 13 web
-|HTTP/1.1 200 OK
-|Content-Type: text/csv
-|Content-Length: 58
-|Connection: close
-|
-x6b696e642c6163636f756e742c63616c6c2c626567616e2c616e7377657265642c656e6465642c686f6c64732c63617573652c7374617475730a
-at 14 web
-|HTTP/1.1 200 OK
-|Content-Length: 0
-|Connection: close
-|
-";
-
-#[test]
-fn refusals_in_order(rt: HostRuntime) {
-    assert!(rt; is_listed(rt.alloc(), REFUSED, REFUSALS));
-}
-
-/// What follows a request on its connection is not read.
-const FOLLOWED: &str = "at 0 web
-|PUT /simservs/2 HTTP/1.1
-|X-3GPP-Asserted-Identity: \"sip:bob@home.example\"
-|Content-Type: application/toml
-|Content-Length: 38
-|
-x5b636f6d6d756e69636174696f6e2d77616974696e675d0a616374697665203d20747275650a
-x6d6f7265
-at 1 web
-|GET /simservs/2 HTTP/1.1
-|X-3GPP-Asserted-Identity: \"sip:bob@home.example\"
-|
-|GET /simservs/1 HTTP/1.1
-";
-
-/// The replies to the requests.
-const FOLLOWED_REPLIES: &str = "at 0 web
-|HTTP/1.1 200 OK
-|Content-Length: 0
-|Connection: close
-|
-at 1 web
-|HTTP/1.1 200 OK
-|Content-Type: application/toml
-|Content-Length: 38
-|Connection: close
-|
-x5b636f6d6d756e69636174696f6e2d77616974696e675d0a616374697665203d20747275650a
-";
-
-#[test]
-fn followed_requests(rt: HostRuntime) {
-    assert!(rt; is_listed(rt.alloc(), FOLLOWED, FOLLOWED_REPLIES));
+    assert!(rt; wrong_run(rt.alloc(), UPLOADS) == 0);
 }

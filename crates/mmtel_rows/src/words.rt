@@ -1,11 +1,12 @@
 //! The words of the command line.
 
-use crate::tables::{Table, cut, wrong_row};
-use mmtel_worked_runs::{sound, written};
+use crate::cases::writes;
+use crate::pages::Page;
+use mmtel_scan::part;
 use std::alloc::Global;
 
 /// What each list of words, parted here by `|`, makes a run write. The name of the configuration is that of a file whose first line is bad, so that a run ends with its number, and that is no service record; every other name is of no file, and no file is read for words that ask for nothing.
-const WORDS: &[u8] = b"line 1|replay|c|s|--token|0123456789abcdef
+const WORDS: &str = "line 1|replay|c|s|--token|0123456789abcdef
 line 1|replay|c|--token|0123456789abcdef|s
 line 1|replay|--token|0123456789abcdef|c|s
 line 1|replay|c|s|--token=0123456789abcdef
@@ -45,7 +46,16 @@ usage|check|--|--|c
 usage|check|c|--token|0123456789abcdef
 usage|check|--token=0123456789abcdef|c
 usage|Check|c
-usage|charges|c
+line 1|charges|c
+line 2|charges|-
+line 3|charges|--|-c
+line 1|charges|c|--
+file|charges|s
+usage|charges
+usage|charges|-c
+usage|charges|c|s
+usage|charges|c|--token|0123456789abcdef
+usage|Charges|c
 usage|workload|--calls|1|--salt|0
 usage|Replay|c|s|--token|0123456789abcdef
 usage|replay |c|s|--token|0123456789abcdef
@@ -83,8 +93,8 @@ usage|-h
 usage|help";
 
 /// The status of a run that writes this.
-fn status_of(text: &[u8]) -> u8 {
-    match text.first() {
+fn status_of(due: &[u8]) -> u64 {
+    match due.first() {
         Some(b'u') => 1,
         Some(b'l') => 2,
         Some(b'f') => 5,
@@ -93,26 +103,38 @@ fn status_of(text: &[u8]) -> u8 {
     }
 }
 
-/// Lists of words, over three files.
-#[derive(Clone, Copy)]
-struct Words<'a> {
-    files: &'a [(&'a str, &'a str)],
+/// Whether the words of a row make a run write what it says, over three files.
+fn is_right(alloc: Global, row: &[u8]) -> bool {
+    let (due, words) = part(b'|', row).unwrap_or((row, b""));
+    let mut case = Page::new(alloc);
+    case.add(b"=file:c bad;\n=file:- ;bad;\n=file:-c ;;bad;\n=status:");
+    case.add_number(status_of(due));
+    case.add(b"\n=words:");
+    case.add(words);
+    case.add(b"\n");
+    let mut line = Page::new(alloc);
+    line.add(due);
+    line.add(b"\n");
+    !case.has_failed() && writes(alloc, case.bytes(), line.bytes())
 }
 
-impl Table for Words<'_> {
-    fn is_right(&self, alloc: Global, row: &[u8]) -> bool {
-        let (due, words) = cut(row);
-        match written(alloc, words, sound(self.files)) {
-            None => false,
-            Some((status, text)) => {
-                status == status_of(due) && text.bytes().strip_suffix(b"\n") == Some(due)
-            }
+/// The number of the first row that is not right, from 1; 0 where each is, of a hundred at most.
+fn wrong_row(alloc: Global, table: &[u8]) -> usize {
+    let mut rest = table;
+    for number in 0..100 {
+        if rest.is_empty() {
+            return 0;
         }
+        let (row, later) = part(b'\n', rest).unwrap_or((rest, b""));
+        if !is_right(alloc, row) {
+            return number + 1;
+        }
+        rest = later;
     }
+    100
 }
 
 #[test]
 fn lists_of_words(rt: HostRuntime) {
-    let files = [("c", "bad\n"), ("-", "\nbad\n"), ("-c", "\n\nbad\n")];
-    assert_eq!(rt; wrong_row(rt.alloc(), &Words { files: &files }, WORDS), 0);
+    assert!(rt; wrong_row(rt.alloc(), WORDS.as_bytes()) == 0);
 }

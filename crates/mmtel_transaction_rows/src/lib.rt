@@ -1,6 +1,9 @@
-//! Worked sequences of calls made of `mmtel_transaction`, which compute. They stand in a crate of their own, so that the edits of the transactions do not pay for them.
+//! Worked rows of `mmtel_transaction`: sequences of calls made of it, which compute; and rows of its laws, for every message of the heads that they name, so that nothing is parsed. They stand in a crate of their own, so that the edits of the transactions do not pay for them.
 #![tactic(auto)]
 
 mod laws;
 
-pub use laws::{deadlines_compute, rows_compute};
+pub use laws::{
+    belonging_computes, deadlines_compute, heads_compute, peers_compute, rows_compute,
+    waiting_computes,
+};

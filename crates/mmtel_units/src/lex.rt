@@ -1,6 +1,5 @@
 //! Parameters, URIs, their places and escaped bytes, name-addrs and identities.
 
-use crate::told::{Rows, Told, wrong_line};
 use mmtel_lex::params::{params_front, text, token};
 use mmtel_lex::uris::{host, port};
 use mmtel_lex::{
@@ -9,6 +8,7 @@ use mmtel_lex::{
     read_uri, same_identity, split_user, uri_header, uri_param,
 };
 use mmtel_scan::{part, token_text};
+use mmtel_told::{Rows, Told, wrong_line};
 
 fn add_param_parts(told: &mut Told, params: &Params) {
     for param in params.items() {
@@ -28,7 +28,7 @@ fn add_user(told: &mut Told, user: &Option<Text>) {
 fn add_port(told: &mut Told, port: Option<u16>) {
     if let Some(port) = port {
         told.add(b" port");
-        told.add_number(u64::from(port));
+        told.add_spaced_number(u64::from(port));
     }
 }
 
@@ -69,13 +69,13 @@ struct Uris;
 
 impl Rows for Uris {
     fn tell(&mut self, told: &mut Told, asked: &[u8]) {
-        let mut text = Told::new(told.alloc());
-        text.add_ended(asked, b"\n");
-        match read_uri(told.alloc(), text.bytes()) {
+        let mut text = Told::new(told.alloc);
+        text.add_ended(b'|', asked, b"\n");
+        match read_uri(told.alloc, text.bytes()) {
             Ok(uri) => {
                 add_uri(told, &uri);
                 told.add(b"\n");
-                told.add_made(print_uri(told.alloc(), &uri));
+                told.add_made(print_uri(told.alloc, &uri));
             }
             Err(UriFault::Malformed { .. }) => told.add_line(b"malformed"),
             Err(UriFault::Scheme) => told.add_line(b"another scheme"),
@@ -251,8 +251,8 @@ malformed
 
 #[test]
 fn reads_and_prints_uris(rt: HostRuntime) {
-    assert_eq!(rt; wrong_line(rt.alloc(), Uris, URIS), None);
-    assert_eq!(rt; wrong_line(rt.alloc(), Uris, OTHER_BYTES), None);
+    assert_eq!(rt; wrong_line(rt.alloc(), &mut Uris, URIS), 0);
+    assert_eq!(rt; wrong_line(rt.alloc(), &mut Uris, OTHER_BYTES), 0);
 }
 
 /// Adds the parts of a name-addr, those that are absent left out.
@@ -273,10 +273,10 @@ struct NameAddrs;
 
 impl Rows for NameAddrs {
     fn tell(&mut self, told: &mut Told, asked: &[u8]) {
-        match read_name_addr(told.alloc(), asked) {
+        match read_name_addr(told.alloc, asked) {
             Ok(name_addr) => {
                 add_name_addr(told, &name_addr);
-                told.add_made(print_name_addr(told.alloc(), &name_addr));
+                told.add_made(print_name_addr(told.alloc, &name_addr));
             }
             Err(LexFault::Malformed { .. }) => told.add_line(b"malformed"),
             Err(LexFault::NoMemory) => told.fail(),
@@ -347,13 +347,13 @@ malformed
 
 #[test]
 fn reads_and_prints_name_addrs(rt: HostRuntime) {
-    assert_eq!(rt; wrong_line(rt.alloc(), NameAddrs, NAME_ADDRS), None);
+    assert_eq!(rt; wrong_line(rt.alloc(), &mut NameAddrs, NAME_ADDRS), 0);
 }
 
 /// Adds the text that is written of parameters.
 fn add_written(told: &mut Told, params: &Params) {
     let mut out = Text::new();
-    match add_params(told.alloc(), &mut out, params.items()) {
+    match add_params(told.alloc, &mut out, params.items()) {
         Ok(()) => told.add_line(out.bytes()),
         Err(NoMemory) => told.fail(),
     }
@@ -365,7 +365,7 @@ struct ParamsRows;
 
 impl Rows for ParamsRows {
     fn tell(&mut self, told: &mut Told, asked: &[u8]) {
-        match read_params(told.alloc(), asked) {
+        match read_params(told.alloc, asked) {
             Ok(params) => {
                 told.add(b"params");
                 add_param_parts(told, &params);
@@ -398,7 +398,7 @@ malformed
 
 #[test]
 fn reads_params(rt: HostRuntime) {
-    assert_eq!(rt; wrong_line(rt.alloc(), ParamsRows, PARAMS), None);
+    assert_eq!(rt; wrong_line(rt.alloc(), &mut ParamsRows, PARAMS), 0);
 }
 
 /// `y` where two URIs, which a blank parts, are of one identity, else `n`, asked both ways; and the domain of the first, or `-`.
@@ -421,7 +421,7 @@ fn add_identity(told: &mut Told, a: &Uri, b: &Uri) {
 
 /// Adds what is said of a URI and of one that is still to be read.
 fn add_pair(told: &mut Told, a: &Uri, second: &[u8]) {
-    match read_uri(told.alloc(), second) {
+    match read_uri(told.alloc, second) {
         Ok(b) => add_identity(told, a, &b),
         Err(_) => told.fail(),
     }
@@ -430,7 +430,7 @@ fn add_pair(told: &mut Told, a: &Uri, second: &[u8]) {
 impl Rows for Pairs {
     fn tell(&mut self, told: &mut Told, asked: &[u8]) {
         let (first, second) = part(b' ', asked).unwrap_or((asked, b""));
-        match read_uri(told.alloc(), first) {
+        match read_uri(told.alloc, first) {
             Ok(a) => add_pair(told, &a, second),
             Err(_) => told.fail(),
         }
@@ -484,7 +484,7 @@ nn h
 
 #[test]
 fn compares_identities(rt: HostRuntime) {
-    assert_eq!(rt; wrong_line(rt.alloc(), Pairs, PAIRS), None);
+    assert_eq!(rt; wrong_line(rt.alloc(), &mut Pairs, PAIRS), 0);
 }
 
 /// What each reader of a front reads of a text, and what it leaves, with the numbers of a port; then the text itself, and as a token of a greatest number.
@@ -524,13 +524,13 @@ fn add_params_front(told: &mut Told, front: Result<(Params, &[u8]), LexFault>) {
 
 impl Rows for Fronts {
     fn tell(&mut self, told: &mut Told, asked: &[u8]) {
-        add_front(told, token(told.alloc(), asked));
-        add_front(told, text(told.alloc(), asked));
-        add_front(told, host(told.alloc(), asked));
+        add_front(told, token(told.alloc, asked));
+        add_front(told, text(told.alloc, asked));
+        add_front(told, host(told.alloc, asked));
         add_port_front(told, port(asked));
-        add_params_front(told, params_front(told.alloc(), asked));
-        told.add_made(Text::of(told.alloc(), asked));
-        told.add_made(token_text(told.alloc(), asked, u64::MAX));
+        add_params_front(told, params_front(told.alloc, asked));
+        told.add_made(Text::of(told.alloc, asked));
+        told.add_made(token_text(told.alloc, asked, u64::MAX));
     }
 }
 
@@ -587,7 +587,7 @@ h.example:50;x y-18446744073709551615
 
 #[test]
 fn reads_fronts(rt: HostRuntime) {
-    assert_eq!(rt; wrong_line(rt.alloc(), Fronts, FRONTS), None);
+    assert_eq!(rt; wrong_line(rt.alloc(), &mut Fronts, FRONTS), 0);
 }
 
 /// Adds a part that was found, or `-`.
@@ -597,7 +597,7 @@ fn add_found(told: &mut Told, name: &[u8], found: Option<&[u8]>) {
 
 /// Adds what a text of a URI stands for, or `broken`, and ends the line.
 fn add_decoded(told: &mut Told, text: &[u8]) {
-    match percent_decoded(told.alloc(), text) {
+    match percent_decoded(told.alloc, text) {
         Ok(Some(decoded)) => told.add_part(b"decoded", decoded.bytes()),
         Ok(None) => told.add(b" broken"),
         Err(NoMemory) => told.fail(),
@@ -644,7 +644,7 @@ const PLACES: &[u8] = br#"> SUBJECT sips:alice@atlanta.com?subject=project%20x&p
 
 #[test]
 fn finds_places(rt: HostRuntime) {
-    assert_eq!(rt; wrong_line(rt.alloc(), Places, PLACES), None);
+    assert_eq!(rt; wrong_line(rt.alloc(), &mut Places, PLACES), 0);
 }
 
 /// What a text of a URI stands for.
@@ -682,7 +682,7 @@ const ESCAPES: &[u8] = br#"> plain
 
 #[test]
 fn decodes_escapes(rt: HostRuntime) {
-    assert_eq!(rt; wrong_line(rt.alloc(), Escapes, ESCAPES), None);
+    assert_eq!(rt; wrong_line(rt.alloc(), &mut Escapes, ESCAPES), 0);
 }
 
 /// A text at its first `;`, and the first of its parts that is named `x`.
@@ -715,5 +715,5 @@ const PARTS: &[u8] = br#"> x=1;X=2
 
 #[test]
 fn parts_texts(rt: HostRuntime) {
-    assert_eq!(rt; wrong_line(rt.alloc(), Parts, PARTS), None);
+    assert_eq!(rt; wrong_line(rt.alloc(), &mut Parts, PARTS), 0);
 }

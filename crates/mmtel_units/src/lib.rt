@@ -1,4 +1,4 @@
-//! Tests of the lowest crates' public calls: types, deadlines, the grammars of SIP's parts, targets of calls and session descriptions. One module a crate, a table a test; the module `told` tells a table again.
+//! Tests of the lowest crates' public calls: types, deadlines, the grammars of SIP's parts, targets of calls, session descriptions, transactions and the words of the command line. One module a crate, a table a test.
 //!
 //! What the contracts say needs no test. Here stand the examples of the standards, whose values come from there, and one call of each function that takes memory, with memory enough, since a body that always answers want of memory meets its contract too.
 #![tactic(auto)]
@@ -14,6 +14,8 @@ mod targets;
 #[cfg(test)]
 mod timers;
 #[cfg(test)]
-mod told;
+mod transactions;
 #[cfg(test)]
 mod types;
+#[cfg(test)]
+mod words;

@@ -1,7 +1,7 @@
 //! Texts, lists and numbers.
 
-use crate::told::{Rows, Told, wrong_line};
 use mmtel_scan::{List, NoMemory, Text, add_number, leads_zero, plain_number, texts_copied};
+use mmtel_told::{Rows, Told, wrong_line};
 use std::alloc::Global;
 
 /// Adds 1, 2 and 4, and says whether memory was enough.
@@ -46,8 +46,8 @@ fn joins_lists_and_takes_the_first(rt: HostRuntime) {
 }
 
 fn push_text(told: &mut Told, list: &mut List<Text>, bytes: &[u8]) {
-    match Text::of(told.alloc(), bytes) {
-        Ok(text) => if list.push(told.alloc(), text).is_err() {
+    match Text::of(told.alloc, bytes) {
+        Ok(text) => if list.push(told.alloc, text).is_err() {
             told.fail();
         },
         Err(NoMemory) => told.fail(),
@@ -66,7 +66,7 @@ fn copies_texts(rt: HostRuntime) {
         },
         Err(NoMemory) => told.fail(),
     }
-    assert_eq!(rt; told.wrong_line(b"a\nbc\n"), None);
+    assert_eq!(rt; told.wrong_line(b"a\nbc\n"), 0);
 }
 
 /// The number of a text, of at most 255, whether a zero leads, and the number printed again.
@@ -75,7 +75,7 @@ struct Numbers;
 
 fn add_again(told: &mut Told, number: u64) {
     let mut out = Text::new();
-    match add_number(told.alloc(), &mut out, number) {
+    match add_number(told.alloc, &mut out, number) {
         Ok(()) => told.add_part(b"again", out.bytes()),
         Err(NoMemory) => told.fail(),
     }
@@ -116,5 +116,5 @@ plain none
 
 #[test]
 fn reads_plain_numbers(rt: HostRuntime) {
-    assert_eq!(rt; wrong_line(rt.alloc(), Numbers, NUMBERS), None);
+    assert_eq!(rt; wrong_line(rt.alloc(), &mut Numbers, NUMBERS), 0);
 }

@@ -2,12 +2,12 @@
 //!
 //! A `|` in a row ends a line of a description.
 
-use crate::told::{Rows, Told, wrong_line};
 use mmtel_scan::{List, NoMemory, Text, part};
 use mmtel_sdp::{
     AnswerFault, Direction, Medium, Mixer, SdpFault, SdpView, direction_told, kinds_of, look,
     mixer_answer, mixer_offer, offers_audio, view_of,
 };
+use mmtel_told::{Rows, Told, wrong_line};
 
 fn direction_name(direction: Direction) -> &'static [u8] {
     match direction {
@@ -47,9 +47,9 @@ struct Views {
 
 impl Rows for Views {
     fn tell(&mut self, told: &mut Told, asked: &[u8]) {
-        let mut body = Told::new(told.alloc());
-        body.add_ended(asked, self.end);
-        match look(told.alloc(), body.bytes()) {
+        let mut body = Told::new(told.alloc);
+        body.add_ended(b'|', asked, self.end);
+        match look(told.alloc, body.bytes()) {
             Ok(view) => add_view(told, &view),
             Err(SdpFault::NotSdp { .. }) => told.add_line(b"no session description"),
             Err(SdpFault::NoMemory) => told.fail(),
@@ -117,10 +117,13 @@ no session description
 
 #[test]
 fn looks_into_bodies(rt: HostRuntime) {
-    assert_eq!(rt; wrong_line(rt.alloc(), Views { end: b"\n" }, BODIES), None);
     assert_eq!(rt;
-        wrong_line(rt.alloc(), Views { end: b"\r\n" }, BODIES),
-        None
+        wrong_line(rt.alloc(), &mut Views { end: b"\n" }, BODIES),
+        0
+    );
+    assert_eq!(rt;
+        wrong_line(rt.alloc(), &mut Views { end: b"\r\n" }, BODIES),
+        0
     );
 }
 
@@ -148,7 +151,7 @@ fn add_lines(told: &mut Told, text: &[u8]) {
 }
 
 fn add_answer(told: &mut Told, view: &SdpView) {
-    match mixer_answer(told.alloc(), view, MIXER) {
+    match mixer_answer(told.alloc, view, MIXER) {
         Ok(answer) => add_lines(told, answer.bytes()),
         Err(AnswerFault::NoAudio) => told.add_line(b"no audio"),
         Err(AnswerFault::NoMemory) => told.fail(),
@@ -157,7 +160,7 @@ fn add_answer(told: &mut Told, view: &SdpView) {
 
 /// Adds the mixer's own offer.
 fn add_offer(told: &mut Told) {
-    match mixer_offer(told.alloc(), MIXER) {
+    match mixer_offer(told.alloc, MIXER) {
         Ok(offer) => add_lines(told, offer.bytes()),
         Err(NoMemory) => told.fail(),
     }
@@ -169,9 +172,9 @@ struct Answers;
 
 impl Rows for Answers {
     fn tell(&mut self, told: &mut Told, asked: &[u8]) {
-        let mut offer = Told::new(told.alloc());
-        offer.add_ended(asked, b"\n");
-        match look(told.alloc(), offer.bytes()) {
+        let mut offer = Told::new(told.alloc);
+        offer.add_ended(b'|', asked, b"\n");
+        match look(told.alloc, offer.bytes()) {
             Ok(view) => add_answer(told, &view),
             Err(SdpFault::NotSdp { .. }) => add_offer(told),
             Err(SdpFault::NoMemory) => told.fail(),
@@ -199,7 +202,7 @@ v=0|o=mixer 1 1 IN IP4 192.0.2.10|s=-|c=IN IP4 192.0.2.10|t=0 0|m=audio 40000 RT
 
 #[test]
 fn answers_and_offers(rt: HostRuntime) {
-    assert_eq!(rt; wrong_line(rt.alloc(), Answers, ANSWERS), None);
+    assert_eq!(rt; wrong_line(rt.alloc(), &mut Answers, ANSWERS), 0);
 }
 
 fn audio_name(offers: bool) -> &'static [u8] {
@@ -243,9 +246,9 @@ struct Offers;
 
 impl Rows for Offers {
     fn tell(&mut self, told: &mut Told, asked: &[u8]) {
-        let alloc = told.alloc();
+        let alloc = told.alloc;
         let mut body = Told::new(alloc);
-        body.add_ended(asked, b"\r\n");
+        body.add_ended(b'|', asked, b"\r\n");
         add_audio(told, offers_audio(alloc, body.bytes()));
         add_direction(told, direction_told(alloc, body.bytes()));
         add_kinds(told, kinds_of(alloc, body.bytes()));
@@ -258,9 +261,9 @@ struct OffersSeen;
 
 impl Rows for OffersSeen {
     fn tell(&mut self, told: &mut Told, asked: &[u8]) {
-        let alloc = told.alloc();
+        let alloc = told.alloc;
         let mut body = Told::new(alloc);
-        body.add_ended(asked, b"\r\n");
+        body.add_ended(b'|', asked, b"\r\n");
         match view_of(alloc, body.bytes()) {
             Ok(Some(view)) => {
                 add_audio(told, Ok(view.has_audio()));
@@ -303,6 +306,6 @@ no audio; no direction
 
 #[test]
 fn bodies_offer(rt: HostRuntime) {
-    assert_eq!(rt; wrong_line(rt.alloc(), Offers, OFFERS), None);
-    assert_eq!(rt; wrong_line(rt.alloc(), OffersSeen, OFFERS), None);
+    assert_eq!(rt; wrong_line(rt.alloc(), &mut Offers, OFFERS), 0);
+    assert_eq!(rt; wrong_line(rt.alloc(), &mut OffersSeen, OFFERS), 0);
 }

@@ -1,8 +1,8 @@
 //! Targets of a call: those that a Request-URI names, those of diversions, the home domain, and which are nobody's.
 
-use crate::told::{Rows, Told, wrong_line};
 use mmtel_lex::{Uri, UriFault, print_uri, read_uri};
 use mmtel_targets::{Target, diverted_target, first_target, is_at_home, is_global_number};
+use mmtel_told::{Rows, Told, wrong_line};
 use mmtel_types::Account;
 
 const HOME: &[u8] = b"home.example";
@@ -17,7 +17,7 @@ fn add_if(told: &mut Told, is: bool, word: &[u8]) {
 /// A target; whether it is a global number, was made of one, is of the home domain; whether it is nobody's without an account, and whether it is so with one.
 fn add_target(told: &mut Told, word: &[u8], target: &Target) {
     told.add(word);
-    match print_uri(told.alloc(), &target.uri) {
+    match print_uri(told.alloc, &target.uri) {
         Ok(text) => told.add(text.bytes()),
         Err(_) => told.fail(),
     }
@@ -34,7 +34,7 @@ fn add_target(told: &mut Told, word: &[u8], target: &Target) {
 }
 
 fn add_diverted(told: &mut Told, uri: Uri) {
-    match diverted_target(told.alloc(), HOME, uri) {
+    match diverted_target(told.alloc, HOME, uri) {
         Ok(target) => add_target(told, b"diverted ", &target),
         Err(_) => told.fail(),
     }
@@ -46,12 +46,12 @@ struct Targets;
 
 impl Rows for Targets {
     fn tell(&mut self, told: &mut Told, asked: &[u8]) {
-        match first_target(told.alloc(), asked) {
+        match first_target(told.alloc, asked) {
             Ok(Some(target)) => add_target(told, b"first ", &target),
             Ok(None) => told.add_line(b"none"),
             Err(_) => told.fail(),
         }
-        match read_uri(told.alloc(), asked) {
+        match read_uri(told.alloc, asked) {
             Ok(uri) => add_diverted(told, uri),
             Err(UriFault::NoMemory) => told.fail(),
             Err(_) => {}
@@ -91,5 +91,5 @@ none
 
 #[test]
 fn targets_of_calls(rt: HostRuntime) {
-    assert_eq!(rt; wrong_line(rt.alloc(), Targets, TARGETS), None);
+    assert_eq!(rt; wrong_line(rt.alloc(), &mut Targets, TARGETS), 0);
 }

@@ -1,8 +1,8 @@
 //! Deadlines, and the moments at which messages are sent again.
 
-use crate::told::{Rows, Told, wrong_line};
 use mmtel_scan::{number_up_to, part};
 use mmtel_timers::{Deadlines, Key, Schedule};
+use mmtel_told::{Rows, Told, wrong_line};
 use mmtel_types::Moment;
 
 /// The deadlines that the rows so far have left.
@@ -20,7 +20,7 @@ impl Steps {
         let (at, key) = part(b' ', deadline).unwrap_or((deadline, b""));
         if self
             .deadlines
-            .arm(told.alloc(), number(at), Key(number(key)))
+            .arm(told.alloc, number(at), Key(number(key)))
             .is_err()
         {
             told.fail();
@@ -35,8 +35,8 @@ impl Steps {
         match self.due_at(now) {
             None => told.add(b"-"),
             Some((at, key)) => {
-                told.add_number(at);
-                told.add_number(key.0);
+                told.add_spaced_number(at);
+                told.add_spaced_number(key.0);
             }
         }
         told.add(b"\n");
@@ -47,7 +47,7 @@ impl Steps {
 fn add_moments(told: &mut Told, schedule: Schedule) {
     for k in [0, 1, 2, 3, 4, 5, 6, 7, 8, 9, 10, u32::MAX] {
         if let Some(moment) = schedule.at(k) {
-            told.add_number(moment);
+            told.add_spaced_number(moment);
         }
     }
     told.add(b"\n");
@@ -149,8 +149,8 @@ const STEPS: &[u8] = b"> ?250000000000000
 
 #[test]
 fn deadlines_and_schedules(rt: HostRuntime) {
-    let steps = Steps {
+    let mut steps = Steps {
         deadlines: Deadlines::new(),
     };
-    assert_eq!(rt; wrong_line(rt.alloc(), steps, STEPS), None);
+    assert_eq!(rt; wrong_line(rt.alloc(), &mut steps, STEPS), 0);
 }

@@ -1,6 +1,6 @@
 //! Addresses, causes, privacy words and limits.
 
-use crate::told::Told;
+use mmtel_told::Told;
 use mmtel_types::{Addr, Cause, PrivacySet, limits};
 
 /// The cause of this number, in the order in which they are declared; those with a status or a flag stand twice.
@@ -62,10 +62,10 @@ fn causes(rt: HostRuntime) {
     for number in 0..22 {
         let cause = cause(number);
         told.add(cause.word().as_bytes());
-        told.add_number(u64::from(cause.status()));
+        told.add_spaced_number(u64::from(cause.status()));
         told.add(b"\n");
     }
-    assert_eq!(rt; told.wrong_line(CAUSES), None);
+    assert_eq!(rt; told.wrong_line(CAUSES), 0);
 }
 
 /// No Privacy header field asks for nothing.

@@ -1,10 +1,10 @@
 //! Messages as they are heard, and what is told of a desk.
 
-use crate::told::Told;
 use mmtel_answers::Hearing;
 use mmtel_desk::Desk;
 use mmtel_message::{Msg, Start, read};
 use mmtel_scan::Text;
+use mmtel_told::Told;
 use mmtel_transaction::{Emit, Tokens};
 use mmtel_types::{Addr, Peer};
 

@@ -7,5 +7,3 @@ mod attempts;
 mod heard;
 #[cfg(test)]
 mod standing;
-#[cfg(test)]
-mod told;

@@ -1,9 +1,10 @@
 //! Configurations.
 
-use crate::tables::{Table, cut, lines, wrong_row};
+use crate::tables::{Grammar, wrong_row};
 use mmtel_directory::{Directory, DirectoryFault, read_directory};
-use mmtel_lex::{Uri, read_uri, same_identity};
+use mmtel_lex::{Uri, print_uri, read_uri};
 use mmtel_scan::number_up_to;
+use mmtel_told::{Rows, Told, cut, wrong_line};
 use mmtel_types::{Account, Addr, Peer};
 use std::alloc::Global;
 
@@ -36,113 +37,181 @@ pub fn peer_addr(port: u16) -> Addr {
     }
 }
 
-/// Whether a URI leads to the peer of this number.
-fn is_led(alloc: Global, directory: &Directory, uri: &[u8], number: u16) -> bool {
-    match read_uri(alloc, uri) {
-        Err(_) => false,
-        Ok(uri) => directory.peers.route(&uri) == Some(Peer(number)),
+/// Tells an address.
+fn tell_addr(told: &mut Told, word: &[u8], ip: [u8; 4], port: u16) {
+    told.add(word);
+    for number in ip {
+        told.add_spaced_number(u64::from(number));
+    }
+    told.add_spaced_number(u64::from(port));
+    told.add(b"\n");
+}
+
+/// Tells a URI, or `none`.
+fn tell_uri(told: &mut Told, word: &[u8], uri: &Option<Uri>) {
+    told.add(word);
+    match uri {
+        None => told.add(b"none\n"),
+        Some(uri) => {
+            let text = print_uri(told.alloc, uri);
+            told.add_made(text);
+        }
     }
 }
 
-/// Whether the peer of this number is there, at this port, and trusted or not.
-fn is_known(directory: &Directory, number: u16, port: u16, trusted: bool) -> bool {
-    let peer = Peer(number);
-    directory.peers.find(peer_addr(port)) == Some(peer) && directory.peers.trusted(peer) == trusted
+/// Tells a text.
+fn tell_text(told: &mut Told, word: &[u8], text: &[u8]) {
+    told.add(word);
+    told.add_line(text);
 }
 
-/// Whether a URI is an identity of the account of this number; of none, where it is 0.
-fn is_of(alloc: Global, directory: &Directory, uri: &[u8], number: u32) -> bool {
-    match read_uri(alloc, uri) {
-        Err(_) => false,
-        Ok(uri) => { directory.names.accounts.find(&uri).unwrap_or(Account(0)) == Account(number) }
+/// Tells a number.
+fn tell_number(told: &mut Told, word: &[u8], number: u64) {
+    told.add(word);
+    told.add_number(number);
+    told.add(b"\n");
+}
+
+/// Tells what a configuration sets but for peers, routes and identities.
+fn tell_settings(told: &mut Told, directory: &Directory) {
+    tell_addr(told, b"sip", directory.sip.ip, directory.sip.port);
+    tell_addr(told, b"web", directory.web.ip, directory.web.port);
+    tell_addr(told, b"mixer", directory.mixer.ip, directory.mixer.port);
+    tell_text(told, b"home ", directory.home.bytes());
+    tell_number(told, b"bound ", u64::from(directory.bound));
+    tell_text(told, b"store ", directory.store.bytes());
+    tell_uri(told, b"operator ", &directory.names.operator);
+    tell_uri(told, b"factory ", &directory.factory);
+    let identities = directory.names.accounts.identities().len();
+    tell_number(told, b"identities ", identities as u64);
+}
+
+/// Tells the number of the peer that a URI leads to, 0 for none.
+fn tell_route(told: &mut Told, directory: &Directory, uri: &[u8]) {
+    match read_uri(told.alloc, uri) {
+        Err(_) => told.fail(),
+        Ok(uri) => {
+            let peer = directory.peers.route(&uri).unwrap_or(Peer(0));
+            tell_number(told, b"", u64::from(peer.0));
+        }
     }
 }
 
-/// Whether it is this URI.
-fn is_uri(alloc: Global, found: &Option<Uri>, text: &[u8]) -> bool {
-    match (found, read_uri(alloc, text)) {
-        (Some(found), Ok(uri)) => same_identity(found, &uri),
-        _ => false,
+/// Tells the number of the account of a URI, 0 for none.
+fn tell_name(told: &mut Told, directory: &Directory, uri: &[u8]) {
+    match read_uri(told.alloc, uri) {
+        Err(_) => told.fail(),
+        Ok(uri) => {
+            let account = directory.names.accounts.find(&uri).unwrap_or(Account(0));
+            tell_number(told, b"", u64::from(account.0));
+        }
     }
 }
 
-fn has_peers(alloc: Global, directory: &Directory) -> bool {
-    let uris: &[(&[u8], u16)] = &[
-        (b"sip:bob@HOME.example", 1),
-        (b"sip:bob@far.example", 2),
-        (b"tel:+49-30-111", 1),
-        (b"sip:bob@other.example", 2),
-    ];
-    is_known(directory, 1, 5071, true)
-        && is_known(directory, 2, 5072, false)
-        && directory.peers.find(peer_addr(5060)).is_none()
-        && uris
-            .iter()
-            .all(|row| is_led(alloc, directory, row.0, row.1))
+/// Tells the number of the peer at this port, and whether it is trusted; `none` where there is none.
+fn tell_peer(told: &mut Told, directory: &Directory, port: u16) {
+    match directory.peers.find(peer_addr(port)) {
+        None => told.add_line(b"none"),
+        Some(peer) => {
+            told.add_number(u64::from(peer.0));
+            told.add_if(
+                directory.peers.trusted(peer),
+                b" trusted\n",
+                b" untrusted\n",
+            );
+        }
+    }
 }
 
-fn has_names(alloc: Global, directory: &Directory) -> bool {
-    let uris: &[(&[u8], u32)] = &[
-        (b"sip:alice@home.example", 1),
-        (b"tel:+4930111", 1),
-        (b"sip:bob@home.example", 4_294_967_295),
-        (b"sip:op@home.example", 0),
-    ];
-    directory.names.accounts.identities().len() == 3
-        && is_uri(alloc, &directory.names.operator, b"sip:op@home.example")
-        && is_uri(alloc, &directory.factory, b"sip:conf@home.example")
-        && uris.iter().all(|row| is_of(alloc, directory, row.0, row.1))
+/// What is known by a configuration.
+#[derive(Clone, Copy)]
+struct Known<'a> {
+    directory: &'a Directory,
 }
 
-/// Whether these are the addresses for HTTP and for media, the bound and the store.
-fn is_set(directory: &Directory, web: Addr, media: Addr, bound: u16, store: &[u8]) -> bool {
-    directory.web.is_same(web)
-        && media.is_same(Addr {
-            ip: directory.mixer.ip,
-            port: directory.mixer.port,
-        })
-        && directory.bound == bound
-        && directory.store.bytes() == store
+impl Rows for Known<'_> {
+    fn tell(&mut self, told: &mut Told, asked: &[u8]) {
+        let (word, rest) = cut(b' ', asked);
+        match word {
+            b"route" => tell_route(told, self.directory, rest),
+            b"name" => tell_name(told, self.directory, rest),
+            b"peer" => {
+                let port = number_up_to(65_535, rest).unwrap_or(0);
+                tell_peer(told, self.directory, u16::try_from(port).unwrap_or(0));
+            }
+            _ => tell_settings(told, self.directory),
+        }
+    }
 }
 
-/// Whether the directory is that of the configuration above.
-fn is_home(alloc: Global, directory: &Directory) -> bool {
-    let web = Addr {
-        ip: [10, 0, 0, 1],
-        port: 80,
-    };
-    let media = Addr {
-        ip: [10, 0, 0, 2],
-        port: 41000,
-    };
-    directory.sip.is_same(peer_addr(5060))
-        && directory.home.bytes() == b"home.example".as_slice()
-        && has_peers(alloc, directory)
-        && has_names(alloc, directory)
-        && is_set(directory, web, media, 0, b"calls.db")
+/// What the configuration above says.
+const HOME_TOLD: &[u8] = b"> settings
+sip 127 0 0 1 5060
+web 10 0 0 1 80
+mixer 10 0 0 2 41000
+home home.example
+bound 0
+store calls.db
+operator sip:op@home.example
+factory sip:conf@home.example
+identities 3
+> peer 5071
+1 trusted
+> peer 5072
+2 untrusted
+> peer 5060
+none
+> route sip:bob@HOME.example
+1
+> route sip:bob@far.example
+2
+> route tel:+49-30-111
+1
+> route sip:bob@other.example
+2
+> name sip:alice@home.example
+1
+> name tel:+4930111
+1
+> name sip:bob@home.example
+4294967295
+> name sip:op@home.example
+0
+";
+
+/// What a configuration of the two lines says that have to be there.
+const BARE_TOLD: &[u8] = b"> settings
+sip 127 0 0 1 1
+web 127 0 0 1 8080
+mixer 127 0 0 1 40000
+home h
+bound 5
+store :memory:
+operator none
+factory none
+identities 0
+> peer 1
+none
+";
+
+/// The number of the first line that a configuration says otherwise; 0 where none is.
+fn wrong_known(alloc: Global, text: &[u8], table: &[u8]) -> usize {
+    match read_directory(alloc, text) {
+        Err(_) => 1,
+        Ok(directory) => {
+            let mut known = Known {
+                directory: &directory,
+            };
+            wrong_line(alloc, &mut known, table)
+        }
+    }
 }
 
 #[test]
 fn reads_lines_of_each_kind(rt: HostRuntime) {
-    let directory = read_directory(rt.alloc(), HOME);
-    assert!(rt; matches!(&directory, Ok(read) if is_home(rt.alloc(), read)));
-}
-
-/// Whether the directory is that of a configuration of the two lines that have to be there.
-fn is_bare(directory: &Directory) -> bool {
-    directory.sip.is_same(peer_addr(1))
-        && directory.home.bytes() == b"h".as_slice()
-        && directory.peers.find(peer_addr(1)).is_none()
-        && directory.names.accounts.identities().is_empty()
-        && directory.names.operator.is_none()
-        && directory.factory.is_none()
-        && is_set(directory, peer_addr(8080), peer_addr(40000), 5, b":memory:")
-}
-
-#[test]
-fn sets_what_no_line_says(rt: HostRuntime) {
-    let directory = read_directory(rt.alloc(), b"home h\nsip 127.0.0.1:1");
-    assert!(rt; matches!(&directory, Ok(read) if is_bare(read)));
+    assert_eq!(rt; wrong_known(rt.alloc(), HOME, HOME_TOLD), 0);
+    let bare = b"home h\nsip 127.0.0.1:1";
+    assert_eq!(rt; wrong_known(rt.alloc(), bare, BARE_TOLD), 0);
 }
 
 /// The number of the line that a configuration breaks its grammar in; 0 where it is read.
@@ -309,38 +378,28 @@ const NUMBERS: &[u8] = b"0|account 2 tel:+4930112;
 4|account 2 sip:bob@h tel:+49.30.111;
 4|account 2 sip:+4930111@H;";
 
-/// Configurations, behind these lines.
+/// Configurations.
 #[derive(Clone, Copy)]
-struct Configurations<'a> {
-    before: &'a [u8],
-}
+struct Configurations;
 
-impl Table for Configurations<'_> {
-    fn is_right(&self, alloc: Global, row: &[u8]) -> bool {
-        let (number, text) = cut(row);
-        match lines(alloc, self.before, text) {
-            Err(_) => false,
-            Ok(text) => number_up_to(99, number) == Some(broken_config(alloc, text.bytes())),
-        }
+impl Grammar for Configurations {
+    fn broken(&self, alloc: Global, text: &[u8]) -> u64 {
+        broken_config(alloc, text)
     }
 }
 
 /// The number of the first row that is not right; 0 where each is.
 fn wrong_config(alloc: Global, before: &[u8], table: &[u8]) -> usize {
-    wrong_row(alloc, &Configurations { before }, table)
+    wrong_row(alloc, &Configurations, before, table)
 }
 
 #[test]
 fn names_the_first_bad_line(rt: HostRuntime) {
-    let alloc = rt.alloc();
     let both = b"sip 1.2.3.4:5\nhome h\n";
-    let found = [
-        wrong_config(alloc, b"", WHOLE),
-        wrong_config(alloc, both, ROUTES),
-        wrong_config(alloc, both, ACCOUNTS),
-        wrong_config(alloc, both, ONCE),
-        wrong_config(alloc, SMALL, DAMAGED),
-        wrong_config(alloc, PHONE, NUMBERS),
-    ];
-    assert_eq!(rt; found, [0, 0, 0, 0, 0, 0]);
+    assert_eq!(rt; wrong_config(rt.alloc(), b"", WHOLE), 0);
+    assert_eq!(rt; wrong_config(rt.alloc(), both, ROUTES), 0);
+    assert_eq!(rt; wrong_config(rt.alloc(), both, ACCOUNTS), 0);
+    assert_eq!(rt; wrong_config(rt.alloc(), both, ONCE), 0);
+    assert_eq!(rt; wrong_config(rt.alloc(), SMALL, DAMAGED), 0);
+    assert_eq!(rt; wrong_config(rt.alloc(), PHONE, NUMBERS), 0);
 }

@@ -1,69 +1,102 @@
 //! The listing.
 
 use mmtel_outside::Offer;
-use mmtel_scan::{List, Text};
+use mmtel_scan::List;
 use mmtel_script::listing;
+use mmtel_told::Told;
 use mmtel_types::Peer;
 use std::alloc::Global;
 
-/// The listing of one offer.
-fn listed(alloc: Global, offer: Offer) -> Option<Text> {
+/// Adds an offer to a list.
+fn push(told: &mut Told, offers: &mut List<Offer>, offer: Offer) {
+    let done = offers.push(told.alloc, offer);
+    told.keep(done.is_ok());
+}
+
+/// Tells the listing of offers, and a line `.`.
+fn tell_listed(told: &mut Told, offers: &List<Offer>) {
+    let text = listing(told.alloc, offers);
+    if let Some(text) = told.noted(text) {
+        told.add(text.bytes());
+    }
+    told.add_line(b".");
+}
+
+/// Tells the listing of a datagram to the peer of number 2, offered at 7.
+fn tell_sent(told: &mut Told, bytes: &[u8]) {
+    let text = told.copy(bytes);
     let mut offers = List::new();
-    offers.push(alloc, offer).ok()?;
-    listing(alloc, &offers).ok()
+    let offer = Offer::To {
+        peer: Peer(2),
+        at: 7,
+        text,
+    };
+    push(told, &mut offers, offer);
+    tell_listed(told, &offers);
 }
 
-/// Whether an offer is listed so.
-fn is_listed(alloc: Global, offer: Offer, text: &[u8]) -> bool {
-    match listed(alloc, offer) {
-        None => false,
-        Some(told) => told.bytes() == text,
-    }
+/// Tells the listing of a reply at 10, and of one without bytes at the last moment.
+fn tell_replies(told: &mut Told) {
+    let mut offers = List::new();
+    let text = told.copy(b"HTTP/1.1 200 OK\r\n\r\nok");
+    push(told, &mut offers, Offer::Web { at: 10, text });
+    let text = told.copy(b"");
+    let at = u64::MAX;
+    push(told, &mut offers, Offer::Web { at, text });
+    tell_listed(told, &offers);
 }
 
-/// Whether a datagram to the peer of number 2, offered at 7, is listed so.
-fn is_sent(alloc: Global, bytes: &[u8], text: &[u8]) -> bool {
-    match Text::of(alloc, bytes) {
-        Err(_) => false,
-        Ok(bytes) => {
-            let offer = Offer::To {
-                peer: Peer(2),
-                at: 7,
-                text: bytes,
-            };
-            is_listed(alloc, offer, text)
-        }
-    }
+/// The listings of datagrams, and of two replies in their order.
+const LISTED: &[u8] = b"at 7 to 2
+.
+at 7 to 2
+|a
+|
+.
+at 7 to 2
+|a
++b
+.
+at 7 to 2
+x610a620d0a
++c
+.
+at 7 to 2
+x0d0d0a
+.
+at 7 to 2
+x0d
+.
+at 7 to 2
+| ~
+.
+at 7 to 2
+x1f0d0a
+x7fff
+.
+at 10 web
+|HTTP/1.1 200 OK
+|
++ok
+at 18446744073709551615 web
+.
+";
+
+fn wrong_listed(alloc: Global) -> usize {
+    let mut told = Told::new(alloc);
+    tell_sent(&mut told, b"");
+    tell_sent(&mut told, b"a\r\n\r\n");
+    tell_sent(&mut told, b"a\r\nb");
+    tell_sent(&mut told, b"a\nb\r\nc");
+    tell_sent(&mut told, b"\r\r\n");
+    tell_sent(&mut told, b"\r");
+    tell_sent(&mut told, b" ~\r\n");
+    tell_sent(&mut told, b"\x1f\r\n\x7f\xff");
+    tell_replies(&mut told);
+    told.wrong_line(LISTED)
 }
 
 #[test]
-fn lists_bytes(rt: HostRuntime) {
-    let rows: &[(&[u8], &[u8])] = &[
-        (b"", b"at 7 to 2\n"),
-        (b"a\r\n\r\n", b"at 7 to 2\n|a\n|\n"),
-        (b"a\r\nb", b"at 7 to 2\n|a\n+b\n"),
-        (b"a\nb\r\nc", b"at 7 to 2\nx610a620d0a\n+c\n"),
-        (b"\r\r\n", b"at 7 to 2\nx0d0d0a\n"),
-        (b"\r", b"at 7 to 2\nx0d\n"),
-        (b" ~\r\n", b"at 7 to 2\n| ~\n"),
-        (b"\x1f\r\n\x7f\xff", b"at 7 to 2\nx1f0d0a\nx7fff\n"),
-    ];
-    let alloc = rt.alloc();
-    assert!(rt; rows.iter().all(|row| is_sent(alloc, row.0, row.1)));
-}
-
-/// The listing of a reply at 10, and of one without bytes at the last moment.
-fn two_listed(alloc: Global) -> Option<Text> {
-    let text = Text::of(alloc, b"HTTP/1.1 200 OK\r\n\r\nok").ok()?;
-    let mut offers = List::new();
-    offers.push(alloc, Offer::Web { at: 10, text }).ok()?;
-    let text = Text::new();
-    offers.push(alloc, Offer::Web { at: u64::MAX, text }).ok()?;
-    listing(alloc, &offers).ok()
-}
-
-#[test]
-fn lists_offers_in_their_order(rt: HostRuntime) {
-    let due = b"at 10 web\n|HTTP/1.1 200 OK\n|\n+ok\nat 18446744073709551615 web\n";
-    assert!(rt; matches!(two_listed(rt.alloc()), Some(text) if text.bytes() == due.as_slice()));
+fn lists_bytes_and_offers(rt: HostRuntime) {
+    assert_eq!(rt; wrong_listed(rt.alloc()), 0);
 }

@@ -1,62 +1,75 @@
 //! Scripts.
 
 use crate::configurations::{HOME, peer_addr};
-use crate::tables::{Table, cut, lines, wrong_row};
+use crate::tables::{Grammar, wrong_row};
 use mmtel_directory::{Directory, read_directory};
 use mmtel_outside::Event;
-use mmtel_scan::number_up_to;
 use mmtel_script::{ScriptFault, ScriptLink};
+use mmtel_told::Told;
+use mmtel_types::Addr;
 use std::alloc::Global;
 
 /// A script of events of each kind and of data lines of each kind.
 const SCRIPT: &[u8] =
     b"# One of each kind.\nat 0 peer 1\n|OPTIONS sip:a@h SIP/2.0\n#|\n\n|\n+a \\|+\nx000d0aff\nat 5 web\n+GE\n+T\nat 4 quiet\nat 250000000000000 peer 2\nx\nx7cf0\n+";
 
-/// Whether the event is a datagram from this port, at this moment, of these bytes.
-fn is_datagram(event: &Event, port: u16, moment: u64, text: &[u8]) -> bool {
+/// Tells the port that a datagram came from, of an address of the host itself.
+fn tell_port(told: &mut Told, from: Addr) {
+    told.keep(from.is_same(peer_addr(from.port)));
+    told.add(b"datagram");
+    told.add_spaced_number(u64::from(from.port));
+}
+
+/// Tells an event: a datagram with its port, a web request or nothing; its moment, and its bytes.
+fn tell_event(told: &mut Told, event: &Event) {
     match event {
         Event::Datagram { from, at, bytes } => {
-            from.is_same(peer_addr(port)) && at.ms() == moment && bytes.bytes() == text
+            tell_port(told, *from);
+            told.add_spaced_number(at.ms());
+            told.add(b" ");
+            told.add(bytes.bytes());
         }
-        Event::Web { .. } | Event::Quiet { .. } => false,
-    }
-}
-
-/// Whether the events are those of the script above.
-fn are_all(events: &[Event]) -> bool {
-    match events {
-        [
-            first,
-            Event::Web { at, bytes },
-            Event::Quiet { at: quiet },
-            last,
-        ] => {
-            is_datagram(
-                first,
-                5071,
-                0,
-                b"OPTIONS sip:a@h SIP/2.0\r\n\r\na \\|+\x00\r\n\xff",
-            ) && at.ms() == 5
-                && bytes.bytes() == b"GET".as_slice()
-                && quiet.ms() == 4
-                && is_datagram(last, 5072, 250_000_000_000_000, b"|\xf0")
+        Event::Web { at, bytes } => {
+            told.add(b"web");
+            told.add_spaced_number(at.ms());
+            told.add(b" ");
+            told.add(bytes.bytes());
         }
-        _ => false,
+        Event::Quiet { at } => {
+            told.add(b"quiet");
+            told.add_spaced_number(at.ms());
+        }
+    }
+    told.add(b"\n");
+}
+
+/// Tells the events of the script above, and how many there are.
+fn tell_script(told: &mut Told, directory: &Directory) {
+    match ScriptLink::read(told.alloc, SCRIPT, &directory.peers) {
+        Err(_) => told.fail(),
+        Ok(script) => {
+            for event in script.events() {
+                tell_event(told, event);
+            }
+            told.add_number(script.len() as u64);
+        }
     }
 }
 
-/// Whether the script above is read as what it says.
-fn is_script(alloc: Global, directory: &Directory) -> bool {
-    match ScriptLink::read(alloc, SCRIPT, &directory.peers) {
-        Err(_) => false,
-        Ok(script) => script.len() == 4 && are_all(script.events()),
-    }
-}
+/// What the script above says.
+const SCRIPT_TOLD: &[u8] = b"datagram 5071 0 OPTIONS sip:a@h SIP/2.0\r\n\r\na \\|+\x00\r\n\xff
+web 5 GET
+quiet 4
+datagram 5072 250000000000000 |\xf0
+4";
 
-#[test]
-fn reads_events_of_each_kind(rt: HostRuntime) {
-    let directory = read_directory(rt.alloc(), HOME);
-    assert!(rt; matches!(&directory, Ok(read) if is_script(rt.alloc(), read)));
+fn wrong_script(alloc: Global) -> usize {
+    let mut told = Told::new(alloc);
+    match read_directory(alloc, HOME) {
+        Err(_) => told.fail(),
+        Ok(directory) => tell_script(&mut told, &directory),
+    }
+    told.wrong_line(SCRIPT_TOLD)
 }
 
 /// The number of the line that a script breaks its grammar in; 0 where it is read.
@@ -123,29 +136,28 @@ struct Scripts<'a> {
     directory: &'a Directory,
 }
 
-impl Table for Scripts<'_> {
-    fn is_right(&self, alloc: Global, row: &[u8]) -> bool {
-        let (number, text) = cut(row);
-        match lines(alloc, b"", text) {
-            Err(_) => false,
-            Ok(text) => {
-                number_up_to(99, number) == Some(broken_script(alloc, text.bytes(), self.directory))
-            }
+impl Grammar for Scripts<'_> {
+    fn broken(&self, alloc: Global, text: &[u8]) -> u64 {
+        broken_script(alloc, text, self.directory)
+    }
+}
+
+/// The number of the first row that is not right; 0 where each is.
+fn wrong_rows(alloc: Global, table: &[u8]) -> usize {
+    match read_directory(alloc, HOME) {
+        Err(_) => 1,
+        Ok(directory) => {
+            let scripts = Scripts {
+                directory: &directory,
+            };
+            wrong_row(alloc, &scripts, b"", table)
         }
     }
 }
 
-/// The numbers of the first rows that are not right in the two tables; 0 where each is.
-fn wrong_scripts(alloc: Global, directory: &Directory) -> (usize, usize) {
-    let about = Scripts { directory };
-    (
-        wrong_row(alloc, &about, EVENTS),
-        wrong_row(alloc, &about, DATA),
-    )
-}
-
 #[test]
-fn names_the_first_bad_line_of_a_script(rt: HostRuntime) {
-    let directory = read_directory(rt.alloc(), HOME);
-    assert!(rt; matches!(&directory, Ok(read) if wrong_scripts(rt.alloc(), read) == (0, 0)));
+fn reads_scripts(rt: HostRuntime) {
+    assert_eq!(rt; wrong_script(rt.alloc()), 0);
+    assert_eq!(rt; wrong_rows(rt.alloc(), EVENTS), 0);
+    assert_eq!(rt; wrong_rows(rt.alloc(), DATA), 0);
 }

@@ -1,49 +1,36 @@
-//! Tables of rows: one text each, a row a line.
+//! Tables of texts that break a grammar: one text each, a row a line.
 
-use mmtel_scan::{NoMemory, Text, part};
+use mmtel_told::{Told, cut, next_line};
 use std::alloc::Global;
 
 /// What a table is about.
-pub trait Table {
-    /// Whether the row is right.
-    fn is_right(&self, alloc: Global, row: &[u8]) -> bool;
+pub trait Grammar {
+    /// The number of the line that a text breaks the grammar in; 0 where it is read.
+    fn broken(&self, alloc: Global, text: &[u8]) -> u64;
 }
 
-/// The number of the first row that is not right, from 1; 0 where each is, of a hundred at most.
-pub fn wrong_row<T: Table>(alloc: Global, about: &T, table: &[u8]) -> usize {
+/// Tells a row again: the number of the line that is broken, `|`, and the lines, of which `;` ends each, which stand behind others.
+fn tell_row<G: Grammar>(told: &mut Told, grammar: &G, before: &[u8], row: &[u8]) {
+    let (_number, lines) = cut(b'|', row);
+    let mut text = Told::new(told.alloc);
+    text.add(before);
+    text.add_ended(b';', lines, b"\n");
+    told.keep(!text.has_failed());
+    told.add_number(grammar.broken(told.alloc, text.bytes()));
+    told.add(b"|");
+    told.add_line(lines);
+}
+
+/// The number of the first row that is not right, from 1; 0 where each is.
+pub fn wrong_row<G: Grammar>(alloc: Global, grammar: &G, before: &[u8], table: &[u8]) -> usize {
+    let mut told = Told::new(alloc);
     let mut rest = table;
-    for number in 0..100 {
-        if rest.is_empty() {
-            return 0;
-        }
-        let (row, later) = part(b'\n', rest).unwrap_or((rest, b""));
-        if !about.is_right(alloc, row) {
-            return number + 1;
-        }
-        rest = later;
-    }
-    100
-}
-
-/// What stands before the first `|`, and what follows it.
-pub fn cut(row: &[u8]) -> (&[u8], &[u8]) {
-    part(b'|', row).unwrap_or((row, b""))
-}
-
-/// The text of these lines and of those of the row, which end with `;`, which the last may lack; at most a dozen.
-pub fn lines(alloc: Global, before: &[u8], row: &[u8]) -> Result<Text, NoMemory> {
-    let mut text = Text::of(alloc, before)?;
-    let mut rest = row;
-    for _ in 0..12 {
-        match part(b';', rest) {
-            None => break,
-            Some((line, later)) => {
-                text.push(alloc, line)?;
-                text.push(alloc, b"\n")?;
-                rest = later;
-            }
+    for _ in 0..100 {
+        if !rest.is_empty() {
+            let (row, later) = next_line(rest);
+            rest = later;
+            tell_row(&mut told, grammar, before, row);
         }
     }
-    text.push(alloc, rest)?;
-    Ok(text)
+    told.wrong_line(table)
 }

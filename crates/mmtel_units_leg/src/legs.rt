@@ -2,11 +2,11 @@
 ghost use Rattle.std.specs.Prelude.{◌≤◌};
 ghost use Rattle.mmtel_types.specs.Moments.{last_moment};
 
-use crate::told::Told;
 use mmtel_charging::Meter;
 use mmtel_leg::{Asked, CalleeLeg, CallerLeg, Ended, LegOf, Released, Remote, Standing};
 use mmtel_message::{Msg, read};
 use mmtel_scan::{Text, part};
+use mmtel_told::Told;
 use mmtel_types::{Addr, Cause, Moment, Peer, Side};
 
 /// The server's address.

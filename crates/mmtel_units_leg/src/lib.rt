@@ -13,5 +13,3 @@ mod legs;
 mod remotes;
 #[cfg(test)]
 mod requests;
-#[cfg(test)]
-mod told;

@@ -1,41 +1,21 @@
-//! Messages that tests make of the lines of a table.
+//! Messages that tests make of the lines of a table, and lines as a table has them.
 
-use crate::tables::{Report, next_line};
-use mmtel_lex::{NoMemory, Text};
-use mmtel_message::{Msg, Start};
-use mmtel_scan::part;
-use std::alloc::Global;
+use mmtel_lex::Text;
+use mmtel_message::{Line, Msg, Start};
+use mmtel_told::{Told, cut, next_line};
 
 /// Adds a line at the end of a message.
-pub fn add(out: &mut Report, alloc: Global, message: &mut Msg, name: &[u8], value: &[u8]) {
-    match Text::of(alloc, value) {
-        Ok(value) => out.note(message.add(alloc, name, value)),
-        Err(_) => out.fail(),
-    }
-}
-
-/// Adds a line before all others.
-pub fn push_front(out: &mut Report, alloc: Global, message: &mut Msg, name: &[u8], value: &[u8]) {
-    match Text::of(alloc, value) {
-        Ok(value) => out.note(message.push_front(alloc, name, value)),
-        Err(_) => out.fail(),
-    }
-}
-
-/// Gives the first line of the name this value.
-pub fn set(out: &mut Report, alloc: Global, message: &mut Msg, name: &[u8], value: &[u8]) {
-    match Text::of(alloc, value) {
-        Ok(value) => out.note(message.set(alloc, name, value)),
-        Err(_) => out.fail(),
-    }
+pub fn add(told: &mut Told, message: &mut Msg, name: &[u8], value: &[u8]) {
+    let value = told.copy(value);
+    let done = message.add(told.alloc, name, value);
+    told.keep(done.is_ok());
 }
 
 /// Adds a line of a table.
-fn add_row(out: &mut Report, alloc: Global, message: &mut Msg, row: &[u8]) {
-    let (name, value) = part(b':', row).unwrap_or((row, b""));
+fn add_row(told: &mut Told, message: &mut Msg, row: &[u8]) {
+    let (name, value) = cut(b':', row);
     add(
-        out,
-        alloc,
+        told,
         message,
         name,
         value.strip_prefix(b" ").unwrap_or(value),
@@ -43,20 +23,33 @@ fn add_row(out: &mut Report, alloc: Global, message: &mut Msg, row: &[u8]) {
 }
 
 /// The start line of a request of this method.
-pub fn request(alloc: Global, method: &[u8]) -> Result<Start, NoMemory> {
-    let method = Text::of(alloc, method)?;
-    let uri = Text::of(alloc, b"sip:b@h")?;
-    Ok(Start::Request { method, uri })
+pub fn request(told: &mut Told, method: &[u8]) -> Start {
+    let method = told.copy(method);
+    let uri = told.copy(b"sip:b@h");
+    Start::Request { method, uri }
 }
 
-/// A message of so many lines of a table.
-pub fn of_lines(out: &mut Report, alloc: Global, start: Start, table: &[u8], number: usize) -> Msg {
+/// A message of the lines of a table.
+pub fn of_lines(told: &mut Told, start: Start, table: &[u8]) -> Msg {
     let mut message = Msg::new(start, Text::new());
     let mut rows = table;
-    for _ in 0..number {
-        let (row, rest) = next_line(rows);
-        rows = rest;
-        add_row(out, alloc, &mut message, row);
+    for _ in 0..10 {
+        if !rows.is_empty() {
+            let (row, rest) = next_line(rows);
+            rows = rest;
+            add_row(told, &mut message, row);
+        }
     }
+    told.keep(rows.is_empty());
     message
+}
+
+/// Tells lines, one a line, and a line `#`.
+pub fn tell_lines(told: &mut Told, lines: &[Line]) {
+    for line in lines {
+        told.add(line.0.bytes());
+        told.add(b": ");
+        told.add_line(line.1.bytes());
+    }
+    told.add(b"#\n");
 }

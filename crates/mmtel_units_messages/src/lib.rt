@@ -18,6 +18,4 @@ mod responses;
 #[cfg(test)]
 mod shown;
 #[cfg(test)]
-mod tables;
-#[cfg(test)]
 mod trust;

@@ -1,14 +1,13 @@
 //! SIP messages: what comes of the standards' examples, of damaged messages and at the limits, and the edits.
 
-use crate::drafts::{of_lines, push_front, request, set};
-use crate::tables::{Report, next_line};
+use crate::drafts::{of_lines, request};
 use mmtel_lex::{List, NoMemory, Text};
 use mmtel_message::{
     Mode, Msg, ReadFault, Start, is_readable, joined_by, line_texts, param_value, read, read_cseq,
     read_five, read_via, reply_with, values_in, values_named,
 };
+use mmtel_told::{Told, next_line};
 use std::alloc::Global;
-use std::test::Fail;
 
 /// The code of a response; 0 of a request.
 fn code_of(message: &Msg) -> u16 {
@@ -18,75 +17,69 @@ fn code_of(message: &Msg) -> u16 {
     }
 }
 
-/// The code of a reply, or `none`.
-fn put_code(out: &mut Report, alloc: Global, reply: &Option<Msg>) {
+/// Tells the code of a reply, or `none`.
+fn tell_code(told: &mut Told, reply: &Option<Msg>) {
     match reply {
-        Some(reply) => out.put_number(alloc, usize::from(code_of(reply))),
-        None => out.put(alloc, b"none"),
+        Some(reply) => told.add_number(u64::from(code_of(reply))),
+        None => told.add(b"none"),
     }
 }
 
-/// A refusal and the code of its reply.
-fn put_fault(out: &mut Report, alloc: Global, fault: &ReadFault) {
+/// Tells a refusal and the code of its reply.
+fn tell_fault(told: &mut Told, fault: &ReadFault) {
     match fault {
         ReadFault::TooLarge { reply } => {
-            out.put(alloc, b"too large, ");
-            put_code(out, alloc, reply);
+            told.add(b"too large, ");
+            tell_code(told, reply);
         }
-        ReadFault::NotSip => out.put(alloc, b"not sip"),
+        ReadFault::NotSip => told.add(b"not sip"),
         ReadFault::TooMany { reply } => {
-            out.put(alloc, b"too many, ");
-            put_code(out, alloc, reply);
+            told.add(b"too many, ");
+            tell_code(told, reply);
         }
         ReadFault::Bad { at, reply } => {
-            out.put(alloc, b"bad ");
-            out.put_number(alloc, *at);
-            out.put(alloc, b", ");
-            put_code(out, alloc, reply);
+            told.add(b"bad ");
+            told.add_number(*at as u64);
+            told.add(b", ");
+            tell_code(told, reply);
         }
-        ReadFault::NoMemory => out.fail(),
+        ReadFault::NoMemory => told.fail(),
     }
 }
 
-/// What comes of the bytes: `read`, or the refusal and the code of its reply.
-fn put_outcome(out: &mut Report, alloc: Global, bytes: &[u8]) {
-    match read(alloc, bytes) {
-        Ok(_message) => out.put(alloc, b"read"),
-        Err(fault) => put_fault(out, alloc, &fault),
+/// Tells what comes of the bytes: `read`, or the refusal and the code of its reply.
+fn tell_outcome(told: &mut Told, bytes: &[u8]) {
+    match read(told.alloc, bytes) {
+        Ok(_message) => told.add(b"read"),
+        Err(fault) => tell_fault(told, &fault),
     }
 }
 
-/// The text of a message.
-fn put_message(out: &mut Report, alloc: Global, message: &Msg) {
-    match message.text(alloc) {
-        Ok(text) => out.put(alloc, text.bytes()),
-        Err(_) => out.fail(),
-    }
+/// Tells the text of a message.
+fn tell_message(told: &mut Told, message: &Msg) {
+    let text = message.text(told.alloc);
+    let text = told.made(text);
+    told.add(text.bytes());
 }
 
-/// The text of a reply, where there is one.
-fn put_reply(out: &mut Report, alloc: Global, reply: &Option<Msg>) {
-    if let Some(reply) = reply {
-        put_message(out, alloc, reply);
-    }
-}
-
-/// The text of the reply that a refusal carries.
-fn put_refusal(out: &mut Report, alloc: Global, fault: &ReadFault) {
+/// Tells the text of the reply that a refusal carries, where it carries one.
+fn tell_refusal(told: &mut Told, fault: &ReadFault) {
     match fault {
-        ReadFault::TooLarge { reply } => put_reply(out, alloc, reply),
-        ReadFault::TooMany { reply } => put_reply(out, alloc, reply),
-        ReadFault::Bad { at: _, reply } => put_reply(out, alloc, reply),
-        ReadFault::NotSip => {}
-        ReadFault::NoMemory => out.fail(),
+        ReadFault::TooLarge { reply: Some(reply) } => tell_message(told, reply),
+        ReadFault::TooMany { reply: Some(reply) } => tell_message(told, reply),
+        ReadFault::Bad {
+            at: _,
+            reply: Some(reply),
+        } => tell_message(told, reply),
+        _ => {}
     }
 }
 
-/// The text of the message that is read, or of the reply.
-fn put_answer(out: &mut Report, alloc: Global, bytes: &[u8]) {
-    match read(alloc, bytes) {
-        Ok(message) => put_message(out, alloc, &message),
-        Err(fault) => put_refusal(out, alloc, &fault),
+/// Tells the text of the message that is read, or of the reply.
+fn tell_answer(told: &mut Told, bytes: &[u8]) {
+    match read(told.alloc, bytes) {
+        Ok(message) => tell_message(told, &message),
+        Err(fault) => tell_refusal(told, &fault),
     }
 }
 
@@ -95,30 +88,25 @@ const USUAL: &[u8] =
     b"Via: SIP/2.0/UDP a.example;branch=z9hG4bKa1\r\nFrom: <sip:a@h>;tag=a\r\nTo:\r\n\t<sip:b@h>\t\r\nCall-ID: c1\r\n";
 
 /// Adds a line of a message, or the usual ones.
-fn put_header(out: &mut Report, alloc: Global, line: &[u8]) {
+fn add_header(told: &mut Told, line: &[u8]) {
     if line == b"&".as_slice() {
-        out.put(alloc, USUAL);
+        told.add(USUAL);
     } else {
-        out.put(alloc, line);
-        out.put(alloc, b"\r\n");
+        told.add(line);
+        told.add(b"\r\n");
     }
 }
 
 /// Adds the lines of a table up to one that begins with `mark`, each ended by CRLF; gives that line without the mark, and what follows it.
-fn put_block<'a>(
-    out: &mut Report,
-    alloc: Global,
-    mark: &[u8],
-    table: &'a [u8],
-) -> (&'a [u8], &'a [u8]) {
+fn add_block<'a>(told: &mut Told, mark: u8, table: &'a [u8]) -> (&'a [u8], &'a [u8]) {
     let mut rest = table;
     for _ in 0..200 {
         let (line, after) = next_line(rest);
         rest = after;
-        if let Some(end) = line.strip_prefix(mark) {
-            return (end, rest);
+        match line {
+            [first, end @ ..] if *first == mark => return (end, rest),
+            _ => add_header(told, line),
         }
-        put_header(out, alloc, line);
     }
     (b"", rest)
 }
@@ -237,27 +225,27 @@ Content-Length: 0
 "##;
 
 /// Adds the answer to the first message of a table, and the text that is wanted; gives what follows them.
-fn put_row<'a>(came: &mut Report, wanted: &mut Report, alloc: Global, table: &'a [u8]) -> &'a [u8] {
-    let mut text = Report::new();
-    let (end, rest) = put_block(&mut text, alloc, b"#", table);
-    text.put(alloc, end);
-    put_answer(came, alloc, text.bytes());
-    let (end, rest) = put_block(wanted, alloc, b"#", rest);
-    wanted.put(alloc, end);
+fn add_read<'a>(came: &mut Told, wanted: &mut Told, table: &'a [u8]) -> &'a [u8] {
+    let mut text = Told::new(came.alloc);
+    let (end, rest) = add_block(&mut text, b'#', table);
+    text.add(end);
+    tell_answer(came, text.whole());
+    let (end, rest) = add_block(wanted, b'#', rest);
+    wanted.add(end);
     rest
 }
 
-#[test]
-fn reads_and_prints(rt: HostRuntime) -> Result<(), Fail> {
-    let mut came = Report::new();
-    let mut wanted = Report::new();
-    let mut rows = READ;
-    for _ in 0..4 {
-        rows = put_row(&mut came, &mut wanted, rt.alloc(), rows);
+/// The number of the first line that the messages of a table are not read as; 0 where none is.
+fn wrong_read(alloc: Global, table: &[u8]) -> usize {
+    let mut came = Told::new(alloc);
+    let mut wanted = Told::new(alloc);
+    let mut rows = table;
+    for _ in 0..10 {
+        if !rows.is_empty() {
+            rows = add_read(&mut came, &mut wanted, rows);
+        }
     }
-    assert!(rt; rows.is_empty());
-    assert_eq!(rt; came.bytes(), wanted.bytes());
-    Ok(())
+    came.wrong_line(wanted.whole())
 }
 
 /// Messages and what comes of each: the torture tests of RFC 4475 §3.1.1 that the profile reads or refuses for its blanks, and those of §3.1.2, in their order. The profile lets no blank stand around `;` and `=`, so it refuses the first two, the second of which is the 200 of RFC 3261 §24.1.
@@ -644,188 +632,146 @@ No colon
 "##;
 
 /// Adds what comes of the first message of a table, and what is wanted, each behind its first line; gives what follows them.
-fn put_verdict<'a>(
-    came: &mut Report,
-    wanted: &mut Report,
-    alloc: Global,
-    table: &'a [u8],
-) -> &'a [u8] {
-    let mut text = Report::new();
-    let (verdict, rest) = put_block(&mut text, alloc, b"=", table);
+fn add_verdict<'a>(came: &mut Told, wanted: &mut Told, table: &'a [u8]) -> &'a [u8] {
+    let mut text = Told::new(came.alloc);
+    let (verdict, rest) = add_block(&mut text, b'=', table);
     let (start, _) = next_line(table);
-    came.put(alloc, start);
-    came.put(alloc, b"= ");
-    put_outcome(came, alloc, text.bytes());
-    wanted.put(alloc, start);
-    wanted.put(alloc, b"=");
-    wanted.put(alloc, verdict);
+    came.add(start);
+    came.add(b"= ");
+    tell_outcome(came, text.whole());
+    came.add(b"\n");
+    wanted.add(start);
+    wanted.add(b"=");
+    wanted.add_line(verdict);
     rest
 }
 
-/// The verdicts on the messages of a table, of which there are this many.
-fn verdicts(alloc: Global, table: &[u8], number: usize) -> (Report, Report) {
-    let mut came = Report::new();
-    let mut wanted = Report::new();
+/// The number of the first message of a table, from 1, of which something else comes; 0 where of none.
+fn wrong_verdict(alloc: Global, table: &[u8]) -> usize {
+    let mut came = Told::new(alloc);
+    let mut wanted = Told::new(alloc);
     let mut rows = table;
-    for _ in 0..number {
-        rows = put_verdict(&mut came, &mut wanted, alloc, rows);
+    for _ in 0..40 {
+        if !rows.is_empty() {
+            rows = add_verdict(&mut came, &mut wanted, rows);
+        }
     }
-    if !rows.is_empty() {
-        came.fail();
-    }
-    (came, wanted)
-}
-
-#[test]
-fn judges_the_torture_tests(rt: HostRuntime) -> Result<(), Fail> {
-    let (came, wanted) = verdicts(rt.alloc(), TORTURE, 24);
-    assert_eq!(rt; came.bytes(), wanted.bytes());
-    Ok(())
-}
-
-#[test]
-fn refuses_by_the_first_fault(rt: HostRuntime) -> Result<(), Fail> {
-    let (came, wanted) = verdicts(rt.alloc(), DAMAGED, 30);
-    assert_eq!(rt; came.bytes(), wanted.bytes());
-    Ok(())
+    came.wrong_line(wanted.whole())
 }
 
 /// The head of a message up to where more lines may stand.
-fn put_head(out: &mut Report, alloc: Global) {
-    out.put(alloc, b"OPTIONS sip:b@h SIP/2.0\r\n");
-    out.put(alloc, USUAL);
-    out.put(alloc, b"CSeq: 1 OPTIONS\r\n");
+fn add_head(told: &mut Told) {
+    told.add(b"OPTIONS sip:b@h SIP/2.0\r\n");
+    told.add(USUAL);
+    told.add(b"CSeq: 1 OPTIONS\r\n");
 }
 
 /// Adds this many copies of a piece.
-fn put_many(out: &mut Report, alloc: Global, piece: &[u8], number: usize) {
+fn add_many(told: &mut Told, piece: &[u8], number: usize) {
     for _ in 0..number {
-        out.put(alloc, piece);
+        told.add(piece);
     }
 }
 
-/// What comes of a datagram of 16,384 bytes, and of one of a byte more.
-fn put_large(out: &mut Report, alloc: Global) {
-    let mut text = Report::new();
-    put_head(&mut text, alloc);
-    text.put(alloc, b"\r\n");
+/// Tells what comes of a datagram of 16,384 bytes, and of one of a byte more.
+fn tell_large(told: &mut Told) {
+    let mut text = Told::new(told.alloc);
+    add_head(&mut text);
+    text.add(b"\r\n");
     let room = 16384_usize.saturating_sub(text.bytes().len());
-    put_many(&mut text, alloc, b"x", room);
-    put_outcome(out, alloc, text.bytes());
-    out.put(alloc, b"\n");
-    text.put(alloc, b"x");
-    put_outcome(out, alloc, text.bytes());
+    add_many(&mut text, b"x", room);
+    tell_outcome(told, text.whole());
+    told.add(b"\n");
+    text.add(b"x");
+    tell_outcome(told, text.whole());
+    told.add(b"\n");
 }
 
-/// A datagram of 16,384 bytes is read, and one of a byte more is too large.
+/// Tells what comes of 123 header lines behind the five of the head, and of this end.
+fn tell_long(told: &mut Told, end: &[u8]) {
+    let mut text = Told::new(told.alloc);
+    add_head(&mut text);
+    add_many(&mut text, b"X: y\r\n", 123);
+    text.add(end);
+    tell_outcome(told, text.whole());
+    told.add(b"\n");
+}
+
+/// A datagram of 16,384 bytes is read, and one of a byte more is too large. A datagram of 128 header lines is read, and one of a line more has too many, whatever that line is.
+fn wrong_limit(alloc: Global) -> usize {
+    let mut told = Told::new(alloc);
+    tell_large(&mut told);
+    tell_long(&mut told, b"\r\n");
+    tell_long(&mut told, b"No colon\r\n\r\n");
+    told.wrong_line(b"read\ntoo large, 513\nread\ntoo many, 513\n")
+}
+
+/// Messages that are read and printed, those that are judged, and the limits.
 #[test]
-fn reads_up_to_the_limit_of_bytes(rt: HostRuntime) -> Result<(), Fail> {
-    let mut out = Report::new();
-    put_large(&mut out, rt.alloc());
-    assert_eq!(rt; out.bytes(), b"read\ntoo large, 513".as_slice());
-    Ok(())
+fn reads_messages(rt: HostRuntime) {
+    assert_eq!(rt; wrong_read(rt.alloc(), READ), 0);
+    assert_eq!(rt; wrong_verdict(rt.alloc(), TORTURE), 0);
+    assert_eq!(rt; wrong_verdict(rt.alloc(), DAMAGED), 0);
+    assert_eq!(rt; wrong_limit(rt.alloc()), 0);
 }
 
-/// What comes of 128 header lines, and of one more.
-fn put_long(out: &mut Report, alloc: Global) {
-    let mut text = Report::new();
-    put_head(&mut text, alloc);
-    put_many(&mut text, alloc, b"X: y\r\n", 123);
-    let mut more = Report::new();
-    more.put(alloc, text.bytes());
-    text.put(alloc, b"\r\n");
-    put_outcome(out, alloc, text.bytes());
-    out.put(alloc, b"\n");
-    more.put(alloc, b"No colon\r\n\r\n");
-    put_outcome(out, alloc, more.bytes());
-}
-
-/// A datagram of 128 header lines is read, and one of a line more has too many, whatever that line is.
-#[test]
-fn reads_up_to_the_limit_of_lines(rt: HostRuntime) -> Result<(), Fail> {
-    let mut out = Report::new();
-    put_long(&mut out, rt.alloc());
-    assert_eq!(rt; out.bytes(), b"read\ntoo many, 513".as_slice());
-    Ok(())
-}
-
-/// The parts of a Via value.
-fn put_via(out: &mut Report, alloc: Global, value: &[u8]) {
-    match read_via(alloc, value) {
+/// Tells the parts of a Via value.
+fn tell_via(told: &mut Told, value: &[u8]) {
+    match read_via(told.alloc, value) {
         Ok(via) => {
-            out.put(alloc, via.sent_by.bytes());
-            out.put(alloc, b"|");
-            out.put_number(alloc, usize::from(via.port.unwrap_or(0)));
-            out.put(alloc, b"|");
+            told.add(via.sent_by.bytes());
+            told.add(b"|");
+            told.add_number(u64::from(via.port.unwrap_or(0)));
+            told.add(b"|");
             let branch = param_value(via.params.items(), b"Branch");
-            out.put(alloc, branch.unwrap_or(b""));
+            told.add_line(branch.unwrap_or(b""));
         }
-        Err(_) => out.fail(),
+        Err(_) => told.fail(),
     }
 }
 
-/// The value of RFC 3261 §20.42 with a branch.
-#[test]
-fn reads_a_via(rt: HostRuntime) -> Result<(), Fail> {
-    let mut out = Report::new();
-    put_via(
-        &mut out,
-        rt.alloc(),
+/// Tells the parts of a CSeq value.
+fn tell_cseq(told: &mut Told, value: &[u8]) {
+    match read_cseq(told.alloc, value) {
+        Ok(cseq) => {
+            told.add_number(u64::from(cseq.number));
+            told.add(b"|");
+            told.add_line(cseq.method.bytes());
+        }
+        Err(_) => told.fail(),
+    }
+}
+
+/// Tells whether a value can be read as a name-addr.
+fn tell_readable(told: &mut Told, value: &[u8]) {
+    match is_readable(told.alloc, value) {
+        Ok(readable) => told.add_if(readable, b"readable\n", b"unreadable\n"),
+        Err(_) => told.fail(),
+    }
+}
+
+/// Tells texts, joined.
+fn tell_joined(told: &mut Told, texts: Result<List<Text>, NoMemory>) {
+    match texts {
+        Ok(texts) => {
+            let joined = joined_by(told.alloc, b"|", texts.items());
+            told.add_made(joined);
+        }
+        Err(_) => told.fail(),
+    }
+}
+
+/// The values of RFC 3261 §20.42 with a branch, and of §20.16; a name-addr after §20.10, and one whose quotes are not closed; the values of a text, parted and joined.
+fn tell_values(told: &mut Told) {
+    tell_via(
+        told,
         b"SIP/2.0/UDP erlang.bell-telephone.com:5060;branch=z9hG4bK87asdks7",
     );
-    assert_eq!(rt;
-        out.bytes(),
-        b"erlang.bell-telephone.com:5060|5060|z9hG4bK87asdks7".as_slice()
-    );
-    Ok(())
-}
-
-/// The parts of a CSeq value.
-fn put_cseq(out: &mut Report, alloc: Global, value: &[u8]) {
-    match read_cseq(alloc, value) {
-        Ok(cseq) => {
-            out.put_number(alloc, cseq.number as usize);
-            out.put(alloc, b"|");
-            out.put(alloc, cseq.method.bytes());
-        }
-        Err(_) => out.fail(),
-    }
-}
-
-/// The value of RFC 3261 §20.16.
-#[test]
-fn reads_a_cseq(rt: HostRuntime) -> Result<(), Fail> {
-    let mut out = Report::new();
-    put_cseq(&mut out, rt.alloc(), b"4711 INVITE");
-    assert_eq!(rt; out.bytes(), b"4711|INVITE".as_slice());
-    Ok(())
-}
-
-/// Whether a value can be read as a name-addr.
-fn put_readable(out: &mut Report, alloc: Global, value: &[u8]) {
-    match is_readable(alloc, value) {
-        Ok(true) => out.put(alloc, b"readable\n"),
-        Ok(false) => out.put(alloc, b"unreadable\n"),
-        Err(_) => out.fail(),
-    }
-}
-
-/// A name-addr after RFC 3261 §20.10, and one whose quotes are not closed.
-#[test]
-fn tells_name_addrs(rt: HostRuntime) -> Result<(), Fail> {
-    let mut out = Report::new();
-    put_readable(
-        &mut out,
-        rt.alloc(),
-        b"\"Mr. Watson\" <sip:watson@bell-telephone.com>",
-    );
-    put_readable(
-        &mut out,
-        rt.alloc(),
-        b"\"Mr. Watson <sip:watson@bell-telephone.com>",
-    );
-    assert_eq!(rt; out.bytes(), b"readable\nunreadable\n".as_slice());
-    Ok(())
+    tell_cseq(told, b"4711 INVITE");
+    tell_readable(told, b"\"Mr. Watson\" <sip:watson@bell-telephone.com>");
+    tell_readable(told, b"\"Mr. Watson <sip:watson@bell-telephone.com>");
+    let values = values_in(told.alloc, Mode::Plain, b"<sip:a@h,x> , \"b,c\" <sip:d@h>");
+    tell_joined(told, values);
 }
 
 /// The lines that each request has.
@@ -836,61 +782,23 @@ Call-ID: c1
 CSeq: 1 OPTIONS
 ";
 
-/// Two of the five fields of a message.
-fn put_five(out: &mut Report, alloc: Global, message: &Msg) {
-    match read_five(alloc, message.lines()) {
+/// Tells two of the five fields of a message.
+fn tell_five(told: &mut Told, message: &Msg) {
+    match read_five(told.alloc, message.lines()) {
         Ok(five) => {
-            out.put(alloc, five.call_id.bytes());
-            out.put(alloc, b"|");
-            out.put(alloc, five.to.uri.bytes());
+            told.add(five.call_id.bytes());
+            told.add(b"|");
+            told.add_line(five.to.uri.bytes());
         }
-        Err(_) => out.fail(),
+        Err(_) => told.fail(),
     }
 }
 
-#[test]
-fn reads_the_five_fields(rt: HostRuntime) -> Result<(), Fail> {
-    let start = request(rt.alloc(), b"OPTIONS")?;
-    let mut out = Report::new();
-    let message = of_lines(&mut out, rt.alloc(), start, FIVE, 5);
-    put_five(&mut out, rt.alloc(), &message);
-    assert_eq!(rt; out.bytes(), b"c1|sip:b@h".as_slice());
-    Ok(())
-}
-
-/// The text of the response to a request.
-fn put_busy(out: &mut Report, alloc: Global, message: &Msg) {
-    match reply_with(alloc, 486, b"Busy Here", message.lines()) {
-        Ok(reply) => put_message(out, alloc, &reply),
-        Err(_) => out.fail(),
-    }
-}
-
-/// A response repeats the lines of the request.
-#[test]
-fn answers_requests(rt: HostRuntime) -> Result<(), Fail> {
-    let wanted =
-        b"SIP/2.0 486 Busy Here\r\nVia: SIP/2.0/UDP a.example;branch=z9hG4bKa1\r\nFrom: <sip:a@h>;tag=a\r\nTo: <sip:b@h>\r\nCall-ID: c1\r\nCSeq: 1 OPTIONS\r\nContent-Length: 0\r\n\r\n";
-    let start = request(rt.alloc(), b"OPTIONS")?;
-    let mut out = Report::new();
-    let message = of_lines(&mut out, rt.alloc(), start, FIVE, 5);
-    put_busy(&mut out, rt.alloc(), &message);
-    assert_eq!(rt; out.bytes(), wanted.as_slice());
-    Ok(())
-}
-
-/// Texts, joined.
-fn put_texts(out: &mut Report, alloc: Global, texts: &[Text]) {
-    match joined_by(alloc, b"|", texts) {
-        Ok(joined) => out.put_line(alloc, joined.bytes()),
-        Err(_) => out.fail(),
-    }
-}
-
-fn put_joined(out: &mut Report, alloc: Global, texts: Result<List<Text>, NoMemory>) {
-    match texts {
-        Ok(texts) => put_texts(out, alloc, texts.items()),
-        Err(_) => out.fail(),
+/// Tells the text of the response to a request, which repeats the lines of the request.
+fn tell_busy(told: &mut Told, message: &Msg) {
+    match reply_with(told.alloc, 486, b"Busy Here", message.lines()) {
+        Ok(reply) => tell_message(told, &reply),
+        Err(_) => told.fail(),
     }
 }
 
@@ -901,57 +809,77 @@ route: <sip:t@h>
 subject: two
 ";
 
-/// What is found by a name: the values of its lines, by two calls; their texts; and the first of these.
-fn put_found(out: &mut Report, alloc: Global, message: &Msg) {
-    put_joined(
-        out,
-        alloc,
+/// Tells what is found by a name: the values of its lines, by two calls; their texts; and the first of these.
+fn tell_found(told: &mut Told, message: &Msg) {
+    let alloc = told.alloc;
+    tell_joined(
+        told,
         values_named(alloc, Mode::Plain, message.lines(), b"ROUTE"),
     );
-    put_joined(out, alloc, message.values(alloc, b"ROUTE"));
-    put_joined(out, alloc, line_texts(alloc, message.lines(), b"ROUTE"));
-    out.put(alloc, message.first(b"ROUTE").unwrap_or(b""));
+    tell_joined(told, message.values(alloc, b"ROUTE"));
+    tell_joined(told, line_texts(alloc, message.lines(), b"ROUTE"));
+    told.add_line(message.first(b"ROUTE").unwrap_or(b""));
 }
 
-/// The values of a text and of lines, parted and joined.
-#[test]
-fn parts_values(rt: HostRuntime) -> Result<(), Fail> {
-    let mut out = Report::new();
-    put_joined(
-        &mut out,
-        rt.alloc(),
-        values_in(rt.alloc(), Mode::Plain, b"<sip:a@h,x> , \"b,c\" <sip:d@h>"),
-    );
-    assert_eq!(rt; out.bytes(), b"<sip:a@h,x>|\"b,c\" <sip:d@h>\n".as_slice());
-    Ok(())
+/// Gives the first line of the name this value.
+fn set(told: &mut Told, message: &mut Msg, name: &[u8], value: &[u8]) {
+    let value = told.copy(value);
+    let done = message.set(told.alloc, name, value);
+    told.keep(done.is_ok());
 }
 
-#[test]
-fn finds_values(rt: HostRuntime) -> Result<(), Fail> {
-    let start = request(rt.alloc(), b"OPTIONS")?;
-    let mut out = Report::new();
-    let message = of_lines(&mut out, rt.alloc(), start, ROUTED, 4);
-    put_found(&mut out, rt.alloc(), &message);
-    assert_eq!(rt;
-        out.bytes(),
-        b"<sip:r@h>|<sip:s@h>|<sip:t@h>\n<sip:r@h>|<sip:s@h>|<sip:t@h>\n<sip:r@h>, <sip:s@h>|<sip:t@h>\n<sip:r@h>, <sip:s@h>".as_slice()
-    );
-    Ok(())
-}
-
-/// A message that is made and edited, and its text.
-#[test]
-fn edits_messages(rt: HostRuntime) -> Result<(), Fail> {
-    let wanted =
-        b"OPTIONS sip:b@h SIP/2.0\r\nVia: SIP/2.0/UDP a\r\nSubject: three\r\nEvent: refer\r\n\r\n";
-    let start = request(rt.alloc(), b"OPTIONS")?;
-    let mut out = Report::new();
-    let mut message = of_lines(&mut out, rt.alloc(), start, ROUTED, 4);
-    set(&mut out, rt.alloc(), &mut message, b"Subject", b"three");
-    set(&mut out, rt.alloc(), &mut message, b"Event", b"refer");
+/// Edits a message of the lines above, and tells its text.
+fn edit(told: &mut Told, message: &mut Msg) {
+    set(told, message, b"Subject", b"three");
+    set(told, message, b"Event", b"refer");
     message.drop_all(b"Route");
-    push_front(&mut out, rt.alloc(), &mut message, b"Via", b"SIP/2.0/UDP a");
-    put_message(&mut out, rt.alloc(), &message);
-    assert_eq!(rt; out.bytes(), wanted.as_slice());
-    Ok(())
+    let via = told.copy(b"SIP/2.0/UDP a");
+    let done = message.push_front(told.alloc, b"Via", via);
+    told.keep(done.is_ok());
+    tell_message(told, message);
+}
+
+/// What is told of the values, of a request of five lines and of the one that has routes, which is edited last.
+const PARTS: &[u8] = b"erlang.bell-telephone.com:5060|5060|z9hG4bK87asdks7
+4711|INVITE
+readable
+unreadable
+<sip:a@h,x>|\"b,c\" <sip:d@h>
+c1|sip:b@h
+SIP/2.0 486 Busy Here\r
+Via: SIP/2.0/UDP a.example;branch=z9hG4bKa1\r
+From: <sip:a@h>;tag=a\r
+To: <sip:b@h>\r
+Call-ID: c1\r
+CSeq: 1 OPTIONS\r
+Content-Length: 0\r
+\r
+<sip:r@h>|<sip:s@h>|<sip:t@h>
+<sip:r@h>|<sip:s@h>|<sip:t@h>
+<sip:r@h>, <sip:s@h>|<sip:t@h>
+<sip:r@h>, <sip:s@h>
+OPTIONS sip:b@h SIP/2.0\r
+Via: SIP/2.0/UDP a\r
+Subject: three\r
+Event: refer\r
+\r
+";
+
+fn wrong_part(alloc: Global) -> usize {
+    let mut told = Told::new(alloc);
+    tell_values(&mut told);
+    let start = request(&mut told, b"OPTIONS");
+    let message = of_lines(&mut told, start, FIVE);
+    tell_five(&mut told, &message);
+    tell_busy(&mut told, &message);
+    let start = request(&mut told, b"OPTIONS");
+    let mut message = of_lines(&mut told, start, ROUTED);
+    tell_found(&mut told, &message);
+    edit(&mut told, &mut message);
+    told.wrong_line(PARTS)
+}
+
+#[test]
+fn parts_and_edits_messages(rt: HostRuntime) {
+    assert_eq!(rt; wrong_part(rt.alloc()), 0);
 }

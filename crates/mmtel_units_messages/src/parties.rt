@@ -1,70 +1,59 @@
 //! The parties of a call, and the way of its attempts.
 
 use crate::drafts::add;
-use crate::tables::{Report, next_line};
-use mmtel_lex::{List, NoMemory, Text, UriFault, read_uri};
+use mmtel_lex::{List, NoMemory, Text, read_uri};
 use mmtel_message::{Msg, Start, read};
 use mmtel_parties::{Parties, RegistrationState, ServedSides, kept_routes, next_hop};
-use mmtel_scan::part;
+use mmtel_told::{Told, cut, next_line};
 use mmtel_trust::{Accounts, PeerTable};
 use mmtel_types::{Account, Addr, Peer};
 use std::alloc::Global;
-use std::test::Fail;
 
 /// The first field of a row, and what follows its `|`.
 fn field(row: &[u8]) -> (&[u8], &[u8]) {
-    part(b'|', row).unwrap_or((row, b""))
+    cut(b'|', row)
 }
 
 /// An INVITE to this Request-URI.
-fn invite(alloc: Global, uri: &[u8]) -> Result<Msg, NoMemory> {
-    let method = Text::of(alloc, b"INVITE")?;
-    let uri = Text::of(alloc, uri)?;
-    Ok(Msg::new(Start::Request { method, uri }, Text::new()))
+fn invite(told: &mut Told, uri: &[u8]) -> Msg {
+    let method = told.copy(b"INVITE");
+    let uri = told.copy(uri);
+    Msg::new(Start::Request { method, uri }, Text::new())
 }
 
 /// Adds a line of the name with the first field of the row, unless that is empty; gives what follows it.
-fn add_field<'a>(
-    out: &mut Report,
-    alloc: Global,
-    message: &mut Msg,
-    name: &[u8],
-    row: &'a [u8],
-) -> &'a [u8] {
+fn add_field<'a>(told: &mut Told, message: &mut Msg, name: &[u8], row: &'a [u8]) -> &'a [u8] {
     let (value, rest) = field(row);
     if !value.is_empty() {
-        add(out, alloc, message, name, value);
+        add(told, message, name, value);
     }
     rest
 }
 
-fn put_identity(out: &mut Report, alloc: Global, accounts: &mut Accounts, number: u32, uri: &[u8]) {
-    match read_uri(alloc, uri) {
-        Ok(uri) => match accounts.add(alloc, Account(number), uri) {
-            Ok(()) => {}
-            Err(_) => out.fail(),
-        },
-        Err(_) => out.fail(),
+fn add_identity(told: &mut Told, accounts: &mut Accounts, number: u32, uri: &[u8]) {
+    match read_uri(told.alloc, uri) {
+        Ok(uri) => {
+            let done = accounts.add(told.alloc, Account(number), uri);
+            told.keep(done.is_ok());
+        }
+        Err(_) => told.fail(),
     }
 }
 
 /// Alice, who has a number too, bob and carol.
-fn accounts(out: &mut Report, alloc: Global) -> Accounts {
+fn accounts(told: &mut Told) -> Accounts {
     let mut accounts = Accounts::new();
-    put_identity(out, alloc, &mut accounts, 1, b"sip:alice@home.example");
-    put_identity(out, alloc, &mut accounts, 1, b"tel:+4930111");
-    put_identity(out, alloc, &mut accounts, 2, b"sip:bob@home.example");
-    put_identity(out, alloc, &mut accounts, 3, b"sip:carol@home.example");
+    add_identity(told, &mut accounts, 1, b"sip:alice@home.example");
+    add_identity(told, &mut accounts, 1, b"tel:+4930111");
+    add_identity(told, &mut accounts, 2, b"sip:bob@home.example");
+    add_identity(told, &mut accounts, 3, b"sip:carol@home.example");
     accounts
 }
 
-/// A number of an account and a blank, 0 for none.
-fn put_account(out: &mut Report, alloc: Global, account: Option<Account>) {
-    match account {
-        Some(Account(number)) => out.put_number(alloc, number as usize),
-        None => out.put(alloc, b"0"),
-    }
-    out.put(alloc, b" ");
+/// Tells the number of an account and a blank, 0 for none.
+fn tell_account(told: &mut Told, account: Option<Account>) {
+    told.add_number(u64::from(account.unwrap_or(Account(0)).0));
+    told.add(b" ");
 }
 
 fn sides_word(sides: ServedSides) -> &'static [u8] {
@@ -83,72 +72,52 @@ fn state_word(state: Option<RegistrationState>) -> &'static [u8] {
     }
 }
 
-/// The one letter or the other.
-fn put_letter(out: &mut Report, alloc: Global, is: bool, yes: &[u8], no: &[u8]) {
-    if is {
-        out.put(alloc, yes);
-    } else {
-        out.put(alloc, no);
-    }
-}
-
-/// The accounts of caller and target, the sides that are served, what is said of the registration; the accounts that are served: the caller's, the target's, and that of carol as a further target; `refused` where a user of no account is served, else `-`; and whether the target is registered where the table says so and where it does not.
-fn put_parties(out: &mut Report, alloc: Global, parties: &Parties, carol: Option<Account>) {
-    put_account(out, alloc, parties.origin);
-    put_account(out, alloc, parties.target);
-    out.put(alloc, sides_word(parties.served));
-    out.put(alloc, state_word(parties.registration));
-    put_account(out, alloc, parties.origin_served());
-    put_account(out, alloc, parties.target_served());
-    put_account(out, alloc, carol);
-    put_letter(out, alloc, parties.is_of_no_account(), b"refused ", b"- ");
-    put_letter(out, alloc, parties.is_registered(true), b"y", b"n");
-    put_letter(out, alloc, parties.is_registered(false), b"y", b"n");
-}
-
 /// The account that is served where a call of these parties is diverted to carol.
-fn carol_served(
-    alloc: Global,
-    accounts: &Accounts,
-    parties: &Parties,
-) -> Result<Option<Account>, UriFault> {
-    let carol = read_uri(alloc, b"sip:carol@home.example")?;
-    Ok(
-        parties
+fn carol_served(told: &mut Told, accounts: &Accounts, parties: &Parties) -> Option<Account> {
+    match read_uri(told.alloc, b"sip:carol@home.example") {
+        Ok(carol) => parties
             .served_accounts()
             .diverted_served(accounts.find(&carol)),
-    )
-}
-
-/// What is said of the parties of a message.
-fn put_said(out: &mut Report, alloc: Global, accounts: &Accounts, message: &Msg, trusted: bool) {
-    match Parties::of(alloc, accounts, message, trusted) {
-        Ok(parties) => match carol_served(alloc, accounts, &parties) {
-            Ok(carol) => put_parties(out, alloc, &parties, carol),
-            Err(_) => out.fail(),
-        },
-        Err(_) => out.fail(),
+        Err(_) => {
+            told.fail();
+            None
+        }
     }
 }
 
-/// A row: its answer, and what was asked.
-fn put_call(out: &mut Report, alloc: Global, accounts: &Accounts, asked: &[u8]) {
+/// Tells the accounts of caller and target, the sides that are served, what is said of the registration; the accounts that are served: the caller's, the target's, and that of carol as a further target; `refused` where a user of no account is served, else `-`; and whether the target is registered where the table says so and where it does not.
+fn tell_parties(told: &mut Told, accounts: &Accounts, parties: &Parties) {
+    tell_account(told, parties.origin);
+    tell_account(told, parties.target);
+    told.add(sides_word(parties.served));
+    told.add(state_word(parties.registration));
+    tell_account(told, parties.origin_served());
+    tell_account(told, parties.target_served());
+    let carol = carol_served(told, accounts, parties);
+    tell_account(told, carol);
+    told.add_if(parties.is_of_no_account(), b"refused ", b"- ");
+    told.add_if(parties.is_registered(true), b"y", b"n");
+    told.add_if(parties.is_registered(false), b"y", b"n");
+}
+
+/// Tells what is said of the parties of a message.
+fn tell_said(told: &mut Told, accounts: &Accounts, message: &Msg, trusted: bool) {
+    match Parties::of(told.alloc, accounts, message, trusted) {
+        Ok(parties) => tell_parties(told, accounts, &parties),
+        Err(_) => told.fail(),
+    }
+}
+
+/// Tells what is said of a call.
+fn tell_call(told: &mut Told, accounts: &Accounts, asked: &[u8]) {
     let (trusted, rest) = field(asked);
     let (uri, rest) = field(rest);
-    match invite(alloc, uri) {
-        Ok(invite) => {
-            let mut message = invite;
-            let rest = add_field(out, alloc, &mut message, b"P-Served-User", rest);
-            let rest = add_field(out, alloc, &mut message, b"P-Served-User", rest);
-            let rest = add_field(out, alloc, &mut message, b"P-Asserted-Identity", rest);
-            let _ = add_field(out, alloc, &mut message, b"P-Asserted-Identity", rest);
-            let trusted = trusted == b"trusted".as_slice();
-            put_said(out, alloc, accounts, &message, trusted);
-        }
-        Err(_) => out.fail(),
-    }
-    out.put(alloc, b"|");
-    out.put_line(alloc, asked);
+    let mut message = invite(told, uri);
+    let rest = add_field(told, &mut message, b"P-Served-User", rest);
+    let rest = add_field(told, &mut message, b"P-Served-User", rest);
+    let rest = add_field(told, &mut message, b"P-Asserted-Identity", rest);
+    let _ = add_field(told, &mut message, b"P-Asserted-Identity", rest);
+    tell_said(told, accounts, &message, trusted == b"trusted".as_slice());
 }
 
 /// An answer, the peer, the Request-URI, two P-Served-User lines and two P-Asserted-Identity lines. In order: who is asserted by a trusted peer; nobody by another, whatever it says; the tel identity where the sip identity is of no account, and the sip identity where both are; a Request-URI of no account, and one that is a number; a user who is served as the caller, and one of no account; one who is served as the target, and one of no account; the first of two lines; a state of another word, one of a caller, names in any case and twice.
@@ -170,19 +139,22 @@ const CALLS: &[u8] =
 1 2 term unreg 0 2 0 - nn|trusted|sip:vm@far.example|<sip:bob@home.example>;SESCASE=term;RegState=unreg;regstate=reg;sescase=orig||<sip:alice@home.example>|
 "#;
 
-#[test]
-fn tells_parties(rt: HostRuntime) -> Result<(), Fail> {
-    let mut out = Report::new();
-    let accounts = accounts(&mut out, rt.alloc());
+/// The number of the first call that is told otherwise; 0 where each is told so.
+fn wrong_call(alloc: Global) -> usize {
+    let mut told = Told::new(alloc);
+    let accounts = accounts(&mut told);
     let mut rows = CALLS;
-    for _ in 0..15 {
-        let (row, rest) = next_line(rows);
-        rows = rest;
-        let (_answer, asked) = field(row);
-        put_call(&mut out, rt.alloc(), &accounts, asked);
+    for _ in 0..20 {
+        if !rows.is_empty() {
+            let (row, rest) = next_line(rows);
+            rows = rest;
+            let (_answer, asked) = field(row);
+            tell_call(&mut told, &accounts, asked);
+            told.add(b"|");
+            told.add_line(asked);
+        }
     }
-    assert_eq!(rt; out.bytes(), CALLS);
-    Ok(())
+    told.wrong_line(CALLS)
 }
 
 fn addr(port: u16) -> Addr {
@@ -192,41 +164,31 @@ fn addr(port: u16) -> Addr {
     }
 }
 
-fn put_peer(out: &mut Report, alloc: Global, table: &mut PeerTable, number: u16, name: &[u8]) {
-    let added = table.add_peer(
-        alloc,
-        Peer(number),
-        addr(5070_u16.saturating_add(number)),
-        number == 1,
-    );
-    out.keep(added.is_ok());
-    match Text::of(alloc, name) {
-        Ok(name) => {
-            let added = table.add_route(alloc, name, Peer(number));
-            out.keep(added.is_ok());
-        }
-        Err(_) => out.fail(),
-    }
+fn add_peer(told: &mut Told, table: &mut PeerTable, number: u16, port: u16, name: &[u8]) {
+    let added = table.add_peer(told.alloc, Peer(number), addr(port), number == 1);
+    told.keep(added.is_ok());
+    let name = told.copy(name);
+    let added = table.add_route(told.alloc, name, Peer(number));
+    told.keep(added.is_ok());
 }
 
 /// Three peers, to which the home domain, another domain and numbers lead.
-fn table(out: &mut Report, alloc: Global) -> PeerTable {
+fn table(told: &mut Told) -> PeerTable {
     let mut table = PeerTable::new();
-    put_peer(out, alloc, &mut table, 1, b"home.example");
-    put_peer(out, alloc, &mut table, 2, b"far.example");
-    put_peer(out, alloc, &mut table, 3, b"+49");
+    add_peer(told, &mut table, 1, 5071, b"home.example");
+    add_peer(told, &mut table, 2, 5072, b"far.example");
+    add_peer(told, &mut table, 3, 5073, b"+49");
     table
 }
 
 /// The peer to which an attempt goes, 0 for none.
-fn put_hop(out: &mut Report, alloc: Global, table: &PeerTable, routes: &[Text], target: &[u8]) {
-    match read_uri(alloc, target) {
-        Ok(target) => match next_hop(alloc, table, routes, &target) {
-            Ok(Some(Peer(number))) => out.put_number(alloc, usize::from(number)),
-            Ok(None) => out.put(alloc, b"0"),
-            Err(_) => out.fail(),
+fn hop(told: &mut Told, table: &PeerTable, routes: &[Text], target: &[u8]) -> u16 {
+    match read_uri(told.alloc, target) {
+        Ok(target) => match next_hop(told.alloc, table, routes, &target) {
+            Ok(peer) => peer.unwrap_or(Peer(0)).0,
+            Err(_) => 99,
         },
-        Err(_) => out.fail(),
+        Err(_) => 99,
     }
 }
 
@@ -236,33 +198,27 @@ fn kept(alloc: Global, message: &Msg) -> Result<List<Text>, NoMemory> {
     kept_routes(alloc, addr(5060), values)
 }
 
-/// The peer and the Route values of an attempt of this message to this target.
-fn put_way(out: &mut Report, alloc: Global, table: &PeerTable, message: &Msg, target: &[u8]) {
-    match kept(alloc, message) {
+/// Tells the peer and the Route values of an attempt of this message to this target.
+fn tell_way(told: &mut Told, table: &PeerTable, message: &Msg, target: &[u8]) {
+    match kept(told.alloc, message) {
         Ok(routes) => {
-            put_hop(out, alloc, table, routes.items(), target);
+            let peer = hop(told, table, routes.items(), target);
+            told.add_number(u64::from(peer));
             for route in routes.items() {
-                out.put(alloc, b" ");
-                out.put(alloc, route.bytes());
+                told.add(b" ");
+                told.add(route.bytes());
             }
         }
-        Err(_) => out.fail(),
+        Err(_) => told.fail(),
     }
 }
 
-/// A row: its answer, and what was asked.
-fn put_attempt(out: &mut Report, alloc: Global, table: &PeerTable, asked: &[u8]) {
+/// Tells the way of an attempt.
+fn tell_attempt(told: &mut Told, table: &PeerTable, asked: &[u8]) {
     let (target, rest) = field(asked);
-    match invite(alloc, target) {
-        Ok(invite) => {
-            let mut message = invite;
-            let _ = add_field(out, alloc, &mut message, b"Route", rest);
-            put_way(out, alloc, table, &message, target);
-        }
-        Err(_) => out.fail(),
-    }
-    out.put(alloc, b"|");
-    out.put_line(alloc, asked);
+    let mut message = invite(told, target);
+    let _ = add_field(told, &mut message, b"Route", rest);
+    tell_way(told, table, &message, target);
 }
 
 /// The peer and the Route values that are kept, the target, and the Route values that came, at a server at 127.0.0.1:5060. In order: the server's own value and a further one, which leads on; its own alone, without a port and with a user, where the target leads on; one of another port and one of another host, which lead nowhere; its own twice, of which one goes; its own behind another one; a number, which leads nowhere; none.
@@ -279,19 +235,22 @@ const WAYS: &[u8] =
 0|sip:bob@nowhere.example|
 ";
 
-#[test]
-fn finds_ways(rt: HostRuntime) -> Result<(), Fail> {
-    let mut out = Report::new();
-    let table = table(&mut out, rt.alloc());
+/// The number of the first attempt that goes another way; 0 where none does.
+fn wrong_way(alloc: Global) -> usize {
+    let mut told = Told::new(alloc);
+    let table = table(&mut told);
     let mut rows = WAYS;
-    for _ in 0..10 {
-        let (row, rest) = next_line(rows);
-        rows = rest;
-        let (_answer, asked) = field(row);
-        put_attempt(&mut out, rt.alloc(), &table, asked);
+    for _ in 0..20 {
+        if !rows.is_empty() {
+            let (row, rest) = next_line(rows);
+            rows = rest;
+            let (_answer, asked) = field(row);
+            tell_attempt(&mut told, &table, asked);
+            told.add(b"|");
+            told.add_line(asked);
+        }
     }
-    assert_eq!(rt; out.bytes(), WAYS);
-    Ok(())
+    told.wrong_line(WAYS)
 }
 
 /// An INVITE of the terminating side, which went through the server of its user and is to go on there.
@@ -310,29 +269,28 @@ Content-Length: 0\r
 \r
 ";
 
+/// Tells the parties and the way of a message that is read.
+fn tell_read(told: &mut Told, message: &Msg) {
+    let accounts = accounts(told);
+    tell_said(told, &accounts, message, true);
+    told.add(b"\n");
+    let table = table(told);
+    tell_way(told, &table, message, b"sip:bob@home.example");
+}
+
 /// Bob alone is served, and is registered whatever the table says; the server's own Route value goes, and the other one leads on.
-#[test]
-fn serves_the_terminating_user(rt: HostRuntime) -> Result<(), Fail> {
-    let mut out = Report::new();
-    let accounts = accounts(&mut out, rt.alloc());
-    let table = table(&mut out, rt.alloc());
-    match read(rt.alloc(), TERMINATING) {
-        Ok(message) => {
-            put_said(&mut out, rt.alloc(), &accounts, &message, true);
-            out.put(rt.alloc(), b"\n");
-            put_way(
-                &mut out,
-                rt.alloc(),
-                &table,
-                &message,
-                b"sip:bob@home.example",
-            );
-        }
-        Err(_) => out.fail(),
+fn wrong_terminating(alloc: Global) -> usize {
+    let mut told = Told::new(alloc);
+    match read(alloc, TERMINATING) {
+        Ok(message) => tell_read(&mut told, &message),
+        Err(_) => told.fail(),
     }
-    assert_eq!(rt;
-        out.bytes(),
-        b"1 2 term reg 0 2 0 - yy\n1 <sip:odi-7@home.example;lr>".as_slice()
-    );
-    Ok(())
+    told.wrong_line(b"1 2 term reg 0 2 0 - yy\n1 <sip:odi-7@home.example;lr>")
+}
+
+#[test]
+fn parties_and_ways(rt: HostRuntime) {
+    assert_eq!(rt; wrong_call(rt.alloc()), 0);
+    assert_eq!(rt; wrong_way(rt.alloc()), 0);
+    assert_eq!(rt; wrong_terminating(rt.alloc()), 0);
 }

@@ -1,14 +1,12 @@
 //! History-Info in the header table: in which messages a call's list is passed, and what of it to whom.
 
-use crate::drafts::{of_lines, request};
+use crate::drafts::{of_lines, request, tell_lines};
 use crate::history::divert;
-use crate::tables::{Report, put_lines};
 use mmtel_history::History;
-use mmtel_lex::Text;
 use mmtel_message::Start;
+use mmtel_told::Told;
 use mmtel_trust::{Facing, history_lines, shown};
 use std::alloc::Global;
-use std::test::Fail;
 
 /// Lines of a message that has a History-Info of its own, which is never passed.
 const LINES: &[u8] = br#"From: <sip:alice@home.example>;tag=1
@@ -18,81 +16,63 @@ Reason: SIP;cause=200
 "#;
 
 /// The list after bob's diversion to carol and hers to a voice mail, which hides her or not.
-fn diverted(out: &mut Report, alloc: Global, hide_last: bool) -> History {
-    let mut history = History::new(alloc);
-    divert(
-        out,
-        alloc,
-        &mut history,
-        b"sip:carol@home.example",
-        302,
-        false,
-    );
-    divert(
-        out,
-        alloc,
-        &mut history,
-        b"sip:vm@far.example",
-        486,
-        hide_last,
-    );
+fn diverted(told: &mut Told, hide_last: bool) -> History {
+    let mut history = History::new(told.alloc);
+    divert(told, &mut history, b"sip:carol@home.example", 302, false);
+    divert(told, &mut history, b"sip:vm@far.example", 486, hide_last);
     history
 }
 
-/// What is passed of the message with this start line.
-fn put_message(
-    out: &mut Report,
-    alloc: Global,
+/// Tells what is passed of the message with this start line.
+fn tell_message(
+    told: &mut Told,
     start: Start,
     history: &History,
     mask_all: bool,
     to_trusted: bool,
 ) {
-    let message = of_lines(out, alloc, start, LINES, 4);
+    let message = of_lines(told, start, LINES);
     let facing = Facing {
         from_trusted: true,
         restricted: false,
         present: true,
         mask_all,
     };
-    match shown(alloc, &message, history, &facing, to_trusted) {
-        Ok(lines) => put_lines(out, alloc, lines.items()),
-        Err(_) => out.fail(),
+    match shown(told.alloc, &message, history, &facing, to_trusted) {
+        Ok(lines) => tell_lines(told, lines.items()),
+        Err(_) => told.fail(),
     }
 }
 
-/// What is passed of a request of this method.
-fn put_request(
-    out: &mut Report,
-    alloc: Global,
+/// Tells what is passed of a request of this method.
+fn tell_request(
+    told: &mut Told,
     method: &[u8],
     history: &History,
     mask_all: bool,
     to_trusted: bool,
 ) {
-    match request(alloc, method) {
-        Ok(start) => put_message(out, alloc, start, history, mask_all, to_trusted),
-        Err(_) => out.fail(),
-    }
+    let start = request(told, method);
+    tell_message(told, start, history, mask_all, to_trusted);
 }
 
-/// What is passed of a response of this code.
-fn put_response(out: &mut Report, alloc: Global, code: u16, history: &History, to_trusted: bool) {
-    match Text::of(alloc, b"Whatever") {
-        Ok(phrase) => put_message(
-            out,
-            alloc,
-            Start::Status { code, phrase },
-            history,
-            false,
-            to_trusted,
-        ),
-        Err(_) => out.fail(),
-    }
+/// Tells what is passed of a response of this code.
+fn tell_response(told: &mut Told, code: u16, history: &History, to_trusted: bool) {
+    let phrase = told.copy(b"Whatever");
+    let start = Start::Status { code, phrase };
+    tell_message(told, start, history, false, to_trusted);
 }
 
 /// The list in an INVITE, with carol hidden: to a trusted peer, to an untrusted one, and to both where the opening INVITE asks that all be hidden.
-const LISTS: &[u8] = br#"History-Info: <sip:bob@home.example>;index=1
+fn tell_list(told: &mut Told) {
+    let history = diverted(told, true);
+    tell_request(told, b"INVITE", &history, false, true);
+    tell_request(told, b"INVITE", &history, false, false);
+    tell_request(told, b"INVITE", &history, true, false);
+    tell_request(told, b"INVITE", &history, true, true);
+}
+
+const LIST: &[u8] = br#"History-Info: <sip:bob@home.example>;index=1
 History-Info: <sip:carol@home.example;cause=302?Privacy=history>;index=1.1
 History-Info: <sip:vm@far.example;cause=486>;index=1.1.1
 Supported: histinfo
@@ -118,40 +98,33 @@ Reason: SIP;cause=200
 #
 "#;
 
-#[test]
-fn shows_the_list(rt: HostRuntime) -> Result<(), Fail> {
-    let mut out = Report::new();
-    let history = diverted(&mut out, rt.alloc(), true);
-    put_request(&mut out, rt.alloc(), b"INVITE", &history, false, true);
-    put_request(&mut out, rt.alloc(), b"INVITE", &history, false, false);
-    put_request(&mut out, rt.alloc(), b"INVITE", &history, true, false);
-    put_request(&mut out, rt.alloc(), b"INVITE", &history, true, true);
-    assert_eq!(rt; out.bytes(), LISTS);
-    Ok(())
-}
-
-/// The lines of a 181 of the server's own.
-fn put_own(out: &mut Report, alloc: Global, told: &History) {
-    match history_lines(alloc, told, false, false) {
-        Ok(lines) => put_lines(out, alloc, lines.items()),
-        Err(_) => out.fail(),
-    }
-}
-
 /// A 181 that tells neither who diverted nor to whom: passed on to a trusted peer and to an untrusted one, and of the server's own.
-fn put_told(out: &mut Report, alloc: Global, history: &History) {
-    match history.told_to_caller(alloc, true, true) {
-        Ok(told) => {
-            put_response(out, alloc, 181, &told, true);
-            put_response(out, alloc, 181, &told, false);
-            put_own(out, alloc, &told);
-        }
-        Err(_) => out.fail(),
+fn tell_hidden(told: &mut Told, hidden: &History) {
+    tell_response(told, 181, hidden, true);
+    tell_response(told, 181, hidden, false);
+    match history_lines(told.alloc, hidden, false, false) {
+        Ok(lines) => tell_lines(told, lines.items()),
+        Err(_) => told.fail(),
     }
 }
 
 /// Those three, and the INVITE behind them, in which the marks of the 181 are not.
-const TOLD: &[u8] = br#"History-Info: <sip:bob@home.example>;index=1
+/// Then requests but INVITE, and responses but 181, which have no list; methods are compared byte for byte.
+fn tell_elsewhere(told: &mut Told) {
+    let history = diverted(told, false);
+    match history.told_to_caller(told.alloc, true, true) {
+        Ok(hidden) => tell_hidden(told, &hidden),
+        Err(_) => told.fail(),
+    }
+    tell_request(told, b"INVITE", &history, false, false);
+    tell_request(told, b"BYE", &history, false, true);
+    tell_request(told, b"ACK", &history, false, false);
+    tell_request(told, b"Invite", &history, false, true);
+    tell_response(told, 180, &history, true);
+    tell_response(told, 200, &history, true);
+}
+
+const ELSEWHERE: &[u8] = br#"History-Info: <sip:bob@home.example>;index=1
 History-Info: <sip:carol@home.example;cause=302?Privacy=history>;index=1.1
 History-Info: <sip:vm@far.example;cause=486?Privacy=history>;index=1.1.1
 Supported: histinfo
@@ -173,46 +146,35 @@ History-Info: <sip:vm@far.example;cause=486>;index=1.1.1
 Supported: histinfo
 Reason: SIP;cause=200
 #
+Supported: histinfo
+Reason: SIP;cause=200
+#
+Supported: histinfo
+Reason: SIP;cause=200
+#
+Supported: histinfo
+Reason: SIP;cause=200
+#
+Supported: histinfo
+Reason: SIP;cause=200
+#
+Supported: histinfo
+Reason: SIP;cause=200
+#
 "#;
 
-#[test]
-fn shows_what_a_181_tells(rt: HostRuntime) -> Result<(), Fail> {
-    let mut out = Report::new();
-    let history = diverted(&mut out, rt.alloc(), false);
-    put_told(&mut out, rt.alloc(), &history);
-    put_request(&mut out, rt.alloc(), b"INVITE", &history, false, false);
-    assert_eq!(rt; out.bytes(), TOLD);
-    Ok(())
+/// The number of the first line that is another one; 0 where none is.
+fn wrong(alloc: Global, tell: u8, wanted: &[u8]) -> usize {
+    let mut told = Told::new(alloc);
+    match tell {
+        b'l' => tell_list(&mut told),
+        _ => tell_elsewhere(&mut told),
+    }
+    told.wrong_line(wanted)
 }
 
-/// Five messages without the list.
-const ELSEWHERE: &[u8] = br#"Supported: histinfo
-Reason: SIP;cause=200
-#
-Supported: histinfo
-Reason: SIP;cause=200
-#
-Supported: histinfo
-Reason: SIP;cause=200
-#
-Supported: histinfo
-Reason: SIP;cause=200
-#
-Supported: histinfo
-Reason: SIP;cause=200
-#
-"#;
-
-/// Requests but INVITE, and responses but 181, have no list; methods are compared byte for byte.
 #[test]
-fn shows_no_list_elsewhere(rt: HostRuntime) -> Result<(), Fail> {
-    let mut out = Report::new();
-    let history = diverted(&mut out, rt.alloc(), false);
-    put_request(&mut out, rt.alloc(), b"BYE", &history, false, true);
-    put_request(&mut out, rt.alloc(), b"ACK", &history, false, false);
-    put_request(&mut out, rt.alloc(), b"Invite", &history, false, true);
-    put_response(&mut out, rt.alloc(), 180, &history, true);
-    put_response(&mut out, rt.alloc(), 200, &history, true);
-    assert_eq!(rt; out.bytes(), ELSEWHERE);
-    Ok(())
+fn shows_the_list(rt: HostRuntime) {
+    assert_eq!(rt; wrong(rt.alloc(), b'l', LIST), 0);
+    assert_eq!(rt; wrong(rt.alloc(), b'e', ELSEWHERE), 0);
 }

@@ -1,14 +1,14 @@
 //! Peers and routes, accounts, the words of Privacy, asserted identities and the header table.
 
-use crate::drafts::{of_lines, request};
-use crate::tables::{Report, next_line, numbered, put_lines};
+use crate::drafts::{of_lines, request, tell_lines};
 use mmtel_history::History;
-use mmtel_lex::{NoMemory, Text, Uri, UriFault, print_uri, read_uri};
+use mmtel_lex::{Uri, print_uri, read_uri};
 use mmtel_message::Msg;
+use mmtel_scan::number_up_to;
+use mmtel_told::{Told, cut, next_line};
 use mmtel_trust::{Accounts, Facing, PeerTable, TableFault, asserted, attempt_from, shown, wants};
 use mmtel_types::{Account, Addr, Peer, PrivacySet};
 use std::alloc::Global;
-use std::test::Fail;
 
 fn addr(last: u8) -> Addr {
     Addr {
@@ -17,44 +17,39 @@ fn addr(last: u8) -> Addr {
     }
 }
 
-/// What a call on a table of peers or accounts came to.
-fn put_done(out: &mut Report, alloc: Global, done: Result<(), TableFault>) {
+/// Tells what a call on a table of peers or accounts came to.
+fn tell_done(told: &mut Told, done: Result<(), TableFault>) {
     match done {
-        Ok(()) => out.put(alloc, b"done\n"),
-        Err(TableFault::Taken) => out.put(alloc, b"taken\n"),
-        Err(TableFault::NoPeer) => out.put(alloc, b"no peer\n"),
-        Err(_) => out.fail(),
+        Ok(()) => told.add(b"done\n"),
+        Err(TableFault::Taken) => told.add(b"taken\n"),
+        Err(TableFault::NoPeer) => told.add(b"no peer\n"),
+        Err(_) => told.fail(),
     }
 }
 
-/// Adds a route of this name to the peer of the number.
-fn put_route(out: &mut Report, alloc: Global, table: &mut PeerTable, number: u16, name: &[u8]) {
-    match Text::of(alloc, name) {
-        Ok(name) => put_done(out, alloc, table.add_route(alloc, name, Peer(number))),
-        Err(_) => out.fail(),
-    }
+/// Adds a peer, and tells what came of that.
+fn add_peer(told: &mut Told, table: &mut PeerTable, number: u16, last: u8, trusted: bool) {
+    let done = table.add_peer(told.alloc, Peer(number), addr(last), trusted);
+    tell_done(told, done);
 }
 
-/// The names of routes, each behind the number of its peer.
-const TABLE: &[u8] = b"1 home.example
-2 +4930
-1 +49
-3 *
-";
+/// Adds a route of this name to the peer of the number, and tells what came of that.
+fn add_route(told: &mut Told, table: &mut PeerTable, number: u16, name: &[u8]) {
+    let name = told.copy(name);
+    let done = table.add_route(told.alloc, name, Peer(number));
+    tell_done(told, done);
+}
 
-/// Three peers, of which the first is trusted, and the routes.
-fn table(out: &mut Report, alloc: Global) -> PeerTable {
+/// Three peers, of which the first is trusted, and their routes.
+fn table(told: &mut Told) -> PeerTable {
     let mut table = PeerTable::new();
-    put_done(out, alloc, table.add_peer(alloc, Peer(1), addr(1), true));
-    put_done(out, alloc, table.add_peer(alloc, Peer(2), addr(2), false));
-    put_done(out, alloc, table.add_peer(alloc, Peer(3), addr(3), false));
-    let mut rows = TABLE;
-    for _ in 0..4 {
-        let (row, rest) = next_line(rows);
-        rows = rest;
-        let (peer, name) = numbered(row);
-        put_route(out, alloc, &mut table, peer, name);
-    }
+    add_peer(told, &mut table, 1, 1, true);
+    add_peer(told, &mut table, 2, 2, false);
+    add_peer(told, &mut table, 3, 3, false);
+    add_route(told, &mut table, 1, b"home.example");
+    add_route(told, &mut table, 2, b"+4930");
+    add_route(told, &mut table, 1, b"+49");
+    add_route(told, &mut table, 3, b"*");
     table
 }
 
@@ -68,145 +63,134 @@ const ROUTES: &[u8] = b"1 sip:bob@home.example
 3 tel:7042;phone-context=home.example
 ";
 
-/// A number and a text.
-fn put_numbered(out: &mut Report, alloc: Global, number: usize, text: &[u8]) {
-    out.put_number(alloc, number);
-    out.put(alloc, b" ");
-    out.put_line(alloc, text);
-}
-
-/// The number of the peer that a URI leads to, 0 where it leads to none.
-fn way(alloc: Global, table: &PeerTable, text: &[u8]) -> Result<u16, UriFault> {
-    let uri = read_uri(alloc, text)?;
-    match table.route(&uri) {
-        Some(Peer(number)) => Ok(number),
-        None => Ok(0),
+/// Tells the number of the peer that a URI leads to, 0 where it leads to none.
+fn tell_route(told: &mut Told, table: &PeerTable, text: &[u8]) {
+    match read_uri(told.alloc, text) {
+        Ok(uri) => told.add_number(u64::from(table.route(&uri).unwrap_or(Peer(0)).0)),
+        Err(_) => told.fail(),
     }
 }
 
-/// The number of the peer that a URI leads to, and the URI.
-fn put_way(out: &mut Report, alloc: Global, table: &PeerTable, text: &[u8]) {
-    match way(alloc, table, text) {
-        Ok(number) => put_numbered(out, alloc, usize::from(number), text),
-        Err(_) => out.fail(),
-    }
-}
-
-#[test]
-fn routes(rt: HostRuntime) -> Result<(), Fail> {
-    let mut out = Report::new();
-    let table = table(&mut Report::new(), rt.alloc());
+/// The number of the first URI that leads elsewhere; 0 where none does.
+fn wrong_route(alloc: Global) -> usize {
+    let mut told = Told::new(alloc);
+    let table = table(&mut Told::new(alloc));
     let mut rows = ROUTES;
-    for _ in 0..7 {
-        let (row, rest) = next_line(rows);
-        rows = rest;
-        let (_peer, text) = numbered(row);
-        put_way(&mut out, rt.alloc(), &table, text);
+    for _ in 0..20 {
+        if !rows.is_empty() {
+            let (row, rest) = next_line(rows);
+            rows = rest;
+            let (_peer, text) = cut(b' ', row);
+            tell_route(&mut told, &table, text);
+            told.add(b" ");
+            told.add_line(text);
+        }
     }
-    assert_eq!(rt; out.bytes(), ROUTES);
-    Ok(())
+    told.wrong_line(ROUTES)
 }
 
-/// Of a peer: `t` for trusted and `-` for not, `a` with an address and `-` without.
-fn put_peer(out: &mut Report, alloc: Global, table: &PeerTable, peer: Peer) {
-    out.put(alloc, if table.trusted(peer) { b"t" } else { b"-" });
-    let address = table.addr(peer).is_some();
-    out.put_line(alloc, if address { b"a" } else { b"-" });
+/// Tells of a peer: `t` for trusted and `-` for not, `a` with an address and `-` without.
+fn tell_peer(told: &mut Told, table: &PeerTable, number: u16) {
+    told.add_if(table.trusted(Peer(number)), b"t", b"-");
+    told.add_if(table.addr(Peer(number)).is_some(), b"a\n", b"-\n");
 }
 
-#[test]
-fn finds_peers(rt: HostRuntime) -> Result<(), Fail> {
-    let mut out = Report::new();
-    let table = table(&mut out, rt.alloc());
-    for number in 1..5 {
-        put_peer(&mut out, rt.alloc(), &table, Peer(number));
-    }
-    assert_eq!(rt; table.find(addr(2)), Some(Peer(2)));
-    assert_eq!(rt; table.find(addr(4)), None);
-    assert_eq!(rt;
-        out.bytes(),
-        b"done\ndone\ndone\ndone\ndone\ndone\ndone\nta\n-a\n-a\n--\n".as_slice()
-    );
-    Ok(())
+/// Tells the number of the peer at an address, 0 for none.
+fn tell_found(told: &mut Told, table: &PeerTable, last: u8) {
+    let found = table.find(addr(last));
+    told.add_number(u64::from(found.unwrap_or(Peer(0)).0));
+    told.add(b"\n");
 }
 
-/// A peer whose address is taken, one whose number is, a route whose name is but for case, and one to no peer.
-#[test]
-fn refuses_peers_and_routes(rt: HostRuntime) -> Result<(), Fail> {
-    let mut table = table(&mut Report::new(), rt.alloc());
-    let mut out = Report::new();
-    let taken = table.add_peer(rt.alloc(), Peer(4), addr(1), true);
-    put_done(&mut out, rt.alloc(), taken);
-    let taken = table.add_peer(rt.alloc(), Peer(1), addr(4), true);
-    put_done(&mut out, rt.alloc(), taken);
-    put_route(&mut out, rt.alloc(), &mut table, 4, b"HOME.EXAMPLE");
-    put_route(&mut out, rt.alloc(), &mut table, 4, b"far.example");
-    assert_eq!(rt; out.bytes(), b"taken\ntaken\ntaken\nno peer\n".as_slice());
-    Ok(())
-}
+/// The peers that are added and their routes, four peers, the peers at two addresses;
+/// then a peer whose address is taken, one whose number is, a route whose name is but for case, and one to no peer.
+const PEERS: &[u8] = b"done
+done
+done
+done
+done
+done
+done
+ta
+-a
+-a
+--
+2
+0
+taken
+taken
+taken
+no peer
+";
 
-/// Adds an account of this URI.
-fn put_account(out: &mut Report, alloc: Global, accounts: &mut Accounts, number: u32, uri: &[u8]) {
-    match read_uri(alloc, uri) {
-        Ok(uri) => put_done(out, alloc, accounts.add(alloc, Account(number), uri)),
-        Err(_) => out.fail(),
-    }
-}
-
-/// The number of the account of a URI, 0 for none.
-fn owner(alloc: Global, accounts: &Accounts, text: &[u8]) -> Result<u32, UriFault> {
-    let uri = read_uri(alloc, text)?;
-    match accounts.find(&uri) {
-        Some(Account(number)) => Ok(number),
-        None => Ok(0),
-    }
-}
-
-/// The number of the account of a URI, and the URI.
-fn put_owner(out: &mut Report, alloc: Global, accounts: &Accounts, text: &[u8]) {
-    match owner(alloc, accounts, text) {
-        Ok(number) => put_numbered(out, alloc, number as usize, text),
-        Err(_) => out.fail(),
-    }
+fn wrong_peer(alloc: Global) -> usize {
+    let mut told = Told::new(alloc);
+    let mut table = table(&mut told);
+    tell_peer(&mut told, &table, 1);
+    tell_peer(&mut told, &table, 2);
+    tell_peer(&mut told, &table, 3);
+    tell_peer(&mut told, &table, 4);
+    tell_found(&mut told, &table, 2);
+    tell_found(&mut told, &table, 4);
+    add_peer(&mut told, &mut table, 4, 1, true);
+    add_peer(&mut told, &mut table, 1, 4, true);
+    add_route(&mut told, &mut table, 4, b"HOME.EXAMPLE");
+    add_route(&mut told, &mut table, 4, b"far.example");
+    told.wrong_line(PEERS)
 }
 
 /// URIs, each behind the number of its account, 0 for none: the sip URI of account 1 is `sip:alice@home.example`, and the number of account 2 that of RFC 3966 §6, for which the sip URI of RFC 3261 §19.1.6 stands.
-const OWNERS: &[u8] = b"1 sip:alice@HOME.example;user=phone
+/// Behind `+` stands a number that is added.
+const OWNERS: &[u8] = b"done+1 sip:alice@home.example
+done+2 tel:+1-201-555-0123
+taken+3 tel:+12015550123
+1 sip:alice@HOME.example;user=phone
 0 sip:Alice@home.example
 2 tel:+1(201)555.0123
 2 sip:+12015550123@foo.com;user=phone
 ";
 
-#[test]
-fn finds_accounts(rt: HostRuntime) -> Result<(), Fail> {
-    let mut accounts = Accounts::new();
-    let mut out = Report::new();
-    put_account(
-        &mut out,
-        rt.alloc(),
-        &mut accounts,
-        1,
-        b"sip:alice@home.example",
-    );
-    put_account(
-        &mut out,
-        rt.alloc(),
-        &mut accounts,
-        2,
-        b"tel:+1-201-555-0123",
-    );
-    put_account(&mut out, rt.alloc(), &mut accounts, 3, b"tel:+12015550123");
-    assert_eq!(rt; out.bytes(), b"done\ndone\ntaken\n".as_slice());
-    let mut out = Report::new();
-    let mut rows = OWNERS;
-    for _ in 0..4 {
-        let (row, rest) = next_line(rows);
-        rows = rest;
-        let (_account, text) = numbered(row);
-        put_owner(&mut out, rt.alloc(), &accounts, text);
+/// Adds a URI of this account, and tells what came of that.
+fn add_account(told: &mut Told, accounts: &mut Accounts, number: u32, uri: Uri) {
+    match accounts.add(told.alloc, Account(number), uri) {
+        Ok(()) => told.add(b"done"),
+        Err(TableFault::Taken) => told.add(b"taken"),
+        Err(_) => told.fail(),
     }
-    assert_eq!(rt; out.bytes(), OWNERS);
-    Ok(())
+}
+
+/// Tells what came of adding a URI to the account of the number behind `+`; else the number of its account, 0 for none.
+fn tell_owner(told: &mut Told, accounts: &mut Accounts, added: &[u8], text: &[u8]) {
+    match read_uri(told.alloc, text) {
+        Err(_) => told.fail(),
+        Ok(uri) => match number_up_to(9, added) {
+            Some(number) => {
+                add_account(told, accounts, u32::try_from(number).unwrap_or(0), uri);
+                told.add(b"+");
+                told.add(added);
+            }
+            None => told.add_number(u64::from(accounts.find(&uri).unwrap_or(Account(0)).0)),
+        },
+    }
+}
+
+/// The number of the first URI of another account; 0 where none is.
+fn wrong_owner(alloc: Global) -> usize {
+    let mut told = Told::new(alloc);
+    let mut accounts = Accounts::new();
+    let mut rows = OWNERS;
+    for _ in 0..20 {
+        if !rows.is_empty() {
+            let (row, rest) = next_line(rows);
+            rows = rest;
+            let (told_of, text) = cut(b' ', row);
+            let (_done, added) = cut(b'+', told_of);
+            tell_owner(&mut told, &mut accounts, added, text);
+            told.add(b" ");
+            told.add_line(text);
+        }
+    }
+    told.wrong_line(OWNERS)
 }
 
 /// Lines of the INVITE of RFC 3325 §10.2 between the proxies, which trust one another, and some more.
@@ -221,81 +205,74 @@ P-Early-Media: supported
 Reason: SIP;cause=200
 "#;
 
-/// The message of these lines.
-fn invite(out: &mut Report, alloc: Global) -> Result<Msg, NoMemory> {
-    let start = request(alloc, b"INVITE")?;
-    Ok(of_lines(out, alloc, start, LINES, 9))
-}
-
-#[test]
-fn tells_words(rt: HostRuntime) -> Result<(), Fail> {
-    let message = invite(&mut Report::new(), rt.alloc())?;
+/// Tells whether these are the words of Privacy that the message has.
+fn tell_words(told: &mut Told, m: &Msg) {
     let wanted = PrivacySet {
         header: true,
         none: true,
         ..PrivacySet::default()
     };
-    assert_eq!(rt; wants(&message), wanted);
-    Ok(())
+    told.add_if(wants(m) == wanted, b"header and none\n", b"other words\n");
 }
 
-/// A URI.
-fn put_uri(out: &mut Report, alloc: Global, uri: &Uri) {
-    match print_uri(alloc, uri) {
-        Ok(text) => out.put_line(alloc, text.bytes()),
-        Err(_) => out.fail(),
-    }
-}
-
-/// A URI, or `none`.
-fn put_identity(out: &mut Report, alloc: Global, uri: &Option<Uri>) {
+/// Tells a URI, or `none`.
+fn tell_identity(told: &mut Told, uri: &Option<Uri>) {
     match uri {
-        Some(uri) => put_uri(out, alloc, uri),
-        None => out.put_line(alloc, b"none"),
-    }
-}
-
-/// The identities that are believed of a message from a peer that is trusted or not.
-fn put_identities(out: &mut Report, alloc: Global, m: &Msg, trusted: bool) {
-    match asserted(alloc, m, trusted) {
-        Ok(believed) => {
-            put_identity(out, alloc, &believed.sip);
-            put_identity(out, alloc, &believed.tel);
+        Some(uri) => {
+            let text = print_uri(told.alloc, uri);
+            told.add_made(text);
         }
-        Err(_) => out.fail(),
+        None => told.add_line(b"none"),
     }
 }
 
-/// Those of a trusted peer are believed, and none of another.
-#[test]
-fn tells_identities(rt: HostRuntime) -> Result<(), Fail> {
-    let mut out = Report::new();
-    let message = invite(&mut out, rt.alloc())?;
-    put_identities(&mut out, rt.alloc(), &message, true);
-    put_identities(&mut out, rt.alloc(), &message, false);
-    assert_eq!(rt;
-        out.bytes(),
-        b"sip:fluffy@cisco.com\ntel:+14085264000\nnone\nnone\n".as_slice()
-    );
-    Ok(())
+/// Tells the identities that are believed of a message from a peer that is trusted or not.
+fn tell_identities(told: &mut Told, m: &Msg, trusted: bool) {
+    match asserted(told.alloc, m, trusted) {
+        Ok(believed) => {
+            tell_identity(told, &believed.sip);
+            tell_identity(told, &believed.tel);
+        }
+        Err(_) => told.fail(),
+    }
 }
 
-/// The lines that are passed on, where the sender is restricted or not and the peer trusted or not.
-fn put_shown(out: &mut Report, alloc: Global, m: &Msg, restricted: bool, to_trusted: bool) {
+/// Tells the lines that are passed on, where the sender is restricted or not and the peer trusted or not.
+fn tell_shown(told: &mut Told, m: &Msg, history: &History, restricted: bool, to_trusted: bool) {
     let facing = Facing {
         from_trusted: true,
         restricted,
         present: true,
         mask_all: false,
     };
-    match shown(alloc, m, &History::new(alloc), &facing, to_trusted) {
-        Ok(lines) => put_lines(out, alloc, lines.items()),
-        Err(_) => out.fail(),
+    match shown(told.alloc, m, history, &facing, to_trusted) {
+        Ok(lines) => tell_lines(told, lines.items()),
+        Err(_) => told.fail(),
     }
 }
 
-/// What is passed on of these lines: to an untrusted peer, where the sender is restricted and where not, and then to a trusted one. A line `#` ends each.
-const SHOWN: &[u8] = br#"Require: histinfo
+/// Tells what is passed on to an untrusted peer, where the sender is restricted and where not, and then to a trusted one.
+fn tell_passed(told: &mut Told, m: &Msg) {
+    let history = History::new(told.alloc);
+    tell_shown(told, m, &history, true, false);
+    tell_shown(told, m, &history, false, false);
+    tell_shown(told, m, &history, true, true);
+    tell_shown(told, m, &history, false, true);
+}
+
+/// Tells the From of an attempt for a sender that is restricted or not.
+fn tell_from(told: &mut Told, m: &Msg, restricted: bool) {
+    let from = attempt_from(told.alloc, m, restricted, b"1-2");
+    told.add_made(from);
+}
+
+/// The words; the identities, which are believed of a trusted peer and of no other; the lines that are passed on, of which a line `#` ends each message; and the From, of a sender that is restricted and of one that is not.
+const TOLD: &[u8] = br#"header and none
+sip:fluffy@cisco.com
+tel:+14085264000
+none
+none
+Require: histinfo
 Reason: SIP;cause=200
 #
 P-Asserted-Identity: "Cullen Jennings" <sip:fluffy@cisco.com>
@@ -319,37 +296,27 @@ Require: histinfo
 P-Early-Media: supported
 Reason: SIP;cause=200
 #
+"Anonymous" <sip:anonymous@anonymous.invalid>;tag=1-2
+"Cullen Jennings" <sip:fluffy@cisco.com>;tag=1-2
 "#;
 
-#[test]
-fn shows_lines(rt: HostRuntime) -> Result<(), Fail> {
-    let mut out = Report::new();
-    let message = invite(&mut out, rt.alloc())?;
-    put_shown(&mut out, rt.alloc(), &message, true, false);
-    put_shown(&mut out, rt.alloc(), &message, false, false);
-    put_shown(&mut out, rt.alloc(), &message, true, true);
-    put_shown(&mut out, rt.alloc(), &message, false, true);
-    assert_eq!(rt; out.bytes(), SHOWN);
-    Ok(())
-}
-
-/// The From of an attempt for a sender that is restricted or not.
-fn put_from(out: &mut Report, alloc: Global, m: &Msg, restricted: bool) {
-    match attempt_from(alloc, m, restricted, b"1-2") {
-        Ok(from) => out.put_line(alloc, from.bytes()),
-        Err(_) => out.fail(),
-    }
+fn wrong_told(alloc: Global) -> usize {
+    let mut told = Told::new(alloc);
+    let start = request(&mut told, b"INVITE");
+    let message = of_lines(&mut told, start, LINES);
+    tell_words(&mut told, &message);
+    tell_identities(&mut told, &message, true);
+    tell_identities(&mut told, &message, false);
+    tell_passed(&mut told, &message);
+    tell_from(&mut told, &message, true);
+    tell_from(&mut told, &message, false);
+    told.wrong_line(TOLD)
 }
 
 #[test]
-fn writes_from(rt: HostRuntime) -> Result<(), Fail> {
-    let mut out = Report::new();
-    let message = invite(&mut out, rt.alloc())?;
-    put_from(&mut out, rt.alloc(), &message, true);
-    put_from(&mut out, rt.alloc(), &message, false);
-    assert_eq!(rt;
-        out.bytes(),
-        b"\"Anonymous\" <sip:anonymous@anonymous.invalid>;tag=1-2\n\"Cullen Jennings\" <sip:fluffy@cisco.com>;tag=1-2\n".as_slice()
-    );
-    Ok(())
+fn peers_accounts_and_trust(rt: HostRuntime) {
+    assert_eq!(rt; wrong_route(rt.alloc()), 0);
+    assert_eq!(rt; wrong_peer(rt.alloc()), 0);
+    assert_eq!(rt; wrong_owner(rt.alloc()), 0);
+    assert_eq!(rt; wrong_told(rt.alloc()), 0);
 }

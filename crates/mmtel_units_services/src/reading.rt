@@ -1,45 +1,54 @@
 //! Records and calls from the rows of tables.
 //!
-//! Rules stand as records write them, parted by `&`. A call is its facts, the sip URI of the other party and its tel URI, parted by `|`. The facts are `r` where the caller hides who it is, else `-`; the moment; and the kinds of media that are offered, each after a blank.
+//! A table is one text, which is told again. A line that begins with `#` says what follows. One that begins with `:` has the rules of the rows below it, as records write them, parted by `&`. A row is its answers and, behind `|`, what is asked.
+//! A call is its facts, the sip URI of the other party and its tel URI, parted by `|`. The facts are `r` where the caller hides who it is, else `-`; the moment; and the kinds of media that are offered, each after a blank.
 
 use mmtel_lex::{List, Text, Uri, read_uri};
 use mmtel_rules::{Facts, Identities2};
 use mmtel_scan::{number_up_to, part};
 use mmtel_sheet_reader::read_sheet;
 use mmtel_sheet_values::Sheet;
+use mmtel_told::{Told, cut, next_line};
 use mmtel_types::Moment;
 use mmtel_types::limits::LAST_MOMENT;
 use std::alloc::Global;
-use std::test::Fail;
-
-/// What stands before the first `|`, and what follows it.
-pub fn cut(row: &[u8]) -> (&[u8], &[u8]) {
-    part(b'|', row).unwrap_or((row, b""))
-}
 
 /// What a table is about.
 pub trait Table {
-    /// Whether the row is right under the line above it that begins with `:`, which is of no bytes where there is none.
-    fn is_right(alloc: Global, line: &[u8], row: &[u8]) -> Result<bool, Fail>;
+    /// Tells the answers of a row under the line above it that begins with `:`, which is of no bytes where there is none.
+    fn tell(told: &mut Told, line: &[u8], asked: &[u8]);
 }
 
-/// The number of the first line of a table, from 0, that is not right; None where each is.
-pub fn wrong_line<T: Table>(alloc: Global, table: &[u8]) -> Result<Option<usize>, Fail> {
+/// Tells a row again.
+fn tell_row<T: Table>(told: &mut Told, line: &[u8], row: &[u8]) {
+    let (_answers, asked) = cut(b'|', row);
+    T::tell(told, line, asked);
+    told.add(b"|");
+    told.add_line(asked);
+}
+
+/// The number of the first line of a table, from 1, that is not told again; 0 where each is.
+pub fn wrong_line<T: Table>(alloc: Global, table: &[u8]) -> usize {
+    let mut told = Told::new(alloc);
     let mut above: &[u8] = b"";
     let mut rest = table;
-    for number in 0..100 {
-        if rest.is_empty() {
-            return Ok(None);
-        }
-        let (line, later) = part(b'\n', rest).unwrap_or((rest, b""));
+    for _ in 0..400 {
+        let (line, later) = next_line(rest);
         rest = later;
-        if line.starts_with(b":") {
-            above = line;
-        } else if !T::is_right(alloc, above, line)? {
-            return Ok(Some(number));
+        match line {
+            [] => {}
+            [b'#', ..] => {
+                above = b"";
+                told.add_line(line);
+            }
+            [b':', ..] => {
+                above = line;
+                told.add_line(line);
+            }
+            _ => tell_row::<T>(&mut told, above, line),
         }
     }
-    Err("more lines than a hundred")?
+    told.wrong_line(table)
 }
 
 /// What a row says of a call.
@@ -60,104 +69,130 @@ pub fn facts(called: &Called) -> Facts<'_> {
     }
 }
 
+/// The sheet of the record of these tables, which are parted by this byte.
+pub fn read_tables(told: &mut Told, parted_by: u8, tables: &[u8]) -> Option<Sheet> {
+    let mut text = Told::new(told.alloc);
+    text.add_ended(parted_by, tables, b"\n");
+    told.keep(!text.has_failed());
+    let sheet = read_sheet(told.alloc, text.bytes());
+    told.noted(sheet)
+}
+
 /// A URI; none of no bytes.
-fn identity(alloc: Global, uri: &[u8]) -> Result<Option<Uri>, Fail> {
+pub fn identity(told: &mut Told, uri: &[u8]) -> Option<Uri> {
     if uri.is_empty() {
-        return Ok(None);
+        return None;
     }
-    Ok(Some(read_uri(alloc, uri)?))
+    let uri = read_uri(told.alloc, uri);
+    told.noted(uri)
 }
 
 /// The party of a sip URI and a tel URI, of which each may be absent.
-fn party(alloc: Global, uris: &[u8]) -> Result<Identities2, Fail> {
-    let (sip, tel) = cut(uris);
-    Ok(Identities2 {
-        sip: identity(alloc, sip)?,
-        tel: identity(alloc, tel)?,
-    })
+fn party(told: &mut Told, uris: &[u8]) -> Identities2 {
+    let (sip, tel) = cut(b'|', uris);
+    let sip = identity(told, sip);
+    let tel = identity(told, tel);
+    Identities2 { sip, tel }
 }
 
 /// The kinds of media, with a blank between two, at most four.
-fn kinds(alloc: Global, words: &[u8]) -> Result<List<Text>, Fail> {
+fn kinds(told: &mut Told, words: &[u8]) -> List<Text> {
     let mut kinds = List::new();
     let mut rest = words;
     for _ in 0..4 {
-        if rest.is_empty() {
-            return Ok(kinds);
+        if !rest.is_empty() {
+            let (word, later) = cut(b' ', rest);
+            let kind = told.copy(word);
+            let done = kinds.push(told.alloc, kind);
+            told.keep(done.is_ok());
+            rest = later;
         }
-        let (word, later) = part(b' ', rest).unwrap_or((rest, b""));
-        let kind = Text::of(alloc, word)?;
-        kinds.push(alloc, kind).map_err(|refused| refused.1)?;
-        rest = later;
     }
-    Err("more kinds of media than four")?
+    told.keep(rest.is_empty());
+    kinds
 }
 
-fn moment(digits: &[u8]) -> Result<Moment, Fail> {
-    let ms = number_up_to(LAST_MOMENT, digits).ok_or("no number")?;
-    Ok(Moment::new(ms).ok_or("no moment of the clock")?)
+/// The moment of 0 milliseconds.
+pub fn first_moment() -> Moment {
+    match Moment::new(0) {
+        Some(moment) => moment,
+        None => unreachable!(),
+    }
+}
+
+fn moment(told: &mut Told, digits: &[u8]) -> Moment {
+    match number_up_to(LAST_MOMENT, digits) {
+        Some(ms) => Moment::new(ms).unwrap_or(first_moment()),
+        None => {
+            told.fail();
+            first_moment()
+        }
+    }
+}
+
+/// Whether the caller hides who it is, and the digits of the moment.
+fn hidden(when: &[u8]) -> (bool, &[u8]) {
+    match when {
+        [b'r', digits @ ..] => (true, digits),
+        [_, digits @ ..] => (false, digits),
+        [] => (false, b""),
+    }
 }
 
 /// The call of a row: the facts, and the URIs of the other party.
-pub fn read_called(alloc: Global, row: &[u8]) -> Result<Called, Fail> {
-    let (known, uris) = cut(row);
-    let (when, media) = part(b' ', known).unwrap_or((known, b""));
-    let (hidden, digits) = when.split_first().ok_or("no facts")?;
-    let now = moment(digits)?;
-    Ok(Called {
-        party: party(alloc, uris)?,
-        restricted: *hidden == b'r',
-        media: kinds(alloc, media)?,
+pub fn read_called(told: &mut Told, row: &[u8]) -> Called {
+    let (known, uris) = cut(b'|', row);
+    let (when, media) = cut(b' ', known);
+    let (restricted, digits) = hidden(when);
+    let now = moment(told, digits);
+    let party = party(told, uris);
+    let media = kinds(told, media);
+    Called {
+        party,
+        restricted,
+        media,
         now,
-    })
-}
-
-/// The first rule of a line, and the line that is left behind it, if one is.
-fn next_rule(line: &[u8]) -> (&[u8], Option<&[u8]>) {
-    match part(b'&', line) {
-        None => (line, None),
-        Some((rule, later)) => (rule, Some(later)),
     }
 }
 
 /// Writes a rule behind these keys.
-fn write_rule(alloc: Global, out: &mut Text, keys: &[u8], rule: &[u8]) -> Result<(), Fail> {
-    out.push(alloc, b"{ ")?;
-    out.push(alloc, keys)?;
-    out.push(alloc, rule)?;
-    out.push(alloc, b" }, ")?;
-    Ok(())
+fn write_rule(out: &mut Told, keys: &[u8], rule: &[u8]) {
+    out.add(b"{ ");
+    out.add(keys);
+    out.add(rule);
+    out.add(b" }, ");
 }
 
-/// Writes the rules of a line, at most eight, each behind these keys.
-fn write_rules(alloc: Global, out: &mut Text, keys: &[u8], line: &[u8]) -> Result<(), Fail> {
+/// Writes the rules of a line, at most nine, each behind these keys.
+fn write_rules(out: &mut Told, keys: &[u8], line: &[u8]) {
     let mut rest = line;
     for _ in 0..8 {
-        let (rule, later) = next_rule(rest);
-        write_rule(alloc, out, keys, rule)?;
-        match later {
-            None => return Ok(()),
-            Some(later) => rest = later,
+        if let Some((rule, later)) = part(b'&', rest) {
+            write_rule(out, keys, rule);
+            rest = later;
         }
     }
-    Err("more rules than eight")?
+    write_rule(out, keys, rest);
 }
 
 /// The sheet of the record of one table: these keys of the table, and the rules of a line, each behind these keys of a rule. A line of no bytes has no rules, and any other begins with `:`.
 pub fn sheet_of(
-    alloc: Global,
+    told: &mut Told,
     table: &[u8],
     table_keys: &[u8],
     rule_keys: &[u8],
     line: &[u8],
-) -> Result<Sheet, Fail> {
-    let mut text = Text::of(alloc, table)?;
-    text.push(alloc, b" = { ")?;
-    text.push(alloc, table_keys)?;
-    text.push(alloc, b"rule = [")?;
-    if let Some((_colon, rules)) = line.split_first() {
-        write_rules(alloc, &mut text, rule_keys, rules)?;
+) -> Option<Sheet> {
+    let mut text = Told::new(told.alloc);
+    text.add(table);
+    text.add(b" = { ");
+    text.add(table_keys);
+    text.add(b"rule = [");
+    if let [_colon, rules @ ..] = line {
+        write_rules(&mut text, rule_keys, rules);
     }
-    text.push(alloc, b"] }\n")?;
-    Ok(read_sheet(alloc, text.bytes()).map_err(|_fault| "no record")?)
+    text.add(b"] }\n");
+    told.keep(!text.has_failed());
+    let sheet = read_sheet(told.alloc, text.bytes());
+    told.noted(sheet)
 }

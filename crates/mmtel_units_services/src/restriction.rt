@@ -2,21 +2,17 @@
 //!
 //! The answers of a row are four: `r` where the caller is restricted, `r` where the called party is, `p` where the called party is shown the caller, `p` where the caller is shown the called party; `-` for each that is not so. Behind them stand the words of Privacy. The record of the account that is served stands above, as tables parted by `&`; above the first rows there is no account.
 
-use crate::reading::{Table, cut, wrong_line};
+use crate::reading::{Table, read_tables, wrong_line};
 use mmtel_identity::{callee_restricted, caller_restricted, present_to};
-use mmtel_lex::Text;
-use mmtel_scan::part;
-use mmtel_sheet_reader::read_sheet;
 use mmtel_sheet_values::Sheet;
+use mmtel_told::{Told, cut};
 use mmtel_types::{PrivacySet, Side};
-use std::alloc::Global;
-use std::test::Fail;
 
 /// Whether the word is one of these, which have a blank between two.
 fn has(words: &[u8], word: &[u8]) -> bool {
     let mut rest = words;
     for _ in 0..8 {
-        let (first, later) = part(b' ', rest).unwrap_or((rest, b""));
+        let (first, later) = cut(b' ', rest);
         if first == word {
             return true;
         }
@@ -37,50 +33,35 @@ fn privacy(words: &[u8]) -> PrivacySet {
     }
 }
 
-/// The letter where it is so, else `-`.
-fn letter(is_so: bool, letter: u8) -> u8 {
-    if is_so { letter } else { b'-' }
-}
-
-/// Whether these are the four answers.
-fn are_answers(wanted: &[u8], words: &PrivacySet, sheet: Option<&Sheet>) -> bool {
-    let told = [
-        letter(caller_restricted(words, sheet), b'r'),
-        letter(callee_restricted(words, sheet), b'r'),
-        letter(present_to(sheet, Side::Callee), b'p'),
-        letter(present_to(sheet, Side::Caller), b'p'),
-    ];
-    wanted == told.as_slice()
-}
-
-/// The sheet of the record of these tables, which are two at most.
-fn sheet_of(alloc: Global, tables: &[u8]) -> Result<Sheet, Fail> {
-    let (first, second) = part(b'&', tables).unwrap_or((tables, b""));
-    let mut text = Text::of(alloc, first)?;
-    text.push(alloc, b"\n")?;
-    text.push(alloc, second)?;
-    Ok(read_sheet(alloc, text.bytes()).map_err(|_fault| "no record")?)
+/// Tells the four answers.
+fn tell_answers(told: &mut Told, words: &PrivacySet, sheet: Option<&Sheet>) {
+    told.add_if(caller_restricted(words, sheet), b"r", b"-");
+    told.add_if(callee_restricted(words, sheet), b"r", b"-");
+    told.add_if(present_to(sheet, Side::Callee), b"p", b"-");
+    told.add_if(present_to(sheet, Side::Caller), b"p", b"-");
 }
 
 /// Restrictions and presentations.
 struct Identities;
 
 impl Table for Identities {
-    fn is_right(alloc: Global, line: &[u8], row: &[u8]) -> Result<bool, Fail> {
-        let (wanted, words) = cut(row);
-        let words = privacy(words);
-        match line.split_first() {
-            None => Ok(are_answers(wanted, &words, None)),
-            Some((_colon, tables)) => {
-                let sheet = sheet_of(alloc, tables)?;
-                Ok(are_answers(wanted, &words, Some(&sheet)))
+    fn tell(told: &mut Told, line: &[u8], asked: &[u8]) {
+        let words = privacy(asked);
+        match line {
+            [] => tell_answers(told, &words, None),
+            [_colon, tables @ ..] => {
+                if let Some(sheet) = read_tables(told, b'&', tables) {
+                    tell_answers(told, &words, Some(&sheet));
+                }
             }
         }
     }
 }
 
-/// The words that hide restrict both parties, whatever the record says; the others restrict nobody.
-const WORDS: &[u8] = b"--pp|
+/// Words of Privacy, modes of the restriction, and presentations.
+const IDENTITIES: &[u8] =
+    b"# The words that hide restrict both parties, whatever the record says; the others restrict nobody.
+--pp|
 rrpp|id
 rrpp|user
 rrpp|header
@@ -99,17 +80,8 @@ rrpp|header
 --pp|
 rrpp|id
 --pp|none
-";
-
-#[test]
-fn privacy_words(rt: HostRuntime) -> Result<(), Fail> {
-    assert_eq!(rt; wrong_line::<Identities>(rt.alloc(), WORDS)?, None);
-    Ok(())
-}
-
-/// A temporary restriction by default yields to the word `none`, and a permanent one does not; the originating service is of the caller, and the terminating one of the called party.
-const MODES: &[u8] =
-    b":originating-identity-presentation-restriction = { default-behaviour = \"presentation-restricted\" }
+# A temporary restriction by default yields to the word `none`, and a permanent one does not; the originating service is of the caller, and the terminating one of the called party.
+:originating-identity-presentation-restriction = { default-behaviour = \"presentation-restricted\" }
 r-pp|
 --pp|none
 rrpp|id
@@ -135,16 +107,8 @@ rrpp|id
 :originating-identity-presentation-restriction = { default-behaviour = \"presentation-restricted\" }&terminating-identity-presentation-restriction = { mode = \"permanent\" }
 rrpp|
 -rpp|none
-";
-
-#[test]
-fn modes_of_restriction(rt: HostRuntime) -> Result<(), Fail> {
-    assert_eq!(rt; wrong_line::<Identities>(rt.alloc(), MODES)?, None);
-    Ok(())
-}
-
-/// The called party is shown the caller by its originating presentation, the caller the called party by its terminating one.
-const PRESENTATIONS: &[u8] = b":originating-identity-presentation = { active = false }
+# The called party is shown the caller by its originating presentation, the caller the called party by its terminating one.
+:originating-identity-presentation = { active = false }
 ---p|
 rr-p|id
 :terminating-identity-presentation = { active = false }
@@ -156,7 +120,6 @@ rr-p|id
 ";
 
 #[test]
-fn presentations(rt: HostRuntime) -> Result<(), Fail> {
-    assert_eq!(rt; wrong_line::<Identities>(rt.alloc(), PRESENTATIONS)?, None);
-    Ok(())
+fn restrictions_and_presentations(rt: HostRuntime) {
+    assert_eq!(rt; wrong_line::<Identities>(rt.alloc(), IDENTITIES), 0);
 }

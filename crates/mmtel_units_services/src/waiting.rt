@@ -1,27 +1,36 @@
 //! How many calls a user may have at once (TS 24.615), and which sides of a call hold it (RFC 3264 §8.4, TS 24.610).
 
-use crate::reading::{Table, cut, wrong_line};
-use mmtel_lex::Text;
+use crate::reading::{Table, wrong_line};
 use mmtel_scan::number_up_to;
 use mmtel_sdp::Direction;
 use mmtel_sheet_reader::read_sheet;
+use mmtel_told::Told;
 use mmtel_types::Side;
 use mmtel_waiting::{HoldState, capacity, is_busy};
-use std::alloc::Global;
-use std::test::Fail;
 
 /// The capacity of the record above, whose keys stand behind `:`, and whether its user is busy in so many calls.
 struct BusyUsers;
 
+/// A number of calls.
+fn calls(told: &mut Told, digits: &[u8]) -> u32 {
+    match number_up_to(4_000_000_000, digits) {
+        Some(live) => u32::try_from(live).unwrap_or(0),
+        None => {
+            told.fail();
+            0
+        }
+    }
+}
+
 impl Table for BusyUsers {
-    fn is_right(alloc: Global, line: &[u8], row: &[u8]) -> Result<bool, Fail> {
-        let (wanted, calls) = cut(row);
-        let (most, busy) = wanted.split_first().ok_or("no answer")?;
-        let live = number_up_to(4_000_000_000, calls).ok_or("no number")?;
+    fn tell(told: &mut Told, line: &[u8], asked: &[u8]) {
+        let live = calls(told, asked);
         let record = line.strip_prefix(b":").unwrap_or(b"");
-        let sheet = read_sheet(alloc, record).map_err(|_fault| "no record")?;
-        let told = is_busy(u32::try_from(live)?, &sheet);
-        Ok(capacity(&sheet) == most.wrapping_sub(b'0') && told == (busy == b"b".as_slice()))
+        let sheet = read_sheet(told.alloc, record);
+        if let Some(sheet) = told.noted(sheet) {
+            told.add_number(u64::from(capacity(&sheet)));
+            told.add_if(is_busy(live, &sheet), b"b", b"-");
+        }
     }
 }
 
@@ -45,9 +54,8 @@ const CAPACITIES: &[u8] = b"1-|0
 ";
 
 #[test]
-fn busy_users_of_a_capacity(rt: HostRuntime) -> Result<(), Fail> {
-    assert_eq!(rt; wrong_line::<BusyUsers>(rt.alloc(), CAPACITIES)?, None);
-    Ok(())
+fn busy_users_of_a_capacity(rt: HostRuntime) {
+    assert_eq!(rt; wrong_line::<BusyUsers>(rt.alloc(), CAPACITIES), 0);
 }
 
 fn side_of(letter: u8) -> Side {
@@ -67,37 +75,28 @@ fn direction_of(letter: u8) -> Direction {
 }
 
 /// The state after these steps, each of two letters: a side, and the direction that it asks for.
-fn state_after(steps: &[u8]) -> Result<HoldState, Fail> {
+fn state_after(told: &mut Told, steps: &[u8]) -> HoldState {
     let mut state = HoldState::default();
     let mut rest = steps;
     for _ in 0..8 {
-        match rest {
-            [] => return Ok(state),
-            [side, direction, later @ ..] => {
-                state.note(side_of(*side), direction_of(*direction));
-                rest = later;
-            }
-            [_] => Err("half a step")?,
+        if let [side, direction, later @ ..] = rest {
+            state.note(side_of(*side), direction_of(*direction));
+            rest = later;
         }
     }
-    Err("more steps than seven")?
-}
-
-/// The letter of a side that holds the call, else `-`.
-fn letter(holds: bool, side: u8) -> u8 {
-    if holds { side } else { b'-' }
+    told.keep(rest.is_empty());
+    state
 }
 
 /// Sides that hold the call, and how often one began to.
 struct HoldSteps;
 
 impl Table for HoldSteps {
-    fn is_right(_alloc: Global, _line: &[u8], row: &[u8]) -> Result<bool, Fail> {
-        let (wanted, steps) = cut(row);
-        let state = state_after(steps)?;
-        let holders = [letter(state.caller, b'a'), letter(state.callee, b'b')];
-        let (count, told) = wanted.split_last().ok_or("no answer")?;
-        Ok(told == holders.as_slice() && state.holds == u32::from(count.wrapping_sub(b'0')))
+    fn tell(told: &mut Told, _line: &[u8], asked: &[u8]) {
+        let state = state_after(told, asked);
+        told.add_if(state.caller, b"a", b"-");
+        told.add_if(state.callee, b"b", b"-");
+        told.add_number(u64::from(state.holds));
     }
 }
 
@@ -124,7 +123,6 @@ a-3|asaxaiaras
 ";
 
 #[test]
-fn sides_that_hold(rt: HostRuntime) -> Result<(), Fail> {
-    assert_eq!(rt; wrong_line::<HoldSteps>(rt.alloc(), HOLDS)?, None);
-    Ok(())
+fn sides_that_hold(rt: HostRuntime) {
+    assert_eq!(rt; wrong_line::<HoldSteps>(rt.alloc(), HOLDS), 0);
 }

@@ -6,68 +6,45 @@ use mmtel_charging::{Kind, Row, rows_text};
 use mmtel_keeper::{KeepFault, Keeper};
 use mmtel_scan::{List, Text};
 use mmtel_store::SqliteKeeper;
+use mmtel_told::Told;
 use mmtel_types::{Account, CallNo, Cause, Moment};
-use std::alloc::Global;
-use std::test::Fail;
 
-/// A text in the making, which remembers that something failed.
-#[derive(Drop)]
-struct Told {
-    text: Text,
-    failed: bool,
+/// Adds what a call came to.
+fn add_done(told: &mut Told, done: Result<(), KeepFault>) {
+    match done {
+        Ok(()) => told.add(b"ok\n"),
+        Err(KeepFault::Failed) => told.add(b"failed\n"),
+        Err(KeepFault::NoMemory) => told.fail(),
+    }
 }
 
-impl Told {
-    fn add(&mut self, alloc: Global, bytes: &[u8]) {
-        if self.text.push(alloc, bytes).is_err() {
-            self.failed = true;
-        }
+fn add_sheets(told: &mut Told, sheets: &[(Account, Text)]) {
+    for sheet in sheets {
+        told.add_if(sheet.0 == Account(2), b"two ", b"any ");
+        told.add_line(sheet.1.bytes());
     }
+}
 
-    /// Adds what a call came to.
-    fn add_done(&mut self, alloc: Global, done: Result<(), KeepFault>) {
-        match done {
-            Ok(()) => self.add(alloc, b"ok\n"),
-            Err(KeepFault::Failed) => self.add(alloc, b"failed\n"),
-            Err(KeepFault::NoMemory) => self.failed = true,
-        }
+fn add_loaded(told: &mut Told, loaded: Result<List<(Account, Text)>, KeepFault>) {
+    match loaded {
+        Ok(sheets) => add_sheets(told, sheets.items()),
+        Err(KeepFault::Failed) => told.add(b"failed\n"),
+        Err(KeepFault::NoMemory) => told.fail(),
     }
+}
 
-    fn add_sheets(&mut self, alloc: Global, sheets: &[(Account, Text)]) {
-        for sheet in sheets {
-            self.add(
-                alloc,
-                match sheet.0 {
-                    Account(2) => b"two ",
-                    _ => b"any ",
-                },
-            );
-            self.add(alloc, sheet.1.bytes());
-            self.add(alloc, b"\n");
-        }
+fn add_rows(told: &mut Told, rows: &[Row]) {
+    match rows_text(told.alloc, rows) {
+        Ok(text) => told.add(text.bytes()),
+        Err(_) => told.fail(),
     }
+}
 
-    fn add_loaded(&mut self, alloc: Global, loaded: Result<List<(Account, Text)>, KeepFault>) {
-        match loaded {
-            Ok(sheets) => self.add_sheets(alloc, sheets.items()),
-            Err(KeepFault::Failed) => self.add(alloc, b"failed\n"),
-            Err(KeepFault::NoMemory) => self.failed = true,
-        }
-    }
-
-    fn add_rows(&mut self, alloc: Global, rows: &[Row]) {
-        match rows_text(alloc, rows) {
-            Ok(text) => self.add(alloc, text.bytes()),
-            Err(_) => self.failed = true,
-        }
-    }
-
-    fn add_listed(&mut self, alloc: Global, listed: Result<List<Row>, KeepFault>) {
-        match listed {
-            Ok(rows) => self.add_rows(alloc, rows.items()),
-            Err(KeepFault::Failed) => self.add(alloc, b"failed\n"),
-            Err(KeepFault::NoMemory) => self.failed = true,
-        }
+fn add_listed(told: &mut Told, listed: Result<List<Row>, KeepFault>) {
+    match listed {
+        Ok(rows) => add_rows(told, rows.items()),
+        Err(KeepFault::Failed) => told.add(b"failed\n"),
+        Err(KeepFault::NoMemory) => told.fail(),
     }
 }
 
@@ -109,34 +86,20 @@ fn diverted_row() -> Row {
 }
 
 /// Calls on a keeper that is bound to a path: what they came to.
-fn keep(told: &mut Told, alloc: Global, keeper: &mut SqliteKeeper<'_>, path: &[u8]) {
-    told.add_done(alloc, keeper.bind(alloc, path));
-    told.add_done(alloc, keeper.store(alloc, Account(2), b"first"));
-    told.add_done(alloc, keeper.store(alloc, Account(2), b"a = 1"));
-    told.add_done(alloc, keeper.add_rows(alloc, &[answered_row()]));
-    told.add_done(alloc, keeper.add_rows(alloc, &[diverted_row()]));
+fn keep(told: &mut Told, keeper: &mut SqliteKeeper<'_>, path: &[u8]) {
+    let alloc = told.alloc;
+    add_done(told, keeper.bind(alloc, path));
+    add_done(told, keeper.store(alloc, Account(2), b"first"));
+    add_done(told, keeper.store(alloc, Account(2), b"a = 1"));
+    add_done(told, keeper.add_rows(alloc, &[answered_row()]));
+    add_done(told, keeper.add_rows(alloc, &[diverted_row()]));
 }
 
 /// What a keeper holds.
-fn tell(told: &mut Told, alloc: Global, keeper: &mut SqliteKeeper<'_>) {
-    told.add_loaded(alloc, keeper.load(alloc));
-    told.add_listed(alloc, keeper.rows(alloc));
-}
-
-/// A call before any bind; a file, bound again; a path that cannot be opened; and a call after that.
-fn over_a_file(rt: &HostRuntime, alloc: Global) -> Told {
-    let mut told = Told {
-        text: Text::new(),
-        failed: false,
-    };
-    let mut keeper = SqliteKeeper::new(rt);
-    told.add_done(alloc, keeper.store(alloc, Account(2), b"lost"));
-    keep(&mut told, alloc, &mut keeper, b"keeper.db");
-    told.add_done(alloc, keeper.bind(alloc, b"keeper.db"));
-    tell(&mut told, alloc, &mut keeper);
-    told.add_done(alloc, keeper.bind(alloc, b"no/folder/keeper.db"));
-    tell(&mut told, alloc, &mut keeper);
-    told
+fn tell(told: &mut Told, keeper: &mut SqliteKeeper<'_>) {
+    let alloc = told.alloc;
+    add_loaded(told, keeper.load(alloc));
+    add_listed(told, keeper.rows(alloc));
 }
 
 const OVER_A_FILE: &[u8] = b"failed
@@ -155,10 +118,21 @@ failed
 failed
 ";
 
+/// A call before any bind; a file, bound again; a path that cannot be opened; and a call after that.
+fn wrong_over_a_file(rt: &HostRuntime) -> usize {
+    let alloc = rt.alloc();
+    let mut told = Told::new(alloc);
+    let mut keeper = SqliteKeeper::new(rt);
+    add_done(&mut told, keeper.store(alloc, Account(2), b"lost"));
+    keep(&mut told, &mut keeper, b"keeper.db");
+    add_done(&mut told, keeper.bind(alloc, b"keeper.db"));
+    tell(&mut told, &mut keeper);
+    add_done(&mut told, keeper.bind(alloc, b"no/folder/keeper.db"));
+    tell(&mut told, &mut keeper);
+    told.wrong_line(OVER_A_FILE)
+}
+
 #[test]
-fn bound_again_to_a_file(rt: HostRuntime) -> Result<(), Fail> {
-    let told = over_a_file(&rt, rt.alloc());
-    assert!(rt; !told.failed, "memory");
-    assert_eq!(rt; told.text.bytes(), OVER_A_FILE);
-    Ok(())
+fn bound_again_to_a_file(rt: HostRuntime) {
+    assert_eq!(rt; wrong_over_a_file(&rt), 0);
 }

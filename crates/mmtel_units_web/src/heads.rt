@@ -1,32 +1,31 @@
 //! Whether bytes are a whole request (RFC 9112 §2 and §6).
 
-use crate::pages::{Answers, Page, answered};
+use crate::pages::{add_many, add_shown, meant};
 use mmtel_http::{Whole, whole};
+use mmtel_told::{Rows, Told, wrong_line};
 use std::alloc::Global;
-use std::test::Fail;
 
 /// Asks `whole`.
-#[derive(Clone, Copy)]
+#[derive(Drop)]
 struct Wholes;
 
-fn add_whole(page: &mut Page, alloc: Global, bytes: &[u8]) {
+fn add_whole(told: &mut Told, bytes: &[u8]) {
     match whole(bytes) {
-        Whole::More => page.add(alloc, b"more"),
-        Whole::Bad => page.add(alloc, b"bad"),
-        Whole::Large => page.add(alloc, b"large"),
+        Whole::More => told.add(b"more"),
+        Whole::Bad => told.add(b"bad"),
+        Whole::Large => told.add(b"large"),
         Whole::Done { len } => {
-            page.add(alloc, b"done ");
-            page.add_shown(alloc, bytes.get(..len).unwrap_or(b"more than all"));
+            told.add(b"done ");
+            add_shown(told, bytes.get(..len).unwrap_or(b"more than all"));
         }
     }
+    told.add(b"\n");
 }
 
-impl Answers for Wholes {
-    fn answer(&mut self, page: &mut Page, alloc: Global, asked: &[u8]) {
-        let mut meant = Page::new();
-        meant.add_meant(alloc, asked);
-        add_whole(page, alloc, meant.text.bytes());
-        page.failed = page.failed || meant.failed;
+impl Rows for Wholes {
+    fn tell(&mut self, told: &mut Told, asked: &[u8]) {
+        let bytes = meant(told, asked);
+        add_whole(told, bytes.whole());
     }
 }
 
@@ -80,75 +79,59 @@ more
 done GET / HTTP/1.1%~Content-Length: 00%~%~
 ";
 
-#[test]
-fn whole_requests(rt: HostRuntime) -> Result<(), Fail> {
-    let page = answered(rt.alloc(), WHOLES, &mut Wholes);
-    assert!(rt; !page.failed, "memory");
-    assert_eq!(rt; page.text.bytes(), WHOLES);
-    Ok(())
+/// Adds what `whole` says of bytes; of a whole request its length.
+fn add_length(told: &mut Told, bytes: &Told) {
+    told.keep(!bytes.has_failed());
+    match whole(bytes.bytes()) {
+        Whole::More => told.add(b"more\n"),
+        Whole::Bad => told.add(b"bad\n"),
+        Whole::Large => told.add(b"large\n"),
+        Whole::Done { len } => {
+            told.add_number(len as u64);
+            told.add(b"\n");
+        }
+    }
 }
 
-/// What `whole` says of a request with one header of so many bytes, of which the end is left out where it is not ended.
-fn long_head(alloc: Global, size: usize, end: &[u8]) -> Option<Whole> {
-    let mut page = Page::new();
-    page.add(alloc, b"GET / HTTP/1.1\r\nX: ");
-    page.repeat(alloc, b"a", size);
-    page.add(alloc, end);
-    if page.failed {
-        return None;
-    }
-    Some(whole(page.text.bytes()))
+/// Adds what `whole` says of a request with one header of so many bytes, of which the end is left out where it is not ended.
+fn add_long(told: &mut Told, size: usize, end: &[u8]) {
+    let mut head = Told::new(told.alloc);
+    head.add(b"GET / HTTP/1.1\r\nX: ");
+    add_many(&mut head, b"a", size);
+    head.add(end);
+    add_length(told, &head);
 }
 
-/// What `whole` says of a request with so many headers.
-fn many_headers(alloc: Global, count: usize) -> Option<Whole> {
-    let mut page = Page::new();
-    page.add(alloc, b"GET / HTTP/1.1\r\n");
-    page.repeat(alloc, b"A: b\r\n", count);
-    page.add(alloc, b"\r\n");
-    if page.failed {
-        return None;
-    }
-    Some(whole(page.text.bytes()))
-}
-
-/// What `whole` says of the largest body, of which so many times 64 bytes are there.
-fn large_body(alloc: Global, times: usize) -> Option<Whole> {
-    let mut page = Page::new();
-    page.add(alloc, b"GET / HTTP/1.1\r\nContent-Length: 65536\r\n\r\n");
-    page.repeat(
-        alloc,
-        b"0123456789abcdef0123456789abcdef0123456789abcdef0123456789abcdef",
-        times,
-    );
-    if page.failed {
-        return None;
-    }
-    Some(whole(page.text.bytes()))
+/// Adds what `whole` says of a request of these lines, with so many copies of a piece and this end.
+fn add_wide(told: &mut Told, lines: &[u8], piece: &[u8], count: usize, end: &[u8]) {
+    let mut text = Told::new(told.alloc);
+    text.add(lines);
+    add_many(&mut text, piece, count);
+    text.add(end);
+    add_length(told, &text);
 }
 
 /// A head of 8,192 bytes is taken and one of 8,193 is not; as many bytes that do not end a head are not enough, or too many.
-#[test]
-fn heads_at_the_limit(rt: HostRuntime) -> Result<(), Fail> {
-    let alloc = rt.alloc();
+/// 64 headers are taken and 65 are not; the largest body is taken once it is whole.
+fn wrong_limit(alloc: Global) -> usize {
+    let mut told = Told::new(alloc);
     let end = b"\r\n\r\n";
-    assert_eq!(rt;
-        long_head(alloc, 8_169, end),
-        Some(Whole::Done { len: 8_192 })
-    );
-    assert_eq!(rt; long_head(alloc, 8_170, end), Some(Whole::Bad));
-    assert_eq!(rt; long_head(alloc, 8_173, b""), Some(Whole::More));
-    assert_eq!(rt; long_head(alloc, 8_174, b""), Some(Whole::Bad));
-    Ok(())
+    add_long(&mut told, 8_169, end);
+    add_long(&mut told, 8_170, end);
+    add_long(&mut told, 8_173, b"");
+    add_long(&mut told, 8_174, b"");
+    let line = b"GET / HTTP/1.1\r\n";
+    add_wide(&mut told, line, b"A: b\r\n", 64, b"\r\n");
+    add_wide(&mut told, line, b"A: b\r\n", 65, b"\r\n");
+    let head = b"GET / HTTP/1.1\r\nContent-Length: 65536\r\n\r\n";
+    let piece = b"0123456789abcdef0123456789abcdef0123456789abcdef0123456789abcdef";
+    add_wide(&mut told, head, piece, 1_023, b"");
+    add_wide(&mut told, head, piece, 1_024, b"");
+    told.wrong_line(b"8192\nbad\nmore\nbad\n402\nbad\nmore\n65577\n")
 }
 
-/// 64 headers are taken and 65 are not; the largest body is taken once it is whole.
 #[test]
-fn headers_and_bodies_at_the_limit(rt: HostRuntime) -> Result<(), Fail> {
-    let alloc = rt.alloc();
-    assert_eq!(rt; many_headers(alloc, 64), Some(Whole::Done { len: 402 }));
-    assert_eq!(rt; many_headers(alloc, 65), Some(Whole::Bad));
-    assert_eq!(rt; large_body(alloc, 1_023), Some(Whole::More));
-    assert_eq!(rt; large_body(alloc, 1_024), Some(Whole::Done { len: 65_577 }));
-    Ok(())
+fn whole_requests(rt: HostRuntime) {
+    assert_eq!(rt; wrong_line(rt.alloc(), &mut Wholes, WHOLES), 0);
+    assert_eq!(rt; wrong_limit(rt.alloc()), 0);
 }

@@ -1,13 +1,13 @@
 //! The keeper in memory, and the texts of records.
 
-use crate::pages::{Answers, Page, answered};
+use crate::pages::numbers;
 use mmtel_charging::{Kind, Row};
 use mmtel_keeper::{KeepFault, Keeper, MemoryKeeper};
-use mmtel_scan::{List, Text};
+use mmtel_scan::Text;
 use mmtel_sheet_texts::SheetTexts;
+use mmtel_told::{Rows, Told, wrong_line};
 use mmtel_types::{Account, CallNo, Cause, Moment};
 use std::alloc::Global;
-use std::test::Fail;
 
 /// The moment of a digit.
 fn moment_of(digit: u8) -> Moment {
@@ -47,43 +47,43 @@ fn letter_of(account: Account) -> u8 {
     u8::try_from(account.0).unwrap_or(b'?')
 }
 
-fn word_of(fault: KeepFault) -> &'static [u8] {
+fn add_fault(told: &mut Told, fault: KeepFault) {
     match fault {
-        KeepFault::Failed => b"failed",
-        KeepFault::NoMemory => b"memory",
+        KeepFault::Failed => told.add(b"failed"),
+        KeepFault::NoMemory => told.add(b"memory"),
     }
 }
 
-fn add_done(page: &mut Page, alloc: Global, done: Result<(), KeepFault>) {
+fn add_done(told: &mut Told, done: Result<(), KeepFault>) {
     match done {
-        Ok(()) => page.add(alloc, b"ok"),
-        Err(fault) => page.add(alloc, word_of(fault)),
+        Ok(()) => told.add(b"ok"),
+        Err(fault) => add_fault(told, fault),
     }
 }
 
-fn add_sheets(page: &mut Page, alloc: Global, sheets: &[(Account, Text)]) {
+fn add_sheets(told: &mut Told, sheets: &[(Account, Text)]) {
     for sheet in sheets {
-        page.add(alloc, &[letter_of(sheet.0)]);
-        page.add(alloc, sheet.1.bytes());
-        page.add(alloc, b".");
+        told.add(&[letter_of(sheet.0)]);
+        told.add(sheet.1.bytes());
+        told.add(b".");
     }
 }
 
-fn add_loaded(page: &mut Page, alloc: Global, keeper: &mut MemoryKeeper) {
-    match keeper.load(alloc) {
-        Ok(sheets) => add_sheets(page, alloc, sheets.items()),
-        Err(fault) => page.add(alloc, word_of(fault)),
+fn add_loaded(told: &mut Told, keeper: &mut MemoryKeeper) {
+    match keeper.load(told.alloc) {
+        Ok(sheets) => add_sheets(told, sheets.items()),
+        Err(fault) => add_fault(told, fault),
     }
 }
 
-fn add_listed(page: &mut Page, alloc: Global, keeper: &mut MemoryKeeper) {
-    match keeper.rows(alloc) {
+fn add_listed(told: &mut Told, keeper: &mut MemoryKeeper) {
+    match keeper.rows(told.alloc) {
         Ok(rows) => {
             for row in rows.items() {
-                page.add(alloc, &[digit_of(row)]);
+                told.add(&[digit_of(row)]);
             }
         }
-        Err(fault) => page.add(alloc, word_of(fault)),
+        Err(fault) => add_fault(told, fault),
     }
 }
 
@@ -96,24 +96,32 @@ fn add_rows(keeper: &mut MemoryKeeper, alloc: Global, digits: &[u8]) -> Result<(
     }
 }
 
-impl Answers for MemoryKeeper {
-    fn answer(&mut self, page: &mut Page, alloc: Global, asked: &[u8]) {
+/// A keeper whose calls a table asks for.
+#[derive(Drop)]
+struct Kept {
+    keeper: MemoryKeeper,
+}
+
+impl Rows for Kept {
+    fn tell(&mut self, told: &mut Told, asked: &[u8]) {
         match asked {
             [b'b', path @ ..] => {
-                let done = self.bind(alloc, path);
-                add_done(page, alloc, done);
+                let done = self.keeper.bind(told.alloc, path);
+                add_done(told, done);
             }
             [b's', account, text @ ..] => {
-                let done = self.store(alloc, Account(u32::from(*account)), text);
-                add_done(page, alloc, done);
+                let account = Account(u32::from(*account));
+                let done = self.keeper.store(told.alloc, account, text);
+                add_done(told, done);
             }
             [b'a', digits @ ..] => {
-                let done = add_rows(self, alloc, digits);
-                add_done(page, alloc, done);
+                let done = add_rows(&mut self.keeper, told.alloc, digits);
+                add_done(told, done);
             }
-            [b'l', ..] => add_loaded(page, alloc, self),
-            _ => add_listed(page, alloc, self),
+            [b'l', ..] => add_loaded(told, &mut self.keeper),
+            _ => add_listed(told, &mut self.keeper),
         }
+        told.add(b"\n");
     }
 }
 
@@ -154,25 +162,6 @@ xd.yc.
 568
 ";
 
-fn keeping(alloc: Global) -> Page {
-    let mut failing = List::new();
-    let mut made = failing.push(alloc, 3).is_ok();
-    made = failing.push(alloc, 8).is_ok() && made;
-    made = failing.push(alloc, 11).is_ok() && made;
-    let mut keeper = MemoryKeeper::new(failing);
-    let mut page = answered(alloc, KEEPING, &mut keeper);
-    page.failed = page.failed || !made;
-    page
-}
-
-#[test]
-fn in_memory(rt: HostRuntime) -> Result<(), Fail> {
-    let page = keeping(rt.alloc());
-    assert!(rt; !page.failed, "memory");
-    assert_eq!(rt; page.text.bytes(), KEEPING);
-    Ok(())
-}
-
 /// A table of texts.
 #[derive(Drop)]
 struct Texts {
@@ -181,41 +170,35 @@ struct Texts {
 
 impl Texts {
     /// Puts a text in the place of the account's, by room that was made before.
-    fn replace(&mut self, page: &mut Page, alloc: Global, account: Account, text: &[u8]) {
-        let Ok(text) = Text::of(alloc, text) else {
-            page.failed = true;
-            return;
-        };
-        match self.texts.reserve(alloc) {
+    fn replace(&mut self, told: &mut Told, account: Account, text: &[u8]) {
+        let text = told.copy(text);
+        match self.texts.reserve(told.alloc) {
             Ok(()) => self.texts.replace(account, text),
-            Err(_) => page.failed = true,
+            Err(_) => told.fail(),
         }
     }
 
-    fn put(&mut self, page: &mut Page, alloc: Global, account: Account, text: &[u8]) {
-        let Ok(text) = Text::of(alloc, text) else {
-            page.failed = true;
-            return;
-        };
-        if self.texts.put(alloc, account, text).is_err() {
-            page.failed = true;
-        }
+    fn put(&mut self, told: &mut Told, account: Account, text: &[u8]) {
+        let text = told.copy(text);
+        let done = self.texts.put(told.alloc, account, text);
+        told.keep(done.is_ok());
     }
 }
 
-impl Answers for Texts {
-    fn answer(&mut self, page: &mut Page, alloc: Global, asked: &[u8]) {
+impl Rows for Texts {
+    fn tell(&mut self, told: &mut Told, asked: &[u8]) {
         match asked {
-            [b'p', account, text @ ..] => self.put(page, alloc, Account(u32::from(*account)), text),
+            [b'p', account, text @ ..] => self.put(told, Account(u32::from(*account)), text),
             [b'r', account, text @ ..] => {
-                self.replace(page, alloc, Account(u32::from(*account)), text);
+                self.replace(told, Account(u32::from(*account)), text);
             }
             [b't', account, ..] => match self.texts.text(Account(u32::from(*account))) {
-                Some(text) => page.add(alloc, text.bytes()),
-                None => page.add(alloc, b"none"),
+                Some(text) => told.add(text.bytes()),
+                None => told.add(b"none"),
             },
-            _ => add_sheets(page, alloc, self.texts.items()),
+            _ => add_sheets(told, self.texts.items()),
         }
+        told.add(b"\n");
     }
 }
 
@@ -242,13 +225,27 @@ xc.yb.
 x.yb.
 ";
 
-#[test]
-fn texts_of_accounts(rt: HostRuntime) -> Result<(), Fail> {
+fn wrong_text(alloc: Global) -> usize {
     let mut texts = Texts {
         texts: SheetTexts::new(),
     };
-    let page = answered(rt.alloc(), TEXTS, &mut texts);
-    assert!(rt; !page.failed, "memory");
-    assert_eq!(rt; page.text.bytes(), TEXTS);
-    Ok(())
+    wrong_line(alloc, &mut texts, TEXTS)
+}
+
+fn wrong_kept(alloc: Global) -> usize {
+    let mut told = Told::new(alloc);
+    let failing = numbers(&mut told, &[3, 8, 11]);
+    if told.has_failed() {
+        return 1;
+    }
+    let mut kept = Kept {
+        keeper: MemoryKeeper::new(failing),
+    };
+    wrong_line(alloc, &mut kept, KEEPING)
+}
+
+#[test]
+fn keeping_in_memory(rt: HostRuntime) {
+    assert_eq!(rt; wrong_kept(rt.alloc()), 0);
+    assert_eq!(rt; wrong_text(rt.alloc()), 0);
 }

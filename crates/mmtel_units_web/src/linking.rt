@@ -1,11 +1,11 @@
 //! The link in memory.
 
-use crate::pages::{Answers, Page, answered};
+use crate::pages::numbers;
 use mmtel_link::{Arrival, Event, Link, MemoryLink, SendFault};
 use mmtel_scan::{List, Text};
+use mmtel_told::{Rows, Told, wrong_line};
 use mmtel_types::{Addr, Moment};
 use std::alloc::Global;
-use std::test::Fail;
 
 /// An address.
 fn addr(port: u16) -> Addr {
@@ -22,93 +22,94 @@ fn moment(ms: u8) -> Moment {
     }
 }
 
-/// Adds an event; false where that wants memory.
-fn push(events: &mut List<Event>, alloc: Global, event: Event) -> bool {
-    events.push(alloc, event).is_ok()
+fn push(told: &mut Told, events: &mut List<Event>, event: Event) {
+    let done = events.push(told.alloc, event);
+    told.keep(done.is_ok());
 }
 
-/// A datagram, a request, and nothing; false beside them for want of memory.
-fn three_events(alloc: Global) -> (List<Event>, bool) {
+/// A datagram, a request, and nothing.
+fn three_events(told: &mut Told) -> List<Event> {
     let mut events = List::new();
-    let mut right = match Text::of(alloc, b"one") {
-        Ok(bytes) => {
-            let from = addr(5071);
-            let at = moment(1);
-            push(&mut events, alloc, Event::Datagram { from, at, bytes })
-        }
-        Err(_) => false,
-    };
-    right = match Text::of(alloc, b"GET abc") {
-        Ok(bytes) => {
-            let at = moment(2);
-            push(&mut events, alloc, Event::Web { at, bytes }) && right
-        }
-        Err(_) => false,
-    };
-    right = push(&mut events, alloc, Event::Quiet { at: moment(3) }) && right;
-    (events, right)
+    let bytes = told.copy(b"one");
+    let from = addr(5071);
+    let at = moment(1);
+    push(told, &mut events, Event::Datagram { from, at, bytes });
+    let bytes = told.copy(b"GET abc");
+    let at = moment(2);
+    push(told, &mut events, Event::Web { at, bytes });
+    push(told, &mut events, Event::Quiet { at: moment(3) });
+    events
 }
 
-fn add_next(page: &mut Page, alloc: Global, link: &mut MemoryLink) {
-    match link.next(alloc) {
-        Ok(Arrival::Datagram { bytes, .. }) => page.add(alloc, bytes.bytes()),
-        Ok(Arrival::Web { .. }) => page.add(alloc, b"web"),
-        Ok(Arrival::Quiet { .. }) => page.add(alloc, b"quiet"),
-        Ok(Arrival::Closed) => page.add(alloc, b"closed"),
-        Ok(Arrival::NoMemory) => page.failed = true,
-        Err(_) => page.add(alloc, b"failed"),
+fn add_next(told: &mut Told, link: &mut MemoryLink) {
+    match link.next(told.alloc) {
+        Ok(Arrival::Datagram { bytes, .. }) => told.add(bytes.bytes()),
+        Ok(Arrival::Web { .. }) => told.add(b"web"),
+        Ok(Arrival::Quiet { .. }) => told.add(b"quiet"),
+        Ok(Arrival::Closed) => told.add(b"closed"),
+        Ok(Arrival::NoMemory) => told.fail(),
+        Err(_) => told.add(b"failed"),
     }
 }
 
-fn add_read(page: &mut Page, alloc: Global, link: &mut MemoryLink) {
+fn add_read(told: &mut Told, link: &mut MemoryLink) {
     let mut buf = [0; 4];
     match link.web_read(&mut buf) {
-        Ok(count) => page.add(alloc, &buf[..count]),
-        Err(_) => page.add(alloc, b"failed"),
+        Ok(count) => told.add(&buf[..count]),
+        Err(_) => told.add(b"failed"),
     }
 }
 
-fn add_given(page: &mut Page, alloc: Global, given: Result<(), SendFault>) {
+fn add_given(told: &mut Told, given: Result<(), SendFault>) {
     match given {
-        Ok(()) => page.add(alloc, b"ok"),
-        Err(SendFault::Failed) => page.add(alloc, b"failed"),
-        Err(SendFault::NoMemory) => page.failed = true,
+        Ok(()) => told.add(b"ok"),
+        Err(SendFault::Failed) => told.add(b"failed"),
+        Err(SendFault::NoMemory) => told.fail(),
     }
 }
 
-fn add_told(page: &mut Page, alloc: Global, text: &Text, lost: bool) {
-    page.add(alloc, text.bytes());
-    page.add(alloc, if lost { b"!" } else { b"." });
+fn add_told(told: &mut Told, text: &Text, lost: bool) {
+    told.add(text.bytes());
+    told.add_if(lost, b"!", b".");
 }
 
-fn add_all(page: &mut Page, alloc: Global, link: &MemoryLink) {
+fn add_all(told: &mut Told, link: &MemoryLink) {
     for sent in link.offers() {
-        add_told(page, alloc, &sent.text, sent.lost);
+        add_told(told, &sent.text, sent.lost);
     }
     for replied in link.replies() {
-        add_told(page, alloc, &replied.text, replied.lost);
+        add_told(told, &replied.text, replied.lost);
     }
 }
 
-impl Answers for MemoryLink {
-    fn answer(&mut self, page: &mut Page, alloc: Global, asked: &[u8]) {
+fn add_bound(told: &mut Told, link: &mut MemoryLink) {
+    let bound = link.bind(addr(5060), addr(8080)).is_ok();
+    told.add_if(bound, b"ok", b"failed");
+}
+
+/// A link whose calls a table asks for.
+#[derive(Drop)]
+struct Linked {
+    link: MemoryLink,
+}
+
+impl Rows for Linked {
+    fn tell(&mut self, told: &mut Told, asked: &[u8]) {
         match asked {
-            [b'b', ..] => match self.bind(addr(5060), addr(8080)) {
-                Ok(()) => page.add(alloc, b"ok"),
-                Err(_) => page.add(alloc, b"failed"),
-            },
-            [b'n', ..] => add_next(page, alloc, self),
-            [b'r', ..] => add_read(page, alloc, self),
+            [b'b', ..] => add_bound(told, &mut self.link),
+            [b'n', ..] => add_next(told, &mut self.link),
+            [b'r', ..] => add_read(told, &mut self.link),
             [b'w', text @ ..] => {
-                let given = self.web_reply(alloc, text);
-                add_given(page, alloc, given);
+                let given = self.link.web_reply(told.alloc, text);
+                add_given(told, given);
             }
             [b's', text @ ..] => {
-                let given = self.send(alloc, addr(5072), text);
-                add_given(page, alloc, given);
+                let given = self.link.send(told.alloc, addr(5072), text);
+                add_given(told, given);
             }
-            _ => add_all(page, alloc, self),
+            _ => add_all(told, &self.link),
         }
+        told.add(b"\n");
     }
 }
 
@@ -143,22 +144,20 @@ closed
 lost!sent.reply.
 ";
 
-fn linking(alloc: Global) -> Page {
-    let (events, right) = three_events(alloc);
-    let mut failing = List::new();
-    let mut made = failing.push(alloc, 2).is_ok();
-    made = failing.push(alloc, 6).is_ok() && made;
-    made = failing.push(alloc, 9).is_ok() && made;
-    let mut link = MemoryLink::new(events, failing);
-    let mut page = answered(alloc, LINKING, &mut link);
-    page.failed = page.failed || !made || !right;
-    page
+fn wrong_link(alloc: Global) -> usize {
+    let mut told = Told::new(alloc);
+    let events = three_events(&mut told);
+    let failing = numbers(&mut told, &[2, 6, 9]);
+    if told.has_failed() {
+        return 1;
+    }
+    let mut linked = Linked {
+        link: MemoryLink::new(events, failing),
+    };
+    wrong_line(alloc, &mut linked, LINKING)
 }
 
 #[test]
-fn in_memory(rt: HostRuntime) -> Result<(), Fail> {
-    let page = linking(rt.alloc());
-    assert!(rt; !page.failed, "memory");
-    assert_eq!(rt; page.text.bytes(), LINKING);
-    Ok(())
+fn linking_in_memory(rt: HostRuntime) {
+    assert_eq!(rt; wrong_link(rt.alloc()), 0);
 }

@@ -1,83 +1,46 @@
-//! Texts in the making.
+//! Bytes in tables, in which `%` stands for CR and `~` for LF.
 
-use mmtel_scan::{Text, part};
-use std::alloc::Global;
+use mmtel_scan::List;
+use mmtel_told::Told;
 
-/// A text in the making, which remembers that memory ran out.
-#[derive(Drop)]
-pub struct Page {
-    pub text: Text,
-    pub failed: bool,
-}
-
-impl Page {
-    pub fn new() -> Page {
-        Page {
-            text: Text::new(),
-            failed: false,
-        }
-    }
-
-    /// Adds bytes as they are.
-    pub fn add(&mut self, alloc: Global, bytes: &[u8]) {
-        if self.text.push(alloc, bytes).is_err() {
-            self.failed = true;
-        }
-    }
-
-    /// Adds bytes with `%` for CR and `~` for LF.
-    pub fn add_shown(&mut self, alloc: Global, bytes: &[u8]) {
-        for byte in bytes {
-            let shown = match *byte {
-                b'\r' => b'%',
-                b'\n' => b'~',
-                other => other,
-            };
-            self.add(alloc, &[shown]);
-        }
-    }
-
-    /// Adds bytes with CR for `%` and LF for `~`.
-    pub fn add_meant(&mut self, alloc: Global, line: &[u8]) {
-        for byte in line {
-            let meant = match *byte {
-                b'%' => b'\r',
-                b'~' => b'\n',
-                other => other,
-            };
-            self.add(alloc, &[meant]);
-        }
-    }
-
-    /// Adds bytes so many times.
-    pub fn repeat(&mut self, alloc: Global, bytes: &[u8], times: usize) {
-        for _ in 0..times {
-            self.add(alloc, bytes);
+/// Adds bytes with `%` for CR and `~` for LF.
+pub fn add_shown(told: &mut Told, bytes: &[u8]) {
+    for byte in bytes {
+        match *byte {
+            b'\r' => told.add(b"%"),
+            b'\n' => told.add(b"~"),
+            other => told.add(&[other]),
         }
     }
 }
 
-/// Who answers what a table asks.
-pub trait Answers {
-    /// Adds the answer.
-    fn answer(&mut self, page: &mut Page, alloc: Global, asked: &[u8]);
-}
-
-/// The table as it is when this one answers what it asks.
-pub fn answered<A: Answers>(alloc: Global, table: &[u8], by: &mut A) -> Page {
-    let mut page = Page::new();
-    let mut rest = table;
-    for _ in 0..1000 {
-        let Some((line, later)) = part(b'\n', rest) else {
-            return page;
-        };
-        rest = later;
-        if let [b'>', b' ', asked @ ..] = line {
-            page.add(alloc, line);
-            page.add(alloc, b"\n");
-            by.answer(&mut page, alloc, asked);
-            page.add(alloc, b"\n");
+/// The bytes with CR for `%` and LF for `~`.
+pub fn meant(told: &mut Told, line: &[u8]) -> Told {
+    let mut meant = Told::new(told.alloc);
+    for byte in line {
+        match *byte {
+            b'%' => meant.add(b"\r"),
+            b'~' => meant.add(b"\n"),
+            other => meant.add(&[other]),
         }
     }
-    page
+    told.keep(!meant.has_failed());
+    meant
+}
+
+/// Adds bytes so many times.
+pub fn add_many(told: &mut Told, bytes: &[u8], times: usize) {
+    for _ in 0..times {
+        told.add(bytes);
+    }
+}
+
+/// A list of these numbers.
+pub fn numbers(told: &mut Told, numbers: &[u64]) -> List<u64> {
+    let mut list = List::new();
+    for number in numbers {
+        let done = list.push(told.alloc, *number);
+        told.keep(done.is_ok());
+    }
+    list
 }

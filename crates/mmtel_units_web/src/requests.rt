@@ -2,44 +2,48 @@
 
 ghost use Rattle.http.specs.StatusCode.{IsStatusCode};
 
-use crate::pages::{Answers, Page, answered};
+use crate::pages::{add_shown, meant, numbers};
 use mmtel_in_force::Records;
 use mmtel_keeper::MemoryKeeper;
-use mmtel_lex::read_uri;
-use mmtel_scan::{List, Text};
+use mmtel_lex::{Uri, read_uri};
 use mmtel_serving::serve;
+use mmtel_told::{Rows, Told, wrong_line};
 use mmtel_trust::Accounts;
 use mmtel_types::Account;
 use mmtel_web::{Web, WebDirectory, Whole, answer, reply, whole};
 use std::alloc::Global;
-use std::test::Fail;
 
-/// Adds an identity of an account; false where that fails.
-fn add(accounts: &mut Accounts, alloc: Global, number: u32, uri: &[u8]) -> bool {
-    match read_uri(alloc, uri) {
-        Ok(uri) => accounts.add(alloc, Account(number), uri).is_ok(),
-        Err(_) => false,
+/// A URI that can be read.
+fn uri(told: &mut Told, text: &[u8]) -> Option<Uri> {
+    let uri = read_uri(told.alloc, text);
+    told.noted(uri)
+}
+
+/// Adds an identity of an account.
+fn add(told: &mut Told, accounts: &mut Accounts, number: u32, text: &[u8]) {
+    if let Some(uri) = uri(told, text) {
+        let done = accounts.add(told.alloc, Account(number), uri);
+        told.keep(done.is_ok());
     }
 }
 
-/// The accounts of the tables; false beside them where one could not be added.
-fn accounts(alloc: Global) -> (Accounts, bool) {
+/// The accounts of the tables.
+fn accounts(told: &mut Told) -> Accounts {
     let mut accounts = Accounts::new();
-    let mut right = add(&mut accounts, alloc, 1, b"sip:alice@home.example");
-    right = add(&mut accounts, alloc, 1, b"tel:+4930111") && right;
-    right = add(&mut accounts, alloc, 2, b"sip:bob@home.example") && right;
-    right = add(&mut accounts, alloc, 4, b"tel:+4911") && right;
-    right = add(&mut accounts, alloc, 5, b"sip:+4911@home.example") && right;
-    right = add(&mut accounts, alloc, u32::MAX, b"sip:last@home.example") && right;
-    (accounts, right)
+    add(told, &mut accounts, 1, b"sip:alice@home.example");
+    add(told, &mut accounts, 1, b"tel:+4930111");
+    add(told, &mut accounts, 2, b"sip:bob@home.example");
+    add(told, &mut accounts, 4, b"tel:+4911");
+    add(told, &mut accounts, 5, b"sip:+4911@home.example");
+    add(told, &mut accounts, u32::MAX, b"sip:last@home.example");
+    accounts
 }
 
-/// Who is known in the tables; false beside it where somebody is missing.
-fn directory(alloc: Global) -> (WebDirectory, bool) {
-    let (accounts, right) = accounts(alloc);
-    let operator = read_uri(alloc, b"sip:op@home.example").ok();
-    let right = operator.is_some() && right;
-    (WebDirectory { accounts, operator }, right)
+/// Who is known in the tables.
+fn directory(told: &mut Told) -> WebDirectory {
+    let accounts = accounts(told);
+    let operator = uri(told, b"sip:op@home.example");
+    WebDirectory { accounts, operator }
 }
 
 /// A server of records over a keeper in memory.
@@ -50,10 +54,15 @@ struct Server {
     keeper: MemoryKeeper,
 }
 
-/// Asks what is to be done, and does nothing of it.
-#[derive(Drop)]
-struct Asking {
-    server: Server,
+/// A server whose keeper's calls of these numbers fail.
+fn make_server(told: &mut Told, failing: &[u64]) -> Server {
+    let directory = directory(told);
+    let failing = numbers(told, failing);
+    Server {
+        directory,
+        records: Records::new(told.alloc),
+        keeper: MemoryKeeper::new(failing),
+    }
 }
 
 fn digit_of(account: Account) -> &'static [u8] {
@@ -64,119 +73,103 @@ fn digit_of(account: Account) -> &'static [u8] {
     }
 }
 
-fn add_web(page: &mut Page, alloc: Global, web: &Web) {
+fn add_web(told: &mut Told, web: &Web) {
     match web {
-        Web::Read(text) => page.add_shown(alloc, text.bytes()),
+        Web::Read(text) => add_shown(told, text.bytes()),
         Web::Store {
             account,
             text,
             reply,
             ..
         } => {
-            page.add(alloc, b"keeps ");
-            page.add(alloc, digit_of(*account));
-            page.add(alloc, b" ");
-            page.add_shown(alloc, text.bytes());
-            page.add(alloc, b"|");
-            page.add_shown(alloc, reply.bytes());
+            told.add(b"keeps ");
+            told.add(digit_of(*account));
+            told.add(b" ");
+            add_shown(told, text.bytes());
+            told.add(b"|");
+            add_shown(told, reply.bytes());
         }
-        Web::Charges => page.add(alloc, b"charges"),
+        Web::Charges => told.add(b"charges"),
     }
 }
 
-fn add_asked(page: &mut Page, alloc: Global, server: &Server, bytes: &[u8]) {
-    match answer(alloc, &server.directory, server.records.texts(), bytes) {
-        Ok(web) => add_web(page, alloc, &web),
-        Err(_) => page.failed = true,
+fn add_asked(told: &mut Told, server: &Server, bytes: &[u8]) {
+    match answer(told.alloc, &server.directory, server.records.texts(), bytes) {
+        Ok(web) => add_web(told, &web),
+        Err(_) => told.fail(),
     }
 }
 
-impl Answers for Asking {
-    fn answer(&mut self, page: &mut Page, alloc: Global, asked: &[u8]) {
-        let mut meant = Page::new();
-        meant.add_meant(alloc, asked);
-        add_asked(page, alloc, &self.server, meant.text.bytes());
-        page.failed = page.failed || meant.failed;
+/// Asks what is to be done, and does nothing of it.
+#[derive(Drop)]
+struct Asking {
+    server: Server,
+}
+
+impl Rows for Asking {
+    fn tell(&mut self, told: &mut Told, asked: &[u8]) {
+        let bytes = meant(told, asked);
+        add_asked(told, &self.server, bytes.bytes());
+        told.add(b"\n");
     }
 }
 
-fn add_reply(page: &mut Page, alloc: Global, code: u16, body: &[u8])
-    requires { IsStatusCode code }
-{
-    match reply(alloc, code, body) {
-        Ok(text) => page.add_shown(alloc, text.bytes()),
-        Err(_) => page.failed = true,
-    }
-}
-
-fn add_waiting(page: &mut Page, alloc: Global, waiting: Option<u8>) {
+fn add_waiting(told: &mut Told, waiting: Option<u8>) {
     match waiting {
-        Some(2) => page.add(alloc, b" two calls"),
-        Some(_) => page.add(alloc, b" more"),
+        Some(2) => told.add(b" two calls"),
+        Some(_) => told.add(b" more"),
         None => {}
     }
 }
 
 impl Server {
-    /// Answers a request; then, where bob's record is not the empty one, how many calls he may have.
-    fn serve(&mut self, page: &mut Page, alloc: Global, bytes: &[u8]) {
+    fn serve(&mut self, told: &mut Told, bytes: &[u8]) {
         match serve(
-            alloc,
+            told.alloc,
             &self.directory,
             &mut self.records,
             &mut self.keeper,
             bytes,
         ) {
-            Ok(served) => page.add_shown(alloc, served.reply.bytes()),
-            Err(_) => page.failed = true,
+            Ok(served) => add_shown(told, served.reply.bytes()),
+            Err(_) => told.fail(),
         }
+    }
+}
+
+/// Answers a request; then, where bob's record is not the empty one, how many calls he may have.
+impl Rows for Server {
+    fn tell(&mut self, told: &mut Told, asked: &[u8]) {
+        let bytes = meant(told, asked);
+        self.serve(told, bytes.bytes());
         if let Some(sheet) = self.records.sheet(Account(2)) {
-            add_waiting(page, alloc, sheet.waiting);
+            add_waiting(told, sheet.waiting);
         }
+        told.add(b"\n");
     }
 }
 
-impl Answers for Server {
-    fn answer(&mut self, page: &mut Page, alloc: Global, asked: &[u8]) {
-        let mut meant = Page::new();
-        meant.add_meant(alloc, asked);
-        self.serve(page, alloc, meant.text.bytes());
-        page.failed = page.failed || meant.failed;
+/// The number of the first line that is answered otherwise by a server that does nothing of what it is to do, and where alice has a record; 0 where none is.
+fn wrong_asked(alloc: Global, table: &[u8]) -> usize {
+    let mut told = Told::new(alloc);
+    let mut server = make_server(&mut told, &[1, 2]);
+    let record = told.copy(b"a = 1");
+    let done = server.records.put(alloc, Account(1), record);
+    told.keep(done.is_ok());
+    if told.has_failed() {
+        return 1;
     }
+    wrong_line(alloc, &mut Asking { server }, table)
 }
 
-/// A server whose keeper's calls of two numbers fail; false beside it where it could not be made whole.
-fn make_server(alloc: Global, one: u64, other: u64) -> (Server, bool) {
-    let (directory, mut right) = directory(alloc);
-    let mut failing = List::new();
-    right = failing.push(alloc, one).is_ok() && right;
-    right = failing.push(alloc, other).is_ok() && right;
-    let server = Server {
-        directory,
-        records: Records::new(alloc),
-        keeper: MemoryKeeper::new(failing),
-    };
-    (server, right)
-}
-
-/// What a table comes to before a server that does nothing of what it is to do, and where alice has a record.
-fn asked(alloc: Global, table: &[u8]) -> Page {
-    let (mut server, right) = make_server(alloc, 1, 2);
-    let held = match Text::of(alloc, b"a = 1") {
-        Ok(text) => server.records.put(alloc, Account(1), text).is_ok(),
-        Err(_) => false,
-    };
-    let mut page = answered(alloc, table, &mut Asking { server });
-    page.failed = page.failed || !right || !held;
-    page
-}
-
-/// What a table comes to before a server whose keeper's third and sixth call fail.
-fn served(alloc: Global, table: &[u8]) -> Page {
-    let (mut server, right) = make_server(alloc, 3, 6);
-    let mut page = answered(alloc, table, &mut server);
-    page.failed = page.failed || !right;
-    page
+/// The same of a server whose keeper's third and sixth call fail.
+fn wrong_served(alloc: Global, table: &[u8]) -> usize {
+    let mut told = Told::new(alloc);
+    let mut server = make_server(&mut told, &[3, 6]);
+    if told.has_failed() {
+        return 1;
+    }
+    wrong_line(alloc, &mut server, table)
 }
 
 /// Paths, methods, accounts, identities, records, uploads, and what is no request; the first that applies is the answer.
@@ -384,14 +377,6 @@ HTTP/1.1 404 Not Found%~Content-Length: 0%~Connection: close%~%~
 HTTP/1.1 404 Not Found%~Content-Length: 0%~Connection: close%~%~
 ";
 
-#[test]
-fn requests_and_replies(rt: HostRuntime) -> Result<(), Fail> {
-    let page = asked(rt.alloc(), REQUESTS);
-    assert!(rt; !page.failed, "memory");
-    assert_eq!(rt; page.text.bytes(), REQUESTS);
-    Ok(())
-}
-
 /// Uploads of one account one after another, and behind each answer how many calls bob's record in force lets him have: it is the last that was kept, and a failed call of the keeper leaves it.
 const UPLOADS: &[u8] =
     b"> PUT /simservs/2 HTTP/1.1%~X-3GPP-Asserted-Identity: \"sip:bob@home.example\"%~Content-Type: application/toml%~Content-Length: 38%~%~[communication-waiting]~active = true~
@@ -422,73 +407,71 @@ HTTP/1.1 200 OK%~Content-Type: text/csv%~Content-Length: 58%~Connection: close%~
 HTTP/1.1 503 Service Unavailable%~Content-Length: 0%~Connection: close%~%~
 ";
 
-#[test]
-fn uploads_in_force(rt: HostRuntime) -> Result<(), Fail> {
-    let page = served(rt.alloc(), UPLOADS);
-    assert!(rt; !page.failed, "memory");
-    assert_eq!(rt; page.text.bytes(), UPLOADS);
-    Ok(())
-}
-
 /// The replies that tell what became of a keeper's call.
 const REPLIES: &[u8] = b"HTTP/1.1 503 Service Unavailable%~Content-Length: 0%~Connection: close%~%~
 HTTP/1.1 507 Insufficient Storage%~Content-Length: 0%~Connection: close%~%~
 HTTP/1.1 200 OK%~Content-Type: text/csv%~Content-Length: 4%~Connection: close%~%~a,b~
 ";
 
-#[test]
-fn replies_of_the_keeper(rt: HostRuntime) -> Result<(), Fail> {
-    let alloc = rt.alloc();
-    let mut page = Page::new();
-    add_reply(&mut page, alloc, 503, b"");
-    page.add(alloc, b"\n");
-    add_reply(&mut page, alloc, 507, b"");
-    page.add(alloc, b"\n");
-    add_reply(&mut page, alloc, 200, b"a,b\n");
-    page.add(alloc, b"\n");
-    assert!(rt; !page.failed, "memory");
-    assert_eq!(rt; page.text.bytes(), REPLIES);
-    Ok(())
+fn add_reply(told: &mut Told, code: u16, body: &[u8])
+    requires { IsStatusCode code }
+{
+    match reply(told.alloc, code, body) {
+        Ok(text) => add_shown(told, text.bytes()),
+        Err(_) => told.fail(),
+    }
+    told.add(b"\n");
+}
+
+fn wrong_reply(alloc: Global) -> usize {
+    let mut told = Told::new(alloc);
+    add_reply(&mut told, 503, b"");
+    add_reply(&mut told, 507, b"");
+    add_reply(&mut told, 200, b"a,b\n");
+    told.wrong_line(REPLIES)
 }
 
 /// An upload that is kept.
 const UPLOAD: &[u8] =
     b"PUT /simservs/2 HTTP/1.1%~X-3GPP-Asserted-Identity: \"sip:bob@home.example\"%~Content-Type: application/toml%~Content-Length: 38%~%~[communication-waiting]~active = true~";
 
-/// Adds `!` where these bytes could be a whole request, or get another reply than 400.
-fn add_early(page: &mut Page, alloc: Global, server: &Server, bytes: &[u8]) {
+/// Whether these bytes could be a whole request.
+fn could_be_whole(bytes: &[u8]) -> bool {
     match whole(bytes) {
-        Whole::More | Whole::Bad => {}
-        _ => page.add(alloc, b"!"),
-    }
-    match answer(alloc, &server.directory, server.records.texts(), bytes) {
-        Ok(Web::Read(text)) => {
-            if !text.bytes().starts_with(b"HTTP/1.1 400 ".as_slice()) {
-                page.add(alloc, b"!");
-            }
-        }
-        Ok(_) => page.add(alloc, b"!"),
-        Err(_) => page.failed = true,
+        Whole::More | Whole::Bad => false,
+        _ => true,
     }
 }
 
-/// A connection that ends within an upload: what each number of its first bytes is.
-fn cut_short(alloc: Global) -> Page {
-    let (server, right) = make_server(alloc, 1, 2);
-    let mut page = Page::new();
-    let mut meant = Page::new();
-    meant.add_meant(alloc, UPLOAD);
-    for len in 0..meant.text.bytes().len() {
-        add_early(&mut page, alloc, &server, &meant.text.bytes()[..len]);
+/// Adds `!` where these bytes could be a whole request, or get another reply than 400.
+fn add_early(told: &mut Told, server: &Server, bytes: &[u8]) {
+    told.add_if(could_be_whole(bytes), b"!", b"");
+    match answer(told.alloc, &server.directory, server.records.texts(), bytes) {
+        Ok(Web::Read(text)) => {
+            let refused = text.bytes().starts_with(b"HTTP/1.1 400 ".as_slice());
+            told.add_if(refused, b"", b"!");
+        }
+        Ok(_) => told.add(b"!"),
+        Err(_) => told.fail(),
     }
-    page.failed = page.failed || meant.failed || !right;
-    page
+}
+
+/// A connection that ends within an upload: none of its first bytes is a request.
+fn wrong_early(alloc: Global) -> usize {
+    let mut told = Told::new(alloc);
+    let server = make_server(&mut told, &[1, 2]);
+    let upload = meant(&mut told, UPLOAD);
+    let bytes = upload.bytes();
+    for len in 0..bytes.len() {
+        add_early(&mut told, &server, &bytes[..len]);
+    }
+    told.wrong_line(b"")
 }
 
 #[test]
-fn no_part_of_an_upload_is_one(rt: HostRuntime) -> Result<(), Fail> {
-    let page = cut_short(rt.alloc());
-    assert!(rt; !page.failed, "memory");
-    assert_eq!(rt; page.text.bytes(), b"".as_slice());
-    Ok(())
+fn requests_and_replies(rt: HostRuntime) {
+    assert_eq!(rt; wrong_asked(rt.alloc(), REQUESTS), 0);
+    assert_eq!(rt; wrong_served(rt.alloc(), UPLOADS), 0);
+    assert_eq!(rt; wrong_reply(rt.alloc()), 0);
+    assert_eq!(rt; wrong_early(rt.alloc()), 0);
 }

@@ -1,14 +1,13 @@
 //! The link over the network, on loopback.
 
-use crate::pages::Page;
+use crate::pages::add_shown;
 use mmtel_link::{Arrival, Link};
 use mmtel_net::NetLink;
+use mmtel_told::Told;
 use mmtel_types::Addr;
-use std::alloc::Global;
 use std::io;
 use std::io::{Read, Write};
 use std::net::{TcpStream, UdpSocket};
-use std::test::Fail;
 
 /// An address on loopback.
 fn loopback(port: u16) -> Addr {
@@ -19,115 +18,128 @@ fn loopback(port: u16) -> Addr {
 }
 
 /// Adds what is read of the connection that came, and replies.
-fn add_web(page: &mut Page, alloc: Global, link: &mut NetLink<'_>) {
-    page.add(alloc, b"web ");
+fn add_web(told: &mut Told, link: &mut NetLink<'_>) {
+    told.add(b"web ");
     let mut buf = [0; 16];
     for _ in 0..20 {
         match link.web_read(&mut buf) {
             Ok(0) => break,
-            Ok(count) => page.add_shown(alloc, &buf[..count]),
+            Ok(count) => add_shown(told, &buf[..count]),
             Err(_) => {
-                page.add(alloc, b"failed");
+                told.add(b"failed");
                 break;
             }
         }
     }
-    if link.web_reply(alloc, b"reply").is_err() {
-        page.failed = true;
+    if link.web_reply(told.alloc, b"reply").is_err() {
+        told.fail();
     }
-    page.add(alloc, b"\n");
+    told.add(b"\n");
 }
 
 /// Adds what comes next, where something comes within some two seconds.
-fn add_next(page: &mut Page, alloc: Global, link: &mut NetLink<'_>) {
+fn add_next(told: &mut Told, link: &mut NetLink<'_>) {
     for _ in 0..40 {
-        match link.next(alloc) {
+        match link.next(told.alloc) {
             Ok(Arrival::Datagram { bytes, .. }) => {
-                page.add(alloc, b"datagram ");
-                page.add_shown(alloc, bytes.bytes());
-                page.add(alloc, b"\n");
+                told.add(b"datagram ");
+                add_shown(told, bytes.bytes());
+                told.add(b"\n");
                 return;
             }
             Ok(Arrival::Web { .. }) => {
-                add_web(page, alloc, link);
+                add_web(told, link);
                 return;
             }
             Ok(Arrival::Quiet { .. }) => {}
             _ => {
-                page.failed = true;
+                told.fail();
                 return;
             }
         }
     }
-    page.add(alloc, b"nothing\n");
+    told.add(b"nothing\n");
 }
 
-/// Adds what the other side of a connection is replied.
-fn add_reply(page: &mut Page, alloc: Global, stream: &TcpStream) {
+/// Adds what is read of a connection.
+fn add_read(told: &mut Told, stream: &TcpStream) {
     let mut by = stream;
     let mut buf = [0; 16];
     match by.read(&mut buf) {
-        Ok(count) => page.add_shown(alloc, &buf[..count]),
-        Err(_) => page.failed = true,
+        Ok(count) => add_shown(told, &buf[..count]),
+        Err(_) => told.fail(),
     }
-    page.add(alloc, b"\n");
+    told.add(b"\n");
 }
+
+/// Adds what the other side of a connection is replied.
+fn add_reply(told: &mut Told, stream: &io::Result<TcpStream>) {
+    match stream {
+        Ok(stream) => add_read(told, stream),
+        Err(_) => told.fail(),
+    }
+}
+
+/// Sends a datagram.
+fn send(rt: &HostRuntime, bytes: &[u8], to: &str) -> io::Result<usize> {
+    let socket = UdpSocket::bind(rt, "127.0.0.1:0")?;
+    socket.send_to(bytes, to)
+}
+
+/// A connection to which these bytes were written.
+fn connect(rt: &HostRuntime, bytes: &[u8], to: &str) -> io::Result<TcpStream> {
+    let mut stream = TcpStream::connect(rt, to)?;
+    stream.write_all(bytes)?;
+    Ok(stream)
+}
+
+/// What comes of the first and of the second sockets.
+const SENT: &[u8] = b"datagram OPTIONS sip:a@b SIP/2.0%~
+web GET /charges HTTP/1.1%~%~
+reply
+web GET /fast HTTP/1.1%~%~
+datagram datagram
+web GET /slow HT
+reply
+";
 
 /// A datagram and a request that were sent, and the reply.
-fn one_of_each(rt: &HostRuntime, alloc: Global, page: &mut Page) -> io::Result<()> {
+fn one_of_each(rt: &HostRuntime, told: &mut Told) {
     let mut link = NetLink::new(rt);
-    if link.bind(loopback(45_071), loopback(45_072)).is_err() {
-        page.failed = true;
-    }
-    let socket = UdpSocket::bind(rt, "127.0.0.1:0")?;
-    socket.send_to(b"OPTIONS sip:a@b SIP/2.0\r\n", "127.0.0.1:45071")?;
-    add_next(page, alloc, &mut link);
-    let mut stream = TcpStream::connect(rt, "127.0.0.1:45072")?;
-    stream.write_all(b"GET /charges HTTP/1.1\r\n\r\n")?;
-    add_next(page, alloc, &mut link);
-    add_reply(page, alloc, &stream);
-    Ok(())
-}
-
-#[test]
-fn a_datagram_and_a_request(rt: HostRuntime) -> Result<(), Fail> {
-    let mut page = Page::new();
-    let sent = one_of_each(&rt, rt.alloc(), &mut page);
-    assert!(rt; sent.is_ok() && !page.failed, "the test's own sockets");
-    assert_eq!(rt;
-        page.text.bytes(),
-        b"datagram OPTIONS sip:a@b SIP/2.0%~\nweb GET /charges HTTP/1.1%~%~\nreply\n".as_slice()
-    );
-    Ok(())
+    let bound = link.bind(loopback(45_071), loopback(45_072));
+    told.keep(bound.is_ok());
+    let sent = send(rt, b"OPTIONS sip:a@b SIP/2.0\r\n", "127.0.0.1:45071");
+    told.keep(sent.is_ok());
+    add_next(told, &mut link);
+    let stream = connect(rt, b"GET /charges HTTP/1.1\r\n\r\n", "127.0.0.1:45072");
+    add_next(told, &mut link);
+    add_reply(told, &stream);
 }
 
 /// A client that sends a part of a request and no more, beside one that sends a whole one, and a datagram.
-fn slow_and_fast(rt: &HostRuntime, alloc: Global, page: &mut Page) -> io::Result<()> {
+fn slow_and_fast(rt: &HostRuntime, told: &mut Told) {
     let mut link = NetLink::new(rt);
-    if link.bind(loopback(45_073), loopback(45_074)).is_err() {
-        page.failed = true;
-    }
-    let mut slow = TcpStream::connect(rt, "127.0.0.1:45074")?;
-    slow.write_all(b"GET /slow HT")?;
-    let mut fast = TcpStream::connect(rt, "127.0.0.1:45074")?;
-    fast.write_all(b"GET /fast HTTP/1.1\r\n\r\n")?;
-    add_next(page, alloc, &mut link);
-    let socket = UdpSocket::bind(rt, "127.0.0.1:0")?;
-    socket.send_to(b"datagram", "127.0.0.1:45073")?;
-    add_next(page, alloc, &mut link);
-    add_next(page, alloc, &mut link);
-    add_reply(page, alloc, &slow);
-    Ok(())
+    let bound = link.bind(loopback(45_073), loopback(45_074));
+    told.keep(bound.is_ok());
+    let slow = connect(rt, b"GET /slow HT", "127.0.0.1:45074");
+    let fast = connect(rt, b"GET /fast HTTP/1.1\r\n\r\n", "127.0.0.1:45074");
+    told.keep(fast.is_ok());
+    add_next(told, &mut link);
+    let sent = send(rt, b"datagram", "127.0.0.1:45073");
+    told.keep(sent.is_ok());
+    add_next(told, &mut link);
+    add_next(told, &mut link);
+    add_reply(told, &slow);
+}
+
+fn wrong_sent(rt: &HostRuntime) -> usize {
+    let mut told = Told::new(rt.alloc());
+    one_of_each(rt, &mut told);
+    slow_and_fast(rt, &mut told);
+    told.wrong_line(SENT)
 }
 
 #[test]
-fn a_slow_client_beside_a_fast_one(rt: HostRuntime) -> Result<(), Fail> {
-    let mut page = Page::new();
-    let sent = slow_and_fast(&rt, rt.alloc(), &mut page);
-    assert!(rt; sent.is_ok() && !page.failed, "the test's own sockets");
-    assert_eq!(rt;
-        page.text.bytes(),
-        b"web GET /fast HTTP/1.1%~%~\ndatagram datagram\nweb GET /slow HT\nreply\n".as_slice()
-    );
-    Ok(())
+fn over_the_network(rt: HostRuntime) {
+    assert_eq!(rt; wrong_sent(&rt), 0);
 }

@@ -1,0 +1,269 @@
+//! What is done with requests.
+
+use crate::pages::Page;
+use crate::requests::{add_request, add_request_to, add_request_with, directory, hearing};
+use mmtel_directory::Directory;
+use mmtel_intake::{Answer, Course, Holder, Standing, course};
+use mmtel_scan::part;
+use mmtel_types::{CallNo, RoomNo, Side};
+
+/// A row is a request: `m` where it is merged, `f` where as many calls live as may and `u` where its peer is not trusted; `t` where To has a tag of no dialog, `d` and `e` where it names that of the caller and of the callee of call 3, `s` that of seat 2 of room 5, `x` where it names no account, and `o` where it offers audio; its method and Request-URI, and further lines, each ended by `|`. Below it stands what is done with it.
+const TABLE: &str = r#"> -- INFO sip:bob@home.example
+405 Allow: INVITE, ACK, CANCEL, BYE, OPTIONS, REGISTER, REFER
+> -- INFO sips:bob@home.example
+405 Allow: INVITE, ACK, CANCEL, BYE, OPTIONS, REGISTER, REFER
+> -- OPTIONS sips:bob@home.example
+416
+> -- OPTIONS sips:bob@home.example|Max-Forwards: 0|
+416
+> -- OPTIONS sip:bob@home.example|Max-Forwards: 00|
+483
+> -t OPTIONS sip:bob@home.example|Max-Forwards: 0|
+483
+> -t OPTIONS sip:bob@home.example|Max-Forwards: 1|
+481
+> mt OPTIONS sip:bob@home.example
+481
+> m- OPTIONS sip:bob@home.example
+482
+> m- OPTIONS sip:bob@home.example|Require: 100rel|
+482
+> -- OPTIONS sip:bob@home.example|Require: 100rel, histinfo, timer|Require: HISTINFO|
+420 Unsupported: 100rel Unsupported: timer Unsupported: HISTINFO
+> -- BYE sip:bob@home.example|Require: 100rel|
+420 Unsupported: 100rel
+> -- OPTIONS sip:bob@home.example|Require: histinfo|
+200 Allow: INVITE, ACK, CANCEL, BYE, OPTIONS, REGISTER, REFER
+> -- BYE sip:bob@home.example
+481
+> -- REFER sip:bob@home.example|Refer-To: <sip:vm@far.example>|
+403
+> -- REGISTER sip:home.example
+register 7 3600
+> -- REGISTER sip:other.example|Expires: 0|
+register 7 0
+> -- REGISTER sip:home.example|Expires: 4294967295|
+register 7 4294967295
+> -- REGISTER sip:home.example|Expires: 4294967296|
+register 7 3600
+> -- REGISTER sip:home.example|Expires: -1|
+register 7 3600
+> -x REGISTER sip:home.example
+404
+> u- REGISTER sip:home.example
+403
+> ux REGISTER sip:home.example
+403
+> -t REGISTER sip:home.example
+481
+> u- REGISTER sip:home.example|Require: path|
+420 Unsupported: path
+> -d BYE sip:bob@home.example
+enter 3 caller
+> -e BYE sip:bob@home.example
+enter 3 callee
+> md BYE sip:bob@home.example
+enter 3 caller
+> -d BYE sip:bob@home.example|Require: 100rel|
+420 Unsupported: 100rel
+> -d INFO sip:bob@home.example
+405 Allow: INVITE, ACK, CANCEL, BYE, OPTIONS, REGISTER, REFER
+> -d BYE sips:bob@home.example
+416
+> -d BYE sip:bob@home.example|Max-Forwards: 0|
+483
+> -d INVITE sip:conf@home.example
+enter 3 caller
+> -t INVITE sip:bob@home.example
+481
+> f- INVITE sip:bob@home.example
+503
+> f- INVITE sip:conf@home.example
+488
+> fo INVITE sip:conf@home.example
+room
+> f- INVITE sip:bob@home.example|Require: 100rel|
+420 Unsupported: 100rel
+> fd INVITE sip:bob@home.example
+enter 3 caller
+> f- OPTIONS sip:bob@home.example
+200 Allow: INVITE, ACK, CANCEL, BYE, OPTIONS, REGISTER, REFER
+> -- INVITE sip:bob@home.example|Require: histinfo|
+open
+> -- INVITE sip:vm@far.example
+open
+> -- INVITE sip:vm@nowhere.example
+open
+> -- INVITE tel:+4930111
+open
+> -- INVITE sip:vm@far.example|Route: <sip:127.0.0.1:5060;lr>, <sip:p@home.example;lr>|
+open
+> -- INVITE sip:bob@home.example|Route: <sip:127.0.0.1;lr>|
+open
+> -- INVITE sip:bob@home.example|Route: <sip:127.0.0.1:5071;lr>, <sip:p@far.example;lr>|
+open
+> -- INVITE sip:bob@home.example|Route: <sip:p@nowhere.example;lr>|
+open
+> -- INVITE sip:bob@home.example|Route: <tel:+4930111>|
+open
+> -- INVITE sip:conf@home.example
+488
+> -o INVITE sip:conf@home.example
+room
+> -- INVITE sip:conf@far.example
+open
+> -- INVITE sip:room-1@127.0.0.1
+488
+> -o INVITE sip:room-1@127.0.0.1
+seat in 1
+> -o INVITE sip:room-0@127.0.0.1:5060
+seat in 0
+> -o INVITE sip:room-18446744073709551615@127.0.0.1
+seat in 18446744073709551615
+> -o INVITE sip:room-18446744073709551616@127.0.0.1
+seat in 0
+> fo INVITE sip:room-1@127.0.0.1:5060|Route: <sip:p@home.example;lr>|
+seat in 1
+> -s INVITE sip:bob@home.example
+room 5 seat 2
+> -s BYE sip:bob@home.example
+room 5 seat 2
+> -s REFER sip:bob@home.example|Require: 100rel|
+420 Unsupported: 100rel
+> -- INVITE sip:room-01@127.0.0.1:5060
+open
+> -- INVITE sip:room-@127.0.0.1
+open
+> -- INVITE sip:room-1a@127.0.0.1
+open
+> -- INVITE sip:Room-1@127.0.0.1
+open
+> -- INVITE sip:room-1@127.0.0.1:5071
+open
+> -- INVITE sip:127.0.0.1
+open
+> -- INVITE sip:bob@home.example|History-Info: <sip:carol@home.example>;index=1|
+open
+> -- OPTIONS sip:bob@home.example|History-Info: <sip:carol@home.example>;index=1|
+200 Allow: INVITE, ACK, CANCEL, BYE, OPTIONS, REGISTER, REFER
+"#;
+
+fn tell_answer(page: &mut Page, answer: &Answer) {
+    page.add_number(u64::from(answer.code));
+    for line in answer.named.items() {
+        page.add(b" ");
+        page.add(line.0.bytes());
+        page.add(b": ");
+        page.add(line.1.bytes());
+    }
+}
+
+fn tell_dialog(page: &mut Page, call: CallNo, side: Side) {
+    page.add(b"enter ");
+    page.add_number(u64::from(call.0));
+    match side {
+        Side::Caller => page.add(b" caller"),
+        Side::Callee => page.add(b" callee"),
+    }
+}
+
+fn tell_course(page: &mut Page, course: &Course) {
+    match course {
+        Course::Refuse(answer) => tell_answer(page, answer),
+        Course::Enter { call, side } => tell_dialog(page, *call, *side),
+        Course::EnterRoom { room, seat } => {
+            page.add(b"room ");
+            page.add_number(room.0);
+            page.add(b" seat ");
+            page.add_number(*seat);
+        }
+        Course::Open => page.add(b"open"),
+        Course::OpenRoom => page.add(b"room"),
+        Course::JoinRoom { room } => {
+            page.add(b"seat in ");
+            page.add_number(room.0);
+        }
+        Course::Register { account, seconds } => {
+            page.add(b"register ");
+            page.add_number(u64::from(account.0));
+            page.add(b" ");
+            page.add_number(*seconds);
+        }
+    }
+    page.add(b"\n");
+}
+
+/// What is known of the request of a row beside its message.
+fn standing(whence: u8, to: u8) -> Standing {
+    let named = match to {
+        b'd' => Some(Holder::InCall {
+            call: CallNo(3),
+            side: Side::Caller,
+        }),
+        b'e' => Some(Holder::InCall {
+            call: CallNo(3),
+            side: Side::Callee,
+        }),
+        b's' => Some(Holder::InRoom {
+            room: RoomNo(5),
+            seat: 2,
+        }),
+        _ => None,
+    };
+    Standing {
+        merged: whence == b'm',
+        full: whence == b'f',
+        named,
+    }
+}
+
+/// Tells what is done with the request of a row.
+fn tell_row(page: &mut Page, directory: &Directory, whence: u8, to: u8, row: &[u8]) {
+    let (start, further) = part(b'|', row).unwrap_or((row, b""));
+    let mut text = Page::new(page.alloc);
+    if to == b'x' {
+        add_request_to(&mut text, b"<sip:eve@home.example>", start, further);
+    } else if to == b'o' {
+        add_request_with(
+            &mut text,
+            b"\"Bob\" <sip:bob@home.example>",
+            start,
+            further,
+            b"v=0\r\nm=audio 5 RTP/AVP 0\r\n",
+        );
+    } else {
+        add_request(&mut text, to != b'-', start, further);
+    }
+    if let Some(request) = hearing(page, text.bytes(), whence != b'u') {
+        let course = course(page.alloc, directory, &standing(whence, to), &request);
+        if let Some(course) = page.noted(course) {
+            tell_course(page, &course);
+        }
+    }
+}
+
+fn tell_line(page: &mut Page, directory: &Directory, line: &[u8]) {
+    match line {
+        [b'>', b' ', whence, to, b' ', row @ ..] => {
+            page.add(line);
+            page.add(b"\n");
+            tell_row(page, directory, *whence, *to, row);
+        }
+        _ => {}
+    }
+}
+
+/// Each refusal and the order between them, each method, what enters a dialog, and which INVITEs open a call.
+#[test]
+fn decides(rt: HostRuntime) {
+    let mut page = Page::new(rt.alloc());
+    if let Some(directory) = directory(&mut page) {
+        let mut rest = TABLE.as_bytes();
+        for _ in 0..200 {
+            let (line, later) = part(b'\n', rest).unwrap_or((rest, b""));
+            tell_line(&mut page, &directory, line);
+            rest = later;
+        }
+    }
+    assert!(rt; page.wrong_line(TABLE.as_bytes()) == 0);
+}

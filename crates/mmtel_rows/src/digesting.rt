@@ -1,0 +1,201 @@
+//! What is read of events.
+
+use crate::pages::Page;
+use crate::requests::{add_request, address, directory};
+use mmtel_cli::Event;
+use mmtel_directory::Directory;
+use mmtel_intake::{Told, digest, moment};
+use mmtel_scan::part;
+use mmtel_types::{Addr, Moment, Peer};
+
+const WANTED: &str = r#"a message 5
+heard 1 at 5071 trusted
+a stranger's 6
+heard 2 at 5072
+of nobody 7
+nothing
+empty 8
+nothing
+no head 9
+nothing
+wrong branch 10
+refused 1 at 5071: SIP/2.0 400 Bad Request
+Via: SIP/2.0/UDP 127.0.0.1:5071;branch=abc
+From: <sip:alice@home.example>;tag=a
+To: "Bob" <sip:bob@home.example>
+Call-ID: c1
+CSeq: 7 INVITE
+Content-Length: 0
+
+an ACK 11
+nothing
+many lines 12
+refused 2 at 5072: SIP/2.0 513 Message Too Large
+Via: SIP/2.0/UDP 127.0.0.1:5071;branch=z9hG4bKa1
+From: <sip:alice@home.example>;tag=a
+To: "Bob" <sip:bob@home.example>
+Call-ID: c1
+CSeq: 7 OPTIONS
+Content-Length: 0
+
+many bytes 13
+refused 1 at 5071: SIP/2.0 513 Message Too Large
+Via: SIP/2.0/UDP 127.0.0.1:5071;branch=z9hG4bKa1
+From: <sip:alice@home.example>;tag=a
+To: "Bob" <sip:bob@home.example>
+Call-ID: c1
+CSeq: 7 OPTIONS
+Content-Length: 0
+
+web 14
+quiet 15
+"#;
+
+fn tell_place(page: &mut Page, word: &[u8], peer: Peer, source: Addr) {
+    page.add(word);
+    page.add_number(u64::from(peer.0));
+    page.add(b" at ");
+    page.add_number(u64::from(source.port));
+}
+
+fn tell_told(page: &mut Page, told: &Told) {
+    match told {
+        Told::Nothing => page.add(b"nothing\n"),
+        Told::Refused {
+            peer,
+            source,
+            reply,
+        } => {
+            tell_place(page, b"refused ", *peer, *source);
+            page.add(b": ");
+            let text = reply.text(page.alloc);
+            if let Some(text) = page.noted(text) {
+                page.add_ended(b'\r', text.bytes(), b"");
+            }
+        }
+        Told::Heard(hearing) => {
+            tell_place(page, b"heard ", hearing.peer, hearing.source);
+            page.add(if hearing.trusted {
+                b" trusted\n"
+            } else {
+                b"\n"
+            });
+        }
+    }
+}
+
+/// Tells the moment of an event, and what is read of a datagram.
+fn tell(page: &mut Page, directory: &Directory, word: &[u8], event: &Event) {
+    page.add(word);
+    page.add(b" ");
+    page.add_number(moment(event).ms());
+    page.add(b"\n");
+    if let Event::Datagram { from, bytes, .. } = event {
+        let told = digest(page.alloc, directory, *from, bytes.bytes());
+        if let Some(told) = page.noted(told) {
+            tell_told(page, &told);
+        }
+    }
+}
+
+/// Tells what is read of a datagram from this port.
+fn tell_datagram(
+    page: &mut Page,
+    directory: &Directory,
+    word: &[u8],
+    ms: u64,
+    port: u16,
+    bytes: &[u8],
+) {
+    let bytes = page.copy(bytes);
+    match Moment::new(ms) {
+        None => page.fail(),
+        Some(at) => {
+            let event = Event::Datagram {
+                from: address(port),
+                at,
+                bytes,
+            };
+            tell(page, directory, word, &event);
+        }
+    }
+}
+
+/// The bytes of a request, with this line so many times.
+fn request(page: &Page, start: &[u8], line: &[u8], times: usize) -> Page {
+    let mut lines = Page::new(page.alloc);
+    for _ in 0..times {
+        lines.add(line);
+    }
+    let mut text = Page::new(page.alloc);
+    add_request(&mut text, false, start, lines.bytes());
+    text
+}
+
+/// The same bytes with another branch, which is no branch of RFC 3261.
+fn misspelled(page: &Page, start: &[u8]) -> Page {
+    let mut text = Page::new(page.alloc);
+    text.add(start);
+    text.add(
+        b" SIP/2.0\r\nVia: SIP/2.0/UDP 127.0.0.1:5071;branch=abc\r\nFrom: <sip:alice@home.example>;tag=a\r\nTo: \"Bob\" <sip:bob@home.example>\r\nCall-ID: c1\r\nCSeq: 7 ",
+    );
+    let (method, _) = part(b' ', start).unwrap_or((start, b""));
+    text.add(method);
+    text.add(b"\r\nContent-Length: 0\r\n\r\n");
+    text
+}
+
+fn tell_messages(page: &mut Page, directory: &Directory) {
+    let invite = request(page, b"INVITE sip:bob@home.example", b"", 0);
+    tell_datagram(page, directory, b"a message", 5, 5071, invite.bytes());
+    tell_datagram(page, directory, b"a stranger's", 6, 5072, invite.bytes());
+    tell_datagram(page, directory, b"of nobody", 7, 5073, invite.bytes());
+    tell_datagram(page, directory, b"empty", 8, 5071, b"");
+    tell_datagram(
+        page,
+        directory,
+        b"no head",
+        9,
+        5071,
+        b"OPTIONS sip:x SIP/2.0\r\n",
+    );
+}
+
+fn tell_refused(page: &mut Page, directory: &Directory) {
+    let wrong = misspelled(page, b"INVITE sip:bob@home.example");
+    tell_datagram(page, directory, b"wrong branch", 10, 5071, wrong.bytes());
+    let wrong = misspelled(page, b"ACK sip:bob@home.example");
+    tell_datagram(page, directory, b"an ACK", 11, 5071, wrong.bytes());
+    let many = request(page, b"OPTIONS sip:bob@home.example", b"Subject: x|", 122);
+    tell_datagram(page, directory, b"many lines", 12, 5072, many.bytes());
+    let large = request(
+        page,
+        b"OPTIONS sip:bob@home.example",
+        b"0123456789abcdef",
+        1024,
+    );
+    tell_datagram(page, directory, b"many bytes", 13, 5071, large.bytes());
+}
+
+fn tell_others(page: &mut Page, directory: &Directory) {
+    match (Moment::new(14), Moment::new(15)) {
+        (Some(at), Some(later)) => {
+            let bytes = page.copy(b"GET / HTTP/1.1\r\n\r\n");
+            tell(page, directory, b"web", &Event::Web { at, bytes });
+            tell(page, directory, b"quiet", &Event::Quiet { at: later });
+        }
+        _ => page.fail(),
+    }
+}
+
+/// A message of a trusted peer and of another one, a datagram of nobody, each fault of reading, and the moments of all events.
+#[test]
+fn reads(rt: HostRuntime) {
+    let mut page = Page::new(rt.alloc());
+    if let Some(directory) = directory(&mut page) {
+        tell_messages(&mut page, &directory);
+        tell_refused(&mut page, &directory);
+        tell_others(&mut page, &directory);
+    }
+    assert!(rt; page.wrong_line(WANTED.as_bytes()) == 0);
+}

@@ -1,0 +1,161 @@
+//! What is built of requests.
+
+use crate::pages::Page;
+use crate::requests::{SIP, address, hearing};
+use mmtel_answers::Hearing;
+use mmtel_intake::{Answer, completed_reply, dialog_name, is_untagged, plainly, response_to};
+use mmtel_message::{Msg, add_bytes, reply_with};
+use mmtel_scan::{List, NoMemory};
+
+/// An INVITE whose Via names another address than it came from.
+const OPENING: &str = r#"INVITE sip:bob@far.example SIP/2.0
+Via: SIP/2.0/UDP 10.0.0.9:5071;branch=z9hG4bKa1;rport
+Max-Forwards: 68
+From: "Erin" <sip:erin@other.example>;tag=a
+To: "Bob" <sip:bob@far.example>
+Call-ID: c1
+CSeq: 7 INVITE
+Contact: <sip:erin@127.0.0.1:5071>
+Route: <sip:p@far.example;lr>
+P-Asserted-Identity: <sip:erin@other.example>
+Privacy: user
+Subject: lunch
+History-Info: <sip:carol@home.example>;index=1
+Supported: histinfo, timer
+Content-Type: text/plain
+Content-Length: 2
+
+hi"#;
+
+/// One with a To tag.
+const OPEN: &str = r#"INVITE sip:bob@far.example SIP/2.0
+Via: SIP/2.0/UDP 127.0.0.1:5071;branch=z9hG4bKa1
+From: "Erin" <sip:erin@other.example>;tag=a
+To: "Bob" <sip:bob@far.example>;tag=b
+Call-ID: c1
+CSeq: 7 INVITE
+Contact: <sip:erin@127.0.0.1:5071>
+P-Asserted-Identity: <sip:erin@other.example>
+Content-Length: 0
+
+"#;
+
+const WANTED: &str = r#"untagged
+SIP/2.0 420 Bad Extension
+Via: SIP/2.0/UDP 10.0.0.9:5071;branch=z9hG4bKa1;rport=5071;received=127.0.0.1
+From: "Erin" <sip:erin@other.example>;tag=a
+To: "Bob" <sip:bob@far.example>;tag=t1
+Call-ID: c1
+CSeq: 7 INVITE
+Unsupported: 100rel
+Content-Length: 0
+
+SIP/2.0 420 Bad Extension
+Via: SIP/2.0/UDP 10.0.0.9:5071;branch=z9hG4bKa1;rport=5072;received=127.0.0.1
+From: "Erin" <sip:erin@other.example>;tag=a
+To: "Bob" <sip:bob@far.example>;tag=t1
+Call-ID: c1
+CSeq: 7 INVITE
+Content-Length: 0
+
+no dialog
+tagged
+SIP/2.0 503 Service Unavailable
+Via: SIP/2.0/UDP 127.0.0.1:5071;branch=z9hG4bKa1
+From: "Erin" <sip:erin@other.example>;tag=a
+To: "Bob" <sip:bob@far.example>;tag=b
+Call-ID: c1
+CSeq: 7 INVITE
+Content-Length: 0
+
+dialog c1 b a
+"#;
+
+/// Tells a message that was built.
+fn tell(page: &mut Page, built: Result<Msg, NoMemory>) {
+    if let Some(message) = page.noted(built) {
+        let text = message.text(page.alloc);
+        if let Some(text) = page.noted(text) {
+            page.add_ended(b'\r', text.bytes(), b"");
+        }
+    }
+}
+
+fn heard(page: &mut Page, lines: &[u8]) -> Option<Hearing> {
+    let mut text = Page::new(page.alloc);
+    text.add_ended(b'\n', lines, b"\r\n");
+    hearing(page, text.bytes(), true)
+}
+
+fn tell_tag(page: &mut Page, request: &Hearing) {
+    let untagged = is_untagged(page.alloc, &request.message);
+    match page.noted(untagged) {
+        None => {}
+        Some(true) => page.add(b"untagged\n"),
+        Some(false) => page.add(b"tagged\n"),
+    }
+}
+
+/// A 420 that names an option.
+fn refusal(page: &mut Page) -> Answer {
+    let mut named = List::new();
+    let added = add_bytes(page.alloc, &mut named, b"Unsupported", b"100rel");
+    page.noted(added);
+    Answer { code: 420, named }
+}
+
+/// The dialog that a request names.
+fn tell_dialog(page: &mut Page, request: &Hearing) {
+    let name = dialog_name(page.alloc, request);
+    match page.noted(name) {
+        None => {}
+        Some(None) => page.add(b"no dialog\n"),
+        Some(Some(name)) => {
+            page.add(b"dialog ");
+            page.add(name.call_id.bytes());
+            page.add(b" ");
+            page.add(name.local.bytes());
+            page.add(b" ");
+            page.add(name.remote.bytes());
+            page.add(b"\n");
+        }
+    }
+}
+
+/// The reply to unreadable bytes that is completed for a peer behind another port.
+fn tell_completed(page: &mut Page, request: &Hearing) {
+    let reply = reply_with(page.alloc, 420, b"Bad Extension", request.message.lines());
+    if let Some(reply) = page.noted(reply) {
+        let built = completed_reply(page.alloc, b"t1", address(5072), &reply);
+        tell(page, built);
+    }
+}
+
+fn tell_hidden(page: &mut Page, request: &Hearing) {
+    tell_tag(page, request);
+    let refusal = refusal(page);
+    let built = response_to(page.alloc, SIP, b"t1", request, &refusal);
+    tell(page, built);
+    tell_completed(page, request);
+    tell_dialog(page, request);
+}
+
+fn tell_open(page: &mut Page, request: &Hearing) {
+    tell_tag(page, request);
+    let built = response_to(page.alloc, SIP, b"t1", request, &plainly(503));
+    tell(page, built);
+    tell_dialog(page, request);
+}
+
+/// A refusal with its line and the server's tag, a reply that is completed, an answer within a dialog, and the dialogs that both requests name.
+#[test]
+fn builds(rt: HostRuntime) {
+    let mut page = Page::new(rt.alloc());
+    if let Some(request) = heard(&mut page, OPENING.as_bytes()) {
+        tell_hidden(&mut page, &request);
+    }
+    if let Some(request) = heard(&mut page, OPEN.as_bytes()) {
+        tell_open(&mut page, &request);
+    }
+    assert!(rt; page.wrong_line(WANTED.as_bytes()) == 0);
+}

@@ -1,0 +1,203 @@
+//! A server: its steps over a keeper in memory, and driving it over a link in memory, whose calls fail by their numbers.
+//!
+//! Of the settings of `runs` a script may begin with `=config:`, `=further:`, `=keeps:` and `=record:`, which says what was loaded. `=peer:` is one more peer of the script, whom the server does not know. With `=turns:` the server is driven so many turns each time, over a link of whose calls those fail that `=link:` says, and how it ended is told, with how many offers there are then; else it takes a step for each event. Then the listing, how many rows wait, and the records that the keeper holds are told, CR as `^`.
+
+ghost use Rattle.std.specs.Prelude.{◌≤◌, IfSome};
+
+use crate::pages::Page;
+use crate::runs::{behind_settings, config, first_setting, named, numbers, setting, value};
+use mmtel_cli::{
+    Directory, DriveFault, Event, Keeper, MemoryKeeper, Offer, ScriptLink, Server, drive, listing,
+    read_directory,
+};
+use mmtel_link::MemoryLink;
+use mmtel_scan::{List, Text, plain_number, skip_text};
+use mmtel_types::Account;
+
+/// What is heard.
+fn heard(page: &mut Page, script: &[u8]) -> Option<ScriptLink> {
+    let mut text = config(page, script);
+    text.add_short(value(script, b"peer:"));
+    let directory = read_directory(page.alloc, text.bytes());
+    let directory = page.noted(directory)?;
+    let mut lines = Page::new(page.alloc);
+    lines.add_script(behind_settings(script), true);
+    let link = ScriptLink::read(page.alloc, lines.bytes(), &directory.peers);
+    page.noted(link)
+}
+
+fn copy(page: &mut Page, event: &Event) -> Event {
+    match event {
+        Event::Datagram { from, at, bytes } => Event::Datagram {
+            from: *from,
+            at: *at,
+            bytes: page.copy(bytes.bytes()),
+        },
+        Event::Web { at, bytes } => Event::Web {
+            at: *at,
+            bytes: page.copy(bytes.bytes()),
+        },
+        Event::Quiet { at } => Event::Quiet { at: *at },
+    }
+}
+
+/// The same events, for another link.
+fn copies(page: &mut Page, events: &[Event]) -> List<Event> {
+    let mut list = List::new();
+    for event in events {
+        let copied = copy(page, event);
+        if list.push(page.alloc, copied).is_err() {
+            page.fail();
+        }
+    }
+    list
+}
+
+fn add_record(page: &mut Page, texts: &mut List<(Account, Text)>, record: &[u8]) {
+    let (digits, text) = named(page, record);
+    let account = match plain_number(99, digits) {
+        Some(number) => number as u32,
+        None => 0,
+    };
+    let record = (Account(account), page.copy(text.bytes()));
+    if texts.push(page.alloc, record).is_err() || text.has_failed() {
+        page.fail();
+    }
+}
+
+/// The records that were loaded.
+fn loaded(page: &mut Page, script: &[u8]) -> List<(Account, Text)> {
+    let mut texts = List::new();
+    let mut rest = script;
+    for _ in 0..9 {
+        match first_setting(rest) {
+            None => break,
+            Some((line, later)) => {
+                if let Some(record) = skip_text(b"record:", line) {
+                    add_record(page, &mut texts, record);
+                }
+                rest = later;
+            }
+        }
+    }
+    texts
+}
+
+fn directory(page: &mut Page, script: &[u8]) -> Option<Directory>
+    ensures { IfSome result (λ directory. directory.bound ≤ 16) }
+{
+    let text = config(page, script);
+    match read_directory(page.alloc, text.bytes()) {
+        Ok(directory) => Some(directory),
+        Err(_) => None,
+    }
+}
+
+fn server(page: &mut Page, script: &[u8]) -> Option<Server> {
+    let directory = directory(page, script)?;
+    let token = page.copy(b"0123456789abcdef");
+    let texts = loaded(page, script);
+    Server::new(page.alloc, directory, token, texts.items()).ok()
+}
+
+/// Drives for so many turns, and tells how that ended and how many offers there are then.
+fn drive_on(
+    page: &mut Page,
+    server: &mut Server,
+    link: &mut MemoryLink,
+    keeper: &mut MemoryKeeper,
+    turns: u64,
+    out: &mut List<Offer>,
+) {
+    match drive(page.alloc, server, link, keeper, turns, out) {
+        Ok(true) => page.add(b"closed "),
+        Ok(false) => page.add(b"open "),
+        Err(DriveFault::LinkFault) => page.add(b"fault "),
+        Err(DriveFault::NoMemory) => page.fail(),
+    }
+    page.add_number(out.items().len() as u64);
+    page.add(b"\n");
+}
+
+/// Drives the server each time.
+fn drive_all(
+    page: &mut Page,
+    script: &[u8],
+    events: &[Event],
+    server: &mut Server,
+    keeper: &mut MemoryKeeper,
+    out: &mut List<Offer>,
+) {
+    let events = copies(page, events);
+    let mut link = MemoryLink::new(events, numbers(page, script, b"link:"));
+    let turns = numbers(page, script, b"turns:");
+    for turn in turns.items() {
+        drive_on(page, server, &mut link, keeper, *turn, out);
+    }
+}
+
+/// Takes a step for each event.
+fn step_all(
+    page: &mut Page,
+    events: &[Event],
+    server: &mut Server,
+    keeper: &mut MemoryKeeper,
+    out: &mut List<Offer>,
+) {
+    for event in events {
+        if server.step(page.alloc, event, keeper, out).is_err() {
+            page.fail();
+        }
+    }
+}
+
+fn add_listing(page: &mut Page, out: &List<Offer>) {
+    match listing(page.alloc, out) {
+        Ok(text) => page.add(text.bytes()),
+        Err(_) => page.fail(),
+    }
+}
+
+/// Tells the record that the keeper holds of each account.
+fn add_kept(page: &mut Page, keeper: &mut MemoryKeeper) {
+    match keeper.load(page.alloc) {
+        Ok(records) => {
+            for (account, text) in records.items() {
+                page.add(b"kept ");
+                page.add_number(u64::from(account.0));
+                page.add(b"\n");
+                page.add_ended(b'\r', text.bytes(), b"^");
+            }
+        }
+        Err(_) => page.fail(),
+    }
+}
+
+/// Tells what a server does at these events.
+fn tell_server(page: &mut Page, script: &[u8], events: &[Event], server: Server) {
+    let mut server = server;
+    let mut keeper = MemoryKeeper::new(numbers(page, script, b"keeps:"));
+    let mut out = List::new();
+    if setting(script, b"turns:").is_some() {
+        drive_all(page, script, events, &mut server, &mut keeper, &mut out);
+    } else {
+        step_all(page, events, &mut server, &mut keeper, &mut out);
+    }
+    add_listing(page, &out);
+    page.add(b"rows ");
+    page.add_number(server.rows_waiting().len() as u64);
+    page.add(b"\n");
+    server.give_up();
+    add_kept(page, &mut keeper);
+}
+
+/// Tells what a server does that hears a script, behind the status 0.
+pub fn serve(page: &mut Page, script: &[u8]) {
+    page.add(b"0\n");
+    if let Some(heard) = heard(page, script) {
+        match server(page, script) {
+            None => page.fail(),
+            Some(server) => tell_server(page, script, heard.events(), server),
+        }
+    }
+}

@@ -1,4 +1,0 @@
-pub mod HeadRows
-pub mod PeerRows
-pub mod BelongRows
-pub mod WaitRows

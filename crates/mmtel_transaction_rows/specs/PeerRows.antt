@@ -1,0 +1,40 @@
+-- Texts that are due to a trusted peer, and the peers of transactions.
+use Rattle.std.specs.Prelude.{◌≡◌, ◌==◌, Bool, false, List, [], ◌∷◌, Some, None}
+use Rattle.mmtel_types.specs.declared.numbers.Peer.{Peer}
+use Rattle.mmtel_message.specs.Texts.{message_text}
+use Rattle.mmtel_transaction.specs.Alike.{Alike, blank_due}
+use Rattle.mmtel_transaction.specs.Answers.{hear_says, next_due, peer_of, says_due, upcoming_of}
+use Rattle.mmtel_transaction.specs.Calls.{Done, DidAsk, DidFire, DidHear, live}
+use Rattle.mmtel_transaction.specs.declared.parts.Part.TheVariants as part
+use Rattle.mmtel_transaction.specs.declared.words.Due.TheVariants as due
+use Rattle.mmtel_transaction.specs.declared.words.Heard.TheVariants as heard
+use Rattle.mmtel_transaction_rows.specs.CallMessages.{Messages, asked_invite, heard_invite, peer, refused}
+
+abbrev pub trusts_two : Peer → Bool
+trusts_two p = p.0 == 2
+
+abbrev pub trusts_none : Peer → Bool
+trusts_none p = false
+
+-- two INVITEs of one head, each sent to peer 2: alike where peer 2 is trusted; where it is not, only if their texts are equal
+pub record TextsRow : Type 0 where
+  pub alike : (c d : Messages) → Alike trusts_two (asked_invite c) (asked_invite d)
+  pub deadline : (c : Messages) → upcoming_of (next_due 40000 (live (asked_invite c))) ≡ Some (500, 0)
+  pub says : (c : Messages) → says_due (next_due 500 (live (asked_invite c))) ≡ due.Again (peer 2) 500 (message_text c.invite)
+  pub without : (c : Messages) → blank_due trusts_two (says_due (next_due 500 (live (asked_invite c)))) ≡ due.Again (peer 2) 500 []
+  pub strangers : (c d : Messages) → Alike trusts_none (asked_invite c) (asked_invite d) → message_text c.invite ≡ message_text d.invite
+
+-- the INVITE of peer 1 is passed on to peer 2
+abbrev pub passed_on : Messages → List Done
+passed_on c = DidAsk (peer 2) c.invite 0 ∷ heard_invite c
+
+pub record PeersRow : Type 0 where
+  pub caller : (c : Messages) → peer_of 0 (live (passed_on c)) ≡ Some (peer 1)
+  pub callee : (c : Messages) → peer_of 1 (live (passed_on c)) ≡ Some (peer 2)
+  pub unopened : (c : Messages) → peer_of 2 (live (passed_on c)) ≡ None
+  -- with a final it is of the same peer, and peer 3 gets nothing for the same request
+  pub kept : (c : Messages) → peer_of 0 (live (refused c)) ≡ Some (peer 1)
+  pub again : (c : Messages) → hear_says (refused c) (peer 1) c.invite ≡ Some (heard.Repeat (Some (peer 1, message_text c.busy)))
+  pub stranger : (c : Messages) → hear_says (refused c) (peer 3) c.invite ≡ Some (heard.Repeat None)
+  -- once it ended it has none
+  pub ended : (c : Messages) → peer_of 0 (live (DidFire 0 ∷ DidHear (peer 1) c.ack 400 (part.Acked 0) ∷ refused c)) ≡ None

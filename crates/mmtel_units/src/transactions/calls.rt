@@ -1,0 +1,312 @@
+//! Sequences of calls, and what each gives: a table is one text, a call a line, with what it gives behind `>`.
+
+use crate::transactions::messages::message;
+use mmtel_message::Msg;
+use mmtel_scan::{NoMemory, Text, number_up_to};
+use mmtel_told::{Told, cut, next_line};
+use mmtel_transaction::{Due, HearFault, Heard, TKey, Transactions};
+use mmtel_types::{Moment, Peer};
+use std::alloc::Global;
+
+/// A number in digits; 0 where there are none.
+fn number(word: &[u8]) -> u64 {
+    number_up_to(u64::MAX, word).unwrap_or(0)
+}
+
+/// A peer, a moment and the word of a message.
+fn addressed(words: &[u8]) -> (Peer, Option<Moment>, &[u8]) {
+    let (peer, words) = cut(b' ', words);
+    let (now, words) = cut(b' ', words);
+    let (word, _) = cut(b' ', words);
+    (
+        Peer(u16::try_from(number(peer)).unwrap_or(0)),
+        Moment::new(number(now)),
+        word,
+    )
+}
+
+/// Writes the first line of a message's text.
+fn write_start(told: &mut Told, text: &Text) {
+    let (line, _) = cut(b'\r', text.bytes());
+    told.add(b" ");
+    told.add(line);
+}
+
+fn write_cancel(told: &mut Told, key: TKey, invite: Option<TKey>) {
+    told.add(b"cancel");
+    told.add_spaced_number(key.0);
+    if let Some(invite) = invite {
+        told.add_spaced_number(invite.0);
+    }
+}
+
+fn write_repeat(told: &mut Told, given: &Option<(Peer, Text)>) {
+    told.add(b"repeat");
+    if let Some((peer, text)) = given {
+        told.add_spaced_number(peer.0 as u64);
+        write_start(told, text);
+    }
+}
+
+fn write_key(told: &mut Told, word: &[u8], key: TKey) {
+    told.add(word);
+    told.add_spaced_number(key.0);
+}
+
+/// Writes what is said of a message.
+fn write_heard(told: &mut Told, said: &Heard) {
+    match said {
+        Heard::Fresh(key, _) => write_key(told, b"fresh", *key),
+        Heard::Answer(key, _) => write_key(told, b"answer", *key),
+        Heard::Repeat(given) => write_repeat(told, given),
+        Heard::Acked(key) => write_key(told, b"acked", *key),
+        Heard::Cancel(key, invite, _) => write_cancel(told, *key, *invite),
+        Heard::AckOf2xx(_) => told.add(b"ack of 2xx"),
+        Heard::Stray => told.add(b"stray"),
+    }
+}
+
+fn write_refused(told: &mut Told, fault: &HearFault) {
+    match fault {
+        HearFault::Full(_) => told.add(b"full"),
+        HearFault::NoMemory => told.fail(),
+    }
+}
+
+fn write_again(told: &mut Told, peer: Peer, at: u64, text: &Text) {
+    told.add(b"again");
+    told.add_spaced_number(peer.0 as u64);
+    told.add_spaced_number(at);
+    write_start(told, text);
+}
+
+/// Writes what a deadline brings.
+fn write_due(told: &mut Told, said: &Due) {
+    match said {
+        Due::Again(peer, at, text) => write_again(told, *peer, *at, text),
+        Due::Silent {
+            key,
+            branch,
+            method,
+            at,
+        } => {
+            write_key(told, b"silent", *key);
+            told.add_spaced_number(*at);
+            told.add(b" ");
+            told.add(branch.bytes());
+            told.add(b" ");
+            told.add(method.bytes());
+        }
+        Due::Over(key, at) => {
+            write_key(told, b"over", *key);
+            told.add_spaced_number(*at);
+        }
+        Due::Nothing => told.add(b"nothing"),
+    }
+}
+
+/// Writes that it is done, unless memory ran out.
+fn write_done(told: &mut Told, done: Result<(), NoMemory>) {
+    match done {
+        Ok(()) => told.add(b"done"),
+        Err(NoMemory) => told.fail(),
+    }
+}
+
+/// `hear PEER MOMENT MESSAGE`.
+fn hear(told: &mut Told, transactions: &mut Transactions, peer: Peer, m: Msg, now: Moment) {
+    match transactions.hear(told.alloc, peer, m, now) {
+        Ok(said) => write_heard(told, &said),
+        Err(fault) => write_refused(told, &fault),
+    }
+}
+
+/// `ask PEER MOMENT MESSAGE`.
+fn ask(told: &mut Told, transactions: &mut Transactions, peer: Peer, m: &Msg, now: Moment) {
+    match transactions.ask(told.alloc, peer, m, now) {
+        Ok(key) => write_key(told, b"asked", key),
+        Err(NoMemory) => told.fail(),
+    }
+}
+
+/// A call with a peer or a key, a moment and a message; `reply KEY MOMENT MESSAGE` and `ack KEY MOMENT MESSAGE` write whether they are done.
+fn with_message(told: &mut Told, transactions: &mut Transactions, name: &[u8], words: &[u8]) {
+    let (peer, now, word) = addressed(words);
+    let Some(now) = now else {
+        return;
+    };
+    let Some(m) = message(told, word) else {
+        return;
+    };
+    match name {
+        b"hear" => hear(told, transactions, peer, m, now),
+        b"ask" => ask(told, transactions, peer, &m, now),
+        b"reply" => {
+            let done = transactions.reply(told.alloc, TKey(peer.0 as u64), &m, now);
+            write_done(told, done);
+        }
+        _ => {
+            let done = transactions.ack(told.alloc, TKey(peer.0 as u64), &m);
+            write_done(told, done);
+        }
+    }
+}
+
+/// `due MOMENT`.
+fn due(told: &mut Told, transactions: &mut Transactions, now: Moment) {
+    match transactions.due(told.alloc, now) {
+        Ok(said) => write_due(told, &said),
+        Err(NoMemory) => told.fail(),
+    }
+}
+
+/// `upcoming MOMENT`.
+fn upcoming(told: &mut Told, transactions: &Transactions, now: Moment) {
+    match transactions.upcoming(now) {
+        None => told.add(b"nothing"),
+        Some((at, step)) => {
+            told.add(b"at");
+            told.add_spaced_number(at);
+            told.add_spaced_number(step);
+        }
+    }
+}
+
+/// `peer KEY`.
+fn peer(told: &mut Told, transactions: &Transactions, key: TKey) {
+    match transactions.peer(key) {
+        None => told.add(b"none"),
+        Some(peer) => {
+            told.add(b"of");
+            told.add_spaced_number(peer.0 as u64);
+        }
+    }
+}
+
+/// An OPTIONS request whose branch is this number: it differs from others early, so that comparing is quick.
+fn numbered(told: &mut Told, branch: u64) -> Option<Msg> {
+    let mut via = Told::new(told.alloc);
+    via.add(b"SIP/2.0/UDP 127.0.0.1:5071;branch=");
+    via.add_number(branch);
+    let via = told.copy(via.whole());
+    with_via(told, via)
+}
+
+/// An OPTIONS request with this Via.
+fn with_via(told: &mut Told, via: Text) -> Option<Msg> {
+    let mut m = message(told, b"OPTIONS/a")?;
+    let done = m.set(told.alloc, b"Via", via);
+    told.keep(done.is_ok());
+    Some(m)
+}
+
+/// `numbered NUMBER`: the request whose branch is this number is heard.
+fn hear_numbered(told: &mut Told, transactions: &mut Transactions, branch: u64) {
+    let Some(now) = Moment::new(0) else {
+        return;
+    };
+    let Some(m) = numbered(told, branch) else {
+        return;
+    };
+    hear(told, transactions, Peer(1), m, now);
+}
+
+/// Whether a fresh request opened the transaction of this key.
+fn is_fresh(said: &Heard, wanted: u64) -> bool {
+    match said {
+        Heard::Fresh(key, _) => key.0 == wanted,
+        _ => false,
+    }
+}
+
+/// Whether the request whose branch is this number opens the transaction of this key.
+fn opens(told: &mut Told, transactions: &mut Transactions, branch: u64, now: Moment) -> bool {
+    let Some(m) = numbered(told, branch) else {
+        return false;
+    };
+    match transactions.hear(told.alloc, Peer(1), m, now) {
+        Ok(said) => is_fresh(&said, branch),
+        Err(_) => false,
+    }
+}
+
+/// `many NUMBER`: requests are heard whose branches are the numbers from 0 on; how many of them open the transaction whose key is their branch.
+fn many(told: &mut Told, transactions: &mut Transactions, most: u64) {
+    let Some(now) = Moment::new(0) else {
+        return;
+    };
+    let mut count: u64 = 0;
+    for branch in 0..most {
+        if opens(told, transactions, branch, now) {
+            count = count.saturating_add(1);
+        }
+    }
+    told.add(b"opened");
+    told.add_spaced_number(count);
+}
+
+/// A call with a moment alone.
+fn at_moment(told: &mut Told, transactions: &mut Transactions, is_taken: bool, word: u64) {
+    let Some(now) = Moment::new(word) else {
+        return;
+    };
+    if is_taken {
+        due(told, transactions, now);
+    } else {
+        upcoming(told, transactions, now);
+    }
+}
+
+/// `begin STEP`.
+fn begin(told: &mut Told, transactions: &mut Transactions, step: u64) {
+    transactions.begin(step);
+    told.add(b"done");
+}
+
+/// `merged KEY`.
+fn merged(told: &mut Told, transactions: &Transactions, key: TKey) {
+    if transactions.merged(key) {
+        told.add(b"yes");
+    } else {
+        told.add(b"no");
+    }
+}
+
+/// Writes what a call gives.
+fn play(told: &mut Told, transactions: &mut Transactions, call: &[u8]) {
+    let (name, words) = cut(b' ', call);
+    match name {
+        b"begin" => begin(told, transactions, number(words)),
+        b"due" => at_moment(told, transactions, true, number(words)),
+        b"upcoming" => at_moment(told, transactions, false, number(words)),
+        b"peer" => peer(told, transactions, TKey(number(words))),
+        b"merged" => merged(told, transactions, TKey(number(words))),
+        b"many" => many(told, transactions, number(words)),
+        b"numbered" => hear_numbered(told, transactions, number(words)),
+        _ => with_message(told, transactions, name, words),
+    }
+}
+
+/// Plays the call of a line, and writes the line with what it gave in truth.
+fn play_line(told: &mut Told, transactions: &mut Transactions, line: &[u8]) {
+    let (call, _) = cut(b'>', line);
+    told.add(call);
+    told.add(b"> ");
+    play(told, transactions, call);
+    told.add(b"\n");
+}
+
+/// The number of the first of these calls, from 1, that gives something else than stands behind it; 0 where none does.
+pub fn wrong_call(alloc: Global, table: &[u8]) -> usize {
+    let mut told = Told::new(alloc);
+    let mut transactions = Transactions::new();
+    let mut rest = table;
+    for _ in 0..200 {
+        if !rest.is_empty() {
+            let (line, after) = next_line(rest);
+            rest = after;
+            play_line(&mut told, &mut transactions, line);
+        }
+    }
+    told.wrong_line(table)
+}

@@ -1,0 +1,44 @@
+//! As many live server transactions as may be, and tokens.
+
+use crate::transactions::calls::wrong_call;
+use mmtel_told::Told;
+use mmtel_transaction::Tokens;
+use std::alloc::Global;
+
+/// 16,384 server transactions are live at most: the 16,385th fresh request is handed back, once and again, while repeats are heard and requests are sent; where one ended there is room for one.
+const FULL: &[u8] = b"many 16384> opened 16384
+hear 1 0 OPTIONS/16384> full
+hear 1 0 OPTIONS/16384> full
+ask 1 0 OPTIONS/16384> asked 16384
+hear 1 0 200/OPTIONS/16384> answer 16384
+reply 5 0 200/OPTIONS/a> done
+numbered 5> repeat 1 SIP/2.0 200 Status
+hear 1 0 OPTIONS/16384> full
+due 31999> nothing
+due 32000> over 5 32000
+hear 1 32000 OPTIONS/16384> fresh 16385
+hear 1 32000 OPTIONS/16385> full
+";
+
+/// Writes the next token.
+fn draw(told: &mut Told, tokens: &mut Tokens) {
+    let token = tokens.draw(told.alloc);
+    told.add_made(token);
+}
+
+/// Tokens are numbered from 1.
+fn wrong_token(alloc: Global) -> usize {
+    let mut told = Told::new(alloc);
+    let token = told.copy(b"0123456789abcdef");
+    let mut tokens = Tokens::new(token);
+    draw(&mut told, &mut tokens);
+    draw(&mut told, &mut tokens);
+    draw(&mut told, &mut tokens);
+    told.wrong_line(b"0123456789abcdef-1\n0123456789abcdef-2\n0123456789abcdef-3\n")
+}
+
+#[test]
+fn limit_and_tokens(rt: HostRuntime) {
+    assert_eq!(rt; wrong_call(rt.alloc(), FULL), 0);
+    assert_eq!(rt; wrong_token(rt.alloc()), 0);
+}

@@ -1,0 +1,67 @@
+//! Messages that are written as one word.
+
+use mmtel_message::{Msg, read};
+use mmtel_told::{Told, cut};
+
+/// Writes a value behind what stands before it, and what is usual where none is given.
+fn write(told: &mut Told, front: &[u8], given: &[u8], usual: &[u8]) {
+    told.add(front);
+    told.add(if given.is_empty() { usual } else { given });
+}
+
+/// Writes the start line of a request, or of a response with this status.
+fn write_start(told: &mut Told, status: &[u8], method: &[u8]) {
+    if status.is_empty() {
+        write(told, method, b" sip:bob@home.example SIP/2.0\r\n", b"");
+    } else {
+        write(told, b"SIP/2.0 ", status, b"");
+        told.add(b" Status\r\n");
+    }
+}
+
+/// Writes the lines that the words say which follow the method: branch, sent-by, From tag, To tag, Call-ID and number of CSeq.
+fn write_lines(told: &mut Told, method: &[u8], words: &[u8]) {
+    let (branch, words) = cut(b'/', words);
+    let (sent_by, words) = cut(b'/', words);
+    let (from_tag, words) = cut(b'/', words);
+    let (to_tag, words) = cut(b'/', words);
+    let (call_id, words) = cut(b'/', words);
+    let (number, _) = cut(b'/', words);
+    write(told, b"Via: SIP/2.0/UDP ", sent_by, b"127.0.0.1:5071");
+    write(told, b";branch=z9hG4bK", branch, b"");
+    write(
+        told,
+        b"\r\nFrom: <sip:alice@home.example>;tag=",
+        from_tag,
+        b"f",
+    );
+    write(told, b"\r\nTo: <sip:bob@home.example>;tag=", to_tag, b"t");
+    write(told, b"\r\nCall-ID: ", call_id, b"c");
+    write(told, b"\r\nCSeq: ", number, b"1");
+    write(told, b" ", method, b"");
+    told.add(
+        b"\r\nMax-Forwards: 70\r\nContact: <sip:alice@127.0.0.1:5071>\r\nContent-Length: 0\r\n\r\n",
+    );
+}
+
+/// Status, method and what follows of a word: no status of a request.
+fn parts_of(word: &[u8]) -> (&[u8], &[u8], &[u8]) {
+    let (first, rest) = cut(b'/', word);
+    match first {
+        [b'1'..=b'6', ..] => {
+            let (method, rest) = cut(b'/', rest);
+            (first, method, rest)
+        }
+        _ => (b"", first, rest),
+    }
+}
+
+/// The message of a word: of a request method and branch, parted by `/`, of a response its status before them; then may follow sent-by, From tag, To tag, Call-ID and number of CSeq. None where it cannot be read.
+pub fn message(told: &mut Told, word: &[u8]) -> Option<Msg> {
+    let (status, method, rest) = parts_of(word);
+    let mut text = Told::new(told.alloc);
+    write_start(&mut text, status, method);
+    write_lines(&mut text, method, rest);
+    let message = read(told.alloc, text.whole());
+    told.noted(message)
+}

@@ -1,0 +1,132 @@
+//! What is done with legs and rows, a line each behind `! `: `lend MOMENT CALL SIDE` takes a leg out and puts it back, `part MOMENT CALL SIDE` takes it out and ends the call without it, `lose MOMENT CALL SIDE` takes it out for good, `drop COUNT` hands rows over.
+//!
+//! Of a leg its peer and its dialog are told, the call that has that dialog while the leg is away, and who the sides are then.
+
+use crate::calling::{tell_live, tell_parties, tell_place};
+use crate::telling::{Wire, tell_emits};
+use crate::told::Told;
+use crate::worlds::{World, moment, number, word};
+use mmtel_b2bua::{Calls, NotTalking};
+use mmtel_charging::Meter;
+use mmtel_leg::{Ended, Released};
+use mmtel_types::{CallNo, Cause, Moment, Side};
+
+fn tell_leg(told: &mut Told, calls: &Calls, call: u64, leg: &Released) {
+    let dialogue = leg.dialogue();
+    let call_id = dialogue.call_id.bytes();
+    let local = dialogue.local_tag.bytes();
+    let remote = dialogue.remote_tag.bytes();
+    told.add(b"leg to ");
+    told.add_number(u64::from(dialogue.peer.0));
+    told.add(b": ");
+    told.add(call_id);
+    told.add(b" ");
+    told.add(local);
+    told.add(b" ");
+    told.add_line(remote);
+    tell_place(told, calls.find(call_id, local, remote));
+    tell_parties(told, calls, call);
+}
+
+/// A leg that is away has no meter.
+fn check_meter(told: &mut Told, meter: Option<Meter>, at: Moment) {
+    match meter {
+        None => {}
+        Some(meter) => {
+            told.fail();
+            drop(meter.close(at, 0, Cause::Ended));
+        }
+    }
+}
+
+fn leave(told: &mut Told, leg: Released, at: Moment) {
+    let Ended { meter } = leg.leave();
+    check_meter(told, meter, at);
+}
+
+/// Takes a leg out and puts it back.
+fn lend_and_restore(told: &mut Told, calls: &mut Calls, call: u64, side: Side) {
+    match calls.release(CallNo(call), side) {
+        Err(NotTalking) => told.add_line(b"not talking"),
+        Ok(leg) => {
+            tell_leg(told, calls, call, &leg);
+            calls.restore(CallNo(call), leg);
+        }
+    }
+}
+
+/// Takes a leg out and ends the call without it.
+fn part(
+    told: &mut Told,
+    world: &World,
+    wire: &mut Wire,
+    calls: &mut Calls,
+    call: u64,
+    side: Side,
+    at: Moment,
+) {
+    match calls.release(CallNo(call), side) {
+        Err(NotTalking) => told.add_line(b"not talking"),
+        Ok(leg) => {
+            tell_leg(told, calls, call, &leg);
+            leave(told, leg, at);
+            let finished = calls.finish(
+                told.alloc,
+                CallNo(call),
+                &world.peers,
+                &world.accounts,
+                &mut wire.desk.tokens,
+                at,
+            );
+            if let Some(emits) = told.noted(finished) {
+                tell_emits(told, wire, emits);
+            }
+        }
+    }
+}
+
+/// Takes a leg out for good.
+fn lose(told: &mut Told, calls: &mut Calls, call: u64, side: Side, at: Moment) {
+    match calls.release(CallNo(call), side) {
+        Err(NotTalking) => told.add_line(b"not talking"),
+        Ok(leg) => {
+            tell_leg(told, calls, call, &leg);
+            leave(told, leg, at);
+        }
+    }
+}
+
+fn drop_rows(told: &mut Told, calls: &mut Calls, count: u64) {
+    let waiting = calls.rows_waiting().len();
+    if count <= waiting as u64 {
+        calls.drop_rows(count as usize);
+    } else {
+        told.fail();
+    }
+}
+
+/// Does what the words say.
+pub fn lend(told: &mut Told, world: &World, wire: &mut Wire, calls: &mut Calls, words: &[u8]) {
+    let (kind, rest) = word(words);
+    let (first, rest) = word(rest);
+    if kind == b"drop".as_slice() {
+        let count = number(told, first);
+        return drop_rows(told, calls, count);
+    }
+    let (call, side) = word(rest);
+    let call = number(told, call);
+    let at = moment(told, first);
+    let side = if side == b"caller".as_slice() {
+        Side::Caller
+    } else {
+        Side::Callee
+    };
+    if kind == b"lend".as_slice() {
+        lend_and_restore(told, calls, call, side);
+    } else if kind == b"part".as_slice() {
+        part(told, world, wire, calls, call, side, at);
+    } else {
+        lose(told, calls, call, side, at);
+    }
+    tell_live(told, calls);
+}

@@ -1,0 +1,59 @@
+//! Tests of calls and rooms: each step of the step table of a call, several calls in a table, and each row of the room table, as sequences of what is heard, with all that goes out then; how rooms are opened, joined, told, left and closed. A table is one text, worked by hand.
+#![tactic(auto)]
+
+#[cfg(test)]
+mod adopting;
+#[cfg(test)]
+mod answered;
+#[cfg(test)]
+mod asking;
+#[cfg(test)]
+mod branches;
+#[cfg(test)]
+mod calling;
+#[cfg(test)]
+mod closing;
+#[cfg(test)]
+mod deeds;
+#[cfg(test)]
+mod diverting;
+#[cfg(test)]
+mod giving_up;
+#[cfg(test)]
+mod inviting;
+#[cfg(test)]
+mod leaving;
+#[cfg(test)]
+mod legs;
+#[cfg(test)]
+mod lending;
+#[cfg(test)]
+mod limits;
+#[cfg(test)]
+mod messages;
+#[cfg(test)]
+mod offered;
+#[cfg(test)]
+mod opening;
+#[cfg(test)]
+mod records;
+#[cfg(test)]
+mod room_limits;
+#[cfg(test)]
+mod room_messages;
+#[cfg(test)]
+mod seating;
+#[cfg(test)]
+mod seats;
+#[cfg(test)]
+mod stepping;
+#[cfg(test)]
+mod telling;
+#[cfg(test)]
+mod together;
+#[cfg(test)]
+mod told;
+#[cfg(test)]
+mod whole;
+#[cfg(test)]
+mod worlds;

@@ -1,0 +1,302 @@
+//! Messages as they are heard, of short words.
+
+use crate::told::Told;
+use crate::worlds::{source, word};
+use mmtel_answers::Hearing;
+use mmtel_message::{Msg, Start, read};
+use mmtel_scan::{Text, part, skip_text};
+use mmtel_types::Peer;
+
+/// A message without lines.
+fn nothing() -> Msg {
+    Msg::new(
+        Start::Status {
+            code: 100,
+            phrase: Text::new(),
+        },
+        Text::new(),
+    )
+}
+
+/// The first value of a line of this name; none of no bytes.
+pub fn value<'a>(message: &'a Msg, name: &[u8]) -> &'a [u8] {
+    message.first(name).unwrap_or(b"")
+}
+
+/// The message of this text, from a peer; the first is trusted.
+fn hearing(told: &mut Told, text: &Told, peer: u16) -> Hearing {
+    let message = read(told.alloc, text.bytes());
+    let message = told.noted(message).unwrap_or(nothing());
+    Hearing {
+        peer: Peer(peer),
+        source: source(peer),
+        trusted: peer == 1,
+        message,
+    }
+}
+
+fn add_line(text: &mut Told, name: &[u8], value: &[u8]) {
+    text.add(name);
+    text.add(b": ");
+    text.add(value);
+    text.add(b"\r\n");
+}
+
+/// Adds the further lines, which stand behind a `|` each: header lines, and behind `=` lines of the body.
+fn add_further(text: &mut Told, further: &[u8]) {
+    let mut rest = further;
+    let mut in_body = false;
+    for _ in 0..40 {
+        if rest.is_empty() {
+            break;
+        }
+        let (line, later) = part(b'|', rest).unwrap_or((rest, b""));
+        match skip_text(b"=", line) {
+            None => text.add(line),
+            Some(line) => {
+                if !in_body {
+                    text.add(b"\r\n");
+                }
+                in_body = true;
+                text.add(line);
+            }
+        }
+        text.add(b"\r\n");
+        rest = later;
+    }
+    if !in_body {
+        text.add(b"\r\n");
+    }
+}
+
+/// Where a user of a peer is reached.
+pub fn add_place(text: &mut Told, user: &[u8], peer: u16) {
+    text.add(b"sip:");
+    text.add(user);
+    text.add(b"@127.0.0.1:507");
+    text.add_number(u64::from(peer));
+}
+
+fn add_contact(text: &mut Told, user: &[u8], peer: u16) {
+    text.add(b"Contact: <");
+    add_place(text, user, peer);
+    text.add(b">\r\n");
+}
+
+/// The beginning of a request, up to Max-Forwards.
+fn add_start(text: &mut Told, peer: u16, key: u64, method: &[u8], target: &[u8]) {
+    text.add(method);
+    text.add(b" ");
+    text.add(target);
+    text.add(b" SIP/2.0\r\nVia: SIP/2.0/UDP 127.0.0.1:507");
+    text.add_number(u64::from(peer));
+    text.add(b";branch=z9hG4bKr");
+    text.add_number(key);
+    text.add(b"\r\nMax-Forwards: 68\r\n");
+}
+
+fn add_number(text: &mut Told, number: &[u8], method: &[u8]) {
+    text.add(b"CSeq: ");
+    text.add(number);
+    text.add(b" ");
+    text.add(method);
+    text.add(b"\r\n");
+}
+
+/// The offer of audio and video that this word means, as further lines; of another word none.
+pub fn offer(word: &[u8]) -> &[u8] {
+    if word == b"audio".as_slice() {
+        b"=v=0|=m=audio 4000 RTP/AVP 96|=a=rtpmap:96 X/8000|=m=video 4002 RTP/AVP 31"
+    } else {
+        b""
+    }
+}
+
+/// What stands in the table of an INVITE by which somebody comes.
+#[derive(Clone, Copy)]
+pub struct Coming<'a> {
+    pub peer: u16,
+    pub key: u64,
+    /// What stands before the URI of From.
+    pub name: &'a [u8],
+    /// The tag of From behind its `a`.
+    pub tag: &'a [u8],
+    /// The Call-ID behind its `c`.
+    pub call: &'a [u8],
+    pub who: &'a [u8],
+    pub whom: &'a [u8],
+    /// Who is asserted too.
+    pub asserts: bool,
+}
+
+/// The INVITE of somebody who comes.
+pub fn invite(told: &mut Told, coming: Coming<'_>, further: &[u8]) -> Hearing {
+    let mut text = Told::new(told.alloc);
+    add_start(&mut text, coming.peer, coming.key, b"INVITE", coming.whom);
+    text.add(b"From: ");
+    text.add(coming.name);
+    text.add(b"<sip:");
+    text.add(coming.who);
+    text.add(b">;tag=a");
+    text.add(coming.tag);
+    text.add(b"\r\nTo: <");
+    text.add(coming.whom);
+    text.add(b">\r\nCall-ID: c");
+    text.add(coming.call);
+    text.add(b"\r\nCSeq: 7 INVITE\r\n");
+    add_contact(&mut text, b"caller", coming.peer);
+    if coming.asserts {
+        text.add(b"P-Asserted-Identity: <sip:");
+        text.add(coming.who);
+        text.add(b">\r\n");
+    }
+    add_further(&mut text, further);
+    hearing(told, &text, coming.peer)
+}
+
+/// To of a response: that of the request with this tag in the place of its own, or as it is for `-`.
+fn add_to(text: &mut Told, asked: &Msg, tag: &[u8]) {
+    let to = value(asked, b"To");
+    text.add(b"To: ");
+    if tag == b"-".as_slice() {
+        text.add(to);
+    } else {
+        let (front, _) = part(b'>', to).unwrap_or((to, b""));
+        text.add(front);
+        text.add(b">;tag=");
+        text.add(tag);
+    }
+    text.add(b"\r\n");
+}
+
+/// A response to a request of the server, of a tag and a status: the tag stands in its To, or `-` for that of the request; a Contact goes with a tag, but not in finals from 300, nor where `=` stands before the tag.
+pub fn response(told: &mut Told, asked: &Msg, peer: u16, words: &[u8], further: &[u8]) -> Hearing {
+    let (tag, status) = word(words);
+    let (tag, is_told) = match skip_text(b"=", tag) {
+        Some(tag) => (tag, false),
+        None => (tag, tag != b"-".as_slice()),
+    };
+    let mut text = Told::new(told.alloc);
+    text.add(b"SIP/2.0 ");
+    text.add(status);
+    text.add(b"\r\n");
+    add_line(&mut text, b"Via", value(asked, b"Via"));
+    add_line(&mut text, b"From", value(asked, b"From"));
+    add_to(&mut text, asked, tag);
+    add_line(&mut text, b"Call-ID", value(asked, b"Call-ID"));
+    add_line(&mut text, b"CSeq", value(asked, b"CSeq"));
+    if is_told && (status.starts_with(b"1") || status.starts_with(b"2")) {
+        add_contact(&mut text, tag, peer);
+    }
+    add_further(&mut text, further);
+    hearing(told, &text, peer)
+}
+
+/// A 2xx of a request of this method and branch.
+pub fn success(told: &mut Told, method: &[u8], branch: &[u8]) -> Hearing {
+    let mut text = Told::new(told.alloc);
+    text.add(b"SIP/2.0 200 OK\r\nVia: SIP/2.0/UDP h;branch=");
+    text.add(branch);
+    text.add(b"\r\nFrom: <sip:a@h>;tag=a\r\nTo: <sip:b@h>;tag=b\r\nCall-ID: c\r\n");
+    add_number(&mut text, b"1", method);
+    text.add(b"\r\n");
+    hearing(told, &text, 1)
+}
+
+/// Who says a request in a dialog, or CANCEL, and in which.
+#[derive(Clone, Copy)]
+pub struct Saying<'a> {
+    pub peer: u16,
+    pub key: u64,
+    pub from: &'a [u8],
+    pub to: &'a [u8],
+    pub call_id: &'a [u8],
+    /// The user of the Contact that an INVITE has.
+    pub user: &'a [u8],
+}
+
+/// A request in a dialog, of this method and number, or its CANCEL.
+pub fn request(
+    told: &mut Told,
+    saying: Saying<'_>,
+    method: &[u8],
+    cseq: &[u8],
+    further: &[u8],
+) -> Hearing {
+    let mut text = Told::new(told.alloc);
+    add_start(
+        &mut text,
+        saying.peer,
+        saying.key,
+        method,
+        b"sip:127.0.0.1:5060",
+    );
+    add_line(&mut text, b"From", saying.from);
+    add_line(&mut text, b"To", saying.to);
+    add_line(&mut text, b"Call-ID", saying.call_id);
+    add_number(&mut text, cseq, method);
+    if method == b"INVITE".as_slice() {
+        add_contact(&mut text, saying.user, saying.peer);
+    }
+    add_further(&mut text, further);
+    hearing(told, &text, saying.peer)
+}
+
+/// The name of a dialog in words: its Call-ID, the server's tag and the other side's; `-` is none.
+#[derive(Clone, Copy)]
+pub struct Name<'a> {
+    pub call_id: &'a [u8],
+    pub local: &'a [u8],
+    pub remote: &'a [u8],
+}
+
+fn or_none(word: &[u8]) -> &[u8] {
+    if word == b"-".as_slice() { b"" } else { word }
+}
+
+/// The name of a dialog, and the words that follow it.
+pub fn named(words: &[u8]) -> (Name<'_>, &[u8]) {
+    let (call_id, rest) = word(words);
+    let (local, rest) = word(rest);
+    let (remote, rest) = word(rest);
+    let name = Name {
+        call_id,
+        local: or_none(local),
+        remote: or_none(remote),
+    };
+    (name, rest)
+}
+
+/// A side of a dialog, with its tag where it has one.
+fn add_side(text: &mut Told, uri: &[u8], tag: &[u8]) {
+    text.add(uri);
+    if !tag.is_empty() {
+        text.add(b";tag=");
+        text.add(tag);
+    }
+}
+
+/// A request in the dialog of this name, of this method and number, or its CANCEL, where the server has no tag.
+pub fn request_in(
+    told: &mut Told,
+    peer: u16,
+    key: u64,
+    name: Name<'_>,
+    method: &[u8],
+    cseq: &[u8],
+    further: &[u8],
+) -> Hearing {
+    let mut from = Told::new(told.alloc);
+    add_side(&mut from, b"<sip:this@home.example>", name.remote);
+    let mut to = Told::new(told.alloc);
+    add_side(&mut to, b"<sip:that@home.example>", name.local);
+    let saying = Saying {
+        peer,
+        key,
+        from: from.bytes(),
+        to: to.bytes(),
+        call_id: name.call_id,
+        user: b"again",
+    };
+    request(told, saying, method, cseq, further)
+}

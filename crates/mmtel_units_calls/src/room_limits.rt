@@ -1,0 +1,70 @@
+//! As many rooms as may be live, and as many seats.
+
+use crate::seating::wrong_seat;
+
+/// Once 1,024 rooms are live, the next INVITE opens none, and its leg comes back: no number is given. A room that is closed makes room. There is no room 2000, and no second seat in the first.
+/// Once 32 seats of a room are taken, no leg finds another, whether it comes or is brought; of one that is to be invited the missing peer is told first. No number of a seat is given twice.
+const ROOM_LIMITS: &str = r#"fill 1024 0 create
+> 0 create 2 1024 x@far.example
+no room: c1024 t-1025 a1024
+seats 1 1 1
+> 0 join 2000 2 1025 x@far.example
+gone: c1025 t-1026 a1025
+seats 1 1 1
+> 0 leave 1 2
+-> none
+seats 1 1 1
+? find c1023 t-1024 a1023
+-> room 1024 seat 1
+? find c1024 t-1025 a1024
+-> none
+> 100 close 7
+-> no meter
+seats 1 1 1
+> 200 create 1 2000 alice@home.example
+room 1025
+reply 1026: 200 OK, 7 INVITE
+due 1025 seat 1 no-ack 1 at 32200
+seats 1 1 1
+> 300 create 1 2001 alice@home.example
+no room: c2001 t-1028 a2001
+seats 1 1 1
+fill 31 3000 join 1
+> 400 join 1 2 4000 x@far.example
+room full: c4000 t-1060 a4000
+seats 32 1 1
+> 500 adopt 1 1 2 4001 x@far.example callee
+room full: k4001 t-1061 b4001
+seats 32 1 1
+> 510 adopt 2000 1 2 4002 x@far.example callee
+gone: k4002 t-1062 b4002
+seats 32 1 1
+> 600 say 2 c0 t-1 a0 REFER 8 <sip:bob@home.example>
+-> room 1 seat 1
+reply 1060: 202 Accepted, 8 REFER
+ask 1061 to 2: NOTIFY sip:caller@127.0.0.1:5072, 1 NOTIFY
+ active;expires=180: SIP/2.0 100 Trying
+ask 1062 to 2: NOTIFY sip:caller@127.0.0.1:5072, 2 NOTIFY
+ terminated;reason=noresource: SIP/2.0 503 Service Unavailable
+seats 32 1 1
+> 700 say 2 c0 t-1 a0 REFER 9 <sip:bob@nowhere.example>
+-> room 1 seat 1
+reply 1063: 202 Accepted, 9 REFER
+ask 1064 to 2: NOTIFY sip:caller@127.0.0.1:5072, 3 NOTIFY
+ active;expires=180: SIP/2.0 100 Trying
+ask 1065 to 2: NOTIFY sip:caller@127.0.0.1:5072, 4 NOTIFY
+ terminated;reason=noresource: SIP/2.0 404 Not Found
+seats 32 1 1
+> 800 leave 1 32
+-> none
+seats 31 1 1
+> 900 join 1 2 4003 x@far.example
+reply 1066: 200 OK, 7 INVITE
+due 1 seat 33 no-ack 33 at 32900
+seats 32 1 1
+"#;
+
+#[test]
+fn room_limits(rt: HostRuntime) {
+    assert!(rt; wrong_seat(rt.alloc(), ROOM_LIMITS) == 0);
+}

@@ -1,0 +1,5 @@
+//! Tests of what a link is given of what a server offers.
+#![tactic(auto)]
+
+#[cfg(test)]
+mod giving;

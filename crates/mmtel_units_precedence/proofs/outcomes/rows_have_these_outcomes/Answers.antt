@@ -1,5 +1,0 @@
-use Rattle.mmtel_units_precedence.proofs.Computed.{are_outcomes}
-use Rattle.mmtel_units_precedence.proofs.outcomes.rows_have_these_outcomes.Goals as goal
-
-pub returns : goal.returns
-returns c = record { rows = are_outcomes }

@@ -1,0 +1,7 @@
+//! Worked rows of the definition of Outcome.
+ghost use Rattle.mmtel_units_services.specs.Rows.{AreOutcomes};
+
+/// A law, and no code: what the definition of Outcome gives for each worked row, as the standards have it.
+pub fn rows_have_these_outcomes()
+    ensures rows { AreOutcomes }
+{}

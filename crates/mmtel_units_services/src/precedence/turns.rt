@@ -1,0 +1,358 @@
+//! Turns of whole calls: how attempts end, what is done at a target and after an attempt, and what refuses a call as it opens.
+
+use crate::precedence::records::{Called, facts, read_call, read_record};
+use crate::precedence::reports::{Teller, put_cause, put_code, put_uri, wrong_line};
+use mmtel_lex::{Uri, read_uri};
+use mmtel_precedence::{
+    AfterEnding, AttemptEnd, AttemptEvent, Onward, Reached, Served, ServedAccount, Turn, end_by,
+    party_of, refused_at_opening, turn_at, turn_on,
+};
+use mmtel_rules::Facts;
+use mmtel_scan::number_up_to;
+use mmtel_sheet_values::Sheet;
+use mmtel_told::{Told, cut};
+use mmtel_types::{Account, PrivacySet};
+
+/// What came of an attempt, by its word.
+fn event_of<'a>(word: &[u8], target: Option<&'a Uri>) -> AttemptEvent<'a> {
+    if word == b"silence".as_slice() {
+        return AttemptEvent::Silence;
+    }
+    if word == b"no-reply-time".as_slice() {
+        return AttemptEvent::NoReplyTime;
+    }
+    if word == b"longest-time".as_slice() {
+        return AttemptEvent::LongestTime;
+    }
+    if word == b"caller-gave-up".as_slice() {
+        return AttemptEvent::CallerGaveUp;
+    }
+    let code = number_up_to(999, word).unwrap_or(0);
+    AttemptEvent::Response {
+        code: u16::try_from(code).unwrap_or(0),
+        target,
+    }
+}
+
+/// Writes the end of an attempt, or `none`.
+fn put_end(told: &mut Told, end: Option<AttemptEnd<'_>>) {
+    match end {
+        None => told.add(b"none"),
+        Some(AttemptEnd::Answered) => told.add(b"answered"),
+        Some(AttemptEnd::Cancelled) => told.add(b"cancelled"),
+        Some(AttemptEnd::UserBusy(code)) => put_code(told, b"busy", code),
+        Some(AttemptEnd::NotReachable(code)) => put_code(told, b"unreachable", code),
+        Some(AttemptEnd::NoReply) => told.add(b"no-reply"),
+        Some(AttemptEnd::Deflected { target, rang }) => {
+            told.add_if(rang, b"alerted ", b"deflected ");
+            put_uri(told, target);
+        }
+        Some(AttemptEnd::Other(code)) => put_code(told, b"other", code),
+    }
+}
+
+/// Writes a diversion: its cause, its target, and `1` or `0` for what the caller and the target are told.
+fn put_onward(told: &mut Told, onward: &Onward) {
+    put_code(told, b"divert", onward.cause);
+    told.add(b" ");
+    put_uri(told, onward.target);
+    told.add_if(onward.notify_caller, b" 1", b" 0");
+    told.add_if(onward.reveal_to_caller, b"1", b"0");
+    told.add_if(onward.reveal_served_to_caller, b"1", b"0");
+    told.add_if(onward.reveal_to_target, b"1", b"0");
+}
+
+fn put_turn(told: &mut Told, turn: &Turn) {
+    match turn {
+        Turn::Offer { waiting: false } => told.add(b"offer"),
+        Turn::Offer { waiting: true } => told.add(b"wait"),
+        Turn::Divert(onward) => put_onward(told, onward),
+        Turn::Refuse(cause) => put_cause(told, cause),
+    }
+}
+
+fn put_after(told: &mut Told, after: &AfterEnding) {
+    match after {
+        AfterEnding::Answered => told.add(b"answered"),
+        AfterEnding::Divert(onward) => put_onward(told, onward),
+        AfterEnding::Refuse(cause) => put_cause(told, cause),
+    }
+}
+
+/// Asks how an attempt ends: `r` where it rang, else `-`; what came; and, after a blank, the first Contact.
+struct Ends;
+
+impl Teller for Ends {
+    fn tell(told: &mut Told, question: &[u8]) {
+        let (rang, what) = rang_in(question);
+        let (word, contact) = cut(b' ', what);
+        match read_uri(told.alloc, contact) {
+            Ok(uri) => put_end(told, end_by(event_of(word, Some(&uri)), rang)),
+            Err(_) => put_end(told, end_by(event_of(word, None), rang)),
+        }
+    }
+}
+
+/// Whether it rang, and what came.
+fn rang_in(question: &[u8]) -> (bool, &[u8]) {
+    match question {
+        [b'r', rest @ ..] => (true, rest),
+        [_, rest @ ..] => (false, rest),
+        [] => (false, b""),
+    }
+}
+
+/// RFC 3261 §21, TS 24.604 §4.5.2.6.
+const ENDS: &[u8] = b"-100>none
+-180>none
+r183>none
+-199>none
+-200>answered
+r299>answered
+-486>busy 486
+r600>busy 600
+-408>unreachable 408
+-500>unreachable 500
+-503>unreachable 503
+r408>other 408
+r500>other 500
+r503>other 503
+-404>other 404
+r487>other 487
+-603>other 603
+-302 sip:vm@far.example>deflected sip:vm@far.example
+r302 sip:vm@far.example>alerted sip:vm@far.example
+-302>other 480
+-301 sip:vm@far.example>other 480
+r399>other 480
+-400>other 400
+-silence>unreachable 408
+rno-reply-time>no-reply
+rlongest-time>no-reply
+-longest-time>unreachable 408
+rcaller-gave-up>cancelled
+-caller-gave-up>cancelled
+";
+
+#[test]
+fn ends_of_attempts(rt: HostRuntime) {
+    assert_eq!(rt; wrong_line::<Ends>(rt.alloc(), ENDS), 0);
+}
+
+/// Asks for the turn after an attempt: how it ended, as above, and the record under which it was offered; `none` of a target of no account.
+struct After;
+
+fn tell_after(
+    told: &mut Told,
+    called: &Called,
+    sheet: Option<&Sheet>,
+    event: AttemptEvent,
+    rang: bool,
+) {
+    match end_by(event, rang) {
+        None => told.add(b"none"),
+        Some(end) => put_after(told, &turn_on(&facts(called), sheet, &end)),
+    }
+}
+
+/// By what came, with its first Contact if it has one.
+fn tell_what(told: &mut Told, called: &Called, sheet: Option<&Sheet>, question: &[u8]) {
+    let (rang, what) = rang_in(question);
+    let (word, contact) = cut(b' ', what);
+    match read_uri(told.alloc, contact) {
+        Ok(uri) => tell_after(told, called, sheet, event_of(word, Some(&uri)), rang),
+        Err(_) => tell_after(told, called, sheet, event_of(word, None), rang),
+    }
+}
+
+/// By the record.
+fn tell_under(told: &mut Told, called: &Called, what: &[u8], record: &[u8]) {
+    if record == b"none".as_slice() {
+        tell_what(told, called, None, what);
+    } else if let Some(sheet) = read_record(told, record) {
+        tell_what(told, called, Some(&sheet), what);
+    }
+}
+
+impl Teller for After {
+    fn tell(told: &mut Told, question: &[u8]) {
+        let (what, record) = cut(b'|', question);
+        let called = read_call(told, b"--0sip:alice@home.example");
+        tell_under(told, &called, what, record);
+    }
+}
+
+/// A no-answer rule; silence and the not-reachable rule, and a failure before it rang and after; deflection, with leave and without; cancel, and busy.
+const AFTER: &[u8] =
+    b"rno-reply-time|communication-diversion = { rule = [{ no-answer = true, target = \"sip:vm@far.example\" }] }>divert 408 sip:vm@far.example 1111
+-silence|communication-diversion = { rule = [{ not-reachable = true, target = \"sip:vm@far.example\" }] }>divert 503 sip:vm@far.example 1111
+-500|communication-diversion = { rule = [{ not-reachable = true, target = \"sip:vm@far.example\", notify-caller = false }] }>divert 503 sip:vm@far.example 0111
+r500|communication-diversion = { rule = [{ not-reachable = true, target = \"sip:vm@far.example\" }] }>relayed 500
+-503|communication-diversion = { rule = [{ no-answer = true, target = \"sip:vm@far.example\" }] }>unreachable 503
+-302 sip:vm@far.example|communication-diversion = { deflection = true }>divert 480 sip:vm@far.example 1111
+r302 sip:vm@far.example|communication-diversion = { deflection = true }>divert 487 sip:vm@far.example 1111
+-302 sip:vm@far.example|communication-diversion = { deflection = false }>relayed 480
+-302|communication-diversion = { deflection = true }>relayed 480
+r302 sip:vm@far.example|none>relayed 480
+-caller-gave-up|communication-diversion = { rule = [{ no-answer = true, target = \"sip:vm@far.example\" }] }>cancelled 487
+-200|none>answered
+r486|>relayed 486
+r486|communication-diversion = { rule = [{ busy = true, target = \"sip:vm@far.example\", reveal-identity-to-target = false }] }>divert 486 sip:vm@far.example 1110
+r600|none>relayed 600
+-longest-time|none>unreachable 408
+rlongest-time|none>no-reply 480
+rno-reply-time|communication-diversion = { rule = [{ busy = true, target = \"sip:vm@far.example\" }] }>no-reply 480
+-604|communication-diversion = { rule = [{ target = \"sip:vm@far.example\" }] }>relayed 604
+";
+
+#[test]
+fn turns_after_attempts(rt: HostRuntime) {
+    assert_eq!(rt; wrong_line::<After>(rt.alloc(), AFTER), 0);
+}
+
+/// Asks for the turn at a target: `s` where an account is served there, `u` where it is nobody's, `p` where no peer leads to it, else `-` in their places; the call; and the record.
+struct At;
+
+fn tell_at(told: &mut Told, flags: &[u8], called: &Called, sheet: &Sheet) {
+    let account = ServedAccount {
+        sheet,
+        registered: called.registered,
+        live: called.live,
+    };
+    let served = if flags.first() == Some(&b's') {
+        Some(account)
+    } else {
+        None
+    };
+    let reached = Reached {
+        served,
+        is_unknown: flags.contains(&b'u'),
+        has_no_peer: flags.contains(&b'p'),
+    };
+    put_turn(told, &turn_at(&facts(called), &reached));
+}
+
+impl Teller for At {
+    fn tell(told: &mut Told, question: &[u8]) {
+        let (flags, rest) = cut(b'|', question);
+        let (call, record) = cut(b'|', rest);
+        let called = read_call(told, call);
+        if let Some(sheet) = read_record(told, record) {
+            tell_at(told, flags, &called, &sheet);
+        }
+    }
+}
+
+/// Anonymous rejection and barring before diversion; two diversions; registration; waiting; and last the targets of nobody and those without a peer.
+const AT: &[u8] =
+    b"s--|r-0sip:erin@other.example|communication-diversion = { rule = [{ target = \"sip:vm@far.example\" }] };incoming-communication-barring = { reject-anonymous = true }>anonymous 433
+s--|--0sip:alice@home.example|incoming-communication-barring = { rule = [{ many = \"*\", allow = false }, { one = [\"sip:alice@home.example\"], allow = true }] }>offer
+sup|--0sip:alice@home.example|incoming-communication-barring = { rule = [{ many = \"*\", allow = false }] }>incoming-barred 603
+s--|--0|communication-diversion = { rule = [{ target = \"sip:carol@home.example\" }] }>divert 302 sip:carol@home.example 1111
+s--|--1|communication-diversion = { rule = [{ busy = true, target = \"sip:vm@far.example\" }] }>divert 486 sip:vm@far.example 1111
+s--|-u0|>not-registered 480
+s--|-u1|communication-diversion = { rule = [{ busy = true, target = \"sip:vm@far.example\" }] }>not-registered 480
+s--|-u0|communication-diversion = { rule = [{ not-registered = true, target = \"sip:vm@far.example\" }] }>divert 404 sip:vm@far.example 1111
+s--|--0|communication-waiting = { calls = 2 }>offer
+s--|--1|communication-waiting = { calls = 2 }>wait
+s-p|--2|communication-waiting = { calls = 2 }>network-busy 486
+su-|--1|communication-waiting = { calls = 2 }>no-account 404
+s-p|--0|>no-route 404
+---|--1|communication-diversion = { rule = [{ target = \"sip:vm@far.example\" }] }>offer
+-up|-u9|>no-account 404
+--p|-u9|>no-route 404
+";
+
+#[test]
+fn turns_at_targets(rt: HostRuntime) {
+    assert_eq!(rt; wrong_line::<At>(rt.alloc(), AT), 0);
+}
+
+/// Asks what refuses a call as it opens: `s` and `c` for the words session and critical; `b` where both cases are served, `o` and `t` for accounts that are;
+/// else `-` in their places; the target; and the record of the account that calls.
+struct Opening;
+
+/// An account where the letter stands.
+fn account_if(flags: &[u8], letter: u8) -> Option<Account> {
+    if flags.contains(&letter) {
+        return Some(Account(1));
+    }
+    None
+}
+
+fn put_opening(told: &mut Told, flags: &[u8], f: &Facts, sheet: &Sheet) {
+    let privacy = PrivacySet {
+        header: false,
+        session: flags.contains(&b's'),
+        user: false,
+        none: false,
+        critical: flags.contains(&b'c'),
+        id: false,
+        history: false,
+    };
+    let served = Served {
+        origin: account_if(flags, b'o'),
+        target: account_if(flags, b't'),
+        both: flags.contains(&b'b'),
+    };
+    let origin = if served.origin.is_some() {
+        Some(sheet)
+    } else {
+        None
+    };
+    match refused_at_opening(&privacy, &served, origin, f) {
+        None => told.add(b"opens"),
+        Some(cause) => put_cause(told, &cause),
+    }
+}
+
+fn tell_opening(told: &mut Told, flags: &[u8], target: Uri, sheet: &Sheet) {
+    let party = party_of(target);
+    let called = read_call(told, b"--0");
+    let facts = Facts {
+        caller: &party,
+        restricted: called.restricted,
+        media: &called.media,
+        now: called.now,
+    };
+    put_opening(told, flags, &facts, sheet);
+}
+
+/// By the target.
+fn tell_target(told: &mut Told, flags: &[u8], target: &[u8], sheet: &Sheet) {
+    match read_uri(told.alloc, target) {
+        Ok(uri) => tell_opening(told, flags, uri, sheet),
+        Err(_) => told.fail(),
+    }
+}
+
+impl Teller for Opening {
+    fn tell(told: &mut Told, question: &[u8]) {
+        let (flags, rest) = cut(b'|', question);
+        let (target, record) = cut(b'|', rest);
+        if let Some(sheet) = read_record(told, record) {
+            tell_target(told, flags, target, &sheet);
+        }
+    }
+}
+
+/// Session and critical privacy; a user of no account; the caller's own barring, of a sip URI and of a number.
+const OPENING: &[u8] = b"scbot|sip:bob@home.example|>critical 500
+s-bot|sip:bob@home.example|>opens
+-cbot|sip:bob@home.example|>opens
+sc---|sip:bob@home.example|>critical 500
+-----|sip:bob@home.example|>no-account 404
+---o-|sip:bob@home.example|>opens
+----t|sip:bob@home.example|>opens
+--b--|sip:bob@home.example|>opens
+--bot|sip:bob@home.example|outgoing-communication-barring = { rule = [{ one = [\"sip:bob@home.example\"], allow = false }] }>outgoing-barred 603
+--bo-|tel:+4930-222|outgoing-communication-barring = { rule = [{ one = [\"tel:+4930222\"], allow = false }] }>outgoing-barred 603
+--bot|sip:carol@home.example|outgoing-communication-barring = { rule = [{ one = [\"sip:bob@home.example\"], allow = false }] }>opens
+--b-t|sip:bob@home.example|outgoing-communication-barring = { rule = [{ one = [\"sip:bob@home.example\"], allow = false }] }>opens
+scbot|sip:bob@home.example|outgoing-communication-barring = { rule = [{ one = [\"sip:bob@home.example\"], allow = false }] }>critical 500
+";
+
+#[test]
+fn refusals_at_the_opening(rt: HostRuntime) {
+    assert_eq!(rt; wrong_line::<Opening>(rt.alloc(), OPENING), 0);
+}

@@ -1,4 +1,5 @@
--- The responses that the server gives to what it heard: those of its own (RFC 3261 §8.2.6), and those that it relays from the other side of a call (§16.7). The first Via says where the request came from (§18.2.1).
+-- The responses that the server gives to what it heard: those of its own (RFC 3261 §8.2.6), and those that it relays from the other side of a call (§16.7). The first Via
+-- says where the request came from (§18.2.1).
 use Rattle.std.specs.Prelude.{ℕ, Some, List, [], ◌∷◌, codes}
 use Rattle.mmtel_message.specs.Message.{Line, Message}
 use Rattle.mmtel_message.specs.Phrases.{phrase_of}
@@ -8,7 +9,8 @@ use Rattle.mmtel_trust.specs.Digest.{HeardMessage}
 use Rattle.mmtel_types.specs.declared.addrs.Addr.{Addr}
 use Rattle.mmtel_answers.specs.Said.{Said, phrase_in, status_of}
 
--- what a response of the server's own says, with this Contact where one is due: its tag in the dialog, the lines of History-Info that a 181 passes, the lines that are named for the status, and the body
+-- what a response of the server's own says, with this Contact where one is due: its tag in the dialog, the lines of History-Info that a 181 passes, the lines that are
+-- named for the status, and the body
 abbrev pub own_reply : (contact : List ℕ) → Addr → (tag : List ℕ) → (code : ℕ) → (passed named : List Line) → (body : List ℕ) → Reply
 own_reply contact source tag code passed named body =
     record { code = code; phrase = phrase_of code; tag = tag; source = Some source; contact = contact; passed = passed; named = named; body = body }

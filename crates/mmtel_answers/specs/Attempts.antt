@@ -1,4 +1,5 @@
--- The INVITE of an attempt: the first request of a dialog that the server begins (RFC 3261 §8.1.1, §12.1.2), by which it relays the INVITE that opened the call (§16.6) to the first target or to one that the call was diverted to (RFC 7044 §7, RFC 4458 §2).
+-- The INVITE of an attempt: the first request of a dialog that the server begins (RFC 3261 §8.1.1, §12.1.2), by which it relays the INVITE that opened the call (§16.6) to
+-- the first target or to one that the call was diverted to (RFC 7044 §7, RFC 4458 §2).
 use Rattle.std.specs.Prelude.{ℕ, Bool, Option, Some, None, List, [], ◌∷◌, ◌++◌, codes, if◌then◌else◌}
 use Rattle.mmtel_history.specs.EntryUri.{with_cause, without_cause}
 use Rattle.mmtel_leg.specs.Dialogues.{after_request, request_uri}

@@ -1,4 +1,5 @@
--- What the server gives to the requests that it makes in a dialog, where they relay a request of the other side and where they relay none (RFC 3261 §12.2.1.1, §16.6); and what repeats an INVITE: CANCEL (§9.1) and the ACK of a final from 300 (§17.1.1.3).
+-- What the server gives to the requests that it makes in a dialog, where they relay a request of the other side and where they relay none (RFC 3261 §12.2.1.1, §16.6); and
+-- what repeats an INVITE: CANCEL (§9.1) and the ACK of a final from 300 (§17.1.1.3).
 use Rattle.std.specs.Prelude.{ℕ, ◌-◌, Option, Some, None, List, [], codes}
 use Rattle.mmtel_leg.specs.Requests.{Given, numbered}
 use Rattle.mmtel_leg.specs.declared.dialogues.Dialogue.{Dialogue}

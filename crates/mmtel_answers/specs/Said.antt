@@ -1,4 +1,5 @@
--- A message as it was heard: what is read of it, from whom it came, and where that peer is reached. Whoever reads no lines of it, no entry of its History-Info and not where it redirects to sees nothing of what is private.
+-- A message as it was heard: what is read of it, from whom it came, and where that peer is reached. Whoever reads no lines of it, no entry of its History-Info and not
+-- where it redirects to sees nothing of what is private.
 use Rattle.std.specs.Prelude.{ℕ, Bool, List, []}
 use Rattle.mmtel_message.specs.Message.{Message}
 use Rattle.mmtel_message.specs.declared.messages.Start.{Start}

@@ -152,7 +152,8 @@ fn begun(aim: Aim, call_id: Text, tag: Text, from: Text) -> Dialogue
     }
 }
 
-/// The dialog of an attempt of a call, before its INVITE is sent: From is nobody's where the call is restricted, else the display and the URI of the caller as received, each with the tag (RFC 3261 §12.1.2, RFC 3323 §4.1.1.3).
+/// The dialog of an attempt of a call, before its INVITE is sent: From is nobody's where the call is restricted, else the display and the URI of the caller as received,
+/// each with the tag (RFC 3261 §12.1.2, RFC 3323 §4.1.1.3).
 ///
 /// # Errors
 ///
@@ -209,7 +210,8 @@ fn attempt_lines(alloc: Global, passed: &[Line], waiting: bool) -> Result<List<L
     Ok(lines)
 }
 
-/// The INVITE of an attempt, the first request of its dialog: it relays the INVITE that opened the call with these lines of it, and tells the target where the call waits (RFC 3261 §16.6, TS 24.615 §4.5.5.3).
+/// The INVITE of an attempt, the first request of its dialog: it relays the INVITE that opened the call with these lines of it, and tells the target where the call waits
+/// (RFC 3261 §16.6, TS 24.615 §4.5.5.3).
 ///
 /// # Errors
 ///

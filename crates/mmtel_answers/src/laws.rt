@@ -34,12 +34,16 @@ use mmtel_trust::{
     masks_leave_the_way, own_lines_are_not_passed,
 };
 
-/// A CANCEL and the ACK of a final from 300 have their INVITE's Request-URI, branch, Route values, From, Call-ID and number (RFC 3261 §9.1, §17.1.1.3), where the INVITE brings no Route line among those that it passes on.
+/// A CANCEL and the ACK of a final from 300 have their INVITE's Request-URI, branch, Route values, From, Call-ID and number (RFC 3261 §9.1, §17.1.1.3), where the INVITE
+/// brings no Route line among those that it passes on.
 /// A CANCEL has its To as well, and the ACK that of the final.
 pub fn repeats_have_what_they_repeat()
-    ensures cancel { (d : Dialogue) (number : ℕ) (given : Given) → named (codes "Route") given.shown ≡ [] → Repeats (numbered d number (codes "INVITE") given) (cancel_of d number given.sip given.branch) }
-    ensures cancel_to { (d : Dialogue) (number : ℕ) (given : Given) → first_value (codes "To") (cancel_of d number given.sip given.branch).lines ≡ first_value (codes "To") (numbered d number (codes "INVITE") given).lines }
-    ensures ack { (d : Dialogue) (number : ℕ) (given : Given) (to : List ℕ) → named (codes "Route") given.shown ≡ [] → Repeats (numbered d number (codes "INVITE") given) (final_ack_of d number given.sip given.branch to) }
+    ensures cancel { (d : Dialogue) (number : ℕ) (given : Given) → named (codes "Route") given.shown ≡ [] →
+        Repeats (numbered d number (codes "INVITE") given) (cancel_of d number given.sip given.branch) }
+    ensures cancel_to { (d : Dialogue) (number : ℕ) (given : Given) →
+        first_value (codes "To") (cancel_of d number given.sip given.branch).lines ≡ first_value (codes "To") (numbered d number (codes "INVITE") given).lines }
+    ensures ack { (d : Dialogue) (number : ℕ) (given : Given) (to : List ℕ) → named (codes "Route") given.shown ≡ [] →
+        Repeats (numbered d number (codes "INVITE") given) (final_ack_of d number given.sip given.branch to) }
     ensures ack_to { (d : Dialogue) (number : ℕ) (sip : Addr) (branch to : List ℕ) → first_value (codes "To") (final_ack_of d number sip branch to).lines ≡ Some to }
 {
     requests_name_their_dialog();
@@ -47,15 +51,20 @@ pub fn repeats_have_what_they_repeat()
 
 /// The dialog that a leg keeps of the INVITE of an attempt is the one that begins with this INVITE (RFC 3261 §12.1.2), where the tag is read of From.
 pub fn legs_begin_with_their_invite()
-    ensures leg { (aim : Aim) (call_id tag from : List ℕ) (given : Given) → tag_of (Some from) ≡ Some tag → started aim.peer (numbered (calling aim call_id tag from) 1 (codes "INVITE") given) ≡ called (calling aim call_id tag from) }
+    ensures leg { (aim : Aim) (call_id tag from : List ℕ) (given : Given) → tag_of (Some from) ≡ Some tag →
+        started aim.peer (numbered (calling aim call_id tag from) 1 (codes "INVITE") given) ≡ called (calling aim call_id tag from) }
 {
     requests_name_their_dialog();
     numbers_read_back();
 }
 
-/// A relayed response has the five fields of the request that it answers (RFC 3261 §8.1.1, §16.7), Via completed and To with the tag, whatever the response was that was heard, and what it shows by the header table.
+/// A relayed response has the five fields of the request that it answers (RFC 3261 §8.1.1, §16.7), Via completed and To with the tag, whatever the response was that was
+/// heard, and what it shows by the header table.
 pub fn relayed_answers_have_the_fields()
-    ensures five { (contact tag : List ℕ) (m r : Said) (f : Facing) (to_trusted : Bool) (h : List Entry) (five : Five) → IsSource m.source → (tag ≡ []) ⊎ IsToken tag → AreLinesWith five m.heard.lines → five_at (relayed_answer contact m tag (shown_lines f to_trusted h r.heard.start r.heard.lines) r).lines ≡ Some (five_answered (relayed_reply contact m.source tag (shown_lines f to_trusted h r.heard.start r.heard.lines) r.heard) five) }
+    ensures five { (contact tag : List ℕ) (m r : Said) (f : Facing) (to_trusted : Bool) (h : List Entry) (five : Five) → IsSource m.source → (tag ≡ []) ⊎ IsToken tag →
+        AreLinesWith five m.heard.lines →
+        five_at (relayed_answer contact m tag (shown_lines f to_trusted h r.heard.start r.heard.lines) r).lines
+        ≡ Some (five_answered (relayed_reply contact m.source tag (shown_lines f to_trusted h r.heard.start r.heard.lines) r.heard) five) }
 {
     own_lines_are_not_passed();
     responses_have_the_fields();
@@ -63,25 +72,34 @@ pub fn relayed_answers_have_the_fields()
 
 /// A response rests on its request's lines of six names, and on those of Record-Route only where it makes a dialog.
 pub fn responses_rest_on_six_names()
-    ensures same { (start : Start) (ls ms : List Line) (r : Reply) → named (codes "Via") ls ≡ named (codes "Via") ms → named (codes "From") ls ≡ named (codes "From") ms → named (codes "To") ls ≡ named (codes "To") ms → named (codes "Call-ID") ls ≡ named (codes "Call-ID") ms → named (codes "CSeq") ls ≡ named (codes "CSeq") ms → named (codes "Record-Route") ls ≡ named (codes "Record-Route") ms → response start ls r ≡ response start ms r }
+    ensures same { (start : Start) (ls ms : List Line) (r : Reply) → named (codes "Via") ls ≡ named (codes "Via") ms → named (codes "From") ls ≡ named (codes "From") ms →
+        named (codes "To") ls ≡ named (codes "To") ms → named (codes "Call-ID") ls ≡ named (codes "Call-ID") ms → named (codes "CSeq") ls ≡ named (codes "CSeq") ms →
+        named (codes "Record-Route") ls ≡ named (codes "Record-Route") ms → response start ls r ≡ response start ms r }
 {}
 
 /// A response says of its request's private places those of From and To alone: without these it is the same of the message and of the masked one.
 /// And of two requests of equal masks, the one from an untrusted peer, the same responses are given: what such a peer sends has no private place.
 pub fn masked_requests_are_answered_alike()
     ensures kept { (p : Places) (start : Start) (ls : List Line) (r : Reply) → p.from ≡ false → p.to ≡ false → response start (masked_lines p ls) r ≡ response start ls r }
-    ensures strangers { (restricts : Restriction) (accounts others : List AccountIdentity) (m n : HeardMessage) (r : Reply) → mask restricts accounts m ≡ mask restricts others n → m.trusted ≡ false → response m.start m.lines r ≡ response n.start n.lines r }
+    ensures strangers { (restricts : Restriction) (accounts others : List AccountIdentity) (m n : HeardMessage) (r : Reply) →
+        mask restricts accounts m ≡ mask restricts others n → m.trusted ≡ false → response m.start m.lines r ≡ response n.start n.lines r }
 {
     equal_masks_decide_alike();
     masking_keeps_the_rest();
     masks_leave_the_way();
 }
 
-/// Of two INVITEs of equal masks, with lists of History-Info that are masked alike, the INVITE of an attempt towards an untrusted peer is the same where the caller is restricted: its dialog, each line and the body.
+/// Of two INVITEs of equal masks, with lists of History-Info that are masked alike, the INVITE of an attempt towards an untrusted peer is the same where the caller is
+/// restricted: its dialog, each line and the body.
 pub fn attempts_hide_their_caller()
-    ensures aim { (restricts : Restriction) (accounts others : List AccountIdentity) (m n : HeardMessage) (peer : Peer) (routes : List (List ℕ)) → mask restricts accounts m ≡ mask restricts others n → first_aim peer routes m ≡ first_aim peer routes n }
-    ensures dialog { (aim : Aim) (call_id tag : List ℕ) (m n : HeardMessage) → calling aim call_id tag (attempt_from true tag m.lines) ≡ calling aim call_id tag (attempt_from true tag n.lines) }
-    ensures invite { (restricts : Restriction) (accounts others : List AccountIdentity) (m n : HeardMessage) (f : Facing) (h k : List Entry) (d : Dialogue) (sip : Addr) (branch : List ℕ) (waiting : Bool) → mask restricts accounts m ≡ mask restricts others n → f.restricted ≡ true → masked_list f.mask_all h ≡ masked_list f.mask_all k → invite_of d sip branch (shown_lines f false h m.start m.lines) waiting m ≡ invite_of d sip branch (shown_lines f false k n.start n.lines) waiting n }
+    ensures aim { (restricts : Restriction) (accounts others : List AccountIdentity) (m n : HeardMessage) (peer : Peer) (routes : List (List ℕ)) →
+        mask restricts accounts m ≡ mask restricts others n → first_aim peer routes m ≡ first_aim peer routes n }
+    ensures dialog { (aim : Aim) (call_id tag : List ℕ) (m n : HeardMessage) →
+        calling aim call_id tag (attempt_from true tag m.lines) ≡ calling aim call_id tag (attempt_from true tag n.lines) }
+    ensures invite { (restricts : Restriction) (accounts others : List AccountIdentity) (m n : HeardMessage) (f : Facing) (h k : List Entry) (d : Dialogue) (sip : Addr)
+        (branch : List ℕ) (waiting : Bool) → mask restricts accounts m ≡ mask restricts others n → f.restricted ≡ true →
+        masked_list f.mask_all h ≡ masked_list f.mask_all k →
+        invite_of d sip branch (shown_lines f false h m.start m.lines) waiting m ≡ invite_of d sip branch (shown_lines f false k n.start n.lines) waiting n }
 {
     equal_masks_decide_alike();
     masked_histories_show_alike();

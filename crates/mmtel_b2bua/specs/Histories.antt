@@ -79,11 +79,13 @@ hears_after site deeds x = heard_by site x (table_after site deeds)
 
 -- the calls after a signal, and what it brings forth
 abbrev pub after_hearing : Peers → List AccountIdentity → Heard → CallsView → CallsView
-after_hearing peers accounts x calls = record calls { table = with_moved (heard_by (site_of calls peers accounts) x calls.table) (opened_after x.signal calls.table.opened) calls.table }
+after_hearing peers accounts x calls =
+    record calls { table = with_moved (heard_by (site_of calls peers accounts) x calls.table) (opened_after x.signal calls.table.opened) calls.table }
 
 abbrev pub brought_forth : Peers → List AccountIdentity → Heard → CallsView → Desk
 brought_forth peers accounts x calls = (heard_by (site_of calls peers accounts) x calls.table).desk
 
 -- and after the end of a call without its leg
 abbrev pub after_finishing : Peers → List AccountIdentity → (number at : ℕ) → Drawn → CallsView → CallsView
-after_finishing peers accounts number at tokens calls = record calls { table = with_moved (finished_by (site_of calls peers accounts) number at tokens calls.table) calls.table.opened calls.table }
+after_finishing peers accounts number at tokens calls =
+    record calls { table = with_moved (finished_by (site_of calls peers accounts) number at tokens calls.table) calls.table.opened calls.table }

@@ -1,4 +1,5 @@
--- What is asked of the table of calls: whose dialog a request names (RFC 3261 §12.2.2), whose INVITE opened a server transaction (§9.2), who a side is, and how many calls an account has.
+-- What is asked of the table of calls: whose dialog a request names (RFC 3261 §12.2.2), whose INVITE opened a server transaction (§9.2), who a side is, and how many calls
+-- an account has.
 use Rattle.std.specs.Prelude.{ℕ, ◌==◌, ◌&&◌, Bool, if◌then◌else◌, Option, Some, None, List, flat_map, is_some, position, slice_get}
 use Rattle.std.specs.Option.{option_map}
 use Rattle.std.specs.Str.{bytes_eq}

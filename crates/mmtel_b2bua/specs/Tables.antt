@@ -1,5 +1,6 @@
 -- The table of calls: a signal is of one call, which takes its step; an INVITE opens a call.
-use Rattle.std.specs.Prelude.{ℕ, nat_le, Bool, true, false, if◌then◌else◌, Option, Some, None, List, [], ◌∷◌, ◌++◌, count_by, option_to_list, position, remove, slice_get, slice_set}
+use Rattle.std.specs.Prelude.{ℕ, nat_le, Bool, true, false, if◌then◌else◌, Option, Some, None, List, [], ◌∷◌, ◌++◌, count_by, option_to_list, position, remove, slice_get}
+use Rattle.std.specs.Prelude.{slice_set}
 use Rattle.mmtel_answers.specs.Said.{Said}
 use Rattle.mmtel_call_decisions.specs.Invites.{invite_answered, invite_silent}
 use Rattle.mmtel_call_decisions.specs.Site.{Site, calls_among}
@@ -109,7 +110,8 @@ invites_by side key m = if is_invite m then record { key = key; side = side } �
 unfoldable pub taken : Site → (at : ℕ) → InForce → (number : ℕ) → Signal → List Entry → Desk → Moved
 taken site at view number (signal.Arrived key invite served registration identities) es desk =
     arrived site at view (record { number = record { 0 = number }; key = key; invite = invite; served = served; registration = registration; identities = identities }) es desk
-taken site at view number (signal.Request call side key request) es desk = heard site at view (is_numbered call.0) (of_call.Request side key request) (invites_by side key request) es desk
+taken site at view number (signal.Request call side key request) es desk =
+    heard site at view (is_numbered call.0) (of_call.Request side key request) (invites_by side key request) es desk
 taken site at view number (signal.Ack call side ack) es desk = heard site at view (is_numbered call.0) (of_call.Ack side ack) [] es desk
 taken site at view number (signal.Cancel call key cancel invite) es desk = heard site at view (is_numbered call.0) (of_call.Cancel key cancel invite) [] es desk
 taken site at view number (signal.Answer key response) es desk = heard site at view (sent_it (invite_answered response)) (of_call.Answer key response) [] es desk

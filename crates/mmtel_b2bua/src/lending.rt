@@ -3,7 +3,8 @@ ghost use Rattle.std.specs.Prelude.{◌≡◌, ◌<◌, ◌++◌, ◌∷◌, [],
 ghost use Rattle.mmtel_call.specs.Lending.{fits_in, is_lent};
 ghost use Rattle.mmtel_call.specs.Settled.{is_settled};
 ghost use Rattle.mmtel_leg.specs.Releases.{released_leg};
-ghost use Rattle.mmtel_b2bua.specs.Lending.{end_of, ended, ended_at, entry_of, is_away, leg_of_entry, leg_out, lent, lent_at, lent_by, put_back, put_back_at, put_back_by, released, restored, takes_back};
+ghost use Rattle.mmtel_b2bua.specs.Lending.{end_of, ended, ended_at, entry_of, is_away, leg_of_entry, leg_out, lent, lent_at, lent_by, put_back, put_back_at, put_back_by};
+ghost use Rattle.mmtel_b2bua.specs.Lending.{released, restored, takes_back};
 ghost use Rattle.mmtel_b2bua.specs.Tables.{entry_after};
 
 use crate::asked::place_of;
@@ -21,7 +22,8 @@ use std::alloc::Global;
 fn release_at(entries: &mut Vec<Entry>, place: usize, side: Side) -> Result<Released, NotTalking>
     requires { place < length entries.old.items }
     ensures entries { entries.new.items ≡ lent_at side place (slice_get entries.old.items place) entries.old.items }
-    ensures leg { MatchResult result (λ leg. leg_of_entry side (slice_get entries.old.items place) ≡ Some leg) (λ refused. leg_of_entry side (slice_get entries.old.items place) ≡ None) }
+    ensures leg { MatchResult result (λ leg. leg_of_entry side (slice_get entries.old.items place) ≡ Some leg)
+        (λ refused. leg_of_entry side (slice_get entries.old.items place) ≡ None) }
 {
     entries[place].call.release(side)
 }

@@ -50,9 +50,11 @@ impl Entry {
         invite: Option<InviteKey>,
         desk: &mut Desk,
     ) -> Result<bool, NoMemory>
-        ensures entry { OnOk result (self.new ≡ entry_after (option_to_list invite) (step_of setting.now present.now.at present.now.sheets.now present.now.busy.now signal desk.old self.old) self.old) }
+        ensures entry { OnOk result (self.new
+            ≡ entry_after (option_to_list invite) (step_of setting.now present.now.at present.now.sheets.now present.now.busy.now signal desk.old self.old) self.old) }
         ensures desk { OnOk result (desk.new ≡ (step_of setting.now present.now.at present.now.sheets.now present.now.busy.now signal desk.old self.old).desk) }
-        ensures settled { IfOk result (λ settled. settled ≡ is_settled (step_of setting.now present.now.at present.now.sheets.now present.now.busy.now signal desk.old self.old).call) }
+        ensures settled { IfOk result (λ settled. settled
+            ≡ is_settled (step_of setting.now present.now.at present.now.sheets.now present.now.busy.now signal desk.old self.old).call) }
     {
         self.call.step(alloc, setting, present, signal, desk)?;
         self.add_invite(alloc, invite)?;
@@ -73,8 +75,10 @@ fn step_at(
     desk: &mut Desk,
 ) -> Result<(), NoMemory>
     requires { place < length entries.old.items }
-    ensures entries { OnOk result (entries.new.items ≡ (moved_at setting.now at sheets.now signal (option_to_list invite) place (slice_get entries.old.items place) entries.old.items desk.old).entries) }
-    ensures desk { OnOk result (desk.new ≡ (moved_at setting.now at sheets.now signal (option_to_list invite) place (slice_get entries.old.items place) entries.old.items desk.old).desk) }
+    ensures entries { OnOk result (entries.new.items
+        ≡ (moved_at setting.now at sheets.now signal (option_to_list invite) place (slice_get entries.old.items place) entries.old.items desk.old).entries) }
+    ensures desk { OnOk result (desk.new
+        ≡ (moved_at setting.now at sheets.now signal (option_to_list invite) place (slice_get entries.old.items place) entries.old.items desk.old).desk) }
 {
     let number = entries[place].call.opening.number;
     let busy = busy_beside(alloc, number, entries)?;

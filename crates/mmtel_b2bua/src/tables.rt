@@ -1,8 +1,10 @@
 //! The table of calls.
-ghost use Rattle.std.specs.Prelude.{◌≡◌, ◌≤◌, ◌<◌, ◌∷◌, ◌++◌, [], ℕ, true, false, drop, length, List, IfErr, IfOk, IsErr, None, OnErr, OnOk, Some, Err, MatchResult, count_by, is_some, nat_le, position};
+ghost use Rattle.std.specs.Prelude.{◌≡◌, ◌≤◌, ◌<◌, ◌∷◌, ◌++◌, [], ℕ, true, false, drop, length, List, IfErr, IfOk, IsErr, None, OnErr, OnOk, Some, Err, MatchResult};
+ghost use Rattle.std.specs.Prelude.{count_by, is_some, nat_le, position};
 ghost use Rattle.std.specs.Option.{option_copied};
 ghost use Rattle.mmtel_b2bua.specs.Entries.{heard_by as had_answer_by, is_live, sent_it};
-ghost use Rattle.mmtel_b2bua.specs.Histories.{CallsView, Deed, Drops, Finishes, Heard, Hears, Releases, Restores, Stands, after_finishing, after_hearing, brought_forth, finished_by, hears_after, heard_by, site_of, table_after};
+ghost use Rattle.mmtel_b2bua.specs.Histories.{CallsView, Deed, Drops, Finishes, Heard, Hears, Releases, Restores, Stands, after_finishing, after_hearing, brought_forth};
+ghost use Rattle.mmtel_b2bua.specs.Histories.{finished_by, hears_after, heard_by, site_of, table_after};
 ghost use Rattle.mmtel_b2bua.specs.Lending.{ended, entry_of, is_away, leg_out, takes_back};
 ghost use Rattle.mmtel_b2bua.specs.Names.{first_side, live, party, side_asking, side_named};
 ghost use Rattle.mmtel_b2bua.specs.Tables.{is_full, is_opening, most_calls, no_calls, opened_after, taken, with_moved};
@@ -52,7 +54,13 @@ impl Model for Calls {
 
     ghost Value = { CallsView };
 
-    ghost view = { λ c. record { sip = c.sip; home = c.home; bound = c.bound; table = record { entries = c.entries.items; opened = c.opened; rows = c.rows }; has_failed = c.has_failed } };
+    ghost view = { λ c. record {
+      sip = c.sip;
+      home = c.home;
+      bound = c.bound;
+      table = record { entries = c.entries.items; opened = c.opened; rows = c.rows };
+      has_failed = c.has_failed;
+    } };
 
     ghost invariant = { λ c. c.bound ≤ 16 };
 }
@@ -122,8 +130,17 @@ impl Calls {
         now: Moment,
         desk: &mut Desk,
     ) -> Result<(), NoMemory>
-        ensures done { OnOk result (self.new ≡ record self.old { table = record self.old.table { entries = (taken (site_of self.old peers.now accounts.now) now sheets.now (next_number self.old.table.opened) signal self.old.table.entries desk.old).entries; opened = opened_after signal self.old.table.opened } }) }
-        ensures desk { OnOk result (desk.new ≡ (taken (site_of self.old peers.now accounts.now) now sheets.now (next_number self.old.table.opened) signal self.old.table.entries desk.old).desk) }
+        ensures done { OnOk result (self.new
+            ≡ record self.old {
+              table = record self.old.table {
+                entries =
+                    (taken (site_of self.old peers.now accounts.now) now sheets.now (next_number self.old.table.opened) signal self.old.table.entries desk.old).entries;
+                opened =
+                    opened_after signal self.old.table.opened;
+              };
+            }) }
+        ensures desk { OnOk result (desk.new
+            ≡ (taken (site_of self.old peers.now accounts.now) now sheets.now (next_number self.old.table.opened) signal self.old.table.entries desk.old).desk) }
     {
         let opened = opened_after(&signal, self.opened);
         let number = CallNo(self.opened.saturating_add(1));
@@ -170,8 +187,10 @@ impl Calls {
         now: Moment,
     ) -> Result<Emits, NoMemory>
         ensures done { OnOk result (self.new ≡ after_hearing peers.now accounts.now (record { at = now; view = sheets.now; tokens = tokens.old; signal = signal }) self.old) }
-        ensures emits { IfOk result (λ out. out ≡ (brought_forth peers.now accounts.now (record { at = now; view = sheets.now; tokens = tokens.old; signal = signal }) self.old).out) }
-        ensures tokens { OnOk result (tokens.new ≡ (brought_forth peers.now accounts.now (record { at = now; view = sheets.now; tokens = tokens.old; signal = signal }) self.old).tokens) }
+        ensures emits { IfOk result (λ out. out
+            ≡ (brought_forth peers.now accounts.now (record { at = now; view = sheets.now; tokens = tokens.old; signal = signal }) self.old).out) }
+        ensures tokens { OnOk result (tokens.new
+            ≡ (brought_forth peers.now accounts.now (record { at = now; view = sheets.now; tokens = tokens.old; signal = signal }) self.old).tokens) }
     {
         let mut desk = Desk::new(mem::replace(tokens, Tokens::new(Text::new())));
         let heard = self.hear(alloc, signal, sheets, peers, accounts, now, &mut desk);
@@ -190,7 +209,8 @@ impl Calls {
     ///
     /// # Errors
     ///
-    /// `Full` exactly where an INVITE would open a call and 4,096 live; the signal is handed back, and nothing has changed. `NoMemory` for want of memory: the calls have failed then, and each later signal answers it and changes nothing; of the tokens nothing is said then.
+    /// `Full` exactly where an INVITE would open a call and 4,096 live; the signal is handed back, and nothing has changed. `NoMemory` for want of memory: the calls have
+    /// failed then, and each later signal answers it and changes nothing; of the tokens nothing is said then.
     pub fn signal(
         &mut self,
         alloc: Global,
@@ -201,11 +221,15 @@ impl Calls {
         tokens: &mut Tokens,
         now: Moment,
     ) -> Result<Emits, CallFault>
-        ensures done { OnOk result ((deeds : List Deed) → Stands peers.now accounts.now self.old deeds → Stands peers.now accounts.now self.new (Hears (record { at = now; view = sheets.now; tokens = tokens.old; signal = signal }) ∷ deeds)) }
-        ensures emits { IfOk result (λ out. (deeds : List Deed) → Stands peers.now accounts.now self.old deeds → out ≡ (hears_after (site_of self.old peers.now accounts.now) deeds (record { at = now; view = sheets.now; tokens = tokens.old; signal = signal })).desk.out) }
-        ensures tokens { OnOk result ((deeds : List Deed) → Stands peers.now accounts.now self.old deeds → tokens.new ≡ (hears_after (site_of self.old peers.now accounts.now) deeds (record { at = now; view = sheets.now; tokens = tokens.old; signal = signal })).desk.tokens) }
+        ensures done { OnOk result ((deeds : List Deed) → Stands peers.now accounts.now self.old deeds →
+            Stands peers.now accounts.now self.new (Hears (record { at = now; view = sheets.now; tokens = tokens.old; signal = signal }) ∷ deeds)) }
+        ensures emits { IfOk result (λ out. (deeds : List Deed) → Stands peers.now accounts.now self.old deeds →
+            out ≡ (hears_after (site_of self.old peers.now accounts.now) deeds (record { at = now; view = sheets.now; tokens = tokens.old; signal = signal })).desk.out) }
+        ensures tokens { OnOk result ((deeds : List Deed) → Stands peers.now accounts.now self.old deeds →
+            tokens.new ≡ (hears_after (site_of self.old peers.now accounts.now) deeds (record { at = now; view = sheets.now; tokens = tokens.old; signal = signal })).desk.tokens) }
         ensures site { OnOk result ((peers : Peers) (accounts : List AccountIdentity) → site_of self.new peers accounts ≡ site_of self.old peers accounts) }
-        ensures full { self.old.has_failed ≡ false → is_full signal self.old.table.entries ≡ true → (result ≡ Err (CallFault.Full signal)) × ((self.new ≡ self.old) × (tokens.new ≡ tokens.old)) }
+        ensures full { self.old.has_failed ≡ false → is_full signal self.old.table.entries ≡ true →
+            (result ≡ Err (CallFault.Full signal)) × ((self.new ≡ self.old) × (tokens.new ≡ tokens.old)) }
         ensures fails { self.old.has_failed ≡ false → is_full signal self.old.table.entries ≡ false → IfErr result (λ e. (e ≡ CallFault.NoMemory) × (self.new.has_failed ≡ true)) }
         ensures stuck { self.old.has_failed ≡ true → (result ≡ Err CallFault.NoMemory) × ((self.new ≡ self.old) × (tokens.new ≡ tokens.old)) }
     {
@@ -226,7 +250,8 @@ impl Calls {
 
     /// How many calls the account has: once for each that it makes, and once for each that is offered to it or that it answered.
     pub fn live(&self, account: Account) -> u32
-        ensures { (peers : Peers) (accounts : List AccountIdentity) (deeds : List Deed) → Stands peers accounts self.now deeds → result ≡ live account.0 (table_after (site_of self.now peers accounts) deeds).entries }
+        ensures { (peers : Peers) (accounts : List AccountIdentity) (deeds : List Deed) → Stands peers accounts self.now deeds →
+            result ≡ live account.0 (table_after (site_of self.now peers accounts) deeds).entries }
     {
         live_among(&self.entries, account)
     }
@@ -240,7 +265,8 @@ impl Calls {
 
     /// The call and the side whose dialog has this Call-ID, this tag of the server and this tag of the other side (RFC 3261 §12.2.2).
     pub fn find(&self, call_id: &[u8], local: &[u8], remote: &[u8]) -> Option<(CallNo, Side)>
-        ensures { (peers : Peers) (accounts : List AccountIdentity) (deeds : List Deed) → Stands peers accounts self.now deeds → result ≡ first_side (side_named call_id.now local.now remote.now) (table_after (site_of self.now peers accounts) deeds).entries }
+        ensures { (peers : Peers) (accounts : List AccountIdentity) (deeds : List Deed) → Stands peers accounts self.now deeds →
+            result ≡ first_side (side_named call_id.now local.now remote.now) (table_after (site_of self.now peers accounts) deeds).entries }
     {
         let name = DialogName {
             call_id,
@@ -252,7 +278,8 @@ impl Calls {
 
     /// The call that lives and the side whose INVITE opened this server transaction (RFC 3261 §9.2).
     pub fn asked_by(&self, invite: TKey) -> Option<(CallNo, Side)>
-        ensures { (peers : Peers) (accounts : List AccountIdentity) (deeds : List Deed) → Stands peers accounts self.now deeds → result ≡ first_side (side_asking invite) (table_after (site_of self.now peers accounts) deeds).entries }
+        ensures { (peers : Peers) (accounts : List AccountIdentity) (deeds : List Deed) → Stands peers accounts self.now deeds →
+            result ≡ first_side (side_asking invite) (table_after (site_of self.now peers accounts) deeds).entries }
     {
         asked::asked_by(&self.entries, invite)
     }
@@ -273,14 +300,16 @@ impl Calls {
 
     /// The peer of a side's leg, and the account that is served there; None exactly where the call does not live or that side has no leg.
     pub fn party(&self, call: CallNo, side: Side) -> Option<(Peer, Option<Account>)>
-        ensures { (peers : Peers) (accounts : List AccountIdentity) (deeds : List Deed) → Stands peers accounts self.now deeds → result ≡ party call.0 side (table_after (site_of self.now peers accounts) deeds).entries }
+        ensures { (peers : Peers) (accounts : List AccountIdentity) (deeds : List Deed) → Stands peers accounts self.now deeds →
+            result ≡ party call.0 side (table_after (site_of self.now peers accounts) deeds).entries }
     {
         asked::party(&self.entries, call, side)
     }
 
     /// The rows of calls that are over and that were not handed over, in the order in which they were closed.
     pub fn rows_waiting(&self) -> &[Row]
-        ensures rows { (peers : Peers) (accounts : List AccountIdentity) (deeds : List Deed) → Stands peers accounts self.now deeds → result.now ≡ (table_after (site_of self.now peers accounts) deeds).rows }
+        ensures rows { (peers : Peers) (accounts : List AccountIdentity) (deeds : List Deed) → Stands peers accounts self.now deeds →
+            result.now ≡ (table_after (site_of self.now peers accounts) deeds).rows }
         ensures kept { result.now ≡ self.now.table.rows }
     {
         self.rows.items()
@@ -289,7 +318,8 @@ impl Calls {
     /// So many of the rows that wait were handed over.
     pub fn drop_rows(&mut self, count: usize)
         requires { count ≤ length self.old.table.rows }
-        ensures done { (peers : Peers) (accounts : List AccountIdentity) (deeds : List Deed) → Stands peers accounts self.old deeds → Stands peers accounts self.new (Drops count ∷ deeds) }
+        ensures done { (peers : Peers) (accounts : List AccountIdentity) (deeds : List Deed) → Stands peers accounts self.old deeds →
+            Stands peers accounts self.new (Drops count ∷ deeds) }
         ensures site { (peers : Peers) (accounts : List AccountIdentity) → site_of self.new peers accounts ≡ site_of self.old peers accounts }
     {
         drop_first(&mut self.rows, count);
@@ -302,7 +332,8 @@ impl Calls {
     /// `NotTalking` exactly where the call does not talk, or a leg of it is away.
     #[tactic(auto, using(crate::proofs::Away::without_meter))]
     pub fn release(&mut self, call: CallNo, side: Side) -> Result<Released, NotTalking>
-        ensures done { (peers : Peers) (accounts : List AccountIdentity) (deeds : List Deed) → Stands peers accounts self.old deeds → Stands peers accounts self.new (Releases call.0 side ∷ deeds) }
+        ensures done { (peers : Peers) (accounts : List AccountIdentity) (deeds : List Deed) → Stands peers accounts self.old deeds →
+            Stands peers accounts self.new (Releases call.0 side ∷ deeds) }
         ensures site { (peers : Peers) (accounts : List AccountIdentity) → site_of self.new peers accounts ≡ site_of self.old peers accounts }
         ensures leg { MatchResult result (λ leg. leg_out call.0 side self.old.table.entries ≡ Some leg) (λ refused. leg_out call.0 side self.old.table.entries ≡ None) }
         ensures away { IfOk result (λ leg. is_away (entry_of call.0 self.new.table.entries) ≡ true) }
@@ -317,7 +348,8 @@ impl Calls {
         requires fits { takes_back away (entry_of call.0 self.old.table.entries) ≡ true }
         requires meter { (released_leg away).meter ≡ None }
         ensures site { (peers : Peers) (accounts : List AccountIdentity) → site_of self.new peers accounts ≡ site_of self.old peers accounts }
-        ensures done { (peers : Peers) (accounts : List AccountIdentity) (deeds : List Deed) → Stands peers accounts self.old deeds → Stands peers accounts self.new (Restores call.0 away ∷ deeds) }
+        ensures done { (peers : Peers) (accounts : List AccountIdentity) (deeds : List Deed) → Stands peers accounts self.old deeds →
+            Stands peers accounts self.new (Restores call.0 away ∷ deeds) }
     {
         lending::restore(&mut self.entries, call, away);
     }
@@ -361,7 +393,8 @@ impl Calls {
     ///
     /// # Errors
     ///
-    /// Want of memory alone: the calls have failed then, and each later signal answers it and changes nothing. Of the tokens nothing is said then, but that they stay where the calls had failed before; so the layer above draws no more from them.
+    /// Want of memory alone: the calls have failed then, and each later signal answers it and changes nothing. Of the tokens nothing is said then, but that they stay where
+    /// the calls had failed before; so the layer above draws no more from them.
     pub fn finish(
         &mut self,
         alloc: Global,
@@ -372,9 +405,12 @@ impl Calls {
         now: Moment,
     ) -> Result<Emits, NoMemory>
         requires { is_away (entry_of call.0 self.old.table.entries) ≡ true }
-        ensures done { OnOk result ((deeds : List Deed) → Stands peers.now accounts.now self.old deeds → Stands peers.now accounts.now self.new (Finishes call.0 now tokens.old ∷ deeds)) }
-        ensures emits { IfOk result (λ out. (deeds : List Deed) → Stands peers.now accounts.now self.old deeds → out ≡ (finished_by (site_of self.old peers.now accounts.now) call.0 now tokens.old (table_after (site_of self.old peers.now accounts.now) deeds)).desk.out) }
-        ensures tokens { OnOk result ((deeds : List Deed) → Stands peers.now accounts.now self.old deeds → tokens.new ≡ (finished_by (site_of self.old peers.now accounts.now) call.0 now tokens.old (table_after (site_of self.old peers.now accounts.now) deeds)).desk.tokens) }
+        ensures done { OnOk result ((deeds : List Deed) → Stands peers.now accounts.now self.old deeds →
+            Stands peers.now accounts.now self.new (Finishes call.0 now tokens.old ∷ deeds)) }
+        ensures emits { IfOk result (λ out. (deeds : List Deed) → Stands peers.now accounts.now self.old deeds →
+            out ≡ (finished_by (site_of self.old peers.now accounts.now) call.0 now tokens.old (table_after (site_of self.old peers.now accounts.now) deeds)).desk.out) }
+        ensures tokens { OnOk result ((deeds : List Deed) → Stands peers.now accounts.now self.old deeds →
+            tokens.new ≡ (finished_by (site_of self.old peers.now accounts.now) call.0 now tokens.old (table_after (site_of self.old peers.now accounts.now) deeds)).desk.tokens) }
         ensures site { OnOk result ((peers : Peers) (accounts : List AccountIdentity) → site_of self.new peers accounts ≡ site_of self.old peers accounts) }
         ensures fails { IfErr result (λ e. (self.old.has_failed ≡ false → self.new.has_failed ≡ true)) }
         ensures stuck { self.old.has_failed ≡ true → IsErr result × ((self.new ≡ self.old) × (tokens.new ≡ tokens.old)) }

@@ -12,7 +12,8 @@ use Rattle.mmtel_call_laws.specs.Shown.{sign_of_result, signs_of, signs_of_targe
 use Rattle.mmtel_call_laws.specs.Story.{Start, is_over, opening_in}
 use Rattle.mmtel_b2bua.specs.Entries.{is_numbered}
 use Rattle.mmtel_b2bua.specs.Histories.{Deed, table_after}
-use Rattle.mmtel_b2bua_laws.specs.Deeds.{ArePutBack, HasNumbers, HaveOwnKeys, call_of, emits_of, entry_in, handed_after, life_of, out_by, rows_after as rows_of_all, rows_by, rows_of}
+use Rattle.mmtel_b2bua_laws.specs.Deeds.{ArePutBack, HasNumbers, HaveOwnKeys, call_of, emits_of, entry_in, handed_after, life_of, out_by, rows_after as rows_of_all}
+use Rattle.mmtel_b2bua_laws.specs.Deeds.{rows_by, rows_of}
 use Rattle.mmtel_b2bua_laws.specs.Known.{AreFitting, AreOthers, HaveOwnDesks, charges_after, endings_after, outcome_after, parts_after}
 use Rattle.mmtel_b2bua_laws.specs.Lives.{Event, Life, call_after, emits_after, emits_while_offered, rows_after}
 

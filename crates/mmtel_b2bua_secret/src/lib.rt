@@ -1,4 +1,5 @@
-//! What nobody may learn from the table of calls: two tables that are alike but for private places stay alike, whatever is done on them, and untrusted peers see the same of it. The crate has definitions and laws, and no code.
+//! What nobody may learn from the table of calls: two tables that are alike but for private places stay alike, whatever is done on them, and untrusted peers see the same
+//! of it. The crate has definitions and laws, and no code.
 #![tactic(auto)]
 
 mod laws;

@@ -1,4 +1,5 @@
--- Barring of calls (TS 24.611): on its way out a call is barred by the rules of the user who calls; on its way in it is refused where its caller hides who it is and the user rejects that (anonymous communication rejection), and else barred by the rules of the user who is called.
+-- Barring of calls (TS 24.611): on its way out a call is barred by the rules of the user who calls; on its way in it is refused where its caller hides who it is and the
+-- user rejects that (anonymous communication rejection), and else barred by the rules of the user who is called.
 --
 -- Of the other party only two things count: what it answers to the identity parts of the rules, and whether it has an identity.
 use Rattle.std.specs.Prelude.{Bool, ◌&&◌, List, [], Option, Some, None, if◌then◌else◌}

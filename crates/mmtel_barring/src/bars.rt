@@ -40,7 +40,8 @@ fn is_anonymous_refused(part: &BarPart, f: &Facts) -> bool
     part.reject_anonymous && f.restricted && has_identity(f.caller)
 }
 
-/// The rule of the user's barring of outgoing calls that bars this one; None where the user has none, or none bars it. The facts name the target as the identity. It takes no memory.
+/// The rule of the user's barring of outgoing calls that bars this one; None where the user has none, or none bars it. The facts name the target as the identity. It takes
+/// no memory.
 pub fn outgoing(s: &Sheet, f: &Facts) -> Option<Barred>
     ensures exact { let facts = f.entry.now in result ≡ outgoing_bar (known facts) s.now.outgoing }
 {
@@ -53,7 +54,8 @@ pub fn outgoing(s: &Sheet, f: &Facts) -> Option<Barred>
     }
 }
 
-/// Why the user's barring of incoming calls refuses this one; None where the user has none, or it does not. That the caller hides who it is comes before the rules; a caller that has no identity hides none. It takes no memory.
+/// Why the user's barring of incoming calls refuses this one; None where the user has none, or it does not. That the caller hides who it is comes before the rules; a
+/// caller that has no identity hides none. It takes no memory.
 pub fn incoming(s: &Sheet, f: &Facts) -> Option<Refusal>
     ensures exact { let facts = f.entry.now in result ≡ incoming_refusal (known facts) s.now.incoming }
 {

@@ -17,15 +17,18 @@ use mmtel_rules::laws::{barring_sees_answers_alone, order_of_rules_bars_alike};
 
 /// Two callers that answer the identity parts of the rules alike, and of whom both or neither have an identity, are refused alike.
 pub fn incoming_sees_answers_alone()
-    ensures same { (asks asks2 : Who → Bool) (k : Circumstances) (part : Option BarPart) → AnswerAlike asks asks2 (identity_parts (rules_of part)) → incoming_refusal (asked k asks) part ≡ incoming_refusal (asked k asks2) part }
-    ensures callers { (i j : Identities2) (k : Circumstances) (part : Option BarPart) → AnswerAlike (identity_holds i) (identity_holds j) (identity_parts (rules_of part)) → has_identity i ≡ has_identity j → incoming_refusal (of_party i k) part ≡ incoming_refusal (of_party j k) part }
+    ensures same { (asks asks2 : Who → Bool) (k : Circumstances) (part : Option BarPart) → AnswerAlike asks asks2 (identity_parts (rules_of part)) →
+        incoming_refusal (asked k asks) part ≡ incoming_refusal (asked k asks2) part }
+    ensures callers { (i j : Identities2) (k : Circumstances) (part : Option BarPart) → AnswerAlike (identity_holds i) (identity_holds j) (identity_parts (rules_of part)) →
+        has_identity i ≡ has_identity j → incoming_refusal (of_party i k) part ≡ incoming_refusal (of_party j k) part }
 {
     barring_sees_answers_alone();
 }
 
 /// Two targets that answer the identity parts of the rules alike are barred alike.
 pub fn outgoing_sees_answers_alone()
-    ensures same { (asks asks2 : Who → Bool) (k : Circumstances) (part : Option BarPart) → AnswerAlike asks asks2 (identity_parts (rules_of part)) → outgoing_bar (asked k asks) part ≡ outgoing_bar (asked k asks2) part }
+    ensures same { (asks asks2 : Who → Bool) (k : Circumstances) (part : Option BarPart) → AnswerAlike asks asks2 (identity_parts (rules_of part)) →
+        outgoing_bar (asked k asks) part ≡ outgoing_bar (asked k asks2) part }
 {
     barring_sees_answers_alone();
 }
@@ -39,21 +42,28 @@ pub fn only_who_hides_is_anonymous()
 
 /// A caller that hides its identity from a user who rejects that is refused as anonymous, whatever the rules are, those that allow it too.
 pub fn anonymous_comes_first()
-    ensures refused { (k : Circumstances) (part : BarPart) → part.reject_anonymous ≡ true → k.restricted ≡ true → k.has_identity ≡ true → incoming_refusal k (Some part) ≡ Some Anonymous }
+    ensures refused { (k : Circumstances) (part : BarPart) → part.reject_anonymous ≡ true → k.restricted ≡ true → k.has_identity ≡ true →
+        incoming_refusal k (Some part) ≡ Some Anonymous }
 {}
 
 /// A rule that holds as the call arrives and allows it keeps it from being barred, wherever it stands among the rules.
 pub fn allowing_rule_wins()
-    ensures outgoing { (k : Circumstances) (front back : List Rule) (r : Rule) (reject : Bool) → allows r.action ≡ true → rule_holds k arrival r ≡ true → outgoing_bar k (Some (record { rules = front ++ r ∷ back; reject_anonymous = reject })) ≡ None }
-    ensures incoming { (k : Circumstances) (front back : List Rule) (r : Rule) → allows r.action ≡ true → rule_holds k arrival r ≡ true → incoming_refusal k (Some (record { rules = front ++ r ∷ back; reject_anonymous = false })) ≡ None }
+    ensures outgoing { (k : Circumstances) (front back : List Rule) (r : Rule) (reject : Bool) → allows r.action ≡ true → rule_holds k arrival r ≡ true →
+        outgoing_bar k (Some (record { rules = front ++ r ∷ back; reject_anonymous = reject })) ≡ None }
+    ensures incoming { (k : Circumstances) (front back : List Rule) (r : Rule) → allows r.action ≡ true → rule_holds k arrival r ≡ true →
+        incoming_refusal k (Some (record { rules = front ++ r ∷ back; reject_anonymous = false })) ≡ None }
 {
     rules::allowing_rule_wins();
 }
 
 /// Whether a call is barred or refused does not depend on the order of the rules.
 pub fn order_of_rules_refuses_alike()
-    ensures outgoing { (k : Circumstances) (rules other : List Rule) (reject : Bool) → IsPermutation rules other → is_some (outgoing_bar k (Some (record { rules = rules; reject_anonymous = reject }))) ≡ is_some (outgoing_bar k (Some (record { rules = other; reject_anonymous = reject }))) }
-    ensures incoming { (k : Circumstances) (rules other : List Rule) (reject : Bool) → IsPermutation rules other → is_some (incoming_refusal k (Some (record { rules = rules; reject_anonymous = reject }))) ≡ is_some (incoming_refusal k (Some (record { rules = other; reject_anonymous = reject }))) }
+    ensures outgoing { (k : Circumstances) (rules other : List Rule) (reject : Bool) → IsPermutation rules other →
+        is_some (outgoing_bar k (Some (record { rules = rules; reject_anonymous = reject })))
+        ≡ is_some (outgoing_bar k (Some (record { rules = other; reject_anonymous = reject }))) }
+    ensures incoming { (k : Circumstances) (rules other : List Rule) (reject : Bool) → IsPermutation rules other →
+        is_some (incoming_refusal k (Some (record { rules = rules; reject_anonymous = reject })))
+        ≡ is_some (incoming_refusal k (Some (record { rules = other; reject_anonymous = reject }))) }
 {
     order_of_rules_bars_alike();
 }

@@ -32,7 +32,8 @@ refused site at caller cause c desk = over at cause caller.meter None c (told_ca
 abbrev pub refused_by : Site → (at : ℕ) → Leg → Option Service → Option Said → Cause → Call → Desk → Step
 refused_by site at caller service None cause c desk = refused site at caller cause c desk
 refused_by site at caller service (Some m) cause c desk =
-    if is_status (status_in m.heard.start) (handed_on cause) then over at cause caller.meter None c (relayed_to_caller site c service m desk) else refused site at caller cause c desk
+    if is_status (status_in m.heard.start) (handed_on cause) then over at cause caller.meter None c (relayed_to_caller site c service m desk)
+    else refused site at caller cause c desk
 
 -- ---- a diversion
 
@@ -72,13 +73,15 @@ offer_where None site at caller service waiting cause target c desk = refused si
 offer_where (Some peer) site at caller service waiting cause target c desk = offer site at caller service waiting (aim_at c.opening peer cause target) c desk
 
 -- by what was decided; `divert` says what a diversion comes to
-abbrev pub on_turn : (divert : Option Service → DueDiversion → Call → Desk → Step) → Site → (at : ℕ) → Leg → Option Service → Option Peer → (cause : Option ℕ) → Target → Turn → Call → Desk → Step
+abbrev pub on_turn : (divert : Option Service → DueDiversion → Call → Desk → Step) → Site → (at : ℕ) → Leg → Option Service → Option Peer → (cause : Option ℕ) → Target →
+    Turn → Call → Desk → Step
 on_turn divert site at caller service peer cause target (TurnOffer waiting) c desk = offer_where peer site at caller service waiting cause target c desk
 on_turn divert site at caller service peer cause target (TurnDivert due) c desk = divert service due (passed_by at service c) desk
 on_turn divert site at caller service peer cause target (TurnRefuse why) c desk = refused site at caller why (passed_by at service c) desk
 
 -- where this account is served there, and this peer leads to it
-abbrev pub where_served : (divert : Option Service → DueDiversion → Call → Desk → Step) → Site → Standing → Leg → Option Service → Option Peer → (cause : Option ℕ) → Target → Call → Desk → Step
+abbrev pub where_served : (divert : Option Service → DueDiversion → Call → Desk → Step) → Site → Standing → Leg → Option Service → Option Peer → (cause : Option ℕ) →
+    Target → Call → Desk → Step
 where_served divert site now caller service peer cause target c desk =
     on_turn divert site now.at caller service peer cause target (decided_at site now c.opening cause target service peer) c desk
 

@@ -1,5 +1,7 @@
--- INVITEs of a call that are not the one it waits on, whatever its phase: those that were left before they had a final answer, and those that had a 2xx (RFC 3261 §9.1, §13.2.2.4, §17.1.1.3).
-use Rattle.std.specs.Prelude.{ℕ, ◌+◌, ◌==◌, ◌&&◌, not, nat_le, nat_lt, Bool, true, false, if◌then◌else◌, Option, Some, None, List, ◌++◌, drop, option_to_list, position, slice_get, take}
+-- INVITEs of a call that are not the one it waits on, whatever its phase: those that were left before they had a final answer, and those that had a 2xx (RFC 3261 §9.1,
+-- §13.2.2.4, §17.1.1.3).
+use Rattle.std.specs.Prelude.{ℕ, ◌+◌, ◌==◌, ◌&&◌, not, nat_le, nat_lt, Bool, true, false, if◌then◌else◌, Option, Some, None, List, ◌++◌, drop, option_to_list, position}
+use Rattle.std.specs.Prelude.{slice_get, take}
 use Rattle.std.specs.Str.{bytes_eq}
 use Rattle.mmtel_answers.specs.Said.{Said, status_of}
 use Rattle.mmtel_desk.specs.Desks.{emitted}

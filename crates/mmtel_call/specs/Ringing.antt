@@ -166,7 +166,8 @@ given_up site at x c desk = over_offered at causes.Cancelled x (left x c) (cance
 
 -- CANCEL of the INVITE that opened the call; one of another INVITE, which has its final, has its 200 alone
 abbrev pub on_cancel : Site → (at : ℕ) → Trial → TKey → Said → (invite : TKey) → Call → Desk → Step
-on_cancel site at x key m invite c desk = if invite.0 == c.opening.key.0 then given_up site at x c (replied_to site c key m 200 desk) else onward c (replied_to site c key m 200 desk)
+on_cancel site at x key m invite c desk =
+    if invite.0 == c.opening.key.0 then given_up site at x c (replied_to site c key m 200 desk) else onward c (replied_to site c key m 200 desk)
 
 -- BYE of the caller is as its CANCEL; one of the target, which has no dialog to end, is refused
 abbrev pub on_heard : Site → (at : ℕ) → Trial → Side → TKey → Said → Call → Desk → Step

@@ -1,4 +1,5 @@
--- What a call sends: which lines of a side's message the other side is shown (RFC 3325 §5 and §7, RFC 3323 §5.1), and the answers to the caller (RFC 3261 §8.2.6, TS 24.604 §4.5.2.6).
+-- What a call sends: which lines of a side's message the other side is shown (RFC 3325 §5 and §7, RFC 3323 §5.1), and the answers to the caller (RFC 3261 §8.2.6, TS 24.604
+-- §4.5.2.6).
 use Rattle.std.specs.Prelude.{ℕ, Option, []}
 use Rattle.mmtel_answers.specs.Said.{Said}
 use Rattle.mmtel_desk.specs.declared.desks.Desk.{Desk}
@@ -27,4 +28,5 @@ told_diversion site c desk =
 
 -- a response of the target that the call is offered to
 abbrev pub relayed_to_caller : Site → Call → Option Service → Said → Desk → Desk
-relayed_to_caller site c service m desk = relayed site.sip c.opening.key c.opening.invite c.opening.tag (shown_to site c.opening c.diversions service Callee c.opening.invite.peer m) m desk
+relayed_to_caller site c service m desk =
+    relayed site.sip c.opening.key c.opening.invite c.opening.tag (shown_to site c.opening c.diversions service Callee c.opening.invite.peer m) m desk

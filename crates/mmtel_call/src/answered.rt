@@ -5,7 +5,8 @@ ghost use Rattle.mmtel_desk.specs.Sending.{acked, acked_for, asked_for, relayed_
 ghost use Rattle.mmtel_types.specs.Sides.{other_of};
 ghost use Rattle.mmtel_types.specs.declared.causes.Cause.TheVariants.{Ended as HasEnded};
 ghost use Rattle.mmtel_call_decisions.specs.Requests.{is_same_side};
-ghost use Rattle.mmtel_call.specs.Answered.{acked_across, acked_and_left, acknowledges, bye_across, bye_before_ack, bye_to, is_due, keeps_ack, leg_of, parted, shown_across, unacknowledged, with_ack};
+ghost use Rattle.mmtel_call.specs.Answered.{acked_across, acked_and_left, acknowledges, bye_across, bye_before_ack, bye_to, is_due, keeps_ack, leg_of, parted};
+ghost use Rattle.mmtel_call.specs.Answered.{shown_across, unacknowledged, with_ack};
 ghost use Rattle.mmtel_call.specs.Calls.{Over};
 ghost use Rattle.mmtel_call.specs.Closing.{over_stood};
 
@@ -331,7 +332,8 @@ impl Call {
         m: &Hearing,
         desk: &mut Desk,
     ) -> Result<(), NoMemory>
-        ensures done { OnOk result (desk.new ≡ asked_for setting.now.sip (codes "BYE") (leg_of (other_of side) x.old).dialogue (shown_across setting.now self.now x.old side m.now) m.now.heard desk.old) }
+        ensures done { OnOk result (desk.new
+            ≡ asked_for setting.now.sip (codes "BYE") (leg_of (other_of side) x.old).dialogue (shown_across setting.now self.now x.old side m.now) m.now.heard desk.old) }
         ensures caller { x.new.caller.meter ≡ x.old.caller.meter }
         ensures callee { x.new.callee.meter ≡ x.old.callee.meter }
     {
@@ -382,8 +384,10 @@ impl Call {
         m: &Hearing,
         desk: &mut Desk,
     ) -> Result<Text, NoMemory>
-        ensures text { IfOk result (λ t. t ≡ relayed_ack_text setting.now.sip (leg_of (other_of side) x.now).dialogue (token desk.old) (shown_across setting.now self.now x.now side m.now) m.now.heard) }
-        ensures done { OnOk result (desk.new ≡ acked_for setting.now.sip (leg_of (other_of side) x.now).dialogue (shown_across setting.now self.now x.now side m.now) m.now.heard desk.old) }
+        ensures text { IfOk result (λ t. t
+            ≡ relayed_ack_text setting.now.sip (leg_of (other_of side) x.now).dialogue (token desk.old) (shown_across setting.now self.now x.now side m.now) m.now.heard) }
+        ensures done { OnOk result (desk.new
+            ≡ acked_for setting.now.sip (leg_of (other_of side) x.now).dialogue (shown_across setting.now self.now x.now side m.now) m.now.heard desk.old) }
     {
         let lines = self.shown_across(alloc, setting, x, side, m)?;
         x.acknowledge_for(alloc, setting, side.other(), &lines, m, desk)

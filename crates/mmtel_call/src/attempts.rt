@@ -10,7 +10,8 @@ ghost use Rattle.mmtel_types.specs.declared.causes.Cause.TheVariants.{Ended as H
 ghost use Rattle.mmtel_types.specs.declared.sides.Side.TheVariants.{Callee as TheCallee, Caller};
 ghost use Rattle.mmtel_leg.specs.Remotes.{remote_of};
 ghost use Rattle.mmtel_call.specs.Calls.{Answered, Offered, Over, Stood};
-ghost use Rattle.mmtel_call.specs.Ringing.{answered, armed, awaiting_ack, early_said, having_met, loose, next_success, noted, proceeding, ringing, success_of, tag_given, with_loose};
+ghost use Rattle.mmtel_call.specs.Ringing.{answered, armed, awaiting_ack, early_said, having_met, loose, next_success, noted, proceeding, ringing, success_of, tag_given};
+ghost use Rattle.mmtel_call.specs.Ringing.{with_loose};
 
 use crate::calls::{Attempt, Call, Pair, Phase, Stage, Success, Taken, Trial};
 use crate::legs::said_by_callee;
@@ -315,7 +316,16 @@ impl Call {
         success: Success,
     ) -> Result<(), NoMemory>
         requires { self.old.phase ≡ Over HasEnded }
-        ensures { OnOk result (self.new ≡ record self.old { answered = Some at; successes = next_success self.old; taken = self.old.taken ++ record { invitation = has_said key x.attempt.invitation; tag = tag; within = false } ∷ []; phase = Stood (record { caller = x.caller; callee = with_dialogue x.callee.leg (met x.callee.leg.dialogue remote); service = x.attempt.service }) (Answered Caller success) }) }
+        ensures { OnOk result (self.new
+            ≡ record self.old {
+              answered = Some at;
+              successes = next_success self.old;
+              taken = self.old.taken ++
+                  record { invitation = has_said key x.attempt.invitation; tag = tag; within = false } ∷ [];
+              phase =
+                  Stood (record { caller = x.caller; callee = with_dialogue x.callee.leg (met x.callee.leg.dialogue remote); service = x.attempt.service })
+                  (Answered Caller success);
+            }) }
     {
         let Trial {
             caller,

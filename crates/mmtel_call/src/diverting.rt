@@ -104,7 +104,8 @@ impl Call {
         target: &Target,
     ) -> Result<(), NoMemory>
         requires { 0 < self.old.diversions.left }
-        ensures { OnOk result (self.new ≡ record self.old { diversions = diverted_list (uri_text target.now.uri) (self.old.diversions.left - 1) (told_due due.entry.now) self.old }) }
+        ensures { OnOk result (self.new
+            ≡ record self.old { diversions = diverted_list (uri_text target.now.uri) (self.old.diversions.left - 1) (told_due due.entry.now) self.old }) }
     {
         let from = Text::of(alloc, request_uri(self.opening.invite.message.start()))?;
         let uri = print_uri(alloc, &target.uri)?;
@@ -155,8 +156,10 @@ impl Call {
         desk: &mut Desk,
     ) -> Result<(), NoMemory>
         requires { self.old.phase ≡ Over HasEnded }
-        ensures call { OnOk result (self.new ≡ (divert self.old.diversions.left setting.now (standing present.now) caller (option_copied service.entry) (told_due due.entry.now) self.old desk.old).call) }
-        ensures desk { OnOk result (desk.new ≡ (divert self.old.diversions.left setting.now (standing present.now) caller (option_copied service.entry) (told_due due.entry.now) self.old desk.old).desk) }
+        ensures call { OnOk result (self.new
+            ≡ (divert self.old.diversions.left setting.now (standing present.now) caller (option_copied service.entry) (told_due due.entry.now) self.old desk.old).call) }
+        ensures desk { OnOk result (desk.new
+            ≡ (divert self.old.diversions.left setting.now (standing present.now) caller (option_copied service.entry) (told_due due.entry.now) self.old desk.old).desk) }
     {
         let opening = &self.opening;
         match opening.weigh_diversion(alloc, setting, present.at, service, due) {
@@ -190,8 +193,10 @@ impl Call {
         requires phase { self.old.phase ≡ Over HasEnded }
         requires target { target ≡ target_of setting.now (told_due due.now) }
         requires passed { is_barred setting.now self.old.opening present.now.at (option_copied service) (told_due due.now) ≡ false }
-        ensures call { OnOk result (self.new ≡ (divert self.old.diversions.left setting.now (standing present.now) caller (option_copied service.entry) (told_due due.entry.now) self.old desk.old).call) }
-        ensures desk { OnOk result (desk.new ≡ (divert self.old.diversions.left setting.now (standing present.now) caller (option_copied service.entry) (told_due due.entry.now) self.old desk.old).desk) }
+        ensures call { OnOk result (self.new
+            ≡ (divert self.old.diversions.left setting.now (standing present.now) caller (option_copied service.entry) (told_due due.entry.now) self.old desk.old).call) }
+        ensures desk { OnOk result (desk.new
+            ≡ (divert self.old.diversions.left setting.now (standing present.now) caller (option_copied service.entry) (told_due due.entry.now) self.old desk.old).desk) }
     {
         if self.diversions.left() == 0 {
             let cause = Cause::TooManyDiversions {
@@ -240,8 +245,12 @@ impl Call {
         desk: &mut Desk,
     ) -> Result<(), NoMemory>
         requires { self.old.phase ≡ Over HasEnded }
-        ensures call { OnOk result (self.new ≡ (at_target (divert self.old.diversions.left setting.now (standing present.now) caller) setting.now (standing present.now) caller cause target self.old desk.old).call) }
-        ensures desk { OnOk result (desk.new ≡ (at_target (divert self.old.diversions.left setting.now (standing present.now) caller) setting.now (standing present.now) caller cause target self.old desk.old).desk) }
+        ensures call { OnOk result (self.new
+            ≡ (at_target (divert self.old.diversions.left setting.now (standing present.now) caller) setting.now
+            (standing present.now) caller cause target self.old desk.old).call) }
+        ensures desk { OnOk result (desk.new
+            ≡ (at_target (divert self.old.diversions.left setting.now (standing present.now) caller) setting.now
+            (standing present.now) caller cause target self.old desk.old).desk) }
     {
         match self.weigh_target(alloc, setting, present, cause, &target) {
             Err(error) => {
@@ -269,8 +278,12 @@ impl Call {
         desk: &mut Desk,
     ) -> Result<(), NoMemory>
         requires { self.old.phase ≡ Over HasEnded }
-        ensures call { OnOk result (self.new ≡ (where_served (divert self.old.diversions.left setting.now (standing present.now) caller) setting.now (standing present.now) caller service peer cause target self.old desk.old).call) }
-        ensures desk { OnOk result (desk.new ≡ (where_served (divert self.old.diversions.left setting.now (standing present.now) caller) setting.now (standing present.now) caller service peer cause target self.old desk.old).desk) }
+        ensures call { OnOk result (self.new
+            ≡ (where_served (divert self.old.diversions.left setting.now (standing present.now) caller) setting.now
+            (standing present.now) caller service peer cause target self.old desk.old).call) }
+        ensures desk { OnOk result (desk.new
+            ≡ (where_served (divert self.old.diversions.left setting.now (standing present.now) caller) setting.now
+            (standing present.now) caller service peer cause target self.old desk.old).desk) }
     {
         let at = present.at;
         let turn = self
@@ -384,8 +397,12 @@ impl Call {
         desk: &mut Desk,
     ) -> Result<(), NoMemory>
         requires { self.old.phase ≡ Over HasEnded }
-        ensures call { OnOk result (self.new ≡ (on_end setting.now (standing present.now) caller (option_copied service.entry) (option_copied response.entry) (decided_after self.old.opening present.now.at (option_copied service.entry) (told_end how.entry.now)) self.old desk.old).call) }
-        ensures desk { OnOk result (desk.new ≡ (on_end setting.now (standing present.now) caller (option_copied service.entry) (option_copied response.entry) (decided_after self.old.opening present.now.at (option_copied service.entry) (told_end how.entry.now)) self.old desk.old).desk) }
+        ensures call { OnOk result (self.new
+            ≡ (on_end setting.now (standing present.now) caller (option_copied service.entry) (option_copied response.entry)
+            (decided_after self.old.opening present.now.at (option_copied service.entry) (told_end how.entry.now)) self.old desk.old).call) }
+        ensures desk { OnOk result (desk.new
+            ≡ (on_end setting.now (standing present.now) caller (option_copied service.entry) (option_copied response.entry)
+            (decided_after self.old.opening present.now.at (option_copied service.entry) (told_end how.entry.now)) self.old desk.old).desk) }
     {
         let at = present.at;
         match self.opening.decide_after(present, service, how) {

@@ -1,7 +1,8 @@
 //! INVITEs of a call that are not the one it waits on.
 ghost use Rattle.std.specs.Prelude.{◌≡◌, ◌<◌, ℕ, length, OnOk, position, Some, slice_get};
 ghost use Rattle.mmtel_answers.specs.Said.{Said};
-ghost use Rattle.mmtel_call.specs.Leaving.{answered_loose, answered_other, answered_taken, forked, is_fork, is_key, is_loose_key, is_success, is_taken, is_taken_key, is_talking, repeated, without, without_key, without_silent};
+ghost use Rattle.mmtel_call.specs.Leaving.{answered_loose, answered_other, answered_taken, forked, is_fork, is_key, is_loose_key, is_success, is_taken, is_taken_key};
+ghost use Rattle.mmtel_call.specs.Leaving.{is_talking, repeated, without, without_key, without_silent};
 ghost use Rattle.mmtel_call.specs.Ringing.{tag_given};
 
 use crate::calls::{Call, Phase, Stage, Taken};

@@ -4,7 +4,8 @@ ghost use Rattle.mmtel_desk.specs.Sending.{bye};
 ghost use Rattle.mmtel_leg.specs.Releases.{released_leg};
 ghost use Rattle.mmtel_types.specs.declared.causes.Cause.TheVariants.{Ended as HasEnded};
 ghost use Rattle.mmtel_call.specs.Calls.{Over, Stood};
-ghost use Rattle.mmtel_call.specs.Lending.{finished, finished_by, first_of, fits, fits_in, is_lent, last_of, lent_at, lent_in, loan_of, pair_with, put_back_in, taken_out, taken_out_at, taken_out_in, with_meter};
+ghost use Rattle.mmtel_call.specs.Lending.{finished, finished_by, first_of, fits, fits_in, is_lent, last_of, lent_at, lent_in, loan_of, pair_with, put_back_in, taken_out};
+ghost use Rattle.mmtel_call.specs.Lending.{taken_out_at, taken_out_in, with_meter};
 
 use crate::calls::{Call, Loan, Pair, Phase, Stage};
 use crate::closing::give_up_meter;

@@ -90,7 +90,15 @@ impl Call {
         dialogue: Dialogue,
     )
         requires { self.old.phase ≡ Over HasEnded }
-        ensures { self.new ≡ record self.old { attempts = next_attempt self.old; phase = Offered (record { caller = caller; callee = record { leg = record { dialogue = called dialogue; meter = meter_for Terminating self.old at service }; is_early = false }; attempt = record { number = next_attempt self.old; service = service; rang = false; invitation = invitation } }) } }
+        ensures { self.new ≡ record self.old {
+          attempts = next_attempt self.old;
+          phase = Offered (record {
+            caller = caller;
+            callee = record { leg = record { dialogue = called dialogue; meter = meter_for Terminating self.old at service }; is_early = false };
+            attempt =
+                record { number = next_attempt self.old; service = service; rang = false; invitation = invitation };
+          });
+        } }
     {
         let number = self.next_attempt();
         let meter = meter_for(Kind::Terminating, self, at, service.as_ref());

@@ -10,7 +10,9 @@ ghost use Rattle.mmtel_types.specs.declared.causes.Cause.TheVariants.{Ended as H
 ghost use Rattle.mmtel_call.specs.Answered.{at_stage, bye_to, leg_of, with_leg};
 ghost use Rattle.mmtel_call.specs.Calls.{Over, Talking};
 ghost use Rattle.mmtel_call.specs.Closing.{onward, over_stood};
-ghost use Rattle.mmtel_call.specs.Reinvites.{agreed, asked_across, bye_to_both, bye_while_asking, cancelled_across, cancelled_if_due, cancelling, ended_dialogs, ends_dialog, having_invited, held_by, invited, on_response_across, proceeding, proceeding_across, refused_back, relayed_back, sent_in, silenced_across};
+ghost use Rattle.mmtel_call.specs.Reinvites.{agreed, asked_across, bye_to_both, bye_while_asking, cancelled_across, cancelled_if_due, cancelling, ended_dialogs};
+ghost use Rattle.mmtel_call.specs.Reinvites.{ends_dialog, having_invited, held_by, invited, on_response_across, proceeding, proceeding_across, refused_back, relayed_back};
+ghost use Rattle.mmtel_call.specs.Reinvites.{sent_in, silenced_across};
 ghost use Rattle.mmtel_call.specs.Ringing.{awaiting_ack, next_success, success_of, tag_given, with_loose};
 ghost use Rattle.mmtel_call.specs.Sending.{replied_to};
 
@@ -338,7 +340,8 @@ impl Call {
         direction: Option<Direction>,
         taken: Taken,
     ) -> Result<(), NoMemory>
-        ensures done { OnOk result (self.new ≡ record self.old { successes = next_success self.old; hold = held_by side direction self.old.hold; taken = self.old.taken ++ taken ∷ [] }) }
+        ensures done { OnOk result (self.new
+            ≡ record self.old { successes = next_success self.old; hold = held_by side direction self.old.hold; taken = self.old.taken ++ taken ∷ [] }) }
         ensures phase { self.new.phase ≡ self.old.phase }
     {
         self.successes = self.successes.saturating_add(1);
@@ -439,8 +442,12 @@ impl Call {
         desk: &mut Desk,
     ) -> Result<(), NoMemory>
         requires { self.old.phase ≡ Over HasEnded }
-        ensures call { OnOk result (self.new ≡ (if ends_dialog code then over_stood at x self.old (bye_to_both setting.now x (refused_back setting.now x side q.now key m.now self.old desk.old)) else onward (at_stage x Talking self.old) (refused_back setting.now x side q.now key m.now self.old desk.old)).call) }
-        ensures desk { OnOk result (desk.new ≡ (if ends_dialog code then over_stood at x self.old (bye_to_both setting.now x (refused_back setting.now x side q.now key m.now self.old desk.old)) else onward (at_stage x Talking self.old) (refused_back setting.now x side q.now key m.now self.old desk.old)).desk) }
+        ensures call { OnOk result (self.new
+            ≡ (if ends_dialog code then over_stood at x self.old (bye_to_both setting.now x (refused_back setting.now x side q.now key m.now self.old desk.old))
+            else onward (at_stage x Talking self.old) (refused_back setting.now x side q.now key m.now self.old desk.old)).call) }
+        ensures desk { OnOk result (desk.new
+            ≡ (if ends_dialog code then over_stood at x self.old (bye_to_both setting.now x (refused_back setting.now x side q.now key m.now self.old desk.old))
+            else onward (at_stage x Talking self.old) (refused_back setting.now x side q.now key m.now self.old desk.old)).desk) }
     {
         if ends_dialog(code) {
             return self.end_by_answer(alloc, setting, at, x, side, q, key, m, desk);
@@ -588,8 +595,12 @@ impl Call {
         desk: &mut Desk,
     ) -> Result<(), NoMemory>
         requires { self.old.phase ≡ Over HasEnded }
-        ensures call { OnOk result (self.new ≡ (over_stood at x (with_loose (record { invitation = record q.invitation { forks = forks }; within = true }) self.old) (bye_to setting.now x (other_of leaving) (replied_to setting.now self.old q.key q.request 487 desk.old))).call) }
-        ensures desk { OnOk result (desk.new ≡ (over_stood at x (with_loose (record { invitation = record q.invitation { forks = forks }; within = true }) self.old) (bye_to setting.now x (other_of leaving) (replied_to setting.now self.old q.key q.request 487 desk.old))).desk) }
+        ensures call { OnOk result (self.new
+            ≡ (over_stood at x (with_loose (record { invitation = record q.invitation { forks = forks }; within = true }) self.old)
+            (bye_to setting.now x (other_of leaving) (replied_to setting.now self.old q.key q.request 487 desk.old))).call) }
+        ensures desk { OnOk result (desk.new
+            ≡ (over_stood at x (with_loose (record { invitation = record q.invitation { forks = forks }; within = true }) self.old)
+            (bye_to setting.now x (other_of leaving) (replied_to setting.now self.old q.key q.request 487 desk.old))).desk) }
     {
         let mut x = x;
         let passed = self.pass_leaving(alloc, setting, &mut x, &q, leaving, desk);

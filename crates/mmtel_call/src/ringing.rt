@@ -41,8 +41,12 @@ impl Call {
         desk: &mut Desk,
     ) -> Result<(), NoMemory>
         requires { self.old.phase ≡ Over HasEnded }
-        ensures call { OnOk result (self.new ≡ (on_end setting.now (standing present.now) caller (option_copied service.entry) (option_copied response.entry) (decided_after self.old.opening present.now.at (option_copied service.entry) (told_end how.entry.now)) (with_past callee.leg.meter self.old) desk.old).call) }
-        ensures desk { OnOk result (desk.new ≡ (on_end setting.now (standing present.now) caller (option_copied service.entry) (option_copied response.entry) (decided_after self.old.opening present.now.at (option_copied service.entry) (told_end how.entry.now)) (with_past callee.leg.meter self.old) desk.old).desk) }
+        ensures call { OnOk result (self.new
+            ≡ (on_end setting.now (standing present.now) caller (option_copied service.entry) (option_copied response.entry)
+            (decided_after self.old.opening present.now.at (option_copied service.entry) (told_end how.entry.now)) (with_past callee.leg.meter self.old) desk.old).call) }
+        ensures desk { OnOk result (desk.new
+            ≡ (on_end setting.now (standing present.now) caller (option_copied service.entry) (option_copied response.entry)
+            (decided_after self.old.opening present.now.at (option_copied service.entry) (told_end how.entry.now)) (with_past callee.leg.meter self.old) desk.old).desk) }
     {
         let kept = self.keep_meter(alloc, callee.leave(), present.at);
         match kept {
@@ -113,8 +117,10 @@ impl Call {
     ) -> Result<(), NoMemory>
         requires phase { self.old.phase ≡ Over HasEnded }
         requires code { 200 ≤ code }
-        ensures call { OnOk result (self.new ≡ (goes_on setting.now (standing present.now) x (end_by_final code (option_copied redirect.entry) x.attempt.rang) (Some m.now) self.old desk.old).call) }
-        ensures desk { OnOk result (desk.new ≡ (goes_on setting.now (standing present.now) x (end_by_final code (option_copied redirect.entry) x.attempt.rang) (Some m.now) self.old desk.old).desk) }
+        ensures call { OnOk result (self.new
+            ≡ (goes_on setting.now (standing present.now) x (end_by_final code (option_copied redirect.entry) x.attempt.rang) (Some m.now) self.old desk.old).call) }
+        ensures desk { OnOk result (desk.new
+            ≡ (goes_on setting.now (standing present.now) x (end_by_final code (option_copied redirect.entry) x.attempt.rang) (Some m.now) self.old desk.old).desk) }
     {
         let how = end_of(code, redirect, x.attempt.rang);
         self.go_on_after(alloc, setting, present, x, &how, Some(m), desk)
@@ -241,8 +247,14 @@ impl Call {
         desk: &mut Desk,
     ) -> Result<(), NoMemory>
         requires { self.old.phase ≡ Over HasEnded }
-        ensures call { OnOk result (self.new ≡ (on_end setting.now (standing present.now) caller (option_copied service.entry) None (decided_after self.old.opening present.now.at (option_copied service.entry) (told_end how.entry.now)) (with_past callee.leg.meter (with_loose (loose (once_cancelled invitation)) self.old)) (cancelled setting.now.sip invitation desk.old)).call) }
-        ensures desk { OnOk result (desk.new ≡ (on_end setting.now (standing present.now) caller (option_copied service.entry) None (decided_after self.old.opening present.now.at (option_copied service.entry) (told_end how.entry.now)) (with_past callee.leg.meter (with_loose (loose (once_cancelled invitation)) self.old)) (cancelled setting.now.sip invitation desk.old)).desk) }
+        ensures call { OnOk result (self.new
+            ≡ (on_end setting.now (standing present.now) caller (option_copied service.entry) None
+            (decided_after self.old.opening present.now.at (option_copied service.entry) (told_end how.entry.now))
+            (with_past callee.leg.meter (with_loose (loose (once_cancelled invitation)) self.old)) (cancelled setting.now.sip invitation desk.old)).call) }
+        ensures desk { OnOk result (desk.new
+            ≡ (on_end setting.now (standing present.now) caller (option_copied service.entry) None
+            (decided_after self.old.opening present.now.at (option_copied service.entry) (told_end how.entry.now))
+            (with_past callee.leg.meter (with_loose (loose (once_cancelled invitation)) self.old)) (cancelled setting.now.sip invitation desk.old)).desk) }
     {
         let cancelled = desk.cancel(alloc, setting.sip, &invitation);
         let left = self.leave_attempt(alloc, invitation);

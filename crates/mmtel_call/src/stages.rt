@@ -2,7 +2,8 @@
 ghost use Rattle.std.specs.Prelude.{◌≡◌, OnErr, OnOk};
 ghost use Rattle.mmtel_types.specs.declared.causes.Cause.TheVariants.{Ended as HasEnded};
 ghost use Rattle.mmtel_call.specs.Calls.{Answered, Over, Parting, Stood};
-ghost use Rattle.mmtel_call.specs.Stages.{busy_in, has_left, is_due_at, left_by, on_ack_at, on_bye, on_cancel_at, on_due_at, on_heard_at, on_invite, on_request_at, on_response_at, on_silence_at, rung_out};
+ghost use Rattle.mmtel_call.specs.Stages.{busy_in, has_left, is_due_at, left_by, on_ack_at, on_bye, on_cancel_at, on_due_at, on_heard_at, on_invite, on_request_at};
+ghost use Rattle.mmtel_call.specs.Stages.{on_response_at, on_silence_at, rung_out};
 ghost use Rattle.mmtel_call.specs.Answered.{leg_of, with_leg};
 ghost use Rattle.mmtel_call.specs.Requests.{having_heard, says};
 
@@ -247,8 +248,10 @@ impl Call {
         desk: &mut Desk,
     ) -> Result<(), NoMemory>
         requires { self.old.phase ≡ Over HasEnded }
-        ensures call { OnOk result (self.new ≡ (on_ack_at (Answered waiting success) setting.now at x side m.now (record self.old { phase = Stood x (Answered waiting success) }) desk.old).call) }
-        ensures desk { OnOk result (desk.new ≡ (on_ack_at (Answered waiting success) setting.now at x side m.now (record self.old { phase = Stood x (Answered waiting success) }) desk.old).desk) }
+        ensures call { OnOk result (self.new
+            ≡ (on_ack_at (Answered waiting success) setting.now at x side m.now (record self.old { phase = Stood x (Answered waiting success) }) desk.old).call) }
+        ensures desk { OnOk result (desk.new
+            ≡ (on_ack_at (Answered waiting success) setting.now at x side m.now (record self.old { phase = Stood x (Answered waiting success) }) desk.old).desk) }
     {
         match acknowledges(alloc, waiting, &success, side, m) {
             Err(error) => {
@@ -274,8 +277,10 @@ impl Call {
         desk: &mut Desk,
     ) -> Result<(), NoMemory>
         requires { self.old.phase ≡ Over HasEnded }
-        ensures call { OnOk result (self.new ≡ (on_ack_at (Parting waiting success) setting.now at x side m.now (record self.old { phase = Stood x (Parting waiting success) }) desk.old).call) }
-        ensures desk { OnOk result (desk.new ≡ (on_ack_at (Parting waiting success) setting.now at x side m.now (record self.old { phase = Stood x (Parting waiting success) }) desk.old).desk) }
+        ensures call { OnOk result (self.new
+            ≡ (on_ack_at (Parting waiting success) setting.now at x side m.now (record self.old { phase = Stood x (Parting waiting success) }) desk.old).call) }
+        ensures desk { OnOk result (desk.new
+            ≡ (on_ack_at (Parting waiting success) setting.now at x side m.now (record self.old { phase = Stood x (Parting waiting success) }) desk.old).desk) }
     {
         match acknowledges(alloc, waiting, &success, side, m) {
             Err(error) => {

@@ -128,8 +128,10 @@ impl Call {
         desk: &mut Desk,
     ) -> Result<(), NoMemory>
         requires { self.old.phase ≡ Over HasEnded }
-        ensures call { OnOk result (self.new ≡ (on_response setting.now (standing present.now) x key m.now (status_of m.now.heard.start) (record self.old { phase = Offered x }) desk.old).call) }
-        ensures desk { OnOk result (desk.new ≡ (on_response setting.now (standing present.now) x key m.now (status_of m.now.heard.start) (record self.old { phase = Offered x }) desk.old).desk) }
+        ensures call { OnOk result (self.new
+            ≡ (on_response setting.now (standing present.now) x key m.now (status_of m.now.heard.start) (record self.old { phase = Offered x }) desk.old).call) }
+        ensures desk { OnOk result (desk.new
+            ≡ (on_response setting.now (standing present.now) x key m.now (status_of m.now.heard.start) (record self.old { phase = Offered x }) desk.old).desk) }
     {
         self.hear_response(alloc, setting, present, x, key, m, desk)
     }

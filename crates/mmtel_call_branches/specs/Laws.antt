@@ -41,7 +41,9 @@ EndsSendOnce = (site : Site) (at : ℕ) (c : Call) (before : List (Peer × Messa
     CallWasSent (WasSent site.sip before) c → SendsOnce site.sip before tokens (finished site at c (fresh tokens))
 
 abbrev pub LentCallsWereSent : Type 0
-LentCallsWereSent = (sip : Addr) (side : Side) (c : Call) (before : List (Peer × Message Start)) → CallWasSent (WasSent sip before) c → CallWasSent (WasSent sip before) (lent_in c.phase side c)
+LentCallsWereSent = (sip : Addr) (side : Side) (c : Call) (before : List (Peer × Message Start)) → CallWasSent (WasSent sip before) c →
+    CallWasSent (WasSent sip before) (lent_in c.phase side c)
 
 abbrev pub ReturnedCallsWereSent : Type 0
-ReturnedCallsWereSent = (sip : Addr) (away : Released) (c : Call) (before : List (Peer × Message Start)) → CallWasSent (WasSent sip before) c → CallWasSent (WasSent sip before) (put_back_in c.phase away c)
+ReturnedCallsWereSent = (sip : Addr) (away : Released) (c : Call) (before : List (Peer × Message Start)) → CallWasSent (WasSent sip before) c →
+    CallWasSent (WasSent sip before) (put_back_in c.phase away c)

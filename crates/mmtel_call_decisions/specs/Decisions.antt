@@ -1,4 +1,6 @@
--- What is decided of a call at a target and after an attempt (TS 24.604 §4.5.2.6, TS 24.611 §4.5.2, TS 24.615 §4.5.5): what is known of the call and how its target stands is put together here, and mmtel_precedence decides, with no message in it. And what follows of it: to whom an attempt goes, how long it may ring, and which final is handed on.
+-- What is decided of a call at a target and after an attempt (TS 24.604 §4.5.2.6, TS 24.611 §4.5.2, TS 24.615 §4.5.5): what is known of the call and how its target stands
+-- is put together here, and mmtel_precedence decides, with no message in it. And what follows of it: to whom an attempt goes, how long it may ring, and which final is
+-- handed on.
 use Rattle.std.specs.Prelude.{ℕ, ◌==◌, Bool, false, Option, Some, None, is_none}
 use Rattle.std.specs.Option.{option_map, option_map_or, option_or}
 use Rattle.mmtel_scan.specs.Chain.{◌>>=◌}

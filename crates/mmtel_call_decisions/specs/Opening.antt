@@ -1,4 +1,5 @@
--- What is known of a call as it opens (RFC 3261 §12.1.1, RFC 3323 §4.2, RFC 5502 §4, TS 24.611 §4.5.2): it is read of the INVITE and of the record of the account that is served as the caller.
+-- What is known of a call as it opens (RFC 3261 §12.1.1, RFC 3323 §4.2, RFC 5502 §4, TS 24.611 §4.5.2): it is read of the INVITE and of the record of the account that is
+-- served as the caller.
 use Rattle.std.specs.Prelude.{ℕ, ◌-◌, false, if◌then◌else◌, Option, List, [], codes, is_ok}
 use Rattle.std.specs.Option.{option_map, unwrap_or}
 use Rattle.mmtel_answers.specs.Said.{Said}

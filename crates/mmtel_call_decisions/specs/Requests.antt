@@ -1,4 +1,5 @@
--- What is decided of a request of a side, and of a 2xx that is heard again: whose ACK it is (RFC 3261 §13.2.2.4), whether a 2xx is of another dialog (§13.2.2.4), and which status a request gets that no row of the step table has (§11.2, §12.2.2).
+-- What is decided of a request of a side, and of a 2xx that is heard again: whose ACK it is (RFC 3261 §13.2.2.4), whether a 2xx is of another dialog (§13.2.2.4), and which
+-- status a request gets that no row of the step table has (§11.2, §12.2.2).
 use Rattle.std.specs.Prelude.{ℕ, ◌==◌, ◌&&◌, not, Bool, true, false, if◌then◌else◌, Option, Some, None, List, codes}
 use Rattle.std.specs.Str.{bytes_eq}
 use Rattle.mmtel_scan.specs.Chain.{◌>>=◌}

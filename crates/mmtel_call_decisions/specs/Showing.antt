@@ -21,10 +21,16 @@ use Rattle.mmtel_call_decisions.specs.declared.openings.Service.{Service}
 abbrev pub masks_all : Opening → Bool
 masks_all o = o.invite.heard.wants.history
 
--- who sees what of a side's message: the caller is restricted for the whole call, the callee by its own message and the record of its attempt; each side is shown the other by the record of the account that is served there
+-- who sees what of a side's message: the caller is restricted for the whole call, the callee by its own message and the record of its attempt; each side is shown the other
+-- by the record of the account that is served there
 abbrev pub facing : Opening → Option Service → Side → Said → Facing
 facing o service Caller m = record { from_trusted = m.heard.trusted; restricted = o.restricted; present = is_presented (its_sheet service) Callee; mask_all = masks_all o }
-facing o service Callee m = record { from_trusted = m.heard.trusted; restricted = is_callee_restricted m.heard.wants (its_sheet service); present = is_presented o.sheet Caller; mask_all = masks_all o }
+facing o service Callee m = record {
+  from_trusted = m.heard.trusted;
+  restricted = is_callee_restricted m.heard.wants (its_sheet service);
+  present = is_presented o.sheet Caller;
+  mask_all = masks_all o;
+}
 
 -- the list as a 181 tells it, of the last diversion
 abbrev pub told_list : Diverted → List Entry

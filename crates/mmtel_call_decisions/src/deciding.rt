@@ -8,7 +8,8 @@ ghost use Rattle.mmtel_rules.specs.Circumstances.{known};
 ghost use Rattle.mmtel_lex.specs.Reading.{uri_of};
 ghost use Rattle.mmtel_trust.specs.Asserted.{or_no_uri, uri_in};
 ghost use Rattle.mmtel_trust.specs.Mask.{redirects};
-ghost use Rattle.mmtel_call_decisions.specs.Decisions.{account_by, account_for, aim_at, circumstances, decided_after, decided_at, is_barred, its_sheet, of_target, peer_for, reach_at, redirect_of, served_at, service_at, target_of, told_at};
+ghost use Rattle.mmtel_call_decisions.specs.Decisions.{account_by, account_for, aim_at, circumstances, decided_after, decided_at, is_barred, its_sheet, of_target};
+ghost use Rattle.mmtel_call_decisions.specs.Decisions.{peer_for, reach_at, redirect_of, served_at, service_at, target_of, told_at};
 ghost use Rattle.mmtel_call_decisions.specs.Site.{calls_among, standing};
 
 use crate::openings::{Opening, Service};
@@ -188,7 +189,8 @@ impl Opening {
         turn_at(&self.facts(&self.identities, present.at), &reached)
     }
 
-    /// What is done with the call after an attempt that ended so: by the record under which it was offered, which the attempt keeps, and not by the one in force at its end (TS 24.604 §4.5.2.6).
+    /// What is done with the call after an attempt that ended so: by the record under which it was offered, which the attempt keeps, and not by the one in force at its end
+    /// (TS 24.604 §4.5.2.6).
     pub fn decide_after<'a>(
         &self,
         present: &Present<'a>,

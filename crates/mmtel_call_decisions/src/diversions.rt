@@ -87,7 +87,13 @@ impl Diversions {
         hides_target: bool,
     ) -> Result<(), NoMemory>
         requires { 0 < self.old.left }
-        ensures noted { OnOk result (self.new ≡ record { left = self.old.left - 1; history = appended self.old.history from.now target.now cause hides_last; hides_diverting = hides_diverting; hides_target = hides_target }) }
+        ensures noted { OnOk result (self.new
+            ≡ record {
+              left = self.old.left - 1;
+              history = appended self.old.history from.now target.now cause hides_last;
+              hides_diverting = hides_diverting;
+              hides_target = hides_target;
+            }) }
         ensures refused { OnErr result (self.new ≡ self.old) }
     {
         self.history.append(alloc, from, target, cause, hides_last)?;

@@ -71,7 +71,8 @@ pub fn is_other_dialog(within: bool, own: &[u8], tag: &[u8]) -> bool
     !within && tag != own
 }
 
-/// The status that a request gets that no row of the step table has: 200 to OPTIONS (RFC 3261 §11.2), 403 to REFER, which only a room takes, and 481 to what is asked at the wrong time (§12.2.2).
+/// The status that a request gets that no row of the step table has: 200 to OPTIONS (RFC 3261 §11.2), 403 to REFER, which only a room takes, and 481 to what is asked at
+/// the wrong time (§12.2.2).
 pub fn unlisted_status(start: &Start) -> u16
     ensures exact { result ≡ unlisted_status start.now }
 {

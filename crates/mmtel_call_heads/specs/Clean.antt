@@ -1,4 +1,5 @@
--- Messages that are clean: their start line and their lines are one line each, so that the bytes of a message, parted at its line ends, are its own lines and nobody else's (RFC 3261 §7, §25.1).
+-- Messages that are clean: their start line and their lines are one line each, so that the bytes of a message, parted at its line ends, are its own lines and nobody else's
+-- (RFC 3261 §7, §25.1).
 use Rattle.std.specs.Prelude.{◌≡◌, true, ◌&&◌, ℕ, Bool, List, [], ◌∷◌, ◌++◌, codes, map}
 use Rattle.std.specs.List.{list_all}
 use Rattle.mmtel_message.specs.Headers.{is_value_byte}

@@ -1,4 +1,5 @@
--- What a call is given: messages as the reader leaves them, and records and a directory whose URIs are clean. Each URI of the grammar has visible bytes alone (RFC 3261 §19.1.1, §25.1), which are clean.
+-- What a call is given: messages as the reader leaves them, and records and a directory whose URIs are clean. Each URI of the grammar has visible bytes alone (RFC 3261
+-- §19.1.1, §25.1), which are clean.
 use Rattle.std.specs.Prelude.{◌≡◌, true, ℕ, Bool, IfSome}
 use Rattle.std.specs.List.{list_all}
 use Rattle.mmtel_lex.specs.Grammar.{uri_text}

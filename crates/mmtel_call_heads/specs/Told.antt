@@ -12,7 +12,8 @@ use Rattle.mmtel_call_heads.specs.Kept.{AreCleanEntries}
 
 -- the lines that the header table shows of clean lines, with clean entries of History-Info
 abbrev pub ShownLinesAreClean : Type 0
-ShownLinesAreClean = (f : Facing) (to_trusted : Bool) (h : List Entry) (start : Start) (ls : List Line) → AreCleanEntries h → AreCleanLines ls → AreCleanLines (shown_lines f to_trusted h start ls)
+ShownLinesAreClean = (f : Facing) (to_trusted : Bool) (h : List Entry) (start : Start) (ls : List Line) → AreCleanEntries h → AreCleanLines ls →
+    AreCleanLines (shown_lines f to_trusted h start ls)
 
 -- the entries of History-Info that are heard of a clean message
 abbrev pub HeardEntriesAreClean : Type 0

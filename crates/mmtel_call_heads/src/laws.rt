@@ -15,17 +15,21 @@ ghost use Rattle.mmtel_call_heads.specs.Stories.{EmitsAreClean, EmitsHaveTheirLi
 ghost use Rattle.mmtel_call_heads.specs.Told.{HeardEntriesAreClean, ShownLinesAreClean};
 ghost use Rattle.mmtel_call_heads.specs.Kept.{IsCleanDialogue, IsCleanGiven, IsCleanReply};
 
-/// The text of a clean message, parted at its line ends, is its start line, its lines, an empty line and its body, and nothing else (RFC 3261 §7): none of these lines has a byte 0, CR or LF.
+/// The text of a clean message, parted at its line ends, is its start line, its lines, an empty line and its body, and nothing else (RFC 3261 §7): none of these lines has
+/// a byte 0, CR or LF.
 /// A reader finds the end of the head where the body begins, and the head is those lines.
 pub fn clean_messages_have_their_lines()
     ensures split { (m : Message Start) → IsCleanMessage m → split (message_text m) ≡ start_text m.start ∷ (map written_line m.lines ++ [] ∷ split m.body) }
     ensures clean { (m : Message Start) → IsCleanMessage m → AreClean (start_text m.start ∷ map written_line m.lines) }
-    ensures head { (m : Message Start) → IsCleanMessage m → (n : ℕ) × (first_break Head (message_text m) ≡ Some n) × (split (take n (message_text m)) ≡ start_text m.start ∷ map written_line m.lines) × (drop (n + 4) (message_text m) ≡ m.body) }
+    ensures head { (m : Message Start) → IsCleanMessage m →
+        (n : ℕ) × (first_break Head (message_text m) ≡ Some n) × (split (take n (message_text m)) ≡ start_text m.start ∷ map written_line m.lines) ×
+        (drop (n + 4) (message_text m) ≡ m.body) }
 {}
 
 /// What is built of clean parts is clean: each request of a dialog, and each response, whatever the request's lines say otherwise (RFC 3261 §8.1.1, §8.2.6).
 pub fn clean_parts_give_clean_messages()
-    ensures request { (d : Dialogue) (number : ℕ) (method : List ℕ) (given : Given) → IsCleanDialogue d → IsClean method → IsCleanGiven given → IsCleanMessage (numbered d number method given) }
+    ensures request { (d : Dialogue) (number : ℕ) (method : List ℕ) (given : Given) → IsCleanDialogue d → IsClean method → IsCleanGiven given →
+        IsCleanMessage (numbered d number method given) }
     ensures response { (start : Start) (ls : List Line) (r : Reply) → AreCleanLines ls → IsCleanReply r → IsCleanMessage (response start ls r) }
 {}
 
@@ -35,14 +39,17 @@ pub fn clean_messages_are_passed_on_clean()
     ensures entries { HeardEntriesAreClean }
 {}
 
-/// Whatever a call hears, each message that it sends out is clean, and the text of it has its start line, its lines and its body, and nothing else: so nobody puts a line into a message of another. It is so where the lines and phrases that are heard are clean, as those are of each message that was read, and the Request-URI of the INVITE that opens it; and where the records' URIs, the home domain and the text of tokens are clean.
+/// Whatever a call hears, each message that it sends out is clean, and the text of it has its start line, its lines and its body, and nothing else: so nobody puts a line
+/// into a message of another. It is so where the lines and phrases that are heard are clean, as those are of each message that was read, and the Request-URI of the INVITE
+/// that opens it; and where the records' URIs, the home domain and the text of tokens are clean.
 pub fn calls_send_clean_messages()
     ensures clean { EmitsAreClean }
     ensures lines { EmitsHaveTheirLines }
     ensures finished { FinishedEmitsAreClean }
 {}
 
-/// What was read is clean: the lines of a message that `read` gave, which is canonical, and its phrase; and a URI of the grammar, as it was read and as it is printed (RFC 3261 §7.3, §25.1).
+/// What was read is clean: the lines of a message that `read` gave, which is canonical, and its phrase; and a URI of the grammar, as it was read and as it is printed (RFC
+/// 3261 §7.3, §25.1).
 pub fn what_was_read_is_clean()
     ensures law { IsReadClean }
 {}

@@ -1,4 +1,5 @@
--- Who is charged in a story, by the targets of its Outcome: the account that is served as the caller, from the opening on; each account that is reached; and each that diverts, from when the next target is reached (TS 32.260 §5).
+-- Who is charged in a story, by the targets of its Outcome: the account that is served as the caller, from the opening on; each account that is reached; and each that
+-- diverts, from when the next target is reached (TS 32.260 §5).
 use Rattle.std.specs.Prelude.{ℕ, suc, List, [], ◌∷◌, ◌++◌, Option, None, option_to_list}
 use Rattle.std.specs.Option.{option_map}
 use Rattle.mmtel_charging.specs.Meters.{Noted}

@@ -1,4 +1,5 @@
--- What a call keeps from step to step: how it opened, in every story; and, once it stands or a leg of it is away, its parts, until both sides have left (TS 32.260 §5). With these laws whoever knows more of a call than signals tells what it comes to.
+-- What a call keeps from step to step: how it opened, in every story; and, once it stands or a leg of it is away, its parts, until both sides have left (TS 32.260 §5).
+-- With these laws whoever knows more of a call than signals tells what it comes to.
 use Rattle.std.specs.Prelude.{◌≡◌, true, false, ℕ, Bool, List, [], ◌++◌, Option, None, is_some}
 use Rattle.mmtel_charging.specs.Meters.{Noted}
 use Rattle.mmtel_charging.specs.declared.rows.Row.{Row}

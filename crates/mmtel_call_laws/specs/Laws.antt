@@ -23,7 +23,8 @@ ComesToItsOutcome = (s : Start) (heard : List Heard) → result_of (call_after s
 
 -- ---- what goes out
 
--- while it is offered the targets have the INVITEs that Outcome says, in order, and then the caller has one final, by the result: a 2xx where the call was answered, and else one with the status of the cause
+-- while it is offered the targets have the INVITEs that Outcome says, in order, and then the caller has one final, by the result: a 2xx where the call was answered, and
+-- else one with the status of the cause
 abbrev pub ShowsItsOutcome : Type 0
 ShowsItsOutcome = (s : Start) (heard : List Heard) → AreOwn s heard →
     signs_of s.arrival.key (emits_while_offered s heard) ≡ signs_of_targets (opening_in s) (outcome_after s heard).targets ++ sign_of_result (outcome_after s heard).result
@@ -67,7 +68,8 @@ pub record ChargingIsExact : Type 0 where
   -- while the call is not over no row is filed, and what began runs
   pub runs : (s : Start) (heard : List Heard) → is_over (call_after s heard).phase ≡ false → (running (call_after s heard) ≡ parts_after s heard) × (rows_after s heard ≡ [])
   -- once it is over nothing runs, and of each part that began a row was filed, in the order begun
-  pub filed : (s : Start) (heard : List Heard) (cause : Cause) → (call_after s heard).phase ≡ Over cause → (running (call_after s heard) ≡ []) × (rows_after s heard ≡ charges_after s heard cause)
+  pub filed : (s : Start) (heard : List Heard) (cause : Cause) → (call_after s heard).phase ≡ Over cause →
+      (running (call_after s heard) ≡ []) × (rows_after s heard ≡ charges_after s heard cause)
   -- of each kind of part: as many began as run or were filed
   pub each : (s : Start) (heard : List Heard) (p : Begun → Bool) →
       count_by p (map begun_of (parts_after s heard)) ≡ count_by p (map begun_of (running (call_after s heard))) + count_by p (map begun_in_row (rows_after s heard))

@@ -1,4 +1,5 @@
--- A story of one call: how it opened, and what it heard after that, each with how things stood then and the desk that it found. So what is said of every story holds however the call is mixed with other calls, and whatever tokens are drawn.
+-- A story of one call: how it opened, and what it heard after that, each with how things stood then and the desk that it found. So what is said of every story holds
+-- however the call is mixed with other calls, and whatever tokens are drawn.
 use Rattle.std.specs.Prelude.{ℕ, Bool, true, false, if◌then◌else◌, List, [], ◌∷◌, ◌++◌, drop, length}
 use Rattle.mmtel_charging.specs.declared.rows.Row.{Row}
 use Rattle.mmtel_desk.specs.Desks.{token}

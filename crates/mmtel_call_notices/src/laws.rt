@@ -5,7 +5,8 @@ use mmtel_precedence::laws::{
     endings_are_moves, later_endings_extend, moves_give_the_outcome, turns_are_moves,
 };
 
-/// Whatever a call hears, however things stand then, and however it is mixed with others: the server's own 181s to its caller are one for each diversion that its Outcome says was made and whose forward notifies the caller, in order, each with the History-Info that the caller is told after that diversion (TS 24.604 §4.5.2.6).
+/// Whatever a call hears, however things stand then, and however it is mixed with others: the server's own 181s to its caller are one for each diversion that its Outcome
+/// says was made and whose forward notifies the caller, in order, each with the History-Info that the caller is told after that diversion (TS 24.604 §4.5.2.6).
 /// Its History-Info is what it came with and the entries of those diversions (RFC 7044 §7).
 pub fn calls_tell_of_their_diversions()
     ensures told { TellsOfItsDiversions }

@@ -1,4 +1,5 @@
-//! Laws of the 181s that the caller of a call has: one for each diversion that is made and of which its forward says that the caller is told. The crate has definitions and laws, and no code.
+//! Laws of the 181s that the caller of a call has: one for each diversion that is made and of which its forward says that the caller is told. The crate has definitions and
+//! laws, and no code.
 #![tactic(auto)]
 
 mod laws;

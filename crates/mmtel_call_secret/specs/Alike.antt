@@ -27,7 +27,8 @@ pub record IsHeard (records : List Sheet) (t : Trust) (x : Signal) (role : Role)
   pub served : ServedIn c.phase records
   pub hears : Hears x t role c
 
--- two alike calls that hear the same but for private places go on alike: their public parts stay the same, untrusted peers see the same, of what goes to trusted ones the heads are the same, and so are deadlines, rows and tokens
+-- two alike calls that hear the same but for private places go on alike: their public parts stay the same, untrusted peers see the same, of what goes to trusted ones the
+-- heads are the same, and so are deadlines, rows and tokens
 abbrev pub StepsKeepAlike : Type 0
 StepsKeepAlike = (records : List Sheet) (site : Site) (keys : TKey → Bool) (now : Standing) (x y : Signal) (role second : Role) (c d : Call) (one other : Desk) →
     AreAsked records now → AlikeCalls records (trusts site) c d → public_signal role x ≡ public_signal second y →

@@ -1,5 +1,7 @@
--- The public part of a call: what of it rests on no private place. All that may be private has a place of its own in the structs of a call, and the public part has these places blank.
--- Of what is said to a peer who is trusted, or is heard from one, it leaves out the texts: nobody else is told these, and they decide nothing. Who the caller is stands apart, since it is asked.
+-- The public part of a call: what of it rests on no private place. All that may be private has a place of its own in the structs of a call, and the public part has these
+-- places blank.
+-- Of what is said to a peer who is trusted, or is heard from one, it leaves out the texts: nobody else is told these, and they decide nothing. Who the caller is stands
+-- apart, since it is asked.
 use Rattle.std.specs.Option.{option_map}
 use Rattle.std.specs.Prelude.{ℕ, Bool, true, List, None, map}
 use Rattle.mmtel_answers.specs.Said.{Said}

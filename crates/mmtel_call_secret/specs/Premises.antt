@@ -1,4 +1,5 @@
--- What holds of messages and of a call, so that their public parts tell all that others may see: whose a transaction is, and that a message hides its sender only where the call knows that side as restricted.
+-- What holds of messages and of a call, so that their public parts tell all that others may see: whose a transaction is, and that a message hides its sender only where the
+-- call knows that side as restricted.
 use Rattle.std.specs.Prelude.{ℕ, position, slice_get, ◌≡◌, true, false, Option, Some, List}
 use Rattle.mmtel_answers.specs.Said.{Said}
 use Rattle.mmtel_desk.specs.Loose.{is_of}
@@ -69,7 +70,8 @@ pub record CallIsAsked (t : Trust) (c : Call) : Type 0 where
 abbrev pub IsWhole : Role → Said → Type 0
 IsWhole role m = without_private role m ≡ m
 
--- the response that a client transaction heard, which is known by the peer that was asked. Where that one is not trusted nothing of it is private: what that peer says is not, nor what another one says that is of no side of the call
+-- the response that a client transaction heard, which is known by the peer that was asked. Where that one is not trusted nothing of it is private: what that peer says is
+-- not, nor what another one says that is of no side of the call
 pub record IsAnswer (t : Trust) (key : TKey) (asked : Peer) (role : Role) (m : Said) : Type 0 where
   pub whole : t.peer asked ≡ false → IsWhole role m
   pub known : t.key key ≡ t.peer asked
@@ -116,7 +118,8 @@ pub record HearsOther (t : Trust) (key : TKey) (branch : List ℕ) (role : Role)
 
 -- the INVITE whose 2xx waits for its ACK went to a peer who is trusted as that of the other leg is
 abbrev pub SentAcross : Trust → Call → Pair → Side → Success → Type 0
-SentAcross t c x side success = (taken : Taken) → IsIn taken c.taken → is_taken success.branch taken ≡ true → t.peer taken.invitation.dialogue.peer ≡ t.peer (leg_of (other_of side) x).dialogue.peer
+SentAcross t c x side success = (taken : Taken) → IsIn taken c.taken → is_taken success.branch taken ≡ true →
+    t.peer taken.invitation.dialogue.peer ≡ t.peer (leg_of (other_of side) x).dialogue.peer
 
 -- so it is at this stage, where this ACK of the side is the one that is waited for
 abbrev pub stage_is_sent : Trust → Call → Pair → Side → Said → Stage → Type 0

@@ -1,4 +1,5 @@
--- What is private of a message of a call, by the part that it has in the call (RFC 3323 §4.1, RFC 3325 §7, RFC 7044 §10.1, TS 24.607 §4.5.2, TS 24.608 §4.5.2), and the message without it.
+-- What is private of a message of a call, by the part that it has in the call (RFC 3323 §4.1, RFC 3325 §7, RFC 7044 §10.1, TS 24.607 §4.5.2, TS 24.608 §4.5.2), and the
+-- message without it.
 use Rattle.std.specs.Prelude.{Bool, true, false, ◌&&◌, if◌then◌else◌}
 use Rattle.mmtel_answers.specs.Said.{Said}
 use Rattle.mmtel_message.specs.Faults.{is_request}

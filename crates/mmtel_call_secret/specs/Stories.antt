@@ -1,4 +1,5 @@
--- Two stories of a call, side by side: what each call hears, one signal after another, with how things stand then and the desk that it finds. So what is said of them holds however the calls are mixed with others.
+-- Two stories of a call, side by side: what each call hears, one signal after another, with how things stand then and the desk that it finds. So what is said of them holds
+-- however the calls are mixed with others.
 use Rattle.std.specs.Prelude.{◌≡◌, Bool, List, [], ◌∷◌}
 use Rattle.mmtel_desk.specs.declared.desks.Desk.{Desk}
 use Rattle.mmtel_precedence.specs.Calls.{Standing}
@@ -51,10 +52,13 @@ pub record HearAlike (records : List Sheet) (site : Site) (keys : TKey → Bool)
 
 abbrev pub AllHearAlike : (records : List Sheet) → Site → (keys : TKey → Bool) → Call → Call → List Both → Type 0
 AllHearAlike records site keys c d [] = Unit {0}
-AllHearAlike records site keys c d (both ∷ earlier) = HearAlike records site keys both (one_after site c earlier) (other_after site d earlier) × AllHearAlike records site keys c d earlier
+AllHearAlike records site keys c d (both ∷ earlier) =
+    HearAlike records site keys both (one_after site c earlier) (other_after site d earlier) × AllHearAlike records site keys c d earlier
 
 -- alike calls stay alike through such stories, and each step is seen alike
 pub record StoriesStayAlike : Type 0 where
-  pub calls : (records : List Sheet) (site : Site) (keys : TKey → Bool) (c d : Call) (story : List Both) → AlikeCalls records (trusts site) c d → AllHearAlike records site keys c d story → AlikeCalls records (trusts site) (one_after site c story) (other_after site d story)
-  pub steps : (records : List Sheet) (site : Site) (keys : TKey → Bool) (c d : Call) (both : Both) (earlier : List Both) → AlikeCalls records (trusts site) c d → AllHearAlike records site keys c d (both ∷ earlier) →
+  pub calls : (records : List Sheet) (site : Site) (keys : TKey → Bool) (c d : Call) (story : List Both) → AlikeCalls records (trusts site) c d →
+      AllHearAlike records site keys c d story → AlikeCalls records (trusts site) (one_after site c story) (other_after site d story)
+  pub steps : (records : List Sheet) (site : Site) (keys : TKey → Bool) (c d : Call) (both : Both) (earlier : List Both) → AlikeCalls records (trusts site) c d →
+      AllHearAlike records site keys c d (both ∷ earlier) →
       AlikeSteps (trust_of site keys) (next site both.now both.one (one_after site c earlier)) (next site both.now both.other (other_after site d earlier))

@@ -78,8 +78,10 @@ Hears (signal.Ended key) t role c = Unit {0}
 
 -- ---- the table
 
--- on whatever signal: with the public parts in the place of the call and of the signal, and another caller of whom the same is decided, a step leaves a call of the same public part, and the same is seen of it
+-- on whatever signal: with the public parts in the place of the call and of the signal, and another caller of whom the same is decided, a step leaves a call of the same
+-- public part, and the same is seen of it
 abbrev pub StepsSeePublicParts : Type 0
 StepsSeePublicParts = (records : List Sheet) (site : Site) (keys : TKey → Bool) (now : Standing) (who : Identities2) (x : Signal) (role : Role) (c : Call) (one other : Desk) →
-    CanGoOn records (trust_of site keys) now who c → phase_is_asked (trust_of site keys) c.phase → ServedIn c.phase records → Hears x (trust_of site keys) role c → AlikeDesks (trust_of site keys) one other →
+    CanGoOn records (trust_of site keys) now who c → phase_is_asked (trust_of site keys) c.phase → ServedIn c.phase records → Hears x (trust_of site keys) role c →
+    AlikeDesks (trust_of site keys) one other →
     AlikeSteps (trust_of site keys) (step site now (public_signal role x) (public_call (trusts site) who c) one) (step site now x c other)

@@ -1,4 +1,5 @@
-//! What nobody may learn from a call: of two calls whose public parts are alike, each step leaves calls whose public parts are alike, and untrusted peers see the same of it. The crate has definitions and laws, and no code.
+//! What nobody may learn from a call: of two calls whose public parts are alike, each step leaves calls whose public parts are alike, and untrusted peers see the same of
+//! it. The crate has definitions and laws, and no code.
 #![tactic(auto)]
 
 mod laws;

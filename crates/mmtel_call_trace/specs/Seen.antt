@@ -1,4 +1,5 @@
--- What is seen of a call from outside, while it is offered: the INVITEs to its targets and the deadlines that go out, and what is heard. By these alone it is told which attempt is on its way, and how attempts ended (RFC 3261 §9, §13.2.1, §15, §17.1.1, §17.1.3 and §21, TS 24.604 §4.5.2.6).
+-- What is seen of a call from outside, while it is offered: the INVITEs to its targets and the deadlines that go out, and what is heard. By these alone it is told which
+-- attempt is on its way, and how attempts ended (RFC 3261 §9, §13.2.1, §15, §17.1.1, §17.1.3 and §21, TS 24.604 §4.5.2.6).
 use Rattle.std.specs.Prelude.{ℕ, ◌==◌, ◌&&◌, ◌||◌, not, Bool, false, if◌then◌else◌, Option, Some, None, List, [], ◌∷◌, ◌++◌, codes, is_ok, option_to_list}
 use Rattle.std.specs.List.{list_any}
 use Rattle.std.specs.Option.{option_map, unwrap_or}
@@ -91,7 +92,8 @@ with_armed what g = record g { armed = g.armed ++ what ∷ [] }
 
 -- an INVITE that goes out begins one
 abbrev pub on_mark : Watch → Mark → Watch
-on_mark w (Invited peer uri branch) = record { earlier = w.earlier ++ armed_in w.going; going = Some (record { peer = peer; uri = uri; branch = branch; armed = []; rang = false }) }
+on_mark w (Invited peer uri branch) =
+    record { earlier = w.earlier ++ armed_in w.going; going = Some (record { peer = peer; uri = uri; branch = branch; armed = []; rang = false }) }
 on_mark w (Armed what) = record w { going = option_map (with_armed what) w.going }
 
 abbrev pub on_marks : Watch → List Mark → Watch

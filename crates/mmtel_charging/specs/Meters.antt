@@ -1,4 +1,5 @@
--- What a meter has noted, and the row that it gives: one account's part in one call, as charging data of a call has it (TS 32.260 §5: who is charged, from when to when, and why it ended).
+-- What a meter has noted, and the row that it gives: one account's part in one call, as charging data of a call has it (TS 32.260 §5: who is charged, from when to when,
+-- and why it ended).
 use Rattle.std.specs.Prelude.{ℕ, Option}
 use Rattle.mmtel_types.specs.declared.numbers.Account.{Account}
 use Rattle.mmtel_types.specs.declared.numbers.CallNo.{CallNo}

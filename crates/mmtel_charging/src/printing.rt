@@ -66,7 +66,8 @@ fn put_row(writer: &mut Writer<Vec<u8>>, row: &Row) -> Result<(), NoMemory>
 
 /// The text of rows as comma-separated values (RFC 4180): the header line and a line for each row, in order, each ended by LF.
 ///
-/// A row has its kind's word, the account, the call, the moments at which it began, was answered and ended, the count of holds, the cause's word and the cause's status. Numbers are decimal digits, moments milliseconds since 1970-01-01T00:00:00Z, and an absent answered moment is an empty field.
+/// A row has its kind's word, the account, the call, the moments at which it began, was answered and ended, the count of holds, the cause's word and the cause's status.
+/// Numbers are decimal digits, moments milliseconds since 1970-01-01T00:00:00Z, and an absent answered moment is an empty field.
 ///
 /// # Errors
 ///

@@ -1,4 +1,5 @@
--- What a step of a call or of a conference room brings forth: tokens are drawn, messages go out, rows are closed. Every word takes the desk and gives it back, so that a step reads as what it does, one after another.
+-- What a step of a call or of a conference room brings forth: tokens are drawn, messages go out, rows are closed. Every word takes the desk and gives it back, so that a
+-- step reads as what it does, one after another.
 use Rattle.std.specs.Prelude.{ℕ, ◌++◌, List, [], ◌∷◌}
 use Rattle.mmtel_charging.specs.declared.rows.Row.{Row}
 use Rattle.mmtel_scan.specs.Numbers.{next_number, token_text}

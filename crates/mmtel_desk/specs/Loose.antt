@@ -1,4 +1,5 @@
--- INVITEs that were left before they had a final answer, of calls and of rooms: what is still done about a response to one (RFC 3261 §9.1, §13.2.2.4, §17.1.1.3). A late 2xx makes a dialog that ends at once; a late provisional response lets the CANCEL go; a late refusal has its ACK, and silence has nothing.
+-- INVITEs that were left before they had a final answer, of calls and of rooms: what is still done about a response to one (RFC 3261 §9.1, §13.2.2.4, §17.1.1.3). A late
+-- 2xx makes a dialog that ends at once; a late provisional response lets the CANCEL go; a late refusal has its ACK, and silence has nothing.
 use Rattle.std.specs.Prelude.{ℕ, nat_lt, ◌||◌, Bool, true, if◌then◌else◌, Option, Some, None, List, [], ◌∷◌, ◌++◌, codes, position, slice_get}
 use Rattle.std.specs.Str.{bytes_eq}
 use Rattle.mmtel_answers.specs.Attempts.{called}

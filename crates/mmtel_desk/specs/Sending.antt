@@ -1,4 +1,5 @@
--- What the server sends in a step, each message with the tokens that it draws; `sip` is the server's address. A response goes to whoever sent its request, a request of a dialog to the dialog's peer.
+-- What the server sends in a step, each message with the tokens that it draws; `sip` is the server's address. A response goes to whoever sent its request, a request of a
+-- dialog to the dialog's peer.
 use Rattle.std.specs.Prelude.{ℕ, Bool, if◌then◌else◌, List, [], codes}
 use Rattle.mmtel_answers.specs.Answers.{own_answer, relayed_answer}
 use Rattle.mmtel_answers.specs.Attempts.{calling, invite_of}

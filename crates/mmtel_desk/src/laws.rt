@@ -21,28 +21,33 @@ use mmtel_trust::{masking_keeps_the_rest, masks_leave_the_way};
 
 /// The head of a request that goes out is that of its dialog, number, method and branch: by it the transactions know the answer (RFC 3261 §17.1.3).
 pub fn requests_have_heads()
-    ensures head { (d : Dialogue) (number : ℕ) (method : List ℕ) (given : Given) (from to : NameAddr) → IsToken method → CanBeSent d number given from to → head_of (numbered d number method given) ≡ request_head d number method given.sip given.branch from to }
+    ensures head { (d : Dialogue) (number : ℕ) (method : List ℕ) (given : Given) (from to : NameAddr) → IsToken method → CanBeSent d number given from to →
+        head_of (numbered d number method given) ≡ request_head d number method given.sip given.branch from to }
 {
     five_fields_read_back();
 }
 
 /// The head of a CANCEL is its INVITE's but for the method, so that it names the INVITE's server transaction at the other side (RFC 3261 §9.2).
 pub fn repeats_have_heads()
-    ensures cancel { (d : Dialogue) (number : ℕ) (given : Given) (from to : NameAddr) → CanBeSent d number given from to → head_of (cancel_of d number given.sip given.branch) ≡ record (head_of (numbered d number (codes "INVITE") given)) { method = codes "CANCEL" } }
+    ensures cancel { (d : Dialogue) (number : ℕ) (given : Given) (from to : NameAddr) → CanBeSent d number given from to →
+        head_of (cancel_of d number given.sip given.branch) ≡ record (head_of (numbered d number (codes "INVITE") given)) { method = codes "CANCEL" } }
 {
     requests_have_heads();
 }
 
 /// The head of a response that goes out is read of its status and of its request's five fields, Via completed and To with the tag.
 pub fn answers_have_heads()
-    ensures head { (start : Start) (ls : List Line) (r : Reply) (five : Five) → IsSendable r → AreLinesWith five ls → head_of (response start ls r) ≡ head_with (Status r.code r.phrase) (Some (five_answered r five)) }
+    ensures head { (start : Start) (ls : List Line) (r : Reply) (five : Five) → IsSendable r → AreLinesWith five ls →
+        head_of (response start ls r) ≡ head_with (Status r.code r.phrase) (Some (five_answered r five)) }
 {
     responses_have_the_fields();
 }
 
-/// The head of a response does not rest on what is private of its request: whichever the private places of a request are, the response to the masked one has the head of the response to it.
+/// The head of a response does not rest on what is private of its request: whichever the private places of a request are, the response to the masked one has the head of
+/// the response to it.
 pub fn masked_requests_have_one_head()
-    ensures head { (p : Places) (start : Start) (ls : List Line) (r : Reply) → p.to ≡ false → BringsNone r → head_of (response start (masked_lines p ls) r) ≡ head_of (response start ls r) }
+    ensures head { (p : Places) (start : Start) (ls : List Line) (r : Reply) → p.to ≡ false → BringsNone r →
+        head_of (response start (masked_lines p ls) r) ≡ head_of (response start ls r) }
 {
     heads_rest_on_five_names();
     masking_keeps_the_rest();

@@ -1,4 +1,5 @@
-//! What a step of a call or of a conference room brings forth: the tokens that it draws, the messages that go out, the rows that it closes; and what is still done about an INVITE that was left before it had a final answer. Calls and rooms stand on it, and neither on the other.
+//! What a step of a call or of a conference room brings forth: the tokens that it draws, the messages that go out, the rows that it closes; and what is still done about an
+//! INVITE that was left before it had a final answer. Calls and rooms stand on it, and neither on the other.
 #![tactic(auto)]
 
 mod desks;

@@ -208,7 +208,8 @@ impl Desk {
         Ok(Some(Loose { invitation, within }))
     }
 
-    /// Hears a response of a loose INVITE, by its client transaction: a provisional one lets the CANCEL go that was due (RFC 3261 §9.1); a 2xx has its ACK, and its dialog the BYE where it had none (§13.2.2.4, §15.1.1); a final from 300 has its ACK and ends the INVITE (§17.1.1.3). Gives what is left of it.
+    /// Hears a response of a loose INVITE, by its client transaction: a provisional one lets the CANCEL go that was due (RFC 3261 §9.1); a 2xx has its ACK, and its dialog
+    /// the BYE where it had none (§13.2.2.4, §15.1.1); a final from 300 has its ACK and ends the INVITE (§17.1.1.3). Gives what is left of it.
     ///
     /// # Errors
     ///

@@ -33,7 +33,8 @@ impl Desk {
         calling(alloc, aim, opening, restricted, call_id, tag)
     }
 
-    /// Offers a call to a target: the INVITE that opened it goes there, with these lines of it, and tells where the call waits. Call-ID, tag and branch are drawn, in this order. Gives the INVITE as it was sent.
+    /// Offers a call to a target: the INVITE that opened it goes there, with these lines of it, and tells where the call waits. Call-ID, tag and branch are drawn, in this
+    /// order. Gives the INVITE as it was sent.
     ///
     /// # Errors
     ///

@@ -52,7 +52,8 @@ fn relayed_ack_text<P>(
 }
 
 impl Desk {
-    /// Answers a request with a response of the server's own, with this value of Contact where one is due: lines that are passed on (History-Info of a 181), lines that are named for the status, and a body (RFC 3261 §8.2.6).
+    /// Answers a request with a response of the server's own, with this value of Contact where one is due: lines that are passed on (History-Info of a 181), lines that are
+    /// named for the status, and a body (RFC 3261 §8.2.6).
     ///
     /// # Errors
     ///
@@ -305,7 +306,8 @@ impl Desk {
         self.emit(alloc, Emit::Ask { peer, msg })
     }
 
-    /// Acknowledges the 2xx of a leg by the ACK that was heard on the other side, with these lines of it. Gives the text of the ACK, which is sent again for each repeat of the 2xx.
+    /// Acknowledges the 2xx of a leg by the ACK that was heard on the other side, with these lines of it. Gives the text of the ACK, which is sent again for each repeat of
+    /// the 2xx.
     ///
     /// # Errors
     ///

@@ -310,8 +310,10 @@ stands said (line.Sip addr) = is_unsaid sip_in said
 stands said (line.Web addr) = is_unsaid web_in said
 stands said (line.Home name) = is_unsaid home_in said
 stands said (line.Peer peer) = not (has_number peer.peer (flat_map peer_in said)) && not (has_addr peer.addr (flat_map peer_in said))
-stands said (line.Route route) = nat_lt (length (flat_map route_in said)) 4096 && not (has_name route.name (flat_map route_in said)) && has_number route.peer (flat_map peer_in said)
-stands said (line.Account account uris) = nat_lt (length (flat_map account_in said)) 10000 && not (is_account (flat_map identities_in said) account) && are_new (flat_map identities_in said) (entries_of account uris)
+stands said (line.Route route) =
+    nat_lt (length (flat_map route_in said)) 4096 && not (has_name route.name (flat_map route_in said)) && has_number route.peer (flat_map peer_in said)
+stands said (line.Account account uris) =
+    nat_lt (length (flat_map account_in said)) 10000 && not (is_account (flat_map identities_in said) account) && are_new (flat_map identities_in said) (entries_of account uris)
 stands said (line.Operator uri) = is_unsaid operator_in said
 stands said (line.Factory uri) = is_unsaid factory_in said
 stands said (line.Bound n) = is_unsaid bound_in said

@@ -98,7 +98,8 @@ Steps (Ok done) number due after = due ≡ Some after
 Steps (Err (BadLine n)) number due after = (due ≡ None) × (n ≡ number)
 Steps (Err NoMemory) number due after = Unit {0}
 
--- what came of lines: a draft that gives what they and the draft before give, where the last of them has the number before this one; or the number of the first line that is not taken
+-- what came of lines: a draft that gives what they and the draft before give, where the last of them has the number before this one; or the number of the first line that
+-- is not taken
 abbrev pub Reads : Result ℕ DirectoryFault → Draft → List (List ℕ) → Draft → Type 0
 Reads (Ok last) before texts after = drafted 1 before texts ≡ finished last after
 Reads (Err (BadLine n)) before texts after = drafted 1 before texts ≡ Err n

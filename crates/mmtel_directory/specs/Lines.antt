@@ -25,7 +25,8 @@ abbrev pub and_then : {A B : Type 0} → ℕ → Option A → (A → Result B �
 and_then number (Some x) more = more x
 and_then number None more = Err number
 
--- what lines say, each read behind all that the lines before it say, or the number of the first that may not stand there; the lines begin at this number, behind lines that say so much
+-- what lines say, each read behind all that the lines before it say, or the number of the first that may not stand there; the lines begin at this number, behind lines that
+-- say so much
 abbrev pub said_by : {L : Type 0} → (List L → List ℕ → Option L) → ℕ → List L → List (List ℕ) → Result (List L) ℕ
 said_by read number said [] = Ok said
 said_by read number said (text ∷ texts) = and_then number (read said text) (λ line. said_by read (number + 1) (said ++ line ∷ []) texts)

@@ -4,9 +4,11 @@ ghost use Rattle.std.specs.Option.{option_map};
 ghost use Rattle.mmtel_lex.specs.Reading.{uri_of};
 ghost use Rattle.mmtel_trust.specs.Peers.{is_prefix};
 ghost use Rattle.mmtel_scan.specs.Numbers.{plain_number};
-ghost use Rattle.mmtel_directory.specs.Directory.{route_words, ip_of, addr_of, kind_of, is_host, is_route_name, trust_of, peer_of, account_number, readable, identities_of, is_one_word, is_store_name};
+ghost use Rattle.mmtel_directory.specs.Directory.{route_words, ip_of, addr_of, kind_of, is_host, is_route_name, trust_of, peer_of, account_number, readable, identities_of};
+ghost use Rattle.mmtel_directory.specs.Directory.{is_one_word, is_store_name};
 ghost use Rattle.mmtel_directory.specs.Lines.{words_of};
-ghost use Rattle.mmtel_directory.specs.Directory.{uris_of, kind_and_rest, sip_line, web_line, home_line, peer_line, route_line, account_words, account_line, operator_line, factory_line, bound_line, mixer_line, store_line, line_of_kind, line_of_words, line_of};
+ghost use Rattle.mmtel_directory.specs.Directory.{uris_of, kind_and_rest, sip_line, web_line, home_line, peer_line, route_line, account_words, account_line, operator_line};
+ghost use Rattle.mmtel_directory.specs.Directory.{factory_line, bound_line, mixer_line, store_line, line_of_kind, line_of_words, line_of};
 
 use crate::lines::{first_word, is_remark, number_from};
 use mmtel_lex::{Uri, UriFault, read_uri};

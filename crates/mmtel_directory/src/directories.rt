@@ -82,7 +82,8 @@ fn read_lines(alloc: Global, draft: &mut Draft, bytes: &[u8]) -> Result<u64, Dir
 
 /// Reads a configuration.
 ///
-/// Each line ends with LF, which the last may lack; one that is empty or begins with `#` says nothing. One space parts the words of a line, and numbers are decimal without leading zeros. `ADDR` is `a.b.c.d:port`, the port of 1 to 65535.
+/// Each line ends with LF, which the last may lack; one that is empty or begins with `#` says nothing. One space parts the words of a line, and numbers are decimal without
+/// leading zeros. `ADDR` is `a.b.c.d:port`, the port of 1 to 65535.
 ///
 /// - `sip ADDR` and `home HOST` have to be there.
 /// - `web ADDR`; without it 127.0.0.1:8080.

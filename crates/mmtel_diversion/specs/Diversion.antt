@@ -1,4 +1,5 @@
--- The diversion that a record asks for at a moment of a call: that of the first rule that holds (TS 24.604 §4.5.2.6 and §4.9.1), with its cause (RFC 4458 §2). And deflection, the diversion by the user's own device (TS 24.604 §4.5.2.6).
+-- The diversion that a record asks for at a moment of a call: that of the first rule that holds (TS 24.604 §4.5.2.6 and §4.9.1), with its cause (RFC 4458 §2). And
+-- deflection, the diversion by the user's own device (TS 24.604 §4.5.2.6).
 use Rattle.std.specs.Prelude.{ℕ, Bool, false, if◌then◌else◌, List, Option, Some, None, option_and_then, slice_get}
 use Rattle.std.specs.Option.{option_map}
 use Rattle.mmtel_sheet_values.specs.declared.values.Action.{Action}

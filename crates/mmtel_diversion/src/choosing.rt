@@ -45,7 +45,8 @@ fn diversion_by(place: usize, rule: &Rule) -> Option<Diversion<'_>>
     }
 }
 
-/// The diversion that the record asks for at this moment: that of the first of its rules that holds (TS 24.604 §4.5.2.6 and §4.9.1). None where diversion is not active or no rule holds, and where the first that holds forwards nowhere, which no rule of a record that was read does. It takes no memory.
+/// The diversion that the record asks for at this moment: that of the first of its rules that holds (TS 24.604 §4.5.2.6 and §4.9.1). None where diversion is not active or
+/// no rule holds, and where the first that holds forwards nowhere, which no rule of a record that was read does. It takes no memory.
 pub fn choose<'a>(s: &'a Sheet, f: &Facts, when: When) -> Option<Diversion<'a>>
     ensures exact { let facts = f.entry.now in option_map shown result ≡ diversion_of (known facts) when s.now }
 {
@@ -56,7 +57,8 @@ pub fn choose<'a>(s: &'a Sheet, f: &Facts, when: When) -> Option<Diversion<'a>>
     diversion_by(place, rule)
 }
 
-/// The cause of a diversion by the user's own device (communication deflection, TS 24.604 §4.5.2.6): 487 once the device was alerted, else 480 (RFC 4458 §2). None where the record does not allow it. It takes no memory.
+/// The cause of a diversion by the user's own device (communication deflection, TS 24.604 §4.5.2.6): 487 once the device was alerted, else 480 (RFC 4458 §2). None where
+/// the record does not allow it. It takes no memory.
 pub fn deflect(s: &Sheet, alerted: bool) -> Option<u16>
     ensures exact { result ≡ deflection_of s.now alerted }
 {

@@ -1,4 +1,5 @@
--- What public clauses cite: the server as rooms need it, rooms and seats as they are kept, their texts, what a REFER asks for, what a seat does on each signal, the rooms after each deed, and what is asked of them.
+-- What public clauses cite: the server as rooms need it, rooms and seats as they are kept, their texts, what a REFER asks for, what a seat does on each signal, the rooms
+-- after each deed, and what is asked of them.
 pub mod Site
 pub mod Rooms
 pub mod Texts

@@ -1,9 +1,12 @@
--- The seats of a room: how one is found, told, and left (RFC 4579 §5.5, §5.11; RFC 3515 §2.4.4; TS 32.260 §5 for its row). A row of the room table is given the place of its seat, the seat, and the step so far.
+-- The seats of a room: how one is found, told, and left (RFC 4579 §5.5, §5.11; RFC 3515 §2.4.4; TS 32.260 §5 for its row). A row of the room table is given the place of
+-- its seat, the seat, and the step so far.
 use Rattle.std.specs.Prelude.{ℕ, Bool, true, if◌then◌else◌, Option, Some, None, List, [], ◌∷◌, remove, slice_get, slice_set}
 use Rattle.mmtel_focus.specs.Rooms.{Room, Seat, Step, with_desk}
 use Rattle.mmtel_focus.specs.Site.{Site}
 use Rattle.mmtel_seats.specs.Seats.{dismissed_with, has_no_seat, is_creator, left_with, notified_by, place_of, told_seat}
-pub use Rattle.mmtel_seats.specs.Seats.{dialogue_of, dismissed_with, ended_dialogs, filed_by, having_had_bye, is_creator, is_seat, is_seated, is_seated_by, left_with, leg_of, loose_within, loosened, loosened_in, meter_for, meter_of, notified, notified_by, place_of, tag_of, told_leg, told_party, told_seat, with_leg}
+pub use Rattle.mmtel_seats.specs.Seats.{dialogue_of, dismissed_with, ended_dialogs, filed_by, having_had_bye, is_creator, is_seat, is_seated, is_seated_by, left_with}
+pub use Rattle.mmtel_seats.specs.Seats.{leg_of, loose_within, loosened, loosened_in, meter_for, meter_of, notified, notified_by, place_of, tag_of, told_leg, told_party}
+pub use Rattle.mmtel_seats.specs.Seats.{told_seat, with_leg}
 
 -- ---- the seats of a room
 

@@ -1,4 +1,5 @@
--- Which room a URI names (RFC 4579 §4.4), and the texts of what a room sends: what it names itself and what a NOTIFY says is of its seats; the mixer's answer (RFC 3264), and status lines.
+-- Which room a URI names (RFC 4579 §4.4), and the texts of what a room sends: what it names itself and what a NOTIFY says is of its seats; the mixer's answer (RFC 3264),
+-- and status lines.
 use Rattle.std.specs.Prelude.{ℕ, ◌==◌, ◌&&◌, Bool, true, false, if◌then◌else◌, Option, Some, None, List, [], ◌∷◌, ◌++◌, ◌^◌, ◌-◌, codes, decimal}
 use Rattle.std.specs.Str.{bytes_eq}
 use Rattle.mmtel_scan.specs.Chain.{◌>>=◌}

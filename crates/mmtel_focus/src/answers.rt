@@ -7,7 +7,8 @@ ghost use Rattle.mmtel_desk.specs.Sending.{ack_text, acked};
 ghost use Rattle.mmtel_leg.specs.Remotes.{remote_of};
 ghost use Rattle.mmtel_leg.specs.Requests.{ack_of};
 ghost use Rattle.mmtel_types.specs.declared.sides.Side.TheVariants.{Callee};
-ghost use Rattle.mmtel_focus.specs.Answers.{acknowledged, ended_unasked, ended_without, is_success, on_answer, on_cap, on_due, on_failure, on_no_ack, on_repeat, on_response, on_silence, on_success, stood_in, tag_given, too_long, unacknowledged};
+ghost use Rattle.mmtel_focus.specs.Answers.{acknowledged, ended_unasked, ended_without, is_success, on_answer, on_cap, on_due, on_failure, on_no_ack, on_repeat};
+ghost use Rattle.mmtel_focus.specs.Answers.{on_response, on_silence, on_success, stood_in, tag_given, too_long, unacknowledged};
 ghost use Rattle.mmtel_focus.specs.Seats.{at_seat};
 ghost use Rattle.mmtel_focus.specs.Texts.{status_line};
 

@@ -56,8 +56,10 @@ pub fn join_at(
     requires unmetered { (released_leg leg).meter ≡ None }
     requires audio { offers_audio invite.now.heard.body ≡ true }
     requires place { place < length live.old.items }
-    ensures live { OnOk result (live.new.items ≡ (stays_at (come setting.now now leg account key invite.now) place (slice_get live.old.items place) live.old.items effects.old).live) }
-    ensures effects { OnOk result (effects.new ≡ (stays_at (come setting.now now leg account key invite.now) place (slice_get live.old.items place) live.old.items effects.old).effects) }
+    ensures live { OnOk result (live.new.items
+        ≡ (stays_at (come setting.now now leg account key invite.now) place (slice_get live.old.items place) live.old.items effects.old).live) }
+    ensures effects { OnOk result (effects.new
+        ≡ (stays_at (come setting.now now leg account key invite.now) place (slice_get live.old.items place) live.old.items effects.old).effects) }
     ensures loose { OnOk result (effects.new.loose ≡ effects.old.loose) }
     ensures rows { OnOk result (effects.new.desk.rows ≡ effects.old.desk.rows) }
     ensures handed_back { IfErr result (λ l. l ≡ leg) }

@@ -114,7 +114,14 @@ fn adopted_seat(
     invitation: Invitation,
     now: Moment,
 ) -> Seat
-    ensures { result ≡ record { number = next_number room.now.taken; by = Some by; account = account; awaited = None; invite = Some (Waiting (next_number room.now.counted) invitation); party = party_of (meter_of room.now.number now account) leg } }
+    ensures { result ≡ record {
+      number = next_number room.now.taken;
+      by = Some by;
+      account = account;
+      awaited = None;
+      invite = Some (Waiting (next_number room.now.counted) invitation);
+      party = party_of (meter_of room.now.number now account) leg;
+    } }
 {
     let Next {
         room: _,
@@ -162,7 +169,8 @@ fn ask_in(
     desk: &mut Desk,
 ) -> (Released, Result<Invitation, NoMemory>)
     requires { (released_leg leg).meter ≡ None }
-    ensures desk { OnOk result.1 (desk.new ≡ asked_with setting.now.sip (codes "INVITE") (released_leg leg).dialogue (described setting.now.sip room) (offer_text setting.now.mixer) desk.old) }
+    ensures desk { OnOk result.1 (desk.new
+        ≡ asked_with setting.now.sip (codes "INVITE") (released_leg leg).dialogue (described setting.now.sip room) (offer_text setting.now.mixer) desk.old) }
     ensures counted { OnOk result.1 (result.0 ≡ having_invited_by leg) }
     ensures meter { (released_leg result.0).meter ≡ None }
     ensures side { is_same_side result.0 leg ≡ true }

@@ -1,4 +1,5 @@
-//! Conference rooms (RFC 4579): seats that the server holds together with a mixer, by the room table; who comes, who is invited by REFER (RFC 3515), and whose leg comes out of a call (RFC 3891).
+//! Conference rooms (RFC 4579): seats that the server holds together with a mixer, by the room table; who comes, who is invited by REFER (RFC 3515), and whose leg comes
+//! out of a call (RFC 3891).
 #![tactic(auto)]
 
 mod answers;

@@ -3,7 +3,8 @@ ghost use Rattle.std.specs.Prelude.{◌≡◌, ◌<◌, ℕ, List, OnOk, Some, l
 ghost use Rattle.mmtel_desk.specs.Loose.{is_of};
 ghost use Rattle.mmtel_focus.specs.Rooms.{Room};
 ghost use Rattle.mmtel_focus.specs.Seats.{at_place, at_seat};
-ghost use Rattle.mmtel_focus.specs.Table.{answered_at, answered_loose, asks, heard_by, heard_in, heard_of, hears, is_asked, is_key, is_loose_key, place_of, silenced_at, stepped_at, stepped_in, taken, without};
+ghost use Rattle.mmtel_focus.specs.Table.{answered_at, answered_loose, asks, heard_by, heard_in, heard_of, hears, is_asked, is_key, is_loose_key, place_of, silenced_at};
+ghost use Rattle.mmtel_focus.specs.Table.{stepped_at, stepped_in, taken, without};
 
 use crate::branches::{invite_answered, invite_silent};
 use crate::rooms::Room;
@@ -115,8 +116,10 @@ fn step_at(
 ) -> Result<(), NoMemory>
     requires place { place < length live.old.items }
     requires seat { (room : Room) → slice_get live.old.items place ≡ Some room → (n : ℕ) → seat ≡ Some n → n < length room.seats }
-    ensures live { OnOk result (live.new.items ≡ (stepped_at (at_place (hears setting.now now signal) seat) place (slice_get live.old.items place) live.old.items effects.old).live) }
-    ensures effects { OnOk result (effects.new ≡ (stepped_at (at_place (hears setting.now now signal) seat) place (slice_get live.old.items place) live.old.items effects.old).effects) }
+    ensures live { OnOk result (live.new.items
+        ≡ (stepped_at (at_place (hears setting.now now signal) seat) place (slice_get live.old.items place) live.old.items effects.old).live) }
+    ensures effects { OnOk result (effects.new
+        ≡ (stepped_at (at_place (hears setting.now now signal) seat) place (slice_get live.old.items place) live.old.items effects.old).effects) }
 {
     live[place].hear(alloc, setting, now, signal, seat, effects)?;
     if effects.closes {
@@ -214,7 +217,8 @@ fn hear_answer(
 ) -> Result<(), NoMemory>
     ensures live { OnOk result (live.new.items ≡ (answered_at setting.now now key m branch.now (position (is_of branch.now) loose.old) live.old.items loose.old effects.old).live) }
     ensures loose { OnOk result (loose.new ≡ (answered_at setting.now now key m branch.now (position (is_of branch.now) loose.old) live.old.items loose.old effects.old).loose) }
-    ensures effects { OnOk result (effects.new ≡ (answered_at setting.now now key m branch.now (position (is_of branch.now) loose.old) live.old.items loose.old effects.old).effects) }
+    ensures effects { OnOk result (effects.new
+        ≡ (answered_at setting.now now key m branch.now (position (is_of branch.now) loose.old) live.old.items loose.old effects.old).effects) }
 {
     match loose_at(loose.items(), branch) {
         Some(place) => hear_loose_at(loose, alloc, setting.sip, key, &m, place, effects),

@@ -173,7 +173,8 @@ fn referral_to(alloc: Global, uri: Option<Uri>) -> Result<Referral, NoMemory>
     }
 }
 
-/// What a REFER asks for by its first Refer-To (RFC 3515 §2.1): an INVITE, by name or because its URI names no method, in the place of a dialog where the header part of that URI has a Replaces (RFC 3891 §3); or a request of another method.
+/// What a REFER asks for by its first Refer-To (RFC 3515 §2.1): an INVITE, by name or because its URI names no method, in the place of a dialog where the header part of
+/// that URI has a Replaces (RFC 3891 §3); or a request of another method.
 ///
 /// # Errors
 ///

@@ -3,7 +3,8 @@ ghost use Rattle.std.specs.Prelude.{◌≡◌, ◌<◌, IfOk, OnErr, OnOk, lengt
 ghost use Rattle.mmtel_answers.specs.Answers.{allowed};
 ghost use Rattle.mmtel_sdp.specs.Offers.{offers_audio};
 ghost use Rattle.mmtel_focus.specs.Private.{heard_at, says_at};
-ghost use Rattle.mmtel_focus.specs.Requests.{accepted, acknowledges, agreed_again, answered_with, is_same_number, number_of, on_ack, on_bye, on_heard, on_hearing, on_invite, on_referral, on_request, refused, trying, unheard};
+ghost use Rattle.mmtel_focus.specs.Requests.{accepted, acknowledges, agreed_again, answered_with, is_same_number, number_of, on_ack, on_bye, on_heard, on_hearing};
+ghost use Rattle.mmtel_focus.specs.Requests.{on_invite, on_referral, on_request, refused, trying, unheard};
 ghost use Rattle.mmtel_focus.specs.Seats.{at_seat};
 
 use crate::joining::agree;
@@ -93,7 +94,8 @@ impl Room {
     ) -> Result<(), NoMemory>
         requires { place < length self.now.seats }
         ensures room { (at_seat (answered_with setting.now key m.now code named.now) place (record { room = self.now; effects = effects.old })).room ≡ self.now }
-        ensures effects { OnOk result (effects.new ≡ (at_seat (answered_with setting.now key m.now code named.now) place (record { room = self.now; effects = effects.old })).effects) }
+        ensures effects { OnOk result (effects.new
+            ≡ (at_seat (answered_with setting.now key m.now code named.now) place (record { room = self.now; effects = effects.old })).effects) }
     {
         let tag = self.seats[place].tag();
         let desk = &mut effects.desk;
@@ -258,7 +260,8 @@ impl Room {
     ) -> Result<(), NoMemory>
         requires { place < length self.now.seats }
         ensures room { (at_seat (answered_with setting.now key m.now 200 allowed) place (record { room = self.now; effects = effects.old })).room ≡ self.now }
-        ensures effects { OnOk result (effects.new ≡ (at_seat (answered_with setting.now key m.now 200 allowed) place (record { room = self.now; effects = effects.old })).effects) }
+        ensures effects { OnOk result (effects.new
+            ≡ (at_seat (answered_with setting.now key m.now 200 allowed) place (record { room = self.now; effects = effects.old })).effects) }
     {
         let named = allowed(alloc)?;
         let named = named.items();

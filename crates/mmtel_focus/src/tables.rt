@@ -5,7 +5,8 @@ ghost use Rattle.mmtel_scan.specs.Numbers.{next_number};
 ghost use Rattle.mmtel_sdp.specs.Offers.{offers_audio};
 ghost use Rattle.mmtel_trust.specs.Peers.{Peers};
 ghost use Rattle.mmtel_trust.specs.declared.accounts.AccountIdentity.{AccountIdentity};
-ghost use Rattle.mmtel_focus.specs.Histories.{Closes, Deed, Drops, Hears, Leaves, Notifies, Opens, Stands, after_deed, brought_after, brought_by, coming, entering, is_offer, no_tokens, site_of, table_after};
+ghost use Rattle.mmtel_focus.specs.Histories.{Closes, Deed, Drops, Hears, Leaves, Notifies, Opens, Stands, after_deed, brought_after, brought_by, coming, entering};
+ghost use Rattle.mmtel_focus.specs.Histories.{is_offer, no_tokens, site_of, table_after};
 ghost use Rattle.mmtel_focus.specs.Joining.{is_same_side};
 ghost use Rattle.mmtel_focus.specs.Names.{all_ended, found, seats_taken};
 ghost use Rattle.mmtel_focus.specs.Private.{caller_in};
@@ -50,7 +51,12 @@ impl Model for Rooms {
 
     ghost Value = { RoomsView };
 
-    ghost view = { λ r. record { sip = r.sip; mixer = r.mixer; table = record { live = r.live.items; opened = r.opened; loose = r.loose; rows = r.rows }; has_failed = r.has_failed } };
+    ghost view = { λ r. record {
+      sip = r.sip;
+      mixer = r.mixer;
+      table = record { live = r.live.items; opened = r.opened; loose = r.loose; rows = r.rows };
+      has_failed = r.has_failed;
+    } };
 }
 
 /// Tokens of which none is drawn.
@@ -197,9 +203,12 @@ impl Rooms {
         tokens: &mut Tokens,
         now: Moment,
     ) -> Result<Emits, NoMemory>
-        ensures done { OnOk result ((deeds : List Deed) → Stands peers.now accounts.now self.old deeds → Stands peers.now accounts.now self.new (Hears (record { at = now; tokens = tokens.old; signal = signal }) ∷ deeds)) }
-        ensures emits { IfOk result (λ out. (deeds : List Deed) → Stands peers.now accounts.now self.old deeds → out ≡ (brought_after (site_of self.old peers.now accounts.now) deeds (Hears (record { at = now; tokens = tokens.old; signal = signal }))).desk.out) }
-        ensures tokens { OnOk result ((deeds : List Deed) → Stands peers.now accounts.now self.old deeds → tokens.new ≡ (brought_after (site_of self.old peers.now accounts.now) deeds (Hears (record { at = now; tokens = tokens.old; signal = signal }))).desk.tokens) }
+        ensures done { OnOk result ((deeds : List Deed) → Stands peers.now accounts.now self.old deeds →
+            Stands peers.now accounts.now self.new (Hears (record { at = now; tokens = tokens.old; signal = signal }) ∷ deeds)) }
+        ensures emits { IfOk result (λ out. (deeds : List Deed) → Stands peers.now accounts.now self.old deeds →
+            out ≡ (brought_after (site_of self.old peers.now accounts.now) deeds (Hears (record { at = now; tokens = tokens.old; signal = signal }))).desk.out) }
+        ensures tokens { OnOk result ((deeds : List Deed) → Stands peers.now accounts.now self.old deeds →
+            tokens.new ≡ (brought_after (site_of self.old peers.now accounts.now) deeds (Hears (record { at = now; tokens = tokens.old; signal = signal }))).desk.tokens) }
         ensures site { OnOk result ((peers : Peers) (accounts : List AccountIdentity) → site_of self.new peers accounts ≡ site_of self.old peers accounts) }
         ensures fails { IfErr result (λ e. (self.old.has_failed ≡ false → self.new.has_failed ≡ true)) }
         ensures stuck { self.old.has_failed ≡ true → IsErr result × ((self.new ≡ self.old) × (tokens.new ≡ tokens.old)) }
@@ -261,7 +270,8 @@ impl Rooms {
         Ok(out)
     }
 
-    /// Tells a seat what became of its REFER, by the status line of this code; nothing goes out once it has left (RFC 3515 §2.4.4). The code has a phrase among those of the server's own statuses.
+    /// Tells a seat what became of its REFER, by the status line of this code; nothing goes out once it has left (RFC 3515 §2.4.4). The code has a phrase among those of
+    /// the server's own statuses.
     ///
     /// # Errors
     ///
@@ -276,9 +286,12 @@ impl Rooms {
         accounts: &Accounts,
         tokens: &mut Tokens,
     ) -> Result<Emits, NoMemory>
-        ensures done { OnOk result ((deeds : List Deed) → Stands peers.now accounts.now self.old deeds → Stands peers.now accounts.now self.new (Notifies room.0 seat code tokens.old ∷ deeds)) }
-        ensures emits { IfOk result (λ out. (deeds : List Deed) → Stands peers.now accounts.now self.old deeds → out ≡ (brought_after (site_of self.old peers.now accounts.now) deeds (Notifies room.0 seat code tokens.old)).desk.out) }
-        ensures tokens { OnOk result ((deeds : List Deed) → Stands peers.now accounts.now self.old deeds → tokens.new ≡ (brought_after (site_of self.old peers.now accounts.now) deeds (Notifies room.0 seat code tokens.old)).desk.tokens) }
+        ensures done { OnOk result ((deeds : List Deed) → Stands peers.now accounts.now self.old deeds →
+            Stands peers.now accounts.now self.new (Notifies room.0 seat code tokens.old ∷ deeds)) }
+        ensures emits { IfOk result (λ out. (deeds : List Deed) → Stands peers.now accounts.now self.old deeds →
+            out ≡ (brought_after (site_of self.old peers.now accounts.now) deeds (Notifies room.0 seat code tokens.old)).desk.out) }
+        ensures tokens { OnOk result ((deeds : List Deed) → Stands peers.now accounts.now self.old deeds →
+            tokens.new ≡ (brought_after (site_of self.old peers.now accounts.now) deeds (Notifies room.0 seat code tokens.old)).desk.tokens) }
         ensures site { OnOk result ((peers : Peers) (accounts : List AccountIdentity) → site_of self.new peers accounts ≡ site_of self.old peers accounts) }
         ensures fails { IfErr result (λ e. (self.old.has_failed ≡ false → self.new.has_failed ≡ true)) }
         ensures stuck { self.old.has_failed ≡ true → IsErr result × ((self.new ≡ self.old) × (tokens.new ≡ tokens.old)) }
@@ -311,8 +324,10 @@ impl Rooms {
     ) -> Result<(RoomNo, Emits), (CallerLeg<Standing>, RoomFault)>
         requires unmetered { leg.meter ≡ None }
         requires audio { offers_audio invite.now.heard.body ≡ true }
-        ensures done { OnOk result ((deeds : List Deed) → Stands peers.now accounts.now self.old deeds → Stands peers.now accounts.now self.new (Opens (coming now leg account key invite.now) ∷ deeds)) }
-        ensures emits { IfOk result (λ made. (deeds : List Deed) → Stands peers.now accounts.now self.old deeds → made.1 ≡ (brought_after (site_of self.old peers.now accounts.now) deeds (Opens (coming now leg account key invite.now))).desk.out) }
+        ensures done { OnOk result ((deeds : List Deed) → Stands peers.now accounts.now self.old deeds →
+            Stands peers.now accounts.now self.new (Opens (coming now leg account key invite.now) ∷ deeds)) }
+        ensures emits { IfOk result (λ made. (deeds : List Deed) → Stands peers.now accounts.now self.old deeds →
+            made.1 ≡ (brought_after (site_of self.old peers.now accounts.now) deeds (Opens (coming now leg account key invite.now))).desk.out) }
         ensures number { IfOk result (λ made. made.0.0 ≡ next_number self.old.table.opened) }
         ensures site { OnOk result ((peers : Peers) (accounts : List AccountIdentity) → site_of self.new peers accounts ≡ site_of self.old peers accounts) }
         ensures refused { OnErr result (self.new ≡ self.old) }
@@ -435,11 +450,14 @@ impl Rooms {
         Ok(out)
     }
 
-    /// Gives a leg, whose account this is, a seat in a room: one that comes by an INVITE (RFC 4579 §5.1), or one out of a call by the REFER of a seat (§5.6), which is asked in by an INVITE.
+    /// Gives a leg, whose account this is, a seat in a room: one that comes by an INVITE (RFC 4579 §5.1), or one out of a call by the REFER of a seat (§5.6), which is
+    /// asked in by an INVITE.
     ///
     /// # Errors
     ///
-    /// `Gone` exactly where the room is not live, and `RoomFull` exactly where 32 of its seats are taken, pending invitations among them: the leg is handed back, and nothing has changed. `NoMemory` for want of memory: a leg of the same side without a meter is handed back, and the rooms have failed then; each later call answers it and changes nothing; of the tokens nothing is said then.
+    /// `Gone` exactly where the room is not live, and `RoomFull` exactly where 32 of its seats are taken, pending invitations among them: the leg is handed back, and
+    /// nothing has changed. `NoMemory` for want of memory: a leg of the same side without a meter is handed back, and the rooms have failed then; each later call answers
+    /// it and changes nothing; of the tokens nothing is said then.
     pub fn adopt(
         &mut self,
         alloc: Global,
@@ -454,13 +472,19 @@ impl Rooms {
     ) -> Result<Emits, (Released, RoomFault)>
         requires unmetered { (released_leg leg).meter ≡ None }
         requires audio { is_offer how ≡ true }
-        ensures done { OnOk result ((deeds : List Deed) → Stands peers.now accounts.now self.old deeds → Stands peers.now accounts.now self.new (entering room.0 now tokens.old leg account how.entry ∷ deeds)) }
-        ensures emits { IfOk result (λ out. (deeds : List Deed) → Stands peers.now accounts.now self.old deeds → out ≡ (brought_after (site_of self.old peers.now accounts.now) deeds (entering room.0 now tokens.old leg account how.entry)).desk.out) }
-        ensures tokens { OnOk result ((deeds : List Deed) → Stands peers.now accounts.now self.old deeds → tokens.new ≡ (brought_after (site_of self.old peers.now accounts.now) deeds (entering room.0 now tokens.old leg account how.entry)).desk.tokens) }
+        ensures done { OnOk result ((deeds : List Deed) → Stands peers.now accounts.now self.old deeds →
+            Stands peers.now accounts.now self.new (entering room.0 now tokens.old leg account how.entry ∷ deeds)) }
+        ensures emits { IfOk result (λ out. (deeds : List Deed) → Stands peers.now accounts.now self.old deeds →
+            out ≡ (brought_after (site_of self.old peers.now accounts.now) deeds (entering room.0 now tokens.old leg account how.entry)).desk.out) }
+        ensures tokens { OnOk result ((deeds : List Deed) → Stands peers.now accounts.now self.old deeds →
+            tokens.new ≡ (brought_after (site_of self.old peers.now accounts.now) deeds (entering room.0 now tokens.old leg account how.entry)).desk.tokens) }
         ensures site { OnOk result ((peers : Peers) (accounts : List AccountIdentity) → site_of self.new peers accounts ≡ site_of self.old peers accounts) }
-        ensures gone { self.old.has_failed ≡ false → access room.0 self.old.table.live ≡ Err fault.Gone → (result ≡ Err (leg, fault.Gone)) × ((self.new ≡ self.old) × (tokens.new ≡ tokens.old)) }
-        ensures full { self.old.has_failed ≡ false → access room.0 self.old.table.live ≡ Err fault.RoomFull → (result ≡ Err (leg, fault.RoomFull)) × ((self.new ≡ self.old) × (tokens.new ≡ tokens.old)) }
-        ensures fails { self.old.has_failed ≡ false → (place : ℕ) → access room.0 self.old.table.live ≡ Ok place → IfErr result (λ e. (e.1 ≡ fault.NoMemory) × (self.new.has_failed ≡ true)) }
+        ensures gone { self.old.has_failed ≡ false → access room.0 self.old.table.live ≡ Err fault.Gone →
+            (result ≡ Err (leg, fault.Gone)) × ((self.new ≡ self.old) × (tokens.new ≡ tokens.old)) }
+        ensures full { self.old.has_failed ≡ false → access room.0 self.old.table.live ≡ Err fault.RoomFull →
+            (result ≡ Err (leg, fault.RoomFull)) × ((self.new ≡ self.old) × (tokens.new ≡ tokens.old)) }
+        ensures fails { self.old.has_failed ≡ false → (place : ℕ) → access room.0 self.old.table.live ≡ Ok place →
+            IfErr result (λ e. (e.1 ≡ fault.NoMemory) × (self.new.has_failed ≡ true)) }
         ensures meter { IfErr result (λ e. (released_leg e.0).meter ≡ None) }
         ensures side { IfErr result (λ e. is_same_side e.0 leg ≡ true) }
         ensures stuck { self.old.has_failed ≡ true → (result ≡ Err (leg, fault.NoMemory)) × ((self.new ≡ self.old) × (tokens.new ≡ tokens.old)) }
@@ -484,9 +508,11 @@ impl Rooms {
         }
     }
 
-    /// The room and the seat whose dialog has this Call-ID, this tag of the server and this tag of the other side (RFC 3261 §12.2.2); None exactly where no seat of a live room has it.
+    /// The room and the seat whose dialog has this Call-ID, this tag of the server and this tag of the other side (RFC 3261 §12.2.2); None exactly where no seat of a live
+    /// room has it.
     pub fn find(&self, call_id: &[u8], local: &[u8], remote: &[u8]) -> Option<(RoomNo, u64)>
-        ensures { (peers : Peers) (accounts : List AccountIdentity) (deeds : List Deed) → Stands peers accounts self.now deeds → result ≡ found call_id.now local.now remote.now (table_after (site_of self.now peers accounts) deeds).live }
+        ensures { (peers : Peers) (accounts : List AccountIdentity) (deeds : List Deed) → Stands peers accounts self.now deeds →
+            result ≡ found call_id.now local.now remote.now (table_after (site_of self.now peers accounts) deeds).live }
     {
         let name = DialogName {
             call_id,
@@ -498,14 +524,16 @@ impl Rooms {
 
     /// How many seats of a room are taken, pending invitations among them; 0 where it is not live.
     pub fn seats(&self, room: RoomNo) -> u32
-        ensures { (peers : Peers) (accounts : List AccountIdentity) (deeds : List Deed) → Stands peers accounts self.now deeds → result ≡ seats_taken room.0 (table_after (site_of self.now peers accounts) deeds).live }
+        ensures { (peers : Peers) (accounts : List AccountIdentity) (deeds : List Deed) → Stands peers accounts self.now deeds →
+            result ≡ seats_taken room.0 (table_after (site_of self.now peers accounts) deeds).live }
     {
         finding::seats_taken(&self.live, room)
     }
 
     /// The rows of seats that were left by a signal and that were not handed over, in the order in which they were closed.
     pub fn rows_waiting(&self) -> &[Row]
-        ensures rows { (peers : Peers) (accounts : List AccountIdentity) (deeds : List Deed) → Stands peers accounts self.now deeds → result.now ≡ (table_after (site_of self.now peers accounts) deeds).rows }
+        ensures rows { (peers : Peers) (accounts : List AccountIdentity) (deeds : List Deed) → Stands peers accounts self.now deeds →
+            result.now ≡ (table_after (site_of self.now peers accounts) deeds).rows }
         ensures kept { result.now ≡ self.now.table.rows }
     {
         self.rows.items()
@@ -515,27 +543,34 @@ impl Rooms {
     pub fn drop_rows(&mut self, count: usize)
         requires { count ≤ length self.old.table.rows }
         ensures site { (peers : Peers) (accounts : List AccountIdentity) → site_of self.new peers accounts ≡ site_of self.old peers accounts }
-        ensures done { (peers : Peers) (accounts : List AccountIdentity) (deeds : List Deed) → Stands peers accounts self.old deeds → Stands peers accounts self.new (Drops count ∷ deeds) }
+        ensures done { (peers : Peers) (accounts : List AccountIdentity) (deeds : List Deed) → Stands peers accounts self.old deeds →
+            Stands peers accounts self.new (Drops count ∷ deeds) }
     {
         drop_first(&mut self.rows, count);
     }
 
-    /// Leaves a seat, and gives its row. Nothing goes out; an INVITE of the server's own to it that has no final is given up. None exactly where nobody has the seat, or somebody who is invited and has not answered, who stays, or where no account is charged for it. It takes no memory.
+    /// Leaves a seat, and gives its row. Nothing goes out; an INVITE of the server's own to it that has no final is given up. None exactly where nobody has the seat, or
+    /// somebody who is invited and has not answered, who stays, or where no account is charged for it. It takes no memory.
     pub fn leave(&mut self, room: RoomNo, seat: u64, now: Moment) -> Option<Row>
-        ensures done { (peers : Peers) (accounts : List AccountIdentity) (deeds : List Deed) → Stands peers accounts self.old deeds → Stands peers accounts self.new (Leaves room.0 seat ∷ deeds) }
-        ensures row { (peers : Peers) (accounts : List AccountIdentity) (deeds : List Deed) → Stands peers accounts self.old deeds → result ≡ row_left now room.0 seat (table_after (site_of self.old peers accounts) deeds).live }
+        ensures done { (peers : Peers) (accounts : List AccountIdentity) (deeds : List Deed) → Stands peers accounts self.old deeds →
+            Stands peers accounts self.new (Leaves room.0 seat ∷ deeds) }
+        ensures row { (peers : Peers) (accounts : List AccountIdentity) (deeds : List Deed) → Stands peers accounts self.old deeds →
+            result ≡ row_left now room.0 seat (table_after (site_of self.old peers accounts) deeds).live }
     {
         parting::leave(&mut self.live, room, seat, now)
     }
 
-    /// Closes a room, and gives what is left of its seats, in their order: nothing goes out, no row is filed, and an INVITE of the server's own to a seat that has no final is given up. It is none exactly where the room is not live, or no seat of it is taken.
+    /// Closes a room, and gives what is left of its seats, in their order: nothing goes out, no row is filed, and an INVITE of the server's own to a seat that has no final
+    /// is given up. It is none exactly where the room is not live, or no seat of it is taken.
     ///
     /// # Errors
     ///
     /// Want of memory alone; the rooms are then as before.
     pub fn close(&mut self, alloc: Global, room: RoomNo) -> Result<Vec<Ended>, NoMemory>
-        ensures done { OnOk result ((peers : Peers) (accounts : List AccountIdentity) (deeds : List Deed) → Stands peers accounts self.old deeds → Stands peers accounts self.new (Closes room.0 ∷ deeds)) }
-        ensures ended { IfOk result (λ all. (peers : Peers) (accounts : List AccountIdentity) (deeds : List Deed) → Stands peers accounts self.old deeds → all.items ≡ all_ended room.0 (table_after (site_of self.old peers accounts) deeds).live) }
+        ensures done { OnOk result ((peers : Peers) (accounts : List AccountIdentity) (deeds : List Deed) → Stands peers accounts self.old deeds →
+            Stands peers accounts self.new (Closes room.0 ∷ deeds)) }
+        ensures ended { IfOk result (λ all. (peers : Peers) (accounts : List AccountIdentity) (deeds : List Deed) → Stands peers accounts self.old deeds →
+            all.items ≡ all_ended room.0 (table_after (site_of self.old peers accounts) deeds).live) }
         ensures refused { OnErr result (self.new ≡ self.old) }
     {
         parting::close(&mut self.live, alloc, room)

@@ -64,7 +64,8 @@ fn room_by(user: &[u8]) -> Option<u64>
     }
 }
 
-/// The room of this server that a URI names, whether it is live or not: `room-N` at the server's address, where port 5060 need not be written (RFC 4579 §4.4, RFC 3261 §19.1.2). None where it names none.
+/// The room of this server that a URI names, whether it is live or not: `room-N` at the server's address, where port 5060 need not be written (RFC 4579 §4.4, RFC 3261
+/// §19.1.2). None where it names none.
 ///
 /// # Errors
 ///

@@ -1,4 +1,5 @@
--- The charging of conference rooms, as a book that is kept (TS 32.260 §5): whose meters run; a meter that begins when somebody is seated; and a meter that is closed by one row when a seat is left.
+-- The charging of conference rooms, as a book that is kept (TS 32.260 §5): whose meters run; a meter that begins when somebody is seated; and a meter that is closed by one
+-- row when a seat is left.
 use Rattle.std.specs.Prelude.{◌≡◌, ℕ, List, [], ◌∷◌, ◌++◌, Option, Some, IfSome, drop, option_to_list}
 use Rattle.std.specs.List.{flat_map}
 use Rattle.std.specs.Option.{option_map}

@@ -1,4 +1,5 @@
--- Two configurations that are equal but for the URIs of accounts. Of these URIs a room sees the answer alone where it looks an account up: at the URI to which a REFER has it send an
+-- Two configurations that are equal but for the URIs of accounts. Of these URIs a room sees the answer alone where it looks an account up: at the URI to which a REFER has
+-- it send an
 -- INVITE (RFC 3515 §2.1, RFC 4579 §5.5). The account of whoever comes to a room is given to it.
 use Rattle.std.specs.Prelude.{◌≡◌, true, Some, codes}
 use Rattle.mmtel_answers.specs.Said.{Said}
@@ -57,5 +58,6 @@ pub record OneIsAlike : Type 0 where
 
 -- what a deed brings forth is the same under both, and so is the table after it
 pub record DeedsSeeLookUpsAlone : Type 0 where
-  pub effects : (one other : Site) (deed : Deed) (table : Table) → EqualButForAccounts one other → DeedLooksAlike one other deed → effects_of one deed table ≡ effects_of other deed table
+  pub effects : (one other : Site) (deed : Deed) (table : Table) → EqualButForAccounts one other → DeedLooksAlike one other deed →
+      effects_of one deed table ≡ effects_of other deed table
   pub tables : (one other : Site) (deed : Deed) (table : Table) → EqualButForAccounts one other → DeedLooksAlike one other deed → did one deed table ≡ did other deed table

@@ -1,4 +1,5 @@
--- The public part of conference rooms: what of them rests on no private place. Of the dialog of a seat it leaves out what calls leave out of theirs: what is due to a trusted peer, whom nobody else is told of.
+-- The public part of conference rooms: what of them rests on no private place. Of the dialog of a seat it leaves out what calls leave out of theirs: what is due to a
+-- trusted peer, whom nobody else is told of.
 use Rattle.std.specs.Prelude.{◌≡◌, Bool, Option, Some, None, map}
 use Rattle.mmtel_call_secret.specs.Parts.{public_invitation, public_leg, public_loose}
 use Rattle.mmtel_call_secret.specs.Seen.{AlikeDesks, Trust}

@@ -1,5 +1,6 @@
 -- What the URI of a History-Info entry says (RFC 7044 §5 and §10.1, RFC 4458 §2): a cause among its parameters, and a mark in its header part.
-use Rattle.std.specs.Prelude.{ℕ, zero, suc, Bool, true, false, not, ◌&&◌, ◌==◌, ◌-◌, if◌then◌else◌, nat_lt, List, [], ◌∷◌, ◌++◌, length, take, drop, filter, count_by, Option, Some, None, is_some, codes, decimal}
+use Rattle.std.specs.Prelude.{ℕ, zero, suc, Bool, true, false, not, ◌&&◌, ◌==◌, ◌-◌, if◌then◌else◌, nat_lt, List, [], ◌∷◌, ◌++◌, length, take, drop, filter, count_by}
+use Rattle.std.specs.Prelude.{Option, Some, None, is_some, codes, decimal}
 use Rattle.std.specs.List.{list_any, find, slice_split, join_with_byte, onto_first, after_last, suffix_len}
 use Rattle.std.specs.Str.{str_eq_ignore_ascii_case}
 use Rattle.mmtel_scan.specs.Numbers.{number_of}

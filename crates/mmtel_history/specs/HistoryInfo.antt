@@ -1,5 +1,7 @@
--- The list of History-Info entries: how a value is read and written; what a diversion, a mark and masking do to the list (RFC 7044 §5, §9 and §10.1; RFC 3323 §4.2); and what a 181 tells of it and counts against the bound on diversions (TS 24.604 §4.5.2.6).
-use Rattle.std.specs.Prelude.{◌≡◌, ◌≤◌, ℕ, zero, suc, Bool, true, false, ◌||◌, ◌+◌, ◌-◌, if◌then◌else◌, nat_lt, List, [], ◌∷◌, ◌++◌, length, take, map, position, slice_get, Option, Some, None, is_some, is_none, option_to_list, Result, Ok, Err, codes, count_by}
+-- The list of History-Info entries: how a value is read and written; what a diversion, a mark and masking do to the list (RFC 7044 §5, §9 and §10.1; RFC 3323 §4.2); and
+-- what a 181 tells of it and counts against the bound on diversions (TS 24.604 §4.5.2.6).
+use Rattle.std.specs.Prelude.{◌≡◌, ◌≤◌, ℕ, zero, suc, Bool, true, false, ◌||◌, ◌+◌, ◌-◌, if◌then◌else◌, nat_lt, List, [], ◌∷◌, ◌++◌, length, take, map, position, slice_get}
+use Rattle.std.specs.Prelude.{Option, Some, None, is_some, is_none, option_to_list, Result, Ok, Err, codes, count_by}
 use Rattle.std.specs.List.{flat_map}
 use Rattle.std.specs.Option.{option_map_or, unwrap_or}
 use Rattle.std.specs.Str.{str_eq_ignore_ascii_case}
@@ -112,7 +114,8 @@ with_target h target cause hide_last = hidden_if hide_last (length h - 1) h ++ t
 unfoldable pub appended : List Entry → List ℕ → List ℕ → ℕ → Bool → List Entry
 appended h from target cause hide_last = with_target (started from h) target cause hide_last
 
--- the list as the 181 about its last diversion tells it: the diverting entry, which is the last but one, and the target's, the last, are hidden too where so wished; in a list of one entry both are that one (TS 24.604 §4.5.2.6)
+-- the list as the 181 about its last diversion tells it: the diverting entry, which is the last but one, and the target's, the last, are hidden too where so wished; in a
+-- list of one entry both are that one (TS 24.604 §4.5.2.6)
 abbrev pub told_to_caller : Bool → Bool → List Entry → List Entry
 told_to_caller hide_diverting hide_target h = hidden_if hide_target (length h - 1) (hidden_if hide_diverting (length h - 2) h)
 

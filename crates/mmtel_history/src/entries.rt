@@ -3,7 +3,8 @@ ghost use Rattle.std.specs.Prelude.{Some, ◌≡◌, ◌+◌, take, drop, ◌++�
 ghost use Rattle.mmtel_lex.specs.Grammar.{params_text};
 ghost use Rattle.mmtel_lex.specs.Reading.{Gives};
 ghost use Rattle.mmtel_history.specs.EntryUri.{with_cause};
-ghost use Rattle.mmtel_history.specs.HistoryInfo.{is_index, but_index, entry_with, entry_in, entry_of, shown_uri, entry_text, target_entry, masked_uri, masked_entry, IsReadable, written};
+ghost use Rattle.mmtel_history.specs.HistoryInfo.{is_index, but_index, entry_with, entry_in, entry_of, shown_uri, entry_text, target_entry, masked_uri, masked_entry};
+ghost use Rattle.mmtel_history.specs.HistoryInfo.{IsReadable, written};
 
 use crate::uris::{add_marked, cause_of, is_marked, with_cause};
 use mmtel_lex::{LexFault, NameAddr, Param, add_params, param_value, read_name_addr};

@@ -1,6 +1,8 @@
 //! The list of entries.
 ghost use Rattle.std.specs.Prelude.{if◌then◌else◌, ℕ, List, Bool, true, None, map, slice_set, ◌≡◌, ◌+◌, ◌++◌, ◌∷◌, ◌≤◌, ◌<◌, [], length, IfOk, IfErr, OnOk, OnErr, take};
-ghost use Rattle.mmtel_history.specs.HistoryInfo.{IsReading, reading, marked_at, hidden_if, last_index, with_target, appended, told_to_caller, after, Diversion, diversions_in, diversions_so_far, is_empty, masked_list, seen_entry, unmarked, also_hidden, AreReadable, IsUriText, IsTarget};
+ghost use Rattle.mmtel_history.specs.HistoryInfo.{IsReading, reading, marked_at, hidden_if, last_index, with_target, appended, told_to_caller, after, Diversion};
+ghost use Rattle.mmtel_history.specs.HistoryInfo.{diversions_in, diversions_so_far, is_empty, masked_list, seen_entry, unmarked, also_hidden, AreReadable, IsUriText};
+ghost use Rattle.mmtel_history.specs.HistoryInfo.{IsTarget};
 ghost use Rattle.mmtel_history.specs.EntryUri.{cause_of};
 ghost use Rattle.mmtel_history.specs.declared.entries.Entry.{Entry};
 
@@ -227,12 +229,14 @@ impl History {
         ensures counts { diversions_in self.new ≡ diversions_in self.old }
         ensures readable { AreReadable self.old → AreReadable self.new }
         // Lists that are masked alike are masked alike after a mark.
-        ensures masks_alike { (all : Bool) (other : List Entry) → masked_list all other ≡ masked_list all self.old → masked_list all self.new ≡ masked_list all (marked_at place other) }
+        ensures masks_alike { (all : Bool) (other : List Entry) → masked_list all other ≡ masked_list all self.old →
+            masked_list all self.new ≡ masked_list all (marked_at place other) }
     {
         self.entries[place].hidden = true;
     }
 
-    /// Adds what a diversion to the target, by this cause, tells: an empty list first gets `from`, with index 1; then the last entry is hidden if `hide_last` says so, and the target with its cause is added, below the last entry's index (RFC 7044 §9.2 and §10.3).
+    /// Adds what a diversion to the target, by this cause, tells: an empty list first gets `from`, with index 1; then the last entry is hidden if `hide_last` says so, and
+    /// the target with its cause is added, below the last entry's index (RFC 7044 §9.2 and §10.3).
     ///
     /// A cause that the target has of its own is taken out.
     ///
@@ -256,7 +260,8 @@ impl History {
         // What can be read again stays so.
         ensures readable { AreReadable self.old → IsUriText from.now → IsTarget target.now cause → OnOk result (AreReadable self.new) }
         // Lists that are masked alike are masked alike after one more diversion; so masking before it or after it is one.
-        ensures masks_alike { (all : Bool) (other : List Entry) → masked_list all other ≡ masked_list all self.old → OnOk result (masked_list all self.new ≡ masked_list all (appended other from.now target.now cause hide_last)) }
+        ensures masks_alike { (all : Bool) (other : List Entry) → masked_list all other ≡ masked_list all self.old →
+            OnOk result (masked_list all self.new ≡ masked_list all (appended other from.now target.now cause hide_last)) }
     {
         let entries = &mut self.entries;
         extend(
@@ -269,7 +274,8 @@ impl History {
         )
     }
 
-    /// The list as the 181 about its last diversion tells it to the caller: a list of its own, in which the entry of the user who diverted, the last but one, is hidden too if `hide_diverting` says so, and the target's, the last, if `hide_target` does (TS 24.604 §4.5.2.6). Such marks are of that one 181, and this list has none of them.
+    /// The list as the 181 about its last diversion tells it to the caller: a list of its own, in which the entry of the user who diverted, the last but one, is hidden too
+    /// if `hide_diverting` says so, and the target's, the last, if `hide_target` does (TS 24.604 §4.5.2.6). Such marks are of that one 181, and this list has none of them.
     ///
     /// # Errors
     ///
@@ -282,12 +288,14 @@ impl History {
     ) -> Result<History, NoMemory>
         ensures told { IfOk result (λ h. h ≡ told_to_caller hide_diverting hide_target self.now) }
         // Of the other entries nothing changes.
-        ensures places { (front : List Entry) (diverting target : Entry) → self.now ≡ front ++ diverting ∷ target ∷ [] → IfOk result (λ h. h ≡ front ++ also_hidden hide_diverting diverting ∷ also_hidden hide_target target ∷ []) }
+        ensures places { (front : List Entry) (diverting target : Entry) → self.now ≡ front ++ diverting ∷ target ∷ [] →
+            IfOk result (λ h. h ≡ front ++ also_hidden hide_diverting diverting ∷ also_hidden hide_target target ∷ []) }
         ensures keeps { IfOk result (λ h. map unmarked h ≡ map unmarked self.now) }
         ensures counts { IfOk result (λ h. diversions_in h ≡ diversions_in self.now) }
         ensures readable { AreReadable self.now → IfOk result (λ h. AreReadable h) }
         // Lists that are masked alike tell alike what is masked.
-        ensures masks_alike { (all : Bool) (other : List Entry) → masked_list all other ≡ masked_list all self.now → IfOk result (λ h. masked_list all h ≡ masked_list all (told_to_caller hide_diverting hide_target other)) }
+        ensures masks_alike { (all : Bool) (other : List Entry) → masked_list all other ≡ masked_list all self.now →
+            IfOk result (λ h. masked_list all h ≡ masked_list all (told_to_caller hide_diverting hide_target other)) }
     {
         let mut entries = copied_entries(alloc, self.entries.as_slice())?;
         hide_told(&mut entries, hide_diverting, hide_target);
@@ -299,7 +307,8 @@ impl History {
         ensures counted { result ≡ diversions_in self.now }
         ensures most { result ≤ length self.now }
         // After k diversions it is k more, where a first URI has no cause of its own.
-        ensures each { (h : List Entry) (from : List ℕ) (ds : List Diversion) → (is_empty h ≡ true → cause_of from ≡ None) → self.now ≡ after h from ds → result ≡ diversions_so_far h (length ds) }
+        ensures each { (h : List Entry) (from : List ℕ) (ds : List Diversion) → (is_empty h ≡ true → cause_of from ≡ None) → self.now ≡ after h from ds →
+            result ≡ diversions_so_far h (length ds) }
     {
         count_causes(self.entries.as_slice())
     }

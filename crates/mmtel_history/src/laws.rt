@@ -8,7 +8,8 @@ ghost use Rattle.mmtel_message.specs.declared.messages.Start.{Start};
 ghost use Rattle.mmtel_message.specs.declared.values.Mode.TheVariants.{Plain};
 ghost use Rattle.mmtel_lex.specs.UriPlaces.{user_part, header_parts, uri_params};
 ghost use Rattle.mmtel_history.specs.EntryUri.{cause_of, is_cause, has_cause, is_marked, without_cause};
-ghost use Rattle.mmtel_history.specs.HistoryInfo.{entry_of, entry_text, entries_of, reading, marked_at, appended, told_to_caller, diversions_in, diversions_so_far, masked_entry, masked_list, written, is_empty, Diversion, after, AreReadable};
+ghost use Rattle.mmtel_history.specs.HistoryInfo.{entry_of, entry_text, entries_of, reading, marked_at, appended, told_to_caller, diversions_in, diversions_so_far};
+ghost use Rattle.mmtel_history.specs.HistoryInfo.{masked_entry, masked_list, written, is_empty, Diversion, after, AreReadable};
 ghost use Rattle.mmtel_history.specs.MaskedValues.{masked_value_text, is_marked_value, seen_value};
 ghost use Rattle.mmtel_history.specs.declared.entries.Entry.{Entry};
 
@@ -18,7 +19,8 @@ use mmtel_message::laws::histories_are_readable;
 pub fn values_are_readable()
     ensures entry { (v : List ℕ) → is_some (entry_of v) ≡ is_entry v }
     ensures entries { (vs : List (List ℕ)) → are_entries vs ≡ true → length vs ≤ 32 → reading vs ≡ Ok (entries_of vs) }
-    ensures messages { (b : List ℕ) (m : Message Start) → reads b ≡ Ok m → reading (values_named Plain (codes "History-Info") m.lines) ≡ Ok (entries_of (values_named Plain (codes "History-Info") m.lines)) }
+    ensures messages { (b : List ℕ) (m : Message Start) → reads b ≡ Ok m →
+        reading (values_named Plain (codes "History-Info") m.lines) ≡ Ok (entries_of (values_named Plain (codes "History-Info") m.lines)) }
 {
     histories_are_readable();
 }
@@ -48,28 +50,35 @@ pub fn values_are_masked()
     ensures refused { (all : Bool) (vs : List (List ℕ)) (at : ℕ) → reading vs ≡ Err at → reading (map (seen_value all) vs) ≡ Err at }
 {}
 
-/// What is masked is masked once, and a diversion, a mark or what a 181 tells sees nothing of a list that masking takes away: masking before it or after it is one. Causes and indices stay, and with them the count of diversions.
+/// What is masked is masked once, and a diversion, a mark or what a 181 tells sees nothing of a list that masking takes away: masking before it or after it is one. Causes
+/// and indices stay, and with them the count of diversions.
 pub fn masks_are_once()
     ensures once { (all : Bool) (h : List Entry) → masked_list all (masked_list all h) ≡ masked_list all h }
-    ensures appended { (all : Bool) (h : List Entry) (from target : List ℕ) (cause : ℕ) (hide_last : Bool) → masked_list all (appended (masked_list all h) from target cause hide_last) ≡ masked_list all (appended h from target cause hide_last) }
+    ensures appended { (all : Bool) (h : List Entry) (from target : List ℕ) (cause : ℕ) (hide_last : Bool) →
+        masked_list all (appended (masked_list all h) from target cause hide_last) ≡ masked_list all (appended h from target cause hide_last) }
     ensures marked { (all : Bool) (h : List Entry) (place : ℕ) → masked_list all (marked_at place (masked_list all h)) ≡ masked_list all (marked_at place h) }
-    ensures told { (all hide_diverting hide_target : Bool) (h : List Entry) → masked_list all (told_to_caller hide_diverting hide_target (masked_list all h)) ≡ masked_list all (told_to_caller hide_diverting hide_target h) }
+    ensures told { (all hide_diverting hide_target : Bool) (h : List Entry) →
+        masked_list all (told_to_caller hide_diverting hide_target (masked_list all h)) ≡ masked_list all (told_to_caller hide_diverting hide_target h) }
     ensures causes { (all : Bool) (h : List Entry) → map (λ e. e.cause) (masked_list all h) ≡ map (λ e. e.cause) h }
     ensures indices { (all : Bool) (h : List Entry) → map (λ e. e.index) (masked_list all h) ≡ map (λ e. e.index) h }
     ensures counts { (all : Bool) (h : List Entry) → diversions_in (masked_list all h) ≡ diversions_in h }
 {}
 
-/// The count against the bound rises by one with each diversion that is made, and by nothing else; the list of the call tells as many diversions, where a first URI has no cause of its own, and never fewer.
+/// The count against the bound rises by one with each diversion that is made, and by nothing else; the list of the call tells as many diversions, where a first URI has no
+/// cause of its own, and never fewer.
 pub fn diversions_are_counted()
     ensures one_more { (h : List Entry) (made : ℕ) → diversions_so_far h (made + 1) ≡ diversions_so_far h made + 1 }
-    ensures appended { (h : List Entry) (from target : List ℕ) (cause : ℕ) (hide_last : Bool) → (is_empty h ≡ true → cause_of from ≡ None) → diversions_in (appended h from target cause hide_last) ≡ diversions_in h + 1 }
+    ensures appended { (h : List Entry) (from target : List ℕ) (cause : ℕ) (hide_last : Bool) → (is_empty h ≡ true → cause_of from ≡ None) →
+        diversions_in (appended h from target cause hide_last) ≡ diversions_in h + 1 }
     ensures marked { (h : List Entry) (place : ℕ) → diversions_in (marked_at place h) ≡ diversions_in h }
     ensures told { (hide_diverting hide_target : Bool) (h : List Entry) → diversions_in (told_to_caller hide_diverting hide_target h) ≡ diversions_in h }
-    ensures list { (h : List Entry) (from : List ℕ) (ds : List Diversion) → (is_empty h ≡ true → cause_of from ≡ None) → diversions_in (after h from ds) ≡ diversions_so_far h (length ds) }
+    ensures list { (h : List Entry) (from : List ℕ) (ds : List Diversion) → (is_empty h ≡ true → cause_of from ≡ None) →
+        diversions_in (after h from ds) ≡ diversions_so_far h (length ds) }
     ensures never_fewer { (h : List Entry) (from : List ℕ) (ds : List Diversion) → diversions_so_far h (length ds) ≤ diversions_in (after h from ds) }
 {}
 
-/// What is written of a list is read again: the same entries, each with its URI as it is written. A masked list is read again as it is, and what is read again is masked as the list is.
+/// What is written of a list is read again: the same entries, each with its URI as it is written. A masked list is read again as it is, and what is read again is masked as
+/// the list is.
 pub fn written_lists_are_read()
     ensures entries { (h : List Entry) → AreReadable h → entries_of (map entry_text h) ≡ map written h }
     ensures read { (h : List Entry) → AreReadable h → length h ≤ 32 → reading (map entry_text h) ≡ Ok (map written h) }

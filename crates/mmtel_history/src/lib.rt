@@ -1,4 +1,5 @@
-//! History-Info: the list of targets that a call was offered to, with the causes of its diversions (RFC 7044, RFC 4458), as this project's profile reads, extends, hides and writes it.
+//! History-Info: the list of targets that a call was offered to, with the causes of its diversions (RFC 7044, RFC 4458), as this project's profile reads, extends, hides
+//! and writes it.
 #![tactic(auto)]
 
 mod entries;

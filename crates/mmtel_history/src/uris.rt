@@ -2,7 +2,8 @@
 ghost use Rattle.std.specs.Prelude.{◌≡◌, ◌∷◌, [], ◌++◌, ◌≤◌, ◌<◌, not, length, take, drop, filter, IfOk, IfSome, OnOk, Some, false};
 ghost use Rattle.std.specs.List.{list_any, flat_map};
 ghost use Rattle.mmtel_lex.specs.UriPlaces.{parts, front_part};
-ghost use Rattle.mmtel_history.specs.EntryUri.{cause_number, is_cause, cause_of, causes_in, escaped_parts, is_history, hides, is_marked, has_headers, has_cause, mark_text, marked_uri, plain, with_front, cause_text, without_cause, with_cause};
+ghost use Rattle.mmtel_history.specs.EntryUri.{cause_number, is_cause, cause_of, causes_in, escaped_parts, is_history, hides, is_marked, has_headers, has_cause, mark_text};
+ghost use Rattle.mmtel_history.specs.EntryUri.{marked_uri, plain, with_front, cause_text, without_cause, with_cause};
 
 use crate::parts::first_escaped;
 use mmtel_lex::{cut, first_part, is_named, split_user, uri_param};

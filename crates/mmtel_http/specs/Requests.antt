@@ -13,7 +13,8 @@ use Rattle.mmtel_http.specs.Heads.{head_of}
 use Rattle.mmtel_http.specs.declared.wholes.Whole.{Whole}
 use Rattle.mmtel_http.specs.declared.wholes.Whole.TheVariants.{More, Done, Bad, Large}
 
--- what is asked: the method, the target, the one value of the field of the asserted identity (3GPP TS 24.109 §6) and of Content-Type where there is exactly one, the body, and of how many bytes it is
+-- what is asked: the method, the target, the one value of the field of the asserted identity (3GPP TS 24.109 §6) and of Content-Type where there is exactly one, the body,
+-- and of how many bytes it is
 pub record Asking : Type 0 where
   pub method : List ℕ
   pub target : List ℕ

@@ -38,4 +38,5 @@ pub record UnaskedIsFree : Type 0 where
 
 -- the three grounds of a restriction
 abbrev pub HasThreeGrounds : Type 0
-HasThreeGrounds = (words : PrivacySet) (service : Restriction) → (is_restricted words service ≡ true) ↔ (HasHidingWord words ⊎ IsPermanent service ⊎ (IsTemporary service × (words.none ≡ false)))
+HasThreeGrounds = (words : PrivacySet) (service : Restriction) →
+    (is_restricted words service ≡ true) ↔ (HasHidingWord words ⊎ IsPermanent service ⊎ (IsTemporary service × (words.none ≡ false)))

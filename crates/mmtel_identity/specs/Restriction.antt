@@ -1,4 +1,5 @@
--- Whether an identity is restricted: the restriction of the originating identity (OIR, TS 24.607 §4.5.2) and of the terminating identity (TIR, TS 24.608 §4.5.2), by the words of Privacy (RFC 3323 §4.2; `id` is RFC 3325 §9.3) and by the record of the account. And whether it is presented (OIP and TIP, the same sections).
+-- Whether an identity is restricted: the restriction of the originating identity (OIR, TS 24.607 §4.5.2) and of the terminating identity (TIR, TS 24.608 §4.5.2), by the
+-- words of Privacy (RFC 3323 §4.2; `id` is RFC 3325 §9.3) and by the record of the account. And whether it is presented (OIP and TIP, the same sections).
 use Rattle.std.specs.Prelude.{Bool, true, not, ◌&&◌, ◌||◌, Option, Some, None}
 use Rattle.mmtel_types.specs.declared.privacy.PrivacySet.{PrivacySet}
 use Rattle.mmtel_types.specs.declared.sides.Side.{Side}

@@ -16,7 +16,8 @@ pub fn nothing_asked_is_not_restricted()
     ensures law { UnaskedIsFree }
 {}
 
-/// An identity is restricted on one of three grounds, and on no other: by a word of Privacy, by the permanent mode, or by the temporary mode where that restricts by default and `none` does not stand against it.
+/// An identity is restricted on one of three grounds, and on no other: by a word of Privacy, by the permanent mode, or by the temporary mode where that restricts by
+/// default and `none` does not stand against it.
 pub fn restriction_has_three_grounds()
     ensures law { HasThreeGrounds }
 {}

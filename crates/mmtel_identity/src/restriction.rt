@@ -26,7 +26,8 @@ fn is_restricted(p: &PrivacySet, service: &Restriction) -> bool
     service.permanent || (service.by_default && !p.none)
 }
 
-/// Whether the identity of the caller is restricted in its call (TS 24.607 §4.5.2): by the words of its Privacy header field, or by the restriction service of the account that calls; None where no account of this server is served as the caller.
+/// Whether the identity of the caller is restricted in its call (TS 24.607 §4.5.2): by the words of its Privacy header field, or by the restriction service of the account
+/// that calls; None where no account of this server is served as the caller.
 pub fn caller_restricted(p: &PrivacySet, s: Option<&Sheet>) -> bool
     ensures exact { result ≡ is_caller_restricted p.now (option_copied s.entry) }
 {
@@ -36,7 +37,8 @@ pub fn caller_restricted(p: &PrivacySet, s: Option<&Sheet>) -> bool
     }
 }
 
-/// Whether the identity of the called party is restricted in a message of its own (TS 24.608 §4.5.2): by the words of that message's Privacy header field, or by the restriction service of the account that is called; None where no account of this server is served as the called party.
+/// Whether the identity of the called party is restricted in a message of its own (TS 24.608 §4.5.2): by the words of that message's Privacy header field, or by the
+/// restriction service of the account that is called; None where no account of this server is served as the called party.
 pub fn callee_restricted(p: &PrivacySet, s: Option<&Sheet>) -> bool
     ensures exact { result ≡ is_callee_restricted p.now (option_copied s.entry) }
 {
@@ -46,7 +48,8 @@ pub fn callee_restricted(p: &PrivacySet, s: Option<&Sheet>) -> bool
     }
 }
 
-/// Whether the party on this side, whose sheet it is, is shown the identity of the other side: the called party by the presentation of the originating identity (TS 24.607 §4.5.2), the caller by that of the terminating identity (TS 24.608 §4.5.2). It is where there is no sheet.
+/// Whether the party on this side, whose sheet it is, is shown the identity of the other side: the called party by the presentation of the originating identity (TS 24.607
+/// §4.5.2), the caller by that of the terminating identity (TS 24.608 §4.5.2). It is where there is no sheet.
 pub fn present_to(s: Option<&Sheet>, side: Side) -> bool
     ensures exact { result ≡ is_presented (option_copied s.entry) side }
 {

@@ -35,4 +35,5 @@ IsRegisteredBy held registrations = (account : Account) → end_in held.view acc
 
 -- all is as before but for room
 abbrev pub SaysTheSame : Held → Held → Type 0
-SaysTheSame one other = (one.texts.texts ≡ other.texts.texts) × ((account : Account) → (record_in one.view account ≡ record_in other.view account) × (end_in one.view account.0 ≡ end_in other.view account.0))
+SaysTheSame one other = (one.texts.texts ≡ other.texts.texts) ×
+    ((account : Account) → (record_in one.view account ≡ record_in other.view account) × (end_in one.view account.0 ≡ end_in other.view account.0))

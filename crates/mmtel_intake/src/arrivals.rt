@@ -21,7 +21,8 @@ fn caller_of(alloc: Global, invite: &Hearing) -> Result<Identities2, NoMemory>
     Ok(Identities2 { sip, tel })
 }
 
-/// The signal of an INVITE that opens a call, in this server transaction: whom the server serves, what was said of the registration of its target, and who the caller is (RFC 5502 §6).
+/// The signal of an INVITE that opens a call, in this server transaction: whom the server serves, what was said of the registration of its target, and who the caller is
+/// (RFC 5502 §6).
 ///
 /// # Errors
 ///

@@ -1,4 +1,5 @@
--- What is done with a leg from its making on, one deed after another, and what comes of it: the laws of a dialog's numbers (RFC 3261 §12.2.1.1), of its target and routes, and of the meters that a leg was given.
+-- What is done with a leg from its making on, one deed after another, and what comes of it: the laws of a dialog's numbers (RFC 3261 §12.2.1.1), of its target and routes,
+-- and of the meters that a leg was given.
 use Rattle.std.specs.Prelude.{ℕ, ◌+◌, ◌≤◌, None, ◌≡◌, Bool, true, false, not, List, [], ◌∷◌, ◌++◌, Option, Some, Result, Ok, Err, codes}
 use Rattle.std.specs.Str.{bytes_eq}
 use Rattle.mmtel_scan.specs.Chain.{◌>>=◌}

@@ -1,4 +1,5 @@
--- What a leg knows of its dialog (RFC 3261 §12): its names, the way to the other side, and its numbers; how it begins (§12.1), what it takes of the other side, and which requests it hears (§12.2.2, §14.2).
+-- What a leg knows of its dialog (RFC 3261 §12): its names, the way to the other side, and its numbers; how it begins (§12.1), what it takes of the other side, and which
+-- requests it hears (§12.2.2, §14.2).
 use Rattle.std.specs.Prelude.{ℕ, nat_lt, Bool, true, false, if◌then◌else◌, List, [], ◌∷◌, Option, Some, None, Result, Ok, Err, codes}
 use Rattle.std.specs.Option.{option_map, unwrap_or}
 use Rattle.std.specs.Str.{bytes_eq}
@@ -75,7 +76,8 @@ started peer m = record {
 
 -- ---- what is taken of the other side
 
--- whether a side says with this tag who it is and which way leads to it. A caller does so in its INVITE, which has a tag (§12.1.1); later it has nothing new to say, and no tag. A callee does so anew in each answer that makes or confirms a dialog, also where it gives no tag (§12.1.2, §13.2.2.4)
+-- whether a side says with this tag who it is and which way leads to it. A caller does so in its INVITE, which has a tag (§12.1.1); later it has nothing new to say, and no
+-- tag. A callee does so anew in each answer that makes or confirms a dialog, also where it gives no tag (§12.1.2, §13.2.2.4)
 abbrev pub names_itself : Side → List ℕ → Bool
 names_itself Caller [] = false
 names_itself Caller (b ∷ tag) = true

@@ -1,4 +1,5 @@
--- What the other side of a dialog says of itself where the dialog begins: its tag, the URI of its Contact, and the way to it (RFC 3261 §12.1.1 for a caller, who sent the INVITE, and §12.1.2 for a callee, who answered it).
+-- What the other side of a dialog says of itself where the dialog begins: its tag, the URI of its Contact, and the way to it (RFC 3261 §12.1.1 for a caller, who sent the
+-- INVITE, and §12.1.2 for a callee, who answered it).
 use Rattle.std.specs.Prelude.{ℕ, List, [], ◌∷◌, Option, Some, None, codes, reverse}
 use Rattle.std.specs.Option.{unwrap_or}
 use Rattle.mmtel_lex.specs.Reading.{name_addr_of}

@@ -260,7 +260,11 @@ impl Dialogue {
 
     /// With the tag and the routes that were said, where its side says by them who it is.
     fn answered_by(self, tag: Text, routes: List<Text>) -> Dialogue
-        ensures { result ≡ record self { remote_tag = if names_itself self.side tag then tag else self.remote_tag; routes = if names_itself self.side tag then routes else self.routes } }
+        ensures { result ≡ record self {
+          remote_tag = if names_itself self.side tag then tag else self.remote_tag;
+          routes = if names_itself self.side tag then routes
+              else self.routes;
+        } }
     {
         if names_itself(self.side, tag.bytes()) {
             Dialogue {
@@ -273,7 +277,8 @@ impl Dialogue {
         }
     }
 
-    /// The dialog once the other side has said who it is and where it is reached. Tag and routes of a callee are those that it says, also where it gives no tag (RFC 3261 §12.1.2, §13.2.2.4); those of a caller stay as they are where it says no tag. Without a target the target stays.
+    /// The dialog once the other side has said who it is and where it is reached. Tag and routes of a callee are those that it says, also where it gives no tag (RFC 3261
+    /// §12.1.2, §13.2.2.4); those of a caller stay as they are where it says no tag. Without a target the target stays.
     pub fn meet(self, remote: Remote) -> Dialogue
         ensures met { result ≡ met self remote }
     {

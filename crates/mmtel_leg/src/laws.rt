@@ -18,7 +18,8 @@ ghost use Rattle.mmtel_leg.specs.Dialogues.{hears, number_in};
 ghost use Rattle.mmtel_leg.specs.Remotes.{field, tag_in};
 ghost use Rattle.mmtel_leg.specs.declared.dialogues.DialogueFault.{DialogueFault};
 ghost use Rattle.mmtel_leg.specs.declared.dialogues.InFlight.{InFlight};
-ghost use Rattle.mmtel_leg.specs.Deeds.{Deed, HasNumber, HaveOneNumber, HearsEach, IsCountedFrom, IsNotBelow, ReadsAs, after, after_deed, given_back, is_later, is_not_invite, put_in, requests};
+ghost use Rattle.mmtel_leg.specs.Deeds.{Deed, HasNumber, HaveOneNumber, HearsEach, IsCountedFrom, IsNotBelow, ReadsAs, after, after_deed, given_back, is_later};
+ghost use Rattle.mmtel_leg.specs.Deeds.{is_not_invite, put_in, requests};
 ghost use Rattle.mmtel_leg.specs.Legs.{Leg};
 ghost use Rattle.mmtel_leg.specs.Requests.{Given, ack_of, cseq_text, numbered, request_of, to_text};
 ghost use Rattle.mmtel_leg.specs.Readings.{callee_after, caller_after, five_of};
@@ -27,13 +28,17 @@ ghost use Rattle.mmtel_leg.specs.declared.dialogues.Dialogue.{Dialogue};
 /// Whatever is done with a leg, the numbers of its requests rise by one from the last that it had when it began, as long as numbers of 64 bits reach.
 pub fn numbers_rise_by_one()
     ensures counted { (leg : Leg) (deeds : List Deed) → leg.dialogue.own + length (requests leg deeds) < 2 ^ 64 → IsCountedFrom leg.dialogue.own (requests leg deeds) }
-    ensures last { (leg : Leg) (deeds : List Deed) → leg.dialogue.own + length (requests leg deeds) < 2 ^ 64 → (after leg deeds).dialogue.own ≡ leg.dialogue.own + length (requests leg deeds) }
+    ensures last { (leg : Leg) (deeds : List Deed) → leg.dialogue.own + length (requests leg deeds) < 2 ^ 64 →
+        (after leg deeds).dialogue.own ≡ leg.dialogue.own + length (requests leg deeds) }
 {}
 
-/// The ACK that follows an INVITE has that INVITE's number, whatever else was asked, heard or swapped in between: of an INVITE that the server made in the dialog, and of the one with which a callee's dialog began.
+/// The ACK that follows an INVITE has that INVITE's number, whatever else was asked, heard or swapped in between: of an INVITE that the server made in the dialog, and of
+/// the one with which a callee's dialog began.
 pub fn acks_have_the_number_of_their_invite()
-    ensures made { (leg : Leg) (invite ack : Given) (deeds : List Deed) → list_all is_not_invite deeds ≡ true → HaveOneNumber (request_of leg.dialogue (codes "INVITE") invite) (ack_of (after (after_deed leg (Asks (codes "INVITE") invite)) deeds).dialogue ack) }
-    ensures begun { (peer : Peer) (invite : Message Start) (n : ℕ) (meter : Option Noted) (ack : Given) (deeds : List Deed) → number_in invite.lines ≡ Some n → list_all is_not_invite deeds ≡ true → HasNumber n (ack_of (callee_after peer invite meter deeds) ack) }
+    ensures made { (leg : Leg) (invite ack : Given) (deeds : List Deed) → list_all is_not_invite deeds ≡ true →
+        HaveOneNumber (request_of leg.dialogue (codes "INVITE") invite) (ack_of (after (after_deed leg (Asks (codes "INVITE") invite)) deeds).dialogue ack) }
+    ensures begun { (peer : Peer) (invite : Message Start) (n : ℕ) (meter : Option Noted) (ack : Given) (deeds : List Deed) → number_in invite.lines ≡ Some n →
+        list_all is_not_invite deeds ≡ true → HasNumber n (ack_of (callee_after peer invite meter deeds) ack) }
 {}
 
 /// CSeq of what is built is read again as the number and the method, where the number is one of RFC 3261 (below 2^31, §8.1.1.5) and the method a token.
@@ -42,45 +47,66 @@ pub fn numbers_read_back()
     ensures ack { (d : Dialogue) (given : Given) → unwrap_or d.invited 0 < 2 ^ 31 → ReadsAs (unwrap_or d.invited 0) (codes "ACK") (ack_of d given) }
 {}
 
-/// The tags by which the other side finds its dialog (RFC 3261 §12): From of what is built in a dialog is read with the server's tag and To with the other side's, whatever was done since the dialog began, and whether it is a request or an ACK.
+/// The tags by which the other side finds its dialog (RFC 3261 §12): From of what is built in a dialog is read with the server's tag and To with the other side's, whatever
+/// was done since the dialog began, and whether it is a request or an ACK.
 pub fn tags_read_back()
-    ensures caller_from { (peer : Peer) (invite : Message Start) (tag : List ℕ) (meter : Option Noted) (deeds : List Deed) (number : ℕ) (method : List ℕ) (given : Given) (to : NameAddr) → name_addr_of (field (codes "To") invite.lines) ≡ Some to → IsUntagged to → IsValue tag → tag_in (codes "From") (numbered (caller_after peer invite tag meter deeds) number method given).lines ≡ tag }
-    ensures caller_to { (peer : Peer) (invite : Message Start) (tag : List ℕ) (meter : Option Noted) (deeds : List Deed) (number : ℕ) (method : List ℕ) (given : Given) → tag_in (codes "To") (numbered (caller_after peer invite tag meter deeds) number method given).lines ≡ tag_in (codes "From") invite.lines }
-    ensures callee_from { (peer : Peer) (invite : Message Start) (meter : Option Noted) (deeds : List Deed) (number : ℕ) (method : List ℕ) (given : Given) → tag_in (codes "From") (numbered (callee_after peer invite meter deeds) number method given).lines ≡ tag_in (codes "From") invite.lines }
-    ensures callee_to { (peer : Peer) (invite : Message Start) (meter : Option Noted) (deeds : List Deed) (number : ℕ) (method : List ℕ) (given : Given) (to : NameAddr) → name_addr_of (field (codes "To") invite.lines) ≡ Some to → IsUntagged to → ((callee_after peer invite meter deeds).remote_tag ≡ []) ⊎ IsValue (callee_after peer invite meter deeds).remote_tag → tag_in (codes "To") (numbered (callee_after peer invite meter deeds) number method given).lines ≡ (callee_after peer invite meter deeds).remote_tag }
-    ensures tagged { (value : List ℕ) (n : NameAddr) (tag : List ℕ) → name_addr_of value ≡ Some n → IsValue tag → name_addr_of (tagged value tag) ≡ Some (record n { params = n.params ++ record { name = codes "tag"; value = Some tag } ∷ [] }) }
+    ensures caller_from { (peer : Peer) (invite : Message Start) (tag : List ℕ) (meter : Option Noted) (deeds : List Deed) (number : ℕ) (method : List ℕ) (given : Given)
+        (to : NameAddr) → name_addr_of (field (codes "To") invite.lines) ≡ Some to → IsUntagged to → IsValue tag →
+        tag_in (codes "From") (numbered (caller_after peer invite tag meter deeds) number method given).lines ≡ tag }
+    ensures caller_to { (peer : Peer) (invite : Message Start) (tag : List ℕ) (meter : Option Noted) (deeds : List Deed) (number : ℕ) (method : List ℕ) (given : Given) →
+        tag_in (codes "To") (numbered (caller_after peer invite tag meter deeds) number method given).lines ≡ tag_in (codes "From") invite.lines }
+    ensures callee_from { (peer : Peer) (invite : Message Start) (meter : Option Noted) (deeds : List Deed) (number : ℕ) (method : List ℕ) (given : Given) →
+        tag_in (codes "From") (numbered (callee_after peer invite meter deeds) number method given).lines ≡ tag_in (codes "From") invite.lines }
+    ensures callee_to { (peer : Peer) (invite : Message Start) (meter : Option Noted) (deeds : List Deed) (number : ℕ) (method : List ℕ) (given : Given) (to : NameAddr) →
+        name_addr_of (field (codes "To") invite.lines) ≡ Some to → IsUntagged to →
+        ((callee_after peer invite meter deeds).remote_tag ≡ []) ⊎ IsValue (callee_after peer invite meter deeds).remote_tag →
+        tag_in (codes "To") (numbered (callee_after peer invite meter deeds) number method given).lines ≡ (callee_after peer invite meter deeds).remote_tag }
+    ensures tagged { (value : List ℕ) (n : NameAddr) (tag : List ℕ) → name_addr_of value ≡ Some n → IsValue tag →
+        name_addr_of (tagged value tag) ≡ Some (record n { params = n.params ++ record { name = codes "tag"; value = Some tag } ∷ [] }) }
     ensures values { (name : List ℕ) (m : Message Start) → (tag_in name m.lines ≡ []) ⊎ IsValue (tag_in name m.lines) }
 {}
 
-/// What is built in a dialog has the five fields that each message has (RFC 3261 §8.1.1), and they are read as what the dialog and its caller say. It is so where From and To of the dialog are name-addrs and its Call-ID is not empty, the number is one of RFC 3261, method and branch are tokens, the server's address is one that is sent and its port not 0, and the lines to be shown bring no second line of the dialog's.
+/// What is built in a dialog has the five fields that each message has (RFC 3261 §8.1.1), and they are read as what the dialog and its caller say. It is so where From and
+/// To of the dialog are name-addrs and its Call-ID is not empty, the number is one of RFC 3261, method and branch are tokens, the server's address is one that is sent and
+/// its port not 0, and the lines to be shown bring no second line of the dialog's.
 pub fn five_fields_read_back()
-    ensures read { (d : Dialogue) (number : ℕ) (method : List ℕ) (given : Given) (from to : NameAddr) → name_addr_of d.local ≡ Some from → name_addr_of (to_text d.side d.remote d.remote_tag) ≡ Some to → 0 < length d.call_id → number < 2 ^ 31 → IsToken method → IsToken given.branch → IsSource given.sip → 0 < given.sip.port → AreOthers given.shown → five_at (numbered d number method given).lines ≡ Some (five_of d number method given from to) }
+    ensures read { (d : Dialogue) (number : ℕ) (method : List ℕ) (given : Given) (from to : NameAddr) → name_addr_of d.local ≡ Some from →
+        name_addr_of (to_text d.side d.remote d.remote_tag) ≡ Some to → 0 < length d.call_id → number < 2 ^ 31 → IsToken method → IsToken given.branch →
+        IsSource given.sip → 0 < given.sip.port → AreOthers given.shown → five_at (numbered d number method given).lines ≡ Some (five_of d number method given from to) }
 {}
 
 /// A dialog on the other side that has heard no higher number than the leg's last hears each request of the leg, one after another: none is out of order.
 pub fn requests_are_in_order()
-    ensures heard { (leg : Leg) (deeds : List Deed) (other : Dialogue) → leg.dialogue.own < 2 ^ 64 → IsNotBelow other.last (Some leg.dialogue.own) → HearsEach other (requests leg deeds) }
+    ensures heard { (leg : Leg) (deeds : List Deed) (other : Dialogue) → leg.dialogue.own < 2 ^ 64 → IsNotBelow other.last (Some leg.dialogue.own) →
+        HearsEach other (requests leg deeds) }
 {}
 
 /// What is refused changes nothing of a leg, and the last number that was heard never falls.
 pub fn refusals_change_nothing()
-    ensures refused { (leg : Leg) (request : Message Start) (busy : InFlight) (fault : DialogueFault) → hears leg.dialogue request busy ≡ Err fault → after_deed leg (Hears request busy) ≡ leg }
+    ensures refused { (leg : Leg) (request : Message Start) (busy : InFlight) (fault : DialogueFault) → hears leg.dialogue request busy ≡ Err fault →
+        after_deed leg (Hears request busy) ≡ leg }
     ensures last { (leg : Leg) (deeds : List Deed) → IsNotBelow leg.dialogue.last (after leg deeds).dialogue.last }
 {}
 
 /// A request says in its lines what its dialog is: they are found by their names.
 pub fn requests_name_their_dialog()
-    ensures cseq { (d : Dialogue) (number : ℕ) (method : List ℕ) (given : Given) → first_value (codes "CSeq") (numbered d number method given).lines ≡ Some (cseq_text number method) }
+    ensures cseq { (d : Dialogue) (number : ℕ) (method : List ℕ) (given : Given) →
+        first_value (codes "CSeq") (numbered d number method given).lines ≡ Some (cseq_text number method) }
     ensures call_id { (d : Dialogue) (number : ℕ) (method : List ℕ) (given : Given) → first_value (codes "Call-ID") (numbered d number method given).lines ≡ Some d.call_id }
     ensures from { (d : Dialogue) (number : ℕ) (method : List ℕ) (given : Given) → first_value (codes "From") (numbered d number method given).lines ≡ Some d.local }
-    ensures to { (d : Dialogue) (number : ℕ) (method : List ℕ) (given : Given) → first_value (codes "To") (numbered d number method given).lines ≡ Some (to_text d.side d.remote d.remote_tag) }
+    ensures to { (d : Dialogue) (number : ℕ) (method : List ℕ) (given : Given) →
+        first_value (codes "To") (numbered d number method given).lines ≡ Some (to_text d.side d.remote d.remote_tag) }
 {}
 
-/// The last answer of a callee decides, whatever was said before it: until the callee speaks of itself again, its tag and the routes to it are those of that answer, also where these are none, and its target is the answer's where that has one (RFC 3261 §12.1.2, §13.2.2.4).
+/// The last answer of a callee decides, whatever was said before it: until the callee speaks of itself again, its tag and the routes to it are those of that answer, also
+/// where these are none, and its target is the answer's where that has one (RFC 3261 §12.1.2, §13.2.2.4).
 pub fn the_last_answer_decides()
-    ensures tag { (peer : Peer) (invite : Message Start) (meter : Option Noted) (before later : List Deed) (answer : Remote) → list_all is_later later ≡ true → (callee_after peer invite meter (before ++ Meets answer ∷ later)).remote_tag ≡ answer.tag }
-    ensures routes { (peer : Peer) (invite : Message Start) (meter : Option Noted) (before later : List Deed) (answer : Remote) → list_all is_later later ≡ true → (callee_after peer invite meter (before ++ Meets answer ∷ later)).routes ≡ answer.routes }
-    ensures target { (peer : Peer) (invite : Message Start) (meter : Option Noted) (before later : List Deed) (answer : Remote) → list_all is_later later ≡ true → 0 < length answer.target → (callee_after peer invite meter (before ++ Meets answer ∷ later)).target ≡ answer.target }
+    ensures tag { (peer : Peer) (invite : Message Start) (meter : Option Noted) (before later : List Deed) (answer : Remote) → list_all is_later later ≡ true →
+        (callee_after peer invite meter (before ++ Meets answer ∷ later)).remote_tag ≡ answer.tag }
+    ensures routes { (peer : Peer) (invite : Message Start) (meter : Option Noted) (before later : List Deed) (answer : Remote) → list_all is_later later ≡ true →
+        (callee_after peer invite meter (before ++ Meets answer ∷ later)).routes ≡ answer.routes }
+    ensures target { (peer : Peer) (invite : Message Start) (meter : Option Noted) (before later : List Deed) (answer : Remote) → list_all is_later later ≡ true →
+        0 < length answer.target → (callee_after peer invite meter (before ++ Meets answer ∷ later)).target ≡ answer.target }
 {}
 
 /// Nothing that is heard, asked or swapped after a leg stands changes its target or its routes.

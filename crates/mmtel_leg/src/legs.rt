@@ -33,7 +33,8 @@ pub struct OfCallee;
 
 /// One side of a call, in one of the states `Asked`, `Early` and `Standing`.
 ///
-/// A leg must be spent: it is not `Drop`, so a program that loses one does not compile, and `leave` gives what it had to account for. Contracts see what it knows of its dialog, and its meter.
+/// A leg must be spent: it is not `Drop`, so a program that loses one does not compile, and `leave` gives what it had to account for. Contracts see what it knows of its
+/// dialog, and its meter.
 pub struct LegOf<P, S> {
     dialogue: Dialogue,
     meter: Option<Meter>,
@@ -145,7 +146,8 @@ impl<P, S> LegOf<P, S> {
     ///
     /// # Errors
     ///
-    /// The first that applies; the leg is then as before. `OldCSeq` where its number is lower than that of the last request that was let through; for an INVITE, `Pending` where the server's own is in flight and `Unfinished` where the one before has no final answer (RFC 3261 §12.2.2, §14.2).
+    /// The first that applies; the leg is then as before. `OldCSeq` where its number is lower than that of the last request that was let through; for an INVITE, `Pending`
+    /// where the server's own is in flight and `Unfinished` where the one before has no final answer (RFC 3261 §12.2.2, §14.2).
     pub fn heard(&mut self, request: &Msg, busy: InFlight) -> Result<(), DialogueFault>
         ensures answer { result ≡ hears self.old.dialogue request.now busy }
         ensures heard { OnOk result (self.new ≡ with_dialogue self.old (after_hearing self.old.dialogue request.now)) }
@@ -203,7 +205,8 @@ impl LegOf<OfCaller, Asked> {
 }
 
 impl LegOf<OfCaller, Standing> {
-    /// The leg of a caller whose INVITE came from the peer, where the server answers with this tag: it stands from the opening on, since the INVITE says all that the caller says of itself (RFC 3261 §12.1.1).
+    /// The leg of a caller whose INVITE came from the peer, where the server answers with this tag: it stands from the opening on, since the INVITE says all that the
+    /// caller says of itself (RFC 3261 §12.1.1).
     ///
     /// # Errors
     ///
@@ -311,7 +314,8 @@ impl<P> LegOf<P, Standing> {
 
     /// The next request in the dialog (RFC 3261 §12.2.1.1): to its target, by its route set, with the number after that of the last one.
     ///
-    /// `sip` is the server's address, `hops` what Max-Forwards says, and `branch` what stands behind the cookie of the branch. The shown lines stand between CSeq and Content-Length. An INVITE and a NOTIFY have the server's Contact before them, unless they bring one.
+    /// `sip` is the server's address, `hops` what Max-Forwards says, and `branch` what stands behind the cookie of the branch. The shown lines stand between CSeq and
+    /// Content-Length. An INVITE and a NOTIFY have the server's Contact before them, unless they bring one.
     ///
     /// # Errors
     ///
@@ -326,7 +330,8 @@ impl<P> LegOf<P, Standing> {
         shown: &List<Line>,
         body: &[u8],
     ) -> Result<Msg, NoMemory>
-        ensures message { IfOk result (λ m. m ≡ request_of self.old.dialogue method.now (record { sip = sip; hops = hops; branch = branch.now; shown = shown.now; body = body.now })) }
+        ensures message { IfOk result (λ m. m
+            ≡ request_of self.old.dialogue method.now (record { sip = sip; hops = hops; branch = branch.now; shown = shown.now; body = body.now })) }
         ensures counted { OnOk result (self.new ≡ with_dialogue self.old (after_request self.old.dialogue method.now)) }
         ensures refused { OnErr result (self.new ≡ self.old) }
     {
@@ -334,7 +339,8 @@ impl<P> LegOf<P, Standing> {
         self.dialogue.request(alloc, method, &parts)
     }
 
-    /// The ACK of the last INVITE that the server sent in the dialog, a callee's first one among them: with that INVITE's number (RFC 3261 §13.2.2.4). Where it sent none, as to a caller who was asked nothing, there is nothing to acknowledge, and the number is 0. The other words are as of `request`.
+    /// The ACK of the last INVITE that the server sent in the dialog, a callee's first one among them: with that INVITE's number (RFC 3261 §13.2.2.4). Where it sent none,
+    /// as to a caller who was asked nothing, there is nothing to acknowledge, and the number is 0. The other words are as of `request`.
     ///
     /// # Errors
     ///

@@ -98,7 +98,8 @@ fn route_set(alloc: Global, side: Side, message: &Msg) -> Result<List<Text>, NoM
 }
 
 impl Remote {
-    /// Reads what a side says of itself in a message that it sent: the caller in its INVITE, whose Record-Route values are the route set in order (RFC 3261 §12.1.1), or the callee in its answer, whose are the route set from the last to the first (§12.1.2).
+    /// Reads what a side says of itself in a message that it sent: the caller in its INVITE, whose Record-Route values are the route set in order (RFC 3261 §12.1.1), or
+    /// the callee in its answer, whose are the route set from the last to the first (§12.1.2).
     ///
     /// # Errors
     ///

@@ -79,7 +79,8 @@ abbrev pub IsPort : List ℕ → Option ℕ → Type 0
 IsPort text None = text ≡ []
 IsPort text (Some port) = (digits : List ℕ) × (text ≡ 58 ∷ digits) × IsPortOf digits port
 
--- what may stand behind 'sip:': a user and '@', where there is a user, the host, a port, parameters and the header part; the '@' behind the user is the only one. No byte is a blank, a control, a quote or an angle bracket: no value of a parameter is a quoted string here (uri-parameter)
+-- what may stand behind 'sip:': a user and '@', where there is a user, the host, a port, parameters and the header part; the '@' behind the user is the only one. No byte
+-- is a blank, a control, a quote or an angle bracket: no value of a parameter is a quoted string here (uri-parameter)
 pub record IsSip (s : List ℕ) (user : Option (List ℕ)) (host : List ℕ) (port : Option ℕ) (params : List Param) (headers : List ℕ) : Type 0 where
   pub bytes_in : IsAll UriByte s
   pub port_text : List ℕ

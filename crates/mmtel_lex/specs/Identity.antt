@@ -1,4 +1,5 @@
--- Which URIs name one identity: two sip URIs by user and host, two tel URIs by their numbers without visual separators (RFC 3966 §3 and §4), a sip and a tel URI where the sip URI stands for the number (RFC 3261 §19.1.6).
+-- Which URIs name one identity: two sip URIs by user and host, two tel URIs by their numbers without visual separators (RFC 3966 §3 and §4), a sip and a tel URI where the
+-- sip URI stands for the number (RFC 3261 §19.1.6).
 use Rattle.std.specs.Prelude.{◌≡◌, ℕ, Bool, true, false, not, ◌==◌, ◌||◌, List, ◌∷◌, Option, Some, None, codes, filter}
 use Rattle.std.specs.Str.{str_to_ascii_lowercase, bytes_eq}
 use Rattle.mmtel_scan.specs.Classes.{IsAll}

@@ -5,6 +5,7 @@ pub mod Outcome
 pub mod Params
 pub mod Percent
 pub mod UriPlaces
--- What they cite as functions that compute, which laws tie to the grammar and to identity. Of Reading the parts of a URI and of a name-addr (user_at to headers_at, scheme_of, number_at, angle_of to quoted_of) serve private functions alone.
+-- What they cite as functions that compute, which laws tie to the grammar and to identity. Of Reading the parts of a URI and of a name-addr (user_at to headers_at,
+-- scheme_of, number_at, angle_of to quoted_of) serve private functions alone.
 pub mod Reading
 pub mod SameIdentity

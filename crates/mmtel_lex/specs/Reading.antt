@@ -1,6 +1,8 @@
--- What the readers answer on each list of bytes, as total functions: of a whole list (uri_of, name_addr_of, params_of), and of its front with what follows it (token_at, text_at, all_params_at, host_at, port_at).
+-- What the readers answer on each list of bytes, as total functions: of a whole list (uri_of, name_addr_of, params_of), and of its front with what follows it (token_at,
+-- text_at, all_params_at, host_at, port_at).
 -- A layer above cites them where it needs "is readable" as a test that computes. What is read is said by Grammar, and the contracts of the readers of whole lists tie the two.
-use Rattle.std.specs.Prelude.{◌≡◌, ℕ, zero, suc, List, [], ◌∷◌, ◌++◌, codes, is_none, ◌&&◌, ◌+◌, length, take, drop, Option, Some, None, Result, Ok, Err, nat_lt, ◌==◌, Bool, false, if◌then◌else◌}
+use Rattle.std.specs.Prelude.{◌≡◌, ℕ, zero, suc, List, [], ◌∷◌, ◌++◌, codes, is_none, ◌&&◌, ◌+◌, length, take, drop, Option, Some, None, Result, Ok, Err, nat_lt, ◌==◌}
+use Rattle.std.specs.Prelude.{Bool, false, if◌then◌else◌}
 use Rattle.mmtel_scan.specs.Chain.{◌>>=◌}
 use Rattle.mmtel_scan.specs.Classes.{in_class}
 use Rattle.mmtel_scan.specs.Numbers.{number_of}
@@ -177,7 +179,8 @@ or_malformed (Some u) = Ok u
 
 abbrev pub uri_from : Option (List ℕ × List ℕ) → Result Uri Refusal
 uri_from None = Err malformed
-uri_from (Some x) = if str_eq_ignore_ascii_case x.0 (codes "sip") then or_malformed (sip_of x.1) else if str_eq_ignore_ascii_case x.0 (codes "tel") then or_malformed (tel_of x.1) else Err foreign
+uri_from (Some x) = if str_eq_ignore_ascii_case x.0 (codes "sip") then or_malformed (sip_of x.1) else if str_eq_ignore_ascii_case x.0 (codes "tel")
+    then or_malformed (tel_of x.1) else Err foreign
 
 unfoldable pub uri_of : List ℕ → Result Uri Refusal
 uri_of s = uri_from (scheme_of s)
@@ -201,11 +204,13 @@ Places lex.NoMemory r = r ≡ Err faults.NoMemory
 
 -- what follows a '<': the URI, a '>' and parameters
 unfoldable pub angle_of : List ℕ → List ℕ → Option NameAddr
-angle_of display s = if length (run UriByte s) == 0 then None else (after_byte 62 (after_run UriByte s) >>= λ r. all_params_at r >>= λ ps. at_end (record { display = display; uri = run UriByte s; params = ps.0 }) ps.1)
+angle_of display s = if length (run UriByte s) == 0 then None
+    else (after_byte 62 (after_run UriByte s) >>= λ r. all_params_at r >>= λ ps. at_end (record { display = display; uri = run UriByte s; params = ps.0 }) ps.1)
 
 -- a URI without brackets, and parameters
 unfoldable pub bare_of : List ℕ → Option NameAddr
-bare_of s = if length (run BareByte s) == 0 then None else (all_params_at (after_run BareByte s) >>= λ ps. at_end (record { display = []; uri = run BareByte s; params = ps.0 }) ps.1)
+bare_of s = if length (run BareByte s) == 0 then None
+    else (all_params_at (after_run BareByte s) >>= λ ps. at_end (record { display = []; uri = run BareByte s; params = ps.0 }) ps.1)
 
 -- words up to a '<', which no blank begins, or no '<'
 abbrev pub words_from : List ℕ → Option (List ℕ) → Option NameAddr

@@ -9,7 +9,8 @@ use mmtel_scan::NoMemory;
 pub enum LexFault {
     /// The bytes are not of the grammar.
     Malformed {
-        /// Of a reader of the whole list the place where reading stopped, at most the number of bytes; of a reader of a front how many bytes it left. Nothing more is promised of it.
+        /// Of a reader of the whole list the place where reading stopped, at most the number of bytes; of a reader of a front how many bytes it left. Nothing more is
+        /// promised of it.
         at: usize,
     },
     /// Memory ran out.

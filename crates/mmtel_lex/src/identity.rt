@@ -147,7 +147,8 @@ fn are_same(a: &Uri, b: &Uri) -> bool
 
 /// Whether the URIs are of one identity. It takes no memory.
 ///
-/// Two sip URIs are where their users are equal byte for byte and their hosts without case. Two tel URIs are where their numbers are equal without visual separators. A sip and a tel URI are where the sip URI's user is `+` and digits, its first parameter `user` says `phone`, and its user is the number without visual separators.
+/// Two sip URIs are where their users are equal byte for byte and their hosts without case. Two tel URIs are where their numbers are equal without visual separators. A sip
+/// and a tel URI are where the sip URI's user is `+` and digits, its first parameter `user` says `phone`, and its user is the number without visual separators.
 pub fn same_identity(a: &Uri, b: &Uri) -> bool
     ensures relation { IsTrue result ↔ IsSameIdentity a.now b.now }
     ensures tested { result ≡ is_same_identity a.now b.now }

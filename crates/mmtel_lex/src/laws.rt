@@ -25,7 +25,8 @@ pub fn uris_are_unique()
     ensures not_foreign { (s : List ℕ) (u : Uri) → IsUri s u → IsForeign s → ⊥ }
 {}
 
-/// A URI has visible bytes alone, and of these no quote and no angle bracket, as it was read and as it is printed: so nobody puts a line, a blank or a quoted string into a message by one.
+/// A URI has visible bytes alone, and of these no quote and no angle bracket, as it was read and as it is printed: so nobody puts a line, a blank or a quoted string into a
+/// message by one.
 pub fn uris_are_visible()
     ensures text { (s : List ℕ) (u : Uri) → IsUri s u → IsAll UriByte s }
     ensures printed { (s : List ℕ) (u : Uri) → IsUri s u → IsAll UriByte (uri_text u) }
@@ -49,22 +50,29 @@ pub fn identity_is_tested()
 
 /// Between sip URIs identity does not depend on the port, the parameters, the header part and the case of the host.
 pub fn sip_identity_is_user_and_host()
-    ensures same { (user other_user : Option (List ℕ)) (host host2 other_host : List ℕ) (port port2 other_port : Option ℕ) (params params2 other_params : List Param) (headers headers2 other_headers : List ℕ) → str_to_ascii_lowercase host ≡ str_to_ascii_lowercase host2 → IsSameIdentity (Sip user host port params headers) (Sip other_user other_host other_port other_params other_headers) ↔ IsSameIdentity (Sip user host2 port2 params2 headers2) (Sip other_user other_host other_port other_params other_headers) }
+    ensures same { (user other_user : Option (List ℕ)) (host host2 other_host : List ℕ) (port port2 other_port : Option ℕ) (params params2 other_params : List Param)
+        (headers headers2 other_headers : List ℕ) → str_to_ascii_lowercase host ≡ str_to_ascii_lowercase host2 →
+        IsSameIdentity (Sip user host port params headers) (Sip other_user other_host other_port other_params other_headers)
+        ↔ IsSameIdentity (Sip user host2 port2 params2 headers2) (Sip other_user other_host other_port other_params other_headers) }
 {}
 
 /// Between tel URIs identity does not depend on the parameters and the visual separators.
 pub fn tel_identity_is_number()
-    ensures same { (number number2 other : List ℕ) (params params2 other_params : List Param) → reduced number ≡ reduced number2 → IsSameIdentity (Tel number params) (Tel other other_params) ↔ IsSameIdentity (Tel number2 params2) (Tel other other_params) }
+    ensures same { (number number2 other : List ℕ) (params params2 other_params : List Param) → reduced number ≡ reduced number2 →
+        IsSameIdentity (Tel number params) (Tel other other_params) ↔ IsSameIdentity (Tel number2 params2) (Tel other other_params) }
 {}
 
 /// Between a sip and a tel URI only the user of the sip URI counts, whether its first parameter `user` says `phone`, and the digits of the tel URI.
 pub fn phone_identity_is_user_and_number()
-    ensures same { (user : Option (List ℕ)) (host host2 number number2 : List ℕ) (port port2 : Option ℕ) (params params2 tel_params tel_params2 : List Param) (headers headers2 : List ℕ) → has_user_phone params ≡ has_user_phone params2 → reduced number ≡ reduced number2 → IsSameIdentity (Sip user host port params headers) (Tel number tel_params) ↔ IsSameIdentity (Sip user host2 port2 params2 headers2) (Tel number2 tel_params2) }
+    ensures same { (user : Option (List ℕ)) (host host2 number number2 : List ℕ) (port port2 : Option ℕ) (params params2 tel_params tel_params2 : List Param)
+        (headers headers2 : List ℕ) → has_user_phone params ≡ has_user_phone params2 → reduced number ≡ reduced number2 →
+        IsSameIdentity (Sip user host port params headers) (Tel number tel_params) ↔ IsSameIdentity (Sip user host2 port2 params2 headers2) (Tel number2 tel_params2) }
 {}
 
 /// A byte that is no `%` stands for itself, and an escaped byte for the byte that its digits write; so a text without `%` stands for itself.
 pub fn escapes_stand_for_their_byte()
     ensures plain { (s : List ℕ) → IsFree 37 s → percent_decoded s ≡ Some s }
     ensures other { (b : ℕ) (s : List ℕ) → (b == 37) ≡ false → percent_decoded (b ∷ s) ≡ option_map (λ t. b ∷ t) (percent_decoded s) }
-    ensures escaped { (a b high low : ℕ) (s : List ℕ) → hex_value a ≡ Some high → hex_value b ≡ Some low → percent_decoded (37 ∷ a ∷ b ∷ s) ≡ option_map (λ t. (high * 16 + low) ∷ t) (percent_decoded s) }
+    ensures escaped { (a b high low : ℕ) (s : List ℕ) → hex_value a ≡ Some high → hex_value b ≡ Some low →
+        percent_decoded (37 ∷ a ∷ b ∷ s) ≡ option_map (λ t. (high * 16 + low) ∷ t) (percent_decoded s) }
 {}

@@ -114,7 +114,8 @@ fn whole(alloc: Global, bytes: &[u8]) -> Result<NameAddr, LexFault>
     }
 }
 
-/// Reads a name-addr (RFC 3261 §20.10): a display or none, `<`, a URI of any scheme, `>` and parameters, or a bare URI without `,`, `;` and `?` and parameters; all of the bytes are read.
+/// Reads a name-addr (RFC 3261 §20.10): a display or none, `<`, a URI of any scheme, `>` and parameters, or a bare URI without `,`, `;` and `?` and parameters; all of the
+/// bytes are read.
 ///
 /// The display keeps its bytes, quotes included, and the URI keeps its own.
 ///

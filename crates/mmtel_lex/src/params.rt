@@ -112,7 +112,8 @@ fn value_bytes(value: &Option<Text>) -> Option<&[u8]>
     }
 }
 
-/// The value of the first parameter of the name, which is compared without case (RFC 3261 §7.3.1); None where there is none of that name, or the first has no value. It takes no memory.
+/// The value of the first parameter of the name, which is compared without case (RFC 3261 §7.3.1); None where there is none of that name, or the first has no value. It
+/// takes no memory.
 pub fn param_value<'a>(params: &'a [Param], name: &[u8]) -> Option<&'a [u8]>
     ensures { option_copied result ≡ param_value name.now params.now }
 {

@@ -77,7 +77,8 @@ fn decoded(alloc: Global, bytes: &[u8]) -> Result<Option<Text>, NoMemory>
     }
 }
 
-/// The bytes that a text of a URI stands for, each escaped byte in the place of its `%` and its two hexadecimal digits; None exactly where a `%` is not followed by two such digits.
+/// The bytes that a text of a URI stands for, each escaped byte in the place of its `%` and its two hexadecimal digits; None exactly where a `%` is not followed by two
+/// such digits.
 ///
 /// # Errors
 ///

@@ -7,7 +7,8 @@ ghost use Rattle.std.specs.Str.Parse.{digits_value};
 ghost use Rattle.mmtel_scan.specs.Classes.{IsAll};
 ghost use Rattle.mmtel_lex.specs.Grammar.{IsUri, IsForeign, IsNoUri};
 ghost use Rattle.mmtel_lex.specs.Outcome.{IsUnlessMemory, IsMalformedUri, IsOfBytes, IsUriPlaceIn};
-ghost use Rattle.mmtel_lex.specs.Reading.{Gives, user_at, host_at, port_number, port_at, headers_at, headers_of, sip_parts, sip_of, scheme_of, sign_of, number_at, tel_parts, tel_of, uri_of, Answers, Places};
+ghost use Rattle.mmtel_lex.specs.Reading.{Gives, user_at, host_at, port_number, port_at, headers_at, headers_of, sip_parts, sip_of, scheme_of, sign_of, number_at};
+ghost use Rattle.mmtel_lex.specs.Reading.{tel_parts, tel_of, uri_of, Answers, Places};
 ghost use Rattle.std.specs.Str.{str_eq_ignore_ascii_case};
 ghost use Rattle.std.specs.Option.{option_map};
 ghost use Rattle.mmtel_scan.specs.declared.classes.Class.TheVariants.{Digit};
@@ -274,7 +275,8 @@ fn uri(alloc: Global, bytes: &[u8]) -> Result<Uri, UriFault>
 ///
 /// # Errors
 ///
-/// `Malformed` exactly where the bytes are neither of the grammar nor of another scheme; `at` is at most their number, and nothing more is promised of it. `Scheme` exactly where they begin with another scheme. `NoMemory` where memory ran out.
+/// `Malformed` exactly where the bytes are neither of the grammar nor of another scheme; `at` is at most their number, and nothing more is promised of it. `Scheme` exactly
+/// where they begin with another scheme. `NoMemory` where memory ran out.
 pub fn read_uri(alloc: Global, bytes: &[u8]) -> Result<Uri, UriFault>
     // The answer is that of the total reading function.
     ensures exact { Answers result (uri_of bytes.now) }

@@ -1,4 +1,5 @@
--- What a leg reads of a message without its private places (RFC 3261 §12.1.1, §12.1.2, §12.2.1.1): the tags, the route set and the numbers are never private, and the target is where Contact is.
+-- What a leg reads of a message without its private places (RFC 3261 §12.1.1, §12.1.2, §12.2.1.1): the tags, the route set and the numbers are never private, and the
+-- target is where Contact is.
 use Rattle.std.specs.Prelude.{◌≡◌, true, false, ℕ, List, Some, codes}
 use Rattle.mmtel_lex.specs.Reading.{name_addr_of}
 use Rattle.mmtel_lex.specs.declared.values.NameAddr.{NameAddr}

@@ -74,5 +74,6 @@ EntriesAreHidden = (es other : Entries) (f : Facing) (h k : List Entry) (tag : L
 
 -- and any peer attempts of one head
 abbrev pub EntriesHaveNoHead : Type 0
-EntriesHaveNoHead = (es other : Entries) (f : Facing) (b c : Bool) (h k : List Entry) (tag : List ℕ) (m n : Message Start) (d : Dialogue) (number : ℕ) (method : List ℕ) (given : Given) →
+EntriesHaveNoHead = (es other : Entries) (f : Facing) (b c : Bool) (h k : List Entry) (tag : List ℕ) (m n : Message Start) (d : Dialogue) (number : ℕ) (method : List ℕ)
+    (given : Given) →
     masked (only es) m ≡ masked (only other) n → head_of (attempt f b h tag m d number method given) ≡ head_of (attempt f c k tag n d number method given)

@@ -46,7 +46,8 @@ nobodys tag = invite_of (codes "<sip:anonymous@anonymous.invalid>;tag=" ++ tag) 
 
 -- Frank's, with this tag, where he wishes so
 abbrev pub of_frank : List ℕ → Message Start
-of_frank tag = invite_of (codes "\"Frank\" <sip:frank@other.example>;tag=" ++ tag) (codes "<sip:frank@127.0.0.1:5071>") ((codes "P-Asserted-Identity", codes "<sip:frank@other.example>") ∷ private_lines)
+of_frank tag = invite_of (codes "\"Frank\" <sip:frank@other.example>;tag=" ++ tag) (codes "<sip:frank@127.0.0.1:5071>")
+    ((codes "P-Asserted-Identity", codes "<sip:frank@other.example>") ∷ private_lines)
 
 abbrev pub head_with_tag : List ℕ → Head
 head_with_tag tag = record {

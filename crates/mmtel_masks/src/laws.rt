@@ -1,7 +1,9 @@
 //! Laws of masked messages: each is the contract of a function that does nothing.
-ghost use Rattle.mmtel_masks.specs.Dialogs.{AlikeDialogsDifferInRemote, AlikeSpeakersHaveOneName, ContactDecides, DialogsDifferInRemote, NumbersStay, RemotesDifferInTarget, RoutesStay, TagsStay, TargetsAreNobodys};
+ghost use Rattle.mmtel_masks.specs.Dialogs.{AlikeDialogsDifferInRemote, AlikeSpeakersHaveOneName, ContactDecides, DialogsDifferInRemote, NumbersStay};
+ghost use Rattle.mmtel_masks.specs.Dialogs.{RemotesDifferInTarget, RoutesStay, TagsStay, TargetsAreNobodys};
 ghost use Rattle.mmtel_masks.specs.Heads.{AlikeHaveOneHead, HeardAlikeHaveOneHead, LinesKeepTheirHead, MessagesKeepTheirHead};
-ghost use Rattle.mmtel_masks.specs.Requests.{AttemptsAreHidden, AttemptsHaveOneHead, EntriesAreHidden, EntriesHaveNoHead, ForeignLinesHaveNoHead, RelayedAreHidden, ShownLinesHaveNoHead};
+ghost use Rattle.mmtel_masks.specs.Requests.{AttemptsAreHidden, AttemptsHaveOneHead, EntriesAreHidden, EntriesHaveNoHead, ForeignLinesHaveNoHead, RelayedAreHidden};
+ghost use Rattle.mmtel_masks.specs.Requests.{ShownLinesHaveNoHead};
 ghost use Rattle.mmtel_masks.specs.Responses.{AlikeResponsesAreEqual, AlikeResponsesHaveOneHead, AreMasked, RelayedHaveOneHead, SeeFromAlone};
 ghost use Rattle.mmtel_masks.specs.Worked.{HeadsOfInvites, MaskedInvites, RemotesOfInvites};
 

@@ -1,4 +1,5 @@
--- The header lines of a canonical text: one value of a listed name a line, the words of Privacy on one line with ';' between them, the methods of Allow on one line with commas (RFC 3261 §7.3.1).
+-- The header lines of a canonical text: one value of a listed name a line, the words of Privacy on one line with ';' between them, the methods of Allow on one line with
+-- commas (RFC 3261 §7.3.1).
 use Rattle.std.specs.Prelude.{◌==◌, if◌then◌else◌, ℕ, Bool, List, [], ◌∷◌, ◌++◌, length, codes, map}
 use Rattle.std.specs.List.{list_any}
 use Rattle.mmtel_message.specs.Headers.{trim}

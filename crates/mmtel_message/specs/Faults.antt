@@ -1,5 +1,7 @@
--- What is wrong with a message whose five fields can be read, line by line (RFC 3261 §8.1.1, §8.2 and §20; RFC 3323 Privacy, RFC 3325 P-Asserted-Identity, RFC 3515 Refer-To, RFC 5502 P-Served-User, RFC 7044 History-Info).
-use Rattle.std.specs.Prelude.{Option, Some, None, is_none, is_some, ◌==◌, ◌&&◌, ◌||◌, not, if◌then◌else◌, ℕ, ◌+◌, Bool, true, false, List, [], ◌∷◌, ◌++◌, length, codes, nat_lt, Result, Ok, Err}
+-- What is wrong with a message whose five fields can be read, line by line (RFC 3261 §8.1.1, §8.2 and §20; RFC 3323 Privacy, RFC 3325 P-Asserted-Identity, RFC 3515
+-- Refer-To, RFC 5502 P-Served-User, RFC 7044 History-Info).
+use Rattle.std.specs.Prelude.{Option, Some, None, is_none, is_some, ◌==◌, ◌&&◌, ◌||◌, not, if◌then◌else◌, ℕ, ◌+◌, Bool, true, false, List, [], ◌∷◌, ◌++◌, length, codes}
+use Rattle.std.specs.Prelude.{nat_lt, Result, Ok, Err}
 use Rattle.std.specs.List.{list_all}
 use Rattle.std.specs.Str.{bytes_eq}
 use Rattle.mmtel_scan.specs.Classes.{in_class}

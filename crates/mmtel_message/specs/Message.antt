@@ -1,4 +1,5 @@
--- A message as contracts see it (RFC 3261 §7): its start line, its header lines (name and value) and its body; and what is found and edited by a name, which is compared without case (§7.3.1).
+-- A message as contracts see it (RFC 3261 §7): its start line, its header lines (name and value) and its body; and what is found and edited by a name, which is compared
+-- without case (§7.3.1).
 use Rattle.std.specs.Prelude.{not, Option, Some, None, if◌then◌else◌, ℕ, Bool, List, [], ◌∷◌, filter, map}
 use Rattle.std.specs.List.{flat_map, list_any}
 use Rattle.std.specs.Str.{str_eq_ignore_ascii_case}

@@ -1,5 +1,7 @@
 -- Header names: how this server spells each that it knows, and which have compact forms.
--- RFC 3261 §7.3.3 and §20; RFC 3323 (Privacy), RFC 3325 (P-Asserted-Identity), RFC 3515 (Refer-To), RFC 3841 (Accept-Contact and its like), RFC 3892 (Referred-By), RFC 5502 (P-Served-User), RFC 7044 (History-Info), RFC 6665 (Event, Subscription-State), RFC 3262 (RAck, RSeq), RFC 4028 (Min-SE, Session-Expires), RFC 3326 (Reason), RFC 7315 and RFC 5009 (the P- headers).
+-- RFC 3261 §7.3.3 and §20; RFC 3323 (Privacy), RFC 3325 (P-Asserted-Identity), RFC 3515 (Refer-To), RFC 3841 (Accept-Contact and its like), RFC 3892 (Referred-By), RFC
+-- 5502 (P-Served-User), RFC 7044 (History-Info), RFC 6665 (Event, Subscription-State), RFC 3262 (RAck, RSeq), RFC 4028 (Min-SE, Session-Expires), RFC 3326 (Reason), RFC
+-- 7315 and RFC 5009 (the P- headers).
 use Rattle.std.specs.Prelude.{◌||◌, Option, Some, None, if◌then◌else◌, ℕ, List, [], ◌∷◌, codes}
 use Rattle.std.specs.Str.{str_eq_ignore_ascii_case}
 
@@ -95,4 +97,6 @@ or_else None n = n
 -- the name as this server spells it; a name that it does not know stays as it is
 abbrev pub long_name : List ℕ → List ℕ
 long_name n =
-    or_else (of_forms compact_forms n) (or_else (of_forms more_compact_forms n) (or_else (of_names routing_names n) (or_else (of_names content_names n) (or_else (of_names caller_names n) (or_else (of_names network_names n) n)))))
+    or_else (of_forms compact_forms n)
+    (or_else (of_forms more_compact_forms n)
+    (or_else (of_names routing_names n) (or_else (of_names content_names n) (or_else (of_names caller_names n) (or_else (of_names network_names n) n)))))

@@ -1,4 +1,5 @@
--- Reading a message (RFC 3261 §7, §18.3 and §25.1): the whole list of bytes is parted at its head's end, at its line ends and at its folds, and each piece is looked at. The refusals come in the order TooLarge, NotSip, TooMany, Bad.
+-- Reading a message (RFC 3261 §7, §18.3 and §25.1): the whole list of bytes is parted at its head's end, at its line ends and at its folds, and each piece is looked at.
+-- The refusals come in the order TooLarge, NotSip, TooMany, Bad.
 use Rattle.std.specs.Prelude.{◌≡◌, Option, Some, None, if◌then◌else◌, ℕ, nat_lt, ◌+◌, List, [], ◌∷◌, length, codes, take, drop, map, Result, Ok, Err}
 use Rattle.mmtel_scan.specs.Chain.{◌>>=◌}
 use Rattle.mmtel_scan.specs.Numbers.{number_of}
@@ -77,7 +78,8 @@ after_faults start hs rest None = Ok (message_of start hs rest)
 abbrev pub after_head : Option MessageHead → List ℕ → Read
 after_head None rest = Err fault.NotSip
 after_head (Some head) rest =
-    if nat_lt most_lines (length head.lines) then Err (fault.TooMany (reply_to head.start 513 (codes "Message Too Large") head.lines)) else after_faults head.start head.lines rest (first_fault head.start head.five (length rest) head.lines)
+    if nat_lt most_lines (length head.lines) then Err (fault.TooMany (reply_to head.start 513 (codes "Message Too Large") head.lines))
+    else after_faults head.start head.lines rest (first_fault head.start head.five (length rest) head.lines)
 
 -- the same from the start line on
 abbrev pub after_start : List (List ℕ × List ℕ) → List ℕ → Option Start → Read

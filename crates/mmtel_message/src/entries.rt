@@ -31,7 +31,8 @@ fn is_dotted(bytes: &[u8]) -> bool
     digit
 }
 
-/// Whether the value of a parameter `index` says a place in History-Info: numbers with dots between them (RFC 7044 §5, index-val). There is none where the parameter is not there or has no value.
+/// Whether the value of a parameter `index` says a place in History-Info: numbers with dots between them (RFC 7044 §5, index-val). There is none where the parameter is not
+/// there or has no value.
 pub fn is_place(value: Option<&[u8]>) -> bool
     ensures { result ≡ is_place (option_copied value.entry) }
 {

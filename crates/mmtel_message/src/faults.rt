@@ -4,7 +4,8 @@ ghost use Rattle.std.specs.Option.{option_copied};
 ghost use Rattle.mmtel_lex.specs.Reading.{name_addr_of};
 ghost use Rattle.mmtel_scan.specs.Numbers.{number_of};
 ghost use Rattle.mmtel_message.specs.Entries.{are_entries};
-ghost use Rattle.mmtel_message.specs.Faults.{is_method, is_request, start_fault, is_readable, are_readable, is_one_readable, is_cookie, is_case, has_case, is_word, are_words, extension_rows, by_name, line_fault, fault_from, first_fault, or_absent};
+ghost use Rattle.mmtel_message.specs.Faults.{is_method, is_request, start_fault, is_readable, are_readable, is_one_readable, is_cookie, is_case, has_case, is_word};
+ghost use Rattle.mmtel_message.specs.Faults.{are_words, extension_rows, by_name, line_fault, fault_from, first_fault, or_absent};
 ghost use Rattle.mmtel_lex.specs.Params.{param_value};
 ghost use Rattle.mmtel_message.specs.Message.{has_line, values_named};
 ghost use Rattle.mmtel_message.specs.declared.values.Mode.TheVariants.{Plain, Words};
@@ -161,7 +162,8 @@ fn is_over(earlier: usize, more: usize) -> bool
 }
 
 fn history_fault(alloc: Global, before: &[Line], value: &[u8]) -> Result<bool, NoMemory>
-    ensures { IfOk result (λ b. b ≡ (not (are_entries (values_of value.now)) || nat_lt 32 (length (values_named Plain (codes "History-Info") before.now) + length (values_of value.now)))) }
+    ensures { IfOk result (λ b. b ≡ (not (are_entries (values_of value.now)) ||
+        nat_lt 32 (length (values_named Plain (codes "History-Info") before.now) + length (values_of value.now)))) }
 {
     let values = values_in(alloc, Mode::Plain, value)?;
     if !are_entries(alloc, values.items())? {

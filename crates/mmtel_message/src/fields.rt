@@ -3,7 +3,8 @@ ghost use Rattle.std.specs.Prelude.{◌≡◌, count_by};
 ghost use Rattle.std.specs.Option.{option_copied};
 ghost use Rattle.mmtel_lex.specs.Reading.{Gives};
 ghost use Rattle.mmtel_message.specs.Message.{is_line};
-ghost use Rattle.mmtel_message.specs.Fields.{only_value, first_part, via_by, via_at, cseq_at, via_in, party_in, parties_in, call_in, five_at, after_blanks, before_rest, if_end, filled};
+ghost use Rattle.mmtel_message.specs.Fields.{only_value, first_part, via_by, via_at, cseq_at, via_in, party_in, parties_in, call_in, five_at, after_blanks, before_rest};
+ghost use Rattle.mmtel_message.specs.Fields.{if_end, filled};
 
 use crate::messages::{Line, first_of, is_line};
 use crate::values::{Mode, next_part};

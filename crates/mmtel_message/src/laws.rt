@@ -21,7 +21,8 @@ ghost use Rattle.mmtel_message.specs.Names.{compact_forms, more_compact_forms, l
 ghost use Rattle.mmtel_message.specs.Promises.{IsOnly, StandsOneALine, HasTag, HasCookie, HasContact, is_hops, are_cases};
 ghost use Rattle.mmtel_message.specs.Reads.{reads, after_start};
 ghost use Rattle.mmtel_message.specs.Replies.{bare, reply_with};
-ghost use Rattle.mmtel_message.specs.Responses.{AreLinesWith, BringsNone, IsSendable, IsUntagged, Reply, SaysNoWay, completed_lines, five_answered, response, tag_due, to_answered, to_line};
+ghost use Rattle.mmtel_message.specs.Responses.{AreLinesWith, BringsNone, IsSendable, IsUntagged, Reply, SaysNoWay, completed_lines, five_answered, response, tag_due};
+ghost use Rattle.mmtel_message.specs.Responses.{to_answered, to_line};
 ghost use Rattle.mmtel_message.specs.Starts.{start_at};
 ghost use Rattle.mmtel_types.specs.declared.addrs.Addr.{Addr};
 ghost use Rattle.mmtel_message.specs.Vias.{IsSource, completed, completed_via};
@@ -34,7 +35,8 @@ ghost use Rattle.mmtel_message.specs.declared.values.Mode.TheVariants.{Plain, Wo
 
 /// A datagram of lines of which none continues another is read of its lines: of the start line, of what each header line says, and of the body.
 pub fn lines_decide()
-    ensures lines { (first : List ℕ) (rs : List (List ℕ)) (body : List ℕ) → IsWhole first → AreWhole rs → AreUnfolded rs → length (datagram first rs body) ≤ 16384 → reads (datagram first rs body) ≡ after_start (map header_line rs) body (start_at first) }
+    ensures lines { (first : List ℕ) (rs : List (List ℕ)) (body : List ℕ) → IsWhole first → AreWhole rs → AreUnfolded rs → length (datagram first rs body) ≤ 16384 →
+        reads (datagram first rs body) ≡ after_start (map header_line rs) body (start_at first) }
 {}
 
 /// Names that differ in case alone are spelled alike, but for one that the tables do not have; a compact form is spelled in full; and a name that is spelled in full stays so.
@@ -46,22 +48,29 @@ pub fn case_does_not_matter()
 
 /// A line says the same in each spelling of its name, its compact form among them, and with any blanks around its colon and behind its value.
 pub fn spelling_does_not_matter()
-    ensures line { (n m a b c v : List ℕ) → IsToken n → IsToken m → long_name n ≡ long_name m → IsAll Blank a → IsAll Blank b → IsAll Blank c → header_line (n ++ (a ++ (58 ∷ (b ++ (v ++ c))))) ≡ header_line (m ++ (58 ∷ v)) }
+    ensures line { (n m a b c v : List ℕ) → IsToken n → IsToken m → long_name n ≡ long_name m → IsAll Blank a → IsAll Blank b → IsAll Blank c →
+        header_line (n ++ (a ++ (58 ∷ (b ++ (v ++ c))))) ≡ header_line (m ++ (58 ∷ v)) }
 {}
 
 /// Of datagrams within the limit that differ in one line, and there say the same, the same is read.
 pub fn lines_that_say_the_same()
-    ensures reading { (first : List ℕ) (xs ys : List (List ℕ)) (r q body : List ℕ) → header_line r ≡ header_line q → IsWhole first → AreWhole (xs ++ r ∷ ys) → AreUnfolded (xs ++ r ∷ ys) → AreWhole (xs ++ q ∷ ys) → AreUnfolded (xs ++ q ∷ ys) → length (datagram first (xs ++ r ∷ ys) body) ≤ 16384 → length (datagram first (xs ++ q ∷ ys) body) ≤ 16384 → reads (datagram first (xs ++ r ∷ ys) body) ≡ reads (datagram first (xs ++ q ∷ ys) body) }
+    ensures reading { (first : List ℕ) (xs ys : List (List ℕ)) (r q body : List ℕ) → header_line r ≡ header_line q → IsWhole first → AreWhole (xs ++ r ∷ ys) →
+        AreUnfolded (xs ++ r ∷ ys) → AreWhole (xs ++ q ∷ ys) → AreUnfolded (xs ++ q ∷ ys) → length (datagram first (xs ++ r ∷ ys) body) ≤ 16384 →
+        length (datagram first (xs ++ q ∷ ys) body) ≤ 16384 → reads (datagram first (xs ++ r ∷ ys) body) ≡ reads (datagram first (xs ++ q ∷ ys) body) }
 {}
 
 /// Of datagrams within the limit that differ in a fold in place of one SP between bytes of a line that are no blanks, the same is read.
 pub fn folds_do_not_matter()
-    ensures reading { (first : List ℕ) (xs ys : List (List ℕ)) (x y body : List ℕ) → 0 < length x → starts_blank x ≡ false → trimmed Blank x ≡ x → starts_blank y ≡ false → IsWhole first → AreWhole (xs ++ x ∷ (32 ∷ y) ∷ ys) → AreWhole (xs ++ (x ++ 32 ∷ y) ∷ ys) → length (datagram first (xs ++ x ∷ (32 ∷ y) ∷ ys) body) ≤ 16384 → length (datagram first (xs ++ (x ++ 32 ∷ y) ∷ ys) body) ≤ 16384 → reads (datagram first (xs ++ x ∷ (32 ∷ y) ∷ ys) body) ≡ reads (datagram first (xs ++ (x ++ 32 ∷ y) ∷ ys) body) }
+    ensures reading { (first : List ℕ) (xs ys : List (List ℕ)) (x y body : List ℕ) → 0 < length x → starts_blank x ≡ false → trimmed Blank x ≡ x → starts_blank y ≡ false →
+        IsWhole first → AreWhole (xs ++ x ∷ (32 ∷ y) ∷ ys) → AreWhole (xs ++ (x ++ 32 ∷ y) ∷ ys) → length (datagram first (xs ++ x ∷ (32 ∷ y) ∷ ys) body) ≤ 16384 →
+        length (datagram first (xs ++ (x ++ 32 ∷ y) ∷ ys) body) ≤ 16384 →
+        reads (datagram first (xs ++ x ∷ (32 ∷ y) ∷ ys) body) ≡ reads (datagram first (xs ++ (x ++ 32 ∷ y) ∷ ys) body) }
 {}
 
 /// Bytes behind the body of a message that says its length do not matter, within the limit.
 pub fn bytes_behind_the_body_do_not_matter()
-    ensures reading { (s x v : List ℕ) (m : Message Start) → reads s ≡ Ok m → first_value (codes "Content-Length") m.lines ≡ Some v → length (s ++ x) ≤ 16384 → reads (s ++ x) ≡ Ok m }
+    ensures reading { (s x v : List ℕ) (m : Message Start) → reads s ≡ Ok m → first_value (codes "Content-Length") m.lines ≡ Some v → length (s ++ x) ≤ 16384 →
+        reads (s ++ x) ≡ Ok m }
 {}
 
 /// The values of History-Info of a message that was read are entries (RFC 7044 §5), at most 32.
@@ -75,13 +84,17 @@ pub fn other_names_do_not_matter()
     ensures first { (name : List ℕ) (ls ks : List (List ℕ × List ℕ)) → named name ls ≡ named name ks → first_value name ls ≡ first_value name ks }
     ensures only { (name : List ℕ) (ls ks : List (List ℕ × List ℕ)) → named name ls ≡ named name ks → only_value name ls ≡ only_value name ks }
     ensures values { (m : Mode) (name : List ℕ) (ls ks : List (List ℕ × List ℕ)) → named name ls ≡ named name ks → values_named m name ls ≡ values_named m name ks }
-    ensures five { (ls ks : List (List ℕ × List ℕ)) → named (codes "Via") ls ≡ named (codes "Via") ks → named (codes "From") ls ≡ named (codes "From") ks → named (codes "To") ls ≡ named (codes "To") ks → named (codes "Call-ID") ls ≡ named (codes "Call-ID") ks → named (codes "CSeq") ls ≡ named (codes "CSeq") ks → five_at ls ≡ five_at ks }
+    ensures five { (ls ks : List (List ℕ × List ℕ)) → named (codes "Via") ls ≡ named (codes "Via") ks → named (codes "From") ls ≡ named (codes "From") ks →
+        named (codes "To") ls ≡ named (codes "To") ks → named (codes "Call-ID") ls ≡ named (codes "Call-ID") ks → named (codes "CSeq") ls ≡ named (codes "CSeq") ks →
+        five_at ls ≡ five_at ks }
 {}
 
 /// Another value of a name, or none, leaves the lines of each other name as they are: a private place's value does not change what is read of another.
 pub fn other_values_stay()
-    ensures set { (name value other : List ℕ) (ls : List (List ℕ × List ℕ)) → str_to_ascii_lowercase name ≢ str_to_ascii_lowercase other → named other (replaced name value ls) ≡ named other ls }
-    ensures drop_all { (name other : List ℕ) (ls : List (List ℕ × List ℕ)) → str_to_ascii_lowercase name ≢ str_to_ascii_lowercase other → named other (dropped name ls) ≡ named other ls }
+    ensures set { (name value other : List ℕ) (ls : List (List ℕ × List ℕ)) → str_to_ascii_lowercase name ≢ str_to_ascii_lowercase other →
+        named other (replaced name value ls) ≡ named other ls }
+    ensures drop_all { (name other : List ℕ) (ls : List (List ℕ × List ℕ)) → str_to_ascii_lowercase name ≢ str_to_ascii_lowercase other →
+        named other (dropped name ls) ≡ named other ls }
 {}
 
 /// The lines that a head is split into, with a line end between two, are the head, and no line holds a line end.
@@ -101,13 +114,15 @@ pub fn fields_stand_on_lines()
 /// The five fields of a message that was read are there (RFC 3261 §8.1.1), and its first Via value is the text of its first Via line.
 pub fn fields_are_read()
     ensures five { (b : List ℕ) (m : Message Start) → reads b ≡ Ok m → (five : Five) × (five_at m.lines ≡ Some five) }
-    ensures via { (b : List ℕ) (m : Message Start) (five : Five) → reads b ≡ Ok m → five_at m.lines ≡ Some five → (v : List ℕ) × (first_value (codes "Via") m.lines ≡ Some v) × (via_at v ≡ Some five.via) }
+    ensures via { (b : List ℕ) (m : Message Start) (five : Five) → reads b ≡ Ok m → five_at m.lines ≡ Some five →
+        (v : List ℕ) × (first_value (codes "Via") m.lines ≡ Some v) × (via_at v ≡ Some five.via) }
 {}
 
 /// A request that was read: CSeq says its method (RFC 3261 §8.1.1.5), From has a tag (§8.1.1.3),
 /// the first Via branch begins with the cookie (§8.1.1.7), and the Request-URI is of the grammar or of another scheme (§8.2.2.1).
 pub fn requests_are_sound()
-    ensures method { (b : List ℕ) (m : Message Start) (five : Five) (method uri : List ℕ) → reads b ≡ Ok m → m.start ≡ Request method uri → five_at m.lines ≡ Some five → five.cseq.method ≡ method }
+    ensures method { (b : List ℕ) (m : Message Start) (five : Five) (method uri : List ℕ) → reads b ≡ Ok m → m.start ≡ Request method uri → five_at m.lines ≡ Some five →
+        five.cseq.method ≡ method }
     ensures tag { (b : List ℕ) (m : Message Start) (five : Five) → reads b ≡ Ok m → is_request m.start ≡ true → five_at m.lines ≡ Some five → HasTag five.from }
     ensures branch { (b : List ℕ) (m : Message Start) (five : Five) → reads b ≡ Ok m → is_request m.start ≡ true → five_at m.lines ≡ Some five → HasCookie five.via }
     ensures target { (b : List ℕ) (m : Message Start) (method uri : List ℕ) → reads b ≡ Ok m → m.start ≡ Request method uri → is_malformed (uri_of uri) ≡ false }
@@ -121,7 +136,8 @@ pub fn hops_are_numbers()
 
 /// An INVITE that was read has one Contact value, which is a name-addr and the text of the first Contact line (RFC 3261 §8.1.1.8).
 pub fn an_invite_has_one_contact()
-    ensures one { (b : List ℕ) (m : Message Start) → reads b ≡ Ok m → is_method (codes "INVITE") m.start ≡ true → is_one_readable (values_named Plain (codes "Contact") m.lines) ≡ true }
+    ensures one { (b : List ℕ) (m : Message Start) → reads b ≡ Ok m → is_method (codes "INVITE") m.start ≡ true →
+        is_one_readable (values_named Plain (codes "Contact") m.lines) ≡ true }
     ensures first { (b : List ℕ) (m : Message Start) → reads b ≡ Ok m → is_method (codes "INVITE") m.start ≡ true → HasContact m.lines }
 {}
 
@@ -160,7 +176,8 @@ pub fn codes_are_in_range()
 
 /// Content-Length of a message that was read is the length of its body, where it is there (RFC 3261 §20.14).
 pub fn bodies_are_as_long_as_said()
-    ensures length { (b : List ℕ) (m : Message Start) (v : List ℕ) → reads b ≡ Ok m → first_value (codes "Content-Length") m.lines ≡ Some v → number_of (length m.body) v ≡ Some (length m.body) }
+    ensures length { (b : List ℕ) (m : Message Start) (v : List ℕ) → reads b ≡ Ok m → first_value (codes "Content-Length") m.lines ≡ Some v →
+        number_of (length m.body) v ≡ Some (length m.body) }
 {}
 
 /// What holds of the text of each line of a name holds of the first.
@@ -177,25 +194,32 @@ pub fn completed_vias_name_their_transaction()
     ensures sent_by { (source : Addr) (via : Via) → (completed_via source via).sent_by ≡ via.sent_by }
 {}
 
-/// A response has the Via lines of its request, the first completed where a source is given, and From, Call-ID and CSeq as received (RFC 3261 §8.2.6.2); To has the server's tag where it had none.
+/// A response has the Via lines of its request, the first completed where a source is given, and From, Call-ID and CSeq as received (RFC 3261 §8.2.6.2); To has the
+/// server's tag where it had none.
 pub fn responses_repeat_their_requests()
-    ensures via { (start : Start) (ls : List Line) (r : Reply) → BringsNone r → named (codes "Via") (response start ls r).lines ≡ completed_lines r.source (named (codes "Via") ls) }
+    ensures via { (start : Start) (ls : List Line) (r : Reply) → BringsNone r →
+        named (codes "Via") (response start ls r).lines ≡ completed_lines r.source (named (codes "Via") ls) }
     ensures from { (start : Start) (ls : List Line) (r : Reply) → BringsNone r → named (codes "From") (response start ls r).lines ≡ named (codes "From") ls }
-    ensures to { (start : Start) (ls : List Line) (r : Reply) → BringsNone r → named (codes "To") (response start ls r).lines ≡ map (to_line (tag_due r.code r.tag)) (named (codes "To") ls) }
+    ensures to { (start : Start) (ls : List Line) (r : Reply) → BringsNone r →
+        named (codes "To") (response start ls r).lines ≡ map (to_line (tag_due r.code r.tag)) (named (codes "To") ls) }
     ensures call_id { (start : Start) (ls : List Line) (r : Reply) → BringsNone r → named (codes "Call-ID") (response start ls r).lines ≡ named (codes "Call-ID") ls }
     ensures cseq { (start : Start) (ls : List Line) (r : Reply) → BringsNone r → named (codes "CSeq") (response start ls r).lines ≡ named (codes "CSeq") ls }
 {}
 
-/// The five fields of a response are read (RFC 3261 §8.1.1): those of its request, Via completed and To with the tag, which is read back where the request had none, and the request's where it had one.
+/// The five fields of a response are read (RFC 3261 §8.1.1): those of its request, Via completed and To with the tag, which is read back where the request had none, and
+/// the request's where it had one.
 pub fn responses_have_the_fields()
-    ensures five { (start : Start) (ls : List Line) (r : Reply) (five : Five) → IsSendable r → AreLinesWith five ls → five_at (response start ls r).lines ≡ Some (five_answered r five) }
+    ensures five { (start : Start) (ls : List Line) (r : Reply) (five : Five) → IsSendable r → AreLinesWith five ls →
+        five_at (response start ls r).lines ≡ Some (five_answered r five) }
     ensures tag { (b : ℕ) (tag : List ℕ) (n : NameAddr) → IsUntagged n → param_value (codes "tag") (to_answered (b ∷ tag) n).params ≡ Some (b ∷ tag) }
     ensures kept { (tag : List ℕ) (n : NameAddr) (given : List ℕ) → param_value (codes "tag") n.params ≡ Some given → to_answered tag n ≡ n }
 {}
 
-/// A response that says no way to the server is the same of the request and of a reply's own lines: so the reply that a fault of reading carries is completed from itself. From 300 on a response says none.
+/// A response that says no way to the server is the same of the request and of a reply's own lines: so the reply that a fault of reading carries is completed from itself.
+/// From 300 on a response says none.
 pub fn replies_can_be_completed()
-    ensures completed { (a b : Start) (code : ℕ) (phrase : List ℕ) (ls : List Line) (r : Reply) → SaysNoWay r.code a → SaysNoWay r.code b → response a (reply_with code phrase ls).lines r ≡ response b ls r }
+    ensures completed { (a b : Start) (code : ℕ) (phrase : List ℕ) (ls : List Line) (r : Reply) → SaysNoWay r.code a → SaysNoWay r.code b →
+        response a (reply_with code phrase ls).lines r ≡ response b ls r }
     ensures bare { (start : Start) (code : ℕ) (phrase : List ℕ) (ls : List Line) → SaysNoWay code start → response start ls (bare code phrase) ≡ reply_with code phrase ls }
     ensures late { (code : ℕ) (start : Start) → 300 ≤ code → SaysNoWay code start }
 {}

@@ -204,7 +204,8 @@ fn of_network_names(name: &[u8]) -> Option<&'static [u8]>
 
 /// A name without a compact form, as this server spells it.
 fn long_only(name: &[u8]) -> &[u8]
-    ensures { result.now ≡ or_else (of_names routing_names name.now) (or_else (of_names content_names name.now) (or_else (of_names caller_names name.now) (or_else (of_names network_names name.now) name.now))) }
+    ensures { result.now ≡ or_else (of_names routing_names name.now)
+        (or_else (of_names content_names name.now) (or_else (of_names caller_names name.now) (or_else (of_names network_names name.now) name.now))) }
 {
     match of_routing_names(name) {
         Some(long) => long,

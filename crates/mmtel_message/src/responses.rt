@@ -40,7 +40,16 @@ impl<'a> Model for Reply<'a> {
 
     ghost Value = { Reply };
 
-    ghost view = { λ r. record { code = r.code; phrase = r.phrase.now; tag = r.tag.now; source = r.source; contact = r.contact.now; passed = r.passed.now; named = r.named.now; body = r.body.now } };
+    ghost view = { λ r. record {
+      code = r.code;
+      phrase = r.phrase.now;
+      tag = r.tag.now;
+      source = r.source;
+      contact = r.contact.now;
+      passed = r.passed.now;
+      named = r.named.now;
+      body = r.body.now;
+    } };
 }
 
 /// Adds Via lines, the first completed.

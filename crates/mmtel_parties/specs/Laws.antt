@@ -33,7 +33,8 @@ unbelieved accounts start = record { origin = None; target = requested_account a
 abbrev pub AreDigits : List ℕ → Type 0
 AreDigits digits = list_all (in_class Digit) (reduced digits) ≡ true
 
--- an identity that is of the number and of its sip URI in the home domain alike: of a sip URI whose user is the number, the host is that domain and the first parameter user says phone
+-- an identity that is of the number and of its sip URI in the home domain alike: of a sip URI whose user is the number, the host is that domain and the first parameter
+-- user says phone
 abbrev pub names_alike : (home number : List ℕ) → Uri → Bool
 names_alike home number (Sip user host port params headers) = not (is_same_user user (Some number)) || (str_eq_ignore_ascii_case host home && has_user_phone params)
 names_alike home number (Tel other params) = true

@@ -1,7 +1,8 @@
 -- Who takes part in a call that a request opens: the account of its caller, the account of its target, and which of them are served
 -- (RFC 5502 §6 and §7.2, TS 24.229 §5.7.1.3A). All but the caller's account is decided of what is never private.
 --
--- A trusted peer may name the user who is served and the session case, in P-Served-User. Of that case the user alone decides. Else the caller is known by what the peer asserts of it, and the target by the Request-URI.
+-- A trusted peer may name the user who is served and the session case, in P-Served-User. Of that case the user alone decides. Else the caller is known by what the peer
+-- asserts of it, and the target by the Request-URI.
 use Rattle.std.specs.Prelude.{ℕ, Bool, true, false, Option, Some, None, List, codes, if◌then◌else◌}
 use Rattle.std.specs.Str.{bytes_eq}
 use Rattle.mmtel_scan.specs.Chain.{◌>>=◌}

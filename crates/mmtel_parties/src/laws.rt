@@ -31,8 +31,10 @@ pub fn first_served_user_counts()
 /// The user whom a trusted peer names as served decides alone for its side: the account of that side is the user's, or none,
 /// whoever the caller is and whatever was requested.
 pub fn served_user_alone_decides()
-    ensures origin { (es : List AccountIdentity) (m : Message Start) (user : NameAddr) → NamesUser m user → case_of user.params ≡ Originating → (parties_of es (heard true m)).origin ≡ account_in es user.uri }
-    ensures target { (es : List AccountIdentity) (m : Message Start) (user : NameAddr) → NamesUser m user → case_of user.params ≡ Terminating → (parties_of es (heard true m)).target ≡ account_in es user.uri }
+    ensures origin { (es : List AccountIdentity) (m : Message Start) (user : NameAddr) → NamesUser m user → case_of user.params ≡ Originating →
+        (parties_of es (heard true m)).origin ≡ account_in es user.uri }
+    ensures target { (es : List AccountIdentity) (m : Message Start) (user : NameAddr) → NamesUser m user → case_of user.params ≡ Terminating →
+        (parties_of es (heard true m)).target ≡ account_in es user.uri }
 {}
 
 /// The origin that is served is the account whose record restricts the caller.
@@ -43,7 +45,8 @@ pub fn served_origin_restricts()
 /// Nothing private decides of the parties but the account of the caller: two messages that are equal in what is never private,
 /// and whose callers are of one account, have the same parties; so have two messages of equal masks.
 pub fn parties_rest_on_the_mask()
-    ensures public { (es : List AccountIdentity) (m n : HeardMessage) → public_part m ≡ public_part n → caller_account es m ≡ caller_account es n → parties_of es m ≡ parties_of es n }
+    ensures public { (es : List AccountIdentity) (m n : HeardMessage) → public_part m ≡ public_part n → caller_account es m ≡ caller_account es n →
+        parties_of es m ≡ parties_of es n }
     ensures masked { (restricts : Restriction) (es : List AccountIdentity) (m n : HeardMessage) → mask restricts es m ≡ mask restricts es n → parties_of es m ≡ parties_of es n }
 {
     equal_masks_decide_alike();
@@ -52,5 +55,6 @@ pub fn parties_rest_on_the_mask()
 /// A global number and the target that is made of it are of one account, where each identity of an account names both alike:
 /// where no sip URI has the number as its user but one of the home domain that says `user=phone`.
 pub fn numbers_are_found_alike()
-    ensures account { (es : List AccountIdentity) (home ds : List ℕ) (ps : List Param) → AreDigits ds → AllNameAlike es home ds → account_of es (new_target home (Tel (43 ∷ ds) ps)) ≡ account_of es (Tel (43 ∷ ds) ps) }
+    ensures account { (es : List AccountIdentity) (home ds : List ℕ) (ps : List Param) → AreDigits ds → AllNameAlike es home ds →
+        account_of es (new_target home (Tel (43 ∷ ds) ps)) ≡ account_of es (Tel (43 ∷ ds) ps) }
 {}

@@ -96,7 +96,8 @@ fn led_to(alloc: Global, peers: &PeerTable, value: &[u8]) -> Result<Option<Peer>
     }
 }
 
-/// The peer to which an attempt goes, by the Route values that it keeps and its target: that of the first value's host, and none where nobody leads there; without a value that of the target (RFC 3261 §16.6).
+/// The peer to which an attempt goes, by the Route values that it keeps and its target: that of the first value's host, and none where nobody leads there; without a value
+/// that of the target (RFC 3261 §16.6).
 ///
 /// # Errors
 ///

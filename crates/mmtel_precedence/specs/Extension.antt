@@ -28,7 +28,8 @@ pub record LaterEndingsExtend : Type 0 where
   -- the outcome of more endings begins with that of fewer
   pub outcomes : (call : Call) (sooner later : List Ended) → BeginsWith (outcome call (sooner ++ later)) (outcome call sooner)
   -- moves go on from where they came to: with later endings, too, the call comes there, by as many moves or fewer, since while it rings and nothing ends nothing moves
-  pub go_on : (call : Call) (n : ℕ) (kept : Kept) (later : List Ended) → (fewer : ℕ) × (fewer ≤ n) × (moves fewer call (with_later kept later) ≡ with_later (moves n call kept) later)
+  pub go_on : (call : Call) (n : ℕ) (kept : Kept) (later : List Ended) →
+      (fewer : ℕ) × (fewer ≤ n) × (moves fewer call (with_later kept later) ≡ with_later (moves n call kept) later)
   -- the moves over the first endings, however many, and then enough of them over the later ones come to the outcome of all
   pub of_the_whole : (call : Call) (sooner later : List Ended) (n m : ℕ) → moves_enough call ≤ m →
       outcome_so_far (moves m call (with_later (moves n call (at_first call sooner)) later)) ≡ outcome call (sooner ++ later)

@@ -1,5 +1,6 @@
 -- What the definitions of precedence come to, in the subject's words.
-use Rattle.std.specs.Prelude.{◌≡◌, ◌↔◌, ◌≤◌, ◌<◌, ℕ, zero, suc, ◌+◌, ◌-◌, ◌==◌, max, Bool, true, false, List, [], ◌∷◌, length, Option, Some, None, is_some, IsSome, count_by, option_and_then}
+use Rattle.std.specs.Prelude.{◌≡◌, ◌↔◌, ◌≤◌, ◌<◌, ℕ, zero, suc, ◌+◌, ◌-◌, ◌==◌, max, Bool, true, false, List, [], ◌∷◌, length, Option, Some, None, is_some, IsSome}
+use Rattle.std.specs.Prelude.{count_by, option_and_then}
 use Rattle.std.specs.List.{AllByRecursion}
 use Rattle.mmtel_types.specs.declared.causes.Cause.TheVariants as causes
 use Rattle.mmtel_lex.specs.declared.values.Uri.{Uri}
@@ -28,7 +29,8 @@ use Rattle.mmtel_precedence.specs.Outcome.{outcome_from, outcome}
 pub record BarringComesFirst : Type 0 where
   -- of the decision
   pub anonymous : (c : Circumstances) (account : AccountState) → rejects_anonymous c account.sheet ≡ true → verdict_of c account ending.Arrived ≡ Ends causes.AnonymousRejected
-  pub barred : (c : Circumstances) (account : AccountState) → rejects_anonymous c account.sheet ≡ false → bars_incoming c account.sheet ≡ true → verdict_of c account ending.Arrived ≡ Ends causes.IncomingBarred
+  pub barred : (c : Circumstances) (account : AccountState) → rejects_anonymous c account.sheet ≡ false → bars_incoming c account.sheet ≡ true →
+      verdict_of c account ending.Arrived ≡ Ends causes.IncomingBarred
   -- and of the outcome at each target: it is the last one, and the call is not offered to it
   pub anonymous_at : (call : Call) (left k : ℕ) (uri : Uri) (by : Option DueDiversion) (endings : List Ended) (account : AccountState) →
       (reach_of call k uri by).served ≡ Some account → rejects_anonymous (of_caller call (reach_of call k uri by).at) account.sheet ≡ true →
@@ -65,7 +67,8 @@ passed_by (IsDue due later) = Some (record { due = due; later = later })
 unfoldable pub passed_from : Call → (j : ℕ) → (k : ℕ) → Uri → Option DueDiversion → List Ended → Option Passed
 passed_from call zero k uri by endings = passed_by (next_after call k uri by endings)
 passed_from call (suc j) k uri by endings =
-    option_and_then (λ passed. passed_from call j (k + 1) (new_target call.home passed.due.forward.target) (Some passed.due) passed.later) (passed_by (next_after call k uri by endings))
+    option_and_then (λ passed. passed_from call j (k + 1) (new_target call.home passed.due.forward.target) (Some passed.due) passed.later)
+    (passed_by (next_after call k uri by endings))
 
 -- what is due after so many diversions
 abbrev pub passed_after : Call → ℕ → List Ended → Option Passed
@@ -75,12 +78,14 @@ passed_after call j endings = passed_from call j 0 call.first None endings
 abbrev pub IsOpened : Call → Type 0
 IsOpened call = refusal_at_opening call ≡ None
 
--- a diversion that is due, and that outgoing barring lets pass, is made exactly below the bound; at the bound, and nowhere else, the call is refused for too many, as busy exactly where that diversion is for a busy user
+-- a diversion that is due, and that outgoing barring lets pass, is made exactly below the bound; at the bound, and nowhere else, the call is refused for too many, as busy
+-- exactly where that diversion is for a busy user
 pub record IsBoundExact : Type 0 where
   pub made : (call : Call) (endings : List Ended) (k : ℕ) → IsOpened call →
       (k < diversions_made (outcome call endings)) ↔ (IsSome (passed_after call k endings) × (call.received + k < call.bound))
   pub refused : (call : Call) (endings : List Ended) (busy : Bool) → IsOpened call →
-      ((outcome call endings).result ≡ Final (causes.TooManyDiversions busy)) ↔ ((passed : Passed) × (passed_after call (call.bound - call.received) endings ≡ Some passed) × (busy ≡ (passed.due.cause == 486)))
+      ((outcome call endings).result ≡ Final (causes.TooManyDiversions busy))
+      ↔ ((passed : Passed) × (passed_after call (call.bound - call.received) endings ≡ Some passed) × (busy ≡ (passed.due.cause == 486)))
 
 -- ---- callers that answer alike
 
@@ -142,5 +147,7 @@ pub record DiversionsHaveForwards : Type 0 where
   -- only the first target is reached without one
   pub later : (call : Call) (endings : List Ended) → AllByRecursion (λ (target : Target). IsSome target.by) (after_first (outcome call endings).targets)
   -- the decision to divert a call that arrives has its forward, and only that on a deflection has none
-  pub on_arrival : (c : Circumstances) (account : AccountState) (forward : Option Forward) (cause : ℕ) → verdict_of c account ending.Arrived ≡ Forwards forward cause → IsSome forward
-  pub without : (c : Circumstances) (account : AccountState) (how : Ending) (cause : ℕ) → verdict_of c account how ≡ Forwards None cause → (alerted : Bool) × (how ≡ ending.Deflected alerted)
+  pub on_arrival : (c : Circumstances) (account : AccountState) (forward : Option Forward) (cause : ℕ) → verdict_of c account ending.Arrived ≡ Forwards forward cause →
+      IsSome forward
+  pub without : (c : Circumstances) (account : AccountState) (how : Ending) (cause : ℕ) → verdict_of c account how ≡ Forwards None cause →
+      (alerted : Bool) × (how ≡ ending.Deflected alerted)

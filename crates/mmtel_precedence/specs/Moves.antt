@@ -9,7 +9,8 @@ use Rattle.mmtel_sheet_values.specs.Sheets.{empty_sheet}
 use Rattle.mmtel_precedence.specs.declared.endings.Ending.TheVariants as ending
 use Rattle.mmtel_precedence.specs.Services.{AccountState, DueDiversion}
 use Rattle.mmtel_precedence.specs.Verdicts.{Decision, Offers, Forwards, Ends, verdict_of, go_on_of}
-use Rattle.mmtel_precedence.specs.Calls.{End, Answer, Cancel, UserBusy, NotReachable, NoReply, Deflection, Other, Ended, Reach, Call, Offer, NotOffered, Offered, Target, Result, Pending, Answered, Final, Outcome}
+use Rattle.mmtel_precedence.specs.Calls.{End, Answer, Cancel, UserBusy, NotReachable, NoReply, Deflection, Other, Ended, Reach, Call, Offer, NotOffered, Offered, Target}
+use Rattle.mmtel_precedence.specs.Calls.{Result, Pending, Answered, Final, Outcome}
 use Rattle.mmtel_precedence.specs.Opening.{refusal_at_opening}
 use Rattle.mmtel_targets.specs.Targets.{new_target}
 use Rattle.mmtel_precedence.specs.Targets.{of_caller, of_target, deflected_to, reach_of}
@@ -52,7 +53,8 @@ gone_on (Some refusal) kept target due = at_phase kept (Over (Final refusal))
 -- a diversion that is due, by this account, at this moment
 abbrev pub divert : Call → Kept → AccountState → (now : ℕ) → DueDiversion → Kept
 divert call kept account now due =
-    gone_on (go_on_of (of_target call now (new_target call.home due.forward.target)) account.sheet call.received kept.done call.bound due.cause) kept (new_target call.home due.forward.target) due
+    gone_on (go_on_of (of_target call now (new_target call.home due.forward.target)) account.sheet call.received kept.done call.bound due.cause) kept
+    (new_target call.home due.forward.target) due
 
 -- the diversion of a decision: by the rule's forward, or else to where the device deflects
 abbrev pub due_by : Option Forward → Option Uri → (cause : ℕ) → Option DueDiversion

@@ -1,4 +1,5 @@
--- What a call comes to: which targets it reaches, why, to which of them it is offered, and how it ends, by the records as they stood when it reached their accounts (TS 24.604 §4.5.2.6, TS 24.611 §4.5.2, TS 24.615 §4.5.5).
+-- What a call comes to: which targets it reaches, why, to which of them it is offered, and how it ends, by the records as they stood when it reached their accounts (TS
+-- 24.604 §4.5.2.6, TS 24.611 §4.5.2, TS 24.615 §4.5.5).
 --
 -- It is told from how its attempts ended, one after the other. The server never has that list: it decides one move at a time.
 use Rattle.std.specs.Prelude.{ℕ, zero, suc, ◌+◌, ◌-◌, ◌==◌, List, Option, Some, None}
@@ -11,7 +12,8 @@ use Rattle.mmtel_precedence.specs.Opening.{refusal_at_opening}
 use Rattle.mmtel_targets.specs.Targets.{new_target}
 use Rattle.mmtel_precedence.specs.Targets.{Rests, IsDue, next_after, target_at}
 
--- From the target that the call reaches after k diversions, where so many more are left below the bound: it rests there, or a diversion is due. Where none is left, that diversion refuses the call, as busy where it is for a busy user (RFC 4458 §2); else it leads to the next target, in the same step.
+-- From the target that the call reaches after k diversions, where so many more are left below the bound: it rests there, or a diversion is due. Where none is left, that
+-- diversion refuses the call, as busy where it is for a busy user (RFC 4458 §2); else it leads to the next target, in the same step.
 unfoldable pub outcome_from : Call → (left : ℕ) → (k : ℕ) → Uri → Option DueDiversion → List Ended → Outcome
 outcome_from call zero k uri by endings =
     elim (next_after call k uri by endings) [

@@ -74,11 +74,13 @@ services_of_capacity c account =
 
 -- before them, by its diversion on arrival, and its registration
 abbrev pub services_after_barring : Circumstances → AccountState → List Says
-services_after_barring c account = diverts_by (due_on c (Arrival account.registered) account.sheet) ∷ refuses_if (not account.registered) NotRegistered ∷ services_of_capacity c account
+services_after_barring c account =
+    diverts_by (due_on c (Arrival account.registered) account.sheet) ∷ refuses_if (not account.registered) NotRegistered ∷ services_of_capacity c account
 
 -- and before all, by its barring of incoming calls
 abbrev pub services_on_arrival : Circumstances → AccountState → List Says
-services_on_arrival c account = refuses_if (rejects_anonymous c account.sheet) AnonymousRejected ∷ refuses_if (bars_incoming c account.sheet) IncomingBarred ∷ services_after_barring c account
+services_on_arrival c account =
+    refuses_if (rejects_anonymous c account.sheet) AnonymousRejected ∷ refuses_if (bars_incoming c account.sheet) IncomingBarred ∷ services_after_barring c account
 
 -- ---- what private calls cite
 

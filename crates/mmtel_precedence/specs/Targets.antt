@@ -1,4 +1,5 @@
--- What comes of a call at one target: what the services of the account that is served there say when it is reached, and of the ending of its attempt (TS 24.604 §4.5.2.6, TS 24.611 §4.5.2, TS 24.615 §4.5.5).
+-- What comes of a call at one target: what the services of the account that is served there say when it is reached, and of the ending of its attempt (TS 24.604 §4.5.2.6,
+-- TS 24.611 §4.5.2, TS 24.615 §4.5.5).
 use Rattle.std.specs.Prelude.{ℕ, Bool, true, false, not, nat_lt, if◌then◌else◌, List, [], ◌∷◌, ◌++◌, Option, Some, None, option_and_then}
 use Rattle.std.specs.Option.{option_map, option_map_or, option_or}
 use Rattle.mmtel_types.specs.declared.causes.Cause.{Cause}
@@ -62,10 +63,12 @@ reach_of call k uri by = reach_in (standing_after call k) call uri by
 abbrev pub of_caller : Call → ℕ → Circumstances
 of_caller call now = record { asks = call.asks; has_identity = call.has_identity; restricted = caller_hides call; media = call.media; now = now }
 
--- what the services of the account that is served there say, in their precedence; then, whoever is served: a target of the home domain that is no account's is refused, and one to which no peer leads
+-- what the services of the account that is served there say, in their precedence; then, whoever is served: a target of the home domain that is no account's is refused, and
+-- one to which no peer leads
 abbrev pub said_on_arrival : Call → Reach → Says
 said_on_arrival call reach =
-    first_said (option_map_or (services_on_arrival (of_caller call reach.at)) reach.served [] ++ refuses_if reach.is_unknown causes.NoAccount ∷ refuses_if reach.has_no_peer causes.NoRoute ∷ [])
+    first_said (option_map_or (services_on_arrival (of_caller call reach.at)) reach.served [] ++ refuses_if reach.is_unknown causes.NoAccount
+    ∷ refuses_if reach.has_no_peer causes.NoRoute ∷ [])
 
 -- the user has another call already
 abbrev pub is_waiting : Option AccountState → Bool
@@ -102,7 +105,16 @@ due_at c when served = option_and_then (λ (account : AccountState). due_on c wh
 
 -- a deflection goes to the target of the response, and hides nothing
 abbrev pub deflected_to : Uri → ℕ → DueDiversion
-deflected_to target cause = record { forward = record { target = target; notify_caller = true; reveal_to_caller = true; reveal_served_to_caller = true; reveal_to_target = true }; cause = cause }
+deflected_to target cause = record {
+  forward = record {
+    target = target;
+    notify_caller = true;
+    reveal_to_caller = true;
+    reveal_served_to_caller = true;
+    reveal_to_target = true;
+  };
+  cause = cause;
+}
 
 -- the deflection, where the account that is served allows it
 abbrev pub deflection_at : Option AccountState → Uri → (rang : Bool) → Option DueDiversion

@@ -17,7 +17,8 @@ use Rattle.mmtel_precedence.specs.Verdicts.{Decision, Offers, Forwards, Ends, ve
 use Rattle.mmtel_precedence.specs.Calls.{End, Answer, Cancel, UserBusy, NotReachable, NoReply, Deflection, Other, Ended, Reach, Call, NotOffered, Offered, Answered, Final}
 use Rattle.mmtel_precedence.specs.Targets.{of_caller, deflected_to, reach_of}
 use Rattle.mmtel_precedence.specs.Outcome.{outcome}
-use Rattle.mmtel_precedence.specs.Moves.{Kept, Phase, Reaching, Ringing, Over, account_at, at_phase, with_target, divert, on_reaching, on_end, moves_enough, at_first, outcome_so_far}
+use Rattle.mmtel_precedence.specs.Moves.{Kept, Phase, Reaching, Ringing, Over, account_at, at_phase, with_target, divert, on_reaching, on_end, moves_enough, at_first}
+use Rattle.mmtel_precedence.specs.Moves.{outcome_so_far}
 
 -- ---- at a target
 

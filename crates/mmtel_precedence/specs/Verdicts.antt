@@ -1,4 +1,5 @@
--- One decision: what the services of an account say of a call that reaches it, or of an attempt that ended (TS 24.604 §4.5.2.6, TS 24.611 §4.5.2, TS 24.615 §4.5.5); and what stands before each diversion.
+-- One decision: what the services of an account say of a call that reaches it, or of an attempt that ended (TS 24.604 §4.5.2.6, TS 24.611 §4.5.2, TS 24.615 §4.5.5); and
+-- what stands before each diversion.
 use Rattle.std.specs.Prelude.{ℕ, ◌==◌, Bool, nat_lt, if◌then◌else◌, Option, Some, None}
 use Rattle.mmtel_types.specs.declared.causes.Cause.{Cause}
 use Rattle.mmtel_types.specs.declared.causes.Cause.TheVariants as causes
@@ -55,7 +56,8 @@ verdict_of c account NoReply = forwards_or (due_on c event.NoAnswer account.shee
 verdict_of c account (Deflected alerted) = deflects_or (deflection_of account.sheet alerted)
 verdict_of c account (Other code) = Ends (causes.Relayed code)
 
--- what refuses a diversion, if anything does: first the outgoing barring of the account that diverts, where the new target is the other party; then the bound, as busy where the diversion is for a busy user (RFC 4458 §2)
+-- what refuses a diversion, if anything does: first the outgoing barring of the account that diverts, where the new target is the other party; then the bound, as busy
+-- where the diversion is for a busy user (RFC 4458 §2)
 abbrev pub go_on_of : Circumstances → Sheet → (received done bound cause : ℕ) → Option Cause
 go_on_of c sheet received done bound cause =
     if bars_outgoing c sheet then Some causes.OutgoingBarred

@@ -53,7 +53,8 @@ fn deflect_or_refuse<'a>(s: &'a Sheet, alerted: bool) -> Verdict<'a>
 
 /// What is decided of a call that reaches a registered account which its rules for an arrival do not divert: by the calls that the account has.
 fn by_capacity<'a>(f: &Facts, a: &ServedAccount<'a>) -> Verdict<'a>
-    ensures { let facts = f.entry.now in let account = told_account a.entry.now in shown result ≡ decision_by (first_said (services_of_capacity (known facts) account)) account.live }
+    ensures { let facts = f.entry.now in let account = told_account a.entry.now in shown result
+        ≡ decision_by (first_said (services_of_capacity (known facts) account)) account.live }
 {
     if is_busy(a.live, a.sheet) {
         return divert_or(f, a.sheet, When::Busy, Cause::NetworkBusy);
@@ -65,7 +66,8 @@ fn by_capacity<'a>(f: &Facts, a: &ServedAccount<'a>) -> Verdict<'a>
 
 /// What is decided of a call that reaches an account which does not refuse its caller.
 fn on_arrival<'a>(f: &Facts, a: &ServedAccount<'a>) -> Verdict<'a>
-    ensures { let facts = f.entry.now in let account = told_account a.entry.now in shown result ≡ decision_by (first_said (services_after_barring (known facts) account)) account.live }
+    ensures { let facts = f.entry.now in let account = told_account a.entry.now in shown result
+        ≡ decision_by (first_said (services_after_barring (known facts) account)) account.live }
 {
     let when = When::Arrival {
         registered: a.registered,
@@ -91,7 +93,8 @@ fn by_refusal<'a>(refusal: Option<Refusal>, f: &Facts, a: &ServedAccount<'a>) ->
 
 /// What is decided of a call that reaches an account.
 pub fn arrived<'a>(f: &Facts, a: &ServedAccount<'a>) -> Verdict<'a>
-    ensures { let facts = f.entry.now in let account = told_account a.entry.now in shown result ≡ decision_by (first_said (services_on_arrival (known facts) account)) account.live }
+    ensures { let facts = f.entry.now in let account = told_account a.entry.now in shown result
+        ≡ decision_by (first_said (services_on_arrival (known facts) account)) account.live }
 {
     barred_where_no_rule_allows();
     by_refusal(incoming(a.sheet, f), f, a)
@@ -108,9 +111,12 @@ fn account_of<'a>(c: &CallFacts, s: &'a Sheet) -> ServedAccount<'a>
     }
 }
 
-/// What the services of the account decide of a call that comes to it, or of an attempt that ended there: it is offered, as waiting or not; diverted, by a rule or by deflection; or refused.
+/// What the services of the account decide of a call that comes to it, or of an attempt that ended there: it is offered, as waiting or not; diverted, by a rule or by
+/// deflection; or refused.
 ///
-/// On arrival, in this order: anonymous communication rejection; incoming barring; the diversion rules without an event and for not-registered; a target that is not registered; where the account has as many calls as it may have, its busy rules and then network determined user busy. After an attempt the rules for its ending come first, then its cause. It takes no memory.
+/// On arrival, in this order: anonymous communication rejection; incoming barring; the diversion rules without an event and for not-registered; a target that is not
+/// registered; where the account has as many calls as it may have, its busy rules and then network determined user busy. After an attempt the rules for its ending come
+/// first, then its cause. It takes no memory.
 pub fn verdict<'a>(c: &CallFacts, s: &'a Sheet, e: Ending) -> Verdict<'a>
     ensures exact { let call = c.entry.now in shown result ≡ verdict_of (known call.facts) (standing call s.now) e }
 {
@@ -134,7 +140,9 @@ pub fn bars_outgoing(s: &Sheet, f: &Facts) -> bool
     outgoing(s, f).is_some()
 }
 
-/// What refuses a diversion that is due; None where it is made. The sheet is that of the account that diverts, and the facts name the new target as the other party: its outgoing barring comes first (TS 24.611 §4.5.2). Then the bound: the diversions that the call was received with and those that were made are together at the bound or above (TS 24.604 §4.5.2.6); the refusal is as for a busy user where the cause of the diversion is 486. It takes no memory.
+/// What refuses a diversion that is due; None where it is made. The sheet is that of the account that diverts, and the facts name the new target as the other party: its
+/// outgoing barring comes first (TS 24.611 §4.5.2). Then the bound: the diversions that the call was received with and those that were made are together at the bound or
+/// above (TS 24.604 §4.5.2.6); the refusal is as for a busy user where the cause of the diversion is 486. It takes no memory.
 pub fn go_on(
     s: &Sheet,
     f: &Facts,

@@ -1,4 +1,5 @@
--- Callers that answer alike: whoever two callers are, a decision cannot tell them apart where they answer alike to each identity part that it asks, and both or neither have an identity.
+-- Callers that answer alike: whoever two callers are, a decision cannot tell them apart where they answer alike to each identity part that it asks, and both or neither
+-- have an identity.
 use Rattle.std.specs.Prelude.{◌≡◌, Bool, List}
 use Rattle.std.specs.List.{AllByRecursion, filter_map}
 use Rattle.mmtel_sheet_values.specs.declared.values.Rule.{Rule}

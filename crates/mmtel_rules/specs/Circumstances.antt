@@ -8,7 +8,8 @@ use Rattle.mmtel_rules.specs.declared.values.Facts.{Facts}
 use Rattle.mmtel_rules.specs.declared.values.Identities2.{Identities2}
 
 pub record Circumstances : Type 0 where
-  -- of the other party, which is the caller, or the target where a call is barred on its way out: whether the identity part of a condition is true of it, and whether it has an identity at all
+  -- of the other party, which is the caller, or the target where a call is barred on its way out: whether the identity part of a condition is true of it, and whether it
+  -- has an identity at all
   pub asks : Who → Bool
   pub has_identity : Bool
   -- the caller hides who it is

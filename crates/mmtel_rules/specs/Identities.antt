@@ -1,4 +1,5 @@
--- What a rule asks of an identity (RFC 4745 §7.1): some `one` equals it, or it is of the domain `many` and no `except` equals it. A party may have two identities, of which one suffices, and which no `except` may equal.
+-- What a rule asks of an identity (RFC 4745 §7.1): some `one` equals it, or it is of the domain `many` and no `except` equals it. A party may have two identities, of which
+-- one suffices, and which no `except` may equal.
 --
 -- All that a decision knows of the identities of a party is what `identity_holds` and `has_identity` answer.
 use Rattle.std.specs.Prelude.{ℕ, Bool, false, not, ◌&&◌, ◌||◌, List, ◌++◌, Option, Some, None, is_some, codes}

@@ -40,7 +40,8 @@ fn is_let_through(rules: &[Rule], f: &Facts) -> bool
     rules.iter().any(|rule| lets_through(rule, f))
 }
 
-/// The least index of a rule that holds as the call arrives at a registered user, where no rule that holds then allows the call; None exactly where none holds or one of them allows it (TS 24.611 §4.9.1 and RFC 4745 §10). It takes no memory.
+/// The least index of a rule that holds as the call arrives at a registered user, where no rule that holds then allows the call; None exactly where none holds or one of
+/// them allows it (TS 24.611 §4.9.1 and RFC 4745 §10). It takes no memory.
 pub fn all_bar(rules: &[Rule], f: &Facts) -> Option<usize>
     ensures exact { let facts = f.entry.now in result ≡ barred_by (known facts) rules.now }
 {

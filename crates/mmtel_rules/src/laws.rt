@@ -17,17 +17,20 @@ ghost use Rattle.mmtel_sheet_values.specs.declared.values.Window.{Window};
 
 /// A condition holds for both of two callers, or for neither, where they answer its identity part alike.
 pub fn condition_sees_answers_alone()
-    ensures same { (asks asks2 : Who → Bool) (k : Circumstances) (when : When) (c : Condition) → AnswerAlike asks asks2 (option_to_list c.identity) → condition_holds (asked k asks) when c ≡ condition_holds (asked k asks2) when c }
+    ensures same { (asks asks2 : Who → Bool) (k : Circumstances) (when : When) (c : Condition) → AnswerAlike asks asks2 (option_to_list c.identity) →
+        condition_holds (asked k asks) when c ≡ condition_holds (asked k asks2) when c }
 {}
 
 /// The same rule is the first that holds for two callers that answer the identity parts of the rules alike.
 pub fn first_sees_answers_alone()
-    ensures same { (asks asks2 : Who → Bool) (k : Circumstances) (when : When) (rules : List Rule) → AnswerAlike asks asks2 (identity_parts rules) → first_that_holds (asked k asks) when rules ≡ first_that_holds (asked k asks2) when rules }
+    ensures same { (asks asks2 : Who → Bool) (k : Circumstances) (when : When) (rules : List Rule) → AnswerAlike asks asks2 (identity_parts rules) →
+        first_that_holds (asked k asks) when rules ≡ first_that_holds (asked k asks2) when rules }
 {}
 
 /// The same rule bars two callers, or none does, that answer the identity parts of the rules alike.
 pub fn barring_sees_answers_alone()
-    ensures same { (asks asks2 : Who → Bool) (k : Circumstances) (rules : List Rule) → AnswerAlike asks asks2 (identity_parts rules) → barred_by (asked k asks) rules ≡ barred_by (asked k asks2) rules }
+    ensures same { (asks asks2 : Who → Bool) (k : Circumstances) (rules : List Rule) → AnswerAlike asks asks2 (identity_parts rules) →
+        barred_by (asked k asks) rules ≡ barred_by (asked k asks2) rules }
 {}
 
 /// A party without an identity answers no to each identity part.

@@ -46,8 +46,10 @@ pub record Kin (one other : Directory) (peer : Peer) (source : Addr) (message se
   pub seated : (live : List Room) → seat_by message live ≡ seat_by second live
   pub decided : (merged full : Bool) (named : Option Holder) → course one merged full named message ≡ course other merged full named second
   -- the answers to them
-  pub answer_head : (tag : List ℕ) (answer : Answer) → head_of (response_to one.sip tag (said_by peer source message) answer) ≡ head_of (response_to other.sip tag (said_by peer source second) answer)
-  pub answer : trusts one peer ≡ false → (tag : List ℕ) (answer : Answer) → response_to one.sip tag (said_by peer source message) answer ≡ response_to other.sip tag (said_by peer source second) answer
+  pub answer_head : (tag : List ℕ) (answer : Answer) →
+      head_of (response_to one.sip tag (said_by peer source message) answer) ≡ head_of (response_to other.sip tag (said_by peer source second) answer)
+  pub answer : trusts one peer ≡ false → (tag : List ℕ) (answer : Answer) →
+      response_to one.sip tag (said_by peer source message) answer ≡ response_to other.sip tag (said_by peer source second) answer
 
 -- messages that are equal without their private places are kin, where they register the same account, if any
 abbrev pub MasksMakeKin : Type 0

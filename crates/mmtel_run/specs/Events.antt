@@ -18,7 +18,8 @@ use Rattle.mmtel_web.specs.Answers.{Kept}
 
 -- ---- what happened
 
--- an event, and what the keeper answered in it: whether its call was made, failed, or was given up for want of memory before anything changed, and the charging rows that it gave; and whether it took the rows that were handed to it at the end. Of what was not asked of the keeper nobody reads these
+-- an event, and what the keeper answered in it: whether its call was made, failed, or was given up for want of memory before anything changed, and the charging rows that
+-- it gave; and whether it took the rows that were handed to it at the end. Of what was not asked of the keeper nobody reads these
 pub record Happened : Type 0 where
   pub event : Event
   pub kept : Kept

@@ -54,7 +54,8 @@ abbrev pub rows_of_rooms : List Closed → List Row
 rows_of_rooms [] = []
 rows_of_rooms (one ∷ others) = if one.of_calls then rows_of_rooms others else one.row ∷ rows_of_rooms others
 
--- the rows that the keeper took and those that wait are the rows that were closed: those of the calls in their order and those of the rooms in theirs; none is lost and none comes twice
+-- the rows that the keeper took and those that wait are the rows that were closed: those of the calls in their order and those of the rooms in theirs; none is lost and
+-- none comes twice
 pub record AreFiled (directory : Directory) (world : World) : Type 0 where
   pub closed : List Closed
   pub all : rows_in closed ≡ world.filed ++ world.waiting

@@ -1,4 +1,5 @@
--- Which record is in force, in the words of its rule: at each step that of the account's last upload that was kept before it, else the one that was loaded last, else the empty record (3GPP TS 24.623 §5).
+-- Which record is in force, in the words of its rule: at each step that of the account's last upload that was kept before it, else the one that was loaded last, else the
+-- empty record (3GPP TS 24.623 §5).
 use Rattle.std.specs.Prelude.{◌≡◌, ℕ, ◌==◌, List, [], ◌∷◌, ◌++◌, Option, Some, None, if◌then◌else◌}
 use Rattle.std.specs.Option.{option_map, option_to_list}
 use Rattle.mmtel_b2bua.specs.Tables.{taken}

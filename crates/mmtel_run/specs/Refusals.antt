@@ -72,7 +72,8 @@ abbrev pub is_last_hop : Option ℕ → Bool
 is_last_hop None = false
 is_last_hop (Some hops) = hops == 0
 
--- each refusal with its condition, in their order. `merged` says that another live transaction has its From tag, Call-ID and CSeq (§8.2.2.2), `named` that its dialog is that of a call or of a seat (§12.2.2)
+-- each refusal with its condition, in their order. `merged` says that another live transaction has its From tag, Call-ID and CSeq (§8.2.2.2), `named` that its dialog is
+-- that of a call or of a seat (§12.2.2)
 abbrev pub refusals : (merged named : Bool) → HeardMessage → List (Bool × Answer)
 refusals merged named message =
     (not (is_known_method message.start), allowing 405) ∷

@@ -1,4 +1,5 @@
--- Conference rooms in a run: their configuration; to which side of a call or seat of a room a message belongs (RFC 3261 §12.2.2); which leg a REFER asks for in the place of another (RFC 3891 §3, RFC 4579 §5.6); and who comes to a room.
+-- Conference rooms in a run: their configuration; to which side of a call or seat of a room a message belongs (RFC 3261 §12.2.2); which leg a REFER asks for in the place
+-- of another (RFC 3891 §3, RFC 4579 §5.6); and who comes to a room.
 use Rattle.std.specs.Prelude.{ℕ, ◌==◌, ◌&&◌, Bool, false, if◌then◌else◌, List, [], ◌∷◌, Option, Some, None, codes, is_some, position}
 use Rattle.mmtel_answers.specs.Said.{Said, status_of}
 use Rattle.mmtel_b2bua.specs.Entries.{heard_by, sent_it}
@@ -38,7 +39,8 @@ rooms_site directory = record { sip = directory.sip; mixer = directory.mixer; pe
 abbrev pub rooms_after : Directory → List Deed → Table
 rooms_after directory deeds = table_after (rooms_site directory) deeds
 
--- ---- whose a message is. Each tag, Call-ID and branch of the server's is drawn once, and a leg is in a call or in a room: so no dialog, no branch and no client transaction is of a call and of a room both, and it decides nothing that calls are asked first
+-- ---- whose a message is. Each tag, Call-ID and branch of the server's is drawn once, and a leg is in a call or in a room: so no dialog, no branch and no client
+-- transaction is of a call and of a room both, and it decides nothing that calls are asked first
 
 -- who has a dialog: a side of a call, or a seat of a room
 pub data Holder : Type 0 where

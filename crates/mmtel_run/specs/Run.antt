@@ -39,7 +39,8 @@ clock_at world moment = max world.clock moment
 
 -- one more event, after the deadlines that are due by then
 abbrev pub one_more : Directory → (token : List ℕ) → (fuel : ℕ) → Notice → World → World
-one_more directory token fuel notice world = came directory token (clock_at world notice.at) notice.digest notice.took (settled directory token fuel (clock_at world notice.at) world)
+one_more directory token fuel notice world =
+    came directory token (clock_at world notice.at) notice.digest notice.took (settled directory token fuel (clock_at world notice.at) world)
 
 abbrev pub after : Directory → (token : List ℕ) → (fuel : ℕ) → List Notice → World → World
 after directory token fuel [] world = world

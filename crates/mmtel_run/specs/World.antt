@@ -1,4 +1,5 @@
--- What was done in a run so far, layer by layer, and what each deed adds. Of a layer stands the list of what was done on it, never a table: what was opened, is live, is due or waits is a function of that list. Of the records stands the text of each account, by the last one that was kept (`specs/InForce`).
+-- What was done in a run so far, layer by layer, and what each deed adds. Of a layer stands the list of what was done on it, never a table: what was opened, is live, is
+-- due or waits is a function of that list. Of the records stands the text of each account, by the last one that was kept (`specs/InForce`).
 use Rattle.std.specs.Prelude.{ℕ, ◌+◌, ◌-◌, Bool, true, false, List, [], ◌∷◌, ◌++◌, length, Option, Some, None, Result, Ok, Err, if◌then◌else◌}
 use Rattle.mmtel_answers.specs.Said.{Said}
 use Rattle.mmtel_b2bua.specs.Histories as histories
@@ -60,7 +61,8 @@ use Rattle.mmtel_run.specs.Deadlines.{Alarm, Armed, Deadline, OfAlarm, OfCall, O
 use Rattle.mmtel_run.specs.Events.{Digest, Nothing, Refused, Heard, Asked, message_in}
 use Rattle.mmtel_run.specs.Records.{in_force, until_of}
 use Rattle.mmtel_run.specs.Refusals.{Course, Refuse, Enter, EnterRoom, Open, OpenRoom, JoinRoom, Register, course}
-use Rattle.mmtel_run.specs.Rooms.{Holder, InCall, InRoom, account_of_side, holder_of, is_key_of_calls, is_of_calls, is_with, leg_by, replacement_in, rooms_after, rooms_site, side_replaced, status_by}
+use Rattle.mmtel_run.specs.Rooms.{Holder, InCall, InRoom, account_of_side, holder_of, is_key_of_calls, is_of_calls, is_with, leg_by, replacement_in, rooms_after}
+use Rattle.mmtel_run.specs.Rooms.{rooms_site, side_replaced, status_by}
 
 -- a list for each layer
 pub record World : Type 0 where
@@ -234,7 +236,8 @@ ended_of directory token at key false world = seated directory token at (of_room
 -- what a deadline of a message brings: the same bytes again; or that a request is given up, or that a transaction has ended
 abbrev pub rung : Directory → (token : List ℕ) → Due → World → World
 rung directory token (due.Again peer at text) world = offering (offer.To peer at text ∷ []) world
-rung directory token (due.Silent key branch method at) world = silenced directory token at branch method (is_of_calls (invite_silent branch method) (calls_in directory world).entries) world
+rung directory token (due.Silent key branch method at) world =
+    silenced directory token at branch method (is_of_calls (invite_silent branch method) (calls_in directory world).entries) world
 rung directory token (due.Over key at) world = ended_of directory token at key (is_key_of_calls key (calls_in directory world).entries) world
 rung directory token due.Nothing world = world
 
@@ -265,12 +268,14 @@ replying directory token at key said answer world =
 -- an answer without one
 abbrev pub replying_plainly : Directory → (token : List ℕ) → ℕ → Said → Answer → World → World
 replying_plainly directory token at said answer world =
-    emitted at (emit.Plain said.peer (message_text (response_to directory.sip (tag_for token world.drawn said.heard.to_tag) said answer)) ∷ []) (drawing (tags_due said.heard.to_tag) world)
+    emitted at (emit.Plain said.peer (message_text (response_to directory.sip (tag_for token world.drawn said.heard.to_tag) said answer)) ∷ [])
+    (drawing (tags_due said.heard.to_tag) world)
 
 -- the reply to bytes of a peer that were refused as they were read
 abbrev pub refusing : (token : List ℕ) → ℕ → Peer → Addr → Message Start → World → World
 refusing token at peer source reply world =
-    emitted at (emit.Plain peer (message_text (completed_reply (tag_for token world.drawn (to_tag_in reply.lines)) source reply)) ∷ []) (drawing (tags_due (to_tag_in reply.lines)) world)
+    emitted at (emit.Plain peer (message_text (completed_reply (tag_for token world.drawn (to_tag_in reply.lines)) source reply)) ∷ [])
+    (drawing (tags_due (to_tag_in reply.lines)) world)
 
 -- ---- registrations
 
@@ -330,7 +335,8 @@ room_joined directory token at key said room tag (Err fault) world = turned_away
 room_joined directory token at key said room tag (Ok place) world = housed directory at (joining_of directory at key said room tag (tokens_now token world)) world
 
 abbrev pub joining_room : Directory → (token : List ℕ) → ℕ → TKey → Said → RoomNo → World → World
-joining_room directory token at key said room world = room_joined directory token at key said room (next_tag token world) (access room.0 (rooms_in directory world).live) (drawing 1 world)
+joining_room directory token at key said room world =
+    room_joined directory token at key said room (next_tag token world) (access room.0 (rooms_in directory world).live) (drawing 1 world)
 
 -- ---- a REFER of a seat with Replaces (RFC 3891 §3, RFC 4579 §5.6): the other leg of the call has a seat in the place of the dialog, and the call ends
 
@@ -340,7 +346,8 @@ adoption_of token at room seat leg account world = rooms.Adopts room.0 (record {
 
 -- it has a seat, and its call ends; or none is free, and it is put back
 abbrev pub adopting : Directory → (token : List ℕ) → ℕ → RoomNo → (seat : ℕ) → CallNo → Released → Option Account → Result ℕ RoomFault → World → World
-adopting directory token at room seat call leg account (Ok place) world = finishing directory token at call (housed directory at (adoption_of token at room seat leg account world) world)
+adopting directory token at room seat call leg account (Ok place) world =
+    finishing directory token at call (housed directory at (adoption_of token at room seat leg account world) world)
 adopting directory token at room seat call leg account (Err fault) world = noticed directory token at room seat 503 (lending (Restores call.0 leg) world)
 
 -- taken out of its call, where that talks
@@ -353,7 +360,8 @@ taken_out directory token at room seat call side account (Some leg) world =
 abbrev pub replaced_with : Directory → (token : List ℕ) → ℕ → RoomNo → (seat : ℕ) → CallNo → Side → (is_its : Bool) → World → World
 replaced_with directory token at room seat call side false world = noticed directory token at room seat 481 world
 replaced_with directory token at room seat call side true world =
-    taken_out directory token at room seat call (other_of side) (account_of_side call (other_of side) (calls_in directory world).entries) (leg_out call.0 (other_of side) (calls_in directory world).entries) world
+    taken_out directory token at room seat call (other_of side) (account_of_side call (other_of side) (calls_in directory world).entries)
+    (leg_out call.0 (other_of side) (calls_in directory world).entries) world
 
 abbrev pub replaced_by : Directory → (token : List ℕ) → ℕ → Peer → RoomNo → (seat : ℕ) → Option (CallNo × Side) → World → World
 replaced_by directory token at peer room seat None world = noticed directory token at room seat 481 world

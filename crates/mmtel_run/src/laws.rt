@@ -23,7 +23,8 @@ pub fn enough_comes()
     deadlines_come_to_an_end_between_offers();
 }
 
-/// At each step the record in force is that of the account's last upload that was kept before it, else the one that was loaded last: the texts of a run are those that were loaded and over them those that were kept, in their order, and of an account's the last one counts (3GPP TS 24.623 §5).
+/// At each step the record in force is that of the account's last upload that was kept before it, else the one that was loaded last: the texts of a run are those that were
+/// loaded and over them those that were kept, in their order, and of an account's the last one counts (3GPP TS 24.623 §5).
 pub fn records_are_those_kept()
     ensures texts { TextsAreThoseKept }
     ensures last { LastIsInForce }
@@ -35,13 +36,15 @@ pub fn records_are_those_kept()
     puts_change_one_account();
 }
 
-/// The charging rows of a run: those that the keeper took and those that wait are those of its calls, in the order in which they were closed (3GPP TS 32.260 §5). None waits behind an event in which the keeper took what was handed to it.
+/// The charging rows of a run: those that the keeper took and those that wait are those of its calls, in the order in which they were closed (3GPP TS 32.260 §5). None
+/// waits behind an event in which the keeper took what was handed to it.
 pub fn rows_are_filed()
     ensures all { RowsAreFiled }
     ensures none { NoneWaits }
 {}
 
-/// Of two messages that are equal without their private places, and that register the same account if any, under configurations that are equal but for the URIs of accounts, the same is decided and answered, but for texts that are due to trusted peers, and of these the heads are the same.
+/// Of two messages that are equal without their private places, and that register the same account if any, under configurations that are equal but for the URIs of
+/// accounts, the same is decided and answered, but for texts that are due to trusted peers, and of these the heads are the same.
 pub fn equal_masks_are_kin()
     ensures kin { MasksMakeKin }
     // The account for which a trusted peer registers is read of what is never private.

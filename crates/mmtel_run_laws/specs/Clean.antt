@@ -14,7 +14,8 @@ use Rattle.mmtel_run.specs.Events.{Happened}
 use Rattle.mmtel_run.specs.Run.{IsEnough, gives}
 use Rattle.mmtel_run.specs.Short.{IsShortRun}
 
--- the text of a message that, parted at its line ends, is the start line of that message, its lines, an empty line and its body, and nothing else; and none of these lines has a byte 0, CR or LF
+-- the text of a message that, parted at its line ends, is the start line of that message, its lines, an empty line and its body, and nothing else; and none of these lines
+-- has a byte 0, CR or LF
 pub record IsOwnText (text : List ℕ) : Type 0 where
   pub message : Message Start
   pub is : text ≡ message_text message

@@ -1,4 +1,5 @@
--- What each call of a run comes to: the precedence of services over how its attempts ended and over the records, registrations and live calls as they stood in the run when it reached each target; the bound on diversions; the 181s; and its rows (TS 24.604 §4.5.2.6, TS 24.611 §4.5.2, TS 24.615 §4.5.5, TS 32.260 §5).
+-- What each call of a run comes to: the precedence of services over how its attempts ended and over the records, registrations and live calls as they stood in the run when
+-- it reached each target; the bound on diversions; the 181s; and its rows (TS 24.604 §4.5.2.6, TS 24.611 §4.5.2, TS 24.615 §4.5.5, TS 32.260 §5).
 use Rattle.std.specs.Prelude.{◌≡◌, ◌≤◌, ◌⊎◌, ℕ, ◌+◌, ◌&&◌, max, Bool, true, false, List, [], ◌∷◌, ◌++◌, None, Some, count_by, filter, length}
 use Rattle.mmtel_call_decisions.specs.Opening.{received_list}
 use Rattle.mmtel_call.specs.declared.calls.Phase.TheVariants.{Over}
@@ -50,7 +51,8 @@ unfoldable pub notices_of : Start → List Event → List (Message StartLine)
 notices_of s [] = notices_in s.arrival.key (added s.desk.out (first_step s).desk.out)
 notices_of s (x ∷ earlier) = notices_of s earlier ++ notices_by s x (emits_by s.site x (call_after s earlier))
 
--- each leg of it that was taken out, for a conference room, was put back by the next thing that came to it, or the call ended by that; where one `is_away`, it was taken out by the last of these (RFC 4579 §5.6)
+-- each leg of it that was taken out, for a conference room, was put back by the next thing that came to it, or the call ended by that; where one `is_away`, it was taken
+-- out by the last of these (RFC 4579 §5.6)
 abbrev pub AreLentAtOnce : (is_away : Bool) → List Event → Type 0
 AreLentAtOnce false [] = Unit {0}
 AreLentAtOnce false (Hears x ∷ earlier) = AreLentAtOnce false earlier
@@ -95,7 +97,8 @@ pub record CallComesToOutcome (directory : Directory) (token : List ℕ) (loaded
   -- it heard signals, and no leg of it is away: one that was taken out was put back at once, or the call ended
   pub lent : AreLentAtOnce false life.events
   -- the server's own 181s to its caller are those of the diversions that its Outcome says were made, in order (TS 24.604 §4.5.2.6)
-  pub told : notices_of life.start life.events ≡ notices_due (site_of directory) (opening_in life.start) (received_list life.start.arrival.invite) (outcome_after life.start life.events).targets
+  pub told : notices_of life.start life.events
+      ≡ notices_due (site_of directory) (opening_in life.start) (received_list life.start.arrival.invite) (outcome_after life.start life.events).targets
   pub bounded : StaysWithinTheBound directory life
   pub charged : IsChargedExactly (world_after directory token loaded fuel happened) number life
   -- things stood as they stood in the run when it opened,

@@ -67,7 +67,8 @@ pub record RowsAreCharged (directory : Directory) (world : World) : Type 0 where
   pub book : List Dated
   pub booked : RunsOn [] book (running (rooms_in directory world).live) (filter is_seat_row (all_rows world))
   -- whichever meters one counts: each that began was closed once, or runs
-  pub once : (is_counted : Noted → Bool) → count_by is_counted (begun_in book) ≡ count_by is_counted (closed_in book) + count_by is_counted (running (rooms_in directory world).live)
+  pub once : (is_counted : Noted → Bool) →
+      count_by is_counted (begun_in book) ≡ count_by is_counted (closed_in book) + count_by is_counted (running (rooms_in directory world).live)
 
 abbrev pub SeatsAreChargedOnce : Directory → (token : List ℕ) → (loaded : Texts) → List Happened → Type 0
 SeatsAreChargedOnce directory token loaded happened =

@@ -1,4 +1,5 @@
--- How things stood in a run when a call heard something of it: which records and registrations were in force, and whom the calls kept busy (3GPP TS 24.623 §5, TS 24.604 §4.5.2.6, TS 24.615 §4.5.5).
+-- How things stood in a run when a call heard something of it: which records and registrations were in force, and whom the calls kept busy (3GPP TS 24.623 §5, TS 24.604
+-- §4.5.2.6, TS 24.615 §4.5.5).
 use Rattle.std.specs.Prelude.{◌≡◌, ◌≤◌, ℕ, List, [], ◌∷◌, ◌++◌, Option, option_to_list}
 use Rattle.std.specs.Option.{option_map}
 use Rattle.mmtel_b2bua.specs.Entries.{busy_beside}
@@ -19,7 +20,8 @@ abbrev pub deeds_after : Directory → (token : List ℕ) → (loaded : Texts) �
 deeds_after directory token loaded fuel happened = (world_after directory token loaded fuel happened).deeds
 
 -- so things stood for the call of this number when the calls heard something in the run; where it opened by that, it kept this account busy itself
-pub record StoodIn (directory : Directory) (token : List ℕ) (loaded : Texts) (fuel : ℕ) (happened : List Happened) (number : ℕ) (own : Option Account) (now : Standing) : Type 0 where
+pub record StoodIn (directory : Directory) (token : List ℕ) (loaded : Texts) (fuel : ℕ) (happened : List Happened) (number : ℕ) (own : Option Account)
+    (now : Standing) : Type 0 where
   -- the event in which they heard it, and those before and after it
   pub earlier : List Happened
   pub event : Happened

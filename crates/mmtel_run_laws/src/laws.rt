@@ -15,7 +15,9 @@ use mmtel_focus_laws::participants_are_charged_once;
 use mmtel_precedence::laws::{diversions_have_forwards, diversions_stay_within_the_bound};
 use mmtel_run::{records_are_those_kept, rows_are_filed};
 
-/// Each call of a run comes to what the precedence of services makes of how its attempts ended, and of the records, registrations and live calls as they stood in the run when it reached each target: its INVITEs in order, the 181s of its diversions, its final and its rows, within the bound on diversions; also one of which a leg goes to a conference room, or is put back (TS 24.604 §4.5.2.6, TS 24.611 §4.5.2, TS 24.615 §4.5.5, TS 32.260 §5, RFC 4579 §5.6).
+/// Each call of a run comes to what the precedence of services makes of how its attempts ended, and of the records, registrations and live calls as they stood in the run
+/// when it reached each target: its INVITEs in order, the 181s of its diversions, its final and its rows, within the bound on diversions; also one of which a leg goes to a
+/// conference room, or is put back (TS 24.604 §4.5.2.6, TS 24.611 §4.5.2, TS 24.615 §4.5.5, TS 32.260 §5, RFC 4579 §5.6).
 pub fn calls_of_runs_come_to_their_outcome()
     ensures law { CallsOfRunsComeToOutcome }
 {
@@ -33,7 +35,8 @@ pub fn calls_of_runs_come_to_their_outcome()
     participants_are_charged_once();
 }
 
-/// The rows of a run, those that the keeper took and those that wait, are those of its calls and those of the seats of its rooms, each in their order; and of the seats each that has an account has one row, once it is left, and none before (TS 32.260 §5).
+/// The rows of a run, those that the keeper took and those that wait, are those of its calls and those of the seats of its rooms, each in their order; and of the seats
+/// each that has an account has one row, once it is left, and none before (TS 32.260 §5).
 pub fn seats_of_runs_are_charged_once()
     ensures law { SeatsOfRunsAreChargedOnce }
 {
@@ -45,7 +48,9 @@ pub fn seats_of_runs_are_charged_once()
     participants_are_charged_once();
 }
 
-/// Each text that a run offers to a peer is that of a message: parted at its line ends it is the start line of that message, its lines, an empty line and its body, and nothing else, and none of these lines has a byte 0, CR or LF (RFC 3261 §7). So nobody puts a line into a message of another, whatever was heard, loaded and uploaded, under a home domain and a token that are of one line each.
+/// Each text that a run offers to a peer is that of a message: parted at its line ends it is the start line of that message, its lines, an empty line and its body, and
+/// nothing else, and none of these lines has a byte 0, CR or LF (RFC 3261 §7). So nobody puts a line into a message of another, whatever was heard, loaded and uploaded,
+/// under a home domain and a token that are of one line each.
 pub fn runs_send_clean_messages()
     ensures law { RunsSendCleanMessages }
 {

@@ -2,7 +2,8 @@
 ghost use Rattle.mmtel_run_offers.specs.Added.{DeadlinesAdd, EventsAdd, RunsAdd};
 ghost use Rattle.mmtel_run_offers.specs.Seen.{BytesAreSeen, PeersAreApart};
 
-/// What is offered in a run is never looked at again in it: an event, with the deadlines that are due by it, adds behind what was offered before, whatever that is, and does all else alike. So what a server offered need not be kept to know what it offers next.
+/// What is offered in a run is never looked at again in it: an event, with the deadlines that are due by it, adds behind what was offered before, whatever that is, and
+/// does all else alike. So what a server offered need not be kept to know what it offers next.
 pub fn offers_are_added()
     ensures events { EventsAdd }
     ensures deadlines { DeadlinesAdd }

@@ -1,4 +1,5 @@
--- What is claimed of whole runs with calls and conference rooms: what an untrusted peer is offered is equal in any other run that differs in private places alone and answers every test alike
+-- What is claimed of whole runs with calls and conference rooms: what an untrusted peer is offered is equal in any other run that differs in private places alone and
+-- answers every test alike
 -- (RFC 3323, RFC 3325 §7, RFC 7044 §10.1).
 use Rattle.std.specs.Prelude.{◌≡◌, ◌<◌, ◌&&◌, ◌||◌, ℕ, Bool, true, false, List, Ok, length, nat_le}
 use Rattle.std.specs.List.{list_all}
@@ -70,7 +71,8 @@ abbrev pub MasksOnce : Type 0
 MasksOnce = (directory : Directory) (token : List ℕ) (loaded : Texts) (happened : List Happened) (masked other : Mask) →
     Masks directory token loaded happened masked → Masks directory token loaded happened other → masked ≡ other
 
--- of these offers an untrusted peer sees what it would see of any other run that is the same without its private places, also under a configuration that is equal but for the URIs of accounts, where accounts are looked up alike
+-- of these offers an untrusted peer sees what it would see of any other run that is the same without its private places, also under a configuration that is equal but for
+-- the URIs of accounts, where accounts are looked up alike
 abbrev pub SeesAlike : Directory → (token : List ℕ) → (loaded : Texts) → List Happened → List Offer → Type 0
 SeesAlike directory token loaded happened offers =
     (other : Directory) (run : List Happened) (others : List Offer) (masked : Mask) (seer : Peer) →

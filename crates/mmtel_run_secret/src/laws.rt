@@ -3,7 +3,8 @@ ghost use Rattle.std.specs.Prelude.{ℕ, List};
 ghost use Rattle.mmtel_directory.specs.declared.directories.Directory.{Directory};
 ghost use Rattle.mmtel_run.specs.Events.{Notice};
 ghost use Rattle.mmtel_run_secret.specs.Alike.{AllLookUp};
-ghost use Rattle.mmtel_run_secret.specs.Headline.{ConfigurationsAreRead, KeepsTheSecret, KeepsTheSecretInBoth, MasksOnce, OffersKeepItInOne, OffersKeepTheSecret, RunsAreTied, SeenByNotices};
+ghost use Rattle.mmtel_run_secret.specs.Headline.{ConfigurationsAreRead, KeepsTheSecret, KeepsTheSecretInBoth, MasksOnce, OffersKeepItInOne, OffersKeepTheSecret};
+ghost use Rattle.mmtel_run_secret.specs.Headline.{RunsAreTied, SeenByNotices};
 ghost use Rattle.mmtel_run_secret.specs.Invited.{RoomsSendOnce};
 
 use mmtel_b2bua_secret::{alike_tables_answer_alike, tables_stay_alike};
@@ -29,12 +30,14 @@ pub fn configurations_are_read()
     ensures read { ConfigurationsAreRead }
 {}
 
-/// Whatever is done on conference rooms, each INVITE to a seat was sent to its peer, and so was each that a room left: before, or by the same deed. Each that goes out has a branch of its own, of a number that is drawn for it alone (RFC 3261 §8.1.1.7, §13.2.1), as long as fewer than 2^60 numbers are drawn.
+/// Whatever is done on conference rooms, each INVITE to a seat was sent to its peer, and so was each that a room left: before, or by the same deed. Each that goes out has
+/// a branch of its own, of a number that is drawn for it alone (RFC 3261 §8.1.1.7, §13.2.1), as long as fewer than 2^60 numbers are drawn.
 pub fn rooms_send_once()
     ensures once { RoomsSendOnce }
 {}
 
-/// A response is of the peer to whom the INVITE that it answers went, to a call or to a seat of a room, and an INVITE whose 2xx is acknowledged went to the peer of the other leg (RFC 3261 §8.1.1.7, §13.2.2.4, §17.1.3): each branch is drawn once.
+/// A response is of the peer to whom the INVITE that it answers went, to a call or to a seat of a room, and an INVITE whose 2xx is acknowledged went to the peer of the
+/// other leg (RFC 3261 §8.1.1.7, §13.2.2.4, §17.1.3): each branch is drawn once.
 pub fn runs_are_tied()
     ensures tied { RunsAreTied }
 {
@@ -46,7 +49,8 @@ pub fn runs_are_tied()
     tokens_differ();
 }
 
-/// What an untrusted peer is offered, moments included, is equal in two runs that are the same without their private places and answer every test of their callers alike (RFC 3323, RFC 3325 §7, RFC 7044 §10.1): of the definitions, with as many firings in both, and of whatever is offered exactly by them.
+/// What an untrusted peer is offered, moments included, is equal in two runs that are the same without their private places and answer every test of their callers alike
+/// (RFC 3323, RFC 3325 §7, RFC 7044 §10.1): of the definitions, with as many firings in both, and of whatever is offered exactly by them.
 pub fn runs_keep_the_secret()
     ensures both { KeepsTheSecretInBoth }
     ensures one { KeepsTheSecret }

@@ -1,4 +1,5 @@
--- What the public clauses cite; clauses of private functions cite the same words. `Stops`, `IsOneOrMore`, `Writes` and `IsFree` beside them are for the definitions of the crates above.
+-- What the public clauses cite; clauses of private functions cite the same words. `Stops`, `IsOneOrMore`, `Writes` and `IsFree` beside them are for the definitions of the
+-- crates above.
 pub mod Classes
 pub mod Numbers
 pub mod Scanning

@@ -1,5 +1,6 @@
 -- A list of bytes parted: at the end of a run of a class, at the first of a byte, at the quote that closes, at its blank ends.
-use Rattle.std.specs.Prelude.{suc, ◌++◌, nat_lt, length, reverse, position, ◌&&◌, ◌+◌, Option, Some, None, ◌==◌, if◌then◌else◌, ℕ, Bool, not, List, [], ◌∷◌, ◌≡◌, true, false, take, drop}
+use Rattle.std.specs.Prelude.{suc, ◌++◌, nat_lt, length, reverse, position, ◌&&◌, ◌+◌, Option, Some, None, ◌==◌, if◌then◌else◌, ℕ, Bool, not, List, [], ◌∷◌, ◌≡◌, true}
+use Rattle.std.specs.Prelude.{false, take, drop}
 use Rattle.std.specs.List.{prefix_len, list_all}
 use Rattle.std.specs.Str.{bytes_eq}
 use Rattle.std.specs.Option.{option_map}
@@ -27,7 +28,8 @@ parted b s = option_map (λ n. (take n s, drop (n + 1) s)) (position (λ x. x ==
 abbrev pub IsFree : ℕ → List ℕ → Type 0
 IsFree b s = list_all (λ x. not (x == b)) s ≡ true
 
--- the bytes between the quotes of a quoted string (RFC 3261 §25.1: qdtext and quoted-pair): no quote but behind a backslash, and no backslash alone at the end; the flag says that a backslash came just before
+-- the bytes between the quotes of a quoted string (RFC 3261 §25.1: qdtext and quoted-pair): no quote but behind a backslash, and no backslash alone at the end; the flag
+-- says that a backslash came just before
 abbrev pub inside : Bool → List ℕ → Bool
 inside escaped [] = not escaped
 inside true (b ∷ s) = inside false s

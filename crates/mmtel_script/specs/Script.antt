@@ -1,4 +1,5 @@
--- Scripts: a format of this project's own. A text of lines: each event begins with a line that says when it comes and what it is, and the bytes of a datagram or of a web request follow in data lines.
+-- Scripts: a format of this project's own. A text of lines: each event begins with a line that says when it comes and what it is, and the bytes of a datagram or of a web
+-- request follow in data lines.
 use Rattle.std.specs.Prelude.{ℕ, Bool, true, false, nat_le, ◌&&◌, ◌==◌, ◌+◌, ◌-◌, ◌*◌, if◌then◌else◌, List, [], ◌∷◌, ◌++◌, codes, Option, Some, None, Result, Ok, Err, ◌≡◌}
 use Rattle.std.specs.Str.{bytes_eq}
 use Rattle.mmtel_scan.specs.Chain.{◌>>=◌}
@@ -85,7 +86,8 @@ beginning known s = do
   event ← event_line known s
   Some (Begins event)
 
--- what a line says, where it is of a form of the grammar: nothing; bytes: `|` and bytes, which stand for these bytes and CRLF, `+` and bytes, or `x` and digits; or the beginning of an event
+-- what a line says, where it is of a form of the grammar: nothing; bytes: `|` and bytes, which stand for these bytes and CRLF, `+` and bytes, or `x` and digits; or the
+-- beginning of an event
 unfoldable pub line_of : List KnownPeer → List ℕ → Option ScriptLine
 line_of known [] = Some Remark
 line_of known (b ∷ s) =

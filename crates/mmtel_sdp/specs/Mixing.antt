@@ -43,7 +43,8 @@ direction_text Inactive = codes "inactive"
 -- ---- the offer
 
 abbrev pub offer_lines : Mixer → List Line
-offer_lines mixer = opening mixer ++ line (byte "m") (media_value (codes "audio") (decimal mixer.port) (codes "RTP/AVP") (codes "0 8")) ∷ line (byte "a") (direction_text SendRecv) ∷ []
+offer_lines mixer = opening mixer ++ line (byte "m") (media_value (codes "audio") (decimal mixer.port) (codes "RTP/AVP") (codes "0 8"))
+    ∷ line (byte "a") (direction_text SendRecv) ∷ []
 
 unfoldable pub offer_text : Mixer → List ℕ
 offer_text mixer = text_of (offer_lines mixer)
@@ -63,7 +64,8 @@ map_lines (b ∷ more) = line (byte "a") (codes "rtpmap:" ++ b ∷ more) ∷ []
 
 -- a medium that the mixer takes
 abbrev pub accepted : ℕ → Direction → Medium → List Line
-accepted port direction medium = line (byte "m") (media_value medium.kind (decimal port) medium.proto medium.format) ∷ (map_lines medium.map ++ line (byte "a") (direction_text direction) ∷ [])
+accepted port direction medium =
+    line (byte "m") (media_value medium.kind (decimal port) medium.proto medium.format) ∷ (map_lines medium.map ++ line (byte "a") (direction_text direction) ∷ [])
 
 -- a medium that it does not: port 0 (RFC 3264 §6)
 abbrev pub refused : Medium → List Line
@@ -72,7 +74,8 @@ refused medium = line (byte "m") (media_value medium.kind (decimal 0) medium.pro
 -- the first audio medium is taken, and no other
 abbrev pub answered_lines : ℕ → Direction → List Medium → List Line
 answered_lines port direction [] = []
-answered_lines port direction (medium ∷ media) = if is_audio medium.kind then accepted port direction medium ++ flat_map refused media else refused medium ++ answered_lines port direction media
+answered_lines port direction (medium ∷ media) =
+    if is_audio medium.kind then accepted port direction medium ++ flat_map refused media else refused medium ++ answered_lines port direction media
 
 abbrev pub answer_lines : SdpView → Mixer → List Line
 answer_lines view mixer = opening mixer ++ answered_lines mixer.port (answered_direction view.direction) view.media

@@ -1,4 +1,5 @@
--- What a body offers: the kinds of its media (RFC 4566 §5.14), whether audio is among them, and the direction of its first audio medium (RFC 3264 §5.1). A body that is no session description offers no media and no audio, and tells no direction.
+-- What a body offers: the kinds of its media (RFC 4566 §5.14), whether audio is among them, and the direction of its first audio medium (RFC 3264 §5.1). A body that is no
+-- session description offers no media and no audio, and tells no direction.
 use Rattle.std.specs.Prelude.{ℕ, List, [], map, Option, Some, None, Bool, false}
 use Rattle.mmtel_sdp.specs.Mixing.{has_audio}
 use Rattle.mmtel_sdp.specs.Sdp.{sdp_of}

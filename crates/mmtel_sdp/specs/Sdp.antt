@@ -82,7 +82,8 @@ abbrev pub map_under : List ℕ → List Line → List ℕ
 map_under format lines = unwrap_or (first_of (λ line. map_in format line) lines) []
 
 unfoldable pub direction_word : List ℕ → Option Direction
-direction_word value = if bytes_eq value (codes "sendrecv") then Some SendRecv else if bytes_eq value (codes "sendonly") then Some SendOnly else if bytes_eq value (codes "recvonly") then Some RecvOnly else if bytes_eq value (codes "inactive") then Some Inactive else None
+direction_word value = if bytes_eq value (codes "sendrecv") then Some SendRecv else if bytes_eq value (codes "sendonly") then Some SendOnly
+    else if bytes_eq value (codes "recvonly") then Some RecvOnly else if bytes_eq value (codes "inactive") then Some Inactive else None
 
 abbrev pub direction_in : Line → Option Direction
 direction_in line = attribute line >>= λ value. direction_word value

@@ -2,7 +2,8 @@
 ghost use Rattle.std.specs.Prelude.{◌≡◌, ◌<◌, ◌∷◌, [], None, Some, IfOk, IfSome, MatchOption, length};
 ghost use Rattle.std.specs.List.{list_all};
 ghost use Rattle.std.specs.Option.{option_copied};
-ghost use Rattle.mmtel_sdp.specs.Sdp.{before_media, sections, words, is_filled, media_line, first_of, map_of, map_in, map_under, direction_word, direction_in, medium_of, media_of, first_word, is_audio, under_audio, direction_of};
+ghost use Rattle.mmtel_sdp.specs.Sdp.{before_media, sections, words, is_filled, media_line, first_of, map_of, map_in, map_under, direction_word, direction_in, medium_of};
+ghost use Rattle.mmtel_sdp.specs.Sdp.{media_of, first_word, is_audio, under_audio, direction_of};
 
 use crate::lines::Line;
 use crate::values::{Direction, Medium};
@@ -64,7 +65,8 @@ struct MediaLine<'a> {
 
 #[tactic(auto, unfolding(crate::specs::Sdp::media_line))]
 fn media_line(head: &[u8]) -> Option<MediaLine<'_>>
-    ensures { MatchOption result (media_line head.now ≡ None) (λ line. media_line head.now ≡ Some (record { kind = line.kind.now; port = line.port.now; proto = line.proto.now; format = line.format.now })) }
+    ensures { MatchOption result (media_line head.now ≡ None)
+        (λ line. media_line head.now ≡ Some (record { kind = line.kind.now; port = line.port.now; proto = line.proto.now; format = line.format.now })) }
 {
     if !are_filled(head) {
         return None;

@@ -1,4 +1,5 @@
--- The seats of a conference room: who has one, which number is next and whether one is free (RFC 4579 §5.4), how one is told (RFC 3515 §2.4.4), what is charged for it (TS 32.260 §5), and how it is left (RFC 4579 §5.11).
+-- The seats of a conference room: who has one, which number is next and whether one is free (RFC 4579 §5.4), how one is told (RFC 3515 §2.4.4), what is charged for it (TS
+-- 32.260 §5), and how it is left (RFC 4579 §5.11).
 use Rattle.std.specs.Prelude.{ℕ, ◌==◌, nat_le, Bool, true, false, if◌then◌else◌, Option, Some, None, List, [], ◌∷◌, ◌++◌, codes, length, position}
 use Rattle.std.specs.Option.{option_map}
 use Rattle.mmtel_charging.specs.Meters.{Noted, row_of}

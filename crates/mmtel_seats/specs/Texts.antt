@@ -1,4 +1,5 @@
--- How a conference room names itself (RFC 4579 §4.4, §5.1), and the texts of what it asks: its Contact, the lines of a description, and the NOTIFY that tells what became of a REFER (RFC 3515 §2.4.4, RFC 3420).
+-- How a conference room names itself (RFC 4579 §4.4, §5.1), and the texts of what it asks: its Contact, the lines of a description, and the NOTIFY that tells what became
+-- of a REFER (RFC 3515 §2.4.4, RFC 3420).
 use Rattle.std.specs.Prelude.{ℕ, Bool, true, false, List, [], ◌∷◌, ◌++◌, codes, decimal}
 use Rattle.mmtel_message.specs.Addresses.{addr_text}
 use Rattle.mmtel_message.specs.Message.{Line}

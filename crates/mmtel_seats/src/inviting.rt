@@ -180,7 +180,8 @@ fn invite_in(
     seat_of(alloc, next, by, account, dialogue, branch)
 }
 
-/// Invites whoever this URI is of, by the REFER of the seat of number `by`: the INVITE goes out in a dialog of the room, and the deadline of its ringing is armed. Nobody is invited where no peer leads to the URI (404), and else where no seat is free (503).
+/// Invites whoever this URI is of, by the REFER of the seat of number `by`: the INVITE goes out in a dialog of the room, and the deadline of its ringing is armed. Nobody
+/// is invited where no peer leads to the URI (404), and else where no seat is free (503).
 ///
 /// # Errors
 ///

@@ -6,7 +6,8 @@ ghost use Rattle.mmtel_run.specs.Rooms.{is_of_calls, is_with};
 use mmtel_b2bua::Calls;
 use mmtel_types::{Account, Peer};
 
-/// Whether the answer to a request that was sent with this branch, or its silence, is of the calls: an INVITE of one has that branch. All others are of the rooms (RFC 3261 §17.1.3).
+/// Whether the answer to a request that was sent with this branch, or its silence, is of the calls: an INVITE of one has that branch. All others are of the rooms (RFC 3261
+/// §17.1.3).
 pub fn is_answer_of_calls(calls: &Calls, branch: Option<&[u8]>) -> bool
     ensures { result ≡ is_of_calls (option_copied branch.entry) calls.now.table.entries }
 {

@@ -76,7 +76,8 @@ fn serve_upload<K: Keeper>(
     ensures registered { (registrations : Registrations) → IsRegisteredBy records.old registrations → IsRegisteredBy records.new registrations }
     ensures stored { IfOk result (λ served. Stored account text (kept_in served.kept) (K.held keeper.old) (K.held keeper.new) (K.calls keeper.old) (K.calls keeper.new)) }
     ensures counted { IfOk result (λ served. Counted (kept_in served.kept) (K.faults keeper.old) (K.faults keeper.new)) }
-    ensures met { OnErr result (Met (stores account text) (K.held keeper.old) (K.held keeper.new) (K.calls keeper.old) (K.calls keeper.new) (K.faults keeper.old) (K.faults keeper.new)) }
+    ensures met { OnErr result (Met (stores account text) (K.held keeper.old) (K.held keeper.new) (K.calls keeper.old) (K.calls keeper.new) (K.faults keeper.old)
+        (K.faults keeper.new)) }
 {
     let kept = keep(alloc, records, keeper, account, sheet, text);
     let reply = after_call(alloc, kept, said)?;
@@ -152,7 +153,8 @@ fn serve_web<K: Keeper>(
     ensures reply { IfOk result (λ served. served.reply ≡ reply_to (kept_in served.kept) served.rows web) }
     ensures texts { IfOk result (λ served. records.new.texts.texts ≡ put_kept (kept_upload (kept_in served.kept) (upload_by web)) records.old.texts.texts) }
     ensures registered { (registrations : Registrations) → IsRegisteredBy records.old registrations → IsRegisteredBy records.new registrations }
-    ensures keeper { IfOk result (λ served. Answers (call_by web) (kept_in served.kept) served.rows (K.held keeper.old) (K.held keeper.new) (K.calls keeper.old) (K.calls keeper.new)) }
+    ensures keeper { IfOk result (λ served.
+        Answers (call_by web) (kept_in served.kept) served.rows (K.held keeper.old) (K.held keeper.new) (K.calls keeper.old) (K.calls keeper.new)) }
     ensures counted { IfOk result (λ served. Counted (kept_in served.kept) (K.faults keeper.old) (K.faults keeper.new)) }
     ensures met { OnErr result (Met (call_by web) (K.held keeper.old) (K.held keeper.new) (K.calls keeper.old) (K.calls keeper.new) (K.faults keeper.old) (K.faults keeper.new)) }
 {
@@ -172,9 +174,11 @@ fn serve_web<K: Keeper>(
     }
 }
 
-/// Does what the bytes of a web connection ask, over the records in force and a keeper: the reply, what became of the keeper's call where one was due, and the rows that it gave (3GPP TS 24.623 §5; RFC 9110 §15).
+/// Does what the bytes of a web connection ask, over the records in force and a keeper: the reply, what became of the keeper's call where one was due, and the rows that it
+/// gave (3GPP TS 24.623 §5; RFC 9110 §15).
 ///
-/// A record is put in force exactly where the keeper stored it. Where the keeper could not, the reply is 503, and for want of memory it is 507; nothing has then changed, neither here nor there.
+/// A record is put in force exactly where the keeper stored it. Where the keeper could not, the reply is 503, and for want of memory it is 507; nothing has then changed,
+/// neither here nor there.
 ///
 /// # Errors
 ///
@@ -189,14 +193,17 @@ pub fn serve<K: Keeper>(
     // The reply is that of the definitions, by what became of the keeper's call.
     ensures reply { IfOk result (λ served. served.reply ≡ web_reply names.now records.old.texts.texts (request_of bytes.now) (kept_in served.kept) served.rows) }
     // The texts in force are those before, and over them the one that was kept.
-    ensures texts { IfOk result (λ served. records.new.texts.texts ≡ put_kept (kept_upload (kept_in served.kept) (upload_in names.now (request_of bytes.now))) records.old.texts.texts) }
+    ensures texts { IfOk result (λ served. records.new.texts.texts
+        ≡ put_kept (kept_upload (kept_in served.kept) (upload_in names.now (request_of bytes.now))) records.old.texts.texts) }
     ensures registered { (registrations : Registrations) → IsRegisteredBy records.old registrations → IsRegisteredBy records.new registrations }
     // The keeper was called as the request asks, and what it holds has changed by that alone.
-    ensures keeper { IfOk result (λ served. Answers (call_in names.now (request_of bytes.now)) (kept_in served.kept) served.rows (K.held keeper.old) (K.held keeper.new) (K.calls keeper.old) (K.calls keeper.new)) }
+    ensures keeper { IfOk result (λ served.
+        Answers (call_in names.now (request_of bytes.now)) (kept_in served.kept) served.rows (K.held keeper.old) (K.held keeper.new) (K.calls keeper.old) (K.calls keeper.new)) }
     // Its count of faults rose exactly where its call failed.
     ensures counted { IfOk result (λ served. Counted (kept_in served.kept) (K.faults keeper.old) (K.faults keeper.new)) }
     // For want of memory too it was called at most once, as the request asks, and what it holds has changed by that alone.
-    ensures met { OnErr result (Met (call_in names.now (request_of bytes.now)) (K.held keeper.old) (K.held keeper.new) (K.calls keeper.old) (K.calls keeper.new) (K.faults keeper.old) (K.faults keeper.new)) }
+    ensures met { OnErr result (Met (call_in names.now (request_of bytes.now)) (K.held keeper.old) (K.held keeper.new) (K.calls keeper.old) (K.calls keeper.new)
+        (K.faults keeper.old) (K.faults keeper.new)) }
 {
     uploads_are_what_they_say();
     match answer(alloc, names, records.texts(), bytes) {

@@ -37,7 +37,19 @@ abbrev pub all_told : Notices
 all_told = record { notify_caller = true; reveal_to_caller = true; reveal_served_to_caller = true; reveal_to_target = true }
 
 abbrev pub no_keys : RuleDraft
-no_keys = record { allow = None; anonymous = false; event = None; except = []; from = None; many = None; media = None; notices = all_told; one = None; target = None; window = None }
+no_keys = record {
+  allow = None;
+  anonymous = false;
+  event = None;
+  except = [];
+  from = None;
+  many = None;
+  media = None;
+  notices = all_told;
+  one = None;
+  target = None;
+  window = None;
+}
 
 abbrev pub with_notice : Notice → Bool → Notices → Notices
 with_notice notice.NotifyCaller b n = record n { notify_caller = b }
@@ -115,7 +127,13 @@ abbrev pub condition_of : RuleDraft → Condition
 condition_of r = record { identity = who_of r.one r.many r.except; anonymous = r.anonymous; window = r.window; media = r.media; event = r.event }
 
 abbrev pub forward_to : Uri → Notices → Action
-forward_to u n = Forward (record { target = u; notify_caller = n.notify_caller; reveal_to_caller = n.reveal_to_caller; reveal_served_to_caller = n.reveal_served_to_caller; reveal_to_target = n.reveal_to_target })
+forward_to u n = Forward (record {
+  target = u;
+  notify_caller = n.notify_caller;
+  reveal_to_caller = n.reveal_to_caller;
+  reveal_served_to_caller = n.reveal_served_to_caller;
+  reveal_to_target = n.reveal_to_target;
+})
 
 abbrev pub forward_read : List ℕ → Option Uri → Notices → Read Action
 forward_read path None n = Err (Wrong (dotted path (codes "target")))

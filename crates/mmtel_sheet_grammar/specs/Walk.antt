@@ -1,4 +1,5 @@
--- A service record as a sheet (3GPP TS 24.623; TS 24.604, 24.607, 24.608, 24.611, 24.615): what is read of the tables of a TOML document, in byte order of their names, and which fault is the first.
+-- A service record as a sheet (3GPP TS 24.623; TS 24.604, 24.607, 24.608, 24.611, 24.615): what is read of the tables of a TOML document, in byte order of their names, and
+-- which fault is the first.
 use Rattle.std.specs.Prelude.{◌≡◌, ◌≤◌, ℕ, List, [], Bool, true, false, ◌&&◌, Option, Some, None, Result, Ok, Err, if◌then◌else◌, codes, length, IsUtf8}
 use Rattle.std.specs.Str.{bytes_eq}
 use Rattle.toml.specs.Parse.{parse_document}
@@ -87,7 +88,8 @@ no_restriction_keys = record { active = true; permanent = false; by_default = fa
 abbrev pub restriction_key : List ℕ → Restriction → List ℕ → Data → Read Restriction
 restriction_key at r k d =
     if bytes_eq k (codes "active") then then_do (truth_at at d) (λ b. Ok (record r { active = b }))
-    else if bytes_eq k (codes "default-behaviour") then then_do (choice_at (codes "presentation-restricted") (codes "presentation-not-restricted") at d) (λ b. Ok (record r { by_default = b }))
+    else if bytes_eq k (codes "default-behaviour") then then_do (choice_at (codes "presentation-restricted") (codes "presentation-not-restricted") at d)
+    (λ b. Ok (record r { by_default = b }))
     else if bytes_eq k (codes "mode") then then_do (choice_at (codes "permanent") (codes "temporary") at d) (λ b. Ok (record r { permanent = b }))
     else Err (Unknown at)
 

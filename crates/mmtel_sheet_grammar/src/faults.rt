@@ -5,7 +5,8 @@ ghost use Rattle.mmtel_sheet_grammar.specs.declared.faults.SheetFault.TheVariant
 use mmtel_lex::{NoMemory, Text};
 use std::alloc::AllocError;
 
-/// Why the bytes are no service record. Where there are several faults, the first of the walk is told: tables in byte order of their names, keys in byte order, rules and items of an array in their order.
+/// Why the bytes are no service record. Where there are several faults, the first of the walk is told: tables in byte order of their names, keys in byte order, rules and
+/// items of an array in their order.
 #[derive(Debug, Drop)]
 pub enum SheetFault {
     /// The bytes are not UTF-8, or no TOML.

@@ -2,7 +2,8 @@
 ghost use Rattle.std.specs.Prelude.{◌≡◌, ◌≤◌, [], Ok, IfOk};
 ghost use Rattle.toml.specs.View.{view, array_view};
 ghost use Rattle.mmtel_sheet_grammar.specs.Answers.{Answers, then_do};
-ghost use Rattle.mmtel_sheet_grammar.specs.Elements.{truth_at, number_at, text_at, uri_at, is_international, is_target, target_at, is_domain, domain_at, is_token_text, token_at, time_at, items_from, uris_at, tokens_at};
+ghost use Rattle.mmtel_sheet_grammar.specs.Elements.{truth_at, number_at, text_at, uri_at, is_international, is_target, target_at, is_domain, domain_at, is_token_text};
+ghost use Rattle.mmtel_sheet_grammar.specs.Elements.{token_at, time_at, items_from, uris_at, tokens_at};
 ghost use Rattle.mmtel_sheet_grammar.specs.Sound.{IsSound, IsSoundArray};
 
 use crate::faults::wrong;

@@ -13,7 +13,9 @@ use std::alloc::Global;
 ///
 /// # Errors
 ///
-/// `NotToml` exactly where the bytes are not UTF-8 or no TOML. Else the first fault of the walk over the document, which takes tables in byte order of their names, keys in byte order, rules and items in their order: `Unknown` where a key is nowhere listed, `Wrong` where its value is not of the key's type, range or text or where its partner is absent, `Many` where an array is too long. `NoMemory` where memory ran out.
+/// `NotToml` exactly where the bytes are not UTF-8 or no TOML. Else the first fault of the walk over the document, which takes tables in byte order of their names, keys in
+/// byte order, rules and items in their order: `Unknown` where a key is nowhere listed, `Wrong` where its value is not of the key's type, range or text or where its
+/// partner is absent, `Many` where an array is too long. `NoMemory` where memory ran out.
 #[tactic(auto, using(crate::proofs::Documents::documented, crate::proofs::Told::told, crate::proofs::Told::told_nothing, crate::proofs::ReadTables::answered))]
 pub fn read_sheet(alloc: Global, bytes: &[u8]) -> Result<Sheet, SheetFault>
     ensures exact { IsRead bytes.now result }

@@ -3,7 +3,9 @@ ghost use Rattle.std.specs.Prelude.{◌≡◌, [], codes, nat_lt, ◌&&◌, not,
 ghost use Rattle.toml.specs.View.{view, table_view, array_view};
 ghost use Rattle.mmtel_sheet_grammar.specs.Answers.{Answers, then_do};
 ghost use Rattle.mmtel_sheet_grammar.specs.Keys.{dotted, rule_key_of, rule_path};
-ghost use Rattle.mmtel_sheet_grammar.specs.Rules.{has_key, no_keys, with_notice, event_read, except_read, one_read, from_read, until_read, key_read, listed, rule_key_read, who_of, condition_of, forward_read, allow_read, action_of, keys_of_rule, rule_of, are_tables, items_count, rules_from, rules_of, rules_at};
+ghost use Rattle.mmtel_sheet_grammar.specs.Rules.{has_key, no_keys, with_notice, event_read, except_read, one_read, from_read, until_read, key_read, listed, rule_key_read};
+ghost use Rattle.mmtel_sheet_grammar.specs.Rules.{who_of, condition_of, forward_read, allow_read, action_of, keys_of_rule, rule_of, are_tables, items_count, rules_from};
+ghost use Rattle.mmtel_sheet_grammar.specs.Rules.{rules_of, rules_at};
 ghost use Rattle.mmtel_sheet_grammar.specs.Sound.{IsSound, IsSoundArray, IsSoundTable};
 
 use crate::elements::{domain, target, text, time, tokens, truth, uris};

@@ -3,7 +3,9 @@ ghost use Rattle.std.specs.Prelude.{◌≡◌, codes, Ok, IfOk};
 ghost use Rattle.toml.specs.View.{view, table_view};
 ghost use Rattle.mmtel_sheet_grammar.specs.Answers.{Answers, then_do};
 ghost use Rattle.mmtel_sheet_grammar.specs.Sound.{IsSound, IsSoundTable};
-ghost use Rattle.mmtel_sheet_grammar.specs.Walk.{diversion_key, diversion_part, diversion_of, is_rejection, bar_key, bar_part, bar_of, presentation_key, presentation_of, choice, choice_at, restriction_key, restriction_of, waiting_key, waiting_part, waiting_of, table_key_of, table_read, named_read, sheet_of};
+ghost use Rattle.mmtel_sheet_grammar.specs.Walk.{diversion_key, diversion_part, diversion_of, is_rejection, bar_key, bar_part, bar_of, presentation_key, presentation_of};
+ghost use Rattle.mmtel_sheet_grammar.specs.Walk.{choice, choice_at, restriction_key, restriction_of, waiting_key, waiting_part, waiting_of, table_key_of, table_read};
+ghost use Rattle.mmtel_sheet_grammar.specs.Walk.{named_read, sheet_of};
 
 use crate::elements::{number, truth};
 use crate::faults::{unknown, wrong};

@@ -5,7 +5,8 @@ use Rattle.std.specs.FinMap as map
 use Rattle.std.specs.FinSet as set
 use Rattle.mmtel_sheet_values.specs.declared.values.Sheet.{Sheet}
 
--- by the numbers of accounts: an account that has no sheet here never said anything, a sheet of an account with room is replaced without memory, and a registration that is not here has no end
+-- by the numbers of accounts: an account that has no sheet here never said anything, a sheet of an account with room is replaced without memory, and a registration that is
+-- not here has no end
 pub record InForce : Type 0 where
   pub sheets : map.FinMap nat_cmp Sheet
   pub room : set.FinSet nat_cmp

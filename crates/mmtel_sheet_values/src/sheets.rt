@@ -56,7 +56,8 @@ impl Sheet {
         }
     }
 
-    /// The no-reply time (TS 24.604 §4.9.1): the milliseconds after which a call that rings counts as not answered. None where the diversion is absent or not active, or has no rule for calls that are not answered. It takes no memory.
+    /// The no-reply time (TS 24.604 §4.9.1): the milliseconds after which a call that rings counts as not answered. None where the diversion is absent or not active, or
+    /// has no rule for calls that are not answered. It takes no memory.
     pub fn no_reply_time(&self) -> Option<u64>
         ensures exact { result ≡ no_reply_time self.now }
     {

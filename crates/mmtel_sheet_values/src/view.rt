@@ -32,7 +32,9 @@ impl Model for SheetView {
 
     ghost Value = { InForce };
 
-    ghost coded = { code_by (map.FinMap nat_cmp Sheet × (set.FinSet nat_cmp × map.FinMap nat_cmp ℕ)) (coded× (map.code coded_ℕ row.the_row.coded) (coded× (set.code coded_ℕ) (map.code coded_ℕ coded_ℕ))) (λ v. (v.sheets, (v.room, v.ends))) (λ p. record { sheets = p.0; room = p.1.0; ends = p.1.1 }) (λ _. refl) };
+    ghost coded = { code_by (map.FinMap nat_cmp Sheet × (set.FinSet nat_cmp × map.FinMap nat_cmp ℕ))
+        (coded× (map.code coded_ℕ row.the_row.coded) (coded× (set.code coded_ℕ) (map.code coded_ℕ coded_ℕ))) (λ v. (v.sheets, (v.room, v.ends)))
+        (λ p. record { sheets = p.0; room = p.1.0; ends = p.1.1 }) (λ _. refl) };
 
     ghost view = { λ v. record { sheets = sheets_of v.places.entries; room = accounts_of v.places.entries; ends = map.from_entries v.ends.entries } };
 }

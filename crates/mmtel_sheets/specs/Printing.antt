@@ -1,4 +1,5 @@
--- The document of a sheet (3GPP TS 24.623; TS 24.604, 24.607, 24.608, 24.611, 24.615): its members in byte order of their keys. Each default is written out, and a part that is not there has no table.
+-- The document of a sheet (3GPP TS 24.623; TS 24.604, 24.607, 24.608, 24.611, 24.615): its members in byte order of their keys. Each default is written out, and a part
+-- that is not there has no table.
 use Rattle.std.specs.Prelude.{ℕ, pos, List, [], ◌∷◌, Bool, true, false, Option, Some, None, if◌then◌else◌, codes}
 use Rattle.std.specs.Cmp.Lexicographic.{slice_cmp}
 use Rattle.std.specs.Ordering.{nat_cmp, is_lt}

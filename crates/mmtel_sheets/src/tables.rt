@@ -3,7 +3,8 @@ ghost use Rattle.std.specs.Prelude.{◌≡◌, IfOk, IfSome, List, ℕ, codes, o
 ghost use Rattle.toml.specs.Data.{is_before, string};
 ghost use Rattle.toml.specs.View.{view, table_view};
 ghost use Rattle.mmtel_sheet_grammar.specs.Printable.{IsBar, IsDiversion, IsPrintable};
-ghost use Rattle.mmtel_sheets.specs.Printing.{comes_before, diversion_data, bar_data, presentation_data, word_of, restriction_data, waiting_data, part_data, late_tables, document_of};
+ghost use Rattle.mmtel_sheets.specs.Printing.{comes_before, diversion_data, bar_data, presentation_data, word_of, restriction_data, waiting_data, part_data, late_tables};
+ghost use Rattle.mmtel_sheets.specs.Printing.{document_of};
 
 use crate::members::{no_keys, with_key};
 use crate::rules::rules_value;

@@ -5,7 +5,8 @@ ghost use Rattle.toml.specs.Data.{string, array};
 ghost use Rattle.toml.specs.View.{view};
 ghost use Rattle.mmtel_sheet_grammar.specs.Elements.{is_token_text, is_domain};
 ghost use Rattle.mmtel_sheet_grammar.specs.Printable.{IsUriOfText, IsTarget, IsMoment, IsWho, IsWindow, IsAction};
-ghost use Rattle.mmtel_sheets.specs.Printing.{uri_data, uris_data, each_item, except_data, many_data, one_data, from_data, until_data, media_data, is_event, event_data, anonymous_data, allow_data, target_data, notice_data, rejection_data};
+ghost use Rattle.mmtel_sheets.specs.Printing.{uri_data, uris_data, each_item, except_data, many_data, one_data, from_data, until_data, media_data, is_event, event_data};
+ghost use Rattle.mmtel_sheets.specs.Printing.{anonymous_data, allow_data, target_data, notice_data, rejection_data};
 ghost use Rattle.mmtel_sheets.specs.Times.{moment_text};
 
 use crate::members::string_of;

@@ -23,7 +23,8 @@ impl Served {
         !self.both && self.origin.is_none() && self.target.is_none()
     }
 
-    /// The account whose services a target has to which the call is diverted and that is of this account. In one case alone it has none, since the call comes back through the core then.
+    /// The account whose services a target has to which the call is diverted and that is of this account. In one case alone it has none, since the call comes back through
+    /// the core then.
     pub fn diverted_served(&self, account: Option<Account>) -> Option<Account>
         ensures exact { result ≡ diverted_served self.now account }
     {

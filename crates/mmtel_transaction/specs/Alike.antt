@@ -6,7 +6,8 @@ use Rattle.mmtel_message.specs.Texts.{message_text}
 use Rattle.mmtel_message.specs.declared.messages.Start.{Start}
 use Rattle.mmtel_transaction.specs.Heads.{head_of}
 use Rattle.mmtel_transaction.specs.Calls.{Done, DidBegin, DidHear, DidAsk, DidReply, DidAck, DidFire, live, offers, opened, step_of}
-use Rattle.mmtel_transaction.specs.Answers.{Next, by_key, gives_again, gives_same, hear_says, is_invite_of, is_merged, key_of, next_due, part_of, peer_of, says_due, then_gives, upcoming_of}
+use Rattle.mmtel_transaction.specs.Answers.{Next, by_key, gives_again, gives_same, hear_says, is_invite_of, is_merged, key_of, next_due, part_of, peer_of, says_due}
+use Rattle.mmtel_transaction.specs.Answers.{then_gives, upcoming_of}
 use Rattle.std.specs.List.{find}
 use Rattle.mmtel_transaction.specs.Belonging.{owner}
 use Rattle.mmtel_transaction.specs.declared.heads.Head.{Head}
@@ -63,8 +64,10 @@ pub record AnswerAlike (trusts : Peer → Bool) (g h : List Done) : Type 0 where
   pub taken : (m : Head) → part_of m (live g) ≡ part_of m (live h)
   pub invite : (m : Head) → option_map key_of (find (is_invite_of m) (live g)) ≡ option_map key_of (find (is_invite_of m) (live h))
   pub owner : (m : Head) → option_map key_of (owner m (live g)) ≡ option_map key_of (owner m (live h))
-  pub again : (p : Peer) (key : ℕ) → option_map (blank_given trusts) (then_gives (gives_again p) (by_key key (live g))) ≡ option_map (blank_given trusts) (then_gives (gives_again p) (by_key key (live h)))
-  pub same : (key : ℕ) → option_map (blank_given trusts) (then_gives gives_same (by_key key (live g))) ≡ option_map (blank_given trusts) (then_gives gives_same (by_key key (live h)))
+  pub again : (p : Peer) (key : ℕ) →
+      option_map (blank_given trusts) (then_gives (gives_again p) (by_key key (live g))) ≡ option_map (blank_given trusts) (then_gives (gives_again p) (by_key key (live h)))
+  pub same : (key : ℕ) → option_map (blank_given trusts) (then_gives gives_same (by_key key (live g)))
+      ≡ option_map (blank_given trusts) (then_gives gives_same (by_key key (live h)))
   pub peer : (key : ℕ) → peer_of key (live g) ≡ peer_of key (live h)
   pub merged : (key : ℕ) → is_merged key (live g) ≡ is_merged key (live h)
   pub due : (now : ℕ) → upcoming_of (next_due now (live g)) ≡ upcoming_of (next_due now (live h))
@@ -79,7 +82,8 @@ SentAlike trusts key h m n = (p : Peer) → peer_of key (live h) ≡ Some p → 
 pub record GoOnAlike (trusts : Peer → Bool) (g h : List Done) : Type 0 where
   pub begins : (n : ℕ) → Alike trusts (DidBegin n ∷ g) (DidBegin n ∷ h)
   pub hears : (p : Peer) (m n : Message Start) (now : ℕ) (taken : Part) → head_of m ≡ head_of n → Alike trusts (DidHear p m now taken ∷ g) (DidHear p n now taken ∷ h)
-  pub asks : (p : Peer) (m n : Message Start) (now : ℕ) → head_of m ≡ head_of n → (trusts p ≡ false → message_text m ≡ message_text n) → Alike trusts (DidAsk p m now ∷ g) (DidAsk p n now ∷ h)
+  pub asks : (p : Peer) (m n : Message Start) (now : ℕ) → head_of m ≡ head_of n → (trusts p ≡ false → message_text m ≡ message_text n) →
+      Alike trusts (DidAsk p m now ∷ g) (DidAsk p n now ∷ h)
   pub replies : (key : ℕ) (m n : Message Start) (now : ℕ) → head_of m ≡ head_of n → SentAlike trusts key h m n → Alike trusts (DidReply key m now ∷ g) (DidReply key n now ∷ h)
   pub acks : (key : ℕ) (m n : Message Start) → SentAlike trusts key h m n → Alike trusts (DidAck key m ∷ g) (DidAck key n ∷ h)
   pub fires : (key : ℕ) → Alike trusts (DidFire key ∷ g) (DidFire key ∷ h)

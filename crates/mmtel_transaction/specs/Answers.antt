@@ -1,4 +1,5 @@
--- What each call answers, by the live transactions: what a message is taken for (RFC 3261 §17.1.3, §17.2.3, §9.2, §8.2.2.2), what a repeat gives (§17.2.1, §17.2.2; RFC 6026 §7.1), and which deadline comes next.
+-- What each call answers, by the live transactions: what a message is taken for (RFC 3261 §17.1.3, §17.2.3, §9.2, §8.2.2.2), what a repeat gives (§17.2.1, §17.2.2; RFC
+-- 6026 §7.1), and which deadline comes next.
 use Rattle.std.specs.Prelude.{ℕ, Bool, false, not, ◌&&◌, ◌||◌, nat_lt, nat_le, ◌==◌, if◌then◌else◌, List, [], ◌∷◌, length, Option, Some, None, option_map, count_by, is_some}
 use Rattle.std.specs.List.{find, list_any}
 use Rattle.std.specs.Option.{unwrap_or}

@@ -31,8 +31,29 @@ method_of (Status code phrase) answered = answered
 
 -- a message whose five fields cannot be read has empty ones; `read` gives none
 abbrev pub head_with : Start → Option Five → Head
-head_with start None = record { is_request = is_request start; status = code_of start; method = method_of start []; branch = []; sent_by = []; from_tag = []; to_tag = []; call_id = []; number = 0 }
-head_with start (Some five) = record { is_request = is_request start; status = code_of start; method = method_of start five.cseq.method; branch = param_text (codes "branch") five.via.params; sent_by = five.via.sent_by; from_tag = param_text (codes "tag") five.from.params; to_tag = param_text (codes "tag") five.to.params; call_id = five.call_id; number = five.cseq.number }
+head_with start None = record {
+  is_request = is_request start;
+  status = code_of start;
+  method = method_of start [];
+  branch = [];
+  sent_by = [];
+  from_tag = [];
+  to_tag = [];
+  call_id = [];
+  number = 0;
+}
+head_with start (Some five) = record {
+  is_request = is_request start;
+  status = code_of start;
+  method = method_of start five.cseq.method;
+  branch = param_text (codes "branch") five.via.params;
+  sent_by = five.via.sent_by;
+  from_tag = param_text (codes "tag") five.from.params;
+  to_tag =
+      param_text (codes "tag") five.to.params;
+  call_id = five.call_id;
+  number = five.cseq.number;
+}
 
 -- what is read of a message
 unfoldable pub head_of : Message Start → Head

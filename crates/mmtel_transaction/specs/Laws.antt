@@ -32,7 +32,9 @@ sent_again p m t d = due.Again p (t + d) (message_text m)
 
 -- a request that is asked at t where no transaction is live, and that nobody answers, is sent again at these moments after t, then given up, and then nothing is due
 abbrev pub IsGivenUpAfter : List ℕ → Peer → Message Start → ℕ → Type 0
-IsGivenUpAfter moments p m t = (h : List Done) (now : ℕ) → live h ≡ [] → t + 32000 ≤ now → said_in_turn (length moments + 2) now (DidAsk p m t ∷ h) ≡ map (sent_again p m t) moments ++ due.Silent (tkey (length (opened h))) (head_of m).branch (head_of m).method (t + 32000) ∷ due.Nothing ∷ []
+IsGivenUpAfter moments p m t = (h : List Done) (now : ℕ) → live h ≡ [] → t + 32000 ≤ now →
+    said_in_turn (length moments + 2) now (DidAsk p m t ∷ h) ≡ map (sent_again p m t) moments ++
+    due.Silent (tkey (length (opened h))) (head_of m).branch (head_of m).method (t + 32000) ∷ due.Nothing ∷ []
 
 -- so it is with every INVITE (Timers A and B), and with every other request (Timers E and F)
 abbrev pub InvitesAreGivenUp : Type 0
@@ -64,7 +66,8 @@ asked_in (DidFire key ∷ h) = asked_in h
 abbrev pub FewAreOpened : Type 0
 FewAreOpened = (h : List Done) → length (opened h) ≤ heard_in h + asked_in h
 
--- so one more has a number of its own, where each step hears one message at most and each drawn branch is of two requests at most, an INVITE and its CANCEL, whatever else is called, and there are fewer than 2^60 steps and draws
+-- so one more has a number of its own, where each step hears one message at most and each drawn branch is of two requests at most, an INVITE and its CANCEL, whatever else
+-- is called, and there are fewer than 2^60 steps and draws
 abbrev pub RoomIsLeft : Type 0
 RoomIsLeft = (h : List Done) (steps draws : ℕ) → heard_in h ≤ steps → asked_in h ≤ 2 * draws → steps < 2 ^ 60 → draws < 2 ^ 60 → HasRoom h
 
@@ -115,11 +118,13 @@ pub record OpensNothing (key : ℕ) (h : List Done) (p : Peer) (m : Message Star
 
 -- a request that opened a server transaction opens nothing when it is heard again, from whichever peer, until the end of that transaction was given
 abbrev pub RepeatsOpenNothing : Type 0
-RepeatsOpenNothing = (h g : List Done) (p q : Peer) (m n : Message Start) (t : ℕ) → IsRun (g ++ DidHear p m t part.Fresh ∷ h) → IsRepeatOf (head_of m) (head_of n) → EndWasGiven (length (opened h)) g (DidHear p m t part.Fresh ∷ h) ⊎ OpensNothing (length (opened h)) (g ++ DidHear p m t part.Fresh ∷ h) q n
+RepeatsOpenNothing = (h g : List Done) (p q : Peer) (m n : Message Start) (t : ℕ) → IsRun (g ++ DidHear p m t part.Fresh ∷ h) → IsRepeatOf (head_of m) (head_of n) →
+    EndWasGiven (length (opened h)) g (DidHear p m t part.Fresh ∷ h) ⊎ OpensNothing (length (opened h)) (g ++ DidHear p m t part.Fresh ∷ h) q n
 
 -- and from another peer than the one that opened it, it gets nothing
 abbrev pub StrangersGetNothing : Type 0
-StrangersGetNothing = (h g : List Done) (p q : Peer) (m n : Message Start) (t : ℕ) → IsRun (g ++ DidHear p m t part.Fresh ∷ h) → IsRepeatOf (head_of m) (head_of n) → (q.0 ≡ p.0 → ⊥) → EndWasGiven (length (opened h)) g (DidHear p m t part.Fresh ∷ h) ⊎ (hear_says (g ++ DidHear p m t part.Fresh ∷ h) q n ≡ Some (heard.Repeat None))
+StrangersGetNothing = (h g : List Done) (p q : Peer) (m n : Message Start) (t : ℕ) → IsRun (g ++ DidHear p m t part.Fresh ∷ h) → IsRepeatOf (head_of m) (head_of n) →
+    (q.0 ≡ p.0 → ⊥) → EndWasGiven (length (opened h)) g (DidHear p m t part.Fresh ∷ h) ⊎ (hear_says (g ++ DidHear p m t part.Fresh ∷ h) q n ≡ Some (heard.Repeat None))
 
 -- what an ACK of the non-2xx final of this transaction leaves
 pub record EndsResends (key now : ℕ) (before after : List Entry) : Type 0 where
@@ -131,7 +136,8 @@ pub record EndsResends (key now : ℕ) (before after : List Entry) : Type 0 wher
   pub others : (j : ℕ) → (j ≡ key → ⊥) → by_key j after ≡ by_key j before
 
 abbrev pub AcksEndResends : Type 0
-AcksEndResends = (h : List Done) (p : Peer) (m : Message Start) (now key : ℕ) → IsRun h → part_of (head_of m) (live h) ≡ part.Acked key → EndsResends key now (live h) (live (hears h p m now))
+AcksEndResends = (h : List Done) (p : Peer) (m : Message Start) (now key : ℕ) → IsRun h → part_of (head_of m) (live h) ≡ part.Acked key →
+    EndsResends key now (live h) (live (hears h p m now))
 
 abbrev pub fired_then : Option Next → List Next → List Next
 fired_then None ns = []

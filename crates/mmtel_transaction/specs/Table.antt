@@ -40,4 +40,5 @@ found_of f = record { at = f.at; entry = f.of.now }
 
 -- whatever calls they stood for that make this of the message, they stand for those and the hearing of it, and so much is said
 abbrev pub HearsAs : Transactions → Transactions → Peer → Message Start → ℕ → Part → Heard → List Done → Type 0
-HearsAs old new p m now taken said h = Stands old h → taken ≡ part_of (head_of m) (live h) → Stands new (DidHear p m now taken ∷ h) × (Some said ≡ says (length (opened h)) (live h) p m taken)
+HearsAs old new p m now taken said h = Stands old h → taken ≡ part_of (head_of m) (live h) →
+    Stands new (DidHear p m now taken ∷ h) × (Some said ≡ says (length (opened h)) (live h) p m taken)

@@ -1,10 +1,12 @@
 //! Laws over whole lists of calls: each is the contract of a function that does nothing.
-ghost use Rattle.mmtel_transaction.specs.Laws.{AcksEndResends, FewAreOpened, FiresInOrder, InvitesAreGivenUp, KeysAreTheirOwn, LastOnesEnd, NumbersCount, NumbersDiffer, OthersAreGivenUp, RepeatsOpenNothing, RoomIsLeft, StrangersGetNothing, TheFirstFires, TokensDiffer, WhatEndedStays};
+ghost use Rattle.mmtel_transaction.specs.Laws.{AcksEndResends, FewAreOpened, FiresInOrder, InvitesAreGivenUp, KeysAreTheirOwn, LastOnesEnd, NumbersCount, NumbersDiffer};
+ghost use Rattle.mmtel_transaction.specs.Laws.{OthersAreGivenUp, RepeatsOpenNothing, RoomIsLeft, StrangersGetNothing, TheFirstFires, TokensDiffer, WhatEndedStays};
 ghost use Rattle.mmtel_transaction.specs.Alike.{TextsDecideNothing};
 ghost use Rattle.mmtel_transaction.specs.OnePeer.{AskedPeers, KeepsPeers, NewPeers};
 ghost use Rattle.mmtel_transaction.specs.Belonging.{AcksBelong, HearsByOwner, OwnersAreLive};
 ghost use Rattle.mmtel_transaction.specs.Waiting.{AcksOf2xxEndResends, FinalsAwaitTheirAck, KeptAcksAreGiven, RingingIsNotGivenUp, UnansweredAreGivenUp, WhatIsAckedIsSilent};
-ghost use Rattle.mmtel_transaction.specs.Settling.{ArmedInItsStep, BeginsChangeNothing, DueIsCounted, FiringsEnd, FiringsLeaveFewer, FiringsUseUp, MoreChangesNothing, NoneIsDue, OffersAddNone, UpcomingIsLeast};
+ghost use Rattle.mmtel_transaction.specs.Settling.{ArmedInItsStep, BeginsChangeNothing, DueIsCounted, FiringsEnd, FiringsLeaveFewer, FiringsUseUp, MoreChangesNothing};
+ghost use Rattle.mmtel_transaction.specs.Settling.{NoneIsDue, OffersAddNone, UpcomingIsLeast};
 ghost use Rattle.mmtel_transaction.specs.HeadsRead.{HeadsRestOnFields, HeadsRestOnFiveNames};
 
 /// An INVITE that nobody answers is sent again at the moments of its closed list, then it is given up, and then nothing is due (RFC 3261 §17.1.1.2).
@@ -17,7 +19,8 @@ pub fn others_are_given_up()
     ensures given_up { OthersAreGivenUp }
 {}
 
-/// Transactions are opened by messages that are heard and requests that are asked alone, so over fewer than 2^60 steps and 2^60 drawn branches each has a number of its own, which is how many were opened before it.
+/// Transactions are opened by messages that are heard and requests that are asked alone, so over fewer than 2^60 steps and 2^60 drawn branches each has a number of its
+/// own, which is how many were opened before it.
 pub fn numbers_are_distinct()
     ensures few { FewAreOpened }
     ensures room { RoomIsLeft }
@@ -30,7 +33,8 @@ pub fn keys_are_their_own()
     ensures distinct { KeysAreTheirOwn }
 {}
 
-/// A request that opened a server transaction opens nothing when it is heard again, until `due` gave the end of that transaction; and from another peer than the one that opened it, it gets nothing.
+/// A request that opened a server transaction opens nothing when it is heard again, until `due` gave the end of that transaction; and from another peer than the one that
+/// opened it, it gets nothing.
 pub fn repeats_open_nothing()
     ensures nothing { RepeatsOpenNothing }
     ensures strangers { StrangersGetNothing }
@@ -41,7 +45,8 @@ pub fn acks_end_resends()
     ensures ended { AcksEndResends }
 {}
 
-/// What `due` gives comes in the order of moments, then of the steps that armed it, then of the offers; it is the first that is due; and while nothing else is called no deadline is given twice.
+/// What `due` gives comes in the order of moments, then of the steps that armed it, then of the offers; it is the first that is due; and while nothing else is called no
+/// deadline is given twice.
 pub fn deadlines_fire_in_order()
     ensures order { FiresInOrder }
     ensures first { TheFirstFires }
@@ -77,7 +82,8 @@ pub fn messages_belong_to_one_transaction()
     ensures acks { AcksBelong }
 {}
 
-/// Whatever else is called meanwhile: a request that nobody answers is sent again at its moments and given up 32,000 ms after its offer; an INVITE that had a provisional answer is not (RFC 3261 §17.1.1.2, §17.1.2.2).
+/// Whatever else is called meanwhile: a request that nobody answers is sent again at its moments and given up 32,000 ms after its offer; an INVITE that had a provisional
+/// answer is not (RFC 3261 §17.1.1.2, §17.1.2.2).
 pub fn requests_wait_for_answers()
     ensures unanswered { UnansweredAreGivenUp }
     ensures ringing { RingingIsNotGivenUp }
@@ -92,7 +98,8 @@ pub fn finals_wait_for_their_ack()
     ensures kept { KeptAcksAreGiven }
 {}
 
-/// The next deadline is the least one by moment and by the step in which it was armed, which is that of the call that brought it; and where nothing else is called, what is due comes to an end.
+/// The next deadline is the least one by moment and by the step in which it was armed, which is that of the call that brought it; and where nothing else is called, what is
+/// due comes to an end.
 pub fn deadlines_come_to_an_end()
     ensures least { UpcomingIsLeast }
     ensures none { NoneIsDue }
@@ -102,13 +109,15 @@ pub fn deadlines_come_to_an_end()
     ensures more { MoreChangesNothing }
 {}
 
-/// What the transactions read of a message rests on its method or status and on its lines of five names; of Via it is the branch and the sent-by of the first, of From and To the tag (RFC 3261 §7.1, §7.2, §8.1.1).
+/// What the transactions read of a message rests on its method or status and on its lines of five names; of Via it is the branch and the sent-by of the first, of From and
+/// To the tag (RFC 3261 §7.1, §7.2, §8.1.1).
 pub fn heads_rest_on_five_names()
     ensures fields { HeadsRestOnFields }
     ensures lines { HeadsRestOnFiveNames }
 {}
 
-/// Where requests and answers are offered between deadlines that fire, as those above do of what a deadline says, deadlines come to an end too: each that fires leaves fewer that are not later than it, and what is offered at its moment adds none.
+/// Where requests and answers are offered between deadlines that fire, as those above do of what a deadline says, deadlines come to an end too: each that fires leaves
+/// fewer that are not later than it, and what is offered at its moment adds none.
 pub fn deadlines_come_to_an_end_between_offers()
     ensures fewer { FiringsLeaveFewer }
     ensures added { OffersAddNone }

@@ -3,7 +3,9 @@ ghost use Rattle.std.specs.Prelude.{◌≡◌, [], ◌++◌, ◌∷◌, OnOk, On
 ghost use Rattle.std.specs.List.{find, list_any};
 ghost use Rattle.mmtel_transaction.specs.Deadlines.{deadline};
 ghost use Rattle.mmtel_transaction.specs.Changes.{acked_2xx};
-ghost use Rattle.mmtel_transaction.specs.Answers.{by_key, due_one, gives_again, gives_same, is_client_of, is_full, is_invite_of, is_merged, is_of, is_other, is_server_of, key_of, next_due, part_ack, part_of, part_request, part_response, peer_of, says_due, sooner, text_again, then_gives, upcoming_of};
+ghost use Rattle.mmtel_transaction.specs.Answers.{by_key, due_one, gives_again, gives_same, is_client_of, is_full, is_invite_of, is_merged, is_of, is_other, is_server_of};
+ghost use Rattle.mmtel_transaction.specs.Answers.{key_of, next_due, part_ack, part_of, part_request, part_response, peer_of, says_due, sooner, text_again, then_gives};
+ghost use Rattle.mmtel_transaction.specs.Answers.{upcoming_of};
 ghost use Rattle.mmtel_transaction.specs.Table.{found_of, made, now_of, settle};
 
 use crate::entries::{

@@ -8,7 +8,12 @@ use Rattle.mmtel_transaction_rows.specs.CallMessages.{request}
 
 -- an INVITE to this URI with this From
 abbrev pub invite_from : List ℕ → List ℕ → Message Start
-invite_from uri from = record { start = Request (codes "INVITE") uri; lines = (codes "Via", codes "SIP/2.0/UDP h;branch=i") ∷ (codes "From", from) ∷ (codes "To", codes "<a:b>") ∷ (codes "Call-ID", codes "c") ∷ (codes "CSeq", codes "1 INVITE") ∷ []; body = [] }
+invite_from uri from = record {
+  start = Request (codes "INVITE") uri;
+  lines = (codes "Via", codes "SIP/2.0/UDP h;branch=i") ∷ (codes "From", from)
+      ∷ (codes "To", codes "<a:b>") ∷ (codes "Call-ID", codes "c") ∷ (codes "CSeq", codes "1 INVITE") ∷ [];
+  body = [];
+}
 
 pub record HeadsOfInvites : Type 0 where
   pub plain : head_of (invite_from (codes "a:b") (codes "<a:b>;tag=f")) ≡ request (codes "INVITE") (codes "i") []

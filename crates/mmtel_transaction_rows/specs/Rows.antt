@@ -15,7 +15,12 @@ use Rattle.mmtel_transaction.specs.declared.words.Heard.TheVariants as heard
 
 -- a message of this start line, branch and CSeq method
 abbrev pub worded : Start → List ℕ → List ℕ → Message Start
-worded start branch method = record { start = start; lines = (codes "Via", codes "SIP/2.0/UDP a;branch=" ++ branch) ∷ (codes "From", codes "<sip:a@h>;tag=a") ∷ (codes "To", codes "<sip:b@h>;tag=b") ∷ (codes "Call-ID", codes "c") ∷ (codes "CSeq", codes "1 " ++ method) ∷ []; body = [] }
+worded start branch method = record {
+  start = start;
+  lines = (codes "Via", codes "SIP/2.0/UDP a;branch=" ++ branch) ∷ (codes "From", codes "<sip:a@h>;tag=a")
+      ∷ (codes "To", codes "<sip:b@h>;tag=b") ∷ (codes "Call-ID", codes "c") ∷ (codes "CSeq", codes "1 " ++ method) ∷ [];
+  body = [];
+}
 
 abbrev pub request : List ℕ → List ℕ → Message Start
 request method branch = worded (Request method (codes "sip:b@h")) branch method
@@ -34,11 +39,14 @@ abbrev pub second_invite : Message Start
 second_invite = request (codes "INVITE") (codes "b")
 
 abbrev pub Silence : Type 0
-Silence = said_in_turn 8 40000 (DidAsk (peer 1) first_invite 0 ∷ []) ≡ sent_again (peer 1) first_invite 0 500 ∷ sent_again (peer 1) first_invite 0 1500 ∷ sent_again (peer 1) first_invite 0 3500 ∷ sent_again (peer 1) first_invite 0 7500 ∷ sent_again (peer 1) first_invite 0 15500 ∷ sent_again (peer 1) first_invite 0 31500 ∷ due.Silent (tkey 0) (codes "a") (codes "INVITE") 32000 ∷ due.Nothing ∷ []
+Silence = said_in_turn 8 40000 (DidAsk (peer 1) first_invite 0 ∷ []) ≡ sent_again (peer 1) first_invite 0 500 ∷ sent_again (peer 1) first_invite 0 1500
+    ∷ sent_again (peer 1) first_invite 0 3500 ∷ sent_again (peer 1) first_invite 0 7500 ∷ sent_again (peer 1) first_invite 0 15500
+    ∷ sent_again (peer 1) first_invite 0 31500 ∷ due.Silent (tkey 0) (codes "a") (codes "INVITE") 32000 ∷ due.Nothing ∷ []
 
 -- and another one that is sent to peer 2 then
 abbrev pub SecondSilence : Type 0
-SecondSilence = said_in_turn 5 40000 (DidAsk (peer 2) second_invite 32000 ∷ []) ≡ sent_again (peer 2) second_invite 32000 500 ∷ sent_again (peer 2) second_invite 32000 1500 ∷ sent_again (peer 2) second_invite 32000 3500 ∷ sent_again (peer 2) second_invite 32000 7500 ∷ due.Nothing ∷ []
+SecondSilence = said_in_turn 5 40000 (DidAsk (peer 2) second_invite 32000 ∷ []) ≡ sent_again (peer 2) second_invite 32000 500 ∷ sent_again (peer 2) second_invite 32000 1500
+    ∷ sent_again (peer 2) second_invite 32000 3500 ∷ sent_again (peer 2) second_invite 32000 7500 ∷ due.Nothing ∷ []
 
 -- a repeated INVITE and its final: the INVITE of peer 1, which is passed on to peer 2
 abbrev pub invite_heard : List Done
@@ -50,7 +58,8 @@ ringing = DidReply 0 (response 180 (codes "a")) 100 ∷ DidHear (peer 2) (respon
 
 -- the INVITE is heard again at 200, peer 2 refuses at 300
 abbrev pub refused : List Done
-refused = DidReply 0 (response 486 (codes "a")) 300 ∷ DidAck 1 (request (codes "ACK") (codes "b")) ∷ DidHear (peer 2) (response 486 (codes "b")) 300 (part.Answer 1) ∷ DidHear (peer 1) first_invite 200 (part.Repeat 0) ∷ ringing
+refused = DidReply 0 (response 486 (codes "a")) 300 ∷ DidAck 1 (request (codes "ACK") (codes "b")) ∷ DidHear (peer 2) (response 486 (codes "b")) 300 (part.Answer 1)
+    ∷ DidHear (peer 1) first_invite 200 (part.Repeat 0) ∷ ringing
 
 -- the INVITE is heard again at 350, its ACK at 400
 abbrev pub acknowledged : List Done

@@ -57,4 +57,5 @@ pub record FinalAwaitsAck : Type 0 where
 pub record AcksHeardAndKept : Type 0 where
   pub success : (c : Messages) → said (accepted c) ≡ due.Again (peer 1) 800 (message_text c.success)
   pub acked : (c : Messages) → said (DidHear (peer 1) c.ack_2xx 1000 part.AckOf2xx ∷ accepted c) ≡ due.Over (tkey 0) 32300
-  pub kept : (c : Messages) → hear_says (DidAck 0 c.ack ∷ DidHear (peer 2) c.busy 300 (part.Answer 0) ∷ asked_invite c) (peer 2) c.busy ≡ Some (heard.Repeat (Some (peer 2, message_text c.ack)))
+  pub kept : (c : Messages) → hear_says (DidAck 0 c.ack ∷ DidHear (peer 2) c.busy 300 (part.Answer 0) ∷ asked_invite c) (peer 2) c.busy
+      ≡ Some (heard.Repeat (Some (peer 2, message_text c.ack)))

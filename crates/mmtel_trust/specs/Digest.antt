@@ -1,4 +1,6 @@
--- What is read of a message that was heard: a field for each part that rules read and that is never private; and behind these what masking changes by the role of the message: the entries of its History-Info, where it redirects to, and its lines, which hold all that may be private. Whatever reads the other fields sees no difference between a message and the masked one. Each line of a listed name has one value, as the reader leaves them (RFC 3261 §7.3.1).
+-- What is read of a message that was heard: a field for each part that rules read and that is never private; and behind these what masking changes by the role of the
+-- message: the entries of its History-Info, where it redirects to, and its lines, which hold all that may be private. Whatever reads the other fields sees no difference
+-- between a message and the masked one. Each line of a listed name has one value, as the reader leaves them (RFC 3261 §7.3.1).
 --
 -- What is decided of a private place is asked here too: the account of the caller, and whether the caller has an identity.
 use Rattle.std.specs.Prelude.{ℕ, Bool, true, false, ◌&&◌, ◌||◌, Option, Some, None, is_some, List, codes, if◌then◌else◌}

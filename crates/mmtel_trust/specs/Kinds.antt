@@ -14,11 +14,13 @@ trusted_names = codes "P-Access-Network-Info" ∷ codes "P-Asserted-Service" ∷
 
 -- lines that concern what is accepted, and the body (RFC 3261 §20, RFC 3841)
 abbrev pub content_names : List (List ℕ)
-content_names = codes "Accept" ∷ codes "Accept-Contact" ∷ codes "Accept-Encoding" ∷ codes "Accept-Language" ∷ codes "Alert-Info" ∷ codes "Content-Disposition" ∷ codes "Content-Encoding" ∷ codes "Content-Language" ∷ []
+content_names = codes "Accept" ∷ codes "Accept-Contact" ∷ codes "Accept-Encoding" ∷ codes "Accept-Language" ∷ codes "Alert-Info" ∷ codes "Content-Disposition"
+    ∷ codes "Content-Encoding" ∷ codes "Content-Language" ∷ []
 
 -- further lines that everybody may see (RFC 3261 §20, RFC 3326, RFC 3841)
 abbrev pub further_names : List (List ℕ)
-further_names = codes "Content-Type" ∷ codes "MIME-Version" ∷ codes "Priority" ∷ codes "Reason" ∷ codes "Reject-Contact" ∷ codes "Request-Disposition" ∷ codes "Retry-After" ∷ codes "Unsupported" ∷ []
+further_names = codes "Content-Type" ∷ codes "MIME-Version" ∷ codes "Priority" ∷ codes "Reason" ∷ codes "Reject-Contact" ∷ codes "Request-Disposition" ∷ codes "Retry-After"
+    ∷ codes "Unsupported" ∷ []
 
 -- a row of the table: a kind, and the names of it
 pub record Row : Type 0 where
@@ -60,7 +62,8 @@ kind_of n = kind_in (single_rows ++ group_rows) n
 
 -- the names of the lines that the server writes of its own (RFC 3261 §20)
 abbrev pub own_names : List (List ℕ)
-own_names = codes "Via" ∷ codes "Route" ∷ codes "Record-Route" ∷ codes "Max-Forwards" ∷ codes "From" ∷ codes "To" ∷ codes "Call-ID" ∷ codes "CSeq" ∷ codes "Contact" ∷ codes "Content-Length" ∷ []
+own_names = codes "Via" ∷ codes "Route" ∷ codes "Record-Route" ∷ codes "Max-Forwards" ∷ codes "From" ∷ codes "To" ∷ codes "Call-ID" ∷ codes "CSeq" ∷ codes "Contact"
+    ∷ codes "Content-Length" ∷ []
 
 abbrev pub is_own : List ℕ → Bool
 is_own n = is_among own_names n

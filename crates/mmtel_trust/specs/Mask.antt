@@ -1,4 +1,5 @@
--- What of a message is private, and the message without it (RFC 3323 §4.1, RFC 3325 §7, RFC 7044 §10.1). In a private place nobody's URI stands for whoever would be named there; what is masked is compared, and never offered to anybody.
+-- What of a message is private, and the message without it (RFC 3323 §4.1, RFC 3325 §7, RFC 7044 §10.1). In a private place nobody's URI stands for whoever would be named
+-- there; what is masked is compared, and never offered to anybody.
 use Rattle.std.specs.Prelude.{ℕ, nat_le, Bool, true, false, not, ◌&&◌, ◌||◌, Option, Some, None, List, [], ◌∷◌, codes, if◌then◌else◌}
 use Rattle.std.specs.List.{flat_map}
 use Rattle.std.specs.Option.{option_map}

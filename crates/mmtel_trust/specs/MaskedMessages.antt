@@ -1,4 +1,5 @@
--- A message that was heard without its private places, and beside it what is asked of its caller where that is private: by this two runs are compared (RFC 3323 §4.1, RFC 3325 §7, RFC 7044 §10.1, TS 24.607 §4.5.2).
+-- A message that was heard without its private places, and beside it what is asked of its caller where that is private: by this two runs are compared (RFC 3323 §4.1, RFC
+-- 3325 §7, RFC 7044 §10.1, TS 24.607 §4.5.2).
 use Rattle.std.specs.Prelude.{◌≡◌, ℕ, Bool, true, false, ◌&&◌, Option, Some, None, is_none, List, [], codes, if◌then◌else◌}
 use Rattle.mmtel_history.specs.HistoryInfo.{masked_list}
 use Rattle.mmtel_message.specs.Faults.{is_method, is_request}
@@ -88,6 +89,8 @@ pub record DecideAlike (restricts : Restriction) (accounts others : List Account
   pub history : masked_list m.wants.history m.history ≡ masked_list n.wants.history n.history
   -- what is shown to an untrusted peer of a restricted caller, and to anybody of another one, beside the call's own History-Info
   pub shown : (f : Facing) (history : List Line) → f.restricted ≡ true → passed f false history m.lines ≡ passed f false history n.lines
-  pub shown_to_all : (f : Facing) (to_trusted : Bool) (history : List Line) → is_private restricts accounts m ≡ false → passed f to_trusted history m.lines ≡ passed f to_trusted history n.lines
+  pub shown_to_all : (f : Facing) (to_trusted : Bool) (history : List Line) → is_private restricts accounts m ≡ false →
+      passed f to_trusted history m.lines ≡ passed f to_trusted history n.lines
   -- From of an attempt, where it names nobody for a restricted caller
-  pub from : (restricted : Bool) (tag : List ℕ) → (is_private restricts accounts m ≡ true → restricted ≡ true) → attempt_from restricted tag m.lines ≡ attempt_from restricted tag n.lines
+  pub from : (restricted : Bool) (tag : List ℕ) → (is_private restricts accounts m ≡ true → restricted ≡ true) →
+      attempt_from restricted tag m.lines ≡ attempt_from restricted tag n.lines

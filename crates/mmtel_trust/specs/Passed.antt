@@ -1,4 +1,5 @@
--- The lines of a message that are passed on where it is relayed: the header table of the server (RFC 3325 §5 and §7, RFC 3323 §5.1, RFC 7044 §7), and the From of a message that the server makes of it (RFC 3323 §4.1.1.3).
+-- The lines of a message that are passed on where it is relayed: the header table of the server (RFC 3325 §5 and §7, RFC 3323 §5.1, RFC 7044 §7), and the From of a message
+-- that the server makes of it (RFC 3323 §4.1.1.3).
 use Rattle.std.specs.Prelude.{Option, Some, None, ℕ, Bool, true, false, not, List, [], ◌∷◌, ◌++◌, codes, if◌then◌else◌, ◌||◌, ◌&&◌, ◌==◌, filter, map}
 use Rattle.std.specs.Str.{bytes_eq}
 use Rattle.mmtel_lex.specs.Grammar.{name_addr_text}

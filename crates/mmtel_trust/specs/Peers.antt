@@ -1,6 +1,7 @@
 -- The peers that the server speaks with, and to which of them a URI leads.
 --
--- A configuration of peers and routes stands in the place of DNS (RFC 3263): a sip URI is routed by its host (RFC 3261 §19.1.1), without case (§19.1.4), and a tel URI by the longest prefix of its number, its visual separators taken out (RFC 3966 §3, §5.1.1).
+-- A configuration of peers and routes stands in the place of DNS (RFC 3263): a sip URI is routed by its host (RFC 3261 §19.1.1), without case (§19.1.4), and a tel URI by
+-- the longest prefix of its number, its visual separators taken out (RFC 3966 §3, §5.1.1).
 use Rattle.std.specs.Prelude.{◌≡◌, ℕ, nat_lt, Bool, true, false, not, ◌==◌, ◌&&◌, ◌||◌, Option, Some, None, List, [], ◌∷◌, ◌++◌, length, codes, find, filter, if◌then◌else◌}
 use Rattle.std.specs.Option.{option_map}
 use Rattle.std.specs.List.{list_all, list_any}

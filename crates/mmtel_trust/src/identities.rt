@@ -79,7 +79,8 @@ fn first_uri(alloc: Global, scheme: Scheme, values: &[Text]) -> Result<Option<Ur
     Ok(None)
 }
 
-/// The identities that a message asserts of its sender: from a trusted peer the first sip and the first tel URI among the P-Asserted-Identity values; else none, since nobody else is believed (RFC 3325 §5).
+/// The identities that a message asserts of its sender: from a trusted peer the first sip and the first tel URI among the P-Asserted-Identity values; else none, since
+/// nobody else is believed (RFC 3325 §5).
 ///
 /// # Errors
 ///

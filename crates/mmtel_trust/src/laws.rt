@@ -27,22 +27,29 @@ pub fn prefix_is_a_front()
 pub fn longest_prefix_leads()
     ensures leads { (number : List ℕ) (rs : List Route) (r : Route) → longest (filter (leads number) rs) ≡ Some r → leads number r ≡ true }
     ensures there { (number : List ℕ) (rs : List Route) (r : Route) → longest (filter (leads number) rs) ≡ Some r → IsIn r rs }
-    ensures longest { (number : List ℕ) (rs : List Route) (r s : Route) → longest (filter (leads number) rs) ≡ Some r → IsIn s rs → leads number s ≡ true → length s.name ≤ length r.name }
+    ensures longest { (number : List ℕ) (rs : List Route) (r s : Route) → longest (filter (leads number) rs) ≡ Some r → IsIn s rs → leads number s ≡ true →
+        length s.name ≤ length r.name }
     ensures none { (number : List ℕ) (rs : List Route) (s : Route) → longest (filter (leads number) rs) ≡ None → IsIn s rs → leads number s ≡ false }
 {}
 
-/// What an untrusted peer is shown of a message whose sender is restricted does not depend on what is private of it, whatever its private places are. Where only entries of History-Info are private, what anybody is shown by the header table does not depend on them, restricted or not.
+/// What an untrusted peer is shown of a message whose sender is restricted does not depend on what is private of it, whatever its private places are. Where only entries of
+/// History-Info are private, what anybody is shown by the header table does not depend on them, restricted or not.
 pub fn masked_shows_the_same()
     ensures lines { (p : Places) (f : Facing) (history ls : List Line) → f.restricted ≡ true → passed f false history (masked_lines p ls) ≡ passed f false history ls }
     ensures from { (p : Places) (tag : List ℕ) (ls : List Line) → attempt_from true tag (masked_lines p ls) ≡ attempt_from true tag ls }
-    ensures entries { (es : Entries) (f : Facing) (to_trusted : Bool) (history ls : List Line) → passed f to_trusted history (masked_lines (only es) ls) ≡ passed f to_trusted history ls }
-    ensures entries_from { (es : Entries) (restricted : Bool) (tag : List ℕ) (ls : List Line) → attempt_from restricted tag (masked_lines (only es) ls) ≡ attempt_from restricted tag ls }
+    ensures entries { (es : Entries) (f : Facing) (to_trusted : Bool) (history ls : List Line) →
+        passed f to_trusted history (masked_lines (only es) ls) ≡ passed f to_trusted history ls }
+    ensures entries_from { (es : Entries) (restricted : Bool) (tag : List ℕ) (ls : List Line) →
+        attempt_from restricted tag (masked_lines (only es) ls) ≡ attempt_from restricted tag ls }
 {}
 
-/// Lines of restricted messages that are equal without their private places, whichever these are, show the same to an untrusted peer, and lines that are equal without their private entries of History-Info show the same to anybody.
+/// Lines of restricted messages that are equal without their private places, whichever these are, show the same to an untrusted peer, and lines that are equal without
+/// their private entries of History-Info show the same to anybody.
 pub fn equal_masks_show_alike()
-    ensures lines { (p q : Places) (f : Facing) (history ls ms : List Line) → f.restricted ≡ true → masked_lines p ls ≡ masked_lines q ms → passed f false history ls ≡ passed f false history ms }
-    ensures entries { (es other : Entries) (f : Facing) (to_trusted : Bool) (history ls ms : List Line) → masked_lines (only es) ls ≡ masked_lines (only other) ms → passed f to_trusted history ls ≡ passed f to_trusted history ms }
+    ensures lines { (p q : Places) (f : Facing) (history ls ms : List Line) → f.restricted ≡ true → masked_lines p ls ≡ masked_lines q ms →
+        passed f false history ls ≡ passed f false history ms }
+    ensures entries { (es other : Entries) (f : Facing) (to_trusted : Bool) (history ls ms : List Line) → masked_lines (only es) ls ≡ masked_lines (only other) ms →
+        passed f to_trusted history ls ≡ passed f to_trusted history ms }
 {}
 
 /// A masked message has no private places, as it was received and as it was heard.
@@ -72,7 +79,8 @@ pub fn masks_see_no_names()
     ensures there { (p : Places) (name : List ℕ) (ls : List Line) → is_left p (kind_of name) ≡ true → has_line name (masked_lines p ls) ≡ has_line name ls }
 {}
 
-/// Whatever is private, the lines that tell a message's way, its transaction and its extensions stay; those of From and To stay in number and order, and each keeps its parameters, its tag among them (RFC 3261 §8.1.1, §16.6, §19.3).
+/// Whatever is private, the lines that tell a message's way, its transaction and its extensions stay; those of From and To stay in number and order, and each keeps its
+/// parameters, its tag among them (RFC 3261 §8.1.1, §16.6, §19.3).
 pub fn masks_leave_the_way()
     ensures via { (p : Places) (ls : List Line) → named (codes "Via") (masked_lines p ls) ≡ named (codes "Via") ls }
     ensures call_id { (p : Places) (ls : List Line) → named (codes "Call-ID") (masked_lines p ls) ≡ named (codes "Call-ID") ls }
@@ -88,14 +96,17 @@ pub fn masks_leave_the_way()
     ensures tag { (b : Bool) (v : Option (List ℕ)) → tag_of (option_map (hide_if b) v) ≡ tag_of v }
 {}
 
-/// What is heard of a masked message is what was heard of the message, hidden: each field that is never private stays, whatever the private places are, and so messages that are equal when masked are equal in these.
+/// What is heard of a masked message is what was heard of the message, hidden: each field that is never private stays, whatever the private places are, and so messages
+/// that are equal when masked are equal in these.
 pub fn masks_leave_the_rest()
     ensures heard { (p : Places) (trusted : Bool) (m : Message Start) → heard trusted (masked p m) ≡ hide p (heard trusted m) }
     ensures public { (p : Places) (trusted : Bool) (m : Message Start) → public_part (heard trusted (masked p m)) ≡ public_part (heard trusted m) }
     ensures alike { (p q : Places) (trusted : Bool) (m n : Message Start) → masked p m ≡ masked q n → public_part (heard trusted m) ≡ public_part (heard trusted n) }
 {}
 
-/// Of two messages of equal masks the same is decided, and they show the same: to an untrusted peer where the caller is restricted, and to anybody where it is not. The accounts may be other ones.
+/// Of two messages of equal masks the same is decided, and they show the same: to an untrusted peer where the caller is restricted, and to anybody where it is not. The
+/// accounts may be other ones.
 pub fn equal_masks_decide_alike()
-    ensures alike { (restricts : Restriction) (accounts others : List AccountIdentity) (m n : HeardMessage) → mask restricts accounts m ≡ mask restricts others n → DecideAlike restricts accounts others m n }
+    ensures alike { (restricts : Restriction) (accounts others : List AccountIdentity) (m n : HeardMessage) → mask restricts accounts m ≡ mask restricts others n →
+        DecideAlike restricts accounts others m n }
 {}

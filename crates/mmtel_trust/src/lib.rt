@@ -1,4 +1,5 @@
-//! Whom the server trusts, and what it shows to whom: the peers and the routes to them, the accounts and their identities, the words of Privacy, and the header table of what is relayed.
+//! Whom the server trusts, and what it shows to whom: the peers and the routes to them, the accounts and their identities, the words of Privacy, and the header table of
+//! what is relayed.
 #![tactic(auto)]
 
 mod accounts;

@@ -3,7 +3,8 @@ ghost use Rattle.std.specs.Prelude.{◌≡◌, ◌∷◌, ◌++◌, Some, OnOk, 
 ghost use Rattle.std.specs.Option.{option_map, option_copied};
 ghost use Rattle.mmtel_lex.specs.Identity.{is_mark, reduced};
 ghost use Rattle.mmtel_trust.specs.Faults.{Meets};
-ghost use Rattle.mmtel_trust.specs.Peers.{Peers, peer_fault, route_fault, has_number, has_addr, peer_at, addr_of, is_trusted, is_route, has_name, with_peer, with_route, begins_with, is_prefix, leads, longest, named_route, route_of};
+ghost use Rattle.mmtel_trust.specs.Peers.{Peers, peer_fault, route_fault, has_number, has_addr, peer_at, addr_of, is_trusted, is_route, has_name, with_peer, with_route};
+ghost use Rattle.mmtel_trust.specs.Peers.{begins_with, is_prefix, leads, longest, named_route, route_of};
 
 use crate::faults::TableFault;
 use crate::parties::{KnownPeer, Route};
@@ -274,7 +275,8 @@ impl PeerTable {
 
     /// The peer that leads to a URI; None where none does.
     ///
-    /// It is that of the route whose name is the host, compared without case; for a tel URI that of the longest `+` and digits with which its number begins once `-`, `.`, `(` and `)` are taken out. Where there is no such route it is that of `*`.
+    /// It is that of the route whose name is the host, compared without case; for a tel URI that of the longest `+` and digits with which its number begins once `-`, `.`,
+    /// `(` and `)` are taken out. Where there is no such route it is that of `*`.
     pub fn route(&self, u: &Uri) -> Option<Peer>
         ensures exact { result ≡ route_of u.now self.now.routes }
         // It leads to a peer of the table.

@@ -4,7 +4,8 @@ ghost use Rattle.std.specs.Option.{option_copied};
 ghost use Rattle.mmtel_message.specs.Message.{first_value, named};
 ghost use Rattle.mmtel_history.specs.HistoryInfo.{masked_list};
 ghost use Rattle.mmtel_history.specs.declared.entries.Entry.{Entry};
-ghost use Rattle.mmtel_trust.specs.Passed.{passes, is_shown, asserted_lines, privacy_lines, other_lines, passed, history_line, history_lines, has_history_row, history_row, shown_lines, nobody, named_text, attempt_from, read_by};
+ghost use Rattle.mmtel_trust.specs.Passed.{passes, is_shown, asserted_lines, privacy_lines, other_lines, passed, history_line, history_lines, has_history_row, history_row};
+ghost use Rattle.mmtel_trust.specs.Passed.{shown_lines, nobody, named_text, attempt_from, read_by};
 
 use crate::kinds::{HeaderKind, kind_of};
 use crate::privacy::restricted_text;
@@ -141,7 +142,8 @@ fn add_history(
     add_entries(alloc, out, masked.entries())
 }
 
-/// The lines of a call's History-Info: towards a trusted peer as the list is; towards any other masked, the hidden entries, or all where the Privacy of the INVITE that opened the call has `history`. These are the lines that a 181 of the server's own passes (RFC 7044 §5 and §10.1).
+/// The lines of a call's History-Info: towards a trusted peer as the list is; towards any other masked, the hidden entries, or all where the Privacy of the INVITE that
+/// opened the call has `history`. These are the lines that a 181 of the server's own passes (RFC 7044 §5 and §10.1).
 ///
 /// # Errors
 ///
@@ -154,7 +156,8 @@ pub fn history_lines(
 ) -> Result<List<Line>, NoMemory>
     ensures lines { IfOk result (λ ls. ls ≡ history_lines mask_all to_trusted h.now) }
     // An untrusted peer sees nothing of the list that masking takes away.
-    ensures masked { (other : List Entry) → to_trusted ≡ false → masked_list mask_all other ≡ masked_list mask_all h.now → IfOk result (λ ls. ls ≡ history_lines mask_all false other) }
+    ensures masked { (other : List Entry) → to_trusted ≡ false → masked_list mask_all other ≡ masked_list mask_all h.now →
+        IfOk result (λ ls. ls ≡ history_lines mask_all false other) }
 {
     let mut out = List::new();
     add_history(alloc, &mut out, h, mask_all, to_trusted)?;
@@ -205,7 +208,8 @@ fn shown_of(
     Ok(out)
 }
 
-/// The lines of a message that are passed on to a peer, which is trusted or not: the asserted identities, Privacy, in an INVITE or a 181 the call's History-Info, and then the others in received order, as the header table says.
+/// The lines of a message that are passed on to a peer, which is trusted or not: the asserted identities, Privacy, in an INVITE or a 181 the call's History-Info, and then
+/// the others in received order, as the header table says.
 ///
 /// # Errors
 ///
@@ -221,7 +225,8 @@ pub fn shown(
     // Of History-Info it has the call's list alone, whatever the message says of it: in an INVITE or a 181 its lines, and in any other message none.
     ensures history { IfOk result (λ ls. named (codes "History-Info") ls ≡ history_row f.now to_trusted h.now m.now.start) }
     // An untrusted peer sees nothing of the list that masking takes away.
-    ensures masked { (other : List Entry) → to_trusted ≡ false → masked_list f.now.mask_all other ≡ masked_list f.now.mask_all h.now → IfOk result (λ ls. ls ≡ shown_lines f.now false other m.now.start m.now.lines) }
+    ensures masked { (other : List Entry) → to_trusted ≡ false → masked_list f.now.mask_all other ≡ masked_list f.now.mask_all h.now →
+        IfOk result (λ ls. ls ≡ shown_lines f.now false other m.now.start m.now.lines) }
     // An empty list adds no line.
     ensures bare { h.now ≡ [] → IfOk result (λ ls. ls ≡ passed f.now to_trusted [] m.now.lines) }
 {
@@ -285,7 +290,8 @@ fn from_name(alloc: Global, restricted: bool, lines: &[Line]) -> Result<Option<N
     read_by(alloc, first_of(lines, b"From"))
 }
 
-/// From of an attempt that is made of a message: `"Anonymous" <sip:anonymous@anonymous.invalid>` where the call is restricted, else the display and the URI as received; and `;tag=` with the tag (RFC 3261 §19.3, RFC 3323 §4.1.1.3).
+/// From of an attempt that is made of a message: `"Anonymous" <sip:anonymous@anonymous.invalid>` where the call is restricted, else the display and the URI as received;
+/// and `;tag=` with the tag (RFC 3261 §19.3, RFC 3323 §4.1.1.3).
 ///
 /// # Errors
 ///

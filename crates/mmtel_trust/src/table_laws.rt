@@ -9,17 +9,24 @@ ghost use Rattle.mmtel_trust.specs.Mask.{Places, masked};
 ghost use Rattle.mmtel_trust.specs.Passed.{passed, history_lines, history_row, shown_lines};
 ghost use Rattle.mmtel_trust.specs.declared.showing.Facing.{Facing};
 
-/// Of the lines that the server writes of its own (Via, Route, Record-Route, Max-Forwards, From, To, Call-ID, CSeq, Contact and Content-Length) the header table passes none, whatever the message has; nor does it pass what the message says in History-Info.
+/// Of the lines that the server writes of its own (Via, Route, Record-Route, Max-Forwards, From, To, Call-ID, CSeq, Contact and Content-Length) the header table passes
+/// none, whatever the message has; nor does it pass what the message says in History-Info.
 pub fn own_lines_are_not_passed()
-    ensures passes_none { (f : Facing) (to_trusted : Bool) (name : List ℕ) (history ls : List Line) → is_own name ≡ true → named name history ≡ [] → named name (passed f to_trusted history ls) ≡ [] }
+    ensures passes_none { (f : Facing) (to_trusted : Bool) (name : List ℕ) (history ls : List Line) → is_own name ≡ true → named name history ≡ [] →
+        named name (passed f to_trusted history ls) ≡ [] }
     ensures entries { (name : List ℕ) (mask_all to_trusted : Bool) (h : List Entry) → is_own name ≡ true → named name (history_lines mask_all to_trusted h) ≡ [] }
-    ensures shown { (f : Facing) (to_trusted : Bool) (name : List ℕ) (h : List Entry) (start : Start) (ls : List Line) → is_own name ≡ true → named name (shown_lines f to_trusted h start ls) ≡ [] }
-    ensures history { (f : Facing) (to_trusted : Bool) (h : List Entry) (start : Start) (ls : List Line) → named (codes "History-Info") (shown_lines f to_trusted h start ls) ≡ history_row f to_trusted h start }
+    ensures shown { (f : Facing) (to_trusted : Bool) (name : List ℕ) (h : List Entry) (start : Start) (ls : List Line) → is_own name ≡ true →
+        named name (shown_lines f to_trusted h start ls) ≡ [] }
+    ensures history { (f : Facing) (to_trusted : Bool) (h : List Entry) (start : Start) (ls : List Line) →
+        named (codes "History-Info") (shown_lines f to_trusted h start ls) ≡ history_row f to_trusted h start }
 {}
 
-/// What an untrusted peer is shown of lists that are masked alike is the same, and so is what it is shown of restricted messages that are equal without their private places, with such lists.
+/// What an untrusted peer is shown of lists that are masked alike is the same, and so is what it is shown of restricted messages that are equal without their private
+/// places, with such lists.
 pub fn masked_histories_show_alike()
     ensures entries { (mask_all : Bool) (h k : List Entry) → masked_list mask_all h ≡ masked_list mask_all k → history_lines mask_all false h ≡ history_lines mask_all false k }
-    ensures shown { (f : Facing) (h k : List Entry) (start : Start) (ls : List Line) → masked_list f.mask_all h ≡ masked_list f.mask_all k → shown_lines f false h start ls ≡ shown_lines f false k start ls }
-    ensures messages { (p : Places) (f : Facing) (h k : List Entry) (m n : Message Start) → f.restricted ≡ true → masked p m ≡ masked p n → masked_list f.mask_all h ≡ masked_list f.mask_all k → shown_lines f false h m.start m.lines ≡ shown_lines f false k n.start n.lines }
+    ensures shown { (f : Facing) (h k : List Entry) (start : Start) (ls : List Line) → masked_list f.mask_all h ≡ masked_list f.mask_all k →
+        shown_lines f false h start ls ≡ shown_lines f false k start ls }
+    ensures messages { (p : Places) (f : Facing) (h k : List Entry) (m n : Message Start) → f.restricted ≡ true → masked p m ≡ masked p n →
+        masked_list f.mask_all h ≡ masked_list f.mask_all k → shown_lines f false h m.start m.lines ≡ shown_lines f false k n.start n.lines }
 {}

@@ -1,4 +1,5 @@
-//! What all crates share and what takes no memory: numbers of peers, accounts, calls and rooms, addresses, the sides of a call, moments, sets of privacy words, the causes of refusals, and the limits of the server.
+//! What all crates share and what takes no memory: numbers of peers, accounts, calls and rooms, addresses, the sides of a call, moments, sets of privacy words, the causes
+//! of refusals, and the limits of the server.
 #![tactic(auto)]
 
 mod addrs;

@@ -17,7 +17,8 @@ pub struct HoldState {
 }
 
 impl HoldState {
-    /// Notes the direction that this side asked for in a new offer: the side holds the call exactly for `SendOnly` and `Inactive`, and the count rises where it did not hold it before.
+    /// Notes the direction that this side asked for in a new offer: the side holds the call exactly for `SendOnly` and `Inactive`, and the count rises where it did not
+    /// hold it before.
     pub fn note(&mut self, side: Side, d: Direction)
         ensures exact { self.new ≡ noted self.old side d }
     {
@@ -53,7 +54,8 @@ fn is_hold(d: Direction) -> bool
     }
 }
 
-/// A law, and no code: after any directions, noted one by one, a side holds the call exactly where the last direction that it asked for is a hold, and the count is how often a direction that is a hold came to a side that did not hold, or the greatest number where it was more often.
+/// A law, and no code: after any directions, noted one by one, a side holds the call exactly where the last direction that it asked for is a hold, and the count is how
+/// often a direction that is a hold came to a side that did not hold, or the greatest number where it was more often.
 pub fn hold_is_told_by_the_last_directions()
     ensures law { IsToldByTheLast }
 {}

@@ -1,4 +1,5 @@
--- What the server does for a request (RFC 9110 §9.3 and §15; 3GPP TS 24.623 §5): a reply, or a record to be kept and a reply, or the charging rows. The first that applies is the answer.
+-- What the server does for a request (RFC 9110 §9.3 and §15; 3GPP TS 24.623 §5): a reply, or a record to be kept and a reply, or the charging rows. The first that applies
+-- is the answer.
 use Rattle.std.specs.Prelude.{ℕ, Bool, List, [], false, Some, None, if◌then◌else◌, codes, unwrap_or}
 use Rattle.std.specs.declared.option.Option.{Option}
 use Rattle.std.specs.Str.{bytes_eq}

@@ -12,7 +12,8 @@ ghost use Rattle.mmtel_web.specs.Uploads.{OnlyRepliesSeeTexts, UploadsSayTheirTe
 ghost use Rattle.mmtel_web.specs.declared.answers.Web.TheVariants as web;
 ghost use Rattle.mmtel_directory.specs.declared.directories.WebDirectory.{WebDirectory};
 
-/// A law, and no code: what is done for a request for the record of an account, and what it is replied, are the same in any two directories and tables of texts that agree on that account.
+/// A law, and no code: what is done for a request for the record of an account, and what it is replied, are the same in any two directories and tables of texts that agree
+/// on that account.
 pub fn requests_see_one_account()
     ensures done { (account : Account) (d e : WebDirectory) (s t : List (Account × List ℕ)) (a : Asking)
         → AsksOf account a → AgreeOnIdentities account d.accounts e.accounts → text_at s account ≡ text_at t account
@@ -30,7 +31,8 @@ pub fn uploads_are_of_one_account()
         → AsksOf account a → web_of d s (asked a) ≡ web.Store b sheet text reply → may_ask d.accounts account (identity_of a.identity) ≡ true }
 {}
 
-/// A law, and no code: what is done for a request rests on the texts in force only in what a reply reads, so what it asks to keep does not; and what is to be put in force is what the text says that is kept.
+/// A law, and no code: what is done for a request rests on the texts in force only in what a reply reads, so what it asks to keep does not; and what is to be put in force
+/// is what the text says that is kept.
 pub fn uploads_are_what_they_say()
     ensures replies { OnlyRepliesSeeTexts }
     ensures any { UploadsSeeNoText }

@@ -1,7 +1,7 @@
 -- What a link is given of what a server offers: each datagram at the address of its peer, and each reply on a web connection, in the order of the offers.
 use Rattle.std.specs.Prelude.{◌≡◌, ◌⊎◌, ℕ, ◌+◌, List, [], ◌∷◌, ◌++◌, if◌then◌else◌, map, filter, length, Option, Some, None, Result, Ok, Err}
 use Rattle.std.specs.Option.{option_map}
-use Rattle.mmtel_link.specs.Told.{Given}
+use Rattle.mmtel_link.specs.Told.{Given, LinkCalls}
 use Rattle.mmtel_link.specs.declared.events.Replied.{Replied}
 use Rattle.mmtel_link.specs.declared.events.Sent.{Sent}
 use Rattle.mmtel_outside.specs.Counts.{Rose}
@@ -79,3 +79,9 @@ LostNoMore before after = option_map lost_in after ≡ option_map lost_in before
 -- nothing more, and the count of giving out stands; or that count rose
 abbrev pub LostOnlyWhereRose : Option Given → Option Given → (giving gave : ℕ) → Type 0
 LostOnlyWhereRose before after giving gave = (LostNoMore before after × (gave ≡ giving)) ⊎ Rose giving gave
+
+-- ---- where the link is bound
+
+-- where it tells its calls, the addresses that were bound last are as before
+abbrev pub IsBoundStill : Option LinkCalls → Option LinkCalls → Type 0
+IsBoundStill calls after = option_map (λ (c : LinkCalls). c.bound) after ≡ option_map (λ (c : LinkCalls). c.bound) calls

@@ -2,7 +2,6 @@
 use Rattle.std.proofs.Common.{◌≡◌, ℕ, Bool, true, false, List, [], ◌∷◌, ◌++◌, sym, ap, ◌∙◌, subst}
 use Rattle.std.proofs.lemmas.Bool.{false≢true}
 use Rattle.mmtel_directory.specs.declared.directories.Directory.{Directory}
-use Rattle.mmtel_outside.specs.declared.events.Offer.{Offer}
 use Rattle.mmtel_run.specs.Events.{Happened, digest, moment_of, notice_of, notices}
 use Rattle.mmtel_run.specs.Filed.{NoneWaits, RowsAreFiled}
 use Rattle.mmtel_run.specs.Run.{after, clock_at, one_more, settled}
@@ -40,8 +39,8 @@ module _ (d : Directory) (token : List ℕ) where
     none_after fuel (one ∷ earlier) happened w took = none_after fuel earlier happened (one_more d token fuel (notice_of d one) w) took
 
 -- all rows of a run are filed or wait
-pub charged : RowsAreFiled → NoneWaits → (happened : List Happened) (old : Server) (out : List Offer) → Charged happened old out
-charged all none happened old out d token loaded earlier before fuel went short enough = record {
+pub charged : RowsAreFiled → NoneWaits → (happened : List Happened) (old : Server) → Charged happened old
+charged all none happened old d token loaded earlier fuel serves short enough = record {
   all = all d token loaded fuel (earlier ++ happened);
   none = λ took. none_after d token none fuel earlier happened (beginning loaded) took;
 }

@@ -76,3 +76,7 @@ module _ (d : Directory) (token : List ℕ) where
           → Went d token loaded es before s out → IsEnough d token loaded fuel (es ++ more) → IsPrefixOf out (before ++ gives d token loaded fuel (es ++ more))
       offers_front before es more fuel s out went e =
           front_of before out (done went.fuel es) (done fuel (es ++ more)) (front_grows went.fuel fuel es more went.enough e) went.did.offered
+
+      -- and so it is of the offers of the run themselves
+      pub gives_front : (es more : List Happened) (fuel : ℕ) → IsEnough d token loaded fuel (es ++ more) → IsPrefixOf (gives d token loaded fuel es) (gives d token loaded fuel (es ++ more))
+      gives_front es more fuel e = (front_grows fuel fuel es more (enough_of_front fuel es more e) e).front

@@ -2,7 +2,7 @@
 use Rattle.std.proofs.Common.{◌≡◌, ◌+◌, ◌≤◌, ℕ, zero, suc, Bool, false, List, [], ◌∷◌, ◌++◌, drop, length, slice_get, take, refl, sym, ap, ◌∙◌, subst, append-nil, append_assoc, length-append, Option, Some, None, Result, Ok, Err, arith, inl, inr}
 use Rattle.std.specs.Prelude.{◌⊎◌}
 use Rattle.std.specs.Result.{IsErrAnd}
-use Rattle.mmtel_link.specs.Told.{Ear, IsCall, LinkCalls, NextTold, coming, cut, heard, heard_of, web_bytes}
+use Rattle.mmtel_link.specs.Told.{Ear, IsCall, LinkCalls, NextTold, called, coming, cut, heard, heard_of, web_bytes}
 use Rattle.mmtel_link.specs.declared.links.Arrival.TheVariants as arrival
 use Rattle.mmtel_outside.specs.Counts.{Rose}
 use Rattle.mmtel_outside.specs.declared.events.Event.{Event}
@@ -10,8 +10,8 @@ use Rattle.mmtel_outside.specs.declared.events.Event.TheVariants as event
 use Rattle.mmtel_scan.specs.declared.memory.NoMemory.{NoMemory}
 use Rattle.mmtel_types.specs.declared.addrs.Addr.{Addr}
 use Rattle.mmtel_types.specs.declared.numbers.Failed.{Failed}
-use Rattle.mmtel_server.specs.Driven.{CalledTimes, CalledWithin, EachRead, HeardMore, IsRead, IsReadOut, ReadButLast, ReadEach, StandsOrRose, called_times, to_come}
-use Rattle.mmtel_server.specs.Turns.{AddsOne, HasRead, IsReading, Takes, read_to}
+use Rattle.mmtel_server.specs.Driven.{AddsOne, CalledTimes, CalledWithin, EachRead, HasFailedByNumber, HeardMore, IsRead, IsReadOut, LastFailed, ReadButLast, ReadEach, StandsOrRose, Takes, called_times, to_come}
+use Rattle.mmtel_server.specs.Turns.{HasRead, IsReading, read_to}
 use Rattle.mmtel_server.specs.declared.driving.DriveFault.{DriveFault}
 use Rattle.mmtel_server.specs.declared.driving.DriveFault.TheVariants as fault
 
@@ -143,7 +143,7 @@ drop_both [] (suc n) m = drop_none m ∙ sym (drop_none (suc n + m))
 drop_both (e ∷ es) (suc n) m = let same : suc (n + m) ≡ suc n + m = omega arith in drop_both es n m ∙ ap (λ (k : ℕ). drop k (e ∷ es)) same
 
 -- what is still to come after so many events more
-to_come_then : (ear mid : Ear) (reads : List ℕ) → mid.events ≡ ear.events → mid.reads ≡ ear.reads ++ reads → to_come mid ≡ drop (length reads) (to_come ear)
+pub to_come_then : (ear mid : Ear) (reads : List ℕ) → mid.events ≡ ear.events → mid.reads ≡ ear.reads ++ reads → to_come mid ≡ drop (length reads) (to_come ear)
 to_come_then ear mid reads same more =
     let long : length mid.reads ≡ length ear.reads + length reads = ap (λ (l : List ℕ). length l) more ∙ length-append ear.reads reads in
     ap (λ (es : List Event). drop (length mid.reads) es) same
@@ -231,3 +231,14 @@ one_within calls later result made = (1, omega arith, one_call calls later resul
 
 pub none_within : (calls : Option LinkCalls) (n : ℕ) → CalledWithin calls calls n
 none_within calls n = (0, omega arith, no_call calls)
+
+-- the last call failed by its number
+pub last_failed : (T : Type 0) (calls later : Option LinkCalls) (e : Failed) → let failed : Result T Failed = Err e in IsCall calls later failed → LastFailed later
+last_failed T None later e made = subst LastFailed (sym made) tt
+last_failed T (Some calls) later e made = subst LastFailed (sym made.0) (calls, refl, made.1)
+
+-- want of memory says nothing of it
+pub none_failed : {T : Type 0} (calls : Option LinkCalls) (r : Result T DriveFault) → IsErrAnd r (λ e. e ≡ fault.NoMemory) → HasFailedByNumber calls r
+none_failed calls (Ok x) is = tt
+none_failed calls (Err fault.LinkFault) is = absurd cc
+none_failed calls (Err fault.NoMemory) is = tt

@@ -10,7 +10,6 @@ use Rattle.mmtel_in_force.specs.Texts.{Texts, put_each}
 use Rattle.mmtel_keeper.specs.Kept.{Held, KeeperCalls, with_rows, with_sheet}
 use Rattle.mmtel_outside.specs.declared.events.Event.{Event}
 use Rattle.mmtel_outside.specs.declared.events.Event.TheVariants as event
-use Rattle.mmtel_outside.specs.declared.events.Offer.{Offer}
 use Rattle.mmtel_run.specs.Events.{Happened, events_in, notices}
 use Rattle.mmtel_run.specs.InForce.{upload_at, uploads_of}
 use Rattle.mmtel_run.specs.Run.{after}
@@ -24,7 +23,7 @@ use Rattle.mmtel_web.specs.declared.answers.Web.{Web}
 use Rattle.mmtel_web.specs.declared.answers.Web.TheVariants as web
 use Rattle.mmtel_server.specs.Driven.{EachAnswers, EachAnswersButLast, EachCounted, EachCountedButLast, HoldsUploads, LastAnswers, LastCounted, with_all}
 use Rattle.mmtel_server_decisions.specs.Handed.{Handed, HandedCounted, taken_of}
-use Rattle.mmtel_server.specs.Stands.{Went}
+use Rattle.mmtel_server.specs.Stands.{Serves}
 use Rattle.mmtel_server.specs.Stepped.{call_of, happened_in}
 use Rattle.mmtel_server.specs.declared.servers.Server.{Server}
 use Rattle.mmtel_server.proofs.Charging.{untaken}
@@ -192,23 +191,23 @@ uploads_both names (x ∷ xs) ys =
 
 -- ---- in a run
 
-pub holds_nothing : (s : Server) (out : List Offer) (held : Option Held) → HoldsUploads [] s out held held
-holds_nothing s out held d token loaded es before fuel enough went short =
+pub holds_nothing : (s : Server) (held : Option Held) → HoldsUploads [] s held held
+holds_nothing s held d token loaded es fuel enough serves short =
     ([], ap (λ (l : List Happened). (after d token fuel (notices d l) (beginning loaded)).filed) (append-nil es) ∙ sym (append-nil (after d token fuel (notices d es) (beginning loaded)).filed), unchanged held)
 
-pub holds_untaken : (one : Happened) (s : Server) (out : List Offer) (held left : Option Held) (calls midst : Option KeeperCalls) → one.took ≡ false
-    → ((d : Directory) (token : List ℕ) (loaded : Texts) (es : List Happened) (before : List Offer) → Went d token loaded es before s out → IsShortRun d token loaded (es ++ one ∷ [])
+pub holds_untaken : (one : Happened) (s : Server) (held left : Option Held) (calls midst : Option KeeperCalls) → one.took ≡ false
+    → ((d : Directory) (token : List ℕ) (loaded : Texts) (es : List Happened) → Serves d token loaded es s → IsShortRun d token loaded (es ++ one ∷ [])
     → Answers (call_of d.names one.event) one.kept one.rows held left calls midst)
-    → HoldsUploads (one ∷ []) s out held left
-holds_untaken one s out held left calls midst took answers d token loaded es before fuel enough went short =
+    → HoldsUploads (one ∷ []) s held left
+holds_untaken one s held left calls midst took answers d token loaded es fuel enough serves short =
     let w : World = after d token fuel (notices d es) (beginning loaded) in (
       [],
       ap (λ (u : World). u.filed) (after_last d token fuel es one (beginning loaded)) ∙ (untaken d token fuel one w took ∙ sym (append-nil w.filed)),
-      holds_no_more d.names one held left calls midst (answers d token loaded es before went short),
+      holds_no_more d.names one held left calls midst (answers d token loaded es serves short),
     )
 
-pub holds_lost : (es : List Event) (s : Server) (out : List Offer) (held : Option Held) (calls : Option KeeperCalls) → length es ≤ 1 → HoldsUploads (lost_events es) s out held held
-holds_lost [] s out held calls one = holds_nothing s out held
-holds_lost (e ∷ []) s out held calls one =
-    holds_untaken (lost_event e) s out held held calls calls refl (λ d token loaded es before went short. lost_answers (call_of d.names e) held calls)
-holds_lost (e ∷ f ∷ es) s out held calls one = absurd (omega (arith, one))
+pub holds_lost : (es : List Event) (s : Server) (held : Option Held) (calls : Option KeeperCalls) → length es ≤ 1 → HoldsUploads (lost_events es) s held held
+holds_lost [] s held calls one = holds_nothing s held
+holds_lost (e ∷ []) s held calls one =
+    holds_untaken (lost_event e) s held held calls calls refl (λ d token loaded es serves short. lost_answers (call_of d.names e) held calls)
+holds_lost (e ∷ f ∷ es) s held calls one = absurd (omega (arith, one))

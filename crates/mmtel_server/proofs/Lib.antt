@@ -19,8 +19,9 @@ mod Runs
 mod Coming
 pub mod Records
 mod Reading
-mod Heard
-mod Fronts
-mod Keeping
+pub mod Heard
+pub mod Fronts
+pub mod Keeping
+pub mod Made
 mod Drives
 mod ReadOut

@@ -1,5 +1,5 @@
 -- What is done with records and registrations.
-use Rattle.std.proofs.Common.{◌≡◌, ◌++◌, ◌∷◌, [], ℕ, Bool, true, List, Option, refl, sym, inl, ap, ◌∙◌, append_assoc}
+use Rattle.std.proofs.Common.{◌≡◌, ◌++◌, ◌∷◌, [], ℕ, true, List, Option, refl, sym, inl, ap, ◌∙◌, append_assoc}
 use Rattle.std.proofs.lemmas.Bool.{false≢true}
 use Rattle.mmtel_charging.specs.declared.rows.Row.{Row}
 use Rattle.mmtel_directory.specs.declared.directories.Directory.{Directory}
@@ -18,8 +18,8 @@ use Rattle.mmtel_types.specs.declared.numbers.Account.{Account}
 use Rattle.mmtel_web.specs.Answers.{Kept, failed, no_memory, web_reply}
 use Rattle.mmtel_web.specs.Uploads.{kept_upload, upload_in}
 use Rattle.mmtel_server.specs.Follows.{Follows}
-use Rattle.mmtel_server.specs.Stands.{BreaksOff, Did}
-use Rattle.mmtel_server.specs.Stepped.{AskedIn, StoppedAt, call_of, happened_in}
+use Rattle.mmtel_server.specs.Stands.{Did}
+use Rattle.mmtel_server.specs.Stepped.{Stopped, call_of}
 use Rattle.mmtel_server.specs.declared.servers.Server.{Server}
 
 module _ (s : Server) (r : Held) where
@@ -99,16 +99,18 @@ unasked_answers (stores account text) held calls = (refl, inl refl)
 unasked_answers asks held calls = (refl, inl refl)
 
 pub stopped_unasked : (old : Server) (out now : List Offer) (event : Event) (held : Option Keeper.Held) (calls : Option KeeperCalls) (faults : ℕ) → old.failed ≡ true
-    → StoppedAt (λ kept rows. (took : Bool) → BreaksOff old out now (happened_in event kept rows took))
-    (λ kept rows between midst. (took : Bool) → AskedIn old out (happened_in event kept rows took) held between calls midst) held calls faults faults
+    → Stopped old out now event held held calls calls faults faults
 stopped_unasked old out now event held calls faults is = record {
   kept = no_memory;
   rows = [];
-  broke = λ took d token loaded happened before fuel went short enough. absurd (false≢true (sym went.did.stands.whole ∙ is));
+  broke = λ took. (
+    λ d token loaded happened before fuel went short enough. absurd (false≢true (sym went.did.stands.whole ∙ is)),
+    λ d token loaded happened fuel serves short enough. absurd (false≢true (sym serves.stands.whole ∙ is)),
+  );
   between = held;
   midst = calls;
   mid = faults;
-  asked = λ took d token loaded happened before went short. unasked_answers (call_of d.names event) held calls;
+  asked = λ took d token loaded happened serves short. unasked_answers (call_of d.names event) held calls;
   counted = refl;
   handed = (refl, (inl refl, refl));
 }

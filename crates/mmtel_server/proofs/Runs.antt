@@ -1,17 +1,18 @@
 -- A run of one event more: what it is enough for, and what a server that went through the shorter one has gone through then.
-use Rattle.std.proofs.Common.{◌≡◌, ℕ, max, Bool, List, [], ◌∷◌, ◌++◌, false, refl, sym, ap, ◌∙◌, subst}
+use Rattle.std.proofs.Common.{◌≡◌, ℕ, max, Bool, List, [], ◌∷◌, ◌++◌, false, refl, sym, ap, ◌∙◌, subst, append-nil, None}
 use Rattle.mmtel_directory.specs.declared.directories.Directory.{Directory}
 use Rattle.mmtel_charging.specs.declared.rows.Row.{Row}
 use Rattle.mmtel_in_force.specs.Texts.{Texts}
 use Rattle.mmtel_outside.specs.declared.events.Offer.{Offer}
 use Rattle.mmtel_run.specs.Events.{Digest, Happened, Notice, digest, moment_of, notice_of, notices}
 use Rattle.mmtel_run.specs.Headline.{GivesAlways}
-use Rattle.mmtel_run.specs.Run.{IsEnough, IsEnoughAfter, IsSettled, after, clock_at, one_more, settled}
+use Rattle.mmtel_run.specs.Run.{IsEnough, IsEnoughAfter, IsSettled, after, clock_at, due_in, one_more, settled}
 use Rattle.mmtel_run.specs.Short.{IsShort, IsShortRun}
 use Rattle.mmtel_run.specs.World.{World, beginning, begun, came, ended, met}
 use Rattle.mmtel_server.specs.Follows.{AllDrawOn, Breaks, BreaksTo, Follows, FollowsTo, IsReady, IsSettledBy, going}
 use Rattle.mmtel_server_decisions.specs.Handed.{left_of, taken_of}
-use Rattle.mmtel_server.specs.Stands.{BreaksOff, Did, GoesOn, IsCut, Went}
+use Rattle.mmtel_run_offers.specs.Added.{DeadlinesAdd, EventsAdd, behind, unsaid}
+use Rattle.mmtel_server.specs.Stands.{AddsFront, AddsOn, BreaksOff, Did, GoesOn, HasAdded, IsCut, Serves, Stands, Went}
 use Rattle.mmtel_server.specs.Stepped.{WaitedAfter, WaitedIn}
 use Rattle.mmtel_server.specs.declared.servers.Server.{Server}
 use Rattle.mmtel_server.proofs.Filing.{settled_none}
@@ -230,19 +231,6 @@ goes_on old new out now event always follows d token loaded events before went s
       did = whole_again d token before now new (after d token fuel (notices d (events ++ event ∷ [])) (beginning loaded)) (subst (λ (u : World). Did d token before new now u) (sym last) did);
     }
 
--- what is so of the configuration under whatever the server stood for is so under whatever run it went through
-pub asked_then : (old : Server) (out : List Offer) (event : Happened) (P : Directory → Type 0) → GivesAlways
-    → ((d : Directory) (token : List ℕ) (before : List Offer) (w : World) (fuel : ℕ) → Did d token before old out w → IsReady fuel event d token w → IsShort (going fuel event d token w) → P d)
-    → (d : Directory) (token : List ℕ) (loaded : Texts) (events : List Happened) (before : List Offer) → Went d token loaded events before old out
-    → IsShortRun d token loaded (events ++ event ∷ []) → P d
-asked_then old out event P always is_so d token loaded events before went short =
-    let enough = always d token loaded (events ++ event ∷ []) in
-    let fuel : ℕ = enough.0 in
-    is_so d token before (after d token fuel (notices d events) (beginning loaded)) fuel
-    (stands_by d token loaded events before out old fuel went (enough_front d token fuel events event (beginning loaded) enough.1))
-    (enough_last d token fuel events event (beginning loaded) enough.1)
-    (subst IsShort (after_last d token fuel events event (beginning loaded)) (short fuel enough.1))
-
 pub breaks_off : (old : Server) (out now : List Offer) (event : Happened)
     → ((fuel : ℕ) → BreaksTo old out now (IsReady fuel event) (going fuel event)) → BreaksOff old out now event
 breaks_off old out now event breaks d token loaded events before fuel went short enough =
@@ -254,12 +242,136 @@ breaks_off old out now event breaks d token loaded events before fuel went short
     (subst IsShort last (short fuel enough)) in
     subst (λ (u : World). IsCut out now (before ++ u.offers)) (sym last) cut
 
-pub waited_in : (old : Server) (out : List Offer) (event : Happened) (waiting : List Row) → WaitedAfter old out event waiting → WaitedIn old out event waiting
-waited_in old out event waiting waits d token loaded events before fuel went short enough =
-    let last = after_last d token fuel events event (beginning loaded) in
-    let shorter = after d token fuel (notices d events) (beginning loaded) in
-    let here = waits d token before shorter fuel
-    (stands_by d token loaded events before out old fuel went (enough_front d token fuel events event (beginning loaded) enough))
-    (enough_last d token fuel events event (beginning loaded) enough)
-    (subst IsShort last (short fuel enough)) in
-    subst (λ (u : World). WaitsBy shorter u event.took waiting) (sym last) here
+-- ---- a run that the server serves in, whatever became of what it offered
+
+-- it stands for that run by any count that is enough
+serves_by : (d : Directory) (token : List ℕ) (loaded : Texts) (events : List Happened) (s : Server) (fuel : ℕ) → Serves d token loaded events s → IsEnough d token loaded fuel events
+    → Stands d token s (after d token fuel (notices d events) (beginning loaded))
+serves_by d token loaded events s fuel serves enough =
+    subst (λ (u : World). Stands d token s u) (run_same d token serves.fuel fuel (notices d events) (beginning loaded) serves.enough enough) serves.stands
+
+-- what it stands for does not rest on what was offered, nor on its note that no step failed
+stands_alike : (d : Directory) (token : List ℕ) (s : Server) (os : List Offer) (w : World) → Stands d token s w → Stands d token (record s { failed = false }) (record w { offers = os })
+stands_alike d token s os w stands = record {
+  directory_same = stands.directory_same;
+  tokens = stands.tokens;
+  transactions = stands.transactions;
+  clock = stands.clock;
+  steps = stands.steps;
+  texts = stands.texts;
+  registered = stands.registered;
+  calls = stands.calls;
+  rooms = stands.rooms;
+  armed = stands.armed;
+  waiting = stands.waiting;
+  drained = stands.drained;
+  cleared = stands.cleared;
+  whole = refl;
+}
+
+did_unsaid : (d : Directory) (token : List ℕ) (s : Server) (out : List Offer) (w : World) → Stands d token s w → Did d token out s out (unsaid w)
+did_unsaid d token s out w stands = record {
+  stands = record {
+    directory_same = stands.directory_same;
+    tokens = stands.tokens;
+    transactions = stands.transactions;
+    clock = stands.clock;
+    steps = stands.steps;
+    texts = stands.texts;
+    registered = stands.registered;
+    calls = stands.calls;
+    rooms = stands.rooms;
+    armed = stands.armed;
+    waiting = stands.waiting;
+    drained = stands.drained;
+    cleared = stands.cleared;
+    whole = stands.whole;
+  };
+  offered = sym (append-nil out);
+}
+
+-- an event does in a world what it does where nothing was offered yet, and adds that
+module _ (adds : EventsAdd) (deadlines : DeadlinesAdd) (d : Directory) (token : List ℕ) (fuel : ℕ) (one : Happened) (w : World) where
+  restored : behind w.offers (unsaid w) ≡ w
+  restored = ap (λ (os : List Offer). record w { offers = os }) (append-nil w.offers)
+
+  going_adds : going fuel one d token w ≡ behind w.offers (going fuel one d token (unsaid w))
+  going_adds = ap (going fuel one d token) (sym restored) ∙ adds d token fuel (notice_of d one) w.offers (unsaid w)
+
+  ready_unsaid : IsReady fuel one d token w → IsReady fuel one d token (unsaid w)
+  ready_unsaid ready =
+      let at : ℕ = clock_at w (moment_of one.event) in
+      let same : settled d token fuel at w ≡ behind w.offers (settled d token fuel at (unsaid w)) = ap (settled d token fuel at) (sym restored) ∙ deadlines d token fuel at w.offers (unsaid w) in
+      subst (λ (u : World). due_in at u ≡ None) same ready
+
+  short_unsaid : IsShort (going fuel one d token w) → IsShort (going fuel one d token (unsaid w))
+  short_unsaid few = let short = subst IsShort going_adds few in record { acts = short.acts; steps = short.steps; drawn = short.drawn }
+
+-- before the last event of a run, by so many firings, the server stands for a world in which nothing was offered yet
+pub record BeforeLast (d : Directory) (token : List ℕ) (loaded : Texts) (events : List Happened) (event : Happened) (fuel : ℕ) (old : Server) (out : List Offer) (world : World) : Type 0 where
+  pub did : Did d token out old out (unsaid world)
+  pub ready : IsReady fuel event d token (unsaid world)
+  pub short : IsShort (going fuel event d token (unsaid world))
+  pub last : after d token fuel (notices d (events ++ event ∷ [])) (beginning loaded) ≡ behind world.offers (going fuel event d token (unsaid world))
+
+module _ (adds : EventsAdd) (deadlines : DeadlinesAdd) where
+  before_last : (d : Directory) (token : List ℕ) (loaded : Texts) (events : List Happened) (event : Happened) (fuel : ℕ) (old : Server) (out : List Offer)
+      → Serves d token loaded events old → IsShortRun d token loaded (events ++ event ∷ []) → IsEnough d token loaded fuel (events ++ event ∷ [])
+      → BeforeLast d token loaded events event fuel old out (after d token fuel (notices d events) (beginning loaded))
+  before_last d token loaded events event fuel old out serves short enough =
+      let w : World = after d token fuel (notices d events) (beginning loaded) in
+      let last = after_last d token fuel events event (beginning loaded) in
+      record {
+        did = did_unsaid d token old out w (serves_by d token loaded events old fuel serves (enough_front d token fuel events event (beginning loaded) enough));
+        ready = ready_unsaid adds deadlines d token fuel event w (enough_last d token fuel events event (beginning loaded) enough);
+        short = short_unsaid adds deadlines d token fuel event w (subst IsShort last (short fuel enough));
+        last = last ∙ going_adds adds deadlines d token fuel event w;
+      }
+
+  -- what is so of the configuration under whatever the server stood for is so under whatever run it serves in
+  pub asked_then : (old : Server) (out : List Offer) (event : Happened) (P : Directory → Type 0) → GivesAlways
+      → ((d : Directory) (token : List ℕ) (before : List Offer) (w : World) (fuel : ℕ) → Did d token before old out w → IsReady fuel event d token w → IsShort (going fuel event d token w) → P d)
+      → (d : Directory) (token : List ℕ) (loaded : Texts) (events : List Happened) → Serves d token loaded events old → IsShortRun d token loaded (events ++ event ∷ []) → P d
+  asked_then old out event P always is_so d token loaded events serves short =
+      let enough = always d token loaded (events ++ event ∷ []) in
+      let here = before_last d token loaded events event enough.0 old out serves short enough.1 in
+      is_so d token out (unsaid (after d token enough.0 (notices d events) (beginning loaded))) enough.0 here.did here.ready here.short
+
+  pub waited_in : (old : Server) (out : List Offer) (event : Happened) (waiting : List Row) → WaitedAfter old out event waiting → WaitedIn old event waiting
+  waited_in old out event waiting waits d token loaded events fuel serves short enough =
+      let w : World = after d token fuel (notices d events) (beginning loaded) in
+      let here = before_last d token loaded events event fuel old out serves short enough in
+      let there = waits d token out (unsaid w) fuel here.did here.ready here.short in
+      let left : WaitsBy w (behind w.offers (going fuel event d token (unsaid w))) event.took waiting = (there.0, there.1) in
+      subst (λ (u : World). WaitsBy w u event.took waiting) (sym here.last) left
+
+  -- of what it adds a front was added
+  pub adds_front : (old : Server) (out now : List Offer) (event : Happened) → ((fuel : ℕ) → BreaksTo old out now (IsReady fuel event) (going fuel event)) → AddsFront old out now event
+  adds_front old out now event breaks d token loaded events fuel serves short enough =
+      let w : World = after d token fuel (notices d events) (beginning loaded) in
+      let here = before_last d token loaded events event fuel old out serves short enough in
+      let cut = breaks fuel d token out (unsaid w) here.did here.ready here.short in
+      ((going fuel event d token (unsaid w)).offers, cut, ap (λ (v : World). v.offers) here.last)
+
+  -- it serves in one more, and what this adds was added
+  pub adds_on : (old new : Server) (out now : List Offer) (event : Happened) → GivesAlways
+      → ((fuel : ℕ) → FollowsTo old out new now (IsReady fuel event) (going fuel event)) → AddsOn old out (record new { failed = false }) now event
+  adds_on old new out now event always follows d token loaded events serves short =
+      let gone : (fuel : ℕ) → IsEnough d token loaded fuel (events ++ event ∷ []) → Did d token out new now (going fuel event d token (unsaid (after d token fuel (notices d events) (beginning loaded)))) = λ fuel enough.
+      let here = before_last d token loaded events event fuel old out serves short enough in
+      follows fuel d token out (unsaid (after d token fuel (notices d events) (beginning loaded))) here.did here.ready here.short in
+      let enough = always d token loaded (events ++ event ∷ []) in
+      let fuel : ℕ = enough.0 in
+      let w : World = after d token fuel (notices d events) (beginning loaded) in
+      let u : World = going fuel event d token (unsaid w) in
+      let here = before_last d token loaded events event fuel old out serves short enough.1 in
+      let on : Serves d token loaded (events ++ event ∷ []) (record new { failed = false }) = record {
+        fuel = fuel;
+        enough = enough.1;
+        stands = subst (λ (v : World). Stands d token (record new { failed = false }) v) (sym here.last) (stands_alike d token new (w.offers ++ u.offers) u (gone fuel enough.1).stands);
+      } in
+      let added : HasAdded d token loaded events event out now = λ fuel enough.
+      let w : World = after d token fuel (notices d events) (beginning loaded) in
+      let here = before_last d token loaded events event fuel old out serves short enough in
+      ((going fuel event d token (unsaid w)).offers, (gone fuel enough).offered, ap (λ (v : World). v.offers) here.last) in
+      (on, added)

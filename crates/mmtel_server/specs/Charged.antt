@@ -2,13 +2,12 @@
 use Rattle.std.specs.Prelude.{◌≡◌, ℕ, Bool, true, false, List, [], ◌∷◌, ◌++◌}
 use Rattle.mmtel_directory.specs.declared.directories.Directory.{Directory}
 use Rattle.mmtel_in_force.specs.Texts.{Texts}
-use Rattle.mmtel_outside.specs.declared.events.Offer.{Offer}
 use Rattle.mmtel_run.specs.Events.{Happened}
 use Rattle.mmtel_run.specs.Filed.{AreFiled}
 use Rattle.mmtel_run.specs.Run.{IsEnough, world_after}
 use Rattle.mmtel_run.specs.Short.{IsShortRun}
 use Rattle.mmtel_run.specs.World.{World}
-use Rattle.mmtel_server.specs.Stands.{Went}
+use Rattle.mmtel_server.specs.Stands.{Serves}
 use Rattle.mmtel_server.specs.declared.servers.Server.{Server}
 
 -- whether the keeper took the rows that were handed to it at the end of the last of these events
@@ -19,15 +18,16 @@ took_last (one ∷ other ∷ happened) = took_last (other ∷ happened)
 
 -- where a world has come of these events
 pub record RowsCharged (directory : Directory) (world : World) (happened : List Happened) : Type 0 where
-  -- the rows that the keeper took in the whole run, and behind them those that wait, are all the rows that its calls closed and all those of the seats that were left, each in the order in which they were closed: none is lost, and none comes twice;
+  -- the rows that the keeper took in the whole run, and behind them those that wait, are all the rows that its calls closed and all those of the seats that were left, each
+  -- in the order in which they were closed: none is lost, and none comes twice;
   pub all : AreFiled directory world
   -- and none waits behind an event at whose end the keeper took what was handed to it
   pub none : took_last happened ≡ true → world.waiting ≡ []
 
--- whatever run the server went through, so it is of that run and what happened here
-abbrev pub Charged : List Happened → Server → List Offer → Type 0
-Charged happened old out =
-    (directory : Directory) (token : List ℕ) (loaded : Texts) (earlier : List Happened) (before : List Offer) (fuel : ℕ) →
-    Went directory token loaded earlier before old out → IsShortRun directory token loaded (earlier ++ happened) →
+-- whatever run the server serves in, so it is of that run and what happened here
+abbrev pub Charged : List Happened → Server → Type 0
+Charged happened old =
+    (directory : Directory) (token : List ℕ) (loaded : Texts) (earlier : List Happened) (fuel : ℕ) →
+    Serves directory token loaded earlier old → IsShortRun directory token loaded (earlier ++ happened) →
     IsEnough directory token loaded fuel (earlier ++ happened) →
     RowsCharged directory (world_after directory token loaded fuel (earlier ++ happened)) happened

@@ -8,7 +8,7 @@ use Rattle.mmtel_http.specs.Requests.{greatest, request_of, whole_of, window}
 use Rattle.mmtel_http.specs.declared.wholes.Whole.TheVariants.{More}
 use Rattle.mmtel_in_force.specs.Texts.{Texts, put_each}
 use Rattle.mmtel_keeper.specs.Kept.{Held, KeeperCalls}
-use Rattle.mmtel_link.specs.Told.{Ear, LinkCalls, called, coming, heard}
+use Rattle.mmtel_link.specs.Told.{Ear, LinkCalls, called, coming, fails_next, heard}
 use Rattle.mmtel_outside.specs.Counts.{Rose}
 use Rattle.mmtel_outside.specs.declared.events.Event.{Event}
 use Rattle.mmtel_outside.specs.declared.events.Event.TheVariants as event
@@ -23,7 +23,7 @@ use Rattle.mmtel_run_laws.specs.Outcome.{CallsComeToOutcome}
 use Rattle.mmtel_run_laws.specs.Rows.{SeatsAreChargedOnce}
 use Rattle.mmtel_run_secret.specs.Headline.{SeesAlike}
 use Rattle.mmtel_serving.specs.Calls.{Answers, Counted, MayBeCalled}
-use Rattle.mmtel_server.specs.Stands.{IsCut, Went}
+use Rattle.mmtel_server.specs.Stands.{IsCut, Serves, Went}
 use Rattle.mmtel_server.specs.Charged.{Charged}
 use Rattle.mmtel_server_decisions.specs.Handed.{Handed, HandedCounted}
 use Rattle.mmtel_server.specs.Stepped.{call_of}
@@ -98,6 +98,21 @@ ReadAll ear later giving gave (Err NoMemory) = ReadButLast ear later giving
 abbrev pub StandsOrRose : ℕ → ℕ → Type 0
 StandsOrRose before now = (now ≡ before) ⊎ Rose before now
 
+-- ---- one turn
+
+-- at most one event came more
+abbrev pub AddsOne : Option Ear → Option Ear → Type 0
+AddsOne None later = ⊤
+AddsOne (Some ear) None = ⊥
+AddsOne (Some ear) (Some later) = (last : List ℕ) × (length last ≤ 1) × (later.reads ≡ ear.reads ++ last)
+
+-- the event that came, or none at the end
+abbrev pub Takes : Option Ear → Option Ear → (giving gave : ℕ) → Result (Option Event) DriveFault → Type 0
+Takes ear later giving gave (Ok (Some event)) = HeardMore ear later (event ∷ []) × ReadEach ear later giving gave
+Takes ear later giving gave (Ok None) = HeardMore ear later [] × (ReadEach ear later giving gave × IsAtEnd later)
+Takes ear later giving gave (Err LinkFault) = HeardMore ear later [] × ReadEach ear later giving gave
+Takes ear later giving gave (Err NoMemory) = (events : List Event) × (length events ≤ 1) × (HeardMore ear later events × AddsOne ear later)
+
 -- ---- the calls of the link
 
 -- so many calls more
@@ -130,6 +145,13 @@ WentOn happened old out new now =
     (directory : Directory) (token : List ℕ) (loaded : Texts) (earlier : List Happened) (before : List Offer) →
     Went directory token loaded earlier before old out → IsShortRun directory token loaded (earlier ++ happened) →
     Went directory token loaded (earlier ++ happened) before new now
+
+-- whatever run it serves in, it serves in that and what happened here
+abbrev pub ServesOn : List Happened → Server → Server → Type 0
+ServesOn happened old new =
+    (directory : Directory) (token : List ℕ) (loaded : Texts) (earlier : List Happened) →
+    Serves directory token loaded earlier old → IsShortRun directory token loaded (earlier ++ happened) →
+    Serves directory token loaded (earlier ++ happened) new
 
 -- nothing of what is due in the run up to the last of these is missing, and nothing stands behind what is due in the whole
 abbrev pub OfferedUpTo : (done last : List Happened) → Server → List Offer → List Offer → Type 0
@@ -164,61 +186,67 @@ KeptAll happened old out now (Ok closed) = KeptTheSecret happened old out now
 KeptAll happened old out now (Err LinkFault) = KeptTheSecret happened old out now
 KeptAll happened old out now (Err NoMemory) = ⊤
 
--- whatever run the server went through, each call of that and of what happened here comes to what the precedence of services makes of how its attempts ended, and of how things stood when it reached each target, within the bound on diversions and with its rows
-abbrev pub CameToOutcome : List Happened → Server → List Offer → Type 0
-CameToOutcome happened old out =
-    (directory : Directory) (token : List ℕ) (loaded : Texts) (earlier : List Happened) (before : List Offer) →
-    Went directory token loaded earlier before old out → IsShortRun directory token loaded (earlier ++ happened) → CallsComeToOutcome directory token loaded (earlier ++ happened)
+-- whatever run the server serves in, each call of that and of what happened here comes to what the precedence of services makes of how its attempts ended, and of how
+-- things stood when it reached each target, within the bound on diversions and with its rows
+abbrev pub CameToOutcome : List Happened → Server → Type 0
+CameToOutcome happened old =
+    (directory : Directory) (token : List ℕ) (loaded : Texts) (earlier : List Happened) →
+    Serves directory token loaded earlier old → IsShortRun directory token loaded (earlier ++ happened) → CallsComeToOutcome directory token loaded (earlier ++ happened)
 
 -- each seat of its rooms that was left was charged once
-abbrev pub ChargedSeats : List Happened → Server → List Offer → Type 0
-ChargedSeats happened old out =
-    (directory : Directory) (token : List ℕ) (loaded : Texts) (earlier : List Happened) (before : List Offer) →
-    Went directory token loaded earlier before old out → IsShortRun directory token loaded (earlier ++ happened) → SeatsAreChargedOnce directory token loaded (earlier ++ happened)
+abbrev pub ChargedSeats : List Happened → Server → Type 0
+ChargedSeats happened old =
+    (directory : Directory) (token : List ℕ) (loaded : Texts) (earlier : List Happened) →
+    Serves directory token loaded earlier old → IsShortRun directory token loaded (earlier ++ happened) → SeatsAreChargedOnce directory token loaded (earlier ++ happened)
 
 -- and each text that is offered to a peer in it has its own lines and nobody else's, under a home domain and a token of one line each
-abbrev pub SentClean : List Happened → Server → List Offer → Type 0
-SentClean happened old out =
-    (directory : Directory) (token : List ℕ) (loaded : Texts) (earlier : List Happened) (before : List Offer) →
-    Went directory token loaded earlier before old out → IsShortRun directory token loaded (earlier ++ happened) →
+abbrev pub SentClean : List Happened → Server → Type 0
+SentClean happened old =
+    (directory : Directory) (token : List ℕ) (loaded : Texts) (earlier : List Happened) →
+    Serves directory token loaded earlier old → IsShortRun directory token loaded (earlier ++ happened) →
     IsClean directory.home → IsClean token → SendsCleanMessages directory token loaded (earlier ++ happened)
 
 -- ---- what was made of the keeper
 
--- what the keeper answered to each event is the answer of the call that the event asks for; then the rows that waited were handed to it, where there were any; and nothing else was asked of it
+-- what the keeper answered to each event is the answer of the call that the event asks for; then the rows that waited were handed to it, where there were any; and nothing
+-- else was asked of it
 abbrev pub EachAnswers : WebDirectory → List Happened → Option Held → Option Held → Option KeeperCalls → Option KeeperCalls → Type 0
 EachAnswers names [] held left calls after = (left ≡ held) × (after ≡ calls)
 EachAnswers names (one ∷ happened) held left calls after =
     (asked : Option Held) × (between : Option Held) × (midst : Option KeeperCalls) × (past : Option KeeperCalls) × (waiting : List Row) ×
-    Answers (call_of names one.event) one.kept one.rows held asked calls midst × (Handed one.took waiting asked between midst past × EachAnswers names happened between left past after)
+    Answers (call_of names one.event) one.kept one.rows held asked calls midst ×
+    (Handed one.took waiting asked between midst past × EachAnswers names happened between left past after)
 
-abbrev pub AnswersAll : List Happened → Server → List Offer → Option Held → Option Held → Option KeeperCalls → Option KeeperCalls → Type 0
-AnswersAll happened old out held left calls after =
-    (directory : Directory) (token : List ℕ) (loaded : Texts) (earlier : List Happened) (before : List Offer) →
-    Went directory token loaded earlier before old out → IsShortRun directory token loaded (earlier ++ happened) →
+abbrev pub AnswersAll : List Happened → Server → Option Held → Option Held → Option KeeperCalls → Option KeeperCalls → Type 0
+AnswersAll happened old held left calls after =
+    (directory : Directory) (token : List ℕ) (loaded : Texts) (earlier : List Happened) →
+    Serves directory token loaded earlier old → IsShortRun directory token loaded (earlier ++ happened) →
     EachAnswers directory.names happened held left calls after
 
 -- with these uploads put over the sheets, and these rows behind the others
 abbrev pub with_all : Texts → List Row → Held → Held
 with_all uploads rows held = record { sheets = put_each uploads held.sheets; rows = held.rows ++ rows }
 
--- where the keeper tells what it holds, each upload that was kept was put over it, in their order, the rows that were filed in these events stand behind those that it held, and nothing else changed
-abbrev pub HoldsUploads : List Happened → Server → List Offer → Option Held → Option Held → Type 0
-HoldsUploads happened old out held left =
-    (directory : Directory) (token : List ℕ) (loaded : Texts) (earlier : List Happened) (before : List Offer) →
+-- where the keeper tells what it holds, each upload that was kept was put over it, in their order, the rows that were filed in these events stand behind those that it
+-- held, and nothing else changed
+abbrev pub HoldsUploads : List Happened → Server → Option Held → Option Held → Type 0
+HoldsUploads happened old held left =
+    (directory : Directory) (token : List ℕ) (loaded : Texts) (earlier : List Happened) →
     (fuel : ℕ) → IsEnough directory token loaded fuel (earlier ++ happened) →
-    Went directory token loaded earlier before old out → IsShortRun directory token loaded (earlier ++ happened) →
+    Serves directory token loaded earlier old → IsShortRun directory token loaded (earlier ++ happened) →
     (rows : List Row) × ((world_after directory token loaded fuel (earlier ++ happened)).filed ≡ (world_after directory token loaded fuel earlier).filed ++ rows)
     × (left ≡ option_map (with_all (uploads_of directory.names happened) rows) held)
 
 -- its count of faults rose in each event in which its call failed, and where it did not take the rows at the end, and stood otherwise
 abbrev pub EachCounted : List Happened → (faults count : ℕ) → Type 0
 EachCounted [] faults count = count ≡ faults
-EachCounted (one ∷ happened) faults count = (asked : ℕ) × (between : ℕ) × Counted one.kept faults asked × (HandedCounted one.took asked between × EachCounted happened between count)
+EachCounted (one ∷ happened) faults count =
+    (asked : ℕ) × (between : ℕ) × Counted one.kept faults asked × (HandedCounted one.took asked between × EachCounted happened between count)
 
 -- ---- the same where memory ran out, in the last of these events or behind it
 
--- of the last one, if memory ran out in it: what the keeper answered is the answer of the call that the event asks for; the rows that waited then may have been handed to it, and it took none of them
+-- of the last one, if memory ran out in it: what the keeper answered is the answer of the call that the event asks for; the rows that waited then may have been handed to
+-- it, and it took none of them
 abbrev pub LastAnswers : WebDirectory → List Happened → Option Held → Option Held → Option KeeperCalls → Option KeeperCalls → Type 0
 LastAnswers names [] held left calls after = (left ≡ held) × (after ≡ calls)
 LastAnswers names (one ∷ []) held left calls after =
@@ -231,10 +259,10 @@ EachAnswersButLast names happened held left calls after =
     (done : List Happened) × (last : List Happened) × (between : Option Held) × (midst : Option KeeperCalls) ×
     (happened ≡ done ++ last) × (EachAnswers names done held between calls midst × LastAnswers names last between left midst after)
 
-abbrev pub AnswersButLast : List Happened → Server → List Offer → Option Held → Option Held → Option KeeperCalls → Option KeeperCalls → Type 0
-AnswersButLast happened old out held left calls after =
-    (directory : Directory) (token : List ℕ) (loaded : Texts) (earlier : List Happened) (before : List Offer) →
-    Went directory token loaded earlier before old out → IsShortRun directory token loaded (earlier ++ happened) →
+abbrev pub AnswersButLast : List Happened → Server → Option Held → Option Held → Option KeeperCalls → Option KeeperCalls → Type 0
+AnswersButLast happened old held left calls after =
+    (directory : Directory) (token : List ℕ) (loaded : Texts) (earlier : List Happened) →
+    Serves directory token loaded earlier old → IsShortRun directory token loaded (earlier ++ happened) →
     EachAnswersButLast directory.names happened held left calls after
 
 -- the count of faults rose in it where its call failed, and stood otherwise
@@ -249,10 +277,10 @@ EachCountedButLast happened faults count =
 
 -- ---- by the answer
 
-abbrev pub AnsweredAll : List Happened → Server → List Offer → Option Held → Option Held → Option KeeperCalls → Option KeeperCalls → Result Bool DriveFault → Type 0
-AnsweredAll happened old out held left calls after (Ok closed) = AnswersAll happened old out held left calls after
-AnsweredAll happened old out held left calls after (Err LinkFault) = AnswersAll happened old out held left calls after
-AnsweredAll happened old out held left calls after (Err NoMemory) = AnswersButLast happened old out held left calls after
+abbrev pub AnsweredAll : List Happened → Server → Option Held → Option Held → Option KeeperCalls → Option KeeperCalls → Result Bool DriveFault → Type 0
+AnsweredAll happened old held left calls after (Ok closed) = AnswersAll happened old held left calls after
+AnsweredAll happened old held left calls after (Err LinkFault) = AnswersAll happened old held left calls after
+AnsweredAll happened old held left calls after (Err NoMemory) = AnswersButLast happened old held left calls after
 
 abbrev pub CountedAll : List Happened → (faults count : ℕ) → Result Bool DriveFault → Type 0
 CountedAll happened faults count (Ok closed) = EachCounted happened faults count
@@ -260,35 +288,41 @@ CountedAll happened faults count (Err LinkFault) = EachCounted happened faults c
 CountedAll happened faults count (Err NoMemory) = EachCountedButLast happened faults count
 
 -- what the keeper tells and counts, before and after
-pub record KeeperWentOn (happened : List Happened) (old : Server) (out : List Offer) (held left : Option Held) (calls after : Option KeeperCalls)
+pub record KeeperWentOn (happened : List Happened) (old : Server) (held left : Option Held) (calls after : Option KeeperCalls)
     (faults count : ℕ) (result : Result Bool DriveFault) : Type 0 where
-  pub answers : AnsweredAll happened old out held left calls after result
-  pub sheets : HoldsUploads happened old out held left
+  pub answers : AnsweredAll happened old held left calls after result
+  pub sheets : HoldsUploads happened old held left
   pub counted : CountedAll happened faults count result
 
 -- ---- the whole
+
+-- what was made of these events, but for what was offered: what the link told before and after, what the keeper told and counted before and after, the turns, the server
+-- before, and the answer
+pub record MadeOf (happened : List Happened) (ear later : Option Ear) (held left : Option Held) (calls after : Option KeeperCalls) (faults count : ℕ)
+    (turns : ℕ) (old : Server) (result : Result Bool DriveFault) : Type 0 where
+  -- they are those that the link heard, where it tells it,
+  pub told : HeardMore ear later (events_in happened)
+  -- one a turn,
+  pub ends : EndsAfter turns later (length happened) result
+  -- the keeper was asked what they ask, and keeps what they say,
+  pub keeper : KeeperWentOn happened old held left calls after faults count result
+  -- the charging rows that it took in the whole run, and behind them those that wait, are all that were closed in it, in their order,
+  pub charged : Charged happened old
+  -- each call comes to its outcome, each seat that was left was charged once, and what is offered has its own lines
+  pub outcome : CameToOutcome happened old
+  pub seats : ChargedSeats happened old
+  pub clean : SentClean happened old
 
 -- what the link told and counted before and after, what the keeper told and counted before and after, the turns, the server and the offers before and after, and the answer
 pub record Driven (ear later : Option Ear) (giving gave : ℕ) (held left : Option Held) (calls after : Option KeeperCalls) (faults count : ℕ)
     (turns : ℕ) (old : Server) (out : List Offer) (new : Server) (now : List Offer) (result : Result Bool DriveFault) : Type 0 where
   -- there are events that came, each with what the keeper answered in it,
   pub happened : List Happened
-  -- which are those that the link heard, where it tells it,
-  pub told : HeardMore ear later (events_in happened)
+  pub made : MadeOf happened ear later held left calls after faults count turns old result
   -- the web connections among them read out,
   pub read : ReadAll ear later giving gave result
-  -- one a turn,
-  pub ends : EndsAfter turns later (length happened) result
   -- the server did them all,
   pub did : DidAll happened old out new now result
-  -- the keeper was asked what they ask, and keeps what they say,
-  pub keeper : KeeperWentOn happened old out held left calls after faults count result
-  -- the charging rows that it took in the whole run, and behind them those that wait, are all that were closed in it, in their order,
-  pub charged : Charged happened old out
-  -- each call comes to its outcome, each seat that was left was charged once, and what is offered has its own lines,
-  pub outcome : CameToOutcome happened old out
-  pub seats : ChargedSeats happened old out
-  pub clean : SentClean happened old out
   -- and the secret was kept
   pub kept : KeptAll happened old out now result
 
@@ -297,3 +331,14 @@ abbrev pub HasDriveCause : {T : Type 0} → ℕ → ℕ → Result T DriveFault 
 HasDriveCause before now (Ok x) = now ≡ before
 HasDriveCause before now (Err LinkFault) = Rose before now
 HasDriveCause before now (Err NoMemory) = now ≡ before
+
+-- where the link tells its calls, the last of them has the number of one that fails
+abbrev pub LastFailed : Option LinkCalls → Type 0
+LastFailed None = ⊤
+LastFailed (Some calls) = (before : LinkCalls) × (calls ≡ called before) × (fails_next before ≡ true)
+
+-- so it is at a link's fault
+abbrev pub HasFailedByNumber : {T : Type 0} → Option LinkCalls → Result T DriveFault → Type 0
+HasFailedByNumber calls (Ok x) = ⊤
+HasFailedByNumber calls (Err LinkFault) = LastFailed calls
+HasFailedByNumber calls (Err NoMemory) = ⊤

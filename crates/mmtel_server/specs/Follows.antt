@@ -55,11 +55,13 @@ abbrev pub desk_at_end : Directory → (token : List ℕ) → ℕ → CallNo →
 desk_at_end directory token at call world = (finished_by (site_of directory) call.0 at (tokens_now token world) (calls_in directory world)).desk
 
 abbrev pub CallsHear : Server → Server → ℕ → Signal → List Emit → Type 0
-CallsHear old new at signal emits = HasDone old new (λ d token. desk_of d token at signal) (λ d token world. brought_in (Hears (heard_now token at signal world)) (desk_of d token at signal world) world) emits
+CallsHear old new at signal emits =
+    HasDone old new (λ d token. desk_of d token at signal) (λ d token world. brought_in (Hears (heard_now token at signal world)) (desk_of d token at signal world) world) emits
 
 abbrev pub CallEnds : Server → Server → ℕ → CallNo → List Emit → Type 0
 CallEnds old new at call emits =
-    HasDone old new (λ d token. desk_at_end d token at call) (λ d token world. brought_in (Finishes call.0 at (tokens_now token world)) (desk_at_end d token at call world) world) emits
+    HasDone old new (λ d token. desk_at_end d token at call)
+    (λ d token world. brought_in (Finishes call.0 at (tokens_now token world)) (desk_at_end d token at call world) world) emits
 
 -- a deed on the rooms, by which no number was drawn, or some may have been
 abbrev pub RoomsOpen : Server → Server → (Directory → List ℕ → World → rooms.Deed) → List Emit → Type 0

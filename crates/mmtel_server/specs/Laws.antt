@@ -1,4 +1,4 @@
--- What is true of the offers of a server that went through a run from its beginning, and of the web connections that were read in it.
+-- What is true of the offers of a server that went through a run from its beginning, of every run, and of the web connections that were read in it.
 use Rattle.std.specs.Prelude.{◌≡◌, ℕ, ⊤, List, [], ◌∷◌}
 use Rattle.mmtel_charging.specs.declared.rows.Row.{Row}
 use Rattle.mmtel_directory.specs.declared.directories.Directory.{Directory}
@@ -9,10 +9,15 @@ use Rattle.mmtel_outside.specs.declared.events.Event.TheVariants as event
 use Rattle.mmtel_outside.specs.declared.events.Offer.{Offer}
 use Rattle.mmtel_in_force.specs.Texts.{Texts}
 use Rattle.mmtel_run.specs.Events.{Happened, digest_event}
-use Rattle.mmtel_run.specs.Headline.{Gives}
+use Rattle.mmtel_run.specs.Filed.{NoneWaits, RowsAreFiled}
+use Rattle.mmtel_run.specs.Headline.{Gives, GivesAlways}
+use Rattle.mmtel_run_laws.specs.Clean.{RunsSendCleanMessages}
+use Rattle.mmtel_run_laws.specs.Outcome.{CallsOfRunsComeToOutcome}
+use Rattle.mmtel_run_laws.specs.Rows.{SeatsOfRunsAreChargedOnce}
 use Rattle.mmtel_run_secret.specs.Headline.{SeesAlike}
 use Rattle.mmtel_web.specs.Answers.{Kept}
 use Rattle.mmtel_server.specs.Driven.{EachRead, IsReadOut}
+use Rattle.mmtel_server.specs.Follows.{AllDrawOn}
 use Rattle.mmtel_server.specs.Stands.{Went}
 use Rattle.mmtel_server.specs.declared.servers.Server.{Server}
 
@@ -25,6 +30,19 @@ WentGives = (directory : Directory) (token : List ℕ) (loaded : Texts) (happene
 abbrev pub WentSeesAlike : Type 0
 WentSeesAlike = (directory : Directory) (token : List ℕ) (loaded : Texts) (happened : List Happened) (server : Server) (out : List Offer) →
     Went directory token loaded happened [] server out → SeesAlike directory token loaded happened out
+
+-- ---- what is true of every run
+
+-- the laws of runs by which what a server did follows: what calls come to, what seats are charged and what is sent; that no number is drawn back, that deadlines come to an
+-- end, and that rows are filed
+pub record RunLaws : Type 0 where
+  pub outcome : CallsOfRunsComeToOutcome
+  pub seats : SeatsOfRunsAreChargedOnce
+  pub clean : RunsSendCleanMessages
+  pub draws : AllDrawOn
+  pub always : GivesAlways
+  pub filed : RowsAreFiled
+  pub none : NoneWaits
 
 -- ---- web connections
 

@@ -4,7 +4,7 @@ pub mod Charged
 pub mod Stepped
 pub mod Driven
 pub mod Laws
--- What private functions alone cite.
+-- What private functions alone cite, but for `AllDrawOn` of `Follows`, which is one of the laws of runs.
 pub mod Follows
 pub mod Calling
 pub mod Turns

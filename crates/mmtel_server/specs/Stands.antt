@@ -48,11 +48,18 @@ pub record Did (directory : Directory) (token : List ℕ) (before : List Offer) 
   pub stands : Stands directory token server world
   pub offered : out ≡ before ++ world.offers
 
--- it went through the run in which this happened, over the texts that were loaded, in which every deadline that was due has fired, and what it offered stands behind what stood there before
+-- it went through the run in which this happened, over the texts that were loaded, in which every deadline that was due has fired, and what it offered stands behind what
+-- stood there before
 pub record Went (directory : Directory) (token : List ℕ) (loaded : Texts) (happened : List Happened) (before : List Offer) (server : Server) (out : List Offer) : Type 0 where
   pub fuel : ℕ
   pub enough : IsEnough directory token loaded fuel happened
   pub did : Did directory token before server out (world_after directory token loaded fuel happened)
+
+-- it serves in that run, whatever became of what it offered
+pub record Serves (directory : Directory) (token : List ℕ) (loaded : Texts) (happened : List Happened) (server : Server) : Type 0 where
+  pub fuel : ℕ
+  pub enough : IsEnough directory token loaded fuel happened
+  pub stands : Stands directory token server (world_after directory token loaded fuel happened)
 
 -- the front of a list
 abbrev pub IsPrefixOf : List Offer → List Offer → Type 0
@@ -69,6 +76,19 @@ GoesOn old out new now one =
     Went directory token loaded happened before old out → IsShortRun directory token loaded (happened ++ one ∷ []) →
     Went directory token loaded (happened ++ one ∷ []) before new now
 
+-- what an event more adds to the offers of a run was added behind what stood there
+abbrev pub HasAdded : Directory → (token : List ℕ) → (loaded : Texts) → List Happened → Happened → (out now : List Offer) → Type 0
+HasAdded directory token loaded happened one out now =
+    (fuel : ℕ) → IsEnough directory token loaded fuel (happened ++ one ∷ []) →
+    (added : List Offer) × (now ≡ out ++ added) × (gives directory token loaded fuel (happened ++ one ∷ []) ≡ gives directory token loaded fuel happened ++ added)
+
+-- whatever run it serves in, it serves in this more, and what this adds to the offers of the run was added
+abbrev pub AddsOn : Server → List Offer → Server → List Offer → Happened → Type 0
+AddsOn old out new now one =
+    (directory : Directory) (token : List ℕ) (loaded : Texts) (happened : List Happened) →
+    Serves directory token loaded happened old → IsShortRun directory token loaded (happened ++ one ∷ []) →
+    Serves directory token loaded (happened ++ one ∷ []) new × HasAdded directory token loaded happened one out now
+
 -- whatever run it went through, of what this more makes it offer a front was added
 abbrev pub BreaksOff : Server → List Offer → List Offer → Happened → Type 0
 BreaksOff old out now one =
@@ -76,3 +96,12 @@ BreaksOff old out now one =
     Went directory token loaded happened before old out → IsShortRun directory token loaded (happened ++ one ∷ []) →
     IsEnough directory token loaded fuel (happened ++ one ∷ []) →
     IsCut out now (before ++ gives directory token loaded fuel (happened ++ one ∷ []))
+
+-- whatever run it serves in, of what this more adds to the offers of the run a front was added
+abbrev pub AddsFront : Server → List Offer → List Offer → Happened → Type 0
+AddsFront old out now one =
+    (directory : Directory) (token : List ℕ) (loaded : Texts) (happened : List Happened) (fuel : ℕ) →
+    Serves directory token loaded happened old → IsShortRun directory token loaded (happened ++ one ∷ []) →
+    IsEnough directory token loaded fuel (happened ++ one ∷ []) →
+    (added : List Offer) × IsCut out now (out ++ added)
+    × (gives directory token loaded fuel (happened ++ one ∷ []) ≡ gives directory token loaded fuel happened ++ added)

@@ -19,7 +19,7 @@ use Rattle.mmtel_run.specs.World.{World, came}
 use Rattle.mmtel_server.specs.Follows.{Follows, IsReady, going}
 use Rattle.mmtel_server.specs.Charged.{Charged}
 use Rattle.mmtel_server_decisions.specs.Handed.{Handed, HandedCounted, StoppedHanding, left_of, taken_of}
-use Rattle.mmtel_server.specs.Stands.{Did, GoesOn, Went}
+use Rattle.mmtel_server.specs.Stands.{AddsFront, AddsOn, BreaksOff, Did, GoesOn, Serves}
 use Rattle.mmtel_server.specs.declared.servers.Server.{Server}
 
 -- which call of the keeper an event asks for
@@ -32,25 +32,26 @@ call_of names (event.Quiet at) = none
 abbrev pub happened_in : Event → Kept → List Row → (took : Bool) → Happened
 happened_in event kept rows took = record { event = event; kept = kept; rows = rows; took = took }
 
--- whatever run the server went through, the keeper answered what the event asks in it, and nothing else was asked of it until its end
-abbrev pub AskedIn : Server → List Offer → Happened → Option Held → Option Held → Option KeeperCalls → Option KeeperCalls → Type 0
-AskedIn old out one held later calls after =
-    (directory : Directory) (token : List ℕ) (loaded : Texts) (happened : List Happened) (before : List Offer) →
-    Went directory token loaded happened before old out → IsShortRun directory token loaded (happened ++ one ∷ []) →
+-- whatever run the server serves in, the keeper answered what the event asks in it, and nothing else was asked of it until its end
+abbrev pub AskedIn : Server → Happened → Option Held → Option Held → Option KeeperCalls → Option KeeperCalls → Type 0
+AskedIn old one held later calls after =
+    (directory : Directory) (token : List ℕ) (loaded : Texts) (happened : List Happened) →
+    Serves directory token loaded happened old → IsShortRun directory token loaded (happened ++ one ∷ []) →
     Answers (call_of directory.names one.event) one.kept one.rows held later calls after
 
--- whatever run it went through, so many rows waited at the end of the event: they were filed, or wait still
-abbrev pub WaitedIn : Server → List Offer → Happened → List Row → Type 0
-WaitedIn old out one waiting =
-    (directory : Directory) (token : List ℕ) (loaded : Texts) (happened : List Happened) (before : List Offer) (fuel : ℕ) →
-    Went directory token loaded happened before old out → IsShortRun directory token loaded (happened ++ one ∷ []) →
+-- whatever run it serves in, so many rows waited at the end of the event: they were filed, or wait still
+abbrev pub WaitedIn : Server → Happened → List Row → Type 0
+WaitedIn old one waiting =
+    (directory : Directory) (token : List ℕ) (loaded : Texts) (happened : List Happened) (fuel : ℕ) →
+    Serves directory token loaded happened old → IsShortRun directory token loaded (happened ++ one ∷ []) →
     IsEnough directory token loaded fuel (happened ++ one ∷ []) →
     let world : World = world_after directory token loaded fuel happened in
     let later : World = world_after directory token loaded fuel (happened ++ one ∷ []) in
     (later.filed ≡ world.filed ++ taken_of one.took waiting) × (later.waiting ≡ left_of one.took waiting)
 
 -- the server and the offers before and after, and what the keeper tells and counts before and after
-pub record Stepped (old : Server) (out : List Offer) (new : Server) (now : List Offer) (event : Event) (held later : Option Held) (calls after : Option KeeperCalls) (faults count : ℕ) : Type 0 where
+pub record Stepped (old : Server) (out : List Offer) (new : Server) (now : List Offer) (event : Event) (held later : Option Held) (calls after : Option KeeperCalls)
+    (faults count : ℕ) : Type 0 where
   -- there is an answer of the keeper, and rows that waited at the end, which it took or not,
   pub kept : Kept
   pub rows : List Row
@@ -58,24 +59,27 @@ pub record Stepped (old : Server) (out : List Offer) (new : Server) (now : List 
   pub took : Bool
   -- by which the server has gone on;
   pub went : GoesOn old out new now (happened_in event kept rows took)
+  -- and has added what that adds to the offers of the run, whatever became of those before;
+  pub adds : AddsOn old out new now (happened_in event kept rows took)
   -- what it tells and counts in between
   pub between : Option Held
   pub midst : Option KeeperCalls
   pub mid : ℕ
   -- its answer is that of the call that the event asks for, and nothing else was asked of it,
-  pub asked : AskedIn old out (happened_in event kept rows took) held between calls midst
+  pub asked : AskedIn old (happened_in event kept rows took) held between calls midst
   -- and the count of its faults rose exactly where that failed;
   pub counted : Counted kept faults mid
   -- then the rows that waited were handed to it, where there were any,
-  pub waited : WaitedIn old out (happened_in event kept rows took) waiting
+  pub waited : WaitedIn old (happened_in event kept rows took) waiting
   pub handed : Handed took waiting between later midst after
   -- and the count rose exactly where it did not take them;
   pub handed_counted : HandedCounted took mid count
   -- so those that it took in the whole run, and behind them those that wait, are all that were closed in it
-  pub charged : Charged (happened_in event kept rows took ∷ []) old out
+  pub charged : Charged (happened_in event kept rows took ∷ []) old
 
 -- the offers and the keeper where memory ran out in an event: there is an answer that the keeper gave, at most one,
-pub record StoppedAt (Broke : Kept → List Row → Type 0) (Asked : Kept → List Row → Option Held → Option KeeperCalls → Type 0) (later : Option Held) (after : Option KeeperCalls) (faults count : ℕ) : Type 0 where
+pub record StoppedAt (Broke : Kept → List Row → Type 0) (Asked : Kept → List Row → Option Held → Option KeeperCalls →
+    Type 0) (later : Option Held) (after : Option KeeperCalls) (faults count : ℕ) : Type 0 where
   pub kept : Kept
   pub rows : List Row
   -- by which a front of what the event makes the server offer was added;
@@ -89,6 +93,12 @@ pub record StoppedAt (Broke : Kept → List Row → Type 0) (Asked : Kept → Li
   pub counted : Counted kept faults mid
   -- then memory may have run out over the rows that waited, and they wait still
   pub handed : StoppedHanding between later midst after mid count
+
+-- so it is of a server, and of what was added to a list
+abbrev pub Stopped : Server → List Offer → List Offer → Event → (held later : Option Held) → (calls after : Option KeeperCalls) → (faults count : ℕ) → Type 0
+Stopped old out now event held later calls after faults count =
+    StoppedAt (λ kept rows. (took : Bool) → BreaksOff old out now (happened_in event kept rows took) × AddsFront old out now (happened_in event kept rows took))
+    (λ kept rows between midst. (took : Bool) → AskedIn old (happened_in event kept rows took) held between calls midst) later after faults count
 
 -- used between the functions of this crate alone: where the deadlines before an event leave the configuration as it is, the keeper answers what the event asks
 abbrev pub AskedAfter : Server → List Offer → Happened → Option Held → Option Held → Option KeeperCalls → Option KeeperCalls → Type 0

@@ -1,16 +1,13 @@
 -- What the turns of `drive` so far took of a link and made of it.
-use Rattle.std.specs.Prelude.{◌≡◌, ◌⊎◌, ◌≤◌, ℕ, Bool, true, false, ⊤, List, [], ◌∷◌, ◌++◌, length, take, Option, Some, None, Result, Ok, Err}
+use Rattle.std.specs.Prelude.{◌≡◌, ◌⊎◌, ℕ, Bool, true, false, List, [], ◌∷◌, ◌++◌, length, take, Option, Some, None, Result, Ok, Err}
 use Rattle.mmtel_http.specs.Requests.{Request, unfinished, bad, large, asked}
 use Rattle.mmtel_keeper.specs.Kept.{Held, KeeperCalls}
 use Rattle.mmtel_link.specs.Told.{Ear, coming, web_bytes}
 use Rattle.mmtel_outside.specs.Counts.{Rose}
-use Rattle.mmtel_outside.specs.declared.events.Event.{Event}
 use Rattle.mmtel_outside.specs.declared.events.Offer.{Offer}
 use Rattle.mmtel_run.specs.Events.{Happened, events_in}
 use Rattle.mmtel_scan.specs.declared.memory.NoMemory.{NoMemory}
-use Rattle.mmtel_server.specs.Driven.{AnswersAll, EachCounted, HeardMore, HoldsUploads, IsAtEnd, IsReadOut, ReadEach, WentOn}
-use Rattle.mmtel_server.specs.declared.driving.DriveFault.{DriveFault}
-use Rattle.mmtel_server.specs.declared.driving.DriveFault.TheVariants as fault
+use Rattle.mmtel_server.specs.Driven.{AnswersAll, EachCounted, HeardMore, HoldsUploads, IsReadOut, ReadEach, ServesOn, WentOn}
 use Rattle.mmtel_server.specs.declared.servers.Server.{Server}
 
 -- ---- one connection
@@ -45,29 +42,22 @@ ReadsOn ear later giving gave bytes (Ok true) = IsReading ear later bytes
 ReadsOn ear later giving gave bytes (Ok false) = HasRead ear later giving gave (Ok bytes)
 ReadsOn ear later giving gave bytes (Err e) = HasRead ear later giving gave (Err e)
 
--- ---- one turn
+-- ---- all turns
 
--- at most one event came more
-abbrev pub AddsOne : Option Ear → Option Ear → Type 0
-AddsOne None later = ⊤
-AddsOne (Some ear) None = ⊥
-AddsOne (Some ear) (Some later) = (last : List ℕ) × (length last ≤ 1) × (later.reads ≡ ear.reads ++ last)
+-- so many events came, and were done: what was made of them, but for what was offered
+pub record MadeSoFar (happened : List Happened) (ear later : Option Ear) (held left : Option Held) (calls after : Option KeeperCalls) (faults count : ℕ)
+    (turns : ℕ) (old new : Server) : Type 0 where
+  pub told : HeardMore ear later (events_in happened)
+  pub each : length happened ≡ turns
+  pub serves : ServesOn happened old new
+  pub answers : AnswersAll happened old held left calls after
+  pub sheets : HoldsUploads happened old held left
+  pub counted : EachCounted happened faults count
 
--- the event that came, or none at the end
-abbrev pub Takes : Option Ear → Option Ear → (giving gave : ℕ) → Result (Option Event) DriveFault → Type 0
-Takes ear later giving gave (Ok (Some event)) = HeardMore ear later (event ∷ []) × ReadEach ear later giving gave
-Takes ear later giving gave (Ok None) = HeardMore ear later [] × (ReadEach ear later giving gave × IsAtEnd later)
-Takes ear later giving gave (Err fault.LinkFault) = HeardMore ear later [] × ReadEach ear later giving gave
-Takes ear later giving gave (Err fault.NoMemory) = (events : List Event) × (length events ≤ 1) × (HeardMore ear later events × AddsOne ear later)
-
--- so many events came, and the server did them all
+-- and what was offered, for `drive`
 pub record Drove (ear later : Option Ear) (giving gave : ℕ) (held left : Option Held) (calls after : Option KeeperCalls) (faults count : ℕ)
     (turns : ℕ) (old : Server) (out : List Offer) (new : Server) (now : List Offer) : Type 0 where
   pub happened : List Happened
-  pub told : HeardMore ear later (events_in happened)
+  pub made : MadeSoFar happened ear later held left calls after faults count turns old new
   pub read : ReadEach ear later giving gave
-  pub each : length happened ≡ turns
   pub did : WentOn happened old out new now
-  pub answers : AnswersAll happened old out held left calls after
-  pub sheets : HoldsUploads happened old out held left
-  pub counted : EachCounted happened faults count

@@ -1,25 +1,18 @@
 //! Driving the server over a link and a keeper.
-ghost use Rattle.std.specs.Prelude.{◌≡◌, ◌<◌, ◌*◌, ℕ, Bool, [], length, true, IfOk, Ok, OnErr, OnOk, Option, List};
-ghost use Rattle.mmtel_charging.specs.declared.rows.Row.{Row};
+ghost use Rattle.std.specs.Prelude.{◌≡◌, ◌<◌, ◌*◌, [], length, true, IfOk, Ok, OnErr, OnOk, Option, List};
 ghost use Rattle.mmtel_http.specs.Requests.{request_of};
 ghost use Rattle.mmtel_link.specs.Told.{Ear, NextTold};
-ghost use Rattle.mmtel_server.specs.Driven.{CalledTimes, CalledWithin, Driven, HasDriveCause, StandsOrRose, calls_a_turn, reads_a_turn};
-ghost use Rattle.mmtel_server.specs.Stands.{BreaksOff};
-ghost use Rattle.mmtel_server.specs.Stepped.{AskedIn, Stepped, StoppedAt, happened_in};
-ghost use Rattle.mmtel_server.specs.Turns.{HasRead, IsReading, ReadsOn, Takes, is_unfinished};
-ghost use Rattle.mmtel_web.specs.Answers.{Kept};
+ghost use Rattle.mmtel_server.specs.Driven.{CalledTimes, CalledWithin, Driven, HasDriveCause, HasFailedByNumber, StandsOrRose, Takes, calls_a_turn, reads_a_turn};
+ghost use Rattle.mmtel_server.specs.Stepped.{Stepped, Stopped};
+ghost use Rattle.mmtel_server.specs.Turns.{HasRead, IsReading, ReadsOn, is_unfinished};
 
-use crate::laws::{numbers_are_drawn_on, servers_offer_what_runs_give};
+use crate::laws::{laws_of_runs_hold, servers_offer_what_runs_give};
 use crate::servers::Server;
 use mmtel_http::laws::whole_requests_stand;
 use mmtel_http::{Whole, whole};
 use mmtel_keeper::Keeper;
 use mmtel_link::{Arrival, Event, Link};
 use mmtel_outside::Offer;
-use mmtel_run::{enough_comes, rows_are_filed};
-use mmtel_run_laws::{
-    calls_of_runs_come_to_their_outcome, runs_send_clean_messages, seats_of_runs_are_charged_once,
-};
 use mmtel_scan::{List, NoMemory, Text};
 use mmtel_types::Failed;
 use std::alloc::Global;
@@ -27,7 +20,8 @@ use std::alloc::Global;
 /// How many bytes one read takes at most.
 const ROOM: usize = 4096;
 
-/// How often one connection is read at most: each read but the last gives a byte of a request that is not whole yet, and such a one is no longer than the greatest head and the greatest body.
+/// How often one connection is read at most: each read but the last gives a byte of a request that is not whole yet, and such a one is no longer than the greatest head and
+/// the greatest body.
 const READS: u64 = 8192 + 65_536 + 1;
 
 /// Why driving ended before its turns were made and before the link was closed.
@@ -108,6 +102,7 @@ fn event_of<L: Link>(
     ensures giving { StandsOrRose (L.giving link.old) (L.giving link.new) }
     ensures given { L.given link.new ≡ L.given link.old }
     ensures calls { CalledWithin (L.calls link.old) (L.calls link.new) reads_a_turn }
+    ensures number { HasFailedByNumber (L.calls link.new) result }
     ensures cause { HasDriveCause (L.taking link.old) (L.taking link.new) result }
 {
     match arrival {
@@ -122,12 +117,19 @@ fn event_of<L: Link>(
     }
 }
 
-/// The event that comes next, or None where the link is closed.
-fn take<L: Link>(alloc: Global, link: &mut L) -> Result<Option<Event>, DriveFault>
+/// The event that comes next, of a web connection with the bytes that are read of it until they are a request, or can be none, or there are no more of them (RFC 9112
+/// §6.3); None where the link is closed.
+///
+/// # Errors
+///
+/// `LinkFault` only where the link's count of taking in rose. `NoMemory` where memory ran out in the link or in reading a connection; the event is lost then. A read that
+/// fails is no error: it ends its connection, of which the bytes before it count.
+pub fn next_event<L: Link>(alloc: Global, link: &mut L) -> Result<Option<Event>, DriveFault>
     ensures heard { Takes (L.ear link.old) (L.ear link.new) (L.giving link.old) (L.giving link.new) result }
     ensures giving { StandsOrRose (L.giving link.old) (L.giving link.new) }
     ensures given { L.given link.new ≡ L.given link.old }
     ensures calls { CalledWithin (L.calls link.old) (L.calls link.new) calls_a_turn }
+    ensures number { HasFailedByNumber (L.calls link.new) result }
     ensures cause { HasDriveCause (L.taking link.old) (L.taking link.new) result }
 {
     match link.next(alloc) {
@@ -146,18 +148,21 @@ fn meet<K: Keeper>(
 ) -> Result<(), NoMemory>
     ensures done { OnOk result (Stepped server.old out.old server.new out.new event
         (K.held keeper.old) (K.held keeper.new) (K.calls keeper.old) (K.calls keeper.new) (K.faults keeper.old) (K.faults keeper.new)) }
-    ensures met { OnErr result (StoppedAt (λ kept rows. (took : Bool) → BreaksOff server.old out.old out.new (happened_in event kept rows took))
-        (λ kept rows between midst. (took : Bool) → AskedIn server.old out.old (happened_in event kept rows took) (K.held keeper.old) between (K.calls keeper.old) midst)
-        (K.held keeper.new) (K.calls keeper.new) (K.faults keeper.old) (K.faults keeper.new)) }
+    ensures met { OnErr result (Stopped server.old out.old out.new event
+        (K.held keeper.old) (K.held keeper.new) (K.calls keeper.old) (K.calls keeper.new) (K.faults keeper.old) (K.faults keeper.new)) }
 {
     server.step(alloc, &event, keeper, out)
 }
 
-/// Takes events of a link and does each of them, until the link is closed or so many turns were made; a turn is one call of the link's `next`, and of a web connection the reads until its request is whole. What the server offers, replies on web connections among it, is added behind what stands in `out`; nothing is sent. Records are kept by the keeper. True exactly where the link is closed, and false exactly where each turn took an event.
+/// Takes events of a link and does each of them, until the link is closed or so many turns were made; a turn is one call of the link's `next`, and of a web connection the
+/// reads until its request is whole. What the server offers, replies on web connections among it, is added behind what stands in `out`; nothing is sent. Records are kept
+/// by the keeper. True exactly where the link is closed, and false exactly where each turn took an event.
 ///
 /// # Errors
 ///
-/// `LinkFault` only where the link's count of taking in rose: the first `next` that fails ends it, and the server, the keeper and the offers stand as after the events that were taken before. `NoMemory` where memory ran out in the link, in reading a connection or in a step; a front of the last event's offers may then have been added, and its record kept. A read that fails is no error: it ends its connection, of which the bytes before it count.
+/// `LinkFault` only where the link's count of taking in rose: the first `next` that fails ends it, and the server, the keeper and the offers stand as after the events that
+/// were taken before. `NoMemory` where memory ran out in the link, in reading a connection or in a step; a front of the last event's offers may then have been added, and
+/// its record kept. A read that fails is no error: it ends its connection, of which the bytes before it count.
 pub fn drive<L: Link, K: Keeper>(
     alloc: Global,
     server: &mut Server,
@@ -174,15 +179,10 @@ pub fn drive<L: Link, K: Keeper>(
     ensures calls { CalledWithin (L.calls link.old) (L.calls link.new) (turns * calls_a_turn) }
     ensures cause { HasDriveCause (L.taking link.old) (L.taking link.new) result }
 {
-    numbers_are_drawn_on();
-    enough_comes();
-    rows_are_filed();
-    calls_of_runs_come_to_their_outcome();
-    seats_of_runs_are_charged_once();
-    runs_send_clean_messages();
+    laws_of_runs_hold();
     servers_offer_what_runs_give();
     'turns: for _turn in 0..turns {
-        match take(alloc, link) {
+        match next_event(alloc, link) {
             Ok(Some(event)) => match meet(alloc, server, event, keeper, out) {
                 Ok(()) => {}
                 Err(NoMemory) => return Err(DriveFault::NoMemory),

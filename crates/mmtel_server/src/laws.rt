@@ -1,9 +1,12 @@
 //! Laws of what a server went through: each is the contract of a function that does nothing.
 ghost use Rattle.mmtel_server.specs.Follows.{AllDrawOn};
-ghost use Rattle.mmtel_server.specs.Laws.{ReadOutSaysAll, UnfailedAreReadOut, WentGives, WentSeesAlike};
+ghost use Rattle.mmtel_server.specs.Laws.{ReadOutSaysAll, RunLaws, UnfailedAreReadOut, WentGives, WentSeesAlike};
 
 use mmtel_http::laws::whole_requests_stand;
-use mmtel_run::{calls_draw_on, rooms_draw_on};
+use mmtel_run::{calls_draw_on, enough_comes, rooms_draw_on, rows_are_filed};
+use mmtel_run_laws::{
+    calls_of_runs_come_to_their_outcome, runs_send_clean_messages, seats_of_runs_are_charged_once,
+};
 use mmtel_run_secret::runs_keep_the_secret;
 
 /// Whatever a server went through from its beginning, it offered exactly what the run gives.
@@ -21,6 +24,19 @@ pub fn connections_are_read_out()
     ensures all { ReadOutSaysAll }
 {
     whole_requests_stand();
+}
+
+/// The laws of runs by which what a server did follows: what calls come to, which seats are charged and what is sent; that no number is drawn back, that deadlines come to an
+/// end, and that rows are filed.
+pub fn laws_of_runs_hold()
+    ensures { RunLaws }
+{
+    numbers_are_drawn_on();
+    enough_comes();
+    rows_are_filed();
+    calls_of_runs_come_to_their_outcome();
+    seats_of_runs_are_charged_once();
+    runs_send_clean_messages();
 }
 
 /// Whatever is done on calls and rooms, no number is drawn back.

@@ -169,7 +169,9 @@ impl Server {
     /// Who has the dialog of this name: a side of a call, or else a seat of a room.
     fn holder(&self, name: &DialogName) -> Option<Holder>
         ensures { (directory : Directory) (token : List ℕ) (world : World) → Stands directory token self.now world →
-            option_map holder_in result ≡ in_call_or (in_room (find_seat (Some (name_in name.now)) (rooms_in directory world).live)) (find_dialog (Some (name_in name.now)) (calls_in directory world).entries) }
+            option_map holder_in result ≡
+            in_call_or (in_room (find_seat (Some (name_in name.now)) (rooms_in directory world).live))
+            (find_dialog (Some (name_in name.now)) (calls_in directory world).entries) }
     {
         let call_id = name.call_id.bytes();
         let local = name.local.bytes();

@@ -51,8 +51,10 @@ impl Server {
         at: Moment,
         out: &mut List<Offer>,
     ) -> Result<(), NoMemory>
-        ensures done { OnOk result (Follows self.old out.old self.new out.new (λ d token world. silenced d token at branch method (is_of_calls (invite_silent branch method) (calls_in d world).entries) world)) }
-        ensures err { OnErr result (Breaks self.old out.old out.new (λ d token world. silenced d token at branch method (is_of_calls (invite_silent branch method) (calls_in d world).entries) world)) }
+        ensures done { OnOk result (Follows self.old out.old self.new out.new
+            (λ d token world. silenced d token at branch method (is_of_calls (invite_silent branch method) (calls_in d world).entries) world)) }
+        ensures err { OnErr result (Breaks self.old out.old out.new
+            (λ d token world. silenced d token at branch method (is_of_calls (invite_silent branch method) (calls_in d world).entries) world)) }
     {
         let is_of_calls = is_answer_of_calls(
             &self.calls,
@@ -156,8 +158,10 @@ impl Server {
         out: &mut List<Offer>,
     ) -> Result<(), NoMemory>
         requires { place < length self.old.armed }
-        ensures done { OnOk result ((first : Chosen) → chosen_at (Some place) (queue_of self.old.armed) ≡ Some first → first.first.at ≤ now → Follows self.old out.old self.new out.new (λ d token. struck d token first.first first.others)) }
-        ensures err { OnErr result ((first : Chosen) → chosen_at (Some place) (queue_of self.old.armed) ≡ Some first → first.first.at ≤ now → Breaks self.old out.old out.new (λ d token. struck d token first.first first.others)) }
+        ensures done { OnOk result ((first : Chosen) → chosen_at (Some place) (queue_of self.old.armed) ≡ Some first → first.first.at ≤ now →
+            Follows self.old out.old self.new out.new (λ d token. struck d token first.first first.others)) }
+        ensures err { OnErr result ((first : Chosen) → chosen_at (Some place) (queue_of self.old.armed) ≡ Some first → first.first.at ≤ now →
+            Breaks self.old out.old out.new (λ d token. struck d token first.first first.others)) }
     {
         let armed = self.armed.remove(place);
         self.sound(alloc, armed.alarm, moment_by(armed.at, now), out)
@@ -176,8 +180,10 @@ impl Server {
         out: &mut List<Offer>,
     ) -> Result<(), NoMemory>
         requires { IsAmong (length self.old.armed) deadline }
-        ensures done { OnOk result ((first : deadlines.Deadline) → deadline_in deadline (queue_of self.old.armed) ≡ Some first → IsDueBy now first → Follows self.old out.old self.new out.new (λ d token. fired d token now first)) }
-        ensures err { OnErr result ((first : deadlines.Deadline) → deadline_in deadline (queue_of self.old.armed) ≡ Some first → IsDueBy now first → Breaks self.old out.old out.new (λ d token. fired d token now first)) }
+        ensures done { OnOk result ((first : deadlines.Deadline) → deadline_in deadline (queue_of self.old.armed) ≡ Some first → IsDueBy now first →
+            Follows self.old out.old self.new out.new (λ d token. fired d token now first)) }
+        ensures err { OnErr result ((first : deadlines.Deadline) → deadline_in deadline (queue_of self.old.armed) ≡ Some first → IsDueBy now first →
+            Breaks self.old out.old out.new (λ d token. fired d token now first)) }
     {
         numbers_are_drawn_on();
         self.begin();
@@ -189,7 +195,8 @@ impl Server {
 
     /// The deadline that comes first of those that are due.
     fn next_deadline(&self, now: Moment) -> Option<Deadline>
-        ensures first { (h : List Done) → table.Stands self.now.transactions h → deadline_by result (queue_of self.now.armed) ≡ first_of (next_due now (live h)) (first_armed now (queue_of self.now.armed)) }
+        ensures first { (h : List Done) → table.Stands self.now.transactions h →
+            deadline_by result (queue_of self.now.armed) ≡ first_of (next_due now (live h)) (first_armed now (queue_of self.now.armed)) }
         ensures there { IfSome result (IsAmong (length self.now.armed)) }
     {
         let armed = self.armed.items();

@@ -141,7 +141,8 @@ impl Server {
 
     /// Arms a deadline, in this step.
     fn arm(&mut self, alloc: Global, alarm: Alarm, at: u64) -> Result<(), NoMemory>
-        ensures done { OnOk result ((out : List Offer) → Follows self.old out self.new out (λ d token world. arming (record { alarm = alarm_in alarm; at = at; step = world.steps - 1 }) world)) }
+        ensures done { OnOk result ((out : List Offer) →
+            Follows self.old out self.new out (λ d token world. arming (record { alarm = alarm_in alarm; at = at; step = world.steps - 1 }) world)) }
         ensures calls { self.new.calls ≡ self.old.calls }
     {
         let step = self.steps.saturating_sub(1);

@@ -60,10 +60,13 @@ impl Server {
         out: &mut List<Offer>,
     ) -> Result<Answered, NoMemory>
         ensures done { IfOk result (λ a. Follows self.old out.old self.new out.new (λ d token. serving d at (request_of bytes.now) (kept_in a.kept) a.rows)) }
-        ensures asked { IfOk result (λ a. Answers (call_in self.old.directory.names (request_of bytes.now)) (kept_in a.kept) a.rows (K.held keeper.old) (K.held keeper.new) (K.calls keeper.old) (K.calls keeper.new)) }
+        ensures asked { IfOk result (λ a.
+            Answers (call_in self.old.directory.names (request_of bytes.now)) (kept_in a.kept) a.rows (K.held keeper.old) (K.held keeper.new) (K.calls keeper.old)
+            (K.calls keeper.new)) }
         ensures counted { IfOk result (λ a. Counted (kept_in a.kept) (K.faults keeper.old) (K.faults keeper.new)) }
         ensures err { OnErr result (out.new ≡ out.old) }
-        ensures met { OnErr result (Met (call_in self.old.directory.names (request_of bytes.now)) (K.held keeper.old) (K.held keeper.new) (K.calls keeper.old) (K.calls keeper.new) (K.faults keeper.old) (K.faults keeper.new)) }
+        ensures met { OnErr result (Met (call_in self.old.directory.names (request_of bytes.now)) (K.held keeper.old) (K.held keeper.new) (K.calls keeper.old)
+            (K.calls keeper.new) (K.faults keeper.old) (K.faults keeper.new)) }
     {
         let Served { reply, kept, rows } = serve(
             alloc,

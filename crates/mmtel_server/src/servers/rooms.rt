@@ -9,7 +9,8 @@ ghost use Rattle.mmtel_focus.specs.Table.{access, has_no_room};
 ghost use Rattle.mmtel_leg.specs.Releases.{released_leg};
 ghost use Rattle.mmtel_message.specs.Faults.{is_method};
 ghost use Rattle.mmtel_run.specs.Rooms.{account_at, account_of_side, is_accepted, leg_by, replaces_by, side_replaced, status_by};
-ghost use Rattle.mmtel_run.specs.World.{World, adopting, calls_in, entering_room, joining_room, noticed, opening_room, replaced, replaced_by, replacing, room_joined, room_opened, rooms_in, seated, taken_out, tokens_now, turned_away};
+ghost use Rattle.mmtel_run.specs.World.{World, adopting, calls_in, entering_room, joining_room, noticed, opening_room, replaced, replaced_by, replacing, room_joined};
+ghost use Rattle.mmtel_run.specs.World.{room_opened, rooms_in, seated, taken_out, tokens_now, turned_away};
 ghost use Rattle.mmtel_scan.specs.Numbers.{token_text};
 ghost use Rattle.mmtel_sdp.specs.Offers.{offers_audio};
 ghost use Rattle.mmtel_server.specs.Follows.{Breaks, Follows, RoomsDo, RoomsOpen};
@@ -131,7 +132,8 @@ fn take_rows_of_rooms(
     waiting: &mut List<Row>,
 ) -> Result<(), NoMemory>
     ensures waiting { OnOk result (waiting.new ≡ waiting.old ++ rooms.old.table.rows) }
-    ensures done { OnOk result ((peers : Peers) (accounts : List AccountIdentity) (deeds : List Deed) → histories.Stands peers accounts rooms.old deeds → histories.Stands peers accounts rooms.new (Drops (length rooms.old.table.rows) ∷ deeds)) }
+    ensures done { OnOk result ((peers : Peers) (accounts : List AccountIdentity) (deeds : List Deed) → histories.Stands peers accounts rooms.old deeds →
+        histories.Stands peers accounts rooms.new (Drops (length rooms.old.table.rows) ∷ deeds)) }
     ensures site { OnOk result ((peers : Peers) (accounts : List AccountIdentity) → site_of rooms.new peers accounts ≡ site_of rooms.old peers accounts) }
 {
     add_rows(alloc, rooms.rows_waiting(), waiting)?;
@@ -389,7 +391,8 @@ impl Server {
         out: &mut List<Offer>,
     ) -> Result<(), NoMemory>
         requires { offers_audio invite.now.heard.body ≡ true }
-        ensures done { OnOk result (Follows self.old out.old self.new out.new (λ d token world. room_opened d at key invite.now tag.now (has_no_room (rooms_in d world).live) world)) }
+        ensures done { OnOk result (Follows self.old out.old self.new out.new
+            (λ d token world. room_opened d at key invite.now tag.now (has_no_room (rooms_in d world).live) world)) }
         ensures err { OnErr result (Breaks self.old out.old out.new (λ d token world. room_opened d at key invite.now tag.now (has_no_room (rooms_in d world).live) world)) }
     {
         numbers_are_drawn_on();
@@ -436,8 +439,10 @@ impl Server {
         out: &mut List<Offer>,
     ) -> Result<(), NoMemory>
         requires { offers_audio invite.now.heard.body ≡ true }
-        ensures done { OnOk result (Follows self.old out.old self.new out.new (λ d token world. room_joined d token at key invite.now room tag.now (access room.0 (rooms_in d world).live) world)) }
-        ensures err { OnErr result (Breaks self.old out.old out.new (λ d token world. room_joined d token at key invite.now room tag.now (access room.0 (rooms_in d world).live) world)) }
+        ensures done { OnOk result (Follows self.old out.old self.new out.new
+            (λ d token world. room_joined d token at key invite.now room tag.now (access room.0 (rooms_in d world).live) world)) }
+        ensures err { OnErr result (Breaks self.old out.old out.new
+            (λ d token world. room_joined d token at key invite.now room tag.now (access room.0 (rooms_in d world).live) world)) }
     {
         numbers_are_drawn_on();
         let account = caller_account(alloc, &self.directory.names.accounts, invite)?;
@@ -481,7 +486,8 @@ impl Server {
 impl Server {
     /// The call that lives and the side whose dialog is to be replaced; a Replaces without one of the tags names none.
     fn side_replaced(&self, replaces: &Replaces) -> Option<(CallNo, Side)>
-        ensures { (directory : Directory) (token : List ℕ) (world : World) → Stands directory token self.now world → result ≡ side_replaced replaces.now (calls_in directory world).entries }
+        ensures { (directory : Directory) (token : List ℕ) (world : World) → Stands directory token self.now world →
+            result ≡ side_replaced replaces.now (calls_in directory world).entries }
     {
         match &replaces.to_tag {
             None => None,
@@ -574,8 +580,12 @@ impl Server {
         at: Moment,
         out: &mut List<Offer>,
     ) -> Result<(), NoMemory>
-        ensures done { OnOk result (Follows self.old out.old self.new out.new (λ d token world. taken_out d token at room seat call side (account_of_side call side (calls_in d world).entries) (leg_out call.0 side (calls_in d world).entries) world)) }
-        ensures err { OnErr result (Breaks self.old out.old out.new (λ d token world. taken_out d token at room seat call side (account_of_side call side (calls_in d world).entries) (leg_out call.0 side (calls_in d world).entries) world)) }
+        ensures done { OnOk result (Follows self.old out.old self.new out.new
+            (λ d token world. taken_out d token at room seat call side (account_of_side call side (calls_in d world).entries)
+            (leg_out call.0 side (calls_in d world).entries) world)) }
+        ensures err { OnErr result (Breaks self.old out.old out.new
+            (λ d token world. taken_out d token at room seat call side (account_of_side call side (calls_in d world).entries)
+            (leg_out call.0 side (calls_in d world).entries) world)) }
     {
         numbers_are_drawn_on();
         let account = account_at(self.calls.party(call, side));
@@ -600,8 +610,10 @@ impl Server {
         requires unmetered { (released_leg leg).meter ≡ None }
         requires fits { takes_back leg (entry_of call.0 self.old.calls.table.entries) ≡ true }
         requires away { is_away (entry_of call.0 self.old.calls.table.entries) ≡ true }
-        ensures done { OnOk result (Follows self.old out.old self.new out.new (λ d token world. adopting d token at room seat call leg account (access room.0 (rooms_in d world).live) world)) }
-        ensures err { OnErr result (Breaks self.old out.old out.new (λ d token world. adopting d token at room seat call leg account (access room.0 (rooms_in d world).live) world)) }
+        ensures done { OnOk result (Follows self.old out.old self.new out.new
+            (λ d token world. adopting d token at room seat call leg account (access room.0 (rooms_in d world).live) world)) }
+        ensures err { OnErr result (Breaks self.old out.old out.new
+            (λ d token world. adopting d token at room seat call leg account (access room.0 (rooms_in d world).live) world)) }
     {
         numbers_are_drawn_on();
         let how = Joining::Referred { by: seat };

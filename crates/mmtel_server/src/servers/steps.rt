@@ -9,8 +9,8 @@ ghost use Rattle.mmtel_run.specs.Run.{world_after};
 ghost use Rattle.mmtel_run.specs.World.{came, ended, met};
 ghost use Rattle.mmtel_server.specs.Follows.{Breaks, BreaksTo, Follows, FollowsTo, IsReady, going};
 ghost use Rattle.mmtel_server_decisions.specs.Handed.{Handed, HandedCounted, StoppedHanding};
-ghost use Rattle.mmtel_server.specs.Stands.{BreaksOff, Went};
-ghost use Rattle.mmtel_server.specs.Stepped.{AskedAfter, AskedIn, Came, KeeperWent, Stepped, StoppedAt, call_of, happened_in};
+ghost use Rattle.mmtel_server.specs.Stands.{Serves, Went};
+ghost use Rattle.mmtel_server.specs.Stepped.{AskedAfter, Came, KeeperWent, Stepped, Stopped, StoppedAt, call_of, happened_in};
 ghost use Rattle.mmtel_serving.specs.Calls.{Answers, Counted, Met};
 ghost use Rattle.mmtel_serving.specs.Outcomes.{kept_in};
 ghost use Rattle.mmtel_web.specs.Answers.{Kept};
@@ -27,9 +27,11 @@ use mmtel_intake::{digest, moment};
 use mmtel_keeper::Keeper;
 use mmtel_outside::{Event, Offer};
 use mmtel_run::{enough_comes, rows_are_filed};
+use mmtel_run_offers::offers_are_added;
 use mmtel_scan::{List, NoMemory, Text};
 use mmtel_server_decisions::hand_rows;
 use mmtel_transaction::{Tokens, Transactions};
+use mmtel_trust::PeerTable;
 use mmtel_types::{Account, Addr, Moment};
 use std::alloc::Global;
 
@@ -55,7 +57,8 @@ fn later(clock: Moment, moment: Moment) -> Moment
 }
 
 impl Server {
-    /// A server of this configuration over these loaded texts of records, which draws identifiers that begin with the token. Of an account's texts the last one counts, and one that is no record is kept as it is and counts as the empty record.
+    /// A server of this configuration over these loaded texts of records, which draws identifiers that begin with the token. Of an account's texts the last one counts, and
+    /// one that is no record is kept as it is and counts as the empty record.
     ///
     /// # Errors
     ///
@@ -95,11 +98,13 @@ impl Server {
         })
     }
 
-    /// One event: the deadlines that are due by then fire, each at its own moment; then the event is met when the clock, the greatest moment so far, stands so (RFC 3261 §17). An upload is kept by the keeper, and in force from then on exactly where it was kept (3GPP TS 24.623 §5).
+    /// One event: the deadlines that are due by then fire, each at its own moment; then the event is met when the clock, the greatest moment so far, stands so (RFC 3261
+    /// §17). An upload is kept by the keeper, and in force from then on exactly where it was kept (3GPP TS 24.623 §5).
     ///
     /// # Errors
     ///
-    /// Want of memory alone, but for what a 507 answers. Of what the event makes the server offer a front may then have been added, a record may have been kept, and from then on nothing is done.
+    /// Want of memory alone, but for what a 507 answers. Of what the event makes the server offer a front may then have been added, a record may have been kept, and from
+    /// then on nothing is done.
     pub fn step<K: Keeper>(
         &mut self,
         alloc: Global,
@@ -107,10 +112,10 @@ impl Server {
         keeper: &mut K,
         out: &mut List<Offer>,
     ) -> Result<(), NoMemory>
-        ensures done { OnOk result (Stepped self.old out.old self.new out.new event.now (K.held keeper.old) (K.held keeper.new) (K.calls keeper.old) (K.calls keeper.new) (K.faults keeper.old) (K.faults keeper.new)) }
-        ensures met { OnErr result (StoppedAt (λ kept rows. (took : Bool) → BreaksOff self.old out.old out.new (happened_in event.now kept rows took))
-            (λ kept rows between midst. (took : Bool) → AskedIn self.old out.old (happened_in event.now kept rows took) (K.held keeper.old) between (K.calls keeper.old) midst)
-            (K.held keeper.new) (K.calls keeper.new) (K.faults keeper.old) (K.faults keeper.new)) }
+        ensures done { OnOk result (Stepped self.old out.old self.new out.new event.now (K.held keeper.old) (K.held keeper.new) (K.calls keeper.old) (K.calls keeper.new)
+            (K.faults keeper.old) (K.faults keeper.new)) }
+        ensures met { OnErr result (Stopped self.old out.old out.new event.now (K.held keeper.old) (K.held keeper.new) (K.calls keeper.old) (K.calls keeper.new)
+            (K.faults keeper.old) (K.faults keeper.new)) }
         ensures fails { OnErr result (self.new.failed ≡ true) }
         ensures keeps { OnOk result (self.new.failed ≡ false) }
         ensures over { self.old.failed ≡ true → IsErr result × (self.new ≡ self.old) × (out.new ≡ out.old) × (keeper.new ≡ keeper.old) }
@@ -120,6 +125,7 @@ impl Server {
         }
         enough_comes();
         rows_are_filed();
+        offers_are_added();
         let done = self.step_on(alloc, event, keeper, out);
         self.failed = done.is_err();
         match done {
@@ -128,9 +134,18 @@ impl Server {
         }
     }
 
+    /// The peers of its configuration, and the routes to them.
+    pub fn peers(&self) -> &PeerTable
+        ensures peers { (directory : Directory) (token : List ℕ) (loaded : Texts) (happened : List Happened) → Serves directory token loaded happened self.now →
+            result.now ≡ directory.peers }
+    {
+        &self.directory.peers
+    }
+
     /// The charging rows of calls that are over and of seats that were left which the keeper has not taken, in the order in which they were closed.
     pub fn rows_waiting(&self) -> &[Row]
-        ensures waiting { (directory : Directory) (token : List ℕ) (loaded : Texts) (happened : List Happened) (before out : List Offer) (went : Went directory token loaded happened before self.now out) → result.now ≡ (world_after directory token loaded went.fuel happened).waiting }
+        ensures waiting { (directory : Directory) (token : List ℕ) (loaded : Texts) (happened : List Happened) (serves : Serves directory token loaded happened self.now) →
+            result.now ≡ (world_after directory token loaded serves.fuel happened).waiting }
     {
         self.waiting.items()
     }
@@ -182,9 +197,11 @@ impl Server {
     ) -> Result<Answered, NoMemory>
         ensures done { IfOk result (λ a. Follows self.old out.old self.new out.new (λ d token. met d token at (digest_event d event.now (kept_in a.kept) a.rows))) }
         ensures err { OnErr result ((kept : Kept) (rows : List Row) → Breaks self.old out.old out.new (λ d token. met d token at (digest_event d event.now kept rows))) }
-        ensures asked { IfOk result (λ a. Answers (call_of self.old.directory.names event.now) (kept_in a.kept) a.rows (K.held keeper.old) (K.held keeper.new) (K.calls keeper.old) (K.calls keeper.new)) }
+        ensures asked { IfOk result (λ a.
+            Answers (call_of self.old.directory.names event.now) (kept_in a.kept) a.rows (K.held keeper.old) (K.held keeper.new) (K.calls keeper.old) (K.calls keeper.new)) }
         ensures counted { IfOk result (λ a. Counted (kept_in a.kept) (K.faults keeper.old) (K.faults keeper.new)) }
-        ensures met { OnErr result (Met (call_of self.old.directory.names event.now) (K.held keeper.old) (K.held keeper.new) (K.calls keeper.old) (K.calls keeper.new) (K.faults keeper.old) (K.faults keeper.new)) }
+        ensures met { OnErr result (Met (call_of self.old.directory.names event.now) (K.held keeper.old) (K.held keeper.new) (K.calls keeper.old) (K.calls keeper.new)
+            (K.faults keeper.old) (K.faults keeper.new)) }
     {
         numbers_are_drawn_on();
         match event {
@@ -220,7 +237,9 @@ impl Server {
         keeper: &mut K,
         out: &mut List<Offer>,
     ) -> Result<(Answered, bool), NoMemory>
-        ensures done { IfOk result (λ a. Came self.old out.old self.new out.new at event.now (kept_in a.0.kept) a.0.rows a.1 (K.held keeper.old) (K.held keeper.new) (K.calls keeper.old) (K.calls keeper.new) (K.faults keeper.old) (K.faults keeper.new)) }
+        ensures done { IfOk result (λ a.
+            Came self.old out.old self.new out.new at event.now (kept_in a.0.kept) a.0.rows a.1 (K.held keeper.old) (K.held keeper.new) (K.calls keeper.old)
+            (K.calls keeper.new) (K.faults keeper.old) (K.faults keeper.new)) }
         ensures met { OnErr result (StoppedAt (λ kept rows. (took : Bool) → Breaks self.old out.old out.new (λ d token. came d token at (digest_event d event.now kept rows) took))
             (λ kept rows between midst. Answers (call_of self.old.directory.names event.now) kept rows (K.held keeper.old) between (K.calls keeper.old) midst)
             (K.held keeper.new) (K.calls keeper.new) (K.faults keeper.old) (K.faults keeper.new)) }
@@ -241,9 +260,15 @@ impl Server {
         keeper: &mut K,
         out: &mut List<Offer>,
     ) -> Result<(Answered, bool), NoMemory>
-        ensures done { IfOk result (λ a. (fuel : ℕ) → FollowsTo self.old out.old self.new out.new (IsReady fuel (happened_in event.now (kept_in a.0.kept) a.0.rows a.1)) (going fuel (happened_in event.now (kept_in a.0.kept) a.0.rows a.1))) }
-        ensures keeper { IfOk result (λ a. KeeperWent self.old out.old (happened_in event.now (kept_in a.0.kept) a.0.rows a.1) (K.held keeper.old) (K.held keeper.new) (K.calls keeper.old) (K.calls keeper.new) (K.faults keeper.old) (K.faults keeper.new)) }
-        ensures met { OnErr result (StoppedAt (λ kept rows. (took : Bool) (fuel : ℕ) → BreaksTo self.old out.old out.new (IsReady fuel (happened_in event.now kept rows took)) (going fuel (happened_in event.now kept rows took)))
+        ensures done { IfOk result (λ a. (fuel : ℕ) →
+            FollowsTo self.old out.old self.new out.new (IsReady fuel (happened_in event.now (kept_in a.0.kept) a.0.rows a.1))
+            (going fuel (happened_in event.now (kept_in a.0.kept) a.0.rows a.1))) }
+        ensures keeper { IfOk result (λ a.
+            KeeperWent self.old out.old (happened_in event.now (kept_in a.0.kept) a.0.rows a.1) (K.held keeper.old) (K.held keeper.new) (K.calls keeper.old)
+            (K.calls keeper.new) (K.faults keeper.old) (K.faults keeper.new)) }
+        ensures met { OnErr result (StoppedAt
+            (λ kept rows. (took : Bool) (fuel : ℕ) →
+            BreaksTo self.old out.old out.new (IsReady fuel (happened_in event.now kept rows took)) (going fuel (happened_in event.now kept rows took)))
             (λ kept rows between midst. (took : Bool) → AskedAfter self.old out.old (happened_in event.now kept rows took) (K.held keeper.old) between (K.calls keeper.old) midst)
             (K.held keeper.new) (K.calls keeper.new) (K.faults keeper.old) (K.faults keeper.new)) }
     {

@@ -10,6 +10,7 @@ loop-offer-init g c = record {
   gave = gave_none c.args.peers.now.known (g.L.Link.given c.args.link.now);
   lost = lost_none (g.L.Link.given c.args.link.now) (g.L.Link.giving c.args.link.now);
   heard = refl;
+  bound = refl;
   taking = refl;
 }
 
@@ -24,6 +25,7 @@ loop-offer-preserved g c =
           (gave_more known (take i es) (c.offer-item.result ∷ []) _ _ _ c.loop-offer.invariant.gave c.in_ok-give.ensures.gave);
       lost = lost_then _ _ _ _ _ _ c.loop-offer.invariant.lost c.give.ensures.lost;
       heard = c.give.ensures.heard ∙ c.loop-offer.invariant.heard;
+      bound = c.give.ensures.bound ∙ c.loop-offer.invariant.bound;
       taking = c.give.ensures.taking ∙ c.loop-offer.invariant.taking;
     }
 

@@ -6,9 +6,9 @@ use Rattle.mmtel_serving.specs.Calls.{Answers}
 use Rattle.mmtel_serving.specs.Outcomes.{kept_in}
 use Rattle.mmtel_server.proofs.Charging.{charged}
 use Rattle.mmtel_server.proofs.Records.{stopped_unasked}
-use Rattle.mmtel_server.proofs.Runs.{asked_then, breaks_off, goes_on, waited_in}
+use Rattle.mmtel_server.proofs.Runs.{adds_front, adds_on, asked_then, breaks_off, goes_on, waited_in}
 use Rattle.mmtel_server.proofs.servers.Server.step.Goals as goal
-use Rattle.mmtel_server.specs.Stands.{GoesOn}
+use Rattle.mmtel_server.specs.Stands.{AddsOn, GoesOn}
 use Rattle.mmtel_server.specs.Stepped.{call_of, happened_in}
 
 pub returns-then-self-clause-met : goal.returns-then-self-clause-met
@@ -30,17 +30,19 @@ returns-in-Ok-clause-done g c =
       took = a.1;
       went = subst (λ (b : Bool). GoesOn s c.args.out.now (record (c.step_on-done.new.self) { failed = b }) c.step_on-done.new.out one) (sym whole)
           (goes_on s c.step_on-done.new.self c.args.out.now c.step_on-done.new.out one c.enough_comes.ensures.always (IfOk-at_ok _ c.in-Ok.is c.step_on-done.ensures.done));
+      adds = subst (λ (b : Bool). AddsOn s c.args.out.now (record (c.step_on-done.new.self) { failed = b }) c.step_on-done.new.out one) (sym whole)
+          (adds_on c.offers_are_added.ensures.events c.offers_are_added.ensures.deadlines s c.step_on-done.new.self c.args.out.now c.step_on-done.new.out one c.enough_comes.ensures.always (IfOk-at_ok _ c.in-Ok.is c.step_on-done.ensures.done));
       between = went.between;
       midst = went.midst;
       mid = went.mid;
-      asked = asked_then s c.args.out.now one
+      asked = asked_then c.offers_are_added.ensures.events c.offers_are_added.ensures.deadlines s c.args.out.now one
           (λ (x : Directory). Answers (call_of x.names c.args.event.now) (kept_in a.0.kept) a.0.rows (g.K.Keeper.held c.args.keeper.now) went.between (g.K.Keeper.calls c.args.keeper.now) went.midst)
           c.enough_comes.ensures.always went.asked;
       counted = went.counted;
-      waited = waited_in s c.args.out.now one went.waiting went.waited;
+      waited = waited_in c.offers_are_added.ensures.events c.offers_are_added.ensures.deadlines s c.args.out.now one went.waiting went.waited;
       handed = went.handed;
       handed_counted = went.handed_counted;
-      charged = charged c.rows_are_filed.ensures.all c.rows_are_filed.ensures.none (one ∷ []) s c.args.out.now;
+      charged = charged c.rows_are_filed.ensures.all c.rows_are_filed.ensures.none (one ∷ []) s;
     }
 
 pub returns-clause-met : goal.returns-clause-met
@@ -49,11 +51,14 @@ returns-clause-met g c =
     record {
       kept = m.kept;
       rows = m.rows;
-      broke = λ took. breaks_off c.args.self.now c.args.out.now c.step_on-done.new.out (happened_in c.args.event.now m.kept m.rows took) (m.broke took);
+      broke = λ took. (
+        breaks_off c.args.self.now c.args.out.now c.step_on-done.new.out (happened_in c.args.event.now m.kept m.rows took) (m.broke took),
+        adds_front c.offers_are_added.ensures.events c.offers_are_added.ensures.deadlines c.args.self.now c.args.out.now c.step_on-done.new.out (happened_in c.args.event.now m.kept m.rows took) (m.broke took),
+      );
       between = m.between;
       midst = m.midst;
       mid = m.mid;
-      asked = λ took. asked_then c.args.self.now c.args.out.now (happened_in c.args.event.now m.kept m.rows took)
+      asked = λ took. asked_then c.offers_are_added.ensures.events c.offers_are_added.ensures.deadlines c.args.self.now c.args.out.now (happened_in c.args.event.now m.kept m.rows took)
           (λ (x : Directory). Answers (call_of x.names c.args.event.now) m.kept m.rows (g.K.Keeper.held c.args.keeper.now) m.between (g.K.Keeper.calls c.args.keeper.now) m.midst)
           c.enough_comes.ensures.always (m.asked took);
       counted = m.counted;

@@ -1,0 +1,5 @@
+mod Turning
+mod Reading
+mod Gives
+mod Secret
+mod Served

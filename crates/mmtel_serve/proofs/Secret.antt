@@ -1,0 +1,46 @@
+-- What is sent to a peer's address is what the peer sees of the offers, and keeps the secret.
+use Rattle.std.proofs.Common.{◌≡◌, ℕ, Bool, true, false, List, [], ◌∷◌, ◌++◌, map, refl, sym, ap, ◌∙◌, Option, None, Some}
+use Rattle.std.specs.Prelude.{if◌then◌else◌}
+use Rattle.std.proofs.lemmas.List.{map-append}
+use Rattle.mmtel_giving.specs.Giving.{Gave, bytes_to, sends_of, sent_of}
+use Rattle.mmtel_link.specs.Told.{Given}
+use Rattle.mmtel_outside.specs.declared.events.Offer.{Offer}
+use Rattle.mmtel_run.specs.Events.{Happened}
+use Rattle.mmtel_run.specs.Headline.{Gives, GivesAlways}
+use Rattle.mmtel_run_offers.specs.Seen.{BytesAreSeen, texts_seen}
+use Rattle.mmtel_run_secret.specs.Headline.{OffersKeepTheSecret}
+use Rattle.mmtel_server.specs.declared.servers.Server.{Server}
+use Rattle.mmtel_trust.specs.declared.parties.KnownPeer.{KnownPeer}
+use Rattle.mmtel_types.specs.Addrs.{is_same_addr}
+use Rattle.mmtel_types.specs.declared.addrs.Addr.{Addr}
+use Rattle.mmtel_serve.specs.Served.{GaveOn, KeptTheSecret, SentTo}
+
+one_more : (b : Bool) (text : List ℕ) (xs ys : List (List ℕ)) → (if b then text ∷ (xs ++ ys) else xs ++ ys) ≡ (if b then text ∷ xs else xs) ++ ys
+one_more true text xs ys = refl
+one_more false text xs ys = refl
+
+bytes_then : (addr : Addr) (xs ys : List (Addr × List ℕ)) → bytes_to addr (xs ++ ys) ≡ bytes_to addr xs ++ bytes_to addr ys
+bytes_then addr [] ys = refl
+bytes_then addr (x ∷ xs) ys =
+    ap (λ (l : List (List ℕ)). if is_same_addr x.0 addr then x.1 ∷ l else l) (bytes_then addr xs ys) ∙ one_more (is_same_addr x.0 addr) x.1 (bytes_to addr xs) (bytes_to addr ys)
+
+-- what was sent to an address is what was offered to its peer
+sent_there : (known : List KnownPeer) (offers : List Offer) (given now : Option Given) (addr : Addr) (texts : List (List ℕ)) → Gave known offers given now → bytes_to addr (sends_of known offers) ≡ texts
+    → SentTo addr given now texts
+sent_there known offers None now addr texts gave seen = tt
+sent_there known offers (Some given) None addr texts gave seen = absurd gave
+sent_there known offers (Some given) (Some now) addr texts gave seen =
+    ap (λ l. bytes_to addr (map sent_of l)) gave.sends
+    ∙ (ap (bytes_to addr) (map-append sent_of given.offers gave.sent)
+    ∙ (bytes_then addr (map sent_of given.offers) (map sent_of gave.sent)
+    ∙ ap (λ (l : List (List ℕ)). bytes_to addr (map sent_of given.offers) ++ l) (ap (bytes_to addr) gave.sends_same ∙ seen)))
+
+pub kept_of : OffersKeepTheSecret → GivesAlways → BytesAreSeen → (happened : List Happened) (old : Server) (given now : Option Given) → GaveOn happened old given now → KeptTheSecret happened old given now
+kept_of keeps always bytes happened old given now gave d token loaded serves short =
+    let enough = always d token loaded happened in
+    let here = gave d token loaded [] enough.0 serves short enough.1 in
+    let exact : Gives d token loaded happened here.0 = record { fuel = enough.0; enough = enough.1; exact = sym here.1 } in (
+      here.0,
+      keeps d token loaded happened here.0 exact,
+      λ seer addr apart at. sent_there d.peers.known here.0 given now addr (texts_seen seer here.0) here.2 (bytes d.peers.known seer addr here.0 apart at),
+    )

@@ -1,0 +1,121 @@
+-- What `serve` heard of a link, made of it, and gave it.
+use Rattle.std.specs.Prelude.{◌≡◌, ◌≤◌, ℕ, Bool, ⊤, List, [], ◌∷◌, ◌++◌, length, map, true, Option, Some, None, Result, Ok, Err}
+use Rattle.mmtel_directory.specs.declared.directories.Directory.{Directory}
+use Rattle.mmtel_giving.specs.Giving.{Gave, bytes_to, sent_of}
+use Rattle.mmtel_in_force.specs.Texts.{Texts}
+use Rattle.mmtel_keeper.specs.Kept.{Held, KeeperCalls}
+use Rattle.mmtel_link.specs.Told.{Ear, Given}
+use Rattle.mmtel_outside.specs.declared.events.Event.{Event}
+use Rattle.mmtel_outside.specs.declared.events.Offer.{Offer}
+use Rattle.mmtel_run.specs.Events.{Happened}
+use Rattle.mmtel_run.specs.Run.{IsEnough, gives}
+use Rattle.mmtel_run.specs.Short.{IsShortRun}
+use Rattle.mmtel_run_offers.specs.Seen.{texts_seen}
+use Rattle.mmtel_run_secret.specs.Headline.{SeesAlike}
+use Rattle.mmtel_server.specs.Driven.{IsRead, MadeOf, ServesOn, StandsOrRose, to_come}
+use Rattle.mmtel_server.specs.Stands.{IsCut, Serves}
+use Rattle.mmtel_server.specs.declared.driving.DriveFault.{DriveFault}
+use Rattle.mmtel_server.specs.declared.driving.DriveFault.TheVariants.{LinkFault, NoMemory}
+use Rattle.mmtel_server.specs.declared.servers.Server.{Server}
+use Rattle.mmtel_trust.specs.Peers.{addr_of, are_apart}
+use Rattle.mmtel_types.specs.declared.addrs.Addr.{Addr}
+use Rattle.mmtel_types.specs.declared.numbers.Peer.{Peer}
+
+-- ---- how web connections were read
+
+-- each event that came of these was read so, in order: a web connection was read out, but where a read failed, at which the count of giving out rose; between them the
+-- count stood, or rose where something that was given was lost
+abbrev pub EachReadBetween : (giving gave : ℕ) → List Event → (reads : List ℕ) → Type 0
+EachReadBetween giving gave events [] = StandsOrRose giving gave
+EachReadBetween giving gave [] (count ∷ reads) = ⊥
+EachReadBetween giving gave (e ∷ events) (count ∷ reads) =
+    (before : ℕ) × (between : ℕ) × StandsOrRose giving before × (IsRead before between count e × EachReadBetween between gave events reads)
+
+-- where the link tells what it hears, each event that came was read so
+abbrev pub ReadsBetween : Option Ear → Option Ear → (giving gave : ℕ) → Type 0
+ReadsBetween None later giving gave = ⊤
+ReadsBetween (Some ear) None giving gave = ⊥
+ReadsBetween (Some ear) (Some later) giving gave = (reads : List ℕ) × (later.reads ≡ ear.reads ++ reads) × EachReadBetween giving gave (to_come ear) reads
+
+-- each but the last, if that was not read to its end
+abbrev pub ReadsButLast : Option Ear → Option Ear → (giving : ℕ) → Type 0
+ReadsButLast None later giving = ⊤
+ReadsButLast (Some ear) None giving = ⊥
+ReadsButLast (Some ear) (Some later) giving =
+    (reads : List ℕ) × (last : List ℕ) × (gave : ℕ) × (later.reads ≡ ear.reads ++ (reads ++ last)) × (length last ≤ 1) × EachReadBetween giving gave (to_come ear) reads
+
+-- memory may have run out in reading the last
+abbrev pub ReadsAll : Option Ear → Option Ear → (giving gave : ℕ) → Result Bool DriveFault → Type 0
+ReadsAll ear later giving gave (Ok closed) = ReadsBetween ear later giving gave
+ReadsAll ear later giving gave (Err LinkFault) = ReadsBetween ear later giving gave
+ReadsAll ear later giving gave (Err NoMemory) = ReadsButLast ear later giving
+
+-- ---- what the link was given
+
+-- whatever run the server serves in, these are what that and what happened here add to its offers, and exactly they were given, at the addresses of its configuration
+abbrev pub GaveOn : List Happened → Server → Option Given → Option Given → Type 0
+GaveOn happened old given now =
+    (directory : Directory) (token : List ℕ) (loaded : Texts) (earlier : List Happened) (fuel : ℕ) →
+    Serves directory token loaded earlier old → IsShortRun directory token loaded (earlier ++ happened) → IsEnough directory token loaded fuel (earlier ++ happened) →
+    (added : List Offer) × (gives directory token loaded fuel (earlier ++ happened) ≡ gives directory token loaded fuel earlier ++ added) ×
+    Gave directory.peers.known added given now
+
+-- of what is due in the run up to the last of these nothing is missing, and nothing was given that is not due in the whole
+abbrev pub GaveUpTo : (done last : List Happened) → Server → Option Given → Option Given → Type 0
+GaveUpTo done last old given now =
+    (directory : Directory) (token : List ℕ) (loaded : Texts) (earlier : List Happened) (fuel : ℕ) →
+    Serves directory token loaded earlier old → IsShortRun directory token loaded (earlier ++ (done ++ last)) → IsEnough directory token loaded fuel (earlier ++ (done ++ last)) →
+    (added : List Offer)
+    × IsCut (gives directory token loaded fuel (earlier ++ done)) (gives directory token loaded fuel earlier ++ added)
+    (gives directory token loaded fuel (earlier ++ (done ++ last)))
+    × Gave directory.peers.known added given now
+
+-- all of these were done and given, but for the last, if memory ran out in it: of what that one makes the server offer a front was given
+pub record StoppedGiving (happened : List Happened) (old : Server) (given now : Option Given) : Type 0 where
+  pub done : List Happened
+  pub last : List Happened
+  pub parts : happened ≡ done ++ last
+  pub one : length last ≤ 1
+  pub gave : GaveUpTo done last old given now
+
+-- the server did all of these and the link was given what is due, but for want of memory
+abbrev pub GaveAllOf : List Happened → Server → Server → Option Given → Option Given → Result Bool DriveFault → Type 0
+GaveAllOf happened old new given now (Ok closed) = ServesOn happened old new × GaveOn happened old given now
+GaveAllOf happened old new given now (Err LinkFault) = ServesOn happened old new × GaveOn happened old given now
+GaveAllOf happened old new given now (Err NoMemory) = StoppedGiving happened old given now
+
+-- ---- what the link was sent for whom
+
+-- so many bytes more were sent to an address, in order, where the link tells what it was given
+abbrev pub SentTo : Addr → Option Given → Option Given → List (List ℕ) → Type 0
+SentTo addr None now texts = ⊤
+SentTo addr (Some given) None texts = ⊥
+SentTo addr (Some given) (Some now) texts = bytes_to addr (map sent_of now.offers) ≡ bytes_to addr (map sent_of given.offers) ++ texts
+
+-- in a run that the server serves in from its first event on there are offers of which an untrusted peer sees what it would see of any other run that is equal without its
+-- private places, and what it sees of them was sent to its address, in order, and nothing else, where each peer has a number and an address of its own
+abbrev pub KeptTheSecret : List Happened → Server → Option Given → Option Given → Type 0
+KeptTheSecret happened old given now =
+    (directory : Directory) (token : List ℕ) (loaded : Texts) → Serves directory token loaded [] old → IsShortRun directory token loaded happened →
+    (offers : List Offer) × SeesAlike directory token loaded happened offers
+    × ((seer : Peer) (addr : Addr) → are_apart directory.peers.known ≡ true → addr_of seer directory.peers.known ≡ Some addr → SentTo addr given now (texts_seen seer offers))
+
+abbrev pub KeptAll : List Happened → Server → Option Given → Option Given → Result Bool DriveFault → Type 0
+KeptAll happened old given now (Ok closed) = KeptTheSecret happened old given now
+KeptAll happened old given now (Err LinkFault) = KeptTheSecret happened old given now
+KeptAll happened old given now (Err NoMemory) = ⊤
+
+-- ---- the whole
+
+-- what the link told, counted and was given before and after, what the keeper told and counted before and after, the turns, the server before and after, and the answer
+pub record Served (ear later : Option Ear) (giving gave : ℕ) (given now : Option Given) (held left : Option Held) (calls after : Option KeeperCalls) (faults count : ℕ)
+    (turns : ℕ) (old new : Server) (result : Result Bool DriveFault) : Type 0 where
+  -- there are events that came, each with what the keeper answered in it,
+  pub happened : List Happened
+  pub made : MadeOf happened ear later held left calls after faults count turns old result
+  -- the web connections among them read out,
+  pub read : ReadsAll ear later giving gave result
+  -- the server did them all, and the link was given what that makes it offer,
+  pub given_all : GaveAllOf happened old new given now result
+  -- and the secret was kept
+  pub kept : KeptAll happened old given now result

@@ -1,7 +1,8 @@
-//! The program: the files of the system, a database, the standard output, and the call that does the work. It ends with that call's status.
+//! The program: the files of the system, the network, a database, the standard output, and the call that does the work. It ends with that call's status.
 #![tactic(auto)]
 
-use mmtel_cli::{DiskFiles, OutSink, out_of_memory, run};
+use mmtel_cli::{DiskFiles, OutSink, out_of_memory, program};
+use mmtel_net::NetLink;
 use mmtel_scan::Text;
 use mmtel_store::SqliteKeeper;
 use std::alloc::Global;
@@ -9,7 +10,7 @@ use std::io::ErrorKind;
 use std::process::ExitCode;
 use std::{env, io};
 
-/// The words behind the program's own name.
+/// The words behind the program's own name; none where one of them is not UTF-8, which is of no command, as no word at all is.
 fn words(rt: &HostRuntime, alloc: Global) -> io::Result<Vec<Text>> {
     let mut words = Vec::new(alloc);
     for word in env::args(rt)?.skip(1) {
@@ -22,20 +23,24 @@ fn words(rt: &HostRuntime, alloc: Global) -> io::Result<Vec<Text>> {
 }
 
 fn main(rt: HostRuntime) -> ExitCode {
+    let alloc = rt.alloc();
     let mut files = DiskFiles::new(&rt);
+    let mut link = NetLink::new(&rt);
     let mut keeper = SqliteKeeper::new(&rt);
     let mut out = OutSink::new(&rt);
-    let status = match words(&rt, rt.alloc()) {
-        Ok(words) => run(
-            rt.alloc(),
-            words.as_slice(),
-            &mut files,
-            &mut keeper,
-            &mut out,
-        ),
-        Err(e) if e.kind() == ErrorKind::OutOfMemory => out_of_memory(&mut out),
-        // A word that is not UTF-8 is of no command, and neither is no word at all.
-        Err(_) => run(rt.alloc(), &[], &mut files, &mut keeper, &mut out),
+    let words = match words(&rt, alloc) {
+        Ok(words) => words,
+        Err(e) if e.kind() == ErrorKind::OutOfMemory => {
+            return ExitCode::from(out_of_memory(&mut out));
+        }
+        Err(_) => Vec::new(alloc),
     };
-    ExitCode::from(status)
+    program(
+        alloc,
+        words.as_slice(),
+        &mut files,
+        &mut link,
+        &mut keeper,
+        &mut out,
+    )
 }

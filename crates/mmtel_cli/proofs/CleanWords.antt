@@ -1,4 +1,5 @@
--- What the laws of a run ask of a configuration and a token, which are read so: the home domain and the token are of one line each, and the branches that the server draws are read as they are written.
+-- What the laws of a run ask of a configuration and a token, which are read so: the home domain and the token are of one line each, each peer has a number and an address of its
+-- own, and the branches that the server draws are read as they are written.
 use Rattle.std.proofs.Common.{◌≡◌, ◌==◌, ◌<◌, true, ℕ, List, [], ◌∷◌, refl, length, Result, Ok, Err, arith}
 use Rattle.std.proofs.lemmas.Bool.Decides.{nat_tests}
 use Rattle.std.specs.Prelude.{IfOk}
@@ -8,9 +9,12 @@ use Rattle.mmtel_directory.specs.Directory.{directory_of}
 use Rattle.mmtel_directory.specs.declared.directories.Directory.{Directory}
 use Rattle.mmtel_message.specs.Headers.{is_value_byte}
 use Rattle.mmtel_run_laws.specs.Clean.{HomesAreClean}
+use Rattle.mmtel_run_offers.specs.Seen.{PeersAreApart}
 use Rattle.mmtel_run_secret.specs.Headline.{BranchesAreRead, ConfigurationsAreRead}
 use Rattle.mmtel_scan.proofs.Runs.{and_true}
-use Rattle.mmtel_cli.specs.Words.{is_hex, is_token}
+use Rattle.mmtel_trust.specs.Peers.{are_apart}
+use Rattle.mmtel_words.specs.CommandLine.{is_hex, is_token}
+use Rattle.mmtel_cli.specs.Found.{IsSuited}
 
 -- ---- the token
 
@@ -34,19 +38,31 @@ sixteen s is = grind (arith, nat_tests, is)
 -- what is so of one that was read
 pub record Suits (directory : Directory) : Type 0 where
   pub home : IsClean directory.home
+  pub apart : are_apart directory.peers.known ≡ true
   pub branches : (token : List ℕ) → is_token token ≡ true → BranchesAreRead directory token
 
-suits : HomesAreClean → ConfigurationsAreRead → (text : List ℕ) (directory : Directory) → directory_of text ≡ Ok directory → Suits directory
-suits homes reads text directory is = record {
-  home = homes text directory is;
-  branches = λ token. λ right.
-      let both = and_true (length token == 16) (list_all is_hex token) right in
-      reads text directory token is (sixteen token both.0) both.1;
+module _ (homes : HomesAreClean) (apart : PeersAreApart) (reads : ConfigurationsAreRead) (text : List ℕ) where
+  suits : (directory : Directory) → directory_of text ≡ Ok directory → Suits directory
+  suits directory is = record {
+    home = homes text directory is;
+    apart = apart text directory is;
+    branches = λ token. λ right.
+        let both = and_true (length token == 16) (list_all is_hex token) right in
+        reads text directory token is (sixteen token both.0) both.1;
+  }
+
+  suits_as : (read : Result Directory ℕ) → directory_of text ≡ read → IfOk read Suits
+  suits_as (Ok directory) is = suits directory is
+  suits_as (Err line) is = tt
+
+  pub directory_suits : IfOk (directory_of text) Suits
+  directory_suits = suits_as (directory_of text) refl
+
+-- so it is fit to be served
+pub suited : (directory : Directory) (token : List ℕ) → Suits directory → is_token token ≡ true → IsSuited directory token
+suited directory token suits right = record {
+  home = suits.home;
+  text = token_clean token right;
+  apart = suits.apart;
+  branches = suits.branches token right;
 }
-
-suits_as : HomesAreClean → ConfigurationsAreRead → (text : List ℕ) (read : Result Directory ℕ) → directory_of text ≡ read → IfOk read Suits
-suits_as homes reads text (Ok directory) is = suits homes reads text directory is
-suits_as homes reads text (Err line) is = tt
-
-pub directory_suits : HomesAreClean → ConfigurationsAreRead → (text : List ℕ) → IfOk (directory_of text) Suits
-directory_suits homes reads text = suits_as homes reads text (directory_of text) refl

@@ -3,10 +3,11 @@ use Rattle.std.proofs.Common.{◌≡◌, ℕ, List, refl, sym, subst, Option, So
 use Rattle.mmtel_directory.specs.Directory.{directory_of}
 use Rattle.mmtel_cli.specs.Due.{due_of_charges, due_of_records, due_of_script, shelf_of_config, shelf_of_directory}
 use Rattle.mmtel_cli.specs.Found.{HasCalled, IsDue}
-use Rattle.mmtel_cli.specs.Gives.{GivesScript, GivesBoth, GivesRecords, GivesCharges}
+use Rattle.mmtel_cli.specs.Gives.{GivesScript, GivesBoth, GivesRecords, GivesCharges, GivesServe, ServesConfig, ServesDirectory}
 use Rattle.mmtel_cli.specs.Keeping.{KeeperSeen}
+use Rattle.mmtel_cli.specs.Serving.{LinkSeen}
 use Rattle.mmtel_outside.specs.Shelf.{Shelf, answer_at, called, ReadsTold}
-use Rattle.mmtel_cli.specs.Words.{Asked}
+use Rattle.mmtel_words.specs.CommandLine.{Asked}
 use Rattle.mmtel_directory.specs.declared.directories.Directory.{Directory}
 use Rattle.mmtel_cli.specs.declared.reports.Report.{Report}
 use Rattle.mmtel_cli.specs.declared.reports.Report.TheVariants.{Line, File, Memory}
@@ -142,3 +143,31 @@ module _ (keeper later : KeeperSeen) where
 
   pub gives_unread_charges : (told : Option Shelf) (name : List ℕ) → GivesCharges told keeper later name Memory
   gives_unread_charges told name = record { text = told_answer told name; told_text = told_answer-is told name; is_due = tt }
+
+-- ---- of `serve`
+
+module _ (link far : LinkSeen) (keeper later : KeeperSeen) where
+  pub gives_serve : (told after : Option Shelf) (name config token : List ℕ) (turns : ℕ) (outcome : Report)
+      → ReadsTold told after name (Ok config) → ServesConfig (Some config) token turns link far keeper later outcome →
+      GivesServe told link far keeper later name token turns outcome
+  gives_serve told after name config token turns outcome h d = record { text = Some config; told_text = some-is told after name config h; is_due = d }
+
+  pub gives_no_serve : (told after : Option Shelf) (name token : List ℕ) (turns : ℕ) → ReadsTold told after name (Err Failed)
+      → GivesServe told link far keeper later name token turns File
+  gives_no_serve told after name token turns h = record { text = None; told_text = none-is told after name h; is_due = refl }
+
+  -- for want of memory there is nothing to be said of the configuration
+  pub serves_short : (directory : Result Directory ℕ) (token : List ℕ) (turns : ℕ) → ServesDirectory directory token turns link far keeper later Memory
+  serves_short (Ok directory) token turns = tt
+  serves_short (Err line) token turns = tt
+
+  unread_config : (config : Option (List ℕ)) (token : List ℕ) (turns : ℕ) → ServesConfig config token turns link far keeper later Memory
+  unread_config None token turns = tt
+  unread_config (Some config) token turns = serves_short (directory_of config) token turns
+
+  pub gives_unread_serve : (told : Option Shelf) (name token : List ℕ) (turns : ℕ) → GivesServe told link far keeper later name token turns Memory
+  gives_unread_serve told name token turns = record {
+    text = told_answer told name;
+    told_text = told_answer-is told name;
+    is_due = unread_config (told_answer told name) token turns;
+  }

@@ -1,9 +1,9 @@
+pub mod Asking
 pub mod CleanWords
 pub mod Giving
-pub mod LineChecked
-pub mod LineRead
-pub mod LineSpelled
+pub mod Linking
 pub mod Running
 pub mod Saying
 pub mod Scripted
-pub mod WordLaws
+pub mod ServedRuns
+pub mod Working

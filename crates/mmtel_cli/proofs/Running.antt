@@ -1,4 +1,4 @@
--- A run, by what the files and the keeper gave.
+-- A run, by what the files, the keeper and the link gave.
 use Rattle.std.proofs.Common.{◌≡◌, true, ◌↔◌, ◌⊎◌, ◌∙◌, ℕ, List, refl, subst, sym, inl, inr, nat_eq, codes, Option, Some, None, Result, Ok, Err, IfSome}
 use Rattle.std.proofs.lemmas.Bool.{cases_Bool, eqb-true, eqb-false}
 use Rattle.std.specs.Prelude.{IfOk}
@@ -9,31 +9,36 @@ use Rattle.mmtel_outside.specs.declared.events.Event.{Event}
 use Rattle.mmtel_run_laws.specs.Clean.{HomesAreClean, RunsSendCleanMessages}
 use Rattle.mmtel_run_laws.specs.Outcome.{CallsOfRunsComeToOutcome}
 use Rattle.mmtel_run_laws.specs.Rows.{SeatsOfRunsAreChargedOnce}
+use Rattle.mmtel_run_offers.specs.Seen.{PeersAreApart}
 use Rattle.mmtel_run_secret.specs.Headline.{ConfigurationsAreRead}
 use Rattle.mmtel_script.specs.Script.{events_of}
 use Rattle.mmtel_uploads.specs.Uploads.{upload_of}
 use Rattle.mmtel_uploads.specs.declared.uploads.Upload.{Upload}
 use Rattle.mmtel_uploads.specs.declared.uploads.Upload.TheVariants as upload
-use Rattle.mmtel_cli.proofs.CleanWords.{Suits, directory_suits, token_clean}
-use Rattle.mmtel_cli.proofs.LineChecked.{none_spelled, reads_command, spelled_command}
-use Rattle.mmtel_cli.specs.CommandLine.{Command, Serve, Replay, Check, Charges, Workload, IsReplay, IsCheck, IsCharges}
-use Rattle.mmtel_cli.specs.Commands.{command_of}
+use Rattle.mmtel_cli.proofs.CleanWords.{Suits, directory_suits, suited, token_clean}
+use Rattle.mmtel_words.specs.CommandLine.{Asked, Command, Serve, Replay, Check, Charges, Workload, IsCommand, is_token}
+use Rattle.mmtel_cli.specs.Asks.{AsksFor, IsOnly, SpellsNone}
 use Rattle.mmtel_cli.specs.Due as due
-use Rattle.mmtel_cli.specs.Due.{due_of_events, due_of_script, due_of_directory, due_of_config, due_of_store, due_of_charges, due_of_upload, due_of_records, shelf_of_config, shelf_after}
+use Rattle.mmtel_cli.specs.Due.{due_of_events, due_of_script, due_of_directory, due_of_config, due_of_store, due_of_charges, due_of_upload, due_of_records, due_of_work}
+use Rattle.mmtel_cli.specs.Due.{first_after, shelf_by, shelf_first, shelf_after}
 use Rattle.mmtel_cli.specs.Ends.{Ends, WroteListing}
-use Rattle.mmtel_cli.specs.Found.{HasCalled, IsDue, SparedBy, Spares}
-use Rattle.mmtel_cli.specs.Gives.{GivesBoth, GivesCharges, GivesRecords, GivesRun}
+use Rattle.mmtel_cli.specs.Found.{HasCalled, IsDue, IsServedBy, SparedBy, Spares}
+use Rattle.mmtel_cli.specs.Gives.{GivesBoth, GivesCharges, GivesRecords, GivesRun, GivesServe, Prepares, ServesConfig, ServesDirectory}
 use Rattle.mmtel_cli.specs.Keeping.{IsNotLoaded, IsSpared, KeeperSeen}
 use Rattle.mmtel_cli.specs.Listings.{Lists, ListsRows}
-use Rattle.mmtel_cli.specs.Runs.{WroteMemory, WroteLine, WroteFile, WroteKeeper, WroteFault, Listed, ListedRows, Replayed, Checked, Charged, Ran, RanReplay, RanCheck, RanCharges, RanNone, Called, CalledFor}
-use Rattle.mmtel_cli.specs.Runs.{EndsOfEvents, EndsOfScript, EndsOfDirectory, EndsOfConfig, EndsOfStore, EndsOfCharges, EndsOfUpload, EndsOfRecords}
-use Rattle.mmtel_cli.specs.Words.{Asked, is_token}
+use Rattle.mmtel_cli.specs.Serving.{LinkSeen}
+use Rattle.mmtel_cli.specs.Workloads.{work_config}
+use Rattle.mmtel_cli.specs.Runs.{WroteMemory, WroteLine, WroteFile, WroteKeeper, WroteFault, Counted, Listed, ListedRows, Replayed, Checked, Charged, HasServed}
+use Rattle.mmtel_cli.specs.Runs.{Ran, RanServe, RanReplay, RanCheck, RanCharges, RanWork, RanNone, RanShort, Called, CalledFor}
+use Rattle.mmtel_cli.specs.Runs.{EndsOfEvents, EndsOfScript, EndsOfDirectory, EndsOfConfig, EndsOfStore, EndsOfCharges, EndsOfWork, EndsOfUpload, EndsOfRecords}
+use Rattle.mmtel_cli.specs.Runs.{EndsOfServe, EndsOfServing, EndsServed, EndsServing, EndsUnkept, EndsUnlinked}
 use Rattle.mmtel_cli.specs.declared.reports.Report.{Report}
-use Rattle.mmtel_cli.specs.declared.reports.Report.TheVariants.{Usage, Line, File, Keeper, Memory, Listing, Sound, Unsound}
+use Rattle.mmtel_cli.specs.declared.reports.Report.TheVariants.{Usage, Line, Link, File, Keeper, Memory, Listing, Sound, Served, Unsound}
 
 -- ---- what was written, where it is known what is due
 
-module _ (outcomes : CallsOfRunsComeToOutcome) (charged : SeatsOfRunsAreChargedOnce) (sends : RunsSendCleanMessages) (homes : HomesAreClean) (reads : ConfigurationsAreRead) (keeper later : KeeperSeen) (status : ℕ) (before after : Option (List ℕ)) (faults now : ℕ) where
+module _ (outcomes : CallsOfRunsComeToOutcome) (charged : SeatsOfRunsAreChargedOnce) (sends : RunsSendCleanMessages) (homes : HomesAreClean)
+    (reads : ConfigurationsAreRead) (apart : PeersAreApart) (link far : LinkSeen) (keeper later : KeeperSeen) (status : ℕ) (before after : Option (List ℕ)) (faults now : ℕ) where
   abbrev EndsSo : Report → Type 0
   EndsSo outcome = Ends outcome status before after faults now
 
@@ -48,40 +53,48 @@ module _ (outcomes : CallsOfRunsComeToOutcome) (charged : SeatsOfRunsAreChargedO
       let P : ℕ → Type 0 = λ l. WroteLine l status before after faults now in
       inl (subst P same ends)
   written_line File line is ends = absurd (let wrong : due.Line line ≡ due.File = is in cc)
+  written_line Link line is ends = absurd is
   written_line Keeper line is ends = absurd is
   written_line Memory line is ends = inr ends
   written_line (Listing text) line is ends = absurd is
   written_line Sound line is ends = absurd (let wrong : due.Line line ≡ due.Sound = is in cc)
+  written_line Served line is ends = absurd is
   written_line (Unsound other) line is ends = absurd (let wrong : due.Line line ≡ due.Unsound other = is in cc)
 
   written_file : (outcome : Report) → IsDue keeper later outcome due.File → EndsSo outcome → WroteFile status before after faults now ⊎ OutOfMemory
   written_file Usage is ends = absurd (let wrong : due.File ≡ due.Usage = is in cc)
   written_file (Line n) is ends = absurd (let wrong : due.File ≡ due.Line n = is in cc)
   written_file File is ends = inl ends
+  written_file Link is ends = absurd is
   written_file Keeper is ends = absurd is
   written_file Memory is ends = inr ends
   written_file (Listing text) is ends = absurd is
   written_file Sound is ends = absurd (let wrong : due.File ≡ due.Sound = is in cc)
+  written_file Served is ends = absurd is
   written_file (Unsound other) is ends = absurd (let wrong : due.File ≡ due.Unsound other = is in cc)
 
   written_sound : (outcome : Report) → IsDue keeper later outcome due.Sound → EndsSo outcome → WroteListing (codes "ok\n") status before after faults now ⊎ OutOfMemory
   written_sound Usage is ends = absurd (let wrong : due.Sound ≡ due.Usage = is in cc)
   written_sound (Line n) is ends = absurd (let wrong : due.Sound ≡ due.Line n = is in cc)
   written_sound File is ends = absurd (let wrong : due.Sound ≡ due.File = is in cc)
+  written_sound Link is ends = absurd is
   written_sound Keeper is ends = absurd is
   written_sound Memory is ends = inr ends
   written_sound (Listing text) is ends = absurd is
   written_sound Sound is ends = inl ends
+  written_sound Served is ends = absurd is
   written_sound (Unsound other) is ends = absurd (let wrong : due.Sound ≡ due.Unsound other = is in cc)
 
   written_fault : (outcome : Report) (line : List ℕ) → IsDue keeper later outcome (due.Unsound line) → EndsSo outcome → WroteFault line status before after faults now ⊎ OutOfMemory
   written_fault Usage line is ends = absurd (let wrong : due.Unsound line ≡ due.Usage = is in cc)
   written_fault (Line n) line is ends = absurd (let wrong : due.Unsound line ≡ due.Line n = is in cc)
   written_fault File line is ends = absurd (let wrong : due.Unsound line ≡ due.File = is in cc)
+  written_fault Link line is ends = absurd is
   written_fault Keeper line is ends = absurd is
   written_fault Memory line is ends = inr ends
   written_fault (Listing text) line is ends = absurd is
   written_fault Sound line is ends = absurd (let wrong : due.Unsound line ≡ due.Sound = is in cc)
+  written_fault Served line is ends = absurd is
   written_fault (Unsound other) line is ends =
       let equal : due.Unsound line ≡ due.Unsound other = is in
       let same : other ≡ line = cc in
@@ -104,16 +117,19 @@ module _ (outcomes : CallsOfRunsComeToOutcome) (charged : SeatsOfRunsAreChargedO
     written = let P : List ℕ → Type 0 = λ t. WroteListing t status before after faults now in subst P lists.lists.listing wrote;
   }
 
-  written_listing : (directory : Directory) (token : List ℕ) (events : List Event) (outcome : Report) → Suits directory → is_token token ≡ true → IsDue keeper later outcome (due.Run directory token events) → EndsSo outcome
+  written_listing : (directory : Directory) (token : List ℕ) (events : List Event) (outcome : Report) → Suits directory → is_token token ≡ true →
+      IsDue keeper later outcome (due.Run directory token events) → EndsSo outcome
       → (Listed directory token events keeper later status before after faults now
       ⊎ (IsNotLoaded directory.store keeper later × WroteKeeper status before after faults now)) ⊎ OutOfMemory
   written_listing directory token events Usage suits right is ends = absurd (let wrong : due.Run directory token events ≡ due.Usage = is in cc)
   written_listing directory token events (Line n) suits right is ends = absurd (let wrong : due.Run directory token events ≡ due.Line n = is in cc)
   written_listing directory token events File suits right is ends = absurd (let wrong : due.Run directory token events ≡ due.File = is in cc)
+  written_listing directory token events Link suits right is ends = absurd is
   written_listing directory token events Keeper suits right is ends = inl (inr (is, ends))
   written_listing directory token events Memory suits right is ends = inr ends
   written_listing directory token events (Listing text) suits right is ends = inl (inl (listed_by directory token events text suits right is ends))
   written_listing directory token events Sound suits right is ends = absurd (let wrong : due.Run directory token events ≡ due.Sound = is in cc)
+  written_listing directory token events Served suits right is ends = absurd is
   written_listing directory token events (Unsound other) suits right is ends = absurd (let wrong : due.Run directory token events ≡ due.Unsound other = is in cc)
 
   listed_rows : (store text : List ℕ) → ListsRows store keeper later text → WroteListing text status before after faults now
@@ -130,21 +146,38 @@ module _ (outcomes : CallsOfRunsComeToOutcome) (charged : SeatsOfRunsAreChargedO
   written_rows store Usage is ends = absurd (let wrong : due.Rows store ≡ due.Usage = is in cc)
   written_rows store (Line n) is ends = absurd (let wrong : due.Rows store ≡ due.Line n = is in cc)
   written_rows store File is ends = absurd (let wrong : due.Rows store ≡ due.File = is in cc)
+  written_rows store Link is ends = absurd is
   written_rows store Keeper is ends = inl (inr (is, ends))
   written_rows store Memory is ends = inr ends
   written_rows store (Listing text) is ends = inl (inl (listed_rows store text is ends))
   written_rows store Sound is ends = absurd (let wrong : due.Rows store ≡ due.Sound = is in cc)
+  written_rows store Served is ends = absurd is
   written_rows store (Unsound other) is ends = absurd (let wrong : due.Rows store ≡ due.Unsound other = is in cc)
+
+  written_work : (calls : ℕ) (directory : Directory) (outcome : Report) → IsDue keeper later outcome (due.Work calls directory) → EndsSo outcome
+      → Counted directory calls status before after faults now ⊎ OutOfMemory
+  written_work calls directory Usage is ends = absurd (let wrong : due.Work calls directory ≡ due.Usage = is in cc)
+  written_work calls directory (Line n) is ends = absurd (let wrong : due.Work calls directory ≡ due.Line n = is in cc)
+  written_work calls directory File is ends = absurd (let wrong : due.Work calls directory ≡ due.File = is in cc)
+  written_work calls directory Link is ends = absurd is
+  written_work calls directory Keeper is ends = absurd is
+  written_work calls directory Memory is ends = inr ends
+  written_work calls directory (Listing text) is ends = inl (record { text = text; counts = is; written = ends })
+  written_work calls directory Sound is ends = absurd (let wrong : due.Work calls directory ≡ due.Sound = is in cc)
+  written_work calls directory Served is ends = absurd is
+  written_work calls directory (Unsound other) is ends = absurd (let wrong : due.Work calls directory ≡ due.Unsound other = is in cc)
 
   -- ---- stage by stage
 
-  ends_of_events : (directory : Directory) (token : List ℕ) (events : Result (List Event) ℕ) (outcome : Report) → Suits directory → is_token token ≡ true → IsDue keeper later outcome (due_of_events directory token events)
+  ends_of_events : (directory : Directory) (token : List ℕ) (events : Result (List Event) ℕ) (outcome : Report) → Suits directory → is_token token ≡ true →
+      IsDue keeper later outcome (due_of_events directory token events)
       → EndsSo outcome
       → EndsOfEvents directory token events keeper later status before after faults now ⊎ OutOfMemory
   ends_of_events directory token (Ok events) outcome suits right due ends = written_listing directory token events outcome suits right due ends
   ends_of_events directory token (Err line) outcome suits right due ends = written_line outcome line due ends
 
-  ends_of_script : (directory : Directory) (token : List ℕ) (script : Option (List ℕ)) (outcome : Report) → Suits directory → is_token token ≡ true → IsDue keeper later outcome (due_of_script directory token script)
+  ends_of_script : (directory : Directory) (token : List ℕ) (script : Option (List ℕ)) (outcome : Report) → Suits directory → is_token token ≡ true →
+      IsDue keeper later outcome (due_of_script directory token script)
       → EndsSo outcome
       → EndsOfScript directory token script keeper later status before after faults now ⊎ OutOfMemory
   ends_of_script directory token None outcome suits right due ends = written_file outcome due ends
@@ -156,11 +189,13 @@ module _ (outcomes : CallsOfRunsComeToOutcome) (charged : SeatsOfRunsAreChargedO
   ends_of_directory (Ok directory) token script outcome suits right due ends = ends_of_script directory token script outcome suits right due ends
   ends_of_directory (Err line) token script outcome suits right due ends = written_line outcome line due ends
 
-  ends_of_config : (config : Option (List ℕ)) (token : List ℕ) (script : Option (List ℕ)) (outcome : Report) → is_token token ≡ true → IsDue keeper later outcome (due_of_config config token script)
+  ends_of_config : (config : Option (List ℕ)) (token : List ℕ) (script : Option (List ℕ)) (outcome : Report) → is_token token ≡ true →
+      IsDue keeper later outcome (due_of_config config token script)
       → EndsSo outcome
       → EndsOfConfig config token script keeper later status before after faults now ⊎ OutOfMemory
   ends_of_config None token script outcome right due ends = written_file outcome due ends
-  ends_of_config (Some config) token script outcome right due ends = ends_of_directory (directory_of config) token script outcome (directory_suits homes reads config) right due ends
+  ends_of_config (Some config) token script outcome right due ends =
+      ends_of_directory (directory_of config) token script outcome (directory_suits homes apart reads config) right due ends
 
   -- ---- a check
 
@@ -175,7 +210,7 @@ module _ (outcomes : CallsOfRunsComeToOutcome) (charged : SeatsOfRunsAreChargedO
   ends_of_records (Some text) outcome due ends = ends_of_upload (upload_of text) outcome due ends
 
   checked : (told : Option Shelf) (words : List (List ℕ)) (records : List ℕ) (outcome : Report)
-      → IsCheck records words → GivesRecords told records outcome → EndsSo outcome → Checked told words status before after faults now
+      → IsOnly (Check records) words → GivesRecords told records outcome → EndsSo outcome → Checked told words status before after faults now
   checked told words records outcome spelled gives ends = record {
     records = records;
     spelled = spelled;
@@ -197,7 +232,7 @@ module _ (outcomes : CallsOfRunsComeToOutcome) (charged : SeatsOfRunsAreChargedO
   ends_of_charges (Some config) outcome due ends = ends_of_store (directory_of config) outcome due ends
 
   charged_by : (told : Option Shelf) (words : List (List ℕ)) (config : List ℕ) (outcome : Report)
-      → IsCharges config words → GivesCharges told keeper later config outcome → EndsSo outcome → Charged told keeper later words status before after faults now
+      → IsOnly (Charges config) words → GivesCharges told keeper later config outcome → EndsSo outcome → Charged told keeper later words status before after faults now
   charged_by told words config outcome spelled gives ends = record {
     config = config;
     spelled = spelled;
@@ -206,59 +241,149 @@ module _ (outcomes : CallsOfRunsComeToOutcome) (charged : SeatsOfRunsAreChargedO
     ends = ends_of_charges gives.text outcome gives.is_due ends;
   }
 
+  -- ---- a workload
+
+  ends_of_work : (calls : ℕ) (directory : Result Directory ℕ) (outcome : Report) → IsDue keeper later outcome (due_of_work calls directory) → EndsSo outcome
+      → EndsOfWork calls directory status before after faults now ⊎ OutOfMemory
+  ends_of_work calls (Ok directory) outcome due ends = written_work calls directory outcome due ends
+  ends_of_work calls (Err line) outcome due ends = written_line outcome line due ends
+
+  -- ---- serving
+
+  written_serving : (directory : Directory) (token : List ℕ) (turns : ℕ) (outcome : Report) → Suits directory → is_token token ≡ true
+      → IsServedBy directory token turns link far keeper later outcome → EndsSo outcome
+      → EndsServing directory token turns link far keeper later status before after faults now ⊎ OutOfMemory
+  written_serving directory token turns Usage suits right is ends = absurd is
+  written_serving directory token turns (Line n) suits right is ends = absurd is
+  written_serving directory token turns Link suits right is ends = inl (EndsUnlinked (is (suited directory token suits right)) ends)
+  written_serving directory token turns File suits right is ends = absurd is
+  written_serving directory token turns Keeper suits right is ends = inl (EndsUnkept is ends)
+  written_serving directory token turns Memory suits right is ends = inr ends
+  written_serving directory token turns (Listing text) suits right is ends = absurd is
+  written_serving directory token turns Sound suits right is ends = absurd is
+  written_serving directory token turns Served suits right is ends =
+      let done = is (suited directory token suits right) in
+      inl (EndsServed (record { closed = done.0; serves = done.1; written = ends }))
+  written_serving directory token turns (Unsound other) suits right is ends = absurd is
+
+  ends_of_serving : (directory : Result Directory ℕ) (token : List ℕ) (turns : ℕ) (outcome : Report) → IfOk directory Suits → is_token token ≡ true
+      → ServesDirectory directory token turns link far keeper later outcome → EndsSo outcome
+      → EndsOfServing directory token turns link far keeper later status before after faults now ⊎ OutOfMemory
+  ends_of_serving (Ok directory) token turns outcome suits right due ends = written_serving directory token turns outcome suits right due ends
+  ends_of_serving (Err line) token turns outcome suits right due ends = written_line outcome line due ends
+
+  ends_of_serve : (config : Option (List ℕ)) (token : List ℕ) (turns : ℕ) (outcome : Report) → is_token token ≡ true
+      → ServesConfig config token turns link far keeper later outcome → EndsSo outcome
+      → EndsOfServe config token turns link far keeper later status before after faults now ⊎ OutOfMemory
+  ends_of_serve None token turns outcome right due ends = written_file outcome due ends
+  ends_of_serve (Some config) token turns outcome right due ends =
+      ends_of_serving (directory_of config) token turns outcome (directory_suits homes apart reads config) right due ends
+
+  served : (told : Option Shelf) (words : List (List ℕ)) (config token : List ℕ) (turns : ℕ) (outcome : Report)
+      → IsOnly (Serve config token turns) words → GivesServe told link far keeper later config token turns outcome → EndsSo outcome
+      → HasServed told link far keeper later words status before after faults now
+  served told words config token turns outcome spelled gives ends = record {
+    config = config;
+    token = token;
+    turns = turns;
+    spelled = spelled;
+    text = gives.text;
+    told_text = gives.told_text;
+    ends = ends_of_serve gives.text token turns outcome spelled.spelled.0 gives.is_due ends;
+  }
+
   -- ---- a whole run
 
   replayed : (told : Option Shelf) (words : List (List ℕ)) (asked : Asked) (outcome : Report)
-      → IsReplay asked words → GivesBoth told keeper later asked outcome → EndsSo outcome → Replayed told keeper later words status before after faults now
+      → IsOnly (Replay asked) words → GivesBoth told keeper later asked outcome → EndsSo outcome → Replayed told keeper later words status before after faults now
   replayed told words asked outcome spelled gives ends = record {
     asked = asked;
     spelled = spelled;
     answers = record { config = gives.config; script = gives.script; told_config = gives.told_config; told_script = gives.told_script };
-    ends = ends_of_config gives.config asked.token gives.script outcome spelled.0 gives.is_due ends;
+    ends = ends_of_config gives.config asked.token gives.script outcome spelled.spelled.0 gives.is_due ends;
   }
 
-  ran_command : (told : Option Shelf) (words : List (List ℕ)) (command : Option Command) (outcome : Report)
-      → command_of words ≡ command → GivesRun told keeper later command outcome → EndsSo outcome → Ran told keeper later words status before after faults now
-  ran_command told words None outcome read gives ends =
+  ran_none : (words : List (List ℕ)) (outcome : Report) (told : Option Shelf) → SpellsNone words → outcome ≡ Usage → EndsSo outcome →
+      Ran told link far keeper later words status before after faults now
+  ran_none words outcome told none gives ends =
       let P : Report → Type 0 = λ r. EndsSo r in
-      RanNone (record { none = (none_spelled words).0 read; said = subst P gives ends })
-  ran_command told words (Some (Serve config token turns)) outcome read gives ends = absurd gives
-  ran_command told words (Some (Replay asked)) outcome read gives ends = RanReplay (replayed told words asked outcome (spelled_command (Replay asked) words read).1 gives ends)
-  ran_command told words (Some (Check records)) outcome read gives ends = RanCheck (checked told words records outcome (spelled_command (Check records) words read).1 gives ends)
-  ran_command told words (Some (Charges config)) outcome read gives ends = RanCharges (charged_by told words config outcome (spelled_command (Charges config) words read).1 gives ends)
-  ran_command told words (Some (Workload calls salt)) outcome read gives ends = absurd gives
+      RanNone (record { none = none; said = subst P gives ends })
 
-  pub ran : (told : Option Shelf) (words : List (List ℕ)) (outcome : Report)
-      → GivesRun told keeper later (command_of words) outcome → EndsSo outcome → Ran told keeper later words status before after faults now
-  ran told words outcome gives ends = ran_command told words (command_of words) outcome refl gives ends
+  ran_command : (told : Option Shelf) (words : List (List ℕ)) (command : Option Command) (outcome : Report)
+      → AsksFor words command → GivesRun told link far keeper later command outcome → EndsSo outcome → Ran told link far keeper later words status before after faults now
+  ran_command told words None outcome asks gives ends = ran_none words outcome told asks gives ends
+  ran_command told words (Some (Serve config token turns)) outcome asks gives ends = RanServe (served told words config token turns outcome asks gives ends)
+  ran_command told words (Some (Replay asked)) outcome asks gives ends = RanReplay (replayed told words asked outcome asks gives ends)
+  ran_command told words (Some (Check records)) outcome asks gives ends = RanCheck (checked told words records outcome asks gives ends)
+  ran_command told words (Some (Charges config)) outcome asks gives ends = RanCharges (charged_by told words config outcome asks gives ends)
+  ran_command told words (Some (Workload calls salt)) outcome asks gives ends =
+      RanWork (record { calls = calls; salt = salt; spelled = asks; ends = ends_of_work calls (directory_of work_config) outcome gives ends })
+
+  pub ran : {L K : Type 0} (told called_then : Option Shelf) (near away : L) (kept held : K) (words : List (List ℕ)) (outcome : Report)
+      → Prepares words told called_then link far keeper later near away kept held outcome → EndsSo outcome → Ran told link far keeper later words status before after faults now
+  ran told called_then near away kept held words outcome (inl p) ends = ran_command told words p.command outcome p.asks p.gives ends
+  ran told called_then near away kept held words outcome (inr out) ends =
+      let P : Report → Type 0 = λ r. EndsSo r in
+      RanShort (subst P out.memory ends)
 
 -- ---- the calls of files
 
-called_last : (status : ℕ) (after : Option Shelf) (first last : Shelf) → (status ≡ 1) → Called status after first last → after ≡ Some last
-called_last status after first last one called = called.all (λ e. let wrong : 1 ≡ 8 = sym one ∙ e in cc)
+called_last : (status : ℕ) (after : Option Shelf) (none first last : Shelf) → (status ≡ 1) → Called status after none first last → after ≡ Some last
+called_last status after none first last one called = called.all (λ e. let wrong : 1 ≡ 8 = sym one ∙ e in cc)
 
--- where the first call is the last too, it was made
-either_called : (after : Option Shelf) (one : Shelf) → (after ≡ Some one) ⊎ (after ≡ Some one) → after ≡ Some one
-either_called after one (inl e) = e
-either_called after one (inr e) = e
+module _ (shelf : Shelf) (words : List (List ℕ)) (status : ℕ) (after : Option Shelf) where
+  abbrev CalledBy : Command → Type 0
+  CalledBy command = Called status after shelf (shelf_first shelf command) (shelf_by shelf command)
 
-called_once : (status : ℕ) (after : Option Shelf) (one : Shelf) → Called status after one one → after ≡ Some one
-called_once status after one called =
-    elim (cases_Bool (nat_eq status 8)) [
-      | inl y ↦ either_called after one (called.some (eqb-true status 8 y))
-      | inr n ↦ called.all (eqb-false status 8 n)
-    ]
+  called_by : (command other : Command) → IsOnly command words → other ≡ command → CalledBy command → CalledBy other
+  called_by command other only same calls = subst CalledBy (sym same) calls
 
-pub called_for : (shelf : Shelf) (words : List (List ℕ)) (status : ℕ) (after : Option Shelf)
-    → (status ≡ 1) ↔ (command_of words ≡ None) → Called status after (called shelf) (shelf_after shelf (command_of words)) → CalledFor shelf words status after
-called_for shelf words status after usage calls = record {
-  none = λ no_one.
-      let read : command_of words ≡ None = (none_spelled words).1 no_one in
-      called_last status after (called shelf) shelf (usage.1 read) (rw read at calls);
-  each = λ asked. λ spelled. (rw (reads_command (Replay asked) words tt spelled) at calls);
-  checked = λ records. λ spelled. called_once status after (called shelf) (rw (reads_command (Check records) words tt spelled) at calls);
-  charged = λ config. λ spelled. called_once status after (called shelf) (rw (reads_command (Charges config) words tt spelled) at calls);
-}
+  -- where no call is due none was made
+  whichever : (after ≡ Some shelf) ⊎ ((after ≡ Some shelf) ⊎ (after ≡ Some shelf)) → after ≡ Some shelf
+  whichever (inl e) = e
+  whichever (inr (inl e)) = e
+  whichever (inr (inr e)) = e
+
+  called_never : Called status after shelf shelf shelf → after ≡ Some shelf
+  called_never called =
+      elim (cases_Bool (nat_eq status 8)) [
+        | inl y ↦ whichever (called.some (eqb-true status 8 y))
+        | inr n ↦ called.all (eqb-false status 8 n)
+      ]
+
+  called_for : (command : Option Command) → AsksFor words command → (status ≡ 1) ↔ (command ≡ None) →
+      Called status after shelf (first_after shelf command) (shelf_after shelf command)
+      → CalledFor shelf words status after
+  called_for None asks usage calls = record {
+    none = λ no_one. called_last status after shelf shelf shelf (usage.1 refl) calls;
+    served = λ config. λ token. λ turns. λ spelled. absurd (asks (Serve config token turns) spelled);
+    each = λ asked. λ spelled. absurd (asks (Replay asked) spelled);
+    checked = λ records. λ spelled. absurd (asks (Check records) spelled);
+    charged = λ config. λ spelled. absurd (asks (Charges config) spelled);
+    worked = λ calls. λ salt. λ spelled. absurd (asks (Workload calls salt) spelled);
+  }
+  called_for (Some command) asks usage calls = record {
+    none = λ no_one. absurd (no_one command asks.spelled);
+    served = λ config. λ token. λ turns. λ spelled. called_by command (Serve config token turns) asks (asks.alone (Serve config token turns) spelled) calls;
+    each = λ asked. λ spelled. called_by command (Replay asked) asks (asks.alone (Replay asked) spelled) calls;
+    checked = λ records. λ spelled. called_by command (Check records) asks (asks.alone (Check records) spelled) calls;
+    charged = λ config. λ spelled. called_by command (Charges config) asks (asks.alone (Charges config) spelled) calls;
+    worked = λ count. λ salt. λ spelled. called_never (called_by command (Workload count salt) asks (asks.alone (Workload count salt) spelled) calls);
+  }
+
+  -- for want of memory in reading the words
+  called_none : (last : Shelf) → after ≡ Some shelf → status ≡ 8 → Called status after shelf (called shelf) last
+  called_none last same eight = record { all = λ other. absurd (other eight); some = λ e. inl same }
+
+  called_short : after ≡ Some shelf → status ≡ 8 → CalledFor shelf words status after
+  called_short same eight = record {
+    none = λ no_one. same;
+    served = λ config. λ token. λ turns. λ spelled. called_none _ same eight;
+    each = λ asked. λ spelled. called_none _ same eight;
+    checked = λ records. λ spelled. called_none _ same eight;
+    charged = λ config. λ spelled. called_none _ same eight;
+    worked = λ calls. λ salt. λ spelled. same;
+  }
 
 not_eight : (n status : ℕ) → status ≡ n → (n ≡ 8 → ⊥) → status ≡ 8 → ⊥
 not_eight n status is other eight = other (sym is ∙ eight)
@@ -276,66 +401,102 @@ status_one : (P : Type 0) (outcome : Report) (status : ℕ) (before after : Opti
     → (outcome ≡ Usage) ↔ P → Ends outcome status before after faults now → (status ≡ 1) ↔ P
 status_one P Usage status before after faults now usage ends = (λ one. usage.0 refl, λ p. ends.0)
 status_one P (Line n) status before after faults now usage ends = other_status P 2 status (Line n) ends.0 (λ w. cc) (λ w. cc) usage
+status_one P Link status before after faults now usage ends = other_status P 4 status Link ends.0 (λ w. cc) (λ w. cc) usage
 status_one P File status before after faults now usage ends = other_status P 5 status File ends.0 (λ w. cc) (λ w. cc) usage
 status_one P Keeper status before after faults now usage ends = other_status P 6 status Keeper ends.0 (λ w. cc) (λ w. cc) usage
 status_one P Memory status before after faults now usage ends = other_status P 8 status Memory ends.0 (λ w. cc) (λ w. cc) usage
 status_one P (Listing text) status before after faults now usage ends = done_status P text status (Listing text) before after faults now ends (λ w. cc) usage
 status_one P Sound status before after faults now usage ends = done_status P (codes "ok\n") status Sound before after faults now ends (λ w. cc) usage
+status_one P Served status before after faults now usage ends = other_status P 0 status Served ends.0 (λ w. cc) (λ w. cc) usage
 status_one P (Unsound line) status before after faults now usage ends = other_status P 3 status (Unsound line) ends.0 (λ w. cc) (λ w. cc) usage
 
 -- by what was found due
-called_all : (n status : ℕ) (told : Option Shelf) (first last : Shelf) → status ≡ n → (n ≡ 8 → ⊥) → told ≡ Some last → Called status told first last
-called_all n status told first last is other called = record { all = λ e. called; some = λ e. absurd (not_eight n status is other e) }
+called_all : (n status : ℕ) (told : Option Shelf) (none first last : Shelf) → status ≡ n → (n ≡ 8 → ⊥) → told ≡ Some last → Called status told none first last
+called_all n status told none first last is other called = record { all = λ e. called; some = λ e. absurd (not_eight n status is other e) }
 
-called_done : (text : List ℕ) (status : ℕ) (told : Option Shelf) (first last : Shelf) (before after : Option (List ℕ)) (faults now : ℕ)
-    → told ≡ Some last → WroteListing text status before after faults now → Called status told first last
-called_done text status told first last before after faults now called (inl whole) = called_all 0 status told first last whole.0 (λ w. cc) called
-called_done text status told first last before after faults now called (inr part) = called_all 7 status told first last part.0 (λ w. cc) called
+called_done : (text : List ℕ) (status : ℕ) (told : Option Shelf) (none first last : Shelf) (before after : Option (List ℕ)) (faults now : ℕ)
+    → told ≡ Some last → WroteListing text status before after faults now → Called status told none first last
+called_done text status told none first last before after faults now called (inl whole) = called_all 0 status told none first last whole.0 (λ w. cc) called
+called_done text status told none first last before after faults now called (inr part) = called_all 7 status told none first last part.0 (λ w. cc) called
 
-has_called : (outcome : Report) (status : ℕ) (told : Option Shelf) (first last : Shelf) (before after : Option (List ℕ)) (faults now : ℕ)
-    → HasCalled outcome told first last → Ends outcome status before after faults now → Called status told first last
-has_called Usage status told first last before after faults now called ends = called_all 1 status told first last ends.0 (λ w. cc) called
-has_called (Line line) status told first last before after faults now called ends = called_all 2 status told first last ends.0 (λ w. cc) called
-has_called File status told first last before after faults now called ends = called_all 5 status told first last ends.0 (λ w. cc) called
-has_called Keeper status told first last before after faults now called ends = called_all 6 status told first last ends.0 (λ w. cc) called
-has_called Memory status told first last before after faults now called ends = record { all = λ e. absurd (e ends.0); some = λ e. called }
-has_called (Listing text) status told first last before after faults now called ends = called_done text status told first last before after faults now called ends
-has_called Sound status told first last before after faults now called ends = called_done (codes "ok\n") status told first last before after faults now called ends
-has_called (Unsound line) status told first last before after faults now called ends = called_all 3 status told first last ends.0 (λ w. cc) called
+has_called : (outcome : Report) (status : ℕ) (told : Option Shelf) (none first last : Shelf) (before after : Option (List ℕ)) (faults now : ℕ)
+    → HasCalled outcome told first last → Ends outcome status before after faults now → Called status told none first last
+has_called Usage status told none first last before after faults now called ends = called_all 1 status told none first last ends.0 (λ w. cc) called
+has_called (Line line) status told none first last before after faults now called ends = called_all 2 status told none first last ends.0 (λ w. cc) called
+has_called Link status told none first last before after faults now called ends = called_all 4 status told none first last ends.0 (λ w. cc) called
+has_called File status told none first last before after faults now called ends = called_all 5 status told none first last ends.0 (λ w. cc) called
+has_called Keeper status told none first last before after faults now called ends = called_all 6 status told none first last ends.0 (λ w. cc) called
+has_called Memory status told none first last before after faults now called ends = record { all = λ e. absurd (e ends.0); some = λ e. inr called }
+has_called (Listing text) status told none first last before after faults now called ends = called_done text status told none first last before after faults now called ends
+has_called Sound status told none first last before after faults now called ends = called_done (codes "ok\n") status told none first last before after faults now called ends
+has_called Served status told none first last before after faults now called ends = called_all 0 status told none first last ends.0 (λ w. cc) called
+has_called (Unsound line) status told none first last before after faults now called ends = called_all 3 status told none first last ends.0 (λ w. cc) called
 
-pub calls_told : (told : Option Shelf) (words : List (List ℕ)) (outcome : Report) (status : ℕ) (asked : Option Shelf) (before after : Option (List ℕ)) (faults now : ℕ)
-    → (outcome ≡ Usage) ↔ (command_of words ≡ None)
-    → IfSome told (λ shelf. HasCalled outcome asked (called shelf) (shelf_after shelf (command_of words))) → Ends outcome status before after faults now
+pub calls_told : {L K : Type 0} (told : Option Shelf) (link far : LinkSeen) (keeper later : KeeperSeen) (near away : L) (kept held : K) (words : List (List ℕ)) (outcome : Report)
+    (status : ℕ) (asked : Option Shelf) (before after : Option (List ℕ)) (faults now : ℕ)
+    → Prepares words told asked link far keeper later near away kept held outcome → Ends outcome status before after faults now
     → IfSome told (λ shelf. CalledFor shelf words status asked)
-calls_told None words outcome status asked before after faults now usage calls ends = tt
-calls_told (Some shelf) words outcome status asked before after faults now usage calls ends =
-    called_for shelf words status asked (status_one (command_of words ≡ None) outcome status before after faults now usage ends)
-    (has_called outcome status asked (called shelf) (shelf_after shelf (command_of words)) before after faults now calls ends)
+calls_told None link far keeper later near away kept held words outcome status asked before after faults now prepares ends = tt
+calls_told (Some shelf) link far keeper later near away kept held words outcome status asked before after faults now (inl p) ends =
+    called_for shelf words status asked p.command p.asks (status_one (p.command ≡ None) outcome status before after faults now p.usage ends)
+    (has_called outcome status asked shelf (first_after shelf p.command) (shelf_after shelf p.command) before after faults now p.calls ends)
+calls_told (Some shelf) link far keeper later near away kept held words outcome status asked before after faults now (inr out) ends =
+    let P : Report → Type 0 = λ r. Ends r status before after faults now in
+    called_short shelf words status asked out.calls (subst P out.memory ends).0
 
 -- ---- the keeper, where no run comes to it
 
 early_spared : {K : Type 0} (outcome : Report) (keeper later : K) (status : ℕ) (before after : Option (List ℕ)) (faults now : ℕ) → Spares outcome keeper later
     → Ends outcome status before after faults now
-    → (status ≡ 0 → ⊥) → (status ≡ 6 → ⊥) → (status ≡ 7 → ⊥) → (status ≡ 8 → ⊥) → later ≡ keeper
-early_spared Usage keeper later status before after faults now spares ends zero six seven eight = spares
-early_spared (Line line) keeper later status before after faults now spares ends zero six seven eight = spares
-early_spared File keeper later status before after faults now spares ends zero six seven eight = spares
-early_spared Keeper keeper later status before after faults now spares ends zero six seven eight = absurd (six ends.0)
-early_spared Memory keeper later status before after faults now spares ends zero six seven eight = absurd (eight ends.0)
-early_spared (Listing text) keeper later status before after faults now spares ends zero six seven eight =
+    → (status ≡ 0 → ⊥) → (status ≡ 4 → ⊥) → (status ≡ 6 → ⊥) → (status ≡ 7 → ⊥) → (status ≡ 8 → ⊥) → later ≡ keeper
+early_spared Usage keeper later status before after faults now spares ends zero four six seven eight = spares
+early_spared (Line line) keeper later status before after faults now spares ends zero four six seven eight = spares
+early_spared Link keeper later status before after faults now spares ends zero four six seven eight = absurd (four ends.0)
+early_spared File keeper later status before after faults now spares ends zero four six seven eight = spares
+early_spared Keeper keeper later status before after faults now spares ends zero four six seven eight = absurd (six ends.0)
+early_spared Memory keeper later status before after faults now spares ends zero four six seven eight = absurd (eight ends.0)
+early_spared (Listing text) keeper later status before after faults now spares ends zero four six seven eight =
     elim ends [
       | inl whole ↦ absurd (zero whole.0)
       | inr part ↦ absurd (seven part.0)
     ]
-early_spared Sound keeper later status before after faults now spares ends zero six seven eight = spares
-early_spared (Unsound line) keeper later status before after faults now spares ends zero six seven eight = spares
+early_spared Sound keeper later status before after faults now spares ends zero four six seven eight = spares
+early_spared Served keeper later status before after faults now spares ends zero four six seven eight = absurd (zero ends.0)
+early_spared (Unsound line) keeper later status before after faults now spares ends zero four six seven eight = spares
 
-pub is_spared : {K : Type 0} (words : List (List ℕ)) (outcome : Report) (keeper later : K) (status : ℕ) (before after : Option (List ℕ)) (faults now : ℕ)
-    → Spares outcome keeper later → SparedBy (command_of words) keeper later → Ends outcome status before after faults now → IsSpared words status keeper later
-is_spared {K} words outcome keeper later status before after faults now spares spared ends =
-    let P : Option Command → Type 0 = λ c. SparedBy c keeper later in
-    record {
-      none = λ no_one. subst P ((none_spelled words).1 no_one) spared;
-      checked = λ records. λ spelled. subst P (reads_command (Check records) words tt spelled) spared;
-      early = early_spared outcome keeper later status before after faults now spares ends;
-    }
+none_spared : {K : Type 0} (words : List (List ℕ)) (command : Option Command) (keeper later : K) → AsksFor words command → SparedBy command keeper later →
+    SpellsNone words → later ≡ keeper
+none_spared words None keeper later asks spared no_one = spared
+none_spared words (Some command) keeper later asks spared no_one = absurd (no_one command asks.spelled)
+
+check_spared : {K : Type 0} (words : List (List ℕ)) (command : Option Command) (keeper later : K) → AsksFor words command → SparedBy command keeper later
+    → (records : List ℕ) → IsCommand (Check records) words → later ≡ keeper
+check_spared words None keeper later asks spared records spelled = absurd (asks (Check records) spelled)
+check_spared words (Some command) keeper later asks spared records spelled =
+    let P : Command → Type 0 = λ c. SparedBy (Some c) keeper later in
+    subst P (sym (asks.alone (Check records) spelled)) spared
+
+work_spared : {K : Type 0} (words : List (List ℕ)) (command : Option Command) (keeper later : K) → AsksFor words command → SparedBy command keeper later
+    → (calls salt : ℕ) → IsCommand (Workload calls salt) words → later ≡ keeper
+work_spared words None keeper later asks spared calls salt spelled = absurd (asks (Workload calls salt) spelled)
+work_spared words (Some command) keeper later asks spared calls salt spelled =
+    let P : Command → Type 0 = λ c. SparedBy (Some c) keeper later in
+    subst P (sym (asks.alone (Workload calls salt) spelled)) spared
+
+pub is_spared : {L K : Type 0} (told asked : Option Shelf) (link far : LinkSeen) (first last : KeeperSeen) (words : List (List ℕ)) (outcome : Report) (near away : L)
+    (keeper later : K)
+    (status : ℕ) (before after : Option (List ℕ)) (faults now : ℕ)
+    → Spares outcome keeper later → Prepares words told asked link far first last near away keeper later outcome → Ends outcome status before after faults now
+    → IsSpared words status keeper later
+is_spared told asked link far first last words outcome near away keeper later status before after faults now spares (inl p) ends = record {
+  none = none_spared words p.command keeper later p.asks p.spared;
+  checked = check_spared words p.command keeper later p.asks p.spared;
+  worked = work_spared words p.command keeper later p.asks p.spared;
+  early = early_spared outcome keeper later status before after faults now spares ends;
+}
+is_spared told asked link far first last words outcome near away keeper later status before after faults now spares (inr out) ends = record {
+  none = λ no_one. out.spared;
+  checked = λ records. λ spelled. out.spared;
+  worked = λ calls. λ salt. λ spelled. out.spared;
+  early = early_spared outcome keeper later status before after faults now spares ends;
+}

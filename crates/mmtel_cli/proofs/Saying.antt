@@ -1,10 +1,13 @@
 -- What the statement on a whole run says of each status.
-use Rattle.std.proofs.Common.{◌≡◌, ◌⊎◌, ◌==◌, Bool, true, false, ℕ, List, [], ◌∷◌, refl, subst, sym, ap, ◌∙◌, inl, inr, codes, Option, Some, None, Result, Ok, Err}
+use Rattle.std.proofs.Common.{◌≡◌, ◌⊎◌, ◌==◌, Bool, true, false, ℕ, List, [], ◌∷◌, refl, subst, sym, ap, ◌∙◌, inl, inr, nat_eq, codes, Option, Some, None, Result, Ok, Err}
+use Rattle.std.proofs.lemmas.Bool.{eqb-false}
 use Rattle.std.specs.List.{list_any}
 use Rattle.mmtel_charging.specs.Rows.{text_of}
 use Rattle.mmtel_directory.specs.Directory.{directory_of}
 use Rattle.mmtel_directory.specs.declared.directories.Directory.{Directory}
+use Rattle.mmtel_in_force.specs.Texts.{Texts}
 use Rattle.mmtel_keeper.specs.Kept.{KeeperCalls}
+use Rattle.mmtel_link.specs.Told.{LinkCalls, fails_next}
 use Rattle.mmtel_outside.specs.Counts.{Rose}
 use Rattle.mmtel_outside.specs.Shelf.{Shelf, answer_at, called}
 use Rattle.mmtel_outside.specs.declared.events.Event.{Event}
@@ -14,61 +17,53 @@ use Rattle.mmtel_scan.proofs.ChainLaws.{some_is}
 use Rattle.mmtel_uploads.specs.Uploads.{upload_of}
 use Rattle.mmtel_uploads.specs.declared.uploads.Upload.{Upload}
 use Rattle.mmtel_uploads.specs.declared.uploads.Upload.TheVariants as upload
-use Rattle.mmtel_cli.proofs.LineChecked.{check_is_no_replay, charges_are_no_check, charges_are_no_replay, reads_charged, reads_checked}
-use Rattle.mmtel_cli.proofs.LineRead.{reads_spelled}
-use Rattle.mmtel_cli.specs.CommandLine.{Replay, Check, Charges, IsReplay, IsCheck, IsCharges, SpellsNone}
-use Rattle.mmtel_cli.specs.Ends.{WroteListing}
-use Rattle.mmtel_cli.specs.Keeping.{IsNotLoaded, IsOpened, KeeperSeen, refuses}
-use Rattle.mmtel_cli.specs.Runs.{Listed, ListedRows, WroteMemory, Replayed, Checked, Charged, Refused, Ran, RanReplay, RanCheck, RanCharges, RanNone}
-use Rattle.mmtel_cli.specs.Runs.{EndsOfEvents, EndsOfScript, EndsOfDirectory, EndsOfConfig, EndsOfStore, EndsOfCharges, EndsOfUpload, EndsOfRecords}
-use Rattle.mmtel_cli.specs.Sayings.{IsGood, IsKept, IsWilling, GoodOnesAreListed, GoodOnesSucceed, GoodOnesWantAKeeper, RowsAreListed, RowsWantAKeeper}
-use Rattle.mmtel_cli.specs.Sayings.{ChecksAreTold, ChecksOne, ChargesOne, DoneAtZero, DoneReplay, DoneCheck, DoneCharges, RefusesOne, ZeroIsListed, OneIsUsage, ThreeIsRefused, SixRose, SevenRose, ZeroKept, StatusesAreThese, NoFaultNoFailure}
-use Rattle.mmtel_cli.specs.Words.{Asked, replay_of, records_of, config_of}
+use Rattle.mmtel_words.specs.CommandLine.{Asked, Command, Serve, Replay, Check, Charges, Workload, IsCommand}
+use Rattle.mmtel_cli.specs.Asks.{IsServe, IsReplay, IsCheck, IsCharges, IsWorkload, IsOnly, SpellsNone}
+use Rattle.mmtel_cli.specs.Workloads.{work_config}
+use Rattle.mmtel_cli.specs.Ends.{WroteListing, WroteNothing}
+use Rattle.mmtel_cli.specs.Keeping.{IsLoaded, IsNotLoaded, IsOpened, KeeperSeen, refuses}
+use Rattle.mmtel_cli.specs.Serving.{IsBindCall, IsLinked, LinkFails, LinkSeen}
+use Rattle.mmtel_cli.specs.Runs.{Counted, HasServed, Listed, ListedRows, WroteMemory, Replayed, Checked, Charged, Worked, Refused, ServedLink, Ran, RanServe, RanReplay}
+use Rattle.mmtel_cli.specs.Runs.{RanCheck, RanCharges, RanWork, RanNone, RanShort}
+use Rattle.mmtel_cli.specs.Runs.{EndsOfEvents, EndsOfScript, EndsOfDirectory, EndsOfConfig, EndsOfStore, EndsOfCharges, EndsOfWork, EndsOfUpload, EndsOfRecords}
+use Rattle.mmtel_cli.specs.Runs.{EndsOfServe, EndsOfServing, EndsServed, EndsServing, EndsUnkept, EndsUnlinked}
+use Rattle.mmtel_cli.specs.Sayings.{IsGood, IsKept, IsWilling, IsServable, GoodOnesAreListed, GoodOnesAreServed, GoodOnesSucceed, GoodOnesWantAKeeper, RowsAreListed}
+use Rattle.mmtel_cli.specs.Sayings.{RowsWantAKeeper, ServingWantsAKeeper, ServingWantsALink}
+use Rattle.mmtel_cli.specs.Sayings.{ChecksAreTold, ChecksOne, ChargesOne, WorksOne, ServesOne, DoneAtZero, DoneServe, DoneReplay, DoneCheck, DoneCharges, DoneWork}
+use Rattle.mmtel_cli.specs.Sayings.{RefusesOne, ZeroIsListed, OneIsUsage, ThreeIsRefused, FourRose, SixRose, SevenRose, ZeroKept, StatusesAreThese, NoFaultNoFailure}
 
 -- ---- the words spell one command at most
 
-same_asked : (a b : Asked) (words : List (List ℕ)) → IsReplay a words → IsReplay b words → a ≡ b
-same_asked a b words one other =
-    let read : replay_of words ≡ Some a = reads_spelled a words one in
-    let again : replay_of words ≡ Some b = reads_spelled b words other in
-    some_is a b (sym read ∙ again)
+same_asked : (a b : Asked) (words : List (List ℕ)) → IsOnly (Replay a) words → IsReplay b words → a ≡ b
+same_asked a b words one other = let same : Replay b ≡ Replay a = one.alone (Replay b) other in cc
 
-same_records : (a b : List ℕ) (words : List (List ℕ)) → IsCheck a words → IsCheck b words → a ≡ b
-same_records a b words one other =
-    let read : records_of words ≡ Some a = reads_checked a words one in
-    let again : records_of words ≡ Some b = reads_checked b words other in
-    some_is a b (sym read ∙ again)
+same_records : (a b : List ℕ) (words : List (List ℕ)) → IsOnly (Check a) words → IsCheck b words → a ≡ b
+same_records a b words one other = let same : Check b ≡ Check a = one.alone (Check b) other in cc
 
-never_both : (asked : Asked) (records : List ℕ) (words : List (List ℕ)) → IsReplay asked words → IsCheck records words → ⊥
-never_both asked records words one other =
-    let read : replay_of words ≡ Some asked = reads_spelled asked words one in
-    let none : replay_of words ≡ None = check_is_no_replay records words other in
-    let wrong : Some asked ≡ None = sym read ∙ none in
-    cc
+same_config : (a b : List ℕ) (words : List (List ℕ)) → IsOnly (Charges a) words → IsCharges b words → a ≡ b
+same_config a b words one other = let same : Charges b ≡ Charges a = one.alone (Charges b) other in cc
 
-same_config : (a b : List ℕ) (words : List (List ℕ)) → IsCharges a words → IsCharges b words → a ≡ b
-same_config a b words one other =
-    let read : config_of words ≡ Some a = reads_charged a words one in
-    let again : config_of words ≡ Some b = reads_charged b words other in
-    some_is a b (sym read ∙ again)
+same_serve : (a b token other : List ℕ) (turns count : ℕ) (words : List (List ℕ)) → IsOnly (Serve a token turns) words → IsServe b other count words
+    → (a ≡ b) × (token ≡ other) × (turns ≡ count)
+same_serve a b token other turns count words one is =
+    let same : Serve b other count ≡ Serve a token turns = one.alone (Serve b other count) is in
+    (cc, cc, cc)
 
-never_replay_and_charges : (asked : Asked) (config : List ℕ) (words : List (List ℕ)) → IsReplay asked words → IsCharges config words → ⊥
-never_replay_and_charges asked config words one other =
-    let read : replay_of words ≡ Some asked = reads_spelled asked words one in
-    let none : replay_of words ≡ None = charges_are_no_replay config words other in
-    let wrong : Some asked ≡ None = sym read ∙ none in
-    cc
+-- what tells the commands apart
+abbrev name_of : Command → ℕ
+name_of (Serve config token turns) = 0
+name_of (Replay asked) = 1
+name_of (Check records) = 2
+name_of (Charges config) = 3
+name_of (Workload calls salt) = 4
 
-never_check_and_charges : (records config : List ℕ) (words : List (List ℕ)) → IsCheck records words → IsCharges config words → ⊥
-never_check_and_charges records config words one other =
-    let read : records_of words ≡ Some records = reads_checked records words one in
-    let none : records_of words ≡ None = charges_are_no_check config words other in
-    let wrong : Some records ≡ None = sym read ∙ none in
-    cc
+-- so words of one command are of no command of another name
+no_other : (one other : Command) (words : List (List ℕ)) → IsOnly one words → IsCommand other words → nat_eq (name_of other) (name_of one) ≡ false → ⊥
+no_other one other words only spelled apart = eqb-false (name_of other) (name_of one) apart (ap name_of (only.alone other spelled))
 
 -- ---- files that are there and good
 
-module _ (shelf : Shelf) (keeper later : KeeperSeen) (words : List (List ℕ)) (asked : Asked) (directory : Directory) (events : List Event)
+module _ (shelf : Shelf) (link far : LinkSeen) (keeper later : KeeperSeen) (words : List (List ℕ)) (asked : Asked) (directory : Directory) (events : List Event)
     (status : ℕ) (before after : Option (List ℕ)) (faults now : ℕ) where
   -- how such a run ends
   abbrev EndsWell : Type 0
@@ -92,15 +87,18 @@ module _ (shelf : Shelf) (keeper later : KeeperSeen) (words : List (List ℕ)) (
       (r.answers.told_script ∙ ap (λ (a : Asked). answer_at (called shelf) a.script) same ∙ good.script_there) good.script_read
       (subst P same r.ends)
 
-  good_run : IsGood shelf words asked directory events → Ran (Some shelf) keeper later words status before after faults now → EndsWell ⊎ (status ≡ 8)
+  good_run : IsGood shelf words asked directory events → Ran (Some shelf) link far keeper later words status before after faults now → EndsWell ⊎ (status ≡ 8)
   good_run good (RanReplay r) =
       elim (good_replay good r) [
         | inl ends ↦ inl ends
         | inr memory ↦ inr memory.0
       ]
-  good_run good (RanCheck c) = absurd (never_both asked c.records words good.spelled c.spelled)
-  good_run good (RanCharges c) = absurd (never_replay_and_charges asked c.config words good.spelled c.spelled)
-  good_run good (RanNone refused) = absurd (refused.none (Replay asked) tt good.spelled)
+  good_run good (RanServe v) = absurd (no_other (Serve v.config v.token v.turns) (Replay asked) words v.spelled good.spelled refl)
+  good_run good (RanCheck c) = absurd (no_other (Check c.records) (Replay asked) words c.spelled good.spelled refl)
+  good_run good (RanCharges c) = absurd (no_other (Charges c.config) (Replay asked) words c.spelled good.spelled refl)
+  good_run good (RanWork w) = absurd (no_other (Workload w.calls w.salt) (Replay asked) words w.spelled good.spelled refl)
+  good_run good (RanNone refused) = absurd (refused.none (Replay asked) good.spelled)
+  good_run good (RanShort memory) = inr memory.0
 
 -- a keeper that can be bound and loaded is one that was not refused
 opens : (path : List ℕ) (calls since : Option KeeperCalls) (told : KeeperCalls) (refused : Bool) → IsOpened path calls since refused → calls ≡ Some told → refuses told ≡ refused
@@ -114,8 +112,8 @@ never_unwilling store keeper later (inl willing) not =
 never_unwilling store keeper later (inr willing) not = willing not.rose
 
 pub good_ones_are_listed : GoodOnesAreListed
-good_ones_are_listed shelf keeper later words asked directory events status before after faults now good willing ran =
-    elim (good_run shelf keeper later words asked directory events status before after faults now good ran) [
+good_ones_are_listed shelf link far keeper later words asked directory events status before after faults now good willing ran =
+    elim (good_run shelf link far keeper later words asked directory events status before after faults now good ran) [
       | inl ends ↦ elim ends [
         | inl listed ↦ inl listed
         | inr not ↦ absurd (never_unwilling directory.store keeper later willing not.0)
@@ -124,8 +122,8 @@ good_ones_are_listed shelf keeper later words asked directory events status befo
     ]
 
 pub good_ones_succeed : GoodOnesSucceed
-good_ones_succeed shelf keeper later words asked directory events status before after faults now good willing ran kept =
-    elim (good_ones_are_listed shelf keeper later words asked directory events status before after faults now good willing ran) [
+good_ones_succeed shelf link far keeper later words asked directory events status before after faults now good willing ran kept =
+    elim (good_ones_are_listed shelf link far keeper later words asked directory events status before after faults now good willing ran) [
       | inl listed ↦ elim listed.written [
         | inl whole ↦ inl whole.0
         | inr part ↦ absurd (kept part.2)
@@ -134,8 +132,8 @@ good_ones_succeed shelf keeper later words asked directory events status before 
     ]
 
 pub good_ones_want_a_keeper : GoodOnesWantAKeeper
-good_ones_want_a_keeper shelf keeper later calls words asked directory events status before after faults now good is unwilling ran =
-    elim (good_run shelf keeper later words asked directory events status before after faults now good ran) [
+good_ones_want_a_keeper shelf link far keeper later calls words asked directory events status before after faults now good is unwilling ran =
+    elim (good_run shelf link far keeper later words asked directory events status before after faults now good ran) [
       | inl ends ↦ elim ends [
         | inl listed ↦ absurd (let wrong : true ≡ false = sym unwilling ∙ opens directory.store keeper.calls listed.opening.calls calls false listed.opened.calls is in cc)
         | inr not ↦ inl not.1.0
@@ -153,12 +151,19 @@ told_ends text there status before after faults now is (inl ends) =
 told_ends text there status before after faults now is (inr memory) = inr memory.0
 
 pub checks_are_told : ChecksAreTold
-checks_are_told shelf keeper later words text status before after faults now there (RanReplay r) = absurd (never_both r.asked there.records words r.spelled there.spelled)
-checks_are_told shelf keeper later words text status before after faults now there (RanCheck c) =
+checks_are_told shelf link far keeper later words text status before after faults now there (RanServe v) =
+    absurd (no_other (Serve v.config v.token v.turns) (Check there.records) words v.spelled there.spelled refl)
+checks_are_told shelf link far keeper later words text status before after faults now there (RanReplay r) =
+    absurd (no_other (Replay r.asked) (Check there.records) words r.spelled there.spelled refl)
+checks_are_told shelf link far keeper later words text status before after faults now there (RanCheck c) =
     told_ends c.text text status before after faults now
     (c.told_text ∙ (ap (answer_at shelf) (same_records c.records there.records words c.spelled there.spelled) ∙ there.there)) c.ends
-checks_are_told shelf keeper later words text status before after faults now there (RanCharges c) = absurd (never_check_and_charges there.records c.config words there.spelled c.spelled)
-checks_are_told shelf keeper later words text status before after faults now there (RanNone refused) = absurd (refused.none (Check there.records) tt there.spelled)
+checks_are_told shelf link far keeper later words text status before after faults now there (RanCharges c) =
+    absurd (no_other (Charges c.config) (Check there.records) words c.spelled there.spelled refl)
+checks_are_told shelf link far keeper later words text status before after faults now there (RanWork w) =
+    absurd (no_other (Workload w.calls w.salt) (Check there.records) words w.spelled there.spelled refl)
+checks_are_told shelf link far keeper later words text status before after faults now there (RanNone refused) = absurd (refused.none (Check there.records) there.spelled)
+checks_are_told shelf link far keeper later words text status before after faults now there (RanShort memory) = inr memory.0
 
 -- ---- a store whose rows are asked for
 
@@ -168,19 +173,27 @@ kept_ends : (text : Option (List ℕ)) (there : List ℕ) (directory : Directory
     → EndsOfStore (Ok directory) keeper later status before after faults now ⊎ WroteMemory status before after faults now
 kept_ends text there directory keeper later status before after faults now is read ends = rw (is, read) at ends
 
-kept_run : (shelf : Shelf) (keeper later : KeeperSeen) (words : List (List ℕ)) (directory : Directory) (status : ℕ) (before after : Option (List ℕ)) (faults now : ℕ)
-    → IsKept shelf words directory → Ran (Some shelf) keeper later words status before after faults now
+kept_run : (shelf : Shelf) (link far : LinkSeen) (keeper later : KeeperSeen) (words : List (List ℕ)) (directory : Directory) (status : ℕ) (before after : Option (List ℕ))
+    (faults now : ℕ)
+    → IsKept shelf words directory → Ran (Some shelf) link far keeper later words status before after faults now
     → EndsOfStore (Ok directory) keeper later status before after faults now ⊎ WroteMemory status before after faults now
-kept_run shelf keeper later words directory status before after faults now kept (RanReplay r) = absurd (never_replay_and_charges r.asked kept.config words r.spelled kept.spelled)
-kept_run shelf keeper later words directory status before after faults now kept (RanCheck c) = absurd (never_check_and_charges c.records kept.config words c.spelled kept.spelled)
-kept_run shelf keeper later words directory status before after faults now kept (RanCharges c) =
+kept_run shelf link far keeper later words directory status before after faults now kept (RanServe v) =
+    absurd (no_other (Serve v.config v.token v.turns) (Charges kept.config) words v.spelled kept.spelled refl)
+kept_run shelf link far keeper later words directory status before after faults now kept (RanReplay r) =
+    absurd (no_other (Replay r.asked) (Charges kept.config) words r.spelled kept.spelled refl)
+kept_run shelf link far keeper later words directory status before after faults now kept (RanCheck c) =
+    absurd (no_other (Check c.records) (Charges kept.config) words c.spelled kept.spelled refl)
+kept_run shelf link far keeper later words directory status before after faults now kept (RanCharges c) =
     kept_ends c.text kept.text directory keeper later status before after faults now
     (c.told_text ∙ (ap (answer_at shelf) (same_config c.config kept.config words c.spelled kept.spelled) ∙ kept.there)) kept.read c.ends
-kept_run shelf keeper later words directory status before after faults now kept (RanNone refused) = absurd (refused.none (Charges kept.config) tt kept.spelled)
+kept_run shelf link far keeper later words directory status before after faults now kept (RanWork w) =
+    absurd (no_other (Workload w.calls w.salt) (Charges kept.config) words w.spelled kept.spelled refl)
+kept_run shelf link far keeper later words directory status before after faults now kept (RanNone refused) = absurd (refused.none (Charges kept.config) kept.spelled)
+kept_run shelf link far keeper later words directory status before after faults now kept (RanShort memory) = inr memory
 
 pub rows_are_listed : RowsAreListed
-rows_are_listed shelf keeper later words directory status before after faults now kept willing ran =
-    elim (kept_run shelf keeper later words directory status before after faults now kept ran) [
+rows_are_listed shelf link far keeper later words directory status before after faults now kept willing ran =
+    elim (kept_run shelf link far keeper later words directory status before after faults now kept ran) [
       | inl ends ↦ elim ends [
         | inl listed ↦ inl listed
         | inr not ↦ absurd (never_unwilling directory.store keeper later willing not.0)
@@ -189,8 +202,8 @@ rows_are_listed shelf keeper later words directory status before after faults no
     ]
 
 pub rows_want_a_keeper : RowsWantAKeeper
-rows_want_a_keeper shelf keeper later calls words directory status before after faults now kept is unwilling ran =
-    elim (kept_run shelf keeper later words directory status before after faults now kept ran) [
+rows_want_a_keeper shelf link far keeper later calls words directory status before after faults now kept is unwilling ran =
+    elim (kept_run shelf link far keeper later words directory status before after faults now kept ran) [
       | inl ends ↦ elim ends [
         | inl listed ↦ absurd (let wrong : true ≡ false = sym unwilling ∙ opens directory.store keeper.calls later.calls calls false listed.given.calls is in cc)
         | inr not ↦ inl not.1.0
@@ -198,22 +211,111 @@ rows_want_a_keeper shelf keeper later calls words directory status before after 
       | inr memory ↦ inr memory.0
     ]
 
+-- ---- a link that is served
+
+-- a link whose call fails by its number is not bound
+binds : (directory : Directory) (calls since : Option LinkCalls) (told : LinkCalls) → IsBindCall directory calls since false → calls ≡ Some told → fails_next told ≡ false
+binds directory None since told bound is = absurd cc
+binds directory (Some calls) since told bound is = let same : calls ≡ told = some_is calls told is in ap fails_next (sym same) ∙ bound.1
+
+module _ (link far : LinkSeen) (keeper later : KeeperSeen) (directory : Directory) (token : List ℕ) (turns : ℕ)
+    (status : ℕ) (before after : Option (List ℕ)) (faults now : ℕ) where
+  -- how such a run ends
+  abbrev EndsThere : Type 0
+  EndsThere = EndsServing directory token turns link far keeper later status before after faults now ⊎ (status ≡ 8)
+
+  there_ends : (text : Option (List ℕ)) (there : List ℕ) → text ≡ Some there → directory_of there ≡ Ok directory
+      → EndsOfServe text token turns link far keeper later status before after faults now ⊎ WroteMemory status before after faults now
+      → EndsServing directory token turns link far keeper later status before after faults now ⊎ WroteMemory status before after faults now
+  there_ends text there is read ends = rw (is, read) at ends
+
+  there_or_eight : EndsServing directory token turns link far keeper later status before after faults now ⊎ WroteMemory status before after faults now → EndsThere
+  there_or_eight (inl ends) = inl ends
+  there_or_eight (inr memory) = inr memory.0
+
+  -- where the link could not be bound or not take in, its count of taking in rose
+  failed_rose : LinkFails directory token turns link far keeper later → Rose link.taking far.taking
+  failed_rose (inl un) = un.unlinked.rose
+  failed_rose (inr served) = subst (λ (n : ℕ). Rose n far.taking) served.linked.taking served.run.cause
+
+  served_unless : IsWilling keeper later → (Rose link.taking far.taking → ⊥) → EndsThere
+      → ServedLink directory token turns link far keeper later status before after faults now ⊎ (status ≡ 8)
+  served_unless willing stood (inl (EndsServed served)) = inl served
+  served_unless willing stood (inl (EndsUnlinked failed wrote)) = absurd (stood (failed_rose failed))
+  served_unless willing stood (inl (EndsUnkept not wrote)) = absurd (never_unwilling directory.store keeper later willing not)
+  served_unless willing stood (inr eight) = inr eight
+
+  -- a keeper that refuses is not loaded, and a link that fails is not bound
+  never_loaded : (calls : KeeperCalls) (loaded : Texts) (opening : KeeperSeen) → keeper.calls ≡ Some calls → refuses calls ≡ true →
+      IsLoaded directory.store loaded keeper opening → ⊥
+  never_loaded calls loaded opening is unwilling opened =
+      let wrong : true ≡ false = sym unwilling ∙ opens directory.store keeper.calls opening.calls calls false opened.calls is in
+      cc
+
+  unkept_unless : (calls : KeeperCalls) → keeper.calls ≡ Some calls → refuses calls ≡ true → EndsThere → (status ≡ 6) ⊎ (status ≡ 8)
+  unkept_unless calls is unwilling (inl (EndsServed served)) = absurd (never_loaded calls served.serves.loaded served.serves.opening is unwilling served.serves.opened)
+  unkept_unless calls is unwilling (inl (EndsUnlinked (inl un) wrote)) = absurd (never_loaded calls un.loaded later is unwilling un.opened)
+  unkept_unless calls is unwilling (inl (EndsUnlinked (inr served) wrote)) = absurd (never_loaded calls served.loaded served.opening is unwilling served.opened)
+  unkept_unless calls is unwilling (inl (EndsUnkept not wrote)) = inl wrote.0
+  unkept_unless calls is unwilling (inr eight) = inr eight
+
+  never_linked : (calls : LinkCalls) (listening : LinkSeen) → link.calls ≡ Some calls → fails_next calls ≡ true → IsLinked directory link listening → ⊥
+  never_linked calls listening is fails linked =
+      let wrong : true ≡ false = sym fails ∙ binds directory link.calls listening.calls calls linked.calls is in
+      cc
+
+  unlinked_unless : (calls : LinkCalls) → IsWilling keeper later → link.calls ≡ Some calls → fails_next calls ≡ true → EndsThere → (status ≡ 4) ⊎ (status ≡ 8)
+  unlinked_unless calls willing is fails (inl (EndsServed served)) = absurd (never_linked calls served.serves.listening is fails served.serves.linked)
+  unlinked_unless calls willing is fails (inl (EndsUnlinked failed wrote)) = inl wrote.0
+  unlinked_unless calls willing is fails (inl (EndsUnkept not wrote)) = absurd (never_unwilling directory.store keeper later willing not)
+  unlinked_unless calls willing is fails (inr eight) = inr eight
+
+  module _ (shelf : Shelf) (words : List (List ℕ)) where
+    there_run : IsServable shelf words directory token turns → Ran (Some shelf) link far keeper later words status before after faults now → EndsThere
+    there_run good (RanServe v) =
+        let same = same_serve v.config good.config v.token token v.turns turns words v.spelled good.spelled in
+        let P : List ℕ → Type 0 = λ t. EndsOfServe v.text t v.turns link far keeper later status before after faults now ⊎ WroteMemory status before after faults now in
+        let Q : ℕ → Type 0 = λ n. EndsOfServe v.text token n link far keeper later status before after faults now ⊎ WroteMemory status before after faults now in
+        there_or_eight (there_ends v.text good.text (v.told_text ∙ (ap (answer_at shelf) same.0 ∙ good.there)) good.read (subst Q same.2 (subst P same.1 v.ends)))
+    there_run good (RanReplay r) = absurd (no_other (Replay r.asked) (Serve good.config token turns) words r.spelled good.spelled refl)
+    there_run good (RanCheck c) = absurd (no_other (Check c.records) (Serve good.config token turns) words c.spelled good.spelled refl)
+    there_run good (RanCharges c) = absurd (no_other (Charges c.config) (Serve good.config token turns) words c.spelled good.spelled refl)
+    there_run good (RanWork w) = absurd (no_other (Workload w.calls w.salt) (Serve good.config token turns) words w.spelled good.spelled refl)
+    there_run good (RanNone refused) = absurd (refused.none (Serve good.config token turns) good.spelled)
+    there_run good (RanShort memory) = inr memory.0
+
+pub good_ones_are_served : GoodOnesAreServed
+good_ones_are_served shelf link far keeper later words directory token turns status before after faults now good willing stood ran =
+    served_unless link far keeper later directory token turns status before after faults now willing stood
+    (there_run link far keeper later directory token turns status before after faults now shelf words good ran)
+
+pub serving_wants_a_keeper : ServingWantsAKeeper
+serving_wants_a_keeper shelf link far keeper later calls words directory token turns status before after faults now good is unwilling ran =
+    unkept_unless link far keeper later directory token turns status before after faults now calls is unwilling
+    (there_run link far keeper later directory token turns status before after faults now shelf words good ran)
+
+pub serving_wants_a_link : ServingWantsALink
+serving_wants_a_link shelf link far keeper later calls words directory token turns status before after faults now good willing is fails ran =
+    unlinked_unless link far keeper later directory token turns status before after faults now calls willing is fails
+    (there_run link far keeper later directory token turns status before after faults now shelf words good ran)
+
 -- ---- each status
 
--- what a run's end says of the status, of what it means at 0, at 3 and at 6, and of the sink
-record Ending (Zero Three Six : Type 0) (status : ℕ) (faults now : ℕ) : Type 0 where
-  known : list_any (λ known. known == status) (0 ∷ 1 ∷ 2 ∷ 3 ∷ 5 ∷ 6 ∷ 7 ∷ 8 ∷ []) ≡ true
+-- what a run's end says of the status, of what it means at 0, at 3, at 4 and at 6, and of the sink
+record Ending (Zero Three Four Six : Type 0) (status : ℕ) (faults now : ℕ) : Type 0 where
+  known : list_any (λ known. known == status) (0 ∷ 1 ∷ 2 ∷ 3 ∷ 4 ∷ 5 ∷ 6 ∷ 7 ∷ 8 ∷ []) ≡ true
   other : status ≡ 1 → ⊥
   zero : status ≡ 0 → Zero
   three : status ≡ 3 → Three
+  four : status ≡ 4 → Four
   six : status ≡ 6 → Six
   rose : status ≡ 7 → Rose faults now
   kept : status ≡ 0 → now ≡ faults
-  fine : (status ≡ 5 → ⊥) → (status ≡ 6 → ⊥) → (status ≡ 7 → ⊥) → list_any (λ known. known == status) (0 ∷ 1 ∷ 2 ∷ 3 ∷ 8 ∷ []) ≡ true
+  fine : (status ≡ 4 → ⊥) → (status ≡ 5 → ⊥) → (status ≡ 6 → ⊥) → (status ≡ 7 → ⊥) → list_any (λ known. known == status) (0 ∷ 1 ∷ 2 ∷ 3 ∷ 8 ∷ []) ≡ true
 
-module _ (Zero Three Six : Type 0) (status faults now : ℕ) where
+module _ (Zero Three Four Six : Type 0) (status faults now : ℕ) where
   abbrev EndingAt : ℕ → Type 0
-  EndingAt s = Ending Zero Three Six s faults now
+  EndingAt s = Ending Zero Three Four Six s faults now
 
   ending_line : status ≡ 2 → EndingAt status
   ending_line e = subst EndingAt (sym e) (record {
@@ -221,10 +323,11 @@ module _ (Zero Three Six : Type 0) (status faults now : ℕ) where
     other = λ x. absurd cc;
     zero = λ x. absurd cc;
     three = λ x. absurd cc;
+    four = λ x. absurd cc;
     six = λ x. absurd cc;
     rose = λ x. absurd cc;
     kept = λ x. absurd cc;
-    fine = λ five. λ six. λ seven. refl;
+    fine = λ four. λ five. λ six. λ seven. refl;
   })
 
   ending_refused : Three → status ≡ 3 → EndingAt status
@@ -233,10 +336,24 @@ module _ (Zero Three Six : Type 0) (status faults now : ℕ) where
     other = λ x. absurd cc;
     zero = λ x. absurd cc;
     three = λ x. three;
+    four = λ x. absurd cc;
     six = λ x. absurd cc;
     rose = λ x. absurd cc;
     kept = λ x. absurd cc;
-    fine = λ five. λ six. λ seven. refl;
+    fine = λ four. λ five. λ six. λ seven. refl;
+  })
+
+  ending_link : Four → status ≡ 4 → EndingAt status
+  ending_link four e = subst EndingAt (sym e) (record {
+    known = refl;
+    other = λ x. absurd cc;
+    zero = λ x. absurd cc;
+    three = λ x. absurd cc;
+    four = λ x. four;
+    six = λ x. absurd cc;
+    rose = λ x. absurd cc;
+    kept = λ x. absurd cc;
+    fine = λ not. λ five. λ six. λ seven. absurd (not refl);
   })
 
   ending_file : status ≡ 5 → EndingAt status
@@ -245,10 +362,11 @@ module _ (Zero Three Six : Type 0) (status faults now : ℕ) where
     other = λ x. absurd cc;
     zero = λ x. absurd cc;
     three = λ x. absurd cc;
+    four = λ x. absurd cc;
     six = λ x. absurd cc;
     rose = λ x. absurd cc;
     kept = λ x. absurd cc;
-    fine = λ five. λ six. λ seven. absurd (five refl);
+    fine = λ four. λ five. λ six. λ seven. absurd (five refl);
   })
 
   ending_keeper : Six → status ≡ 6 → EndingAt status
@@ -257,10 +375,11 @@ module _ (Zero Three Six : Type 0) (status faults now : ℕ) where
     other = λ x. absurd cc;
     zero = λ x. absurd cc;
     three = λ x. absurd cc;
+    four = λ x. absurd cc;
     six = λ x. rose;
     rose = λ x. absurd cc;
     kept = λ x. absurd cc;
-    fine = λ five. λ six. λ seven. absurd (six refl);
+    fine = λ four. λ five. λ six. λ seven. absurd (six refl);
   })
 
   ending_memory : status ≡ 8 → EndingAt status
@@ -269,10 +388,11 @@ module _ (Zero Three Six : Type 0) (status faults now : ℕ) where
     other = λ x. absurd cc;
     zero = λ x. absurd cc;
     three = λ x. absurd cc;
+    four = λ x. absurd cc;
     six = λ x. absurd cc;
     rose = λ x. absurd cc;
     kept = λ x. absurd cc;
-    fine = λ five. λ six. λ seven. refl;
+    fine = λ four. λ five. λ six. λ seven. refl;
   })
 
   -- a text that is due of a command that is done: what it means at 0 may rest on its having been written
@@ -283,20 +403,36 @@ module _ (Zero Three Six : Type 0) (status faults now : ℕ) where
     other = λ x. absurd cc;
     zero = λ x. zero (inl (refl, w.1, w.2));
     three = λ x. absurd cc;
+    four = λ x. absurd cc;
     six = λ x. absurd cc;
     rose = λ x. absurd cc;
     kept = λ x. w.2;
-    fine = λ five. λ six. λ seven. refl;
+    fine = λ four. λ five. λ six. λ seven. refl;
   })
   ending_written text before after zero (inr w) = subst EndingAt (sym w.0) (record {
     known = refl;
     other = λ x. absurd cc;
     zero = λ x. absurd cc;
     three = λ x. absurd cc;
+    four = λ x. absurd cc;
     six = λ x. absurd cc;
     rose = λ x. w.2;
     kept = λ x. absurd cc;
-    fine = λ five. λ six. λ seven. absurd (seven refl);
+    fine = λ four. λ five. λ six. λ seven. absurd (seven refl);
+  })
+
+  -- where nothing is written
+  ending_nothing : (before after : Option (List ℕ)) → (WroteNothing 0 before after faults now → Zero) → WroteNothing status before after faults now → EndingAt status
+  ending_nothing before after zero w = subst EndingAt (sym w.0) (record {
+    known = refl;
+    other = λ x. absurd cc;
+    zero = λ x. zero (refl, w.1, w.2);
+    three = λ x. absurd cc;
+    four = λ x. absurd cc;
+    six = λ x. absurd cc;
+    rose = λ x. absurd cc;
+    kept = λ x. w.2;
+    fine = λ four. λ five. λ six. λ seven. refl;
   })
 
 -- ---- of `replay`
@@ -314,129 +450,238 @@ module _ (asked : Asked) (keeper later : KeeperSeen) (status : ℕ) (before afte
   AtSix = Rose keeper.faults later.faults
 
   abbrev EndsReplay : Type 0
-  EndsReplay = Ending AtZero ⊥ AtSix status faults now
+  EndsReplay = Ending AtZero ⊥ ⊥ AtSix status faults now
 
   ending_listed : (directory : Directory) (events : List Event) → Listed directory asked.token events keeper later status before after faults now → EndsReplay
   ending_listed directory events l =
-      ending_written AtZero ⊥ AtSix status faults now (listing_of l.offers) before after
-      (λ w. (directory, events, record { loaded = l.loaded; opening = l.opening; opened = l.opened; offers = l.offers; run = l.run; branches = l.branches; outcome = l.outcome; seats = l.seats; clean = l.clean; written = w })) l.written
+      ending_written AtZero ⊥ ⊥ AtSix status faults now (listing_of l.offers) before after
+      (λ w. (
+        directory,
+        events,
+        record {
+          loaded = l.loaded;
+          opening = l.opening;
+          opened = l.opened;
+          offers = l.offers;
+          run = l.run;
+          branches = l.branches;
+          outcome = l.outcome;
+          seats = l.seats;
+          clean = l.clean;
+          written = w;
+        },
+      )) l.written
 
   ending_events : (directory : Directory) (events : Result (List Event) ℕ) → EndsOfEvents directory asked.token events keeper later status before after faults now → EndsReplay
   ending_events directory (Ok events) (inl e) = ending_listed directory events e
-  ending_events directory (Ok events) (inr e) = ending_keeper AtZero ⊥ AtSix status faults now e.0.rose e.1.0
-  ending_events directory (Err line) e = ending_line AtZero ⊥ AtSix status faults now e.0
+  ending_events directory (Ok events) (inr e) = ending_keeper AtZero ⊥ ⊥ AtSix status faults now e.0.rose e.1.0
+  ending_events directory (Err line) e = ending_line AtZero ⊥ ⊥ AtSix status faults now e.0
 
   ending_script : (directory : Directory) (script : Option (List ℕ)) → EndsOfScript directory asked.token script keeper later status before after faults now → EndsReplay
-  ending_script directory None e = ending_file AtZero ⊥ AtSix status faults now e.0
+  ending_script directory None e = ending_file AtZero ⊥ ⊥ AtSix status faults now e.0
   ending_script directory (Some script) e = ending_events directory (events_of directory.peers.known script) e
 
   ending_directory : (directory : Result Directory ℕ) (script : Option (List ℕ)) → EndsOfDirectory directory asked.token script keeper later status before after faults now
       → EndsReplay
   ending_directory (Ok directory) script e = ending_script directory script e
-  ending_directory (Err line) script e = ending_line AtZero ⊥ AtSix status faults now e.0
+  ending_directory (Err line) script e = ending_line AtZero ⊥ ⊥ AtSix status faults now e.0
 
   ending_config : (config script : Option (List ℕ))
       → EndsOfConfig config asked.token script keeper later status before after faults now ⊎ WroteMemory status before after faults now → EndsReplay
-  ending_config None script (inl e) = ending_file AtZero ⊥ AtSix status faults now e.0
+  ending_config None script (inl e) = ending_file AtZero ⊥ ⊥ AtSix status faults now e.0
   ending_config (Some config) script (inl e) = ending_directory (directory_of config) script e
-  ending_config config script (inr memory) = ending_memory AtZero ⊥ AtSix status faults now memory.0
+  ending_config config script (inr memory) = ending_memory AtZero ⊥ ⊥ AtSix status faults now memory.0
 
 -- ---- of `check`
 
 module _ (words : List (List ℕ)) (records : List ℕ) (spelled : IsCheck records words) (status : ℕ) (before after : Option (List ℕ)) (faults now : ℕ) where
   abbrev EndsCheck : Type 0
-  EndsCheck = Ending (ChecksOne words 0 before after faults now) (RefusesOne words) ⊥ status faults now
+  EndsCheck = Ending (ChecksOne words 0 before after faults now) (RefusesOne words) ⊥ ⊥ status faults now
 
   ending_upload : (text : List ℕ) (said : Upload) → upload_of text ≡ said → EndsOfUpload said status before after faults now → EndsCheck
   ending_upload text (upload.Accepted sheet) is e =
-      ending_written (ChecksOne words 0 before after faults now) (RefusesOne words) ⊥ status faults now (codes "ok\n") before after
+      ending_written (ChecksOne words 0 before after faults now) (RefusesOne words) ⊥ ⊥ status faults now (codes "ok\n") before after
       (λ w. record { records = records; spelled = spelled; text = text; sheet = sheet; sound = is; written = w }) e
   ending_upload text (upload.Refused line) is e =
-      ending_refused (ChecksOne words 0 before after faults now) (RefusesOne words) ⊥ status faults now
+      ending_refused (ChecksOne words 0 before after faults now) (RefusesOne words) ⊥ ⊥ status faults now
       (record { records = records; spelled = spelled; text = text; line = line; unsound = is }) e.0
 
   ending_records : (text : Option (List ℕ)) → EndsOfRecords text status before after faults now ⊎ WroteMemory status before after faults now → EndsCheck
-  ending_records None (inl e) = ending_file (ChecksOne words 0 before after faults now) (RefusesOne words) ⊥ status faults now e.0
+  ending_records None (inl e) = ending_file (ChecksOne words 0 before after faults now) (RefusesOne words) ⊥ ⊥ status faults now e.0
   ending_records (Some text) (inl e) = ending_upload text (upload_of text) refl e
-  ending_records text (inr memory) = ending_memory (ChecksOne words 0 before after faults now) (RefusesOne words) ⊥ status faults now memory.0
+  ending_records text (inr memory) = ending_memory (ChecksOne words 0 before after faults now) (RefusesOne words) ⊥ ⊥ status faults now memory.0
 
 -- ---- of `charges`
 
-module _ (words : List (List ℕ)) (config : List ℕ) (spelled : IsCharges config words) (keeper later : KeeperSeen) (status : ℕ) (before after : Option (List ℕ)) (faults now : ℕ) where
+module _ (words : List (List ℕ)) (config : List ℕ) (spelled : IsCharges config words) (keeper later : KeeperSeen) (status : ℕ) (before after : Option (List ℕ))
+    (faults now : ℕ) where
   abbrev EndsCharges : Type 0
-  EndsCharges = Ending (ChargesOne keeper later words 0 before after faults now) ⊥ (Rose keeper.faults later.faults) status faults now
+  EndsCharges = Ending (ChargesOne keeper later words 0 before after faults now) ⊥ ⊥ (Rose keeper.faults later.faults) status faults now
 
   ending_rows : (directory : Directory) → ListedRows directory.store keeper later status before after faults now → EndsCharges
   ending_rows directory l =
-      ending_written (ChargesOne keeper later words 0 before after faults now) ⊥ (Rose keeper.faults later.faults) status faults now (text_of l.rows) before after
+      ending_written (ChargesOne keeper later words 0 before after faults now) ⊥ ⊥ (Rose keeper.faults later.faults) status faults now (text_of l.rows) before after
       (λ w. record { config = config; spelled = spelled; directory = directory; listed = record { rows = l.rows; given = l.given; written = w } }) l.written
 
   ending_store : (directory : Result Directory ℕ) → EndsOfStore directory keeper later status before after faults now → EndsCharges
   ending_store (Ok directory) (inl e) = ending_rows directory e
-  ending_store (Ok directory) (inr e) = ending_keeper (ChargesOne keeper later words 0 before after faults now) ⊥ (Rose keeper.faults later.faults) status faults now e.0.rose e.1.0
-  ending_store (Err line) e = ending_line (ChargesOne keeper later words 0 before after faults now) ⊥ (Rose keeper.faults later.faults) status faults now e.0
+  ending_store (Ok directory) (inr e) =
+      ending_keeper (ChargesOne keeper later words 0 before after faults now) ⊥ ⊥ (Rose keeper.faults later.faults) status faults now e.0.rose e.1.0
+  ending_store (Err line) e = ending_line (ChargesOne keeper later words 0 before after faults now) ⊥ ⊥ (Rose keeper.faults later.faults) status faults now e.0
 
   ending_charges : (text : Option (List ℕ)) → EndsOfCharges text keeper later status before after faults now ⊎ WroteMemory status before after faults now → EndsCharges
-  ending_charges None (inl e) = ending_file (ChargesOne keeper later words 0 before after faults now) ⊥ (Rose keeper.faults later.faults) status faults now e.0
+  ending_charges None (inl e) = ending_file (ChargesOne keeper later words 0 before after faults now) ⊥ ⊥ (Rose keeper.faults later.faults) status faults now e.0
   ending_charges (Some config) (inl e) = ending_store (directory_of config) e
-  ending_charges text (inr memory) = ending_memory (ChargesOne keeper later words 0 before after faults now) ⊥ (Rose keeper.faults later.faults) status faults now memory.0
+  ending_charges text (inr memory) = ending_memory (ChargesOne keeper later words 0 before after faults now) ⊥ ⊥ (Rose keeper.faults later.faults) status faults now memory.0
 
--- ---- of each command that there is
+-- ---- of `workload`
 
--- what it means at 0, at 3 and at 6 may be weakened
-weaker : (Zero Zero' Three Three' Six Six' : Type 0) (status faults now : ℕ) → (Zero → Zero') → (Three → Three') → (Six → Six')
-    → Ending Zero Three Six status faults now → Ending Zero' Three' Six' status faults now
-weaker Zero Zero' Three Three' Six Six' status faults now z t s e = record {
+module _ (words : List (List ℕ)) (calls salt : ℕ) (spelled : IsWorkload calls salt words) (status : ℕ) (before after : Option (List ℕ)) (faults now : ℕ) where
+  abbrev EndsWork : Type 0
+  EndsWork = Ending (WorksOne words 0 before after faults now) ⊥ ⊥ ⊥ status faults now
+
+  ending_counted : (directory : Directory) → Counted directory calls status before after faults now → EndsWork
+  ending_counted directory l =
+      ending_written (WorksOne words 0 before after faults now) ⊥ ⊥ ⊥ status faults now l.text before after
+      (λ w. record { calls = calls; salt = salt; spelled = spelled; directory = directory; counted = record { text = l.text; counts = l.counts; written = w } }) l.written
+
+  ending_work : (directory : Result Directory ℕ) → EndsOfWork calls directory status before after faults now ⊎ WroteMemory status before after faults now → EndsWork
+  ending_work (Ok directory) (inl e) = ending_counted directory e
+  ending_work (Err line) (inl e) = ending_line (WorksOne words 0 before after faults now) ⊥ ⊥ ⊥ status faults now e.0
+  ending_work directory (inr memory) = ending_memory (WorksOne words 0 before after faults now) ⊥ ⊥ ⊥ status faults now memory.0
+
+-- ---- of `serve`
+
+module _ (words : List (List ℕ)) (config token : List ℕ) (turns : ℕ) (spelled : IsServe config token turns words) (link far : LinkSeen) (keeper later : KeeperSeen) (status : ℕ)
+    (before after : Option (List ℕ)) (faults now : ℕ) where
+  abbrev ServesAtZero : Type 0
+  ServesAtZero = ServesOne link far keeper later words 0 before after faults now
+
+  abbrev AtFour : Type 0
+  AtFour = Rose link.taking far.taking
+
+  abbrev AtSixToo : Type 0
+  AtSixToo = Rose keeper.faults later.faults
+
+  abbrev EndsServe : Type 0
+  EndsServe = Ending ServesAtZero ⊥ AtFour AtSixToo status faults now
+
+  ending_there : (directory : Directory) → EndsServing directory token turns link far keeper later status before after faults now → EndsServe
+  ending_there directory (EndsServed served) =
+      ending_nothing ServesAtZero ⊥ AtFour AtSixToo status faults now before after
+      (λ w. record {
+        config = config;
+        token = token;
+        turns = turns;
+        spelled = spelled;
+        directory = directory;
+        served = record { closed = served.closed; serves = served.serves; written = w };
+      }) served.written
+  ending_there directory (EndsUnlinked failed wrote) =
+      ending_link ServesAtZero ⊥ AtFour AtSixToo status faults now (failed_rose link far keeper later directory token turns status before after faults now failed) wrote.0
+  ending_there directory (EndsUnkept not wrote) = ending_keeper ServesAtZero ⊥ AtFour AtSixToo status faults now not.rose wrote.0
+
+  ending_serving : (directory : Result Directory ℕ) → EndsOfServing directory token turns link far keeper later status before after faults now → EndsServe
+  ending_serving (Ok directory) e = ending_there directory e
+  ending_serving (Err line) e = ending_line ServesAtZero ⊥ AtFour AtSixToo status faults now e.0
+
+  ending_serve : (text : Option (List ℕ)) → EndsOfServe text token turns link far keeper later status before after faults now ⊎ WroteMemory status before after faults now
+      → EndsServe
+  ending_serve None (inl e) = ending_file ServesAtZero ⊥ AtFour AtSixToo status faults now e.0
+  ending_serve (Some config) (inl e) = ending_serving (directory_of config) e
+  ending_serve text (inr memory) = ending_memory ServesAtZero ⊥ AtFour AtSixToo status faults now memory.0
+
+-- ---- of each command
+
+-- what it means at 0, at 3, at 4 and at 6 may be weakened
+weaker : (Zero Zero' Three Three' Four Four' Six Six' : Type 0) (status faults now : ℕ) → (Zero → Zero') → (Three → Three') → (Four → Four') → (Six → Six')
+    → Ending Zero Three Four Six status faults now → Ending Zero' Three' Four' Six' status faults now
+weaker Zero Zero' Three Three' Four Four' Six Six' status faults now z t f s e = record {
   known = e.known;
   other = e.other;
   zero = λ is. z (e.zero is);
   three = λ is. t (e.three is);
+  four = λ is. f (e.four is);
   six = λ is. s (e.six is);
   rose = e.rose;
   kept = e.kept;
   fine = e.fine;
 }
 
-module _ (told : Option Shelf) (keeper later : KeeperSeen) (words : List (List ℕ)) (status : ℕ) (before after : Option (List ℕ)) (faults now : ℕ) where
-  abbrev EndsAny : Type 0
-  EndsAny = Ending (DoneAtZero keeper later words before after faults now) (RefusesOne words) (Rose keeper.faults later.faults) status faults now
+module _ (told : Option Shelf) (link far : LinkSeen) (keeper later : KeeperSeen) (words : List (List ℕ)) (status : ℕ) (before after : Option (List ℕ)) (faults now : ℕ) where
+  abbrev DoneSo : Type 0
+  DoneSo = DoneAtZero link far keeper later words before after faults now
 
-  -- the words spell a command, and it ended so
+  abbrev TakingRose : Type 0
+  TakingRose = Rose link.taking far.taking
+
+  abbrev KeeperRose : Type 0
+  KeeperRose = Rose keeper.faults later.faults
+
+  abbrev EndsAny : Type 0
+  EndsAny = Ending DoneSo (RefusesOne words) TakingRose KeeperRose status faults now
+
+  -- the words spell a command, or memory ran out in reading them, and it ended so
   record EndsSome : Type 0 where
-    some : SpellsNone words → ⊥
+    some : SpellsNone words → status ≡ 8
     end : EndsAny
+
+  of_serve : HasServed told link far keeper later words status before after faults now → EndsSome
+  of_serve v = record {
+    some = λ no_one. absurd (no_one (Serve v.config v.token v.turns) v.spelled.spelled);
+    end = weaker (ServesOne link far keeper later words 0 before after faults now) DoneSo ⊥ (RefusesOne words) TakingRose TakingRose KeeperRose KeeperRose status faults now
+        (λ one. DoneServe one) (λ never. absurd never) (λ rose. rose) (λ rose. rose)
+        (ending_serve words v.config v.token v.turns v.spelled.spelled link far keeper later status before after faults now v.text v.ends);
+  }
 
   of_replay : Replayed told keeper later words status before after faults now → EndsSome
   of_replay r = record {
-    some = λ no_one. no_one (Replay r.asked) tt r.spelled;
-    end = weaker (ListsAtZero r.asked keeper later before after faults now) (DoneAtZero keeper later words before after faults now) ⊥ (RefusesOne words)
-        (Rose keeper.faults later.faults) (Rose keeper.faults later.faults) status faults now
-        (λ one. DoneReplay (record { asked = r.asked; spelled = r.spelled; directory = one.0; events = one.1; listed = one.2 })) (λ never. absurd never) (λ rose. rose)
+    some = λ no_one. absurd (no_one (Replay r.asked) r.spelled.spelled);
+    end = weaker (ListsAtZero r.asked keeper later before after faults now) DoneSo ⊥ (RefusesOne words) ⊥ TakingRose KeeperRose KeeperRose status faults now
+        (λ one. DoneReplay (record { asked = r.asked; spelled = r.spelled.spelled; directory = one.0; events = one.1; listed = one.2 }))
+        (λ never. absurd never) (λ never. absurd never) (λ rose. rose)
         (ending_config r.asked keeper later status before after faults now r.answers.config r.answers.script r.ends);
   }
 
   of_check : Checked told words status before after faults now → EndsSome
   of_check c = record {
-    some = λ no_one. no_one (Check c.records) tt c.spelled;
-    end = weaker (ChecksOne words 0 before after faults now) (DoneAtZero keeper later words before after faults now) (RefusesOne words) (RefusesOne words)
-        ⊥ (Rose keeper.faults later.faults) status faults now (λ one. DoneCheck one) (λ one. one) (λ never. absurd never)
-        (ending_records words c.records c.spelled status before after faults now c.text c.ends);
+    some = λ no_one. absurd (no_one (Check c.records) c.spelled.spelled);
+    end = weaker (ChecksOne words 0 before after faults now) DoneSo (RefusesOne words) (RefusesOne words) ⊥ TakingRose ⊥ KeeperRose status faults now
+        (λ one. DoneCheck one) (λ one. one) (λ never. absurd never) (λ never. absurd never)
+        (ending_records words c.records c.spelled.spelled status before after faults now c.text c.ends);
   }
 
   of_charges : Charged told keeper later words status before after faults now → EndsSome
   of_charges c = record {
-    some = λ no_one. no_one (Charges c.config) tt c.spelled;
-    end = weaker (ChargesOne keeper later words 0 before after faults now) (DoneAtZero keeper later words before after faults now) ⊥ (RefusesOne words)
-        (Rose keeper.faults later.faults) (Rose keeper.faults later.faults) status faults now (λ one. DoneCharges one) (λ never. absurd never) (λ rose. rose)
-        (ending_charges words c.config c.spelled keeper later status before after faults now c.text c.ends);
+    some = λ no_one. absurd (no_one (Charges c.config) c.spelled.spelled);
+    end = weaker (ChargesOne keeper later words 0 before after faults now) DoneSo ⊥ (RefusesOne words) ⊥ TakingRose KeeperRose KeeperRose status faults now
+        (λ one. DoneCharges one) (λ never. absurd never) (λ never. absurd never) (λ rose. rose)
+        (ending_charges words c.config c.spelled.spelled keeper later status before after faults now c.text c.ends);
+  }
+
+  of_work : Worked words status before after faults now → EndsSome
+  of_work w = record {
+    some = λ no_one. absurd (no_one (Workload w.calls w.salt) w.spelled.spelled);
+    end = weaker (WorksOne words 0 before after faults now) DoneSo ⊥ (RefusesOne words) ⊥ TakingRose ⊥ KeeperRose status faults now
+        (λ one. DoneWork one) (λ never. absurd never) (λ never. absurd never) (λ never. absurd never)
+        (ending_work words w.calls w.salt w.spelled.spelled status before after faults now (directory_of work_config) w.ends);
+  }
+
+  of_short : WroteMemory status before after faults now → EndsSome
+  of_short memory = record {
+    some = λ no_one. memory.0;
+    end = ending_memory DoneSo (RefusesOne words) TakingRose KeeperRose status faults now memory.0;
   }
 
   -- or they spell none
-  ends_so : Ran told keeper later words status before after faults now → EndsSome ⊎ Refused words status before after faults now
+  ends_so : Ran told link far keeper later words status before after faults now → EndsSome ⊎ Refused words status before after faults now
+  ends_so (RanServe v) = inl (of_serve v)
   ends_so (RanReplay r) = inl (of_replay r)
   ends_so (RanCheck c) = inl (of_check c)
   ends_so (RanCharges c) = inl (of_charges c)
+  ends_so (RanWork w) = inl (of_work w)
   ends_so (RanNone refused) = inr refused
+  ends_so (RanShort memory) = inl (of_short memory)
 
 -- ---- the sayings
 
@@ -445,57 +690,64 @@ not_usage : (n status : ℕ) → status ≡ 1 → (n ≡ 1 → ⊥) → status �
 not_usage n status one other is = other (sym is ∙ one)
 
 pub zero_is_listed : ZeroIsListed
-zero_is_listed told keeper later words status before after faults now ran zero =
-    elim (ends_so told keeper later words status before after faults now ran) [
+zero_is_listed told link far keeper later words status before after faults now ran zero =
+    elim (ends_so told link far keeper later words status before after faults now ran) [
       | inl some ↦ some.end.zero zero
       | inr refused ↦ absurd (not_usage 0 status refused.said.0 (λ w. cc) zero)
     ]
 
 pub one_is_usage : OneIsUsage
-one_is_usage told keeper later words status before after faults now ran =
-    elim (ends_so told keeper later words status before after faults now ran) [
-      | inl some ↦ (λ one. absurd (some.end.other one), λ no_one. absurd (some.some no_one))
-      | inr refused ↦ (λ one. refused.none, λ no_one. refused.said.0)
+one_is_usage told link far keeper later words status before after faults now ran =
+    elim (ends_so told link far keeper later words status before after faults now ran) [
+      | inl some ↦ (λ one. absurd (some.end.other one), λ no_one. inr (some.some no_one))
+      | inr refused ↦ (λ one. refused.none, λ no_one. inl refused.said.0)
     ]
 
 pub three_is_refused : ThreeIsRefused
-three_is_refused told keeper later words status before after faults now ran three =
-    elim (ends_so told keeper later words status before after faults now ran) [
+three_is_refused told link far keeper later words status before after faults now ran three =
+    elim (ends_so told link far keeper later words status before after faults now ran) [
       | inl some ↦ some.end.three three
       | inr refused ↦ absurd (not_usage 3 status refused.said.0 (λ w. cc) three)
     ]
 
+pub four_rose : FourRose
+four_rose told link far keeper later words status before after faults now ran four =
+    elim (ends_so told link far keeper later words status before after faults now ran) [
+      | inl some ↦ some.end.four four
+      | inr refused ↦ absurd (not_usage 4 status refused.said.0 (λ w. cc) four)
+    ]
+
 pub six_rose : SixRose
-six_rose told keeper later words status before after faults now ran six =
-    elim (ends_so told keeper later words status before after faults now ran) [
+six_rose told link far keeper later words status before after faults now ran six =
+    elim (ends_so told link far keeper later words status before after faults now ran) [
       | inl some ↦ some.end.six six
       | inr refused ↦ absurd (not_usage 6 status refused.said.0 (λ w. cc) six)
     ]
 
 pub seven_rose : SevenRose
-seven_rose told keeper later words status before after faults now ran seven =
-    elim (ends_so told keeper later words status before after faults now ran) [
+seven_rose told link far keeper later words status before after faults now ran seven =
+    elim (ends_so told link far keeper later words status before after faults now ran) [
       | inl some ↦ some.end.rose seven
       | inr refused ↦ absurd (not_usage 7 status refused.said.0 (λ w. cc) seven)
     ]
 
 pub zero_kept : ZeroKept
-zero_kept told keeper later words status before after faults now ran zero =
-    elim (ends_so told keeper later words status before after faults now ran) [
+zero_kept told link far keeper later words status before after faults now ran zero =
+    elim (ends_so told link far keeper later words status before after faults now ran) [
       | inl some ↦ some.end.kept zero
       | inr refused ↦ absurd (not_usage 0 status refused.said.0 (λ w. cc) zero)
     ]
 
 pub statuses_are_these : StatusesAreThese
-statuses_are_these told keeper later words status before after faults now ran =
-    elim (ends_so told keeper later words status before after faults now ran) [
+statuses_are_these told link far keeper later words status before after faults now ran =
+    elim (ends_so told link far keeper later words status before after faults now ran) [
       | inl some ↦ some.end.known
       | inr refused ↦ rw (refused.said.0) refl
     ]
 
 pub no_fault_no_failure : NoFaultNoFailure
-no_fault_no_failure told keeper later words status before after faults now ran earlier since counts files kept sink =
-    elim (ends_so told keeper later words status before after faults now ran) [
-      | inl some ↦ some.end.fine (λ five. files (counts.rose five)) (λ six. kept (some.end.six six)) (λ seven. sink (some.end.rose seven))
+no_fault_no_failure told link far keeper later words status before after faults now ran earlier since counts files stood kept sink =
+    elim (ends_so told link far keeper later words status before after faults now ran) [
+      | inl some ↦ some.end.fine (λ four. stood (some.end.four four)) (λ five. files (counts.rose five)) (λ six. kept (some.end.six six)) (λ seven. sink (some.end.rose seven))
       | inr refused ↦ rw (refused.said.0) refl
     ]

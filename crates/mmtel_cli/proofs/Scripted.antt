@@ -1,5 +1,6 @@
 -- A run over a script: all of its events are heard, and what was read of a web connection says as much as all of it.
-use Rattle.std.proofs.Common.{◌≡◌, ◌≤◌, ◌-◌, ◌^◌, min, ℕ, Bool, true, false, List, [], ◌∷◌, ◌++◌, length, slice_get, drop, refl, sym, ap, ◌∙◌, subst, inl, inr, Option, Some, None, Ok, arith}
+use Rattle.std.proofs.Common.{◌≡◌, ◌≤◌, ◌-◌, ◌^◌, min, ℕ, Bool, true, false, List, [], ◌∷◌, ◌++◌, length, slice_get, drop, refl, sym, ap, ◌∙◌, subst, inl, inr, Option}
+use Rattle.std.proofs.Common.{Some, None, Ok, arith}
 use Rattle.std.specs.Option.{option_map, option_to_list}
 use Rattle.mmtel_charging.specs.declared.rows.Row.{Row}
 use Rattle.mmtel_directory.specs.declared.directories.Directory.{Directory}
@@ -25,7 +26,7 @@ use Rattle.mmtel_server.specs.Driven.{Driven, EachAnswers, EachCounted, EachRead
 use Rattle.mmtel_server.specs.Charged.{RowsCharged, took_last}
 use Rattle.mmtel_server_decisions.specs.Handed.{Handed, HandedCounted}
 use Rattle.mmtel_server.specs.Laws.{EachReadOut, IsEventReadOut, ReadOutSaysAll, UnfailedAreReadOut}
-use Rattle.mmtel_server.specs.Stands.{Went}
+use Rattle.mmtel_server.specs.Stands.{Serves, Went}
 use Rattle.mmtel_server.specs.Stepped.{call_of}
 use Rattle.mmtel_server.specs.declared.servers.Server.{Server}
 use Rattle.mmtel_serving.specs.Calls.{Answers, Call, Counted, MayBeCalled, WasCalled, asks, none, stores}
@@ -197,11 +198,13 @@ rose_behind : (faults between count : ℕ) → StandsAtLeast faults between → 
 rose_behind faults between count a rose = omega (arith, a, rose)
 
 -- where it did not rise, the rows were taken
-took_unless : (took : Bool) (faults asked between count : ℕ) → StandsAtLeast faults asked → HandedCounted took asked between → StandsAtLeast between count → (Rose faults count → ⊥) → took ≡ true
+took_unless : (took : Bool) (faults asked between count : ℕ) → StandsAtLeast faults asked → HandedCounted took asked between → StandsAtLeast between count →
+    (Rose faults count → ⊥) → took ≡ true
 took_unless true faults asked between count a handed b kept = refl
 took_unless false faults asked between count a rose b kept = absurd (kept (rose_between faults asked between count a rose b))
 
-took_where_kept : (one : Happened) (happened : List Happened) (faults count : ℕ) → EachCounted (one ∷ happened) faults count → (Rose faults count → ⊥) → took_last (one ∷ happened) ≡ true
+took_where_kept : (one : Happened) (happened : List Happened) (faults count : ℕ) → EachCounted (one ∷ happened) faults count → (Rose faults count → ⊥) →
+    took_last (one ∷ happened) ≡ true
 took_where_kept one [] faults count e kept =
     took_unless one.took faults e.0 e.1 count (asked_stands one.kept faults e.0 e.2) e.3.0 (count_stands [] e.1 count e.3.1) kept
 took_where_kept one (other ∷ happened) faults count e kept =
@@ -209,7 +212,7 @@ took_where_kept one (other ∷ happened) faults count e kept =
     took_where_kept other happened e.1 count e.3.1 (λ (rose : Rose e.1 count). kept (rose_behind faults e.1 count before rose))
 
 -- none waits then
-none_waits : (d : Directory) (token : List ℕ) (loaded : Texts) (fuel : ℕ) (happened : List Happened) (faults count : ℕ) → EachCounted happened faults count
+pub none_waits : (d : Directory) (token : List ℕ) (loaded : Texts) (fuel : ℕ) (happened : List Happened) (faults count : ℕ) → EachCounted happened faults count
     → RowsCharged d (world_after d token loaded fuel happened) happened → (Rose faults count → ⊥) → (world_after d token loaded fuel happened).waiting ≡ []
 none_waits d token loaded fuel [] faults count e charged kept = refl
 none_waits d token loaded fuel (one ∷ happened) faults count e charged kept = charged.none (took_where_kept one happened faults count e kept)
@@ -234,12 +237,13 @@ answer_still asks made rows held left calls since a = called_still false calls s
 answer_still asks failed rows held left calls since a = called_still true calls since a.1
 answer_still asks no_memory rows held left calls since a = maybe_still calls since a.1
 
-handed_still : (took : Bool) (waiting : List Row) (held left : Option Held) (calls since : Option KeeperCalls) → Handed took waiting held left calls since → IsBoundStill calls since
+handed_still : (took : Bool) (waiting : List Row) (held left : Option Held) (calls since : Option KeeperCalls) → Handed took waiting held left calls since →
+    IsBoundStill calls since
 handed_still took [] held left calls since h = rw h.1.1 refl
 handed_still true (row ∷ rows) held left calls since h = called_still false calls since h.1
 handed_still false (row ∷ rows) held left calls since h = called_still true calls since h.1
 
-bound_still : (names : WebDirectory) (happened : List Happened) (held left : Option Held) (calls since : Option KeeperCalls) → EachAnswers names happened held left calls since
+pub bound_still : (names : WebDirectory) (happened : List Happened) (held left : Option Held) (calls since : Option KeeperCalls) → EachAnswers names happened held left calls since
     → IsBoundStill calls since
 bound_still names [] held left calls since e = rw e.1 refl
 bound_still names (one ∷ happened) held left calls since e =
@@ -310,19 +314,21 @@ module _ (unfailed : UnfailedAreReadOut) (all : ReadOutSaysAll) (keeps : OffersK
       → Driven (Some ear) later 0 0 held left calls since faults count turns old out new now (Ok closed)
       → ear ≡ unheard ear.events → length ear.events ≤ turns → Went d token loaded [] [] old out
       → OffersRun d token loaded ear.events (seen held calls faults) (seen left since count) now
-  offers_run ear None held left calls since faults count turns old out new now closed driven begins enough went = absurd driven.told
+  offers_run ear None held left calls since faults count turns old out new now closed driven begins enough went = absurd driven.made.told
   offers_run ear (Some later) held left calls since faults count turns old out new now closed driven begins enough went =
+      let serves : Serves d token loaded [] old = record { fuel = went.fuel; enough = went.enough; stands = went.did.stands } in
       let unread : ear.reads ≡ [] = ap (λ (e : Ear). e.reads) begins in
-      let came = came_of ear later (events_in driven.happened) unread driven.told in
-      let long = long_enough ear later turns (length driven.happened) closed (events_in driven.happened) enough unread driven.told (count_events driven.happened) driven.ends in
+      let came = came_of ear later (events_in driven.happened) unread driven.made.told in
+      let long = long_enough ear later turns (length driven.happened) closed (events_in driven.happened) enough unread driven.made.told
+      (count_events driven.happened) driven.made.ends in
       let read = read_out unfailed ear later driven.read.0 unread driven.read.1 driven.read.2 in
       let w = whole_of all d ear.events later.reads driven.happened came long read in
       let few : IsShortRun d token loaded w.whole → IsShortRun d token loaded driven.happened = short_same d token loaded driven.happened w.whole (sym w.read) in
       let answers : IsShortRun d token loaded w.whole
-      → EachAnswers d.names w.whole held left calls since = λ short. w.asked held left calls since (driven.keeper.answers d token loaded [] [] went (few short)) in
+      → EachAnswers d.names w.whole held left calls since = λ short. w.asked held left calls since (driven.made.keeper.answers d token loaded [] serves (few short)) in
       let exact : IsShortRun d token loaded w.whole → Gives d token loaded w.whole now = λ short.
       gives_same d token loaded driven.happened w.whole (sym w.read) now (given_by d token loaded driven.happened new now (driven.did d token loaded [] [] went (few short))) in
-      let count_whole : EachCounted w.whole faults count = w.counted faults count driven.keeper.counted in
+      let count_whole : EachCounted w.whole faults count = w.counted faults count driven.made.keeper.counted in
       record {
         happened = w.whole;
         heard = w.heard;
@@ -333,9 +339,9 @@ module _ (unfailed : UnfailedAreReadOut) (all : ReadOutSaysAll) (keeps : OffersK
         bound = λ short. bound_still d.names w.whole held left calls since (answers short);
         held = λ short. λ fuel. λ enough.
             holds_whole d token loaded fuel driven.happened w.whole (sym w.read) (sym w.uploads) held left
-            (driven.keeper.sheets d token loaded [] [] fuel (enough_same d token loaded driven.happened w.whole (sym w.read) fuel enough) went (few short));
+            (driven.made.keeper.sheets d token loaded [] fuel (enough_same d token loaded driven.happened w.whole (sym w.read) fuel enough) serves (few short));
         charged = λ short. λ fuel. λ enough.
             let charged = charged_same d token loaded driven.happened w.whole (sym w.read) fuel
-            (driven.charged d token loaded [] [] fuel went (few short) (enough_same d token loaded driven.happened w.whole (sym w.read) fuel enough)) in
+            (driven.made.charged d token loaded [] fuel serves (few short) (enough_same d token loaded driven.happened w.whole (sym w.read) fuel enough)) in
             record { rows = charged; taken = none_waits d token loaded fuel w.whole faults count count_whole charged };
       }

@@ -1,12 +1,13 @@
 -- What a run is due to write, by what the files gave: of `replay` the configuration comes first, then the script, then the listing of what the server offers; of `check` the
--- file is a service record or is none; of `charges` the rows that the keeper holds.
+-- file is a service record or is none; of `charges` the rows that the keeper holds; of `workload` what a server makes of its calls. `serve` is due to write nothing but that
+-- its configuration is not there or not good; what else becomes of it is said of the link and the keeper (`Serving`).
 use Rattle.std.specs.Prelude.{ℕ, List, Some, None, Ok, Err}
 use Rattle.std.specs.declared.option.Option.{Option}
 use Rattle.std.specs.declared.result.Result.{Result}
 use Rattle.mmtel_directory.specs.Directory.{directory_of}
 use Rattle.mmtel_script.specs.Script.{events_of}
 use Rattle.mmtel_outside.specs.Shelf.{Shelf, answer_at, called}
-use Rattle.mmtel_cli.specs.CommandLine.{Command, Serve, Replay, Check, Charges, Workload}
+use Rattle.mmtel_words.specs.CommandLine.{Command, Serve, Replay, Check, Charges, Workload}
 use Rattle.mmtel_directory.specs.declared.directories.Directory.{Directory}
 use Rattle.mmtel_outside.specs.declared.events.Event.{Event}
 use Rattle.mmtel_uploads.specs.Uploads.{upload_of}
@@ -24,6 +25,8 @@ pub data Due : Type 0 where
   Run : (directory : Directory) → (token : List ℕ) → (events : List Event) → Due
   -- the rows that the keeper of this store holds
   Rows : (store : List ℕ) → Due
+  -- what a server of this configuration makes of so many calls
+  Work : (calls : ℕ) → (directory : Directory) → Due
   -- the file is a service record
   Sound : Due
   -- the file is none, and this line tells its first fault
@@ -69,19 +72,13 @@ abbrev pub due_of_charges : Option (List ℕ) → Due
 due_of_charges None = File
 due_of_charges (Some config) = due_of_store (directory_of config)
 
--- what is due of a command over files that tell: of `replay` the first call is for CONFIG, and the second for SCRIPT; of `check` and of `charges` there is one call. The others are not here yet
-abbrev pub due_by : Shelf → Command → Due
-due_by shelf (Serve config token turns) = Usage
-due_by shelf (Replay asked) = due_of_config (answer_at shelf asked.config) asked.token (answer_at (called shelf) asked.script)
-due_by shelf (Check records) = due_of_records (answer_at shelf records)
-due_by shelf (Charges config) = due_of_charges (answer_at shelf config)
-due_by shelf (Workload calls salt) = Usage
+-- what is due of `workload`, by its configuration
+abbrev pub due_of_work : (calls : ℕ) → Result Directory ℕ → Due
+due_of_work calls (Ok directory) = Work calls directory
+due_of_work calls (Err line) = Line line
 
-abbrev pub due_over : Shelf → Option Command → Due
-due_over shelf None = Usage
-due_over shelf (Some command) = due_by shelf command
-
--- the files after the calls that are due: none without a command, one of `check`, of `charges` and where CONFIG is not there or not good, and else two
+-- the files after the calls that are due: of `replay` the first call is for CONFIG, and the second for SCRIPT, where CONFIG is there and good; of `serve`, `check` and `charges`
+-- there is one call, and of `workload` and without a command none
 abbrev pub shelf_of_directory : Shelf → Result Directory ℕ → Shelf
 shelf_of_directory shelf (Ok directory) = called shelf
 shelf_of_directory shelf (Err line) = shelf
@@ -90,12 +87,24 @@ abbrev pub shelf_of_config : Shelf → Option (List ℕ) → Shelf
 shelf_of_config shelf None = shelf
 shelf_of_config shelf (Some config) = shelf_of_directory shelf (directory_of config)
 
+-- after the first of them, if there is one
+abbrev pub shelf_first : Shelf → Command → Shelf
+shelf_first shelf (Serve config token turns) = called shelf
+shelf_first shelf (Replay asked) = called shelf
+shelf_first shelf (Check records) = called shelf
+shelf_first shelf (Charges config) = called shelf
+shelf_first shelf (Workload calls salt) = shelf
+
 abbrev pub shelf_by : Shelf → Command → Shelf
-shelf_by shelf (Serve config token turns) = shelf
+shelf_by shelf (Serve config token turns) = called shelf
 shelf_by shelf (Replay asked) = shelf_of_config (called shelf) (answer_at shelf asked.config)
 shelf_by shelf (Check records) = called shelf
 shelf_by shelf (Charges config) = called shelf
 shelf_by shelf (Workload calls salt) = shelf
+
+abbrev pub first_after : Shelf → Option Command → Shelf
+first_after shelf None = shelf
+first_after shelf (Some command) = shelf_first shelf command
 
 abbrev pub shelf_after : Shelf → Option Command → Shelf
 shelf_after shelf None = shelf

@@ -1,34 +1,30 @@
 -- What was found due, beside what is due.
-use Rattle.std.specs.Prelude.{◌≡◌, ℕ, ◌⊎◌, List, Some, None, ⊤}
+use Rattle.std.specs.Prelude.{◌≡◌, ℕ, ◌⊎◌, Bool, true, List, Some, None, Ok, ⊤}
 use Rattle.std.specs.declared.option.Option.{Option}
+use Rattle.mmtel_call_heads.specs.Clean.{IsClean}
+use Rattle.mmtel_directory.specs.declared.directories.Directory.{Directory}
 use Rattle.mmtel_outside.specs.Counts.{Rose}
 use Rattle.mmtel_outside.specs.Shelf.{Shelf}
-use Rattle.mmtel_cli.specs.CommandLine.{Command, Serve, Replay, Check, Charges, Workload}
+use Rattle.mmtel_run_secret.specs.Headline.{BranchesAreRead}
+use Rattle.mmtel_trust.specs.Peers.{are_apart}
+use Rattle.mmtel_words.specs.CommandLine.{Command, Serve, Replay, Check, Charges, Workload}
 use Rattle.mmtel_cli.specs.Due as due
 use Rattle.mmtel_cli.specs.Due.{Due}
 use Rattle.mmtel_cli.specs.Keeping.{IsNotLoaded, KeeperSeen}
 use Rattle.mmtel_cli.specs.Listings.{Lists, ListsRows}
+use Rattle.mmtel_cli.specs.Serving.{LinkFails, LinkSeen, ServesLink}
+use Rattle.mmtel_cli.specs.Workloads.{Counts}
 use Rattle.mmtel_cli.specs.declared.reports.Report.{Report}
-use Rattle.mmtel_cli.specs.declared.reports.Report.TheVariants.{Usage, Line, File, Keeper, Memory, Listing, Sound, Unsound}
+use Rattle.mmtel_cli.specs.declared.reports.Report.TheVariants.{Usage, Line, Link, File, Keeper, Memory, Listing, Sound, Served, Unsound}
 
--- there is a command
-abbrev pub IsAsked : Report → Type 0
-IsAsked Usage = ⊥
-IsAsked (Line line) = ⊤
-IsAsked File = ⊤
-IsAsked Keeper = ⊤
-IsAsked Memory = ⊤
-IsAsked (Listing text) = ⊤
-IsAsked Sound = ⊤
-IsAsked (Unsound line) = ⊤
-
--- the text lists the run or the rows that are to be listed
+-- the text lists the run or the rows that are to be listed, or counts what a workload comes to
 abbrev pub IsListing : (keeper later : KeeperSeen) → List ℕ → Due → Type 0
 IsListing keeper later text due.Usage = ⊥
 IsListing keeper later text (due.Line number) = ⊥
 IsListing keeper later text due.File = ⊥
 IsListing keeper later text (due.Run directory token events) = Lists directory token events keeper later text
 IsListing keeper later text (due.Rows store) = ListsRows store keeper later text
+IsListing keeper later text (due.Work calls directory) = Counts directory calls text
 IsListing keeper later text due.Sound = ⊥
 IsListing keeper later text (due.Unsound line) = ⊥
 
@@ -39,6 +35,7 @@ IsUnkept keeper later (due.Line number) = ⊥
 IsUnkept keeper later due.File = ⊥
 IsUnkept keeper later (due.Run directory token events) = IsNotLoaded directory.store keeper later
 IsUnkept keeper later (due.Rows store) = IsNotLoaded store keeper later
+IsUnkept keeper later (due.Work calls directory) = ⊥
 IsUnkept keeper later due.Sound = ⊥
 IsUnkept keeper later (due.Unsound line) = ⊥
 
@@ -47,10 +44,12 @@ abbrev pub IsDue : (keeper later : KeeperSeen) → Report → Due → Type 0
 IsDue keeper later Memory wanted = ⊤
 IsDue keeper later Usage wanted = wanted ≡ due.Usage
 IsDue keeper later (Line line) wanted = wanted ≡ due.Line line
+IsDue keeper later Link wanted = ⊥
 IsDue keeper later File wanted = wanted ≡ due.File
 IsDue keeper later Keeper wanted = IsUnkept keeper later wanted
 IsDue keeper later (Listing text) wanted = IsListing keeper later text wanted
 IsDue keeper later Sound wanted = wanted ≡ due.Sound
+IsDue keeper later Served wanted = ⊥
 IsDue keeper later (Unsound line) wanted = wanted ≡ due.Unsound line
 
 -- the calls that are due were made; or memory ran out, at the first of them or after the last
@@ -58,10 +57,12 @@ abbrev pub HasCalled : Report → Option Shelf → Shelf → Shelf → Type 0
 HasCalled Memory after first last = (after ≡ Some first) ⊎ (after ≡ Some last)
 HasCalled Usage after first last = after ≡ Some last
 HasCalled (Line line) after first last = after ≡ Some last
+HasCalled Link after first last = after ≡ Some last
 HasCalled File after first last = after ≡ Some last
 HasCalled Keeper after first last = after ≡ Some last
 HasCalled (Listing text) after first last = after ≡ Some last
 HasCalled Sound after first last = after ≡ Some last
+HasCalled Served after first last = after ≡ Some last
 HasCalled (Unsound line) after first last = after ≡ Some last
 
 -- the count of the files' faults rose where a file could not be read, and is as before otherwise
@@ -69,10 +70,12 @@ abbrev pub CountsFiles : Report → ℕ → ℕ → Type 0
 CountsFiles File before now = Rose before now
 CountsFiles Usage before now = now ≡ before
 CountsFiles (Line line) before now = now ≡ before
+CountsFiles Link before now = now ≡ before
 CountsFiles Keeper before now = now ≡ before
 CountsFiles Memory before now = now ≡ before
 CountsFiles (Listing text) before now = now ≡ before
 CountsFiles Sound before now = now ≡ before
+CountsFiles Served before now = now ≡ before
 CountsFiles (Unsound line) before now = now ≡ before
 
 -- no file has part in it
@@ -80,24 +83,28 @@ abbrev pub IsRead : Report → Type 0
 IsRead File = ⊥
 IsRead Usage = ⊥
 IsRead (Line line) = ⊤
+IsRead Link = ⊤
 IsRead Keeper = ⊤
 IsRead Memory = ⊤
 IsRead (Listing text) = ⊤
 IsRead Sound = ⊤
+IsRead Served = ⊤
 IsRead (Unsound line) = ⊤
 
--- the keeper is as before where neither a run nor `charges` came to it
+-- the keeper is as before where neither a run, nor serving, nor `charges` came to it
 abbrev pub Spares : {K : Type 0} → Report → (before after : K) → Type 0
 Spares Usage before after = after ≡ before
 Spares (Line line) before after = after ≡ before
+Spares Link before after = ⊤
 Spares File before after = after ≡ before
 Spares Keeper before after = ⊤
 Spares Memory before after = ⊤
 Spares (Listing text) before after = ⊤
 Spares Sound before after = after ≡ before
+Spares Served before after = ⊤
 Spares (Unsound line) before after = after ≡ before
 
--- of `check` it always is
+-- of `check` and `workload`, and without a command, it always is
 abbrev pub SparedBy : {K : Type 0} → Option Command → (before after : K) → Type 0
 SparedBy None before after = after ≡ before
 SparedBy (Some (Serve config token turns)) before after = ⊤
@@ -105,3 +112,85 @@ SparedBy (Some (Replay asked)) before after = ⊤
 SparedBy (Some (Check records)) before after = after ≡ before
 SparedBy (Some (Charges config)) before after = ⊤
 SparedBy (Some (Workload calls salt)) before after = after ≡ before
+
+-- ---- of `serve`
+
+-- what serving asks of a configuration that was read and of a token: the home domain and the token are of one line each, each peer has a number and an address of its own, and
+-- the branches that the server draws are read as they are written
+pub record IsSuited (directory : Directory) (token : List ℕ) : Type 0 where
+  pub home : IsClean directory.home
+  pub text : IsClean token
+  pub apart : are_apart directory.peers.known ≡ true
+  pub branches : BranchesAreRead directory token
+
+-- a configuration that was read is to be served, and so it came: the link was served; or the keeper could not be loaded, or the link not be bound or not take in what comes
+-- next; or memory ran out
+abbrev pub IsServedBy : Directory → (token : List ℕ) → (turns : ℕ) → (link far : LinkSeen) → (keeper later : KeeperSeen) → Report → Type 0
+IsServedBy directory token turns link far keeper later Memory = ⊤
+IsServedBy directory token turns link far keeper later Usage = ⊥
+IsServedBy directory token turns link far keeper later (Line line) = ⊥
+IsServedBy directory token turns link far keeper later Link = IsSuited directory token → LinkFails directory token turns link far keeper later
+IsServedBy directory token turns link far keeper later File = ⊥
+IsServedBy directory token turns link far keeper later Keeper = IsNotLoaded directory.store keeper later
+IsServedBy directory token turns link far keeper later (Listing text) = ⊥
+IsServedBy directory token turns link far keeper later Sound = ⊥
+IsServedBy directory token turns link far keeper later Served =
+    IsSuited directory token → (closed : Bool) × ServesLink directory token turns link far keeper later (Ok closed)
+IsServedBy directory token turns link far keeper later (Unsound line) = ⊥
+
+-- the keeper was loaded before
+abbrev pub IsServing : Report → Type 0
+IsServing Memory = ⊤
+IsServing Usage = ⊥
+IsServing (Line line) = ⊥
+IsServing Link = ⊤
+IsServing File = ⊥
+IsServing Keeper = ⊥
+IsServing (Listing text) = ⊥
+IsServing Sound = ⊥
+IsServing Served = ⊤
+IsServing (Unsound line) = ⊥
+
+-- the link is as before where serving did not come to it
+abbrev pub SparesLink : {L : Type 0} → Report → (before after : L) → Type 0
+SparesLink Usage before after = after ≡ before
+SparesLink (Line line) before after = after ≡ before
+SparesLink Link before after = ⊤
+SparesLink File before after = after ≡ before
+SparesLink Keeper before after = after ≡ before
+SparesLink Memory before after = ⊤
+SparesLink (Listing text) before after = after ≡ before
+SparesLink Sound before after = after ≡ before
+SparesLink Served before after = ⊤
+SparesLink (Unsound line) before after = after ≡ before
+
+-- of every other command it always is
+abbrev pub UnboundBy : {L : Type 0} → Option Command → Report → (before after : L) → Type 0
+UnboundBy None outcome before after = after ≡ before
+UnboundBy (Some (Serve config token turns)) outcome before after = SparesLink outcome before after
+UnboundBy (Some (Replay asked)) outcome before after = after ≡ before
+UnboundBy (Some (Check records)) outcome before after = after ≡ before
+UnboundBy (Some (Charges config)) outcome before after = after ≡ before
+UnboundBy (Some (Workload calls salt)) outcome before after = after ≡ before
+
+-- the count of the link's faults of taking in rose where it could not be bound or not take in what comes next, and is as before otherwise
+abbrev pub CountsLink : Report → ℕ → ℕ → Type 0
+CountsLink Link before now = Rose before now
+CountsLink Usage before now = now ≡ before
+CountsLink (Line line) before now = now ≡ before
+CountsLink File before now = now ≡ before
+CountsLink Keeper before now = now ≡ before
+CountsLink Memory before now = now ≡ before
+CountsLink (Listing text) before now = now ≡ before
+CountsLink Sound before now = now ≡ before
+CountsLink Served before now = now ≡ before
+CountsLink (Unsound line) before now = now ≡ before
+
+-- of every other command it is as before
+abbrev pub TakingBy : Option Command → Report → ℕ → ℕ → Type 0
+TakingBy None outcome before now = now ≡ before
+TakingBy (Some (Serve config token turns)) outcome before now = CountsLink outcome before now
+TakingBy (Some (Replay asked)) outcome before now = now ≡ before
+TakingBy (Some (Check records)) outcome before now = now ≡ before
+TakingBy (Some (Charges config)) outcome before now = now ≡ before
+TakingBy (Some (Workload calls salt)) outcome before now = now ≡ before

@@ -6,7 +6,7 @@ use Rattle.mmtel_charging.specs.declared.rows.Row.{Row}
 use Rattle.mmtel_in_force.specs.Texts.{Texts}
 use Rattle.mmtel_keeper.specs.Kept.{Held, KeeperCalls, called, fails_next}
 use Rattle.mmtel_outside.specs.Counts.{Rose}
-use Rattle.mmtel_cli.specs.CommandLine.{IsCheck, SpellsNone}
+use Rattle.mmtel_cli.specs.Asks.{IsCheck, IsWorkload, SpellsNone}
 
 -- what is seen of a keeper: what it holds and its calls, where it tells them, and the count of its faults
 pub record KeeperSeen : Type 0 where
@@ -60,8 +60,9 @@ IsBoundStill calls after = option_map (λ c. c.path) after ≡ option_map (λ c.
 
 -- ---- where nothing is asked of it
 
--- it is as before without a command, of `check`, and where the status tells of a configuration or a script that cannot be read or is not good
+-- it is as before without a command, of `check` and of `workload`, and where the status tells of a configuration or a script that cannot be read or is not good
 pub record IsSpared {K : Type 0} (words : List (List ℕ)) (status : ℕ) (before after : K) : Type 0 where
   pub none : SpellsNone words → after ≡ before
   pub checked : (records : List ℕ) → IsCheck records words → after ≡ before
-  pub early : status ≢ 0 → status ≢ 6 → status ≢ 7 → status ≢ 8 → after ≡ before
+  pub worked : (calls salt : ℕ) → IsWorkload calls salt words → after ≡ before
+  pub early : status ≢ 0 → status ≢ 4 → status ≢ 6 → status ≢ 7 → status ≢ 8 → after ≡ before

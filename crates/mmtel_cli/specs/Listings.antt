@@ -21,7 +21,8 @@ use Rattle.mmtel_server.specs.Driven.{EachAnswers, EachCounted, with_all}
 use Rattle.mmtel_server.specs.Charged.{RowsCharged}
 use Rattle.mmtel_cli.specs.Keeping.{GivesRows, IsBoundStill, IsLoaded, KeeperSeen}
 
--- what a keeper holds after the run in which this happened, where it tells that: what it held before, over it each upload that was kept, in their order, and behind its rows those that it took
+-- what a keeper holds after the run in which this happened, where it tells that: what it held before, over it each upload that was kept, in their order, and behind its
+-- rows those that it took
 abbrev pub HoldsAll : Directory → (token : List ℕ) → (loaded : Texts) → List Happened → (held later : Option Held) → Type 0
 HoldsAll directory token loaded happened held later =
     (fuel : ℕ) → IsEnough directory token loaded fuel happened →
@@ -29,7 +30,8 @@ HoldsAll directory token loaded happened held later =
 
 -- the charging rows where a world has come of this (3GPP TS 32.260 §5)
 pub record Charges (directory : Directory) (world : World) (happened : List Happened) (faults count : ℕ) : Type 0 where
-  -- those that the keeper took, and behind them those that wait, are all that the calls closed and all of the seats of rooms that were left, each in the order in which they were closed; and none waits behind an event at whose end it took what was handed to it
+  -- those that the keeper took, and behind them those that wait, are all that the calls closed and all of the seats of rooms that were left, each in the order in which
+  -- they were closed; and none waits behind an event at whose end it took what was handed to it
   pub rows : RowsCharged directory world happened
   -- so none waits where its count of faults did not rise
   pub taken : (Rose faults count → ⊥) → world.waiting ≡ []
@@ -41,7 +43,8 @@ ChargesAll directory token loaded happened faults count =
 
 -- what the server offered in the run of these events, over the texts that were loaded and a keeper
 pub record OffersRun (directory : Directory) (token : List ℕ) (loaded : Texts) (events : List Event) (keeper later : KeeperSeen) (offers : List Offer) : Type 0 where
-  -- with these events this happened: each with what the keeper answered in it, and whether it took the charging rows that waited at its end; its count of faults rose in those in which its call failed or it did not take them, and stood in every other.
+  -- with these events this happened: each with what the keeper answered in it, and whether it took the charging rows that waited at its end; its count of faults rose in
+  -- those in which its call failed or it did not take them, and stood in every other.
   pub happened : List Happened
   pub heard : events_in happened ≡ events
   pub counted : EachCounted happened keeper.faults later.faults

@@ -1,5 +1,5 @@
--- What a whole run of the program wrote, answered and asked of the files and of the keeper, over the words as the grammar of the command line spells them.
-use Rattle.std.specs.Prelude.{◌≡◌, ◌≢◌, ℕ, ◌⊎◌, List, codes, IfSome, Some, None, Ok, Err}
+-- What a whole run of the program wrote, answered and asked of the files, the keeper and the link, over the words as the grammar of the command line spells them.
+use Rattle.std.specs.Prelude.{◌≡◌, ◌≢◌, ℕ, ◌⊎◌, Bool, List, codes, IfSome, Some, None, Ok, Err}
 use Rattle.std.specs.declared.option.Option.{Option}
 use Rattle.std.specs.declared.result.Result.{Result}
 use Rattle.mmtel_charging.specs.Rows.{text_of}
@@ -21,12 +21,14 @@ use Rattle.mmtel_script.specs.Script.{events_of}
 use Rattle.mmtel_uploads.specs.Uploads.{upload_of}
 use Rattle.mmtel_uploads.specs.declared.uploads.Upload.{Upload}
 use Rattle.mmtel_uploads.specs.declared.uploads.Upload.TheVariants as upload
-use Rattle.mmtel_cli.specs.CommandLine.{IsReplay, IsCheck, IsCharges, SpellsNone}
+use Rattle.mmtel_words.specs.CommandLine.{Asked, Serve, Replay, Check, Charges, Workload}
+use Rattle.mmtel_cli.specs.Asks.{IsServe, IsReplay, IsCheck, IsCharges, IsWorkload, IsOnly, SpellsNone}
 use Rattle.mmtel_cli.specs.Due.{shelf_of_config}
-use Rattle.mmtel_cli.specs.Ends.{Wrote, WroteListing, line_text}
+use Rattle.mmtel_cli.specs.Ends.{Wrote, WroteListing, WroteNothing, line_text}
 use Rattle.mmtel_cli.specs.Keeping.{GivesRows, IsLoaded, IsNotLoaded, KeeperSeen}
 use Rattle.mmtel_cli.specs.Listings.{OffersRun}
-use Rattle.mmtel_cli.specs.Words.{Asked}
+use Rattle.mmtel_cli.specs.Serving.{LinkFails, LinkSeen, ServesLink}
+use Rattle.mmtel_cli.specs.Workloads.{Counts, work_config}
 
 -- ---- what was written, and the status
 
@@ -54,6 +56,10 @@ WroteFile status before after faults now = Said (codes "file\n") 5 status before
 abbrev pub WroteKeeper : ℕ → Option (List ℕ) → Option (List ℕ) → ℕ → ℕ → Type 0
 WroteKeeper status before after faults now = Said (codes "keeper\n") 6 status before after faults now
 
+-- a link that could not be bound, or not take in what comes next: status 4, and `link`
+abbrev pub WroteLink : ℕ → Option (List ℕ) → Option (List ℕ) → ℕ → ℕ → Type 0
+WroteLink status before after faults now = Said (codes "link\n") 4 status before after faults now
+
 -- a file that is no service record: status 3, and the line that tells its first fault
 abbrev pub WroteFault : List ℕ → ℕ → Option (List ℕ) → Option (List ℕ) → ℕ → ℕ → Type 0
 WroteFault line status before after faults now = Said line 3 status before after faults now
@@ -72,7 +78,8 @@ pub record Listed (directory : Directory) (token : List ℕ) (events : List Even
   pub run : OffersRun directory token loaded events opening later offers
   -- the branches that the server draws are read as they are written, which the secret of the run asks for;
   pub branches : BranchesAreRead directory token
-  -- where the run is short, each of its calls came to what the precedence of services makes of how its attempts ended and of how things stood when it reached each target, within the bound on diversions, and is charged so,
+  -- where the run is short, each of its calls came to what the precedence of services makes of how its attempts ended and of how things stood when it reached each target,
+  -- within the bound on diversions, and is charged so,
   pub outcome : IsShortRun directory token loaded run.happened → CallsComeToOutcome directory token loaded run.happened
   -- whoever has left a seat of a conference room is charged for it once,
   pub seats : IsShortRun directory token loaded run.happened → SeatsAreChargedOnce directory token loaded run.happened
@@ -139,6 +146,51 @@ abbrev pub EndsOfCharges : Option (List ℕ) → (keeper later : KeeperSeen) →
 EndsOfCharges None keeper later status before after faults now = WroteFile status before after faults now
 EndsOfCharges (Some config) keeper later status before after faults now = EndsOfStore (directory_of config) keeper later status before after faults now
 
+-- ---- how a workload ends
+
+-- the text counts what a server of its configuration makes of so many calls, and was written: whole with status 0, and else a front of it with status 7
+pub record Counted (directory : Directory) (calls : ℕ) (status : ℕ) (before after : Option (List ℕ)) (faults now : ℕ) : Type 0 where
+  pub text : List ℕ
+  pub counts : Counts directory calls text
+  pub written : WroteListing text status before after faults now
+
+abbrev pub EndsOfWork : (calls : ℕ) → Result Directory ℕ → ℕ → Option (List ℕ) → Option (List ℕ) → ℕ → ℕ → Type 0
+EndsOfWork calls (Ok directory) status before after faults now = Counted directory calls status before after faults now
+EndsOfWork calls (Err line) status before after faults now = WroteLine line status before after faults now
+
+-- ---- how serving ends
+
+-- the turns were made, or the link was closed: the link was served over what the keeper gave, as the definitions of the run say (`ServesRun`), and nothing was written
+pub record ServedLink (directory : Directory) (token : List ℕ) (turns : ℕ) (link far : LinkSeen) (keeper later : KeeperSeen) (status : ℕ)
+    (before after : Option (List ℕ)) (faults now : ℕ) : Type 0 where
+  pub closed : Bool
+  pub serves : ServesLink directory token turns link far keeper later (Ok closed)
+  pub written : WroteNothing status before after faults now
+
+-- or the link could not be bound or not take in what comes next; or the keeper could not be bound to the store of the configuration or not be loaded
+pub data EndsServing (directory : Directory) (token : List ℕ) (turns : ℕ) (link far : LinkSeen) (keeper later : KeeperSeen) (status : ℕ)
+    (before after : Option (List ℕ)) (faults now : ℕ) : Type 0 where
+  EndsServed : ServedLink directory token turns link far keeper later status before after faults now →
+      EndsServing directory token turns link far keeper later status before after faults now
+  EndsUnlinked : LinkFails directory token turns link far keeper later → WroteLink status before after faults now →
+      EndsServing directory token turns link far keeper later status before after faults now
+  EndsUnkept : IsNotLoaded directory.store keeper later → WroteKeeper status before after faults now →
+      EndsServing directory token turns link far keeper later status before after faults now
+
+-- once the configuration was read
+abbrev pub EndsOfServing : Result Directory ℕ → (token : List ℕ) → (turns : ℕ) → (link far : LinkSeen) → (keeper later : KeeperSeen) → ℕ →
+    Option (List ℕ) → Option (List ℕ) → ℕ → ℕ → Type 0
+EndsOfServing (Ok directory) token turns link far keeper later status before after faults now =
+    EndsServing directory token turns link far keeper later status before after faults now
+EndsOfServing (Err line) token turns link far keeper later status before after faults now = WroteLine line status before after faults now
+
+-- once it was asked for
+abbrev pub EndsOfServe : Option (List ℕ) → (token : List ℕ) → (turns : ℕ) → (link far : LinkSeen) → (keeper later : KeeperSeen) → ℕ →
+    Option (List ℕ) → Option (List ℕ) → ℕ → ℕ → Type 0
+EndsOfServe None token turns link far keeper later status before after faults now = WroteFile status before after faults now
+EndsOfServe (Some config) token turns link far keeper later status before after faults now =
+    EndsOfServing (directory_of config) token turns link far keeper later status before after faults now
+
 -- ---- a run
 
 -- the answers that the files gave for CONFIG and SCRIPT: None where the read failed; where the files tell, those of the first call and of the second
@@ -151,14 +203,14 @@ pub record Answered (told : Option Shelf) (asked : Asked) : Type 0 where
 -- the words spell a `replay`, and it ended as the files' answers and the keeper's say; or memory ran out
 pub record Replayed (told : Option Shelf) (keeper later : KeeperSeen) (words : List (List ℕ)) (status : ℕ) (before after : Option (List ℕ)) (faults now : ℕ) : Type 0 where
   pub asked : Asked
-  pub spelled : IsReplay asked words
+  pub spelled : IsOnly (Replay asked) words
   pub answers : Answered told asked
   pub ends : EndsOfConfig answers.config asked.token answers.script keeper later status before after faults now ⊎ WroteMemory status before after faults now
 
 -- the words spell a `check`, and it ended as the files' answer for RECORDS says, which is that of the first call where the files tell; or memory ran out
 pub record Checked (told : Option Shelf) (words : List (List ℕ)) (status : ℕ) (before after : Option (List ℕ)) (faults now : ℕ) : Type 0 where
   pub records : List ℕ
-  pub spelled : IsCheck records words
+  pub spelled : IsOnly (Check records) words
   pub text : Option (List ℕ)
   pub told_text : IfSome told (λ shelf. text ≡ answer_at shelf records)
   pub ends : EndsOfRecords text status before after faults now ⊎ WroteMemory status before after faults now
@@ -166,39 +218,71 @@ pub record Checked (told : Option Shelf) (words : List (List ℕ)) (status : ℕ
 -- the words spell a `charges`, and it ended as the files' answer for CONFIG, which is that of the first call where the files tell, and the keeper's say; or memory ran out
 pub record Charged (told : Option Shelf) (keeper later : KeeperSeen) (words : List (List ℕ)) (status : ℕ) (before after : Option (List ℕ)) (faults now : ℕ) : Type 0 where
   pub config : List ℕ
-  pub spelled : IsCharges config words
+  pub spelled : IsOnly (Charges config) words
   pub text : Option (List ℕ)
   pub told_text : IfSome told (λ shelf. text ≡ answer_at shelf config)
   pub ends : EndsOfCharges text keeper later status before after faults now ⊎ WroteMemory status before after faults now
+
+-- the words spell a `workload`, and it ended so; or memory ran out
+pub record Worked (words : List (List ℕ)) (status : ℕ) (before after : Option (List ℕ)) (faults now : ℕ) : Type 0 where
+  pub calls : ℕ
+  pub salt : ℕ
+  pub spelled : IsOnly (Workload calls salt) words
+  pub ends : EndsOfWork calls (directory_of work_config) status before after faults now ⊎ WroteMemory status before after faults now
+
+-- the words spell a `serve`, and it ended as the files' answer for CONFIG, which is that of the first call where the files tell, and the keeper's and the link's say; or memory
+-- ran out
+pub record HasServed (told : Option Shelf) (link far : LinkSeen) (keeper later : KeeperSeen) (words : List (List ℕ)) (status : ℕ)
+    (before after : Option (List ℕ)) (faults now : ℕ) : Type 0 where
+  pub config : List ℕ
+  pub token : List ℕ
+  pub turns : ℕ
+  pub spelled : IsOnly (Serve config token turns) words
+  pub text : Option (List ℕ)
+  pub told_text : IfSome told (λ shelf. text ≡ answer_at shelf config)
+  pub ends : EndsOfServe text token turns link far keeper later status before after faults now ⊎ WroteMemory status before after faults now
 
 -- the words spell no command
 pub record Refused (words : List (List ℕ)) (status : ℕ) (before after : Option (List ℕ)) (faults now : ℕ) : Type 0 where
   pub none : SpellsNone words
   pub said : WroteUsage status before after faults now
 
--- one of these
-pub data Ran (told : Option Shelf) (keeper later : KeeperSeen) (words : List (List ℕ)) (status : ℕ) (before after : Option (List ℕ)) (faults now : ℕ) : Type 0 where
-  RanReplay : Replayed told keeper later words status before after faults now → Ran told keeper later words status before after faults now
-  RanCheck : Checked told words status before after faults now → Ran told keeper later words status before after faults now
-  RanCharges : Charged told keeper later words status before after faults now → Ran told keeper later words status before after faults now
-  RanNone : Refused words status before after faults now → Ran told keeper later words status before after faults now
+-- one of these; or memory ran out in reading the words
+pub data Ran (told : Option Shelf) (link far : LinkSeen) (keeper later : KeeperSeen) (words : List (List ℕ)) (status : ℕ)
+    (before after : Option (List ℕ)) (faults now : ℕ) : Type 0 where
+  RanServe : HasServed told link far keeper later words status before after faults now → Ran told link far keeper later words status before after faults now
+  RanReplay : Replayed told keeper later words status before after faults now → Ran told link far keeper later words status before after faults now
+  RanCheck : Checked told words status before after faults now → Ran told link far keeper later words status before after faults now
+  RanCharges : Charged told keeper later words status before after faults now → Ran told link far keeper later words status before after faults now
+  RanWork : Worked words status before after faults now → Ran told link far keeper later words status before after faults now
+  RanNone : Refused words status before after faults now → Ran told link far keeper later words status before after faults now
+  RanShort : WroteMemory status before after faults now → Ran told link far keeper later words status before after faults now
 
 -- ---- the calls of files
 
--- at every status but 8 the calls that are due were made; at 8 the first of them, or all
-pub record Called (status : ℕ) (after : Option Shelf) (first last : Shelf) : Type 0 where
+-- at every status but 8 the calls that are due were made; at 8 none, the first of them, or all
+pub record Called (status : ℕ) (after : Option Shelf) (none first last : Shelf) : Type 0 where
   pub all : status ≢ 8 → after ≡ Some last
-  pub some : status ≡ 8 → (after ≡ Some first) ⊎ (after ≡ Some last)
+  pub some : status ≡ 8 → (after ≡ Some none) ⊎ ((after ≡ Some first) ⊎ (after ≡ Some last))
 
--- of `replay` CONFIG and then SCRIPT, each once and no other name, SCRIPT only where CONFIG is there and good; of `check` RECORDS, and of `charges` CONFIG, once and no other name; nothing
--- without a command
+-- of `replay` CONFIG and then SCRIPT, each once and no other name, SCRIPT only where CONFIG is there and good; of `check` RECORDS, and of `serve` and `charges` CONFIG, once and
+-- no other name; nothing of `workload` and without a command
 pub record CalledFor (shelf : Shelf) (words : List (List ℕ)) (status : ℕ) (after : Option Shelf) : Type 0 where
   pub none : SpellsNone words → after ≡ Some shelf
-  pub each : (asked : Asked) → IsReplay asked words → Called status after (called shelf) (shelf_of_config (called shelf) (answer_at shelf asked.config))
-  pub checked : (records : List ℕ) → IsCheck records words → after ≡ Some (called shelf)
-  pub charged : (config : List ℕ) → IsCharges config words → after ≡ Some (called shelf)
+  pub served : (config token : List ℕ) (turns : ℕ) → IsServe config token turns words → Called status after shelf (called shelf) (called shelf)
+  pub each : (asked : Asked) → IsReplay asked words → Called status after shelf (called shelf) (shelf_of_config (called shelf) (answer_at shelf asked.config))
+  pub checked : (records : List ℕ) → IsCheck records words → Called status after shelf (called shelf) (called shelf)
+  pub charged : (config : List ℕ) → IsCharges config words → Called status after shelf (called shelf) (called shelf)
+  pub worked : (calls salt : ℕ) → IsWorkload calls salt words → after ≡ Some shelf
+
+-- ---- counts of faults
 
 -- the count of the files' faults rose at status 5, and is as before at every other
 pub record CountsAtFive (status before now : ℕ) : Type 0 where
   pub rose : status ≡ 5 → Rose before now
   pub kept : status ≢ 5 → now ≡ before
+
+-- and so the count of the link's faults of taking in at status 4
+pub record CountsAtFour (status before now : ℕ) : Type 0 where
+  pub rose : status ≡ 4 → Rose before now
+  pub kept : status ≢ 4 → now ≡ before

@@ -1,10 +1,11 @@
--- What the one statement on a whole run says of each status, and where the files and the keeper tell what they hold.
-use Rattle.std.specs.Prelude.{◌≡◌, ◌↔◌, ◌==◌, ℕ, true, false, ◌⊎◌, List, [], ◌∷◌, codes, Some, Ok}
+-- What the one statement on a whole run says of each status, and where the files, the keeper and the link tell what they hold.
+use Rattle.std.specs.Prelude.{◌≡◌, ◌==◌, ℕ, true, false, ◌⊎◌, List, [], ◌∷◌, codes, Some, Ok}
 use Rattle.std.specs.List.{list_any}
 use Rattle.std.specs.declared.option.Option.{Option}
 use Rattle.mmtel_directory.specs.Directory.{directory_of}
 use Rattle.mmtel_directory.specs.declared.directories.Directory.{Directory}
 use Rattle.mmtel_keeper.specs.Kept.{KeeperCalls}
+use Rattle.mmtel_link.specs.Told.{LinkCalls, fails_next}
 use Rattle.mmtel_outside.specs.Counts.{Rose}
 use Rattle.mmtel_outside.specs.Shelf.{Shelf, answer_at, called}
 use Rattle.mmtel_outside.specs.declared.events.Event.{Event}
@@ -12,11 +13,12 @@ use Rattle.mmtel_script.specs.Script.{events_of}
 use Rattle.mmtel_sheet_values.specs.declared.values.Sheet.{Sheet}
 use Rattle.mmtel_uploads.specs.Uploads.{upload_of}
 use Rattle.mmtel_uploads.specs.declared.uploads.Upload.TheVariants.{Accepted, Refused}
-use Rattle.mmtel_cli.specs.CommandLine.{IsReplay, IsCheck, IsCharges, SpellsNone}
+use Rattle.mmtel_words.specs.CommandLine.{Asked}
+use Rattle.mmtel_cli.specs.Asks.{IsServe, IsReplay, IsCheck, IsCharges, IsWorkload, SpellsNone}
 use Rattle.mmtel_cli.specs.Ends.{WroteListing}
 use Rattle.mmtel_cli.specs.Keeping.{KeeperSeen, refuses}
-use Rattle.mmtel_cli.specs.Runs.{CountsAtFive, EndsOfUpload, Listed, ListedRows, Ran}
-use Rattle.mmtel_cli.specs.Words.{Asked}
+use Rattle.mmtel_cli.specs.Runs.{Counted, CountsAtFive, EndsOfUpload, Listed, ListedRows, Ran, ServedLink}
+use Rattle.mmtel_cli.specs.Serving.{LinkSeen}
 
 -- the words spell a `replay` whose files are there and of their grammars
 pub record IsGood (shelf : Shelf) (words : List (List ℕ)) (asked : Asked) (directory : Directory) (events : List Event) : Type 0 where
@@ -35,25 +37,25 @@ IsWilling keeper later = ((calls : KeeperCalls) × (keeper.calls ≡ Some calls)
 -- of these, the run was listed: exactly what the definitions give, and with the secret kept; or memory ran out
 abbrev pub GoodOnesAreListed : Type 0
 GoodOnesAreListed =
-    (shelf : Shelf) (keeper later : KeeperSeen) (words : List (List ℕ)) (asked : Asked) (directory : Directory) (events : List Event)
+    (shelf : Shelf) (link far : LinkSeen) (keeper later : KeeperSeen) (words : List (List ℕ)) (asked : Asked) (directory : Directory) (events : List Event)
     (status : ℕ) (before after : Option (List ℕ)) (faults now : ℕ) →
-    IsGood shelf words asked directory events → IsWilling keeper later → Ran (Some shelf) keeper later words status before after faults now →
+    IsGood shelf words asked directory events → IsWilling keeper later → Ran (Some shelf) link far keeper later words status before after faults now →
     Listed directory asked.token events keeper later status before after faults now ⊎ (status ≡ 8)
 
 -- and where the sink met no fault, the status is 0, or 8
 abbrev pub GoodOnesSucceed : Type 0
 GoodOnesSucceed =
-    (shelf : Shelf) (keeper later : KeeperSeen) (words : List (List ℕ)) (asked : Asked) (directory : Directory) (events : List Event)
+    (shelf : Shelf) (link far : LinkSeen) (keeper later : KeeperSeen) (words : List (List ℕ)) (asked : Asked) (directory : Directory) (events : List Event)
     (status : ℕ) (before after : Option (List ℕ)) (faults now : ℕ) →
-    IsGood shelf words asked directory events → IsWilling keeper later → Ran (Some shelf) keeper later words status before after faults now →
+    IsGood shelf words asked directory events → IsWilling keeper later → Ran (Some shelf) link far keeper later words status before after faults now →
     ¬ (Rose faults now) → (status ≡ 0) ⊎ (status ≡ 8)
 
 -- and where the keeper tells that it cannot be bound or not be loaded, the status is 6, or 8
 abbrev pub GoodOnesWantAKeeper : Type 0
 GoodOnesWantAKeeper =
-    (shelf : Shelf) (keeper later : KeeperSeen) (calls : KeeperCalls) (words : List (List ℕ)) (asked : Asked) (directory : Directory) (events : List Event)
+    (shelf : Shelf) (link far : LinkSeen) (keeper later : KeeperSeen) (calls : KeeperCalls) (words : List (List ℕ)) (asked : Asked) (directory : Directory) (events : List Event)
     (status : ℕ) (before after : Option (List ℕ)) (faults now : ℕ) →
-    IsGood shelf words asked directory events → keeper.calls ≡ Some calls → refuses calls ≡ true → Ran (Some shelf) keeper later words status before after faults now →
+    IsGood shelf words asked directory events → keeper.calls ≡ Some calls → refuses calls ≡ true → Ran (Some shelf) link far keeper later words status before after faults now →
     (status ≡ 6) ⊎ (status ≡ 8)
 
 -- the words spell a `check` whose file is there, with this text
@@ -65,9 +67,9 @@ pub record IsThere (shelf : Shelf) (words : List (List ℕ)) (text : List ℕ) :
 -- of these, what the text is was told: `ok` where it is a service record, and else the line of its first fault with status 3; or memory ran out
 abbrev pub ChecksAreTold : Type 0
 ChecksAreTold =
-    (shelf : Shelf) (keeper later : KeeperSeen) (words : List (List ℕ)) (text : List ℕ)
+    (shelf : Shelf) (link far : LinkSeen) (keeper later : KeeperSeen) (words : List (List ℕ)) (text : List ℕ)
     (status : ℕ) (before after : Option (List ℕ)) (faults now : ℕ) →
-    IsThere shelf words text → Ran (Some shelf) keeper later words status before after faults now →
+    IsThere shelf words text → Ran (Some shelf) link far keeper later words status before after faults now →
     EndsOfUpload (upload_of text) status before after faults now ⊎ (status ≡ 8)
 
 -- the words spell a `charges` whose configuration is there and of its grammar
@@ -81,18 +83,51 @@ pub record IsKept (shelf : Shelf) (words : List (List ℕ)) (directory : Directo
 -- of these, the rows that the keeper holds were written; or memory ran out
 abbrev pub RowsAreListed : Type 0
 RowsAreListed =
-    (shelf : Shelf) (keeper later : KeeperSeen) (words : List (List ℕ)) (directory : Directory)
+    (shelf : Shelf) (link far : LinkSeen) (keeper later : KeeperSeen) (words : List (List ℕ)) (directory : Directory)
     (status : ℕ) (before after : Option (List ℕ)) (faults now : ℕ) →
-    IsKept shelf words directory → IsWilling keeper later → Ran (Some shelf) keeper later words status before after faults now →
+    IsKept shelf words directory → IsWilling keeper later → Ran (Some shelf) link far keeper later words status before after faults now →
     ListedRows directory.store keeper later status before after faults now ⊎ (status ≡ 8)
 
 -- and where the keeper tells that it cannot be bound or not give them, the status is 6, or 8
 abbrev pub RowsWantAKeeper : Type 0
 RowsWantAKeeper =
-    (shelf : Shelf) (keeper later : KeeperSeen) (calls : KeeperCalls) (words : List (List ℕ)) (directory : Directory)
+    (shelf : Shelf) (link far : LinkSeen) (keeper later : KeeperSeen) (calls : KeeperCalls) (words : List (List ℕ)) (directory : Directory)
     (status : ℕ) (before after : Option (List ℕ)) (faults now : ℕ) →
-    IsKept shelf words directory → keeper.calls ≡ Some calls → refuses calls ≡ true → Ran (Some shelf) keeper later words status before after faults now →
+    IsKept shelf words directory → keeper.calls ≡ Some calls → refuses calls ≡ true → Ran (Some shelf) link far keeper later words status before after faults now →
     (status ≡ 6) ⊎ (status ≡ 8)
+
+-- the words spell a `serve` whose configuration is there and of its grammar
+pub record IsServable (shelf : Shelf) (words : List (List ℕ)) (directory : Directory) (token : List ℕ) (turns : ℕ) : Type 0 where
+  pub config : List ℕ
+  pub spelled : IsServe config token turns words
+  pub text : List ℕ
+  pub there : answer_at shelf config ≡ Some text
+  pub read : directory_of text ≡ Ok directory
+
+-- of these, a link whose count of taking in did not rise was served; or memory ran out
+abbrev pub GoodOnesAreServed : Type 0
+GoodOnesAreServed =
+    (shelf : Shelf) (link far : LinkSeen) (keeper later : KeeperSeen) (words : List (List ℕ)) (directory : Directory) (token : List ℕ) (turns : ℕ)
+    (status : ℕ) (before after : Option (List ℕ)) (faults now : ℕ) →
+    IsServable shelf words directory token turns → IsWilling keeper later → ¬ (Rose link.taking far.taking) →
+    Ran (Some shelf) link far keeper later words status before after faults now →
+    ServedLink directory token turns link far keeper later status before after faults now ⊎ (status ≡ 8)
+
+-- where the keeper tells that it cannot be bound or not be loaded, the status is 6, or 8
+abbrev pub ServingWantsAKeeper : Type 0
+ServingWantsAKeeper =
+    (shelf : Shelf) (link far : LinkSeen) (keeper later : KeeperSeen) (calls : KeeperCalls) (words : List (List ℕ)) (directory : Directory) (token : List ℕ) (turns : ℕ)
+    (status : ℕ) (before after : Option (List ℕ)) (faults now : ℕ) →
+    IsServable shelf words directory token turns → keeper.calls ≡ Some calls → refuses calls ≡ true →
+    Ran (Some shelf) link far keeper later words status before after faults now → (status ≡ 6) ⊎ (status ≡ 8)
+
+-- and where the keeper can, and the link tells that it cannot be bound, it is 4, or 8
+abbrev pub ServingWantsALink : Type 0
+ServingWantsALink =
+    (shelf : Shelf) (link far : LinkSeen) (keeper later : KeeperSeen) (calls : LinkCalls) (words : List (List ℕ)) (directory : Directory) (token : List ℕ) (turns : ℕ)
+    (status : ℕ) (before after : Option (List ℕ)) (faults now : ℕ) →
+    IsServable shelf words directory token turns → IsWilling keeper later → link.calls ≡ Some calls → fails_next calls ≡ true →
+    Ran (Some shelf) link far keeper later words status before after faults now → (status ≡ 4) ⊎ (status ≡ 8)
 
 -- a run that was listed, whatever the files tell
 pub record ListsOne (keeper later : KeeperSeen) (words : List (List ℕ)) (status : ℕ) (before after : Option (List ℕ)) (faults now : ℕ) : Type 0 where
@@ -103,10 +138,10 @@ pub record ListsOne (keeper later : KeeperSeen) (words : List (List ℕ)) (statu
   pub listed : Listed directory asked.token events keeper later status before after faults now
 
 -- a statement on each run
-abbrev pub OfEachRun : ((keeper later : KeeperSeen) → List (List ℕ) → ℕ → Option (List ℕ) → Option (List ℕ) → ℕ → ℕ → Type 0) → Type 0
+abbrev pub OfEachRun : ((link far : LinkSeen) → (keeper later : KeeperSeen) → List (List ℕ) → ℕ → Option (List ℕ) → Option (List ℕ) → ℕ → ℕ → Type 0) → Type 0
 OfEachRun P =
-    (told : Option Shelf) (keeper later : KeeperSeen) (words : List (List ℕ)) (status : ℕ) (before after : Option (List ℕ)) (faults now : ℕ) →
-    Ran told keeper later words status before after faults now → P keeper later words status before after faults now
+    (told : Option Shelf) (link far : LinkSeen) (keeper later : KeeperSeen) (words : List (List ℕ)) (status : ℕ) (before after : Option (List ℕ)) (faults now : ℕ) →
+    Ran told link far keeper later words status before after faults now → P link far keeper later words status before after faults now
 
 -- a check of a service record, and `ok` was written, whatever the files tell
 pub record ChecksOne (words : List (List ℕ)) (status : ℕ) (before after : Option (List ℕ)) (faults now : ℕ) : Type 0 where
@@ -124,20 +159,40 @@ pub record ChargesOne (keeper later : KeeperSeen) (words : List (List ℕ)) (sta
   pub directory : Directory
   pub listed : ListedRows directory.store keeper later status before after faults now
 
+-- a workload that was told
+pub record WorksOne (words : List (List ℕ)) (status : ℕ) (before after : Option (List ℕ)) (faults now : ℕ) : Type 0 where
+  pub calls : ℕ
+  pub salt : ℕ
+  pub spelled : IsWorkload calls salt words
+  pub directory : Directory
+  pub counted : Counted directory calls status before after faults now
+
+-- a link that was served, whatever the files tell
+pub record ServesOne (link far : LinkSeen) (keeper later : KeeperSeen) (words : List (List ℕ)) (status : ℕ) (before after : Option (List ℕ)) (faults now : ℕ) : Type 0 where
+  pub config : List ℕ
+  pub token : List ℕ
+  pub turns : ℕ
+  pub spelled : IsServe config token turns words
+  pub directory : Directory
+  pub served : ServedLink directory token turns link far keeper later status before after faults now
+
 -- what was done where the status is 0
-pub data DoneAtZero (keeper later : KeeperSeen) (words : List (List ℕ)) (before after : Option (List ℕ)) (faults now : ℕ) : Type 0 where
-  DoneReplay : ListsOne keeper later words 0 before after faults now → DoneAtZero keeper later words before after faults now
-  DoneCheck : ChecksOne words 0 before after faults now → DoneAtZero keeper later words before after faults now
-  DoneCharges : ChargesOne keeper later words 0 before after faults now → DoneAtZero keeper later words before after faults now
+pub data DoneAtZero (link far : LinkSeen) (keeper later : KeeperSeen) (words : List (List ℕ)) (before after : Option (List ℕ)) (faults now : ℕ) : Type 0 where
+  DoneServe : ServesOne link far keeper later words 0 before after faults now → DoneAtZero link far keeper later words before after faults now
+  DoneReplay : ListsOne keeper later words 0 before after faults now → DoneAtZero link far keeper later words before after faults now
+  DoneCheck : ChecksOne words 0 before after faults now → DoneAtZero link far keeper later words before after faults now
+  DoneCharges : ChargesOne keeper later words 0 before after faults now → DoneAtZero link far keeper later words before after faults now
+  DoneWork : WorksOne words 0 before after faults now → DoneAtZero link far keeper later words before after faults now
 
--- at status 0 there is a listing, or a service record was checked, or the rows of a keeper were written
+-- at status 0 a link was served, or there is a listing, or a service record was checked, or the rows of a keeper were written, or what a workload came to
 abbrev pub ZeroIsListed : Type 0
-ZeroIsListed = OfEachRun (λ keeper later words status before after faults now.
-    status ≡ 0 → DoneAtZero keeper later words before after faults now)
+ZeroIsListed = OfEachRun (λ link far keeper later words status before after faults now.
+    status ≡ 0 → DoneAtZero link far keeper later words before after faults now)
 
--- status 1 comes exactly where the words spell no command
+-- status 1 comes exactly where the words spell no command, unless memory ran out
 abbrev pub OneIsUsage : Type 0
-OneIsUsage = OfEachRun (λ keeper later words status before after faults now. (status ≡ 1) ↔ SpellsNone words)
+OneIsUsage = OfEachRun (λ link far keeper later words status before after faults now.
+    (status ≡ 1 → SpellsNone words) × (SpellsNone words → (status ≡ 1) ⊎ (status ≡ 8)))
 
 -- a text that is no service record was checked
 pub record RefusesOne (words : List (List ℕ)) : Type 0 where
@@ -149,25 +204,29 @@ pub record RefusesOne (words : List (List ℕ)) : Type 0 where
 
 -- at status 3 one was
 abbrev pub ThreeIsRefused : Type 0
-ThreeIsRefused = OfEachRun (λ keeper later words status before after faults now. status ≡ 3 → RefusesOne words)
+ThreeIsRefused = OfEachRun (λ link far keeper later words status before after faults now. status ≡ 3 → RefusesOne words)
+
+-- at status 4 the count of the link's faults of taking in rose
+abbrev pub FourRose : Type 0
+FourRose = OfEachRun (λ link far keeper later words status before after faults now. status ≡ 4 → Rose link.taking far.taking)
 
 -- at status 6 the count of the keeper's faults rose
 abbrev pub SixRose : Type 0
-SixRose = OfEachRun (λ keeper later words status before after faults now. status ≡ 6 → Rose keeper.faults later.faults)
+SixRose = OfEachRun (λ link far keeper later words status before after faults now. status ≡ 6 → Rose keeper.faults later.faults)
 
 -- at status 7 the count of the sink's faults rose, and at 0 it is as before
 abbrev pub SevenRose : Type 0
-SevenRose = OfEachRun (λ keeper later words status before after faults now. status ≡ 7 → Rose faults now)
+SevenRose = OfEachRun (λ link far keeper later words status before after faults now. status ≡ 7 → Rose faults now)
 
 abbrev pub ZeroKept : Type 0
-ZeroKept = OfEachRun (λ keeper later words status before after faults now. status ≡ 0 → now ≡ faults)
+ZeroKept = OfEachRun (λ link far keeper later words status before after faults now. status ≡ 0 → now ≡ faults)
 
 -- no other status comes
 abbrev pub StatusesAreThese : Type 0
-StatusesAreThese = OfEachRun (λ keeper later words status before after faults now. list_any (λ known. known == status) (0 ∷ 1 ∷ 2 ∷ 3 ∷ 5 ∷ 6 ∷ 7 ∷ 8 ∷ []) ≡ true)
+StatusesAreThese = OfEachRun (λ link far keeper later words status before after faults now. list_any (λ known. known == status) (0 ∷ 1 ∷ 2 ∷ 3 ∷ 4 ∷ 5 ∷ 6 ∷ 7 ∷ 8 ∷ []) ≡ true)
 
--- and where none of the counts of the files' faults, of the keeper's and of the sink's rose, it is 0, 1, 2, 3 or 8
+-- and where none of the counts of the files' faults, of the link's of taking in, of the keeper's and of the sink's rose, it is 0, 1, 2, 3 or 8
 abbrev pub NoFaultNoFailure : Type 0
-NoFaultNoFailure = OfEachRun (λ keeper later words status before after faults now.
-    (earlier since : ℕ) → CountsAtFive status earlier since → ¬ (Rose earlier since) → ¬ (Rose keeper.faults later.faults) → ¬ (Rose faults now) →
+NoFaultNoFailure = OfEachRun (λ link far keeper later words status before after faults now.
+    (earlier since : ℕ) → CountsAtFive status earlier since → ¬ (Rose earlier since) → ¬ (Rose link.taking far.taking) → ¬ (Rose keeper.faults later.faults) → ¬ (Rose faults now) →
     list_any (λ known. known == status) (0 ∷ 1 ∷ 2 ∷ 3 ∷ 8 ∷ []) ≡ true)

@@ -17,16 +17,20 @@ pub enum Report {
     Usage,
     /// `line N`, status 2: that line is the first that breaks the grammar of its file.
     Line(u64),
+    /// `link`, status 4: the link could not be bound, or not take in what comes next.
+    Link,
     /// `file`, status 5: a file could not be read.
     File,
     /// `keeper`, status 6: the keeper could not be bound, or not be loaded or not give its rows.
     Keeper,
     /// `memory`, status 8: memory ran out.
     Memory,
-    /// The listing of what was offered, or the charging rows that the keeper holds, status 0; 7 where it is not written whole.
+    /// The listing of what was offered, the charging rows that the keeper holds or the numbers of a workload, status 0; 7 where it is not written whole.
     Listing(Text),
     /// `ok`, status 0, and 7 where it is not written whole: the file is a service record.
     Sound,
+    /// Nothing, status 0: the turns were made, or the link is closed.
+    Served,
     /// The line that tells its first fault, status 3: the file is no service record.
     Unsound(Text),
 }
@@ -89,6 +93,10 @@ pub fn write_report<S: Sink>(due: &Report, out: &mut S) -> u8
             say_line(out, *line);
             2
         }
+        Report::Link => {
+            say(out, b"link\n");
+            4
+        }
         Report::File => {
             say(out, b"file\n");
             5
@@ -102,6 +110,7 @@ pub fn write_report<S: Sink>(due: &Report, out: &mut S) -> u8
             8
         }
         Report::Listing(text) => write_whole(out, text.bytes()),
+        Report::Served => 0,
         Report::Sound => write_whole(out, b"ok\n"),
         Report::Unsound(line) => {
             say(out, line.bytes());

@@ -19,7 +19,7 @@ use mmtel_types::Account;
 use std::alloc::Global;
 
 /// Binds a keeper to the place of that name, and loads what it holds there.
-fn open<K: Keeper>(
+pub fn open<K: Keeper>(
     alloc: Global,
     keeper: &mut K,
     store: &[u8],
@@ -97,7 +97,8 @@ fn listed_over<K: Keeper>(
     listing(alloc, &offers)
 }
 
-/// The listing of what a server of this configuration offers in the run of a script's events over a keeper, which is bound to the store of the configuration and loaded first. `token` begins the identifiers that the server draws.
+/// The listing of what a server of this configuration offers in the run of a script's events over a keeper, which is bound to the store of the configuration and loaded
+/// first. `token` begins the identifiers that the server draws.
 ///
 /// # Errors
 ///

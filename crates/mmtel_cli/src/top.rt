@@ -1,14 +1,16 @@
 //! The top call.
-ghost use Rattle.std.specs.Prelude.{◌≡◌, ◌≤◌, ◌↔◌, ◌≢◌, IfSome, Ok, Some, None};
-ghost use Rattle.mmtel_cli.specs.Asked.{asked_by};
-ghost use Rattle.mmtel_cli.specs.Commands.{command_of, command_in};
-ghost use Rattle.mmtel_cli.specs.CommandLine as line;
+ghost use Rattle.std.specs.Prelude.{◌≡◌, ◌≤◌, ◌≢◌, IfSome, Ok, Some};
+ghost use Rattle.std.specs.Process.{exit_status};
+ghost use Rattle.mmtel_cli.specs.Asks.{asked_by};
+ghost use Rattle.mmtel_words.specs.CommandLine as line;
+ghost use Rattle.mmtel_words.specs.Commands.{command_in};
 ghost use Rattle.mmtel_directory.specs.Directory.{directory_of};
-ghost use Rattle.mmtel_cli.specs.Due.{due_of_events, due_of_script, shelf_of_directory, shelf_by, shelf_after};
-ghost use Rattle.mmtel_cli.specs.Found.{IsDue, HasCalled, CountsFiles, IsRead, SparedBy, Spares};
-ghost use Rattle.mmtel_cli.specs.Gives.{GivesScript, GivesBoth, GivesCommand, GivesRun};
+ghost use Rattle.mmtel_cli.specs.Due.{due_of_events, due_of_script, shelf_of_directory, shelf_by, shelf_first};
+ghost use Rattle.mmtel_cli.specs.Found.{IsDue, HasCalled, CountsFiles, IsRead, SparedBy, Spares, TakingBy, UnboundBy};
+ghost use Rattle.mmtel_cli.specs.Gives.{GivesScript, GivesBoth, GivesCommand, Prepares};
 ghost use Rattle.mmtel_cli.specs.Keeping.{IsSpared, seen};
-ghost use Rattle.mmtel_cli.specs.Runs.{CalledFor, CountsAtFive, Ran};
+ghost use Rattle.mmtel_cli.specs.Runs.{CalledFor, CountsAtFive, CountsAtFour, Ran};
+ghost use Rattle.mmtel_cli.specs.Serving.{IsUnbound, line_seen};
 ghost use Rattle.mmtel_outside.specs.Shelf.{called};
 ghost use Rattle.mmtel_script.specs.Script.{unheard};
 
@@ -16,18 +18,23 @@ use crate::charges::over_charges;
 use crate::checks::over_records;
 use crate::reports::{Report, write_report};
 use crate::runs::listed;
-use crate::words::{Replay, Wanted, command};
+use crate::serving::over_serve;
+use crate::workloads::over_workload;
 use mmtel_directory::{Directory, DirectoryFault, read_directory};
 use mmtel_keeper::{KeepFault, Keeper};
+use mmtel_link::Link;
 use mmtel_outside::{FileFault, Files, Sink};
 use mmtel_run_laws::{
     calls_of_runs_come_to_their_outcome, homes_of_configurations_are_clean,
     runs_send_clean_messages, seats_of_runs_are_charged_once,
 };
+use mmtel_run_offers::bytes_are_seen;
 use mmtel_run_secret::configurations_are_read;
-use mmtel_scan::Text;
+use mmtel_scan::{NoMemory, Text};
 use mmtel_script::{ScriptFault, ScriptLink};
+use mmtel_words::{Replay, Wanted, command};
 use std::alloc::Global;
+use std::process::ExitCode;
 
 /// What is due once both files were read and the script's grammar holds.
 fn over_events<K: Keeper>(
@@ -75,21 +82,21 @@ fn over_script<K: Keeper>(
 /// What is due once the configuration was read. The next call is for the script.
 fn over_directory<F: Files, K: Keeper>(
     alloc: Global,
-    replay: Replay<'_>,
+    replay: Replay,
     directory: Directory,
     files: &mut F,
     keeper: &mut K,
 ) -> Report
     requires bounded { directory.bound ≤ 16 }
     ensures gives { GivesScript (F.told files.old) (seen (K.held keeper.old) (K.calls keeper.old) (K.faults keeper.old))
-        (seen (K.held keeper.new) (K.calls keeper.new) (K.faults keeper.new)) (asked_by replay.entry) (Ok directory) result }
+        (seen (K.held keeper.new) (K.calls keeper.new) (K.faults keeper.new)) (asked_by replay) (Ok directory) result }
     ensures calls { IfSome (F.told files.old) (λ shelf. F.told files.new ≡ Some (called shelf)) }
     ensures count { CountsFiles result (F.faults files.old) (F.faults files.new) }
     ensures asked { result ≢ Report.Usage }
     ensures spares { Spares result keeper.old keeper.new }
 {
-    match files.read(alloc, replay.script) {
-        Ok(script) => over_script(alloc, directory, replay.token, &script, keeper),
+    match files.read(alloc, replay.script.bytes()) {
+        Ok(script) => over_script(alloc, directory, replay.token.bytes(), &script, keeper),
         Err(FileFault::Failed) => {
             drop(directory);
             Report::File
@@ -104,13 +111,13 @@ fn over_directory<F: Files, K: Keeper>(
 /// What is due once the configuration's text is there. The next call, if any, is for the script.
 fn over_config<F: Files, K: Keeper>(
     alloc: Global,
-    replay: Replay<'_>,
+    replay: Replay,
     config: &Text,
     files: &mut F,
     keeper: &mut K,
 ) -> Report
     ensures gives { GivesScript (F.told files.old) (seen (K.held keeper.old) (K.calls keeper.old) (K.faults keeper.old))
-        (seen (K.held keeper.new) (K.calls keeper.new) (K.faults keeper.new)) (asked_by replay.entry) (directory_of config.now) result }
+        (seen (K.held keeper.new) (K.calls keeper.new) (K.faults keeper.new)) (asked_by replay) (directory_of config.now) result }
     ensures calls { IfSome (F.told files.old) (λ shelf. HasCalled result (F.told files.new) shelf (shelf_of_directory shelf (directory_of config.now))) }
     ensures count { CountsFiles result (F.faults files.old) (F.faults files.new) }
     ensures asked { result ≢ Report.Usage }
@@ -126,92 +133,151 @@ fn over_config<F: Files, K: Keeper>(
 /// What is due over the files of a `replay`. The next call is for the configuration.
 fn over_replay<F: Files, K: Keeper>(
     alloc: Global,
-    replay: Replay<'_>,
+    replay: Replay,
     files: &mut F,
     keeper: &mut K,
 ) -> Report
     ensures gives { GivesBoth (F.told files.old) (seen (K.held keeper.old) (K.calls keeper.old) (K.faults keeper.old))
-        (seen (K.held keeper.new) (K.calls keeper.new) (K.faults keeper.new)) (asked_by replay.entry) result }
-    ensures calls { IfSome (F.told files.old) (λ shelf. HasCalled result (F.told files.new) (called shelf) (shelf_by shelf (line.Replay (asked_by replay.entry)))) }
+        (seen (K.held keeper.new) (K.calls keeper.new) (K.faults keeper.new)) (asked_by replay) result }
+    ensures calls { IfSome (F.told files.old) (λ shelf. HasCalled result (F.told files.new) (called shelf) (shelf_by shelf (line.Replay (asked_by replay)))) }
     ensures count { CountsFiles result (F.faults files.old) (F.faults files.new) }
     ensures asked { result ≢ Report.Usage }
     ensures spares { Spares result keeper.old keeper.new }
 {
-    match files.read(alloc, replay.config) {
+    match files.read(alloc, replay.config.bytes()) {
         Ok(config) => over_config(alloc, replay, &config, files, keeper),
         Err(FileFault::Failed) => Report::File,
         Err(FileFault::NoMemory) => Report::Memory,
     }
 }
 
-/// What is due of what is wanted, over these files and this keeper.
-fn over_wanted<F: Files, K: Keeper>(
+/// What is due of what is wanted, over these files, this link and this keeper.
+fn over_wanted<F: Files, L: Link, K: Keeper>(
     alloc: Global,
-    wanted: Wanted<'_>,
+    wanted: Wanted,
     files: &mut F,
+    link: &mut L,
     keeper: &mut K,
 ) -> Report
-    ensures gives { GivesCommand (F.told files.old) (seen (K.held keeper.old) (K.calls keeper.old) (K.faults keeper.old))
-        (seen (K.held keeper.new) (K.calls keeper.new) (K.faults keeper.new)) (command_in wanted.entry) result }
-    ensures calls { IfSome (F.told files.old) (λ shelf. HasCalled result (F.told files.new) (called shelf) (shelf_by shelf (command_in wanted.entry))) }
+    ensures gives { GivesCommand (F.told files.old)
+        (line_seen (L.ear link.old) (L.given link.old) (L.calls link.old) (L.taking link.old) (L.giving link.old))
+        (line_seen (L.ear link.new) (L.given link.new) (L.calls link.new) (L.taking link.new) (L.giving link.new))
+        (seen (K.held keeper.old) (K.calls keeper.old) (K.faults keeper.old))
+        (seen (K.held keeper.new) (K.calls keeper.new) (K.faults keeper.new)) (command_in wanted) result }
+    ensures calls { IfSome (F.told files.old) (λ shelf. HasCalled result (F.told files.new) (shelf_first shelf (command_in wanted)) (shelf_by shelf (command_in wanted))) }
     ensures count { CountsFiles result (F.faults files.old) (F.faults files.new) }
     ensures asked { result ≢ Report.Usage }
     ensures spares { Spares result keeper.old keeper.new }
-    ensures spared { SparedBy (Some (command_in wanted.entry)) keeper.old keeper.new }
+    ensures spared { SparedBy (Some (command_in wanted)) keeper.old keeper.new }
+    ensures unbound { UnboundBy (Some (command_in wanted)) result link.old link.new }
+    ensures taking { TakingBy (Some (command_in wanted)) result (L.taking link.old) (L.taking link.new) }
 {
     match wanted {
         Wanted::Replay(replay) => over_replay(alloc, replay, files, keeper),
-        Wanted::Check(records) => over_records(alloc, records, files),
-        Wanted::Charges(config) => over_charges(alloc, config, files, keeper),
+        Wanted::Check(records) => over_records(alloc, records.bytes(), files),
+        Wanted::Charges(config) => over_charges(alloc, config.bytes(), files, keeper),
+        Wanted::Workload { calls, salt } => over_workload(alloc, calls, salt),
+        Wanted::Serve(asked) => over_serve(alloc, asked, files, link, keeper),
     }
 }
 
-/// What is due by these words over these files and this keeper.
-fn prepare<F: Files, K: Keeper>(
+/// What is due by these words over these files, this link and this keeper.
+fn prepare<F: Files, L: Link, K: Keeper>(
     alloc: Global,
     words: &[Text],
     files: &mut F,
+    link: &mut L,
     keeper: &mut K,
 ) -> Report
-    ensures gives { GivesRun (F.told files.old) (seen (K.held keeper.old) (K.calls keeper.old) (K.faults keeper.old))
-        (seen (K.held keeper.new) (K.calls keeper.new) (K.faults keeper.new)) (command_of words.now) result }
-    ensures calls { IfSome (F.told files.old) (λ shelf. HasCalled result (F.told files.new) (called shelf) (shelf_after shelf (command_of words.now))) }
+    ensures prepares { Prepares words.now (F.told files.old) (F.told files.new)
+        (line_seen (L.ear link.old) (L.given link.old) (L.calls link.old) (L.taking link.old) (L.giving link.old))
+        (line_seen (L.ear link.new) (L.given link.new) (L.calls link.new) (L.taking link.new) (L.giving link.new))
+        (seen (K.held keeper.old) (K.calls keeper.old) (K.faults keeper.old)) (seen (K.held keeper.new) (K.calls keeper.new) (K.faults keeper.new))
+        link.old link.new keeper.old keeper.new result }
     ensures count { CountsFiles result (F.faults files.old) (F.faults files.new) }
-    ensures usage { (result ≡ Report.Usage) ↔ (command_of words.now ≡ None) }
     ensures spares { Spares result keeper.old keeper.new }
-    ensures spared { SparedBy (command_of words.now) keeper.old keeper.new }
 {
-    match command(words) {
-        None => Report::Usage,
-        Some(wanted) => over_wanted(alloc, wanted, files, keeper),
+    match command(alloc, words) {
+        Ok(Some(wanted)) => over_wanted(alloc, wanted, files, link, keeper),
+        Ok(None) => Report::Usage,
+        Err(NoMemory) => Report::Memory,
     }
 }
 
-/// Runs the command that the words ask for over these files and this keeper, writes what is due to the sink, and answers the status.
+/// Runs the command that the words ask for over these files, this link and this keeper, writes what is due to the sink, and answers the status.
 ///
-/// `words` are those behind the program's own name. There are three commands so far. `replay CONFIG SCRIPT --token T` reads the configuration and then the script, each once, binds the keeper to the store of the configuration and loads it, each once, and writes the listing of what the server offers; records that are uploaded in the script are kept by the keeper, and the charging rows of its calls and rooms are handed to it. `check RECORDS` reads that file once, and writes `ok` where it is a service record, and else the line that tells its first fault. `charges CONFIG` reads the configuration once, binds the keeper to its store and asks for its rows, each once, and writes them as comma-separated values with a header line. The status is 0 where the listing, `ok` or the rows were written whole, 1 where the words are not of the grammar (`usage`), 2 where the configuration, or else the script, breaks its grammar (`line N`), 3 where the file that is checked is no service record (`not toml`, `unknown KEY`, `wrong KEY` or `many KEY LIMIT`), 5 where the configuration, or else the script, or the file that is checked cannot be read (`file`), 6 where the keeper cannot be bound, or not be loaded or not give its rows (`keeper`), 7 where the sink failed before the listing, `ok` or the rows were whole, and 8 for want of memory (`memory`).
-pub fn run<F: Files, K: Keeper, S: Sink>(
+/// `words` are those behind the program's own name. There are five commands. `serve CONFIG --token T --turns N` reads the configuration once, binds the keeper to its store and
+/// loads it, each once, binds the link to its addresses, and then hears the link, in at most N turns, and gives it what the server offers then; records that are uploaded are
+/// kept by the keeper, and the charging rows of its calls and rooms are handed to it; it writes nothing. `replay CONFIG SCRIPT --token T` reads the configuration and then the
+/// script, each once, binds the keeper to the store of the configuration and loads it, each once, and writes the listing of what the server offers in the script's run, with
+/// records and rows as there. `check RECORDS` reads that file once, and writes `ok` where it is a service record, and else the line that tells its first fault. `charges CONFIG`
+/// reads the configuration once, binds the keeper to its store and asks for its rows, each once, and writes them as comma-separated values with a header line. `workload
+/// --calls N --salt S` makes N calls by a rule over a link and a keeper in memory, and writes how many they were, how much the server offered, and how many rows the keeper holds
+/// and how many of them are of a diversion. The status is 0 where the turns were made or the link was closed, or the listing, `ok`, the rows or the numbers were written whole,
+/// 1 where the words are not of the grammar (`usage`), 2 where the configuration, or else the script, breaks its grammar (`line N`), 3 where the file that is checked is no
+/// service record (`not toml`, `unknown KEY`, `wrong KEY` or `many KEY LIMIT`), 4 where the link cannot be bound, or not take in what comes next (`link`), 5 where the
+/// configuration, or else the script, or the file that is checked cannot be read (`file`), 6 where the keeper cannot be bound, or not be loaded or not give its rows
+/// (`keeper`), 7 where the sink failed before that was whole, and 8 for want of memory (`memory`).
+pub fn run<F: Files, L: Link, K: Keeper, S: Sink>(
     alloc: Global,
     words: &[Text],
     files: &mut F,
+    link: &mut L,
     keeper: &mut K,
     out: &mut S,
 ) -> u8
-    // What was written and answered: by the words as their grammar spells them and by what the files answered, the listing of exactly the offers that the definitions of the run give over what the keeper gave, which keep the secret of restricted callers, with what the keeper holds then, the charging rows of the calls and of the seats of conference rooms, and what each call came to; or that it could not be bound to the store of the configuration or not be loaded; or what a text that was checked is; or the text of exactly the charging rows that the keeper gave, or that it could not be bound or not give them; or the text of another status.
-    ensures ran { Ran (F.told files.old) (seen (K.held keeper.old) (K.calls keeper.old) (K.faults keeper.old))
-        (seen (K.held keeper.new) (K.calls keeper.new) (K.faults keeper.new)) words.now result (S.written out.old) (S.written out.new) (S.faults out.old) (S.faults out.new) }
+    // What was written and answered: by the words as their grammar spells them, which are of one command at most, and by what the files answered. Of `serve` and `replay`: the
+    // link was given, or the listing has, exactly the offers that the definitions of the run give over what the keeper gave, which keep the secret of restricted callers, with
+    // what the keeper holds then, the charging rows of the calls and of the seats of conference rooms, and what each call came to; or the keeper could not be bound to the
+    // store of the configuration or not be loaded; or the link could not be bound or not take in what comes next. Of the others: what a text that was checked is; the text of
+    // exactly the charging rows that the keeper gave, or that it could not be bound or not give them; the numbers of exactly what a server made of the calls of a workload.
+    // Or it is the text of another status.
+    ensures ran { Ran (F.told files.old)
+        (line_seen (L.ear link.old) (L.given link.old) (L.calls link.old) (L.taking link.old) (L.giving link.old))
+        (line_seen (L.ear link.new) (L.given link.new) (L.calls link.new) (L.taking link.new) (L.giving link.new))
+        (seen (K.held keeper.old) (K.calls keeper.old) (K.faults keeper.old)) (seen (K.held keeper.new) (K.calls keeper.new) (K.faults keeper.new))
+        words.now result (S.written out.old) (S.written out.new) (S.faults out.old) (S.faults out.new) }
     // What was asked of the files.
     ensures calls { IfSome (F.told files.old) (λ shelf. CalledFor shelf words.now result (F.told files.new)) }
     // When the count of their faults rose.
     ensures files { CountsAtFive result (F.faults files.old) (F.faults files.new) }
     // Where nothing was asked of the keeper.
     ensures keeper { IsSpared words.now result keeper.old keeper.new }
+    // Where nothing was asked of the link.
+    ensures link { IsUnbound words.now result link.old link.new }
+    // When the count of its faults of taking in rose.
+    ensures taking { CountsAtFour result (L.taking link.old) (L.taking link.new) }
 {
     calls_of_runs_come_to_their_outcome();
     seats_of_runs_are_charged_once();
     runs_send_clean_messages();
     homes_of_configurations_are_clean();
     configurations_are_read();
-    let due = prepare(alloc, words, files, keeper);
+    bytes_are_seen();
+    let due = prepare(alloc, words, files, link, keeper);
     write_report(&due, out)
+}
+
+/// The program: `run`, and a process that ends with its status.
+pub fn program<F: Files, L: Link, K: Keeper, S: Sink>(
+    alloc: Global,
+    words: &[Text],
+    files: &mut F,
+    link: &mut L,
+    keeper: &mut K,
+    out: &mut S,
+) -> ExitCode
+    // So it is of the status that the process ends with.
+    ensures ran { Ran (F.told files.old)
+        (line_seen (L.ear link.old) (L.given link.old) (L.calls link.old) (L.taking link.old) (L.giving link.old))
+        (line_seen (L.ear link.new) (L.given link.new) (L.calls link.new) (L.taking link.new) (L.giving link.new))
+        (seen (K.held keeper.old) (K.calls keeper.old) (K.faults keeper.old)) (seen (K.held keeper.new) (K.calls keeper.new) (K.faults keeper.new))
+        words.now (exit_status result) (S.written out.old) (S.written out.new) (S.faults out.old) (S.faults out.new) }
+    ensures calls { IfSome (F.told files.old) (λ shelf. CalledFor shelf words.now (exit_status result) (F.told files.new)) }
+    ensures files { CountsAtFive (exit_status result) (F.faults files.old) (F.faults files.new) }
+    ensures keeper { IsSpared words.now (exit_status result) keeper.old keeper.new }
+    ensures link { IsUnbound words.now (exit_status result) link.old link.new }
+    ensures taking { CountsAtFour (exit_status result) (L.taking link.old) (L.taking link.new) }
+{
+    ExitCode::from(run(alloc, words, files, link, keeper, out))
 }

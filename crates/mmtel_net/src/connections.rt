@@ -2,7 +2,7 @@
 ghost use Rattle.std.specs.Prelude.{◌≤◌, length, IfOk};
 
 use mmtel_http::{Whole, whole};
-use mmtel_scan::{List, Text};
+use mmtel_scan::{Class, List, Text, part, trim};
 use std::alloc::Global;
 use std::io;
 use std::io::{ErrorKind, Read, Write};
@@ -12,8 +12,14 @@ use std::time::{Duration, Instant};
 /// How long a connection may take until its request is whole, in milliseconds.
 const DEADLINE: u64 = 500;
 
-/// How long a reply may take, in milliseconds.
+/// How long each write of a reply may take, in milliseconds.
 const REPLY: u64 = 50;
+
+/// The lines of a head that are looked at, at most: more than a request may have.
+const LINES: usize = 80;
+
+/// What a client that waits with its body is told (RFC 9110 §15.2.1).
+const GO_ON: &[u8] = b"HTTP/1.1 100 Continue\r\n\r\n";
 
 /// A web connection, with what was read of it and how much of that was handed out.
 #[derive(Drop)]
@@ -23,6 +29,7 @@ pub struct Connection {
     bytes: Text,
     handed: usize,
     failed: bool,
+    told: bool,
 }
 
 /// What reading a connection came to.
@@ -55,6 +62,51 @@ fn behind(bytes: &[u8], count: usize) -> &[u8] {
     }
 }
 
+/// Whether a line of a head says that the body comes once the client is told to go on.
+fn is_expecting(line: &[u8]) -> bool {
+    match part(b':', line) {
+        Some((name, value)) => {
+            name.eq_ignore_ascii_case(b"expect")
+                && trim(Class::Blank, value).eq_ignore_ascii_case(b"100-continue")
+        }
+        None => false,
+    }
+}
+
+/// A line without the CR that may end it.
+fn without_cr(line: &[u8]) -> &[u8] {
+    let len = line.len();
+    if len > 0 && line[len - 1] == b'\r' {
+        &line[..len - 1]
+    } else {
+        line
+    }
+}
+
+/// Whether the bytes hold a head whose client waits until it is told to go on: one of HTTP/1.1 alone may (RFC 9110 §10.1.1).
+fn waits_to_go_on(bytes: &[u8]) -> bool {
+    let mut waiting = false;
+    let mut expecting = false;
+    let mut begun = false;
+    let mut rest = bytes;
+    for _ in 0..LINES {
+        let Some((line, after)) = part(b'\n', rest) else {
+            return false;
+        };
+        let line = without_cr(line);
+        if line.is_empty() && begun {
+            return waiting && expecting && after.is_empty();
+        }
+        if !begun {
+            begun = !line.is_empty();
+            waiting = line.ends_with(b" HTTP/1.1");
+        }
+        expecting = expecting || is_expecting(line);
+        rest = after;
+    }
+    false
+}
+
 impl Connection {
     /// A connection of which nothing was read. Its stream never waits.
     pub fn new(stream: TcpStream, came: Instant) -> Connection {
@@ -64,6 +116,7 @@ impl Connection {
             bytes: Text::new(),
             handed: 0,
             failed: false,
+            told: false,
         }
     }
 
@@ -75,13 +128,25 @@ impl Connection {
         }
     }
 
+    /// Tells a client that waits with its body to go on, once. A client that cannot be told may send it all the same.
+    fn tell_to_go_on(&mut self) {
+        if !self.told && waits_to_go_on(self.bytes.bytes()) {
+            self.told = true;
+            let mut by = &self.stream;
+            let _sent = by.write_all(GO_ON);
+        }
+    }
+
     /// Keeps bytes that were read.
     fn keep(&mut self, rt: &HostRuntime, alloc: Global, bytes: &[u8]) -> Step {
         if self.bytes.push(alloc, bytes).is_err() {
             return Step::NoMemory;
         }
         match whole(self.bytes.bytes()) {
-            Whole::More => self.late(rt),
+            Whole::More => {
+                self.tell_to_go_on();
+                self.late(rt)
+            }
             _ => Step::Due,
         }
     }

@@ -9,7 +9,7 @@ use mmtel_types::{Addr, Moment};
 use std::alloc::Global;
 use std::io;
 use std::io::ErrorKind;
-use std::net::SocketAddr;
+use std::net::{SocketAddr, TcpStream};
 use std::time::Instant;
 
 /// The web connections that are read side by side, at most: further ones wait in the listener.
@@ -24,6 +24,7 @@ pub struct Edge<'a> {
     connection: Option<Connection>,
     buffer: [u8; 16_385],
     web_first: bool,
+    web_failed: bool,
 }
 
 /// A datagram as an arrival. The buffer holds one byte more than a datagram may have, so one that was cut is too large still.
@@ -54,6 +55,7 @@ impl<'a> Edge<'a> {
             connection: None,
             buffer: [0; 16_385],
             web_first: true,
+            web_failed: false,
         }
     }
 
@@ -65,15 +67,27 @@ impl<'a> Edge<'a> {
         Ok(())
     }
 
-    /// Takes a web connection that has come, if there is room; true where memory ran out.
-    fn accept(&mut self, alloc: Global) -> io::Result<bool> {
+    /// Whether there is room for one more web connection.
+    fn has_room(&self) -> bool {
+        self.waiting.items().len() < CONNECTIONS
+    }
+
+    /// The stream of a web connection that has come, if there is room. That one could not be taken is no fault: the next one is looked for after the next wait.
+    fn stream(&mut self) -> io::Result<Option<TcpStream>> {
         let Some(sockets) = &self.sockets else {
             return Err(not_connected());
         };
-        if self.waiting.items().len() >= CONNECTIONS {
-            return Ok(false);
+        if !self.has_room() {
+            return Ok(None);
         }
-        let Some(stream) = sockets.stream()? else {
+        let taken = sockets.stream();
+        self.web_failed = taken.is_err();
+        Ok(taken.unwrap_or(None))
+    }
+
+    /// Takes a web connection that has come, if there is room; true where memory ran out.
+    fn accept(&mut self, alloc: Global) -> io::Result<bool> {
+        let Some(stream) = self.stream()? else {
             return Ok(false);
         };
         let came = Instant::now(self.rt)?;
@@ -130,10 +144,10 @@ impl<'a> Edge<'a> {
         }
     }
 
-    /// Waits for a datagram or a connection.
+    /// Waits for a datagram or a connection; for a datagram alone where no connection would be taken.
     fn wait(&self, ms: i32) {
         if let Some(sockets) = &self.sockets {
-            sockets.wait(ms);
+            sockets.wait(self.has_room() && !self.web_failed, ms);
         }
     }
 

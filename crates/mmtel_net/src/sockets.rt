@@ -13,6 +13,9 @@ use std::time::SystemTime;
 /// The bytes of datagrams that may wait in the socket, where the system allows so many.
 const WAITING: u32 = 4_194_304;
 
+/// What `poll` passes over.
+const NOTHING: i32 = -1;
+
 /// The two sockets.
 #[derive(Drop)]
 pub struct Sockets {
@@ -71,7 +74,7 @@ impl Sockets {
         }
     }
 
-    /// The stream of a web connection, where one has come. That one was aborted is no fault.
+    /// The stream of a web connection, where one has come. An error is one of that connection, or a want of the system that may pass (accept(2)).
     pub fn stream(&self) -> io::Result<Option<TcpStream>> {
         match self.listener.accept() {
             Ok((stream, _)) => {
@@ -79,13 +82,17 @@ impl Sockets {
                 Ok(Some(stream))
             }
             Err(e) if e.kind() == ErrorKind::WouldBlock => Ok(None),
-            Err(e) if e.kind() == ErrorKind::ConnectionAborted => Ok(None),
             Err(e) => Err(e),
         }
     }
 
-    /// Waits until one of the two has something, for so many milliseconds at most.
-    pub fn wait(&self, ms: i32) {
+    /// Waits until a datagram has come or, where that is asked for, a web connection, for so many milliseconds at most.
+    pub fn wait(&self, listens: bool, ms: i32) {
+        let listener = if listens {
+            self.listener.as_raw_fd()
+        } else {
+            NOTHING
+        };
         let mut asked = [
             pollfd {
                 fd: self.socket.as_raw_fd(),
@@ -93,7 +100,7 @@ impl Sockets {
                 revents: 0,
             },
             pollfd {
-                fd: self.listener.as_raw_fd(),
+                fd: listener,
                 events: POLLIN,
                 revents: 0,
             },

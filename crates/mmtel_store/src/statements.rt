@@ -10,7 +10,9 @@ use std::alloc::Global;
 /// Makes the tables where they are not there.
 fn make_tables<S: Alter>(conn: &mut Connection<S>) -> Result<(), Error> {
     conn.execute_batch(
-        "CREATE TABLE IF NOT EXISTS sheets (account INTEGER PRIMARY KEY, body BLOB); CREATE TABLE IF NOT EXISTS charges (n INTEGER PRIMARY KEY, kind INTEGER, account INTEGER, callno TEXT, began INTEGER, answered INTEGER, ended INTEGER, holds INTEGER, cause TEXT, code INTEGER)",
+        "CREATE TABLE IF NOT EXISTS sheets (account INTEGER PRIMARY KEY, body BLOB); \
+        CREATE TABLE IF NOT EXISTS charges (n INTEGER PRIMARY KEY, kind INTEGER, account INTEGER, callno TEXT, began INTEGER, answered INTEGER, ended INTEGER, \
+        holds INTEGER, cause TEXT, code INTEGER)",
     )
 }
 

@@ -214,7 +214,11 @@ fn read_words(alloc: Global, words: &[Text]) -> Result<Wanted, Refused>
 
 /// What the words ask for, the command first; None exactly where they are not of the grammar.
 ///
-/// The commands are `serve CONFIG --token T --turns N`, `replay CONFIG SCRIPT --token T`, `check RECORDS`, `charges CONFIG` and `workload --calls N --salt S`. The words behind the command are read from the left: `--name value` or `--name=value` for an option of the command, each exactly once, a separate value not beginning with `-`; `--`, which makes all later words positional; any other word is positional if it is `-` or does not begin with `-`. The positional words are exactly as many as named. T is 16 lower-case hexadecimal digits; turns are 1 to 1,000,000,000, calls 1 to 10,000 and the salt 0 to 4,294,967,295, each in decimal without leading zeros. Each word is UTF-8.
+/// The commands are `serve CONFIG --token T --turns N`, `replay CONFIG SCRIPT --token T`, `check RECORDS`, `charges CONFIG` and `workload --calls N --salt S`. The words
+/// behind the command are read from the left: `--name value` or `--name=value` for an option of the command, each exactly once, a separate value not beginning with `-`;
+/// `--`, which makes all later words positional; any other word is positional if it is `-` or does not begin with `-`. The positional words are exactly as many as named. T
+/// is 16 lower-case hexadecimal digits; turns are 1 to 1,000,000,000, calls 1 to 10,000 and the salt 0 to 4,294,967,295, each in decimal without leading zeros. Each word
+/// is UTF-8.
 ///
 /// # Errors
 ///

@@ -1,4 +1,7 @@
-use Rattle.mmtel_cli.proofs.Saying.{checks_are_told, good_ones_are_listed, good_ones_succeed, good_ones_want_a_keeper, no_fault_no_failure, one_is_usage, rows_are_listed, rows_want_a_keeper, seven_rose, six_rose, statuses_are_these, three_is_refused, zero_is_listed, zero_kept}
+use Rattle.mmtel_cli.proofs.Saying.{checks_are_told, four_rose, good_ones_are_listed, good_ones_are_served, good_ones_succeed, good_ones_want_a_keeper, no_fault_no_failure}
+use Rattle.mmtel_cli.proofs.Saying.{one_is_usage}
+use Rattle.mmtel_cli.proofs.Saying.{rows_are_listed, rows_want_a_keeper, serving_wants_a_keeper, serving_wants_a_link, seven_rose, six_rose, statuses_are_these, three_is_refused}
+use Rattle.mmtel_cli.proofs.Saying.{zero_is_listed, zero_kept}
 use Rattle.mmtel_cli.proofs.laws.statuses_say.Goals as goal
 
 pub returns-clause-good : goal.returns-clause-good
@@ -9,6 +12,15 @@ returns-clause-succeed c = good_ones_succeed
 
 pub returns-clause-unkept : goal.returns-clause-unkept
 returns-clause-unkept c = good_ones_want_a_keeper
+
+pub returns-clause-served : goal.returns-clause-served
+returns-clause-served c = good_ones_are_served
+
+pub returns-clause-unserved : goal.returns-clause-unserved
+returns-clause-unserved c = serving_wants_a_keeper
+
+pub returns-clause-unlinked : goal.returns-clause-unlinked
+returns-clause-unlinked c = serving_wants_a_link
 
 pub returns-clause-checked : goal.returns-clause-checked
 returns-clause-checked c = checks_are_told
@@ -30,6 +42,9 @@ returns-clause-usage c = one_is_usage
 
 pub returns-clause-refused : goal.returns-clause-refused
 returns-clause-refused c = three_is_refused
+
+pub returns-clause-link : goal.returns-clause-link
+returns-clause-link c = four_rose
 
 pub returns-clause-keeper : goal.returns-clause-keeper
 returns-clause-keeper c = six_rose

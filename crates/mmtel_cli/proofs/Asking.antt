@@ -1,0 +1,60 @@
+-- What was prepared, by the command that the words spell.
+use Rattle.std.proofs.Common.{◌≡◌, ℕ, List, Option, Some, None, refl, sym, inl, inr, IfSome}
+use Rattle.mmtel_outside.specs.Shelf.{Shelf}
+use Rattle.mmtel_scan.proofs.ChainLaws.{some_is}
+use Rattle.mmtel_words.specs.CommandLine.{Command, IsCommand}
+use Rattle.mmtel_cli.specs.Asks.{IsOnly}
+use Rattle.mmtel_cli.specs.Due.{shelf_by, shelf_first}
+use Rattle.mmtel_cli.specs.Found.{HasCalled, SparedBy, TakingBy, UnboundBy}
+use Rattle.mmtel_cli.specs.Gives.{GivesCommand, Prepares}
+use Rattle.mmtel_cli.specs.Keeping.{KeeperSeen}
+use Rattle.mmtel_cli.specs.Serving.{LinkSeen}
+use Rattle.mmtel_cli.specs.declared.reports.Report.{Report}
+use Rattle.mmtel_cli.specs.declared.reports.Report.TheVariants.{Memory, Usage}
+
+-- each command that the words spell is this one
+abbrev IsAll : Option Command → List (List ℕ) → Type 0
+IsAll given words = (other : Command) → IsCommand other words → given ≡ Some other
+
+only_this : (command : Command) (words : List (List ℕ)) → IsCommand command words → IsAll (Some command) words → IsOnly command words
+only_this command words spelled all = record { spelled = spelled; alone = λ other. λ is. sym (some_is command other (all other is)) }
+
+-- one command
+pub prepares_one : {L K : Type 0} (words : List (List ℕ)) (told after : Option Shelf) (link far : LinkSeen) (keeper later : KeeperSeen) (near away : L) (before now : K)
+    (outcome : Report) (command : Command) → IsCommand command words → IsAll (Some command) words → GivesCommand told link far keeper later command outcome
+    → IfSome told (λ shelf. HasCalled outcome after (shelf_first shelf command) (shelf_by shelf command)) → (outcome ≡ Usage → ⊥)
+    → SparedBy (Some command) before now → UnboundBy (Some command) outcome near away → TakingBy (Some command) outcome link.taking far.taking
+    → Prepares words told after link far keeper later near away before now outcome
+prepares_one words told after link far keeper later near away before now outcome command spelled all gives calls asked spared unbound taking = inl (record {
+  command = Some command;
+  asks = only_this command words spelled all;
+  gives = gives;
+  calls = calls;
+  usage = (λ e. absurd (asked e), λ e. absurd cc);
+  spared = spared;
+  unbound = unbound;
+  taking = taking;
+})
+
+-- where the words spell none
+none_called : (told : Option Shelf) → IfSome told (λ shelf. told ≡ Some shelf)
+none_called None = tt
+none_called (Some shelf) = refl
+
+pub prepares_none : {L K : Type 0} (words : List (List ℕ)) (told : Option Shelf) (link : LinkSeen) (keeper later : KeeperSeen) (near : L) (before : K) → IsAll None words
+    → Prepares words told told link link keeper later near near before before Usage
+prepares_none words told link keeper later near before all = inl (record {
+  command = None;
+  asks = λ other. λ is. let wrong = all other is in cc;
+  gives = refl;
+  calls = none_called told;
+  usage = (λ e. refl, λ e. refl);
+  spared = refl;
+  unbound = refl;
+  taking = refl;
+})
+
+-- for want of memory
+pub prepares_short : {L K : Type 0} (words : List (List ℕ)) (told : Option Shelf) (link : LinkSeen) (keeper later : KeeperSeen) (near : L) (before : K)
+    → Prepares words told told link link keeper later near near before before Memory
+prepares_short words told link keeper later near before = inr (record { memory = refl; calls = refl; spared = refl; unbound = refl; taking = refl })

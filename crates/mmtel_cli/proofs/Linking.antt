@@ -1,0 +1,94 @@
+-- The link, where no serving comes to it, and the count of its faults of taking in.
+use Rattle.std.proofs.Common.{◌≡◌, ℕ, List, inl, inr, Option, Some, None}
+use Rattle.mmtel_outside.specs.Shelf.{Shelf}
+use Rattle.mmtel_words.specs.CommandLine.{Command, Serve, Replay, Check, Charges, Workload}
+use Rattle.mmtel_cli.proofs.Saying.{four_rose}
+use Rattle.mmtel_cli.specs.Asks.{AsksFor, IsServe}
+use Rattle.mmtel_cli.specs.Ends.{Ends}
+use Rattle.mmtel_cli.specs.Found.{CountsLink, SparesLink, TakingBy, UnboundBy}
+use Rattle.mmtel_cli.specs.Gives.{Prepares}
+use Rattle.mmtel_cli.specs.Keeping.{KeeperSeen}
+use Rattle.mmtel_cli.specs.Runs.{CountsAtFour, Ran}
+use Rattle.mmtel_cli.specs.Serving.{IsUnbound, LinkSeen}
+use Rattle.mmtel_cli.specs.declared.reports.Report.{Report}
+use Rattle.mmtel_cli.specs.declared.reports.Report.TheVariants.{Usage, Line, Link, File, Keeper, Memory, Listing, Sound, Served, Unsound}
+
+module _ (status : ℕ) (before after : Option (List ℕ)) (faults now : ℕ) where
+  abbrev EndsSo : Report → Type 0
+  EndsSo outcome = Ends outcome status before after faults now
+
+  -- ---- where it is as before
+
+  early_spared : {L : Type 0} (outcome : Report) (near away : L) → SparesLink outcome near away → EndsSo outcome → (status ≡ 0 → ⊥) → (status ≡ 4 → ⊥) → (status ≡ 8 → ⊥) →
+      away ≡ near
+  early_spared Usage near away spares ends zero four eight = spares
+  early_spared (Line line) near away spares ends zero four eight = spares
+  early_spared Link near away spares ends zero four eight = absurd (four ends.0)
+  early_spared File near away spares ends zero four eight = spares
+  early_spared Keeper near away spares ends zero four eight = spares
+  early_spared Memory near away spares ends zero four eight = absurd (eight ends.0)
+  early_spared (Listing text) near away spares ends zero four eight = spares
+  early_spared Sound near away spares ends zero four eight = spares
+  early_spared Served near away spares ends zero four eight = absurd (zero ends.0)
+  early_spared (Unsound line) near away spares ends zero four eight = spares
+
+  early_by : {L : Type 0} (command : Option Command) (outcome : Report) (near away : L) → UnboundBy command outcome near away → EndsSo outcome
+      → (status ≡ 0 → ⊥) → (status ≡ 4 → ⊥) → (status ≡ 8 → ⊥) → away ≡ near
+  early_by None outcome near away unbound ends zero four eight = unbound
+  early_by (Some (Serve config token turns)) outcome near away unbound ends zero four eight = early_spared outcome near away unbound ends zero four eight
+  early_by (Some (Replay asked)) outcome near away unbound ends zero four eight = unbound
+  early_by (Some (Check records)) outcome near away unbound ends zero four eight = unbound
+  early_by (Some (Charges config)) outcome near away unbound ends zero four eight = unbound
+  early_by (Some (Workload calls salt)) outcome near away unbound ends zero four eight = unbound
+
+  -- ---- its count of taking in
+
+  counted : (outcome : Report) (taking taken : ℕ) → CountsLink outcome taking taken → EndsSo outcome → (status ≡ 4 → ⊥) → taken ≡ taking
+  counted Usage taking taken counts ends four = counts
+  counted (Line line) taking taken counts ends four = counts
+  counted Link taking taken counts ends four = absurd (four ends.0)
+  counted File taking taken counts ends four = counts
+  counted Keeper taking taken counts ends four = counts
+  counted Memory taking taken counts ends four = counts
+  counted (Listing text) taking taken counts ends four = counts
+  counted Sound taking taken counts ends four = counts
+  counted Served taking taken counts ends four = counts
+  counted (Unsound line) taking taken counts ends four = counts
+
+  counted_by : (command : Option Command) (outcome : Report) (taking taken : ℕ) → TakingBy command outcome taking taken → EndsSo outcome → (status ≡ 4 → ⊥) → taken ≡ taking
+  counted_by None outcome taking taken counts ends four = counts
+  counted_by (Some (Serve config token turns)) outcome taking taken counts ends four = counted outcome taking taken counts ends four
+  counted_by (Some (Replay asked)) outcome taking taken counts ends four = counts
+  counted_by (Some (Check records)) outcome taking taken counts ends four = counts
+  counted_by (Some (Charges config)) outcome taking taken counts ends four = counts
+  counted_by (Some (Workload calls salt)) outcome taking taken counts ends four = counts
+
+-- of another command than `serve`, and without one
+other_by : {L : Type 0} (words : List (List ℕ)) (command : Option Command) (outcome : Report) (near away : L) → AsksFor words command → UnboundBy command outcome near away
+    → ((config token : List ℕ) (turns : ℕ) → IsServe config token turns words → ⊥) → away ≡ near
+other_by words None outcome near away asks unbound never = unbound
+other_by words (Some (Serve config token turns)) outcome near away asks unbound never = absurd (never config token turns asks.spelled)
+other_by words (Some (Replay asked)) outcome near away asks unbound never = unbound
+other_by words (Some (Check records)) outcome near away asks unbound never = unbound
+other_by words (Some (Charges config)) outcome near away asks unbound never = unbound
+other_by words (Some (Workload calls salt)) outcome near away asks unbound never = unbound
+
+module _ {L K : Type 0} (told asked : Option Shelf) (link far : LinkSeen) (first last : KeeperSeen) (words : List (List ℕ)) (outcome : Report) (near away : L) (keeper later : K)
+    (status : ℕ) (before after : Option (List ℕ)) (faults now : ℕ) where
+  pub is_unbound : Prepares words told asked link far first last near away keeper later outcome → Ends outcome status before after faults now → IsUnbound words status near away
+  is_unbound (inl p) ends = record {
+    other = other_by words p.command outcome near away p.asks p.unbound;
+    early = early_by status before after faults now p.command outcome near away p.unbound ends;
+  }
+  is_unbound (inr out) ends = record { other = λ never. out.unbound; early = λ zero. λ four. λ eight. out.unbound }
+
+  pub counts_at_four : Prepares words told asked link far first last near away keeper later outcome → Ends outcome status before after faults now
+      → Ran told link far first last words status before after faults now → CountsAtFour status link.taking far.taking
+  counts_at_four (inl p) ends ran = record {
+    rose = four_rose told link far first last words status before after faults now ran;
+    kept = counted_by status before after faults now p.command outcome link.taking far.taking p.taking ends;
+  }
+  counts_at_four (inr out) ends ran = record {
+    rose = four_rose told link far first last words status before after faults now ran;
+    kept = λ four. out.taking;
+  }

@@ -1,0 +1,64 @@
+-- What a workload comes to: a server hears the calls that a link makes by a rule, over a keeper in memory, and what it offered and what was charged is counted.
+use Rattle.std.specs.Prelude.{◌≡◌, ℕ, ◌+◌, List, [], ◌∷◌, ◌++◌, length, Some, codes, decimal}
+use Rattle.mmtel_charging.specs.declared.rows.Kind.{Kind}
+use Rattle.mmtel_charging.specs.declared.rows.Kind.TheVariants.{Origin, Terminating, Diversion, Participant}
+use Rattle.mmtel_charging.specs.declared.rows.Row.{Row}
+use Rattle.mmtel_directory.specs.declared.directories.Directory.{Directory}
+use Rattle.mmtel_in_force.specs.Texts.{Texts}
+use Rattle.mmtel_keeper.specs.Kept.{Held}
+use Rattle.mmtel_outside.specs.declared.events.Event.{Event}
+use Rattle.mmtel_outside.specs.declared.events.Offer.{Offer}
+use Rattle.mmtel_cli.specs.Keeping.{KeeperSeen}
+use Rattle.mmtel_cli.specs.Listings.{OffersRun}
+
+-- its configuration
+abbrev pub work_config : List ℕ
+work_config =
+    codes "sip 127.0.0.1:5060\nweb 127.0.0.1:8080\nhome home.example\n"
+    ++ codes "peer 1 127.0.0.1:5071 trusted\npeer 2 127.0.0.1:5072 untrusted\nroute home.example 1\nroute far.example 2\n"
+    ++ codes "account 1 sip:alice@home.example tel:+4930111\naccount 2 sip:bob@home.example\naccount 3 sip:carol@home.example\n"
+    ++ codes "operator sip:op@home.example\nmixer 127.0.0.1 40000\nfactory sip:conf@home.example\n"
+
+-- its token
+abbrev pub work_token : List ℕ
+work_token = codes "0123456789abcdef"
+
+-- the record that is in force: carol diverts each call
+abbrev pub work_loaded : Texts
+work_loaded = (record { 0 = 3 }, codes "[communication-diversion]\nactive = true\n\n[[communication-diversion.rule]]\ntarget = \"sip:vm@far.example\"\n") ∷ []
+
+-- what its keeper holds before
+abbrev pub nothing_held : Held
+nothing_held = record { sheets = []; rows = [] }
+
+-- how many rows are of a diversion
+abbrev pub diversions_in : List Row → ℕ
+diversions_in [] = 0
+diversions_in (row ∷ rows) = of_kind row.kind (diversions_in rows)
+  where
+    of_kind : Kind → ℕ → ℕ
+    of_kind Origin count = count
+    of_kind Terminating count = count
+    of_kind Diversion count = 1 + count
+    of_kind Participant count = count
+
+-- a line of a name and a number behind a text
+abbrev pub with_line : (text name : List ℕ) → ℕ → List ℕ
+with_line text name number = ((text ++ name) ++ decimal number) ++ codes "\n"
+
+-- the four lines
+abbrev pub work_text : (calls offers rows diverted : ℕ) → List ℕ
+work_text calls offers rows diverted =
+    with_line (with_line (with_line (with_line [] (codes "calls ") calls) (codes "offers ") offers) (codes "rows ") rows) (codes "diverted ") diverted
+
+-- the text counts what a server offered in the run of events, and what the keeper holds then of the rows of its calls
+pub record Counts (directory : Directory) (calls : ℕ) (text : List ℕ) : Type 0 where
+  pub events : List Event
+  pub opening : KeeperSeen
+  pub later : KeeperSeen
+  pub held : Held
+  pub opened : opening.held ≡ Some nothing_held
+  pub left : later.held ≡ Some held
+  pub offers : List Offer
+  pub run : OffersRun directory work_token work_loaded events opening later offers
+  pub counted : text ≡ work_text calls (length offers) (length held.rows) (diversions_in held.rows)

@@ -1,0 +1,192 @@
+//! Serving a network: a run over a link and a keeper.
+ghost use Rattle.std.specs.Prelude.{◌≡◌, ◌≤◌, ◌≢◌, ℕ, List, [], IfSome, OnErr, OnOk, Some};
+ghost use Rattle.mmtel_cli.specs.Found.{CountsFiles, CountsLink, IsRead, IsServedBy, IsServing, Spares, SparesLink};
+ghost use Rattle.mmtel_cli.specs.Gives.{GivesServe, ServesConfig};
+ghost use Rattle.mmtel_cli.specs.Keeping.{IsLoaded, KeeperSeen, seen};
+ghost use Rattle.mmtel_cli.specs.Serving.{IsLinked, IsNotLinked, LinkSeen, line_seen};
+ghost use Rattle.mmtel_directory.specs.declared.directories.Directory.{Directory};
+ghost use Rattle.mmtel_in_force.specs.Texts.{Texts};
+ghost use Rattle.mmtel_outside.specs.Shelf.{called};
+ghost use Rattle.mmtel_server.specs.Stands.{Serves};
+
+use crate::reports::Report;
+use crate::runs::open;
+use mmtel_directory::{Directory, DirectoryFault, read_directory};
+use mmtel_keeper::{KeepFault, Keeper};
+use mmtel_link::Link;
+use mmtel_outside::{FileFault, Files};
+use mmtel_scan::{NoMemory, Text};
+use mmtel_serve::serve;
+use mmtel_server::{DriveFault, Server};
+use mmtel_types::{Account, Failed};
+use mmtel_words::Serve;
+use std::alloc::Global;
+
+/// Binds a link to the addresses of the configuration: that for datagrams and that for web connections.
+fn listen<L: Link>(directory: &Directory, link: &mut L) -> Result<(), Failed>
+    ensures linked { OnOk result (IsLinked directory.now (line_seen (L.ear link.old) (L.given link.old) (L.calls link.old) (L.taking link.old) (L.giving link.old))
+        (line_seen (L.ear link.new) (L.given link.new) (L.calls link.new) (L.taking link.new) (L.giving link.new))) }
+    ensures failed { OnErr result (IsNotLinked directory.now (line_seen (L.ear link.old) (L.given link.old) (L.calls link.old) (L.taking link.old) (L.giving link.old))
+        (line_seen (L.ear link.new) (L.given link.new) (L.calls link.new) (L.taking link.new) (L.giving link.new))) }
+{
+    link.bind(directory.sip, directory.web)
+}
+
+/// What is due once so many turns were made, the link was closed, or one failed: of a server of this configuration that was just made, over a link that was bound and a keeper
+/// that was loaded.
+fn over_server<L: Link, K: Keeper>(
+    alloc: Global,
+    server: &mut Server,
+    turns: u64,
+    link: &mut L,
+    keeper: &mut K,
+) -> Report
+    ensures served { (directory : Directory) (token : List ℕ) (loaded : Texts) (line : LinkSeen) (kept : KeeperSeen) → Serves directory token loaded [] server.old →
+        IsLinked directory line (line_seen (L.ear link.old) (L.given link.old) (L.calls link.old) (L.taking link.old) (L.giving link.old)) →
+        IsLoaded directory.store loaded kept (seen (K.held keeper.old) (K.calls keeper.old) (K.faults keeper.old)) →
+        IsServedBy directory token turns line (line_seen (L.ear link.new) (L.given link.new) (L.calls link.new) (L.taking link.new) (L.giving link.new))
+        kept (seen (K.held keeper.new) (K.calls keeper.new) (K.faults keeper.new)) result }
+    ensures serving { IsServing result }
+    ensures taking { CountsLink result (L.taking link.old) (L.taking link.new) }
+{
+    match serve(alloc, server, link, keeper, turns) {
+        Ok(_) => Report::Served,
+        Err(DriveFault::LinkFault) => Report::Link,
+        Err(DriveFault::NoMemory) => Report::Memory,
+    }
+}
+
+/// What is due once the link was bound: a server of the configuration hears it.
+fn over_link<L: Link, K: Keeper>(
+    alloc: Global,
+    directory: Directory,
+    asked: Serve,
+    loaded: &[(Account, Text)],
+    link: &mut L,
+    keeper: &mut K,
+) -> Report
+    requires bounded { directory.bound ≤ 16 }
+    ensures served { (line : LinkSeen) (kept : KeeperSeen) →
+        IsLinked directory line (line_seen (L.ear link.old) (L.given link.old) (L.calls link.old) (L.taking link.old) (L.giving link.old)) →
+        IsLoaded directory.store loaded.now kept (seen (K.held keeper.old) (K.calls keeper.old) (K.faults keeper.old)) →
+        IsServedBy directory asked.token asked.turns line (line_seen (L.ear link.new) (L.given link.new) (L.calls link.new) (L.taking link.new) (L.giving link.new))
+        kept (seen (K.held keeper.new) (K.calls keeper.new) (K.faults keeper.new)) result }
+    ensures serving { IsServing result }
+    ensures taking { CountsLink result (L.taking link.old) (L.taking link.new) }
+{
+    match Server::new(alloc, directory, asked.token, loaded) {
+        Ok(mut server) => {
+            let due = over_server(alloc, &mut server, asked.turns, link, keeper);
+            server.give_up();
+            due
+        }
+        Err(NoMemory) => Report::Memory,
+    }
+}
+
+/// What is due once the keeper was loaded: the link is bound to the addresses of the configuration.
+fn over_loaded<L: Link, K: Keeper>(
+    alloc: Global,
+    directory: Directory,
+    asked: Serve,
+    loaded: &[(Account, Text)],
+    link: &mut L,
+    keeper: &mut K,
+) -> Report
+    requires bounded { directory.bound ≤ 16 }
+    ensures served { (kept : KeeperSeen) → IsLoaded directory.store loaded.now kept (seen (K.held keeper.old) (K.calls keeper.old) (K.faults keeper.old)) →
+        IsServedBy directory asked.token asked.turns (line_seen (L.ear link.old) (L.given link.old) (L.calls link.old) (L.taking link.old) (L.giving link.old))
+        (line_seen (L.ear link.new) (L.given link.new) (L.calls link.new) (L.taking link.new) (L.giving link.new))
+        kept (seen (K.held keeper.new) (K.calls keeper.new) (K.faults keeper.new)) result }
+    ensures serving { IsServing result }
+    ensures taking { CountsLink result (L.taking link.old) (L.taking link.new) }
+{
+    match listen(&directory, link) {
+        Ok(()) => over_link(alloc, directory, asked, loaded, link, keeper),
+        Err(Failed) => {
+            drop(directory);
+            Report::Link
+        }
+    }
+}
+
+/// What is due once the configuration was read: the keeper is bound to its store and loaded, the link is bound to its addresses, and then the turns are made.
+fn over_directory<L: Link, K: Keeper>(
+    alloc: Global,
+    directory: Directory,
+    asked: Serve,
+    link: &mut L,
+    keeper: &mut K,
+) -> Report
+    requires bounded { directory.bound ≤ 16 }
+    ensures served { IsServedBy directory asked.token asked.turns (line_seen (L.ear link.old) (L.given link.old) (L.calls link.old) (L.taking link.old) (L.giving link.old))
+        (line_seen (L.ear link.new) (L.given link.new) (L.calls link.new) (L.taking link.new) (L.giving link.new))
+        (seen (K.held keeper.old) (K.calls keeper.old) (K.faults keeper.old)) (seen (K.held keeper.new) (K.calls keeper.new) (K.faults keeper.new)) result }
+    ensures read { IsRead result }
+    ensures spares { Spares result keeper.old keeper.new }
+    ensures spares_link { SparesLink result link.old link.new }
+    ensures taking { CountsLink result (L.taking link.old) (L.taking link.new) }
+{
+    match open(alloc, keeper, directory.store.bytes()) {
+        Ok(loaded) => over_loaded(alloc, directory, asked, loaded.items(), link, keeper),
+        Err(KeepFault::Failed) => {
+            drop(directory);
+            Report::Keeper
+        }
+        Err(KeepFault::NoMemory) => {
+            drop(directory);
+            Report::Memory
+        }
+    }
+}
+
+/// What is due once the configuration's text is there.
+fn over_config<L: Link, K: Keeper>(
+    alloc: Global,
+    asked: Serve,
+    config: &Text,
+    link: &mut L,
+    keeper: &mut K,
+) -> Report
+    ensures due { ServesConfig (Some config.now) asked.token asked.turns
+        (line_seen (L.ear link.old) (L.given link.old) (L.calls link.old) (L.taking link.old) (L.giving link.old))
+        (line_seen (L.ear link.new) (L.given link.new) (L.calls link.new) (L.taking link.new) (L.giving link.new))
+        (seen (K.held keeper.old) (K.calls keeper.old) (K.faults keeper.old)) (seen (K.held keeper.new) (K.calls keeper.new) (K.faults keeper.new)) result }
+    ensures read { IsRead result }
+    ensures spares { Spares result keeper.old keeper.new }
+    ensures spares_link { SparesLink result link.old link.new }
+    ensures taking { CountsLink result (L.taking link.old) (L.taking link.new) }
+{
+    match read_directory(alloc, config.bytes()) {
+        Ok(directory) => over_directory(alloc, directory, asked, link, keeper),
+        Err(DirectoryFault::BadLine { line }) => Report::Line(line),
+        Err(DirectoryFault::NoMemory) => Report::Memory,
+    }
+}
+
+/// What is due of `serve`. The next call of the files is for the configuration.
+pub fn over_serve<F: Files, L: Link, K: Keeper>(
+    alloc: Global,
+    asked: Serve,
+    files: &mut F,
+    link: &mut L,
+    keeper: &mut K,
+) -> Report
+    ensures gives { GivesServe (F.told files.old)
+        (line_seen (L.ear link.old) (L.given link.old) (L.calls link.old) (L.taking link.old) (L.giving link.old))
+        (line_seen (L.ear link.new) (L.given link.new) (L.calls link.new) (L.taking link.new) (L.giving link.new))
+        (seen (K.held keeper.old) (K.calls keeper.old) (K.faults keeper.old)) (seen (K.held keeper.new) (K.calls keeper.new) (K.faults keeper.new))
+        asked.config asked.token asked.turns result }
+    ensures calls { IfSome (F.told files.old) (λ shelf. F.told files.new ≡ Some (called shelf)) }
+    ensures count { CountsFiles result (F.faults files.old) (F.faults files.new) }
+    ensures asked { result ≢ Report.Usage }
+    ensures spares { Spares result keeper.old keeper.new }
+    ensures spares_link { SparesLink result link.old link.new }
+    ensures taking { CountsLink result (L.taking link.old) (L.taking link.new) }
+{
+    match files.read(alloc, asked.config.bytes()) {
+        Ok(config) => over_config(alloc, asked, &config, link, keeper),
+        Err(FileFault::Failed) => Report::File,
+        Err(FileFault::NoMemory) => Report::Memory,
+    }
+}

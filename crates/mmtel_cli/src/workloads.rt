@@ -1,0 +1,173 @@
+//! A workload: what a server makes of the calls of a rule, counted.
+ghost use Rattle.std.specs.Prelude.{◌≡◌, ◌≤◌, ◌≢◌, ℕ, List, [], IfOk, None, OnOk, Some, codes, length};
+ghost use Rattle.mmtel_cli.specs.Due.{due_of_work};
+ghost use Rattle.mmtel_cli.specs.Found.{IsDue, IsRead};
+ghost use Rattle.mmtel_cli.specs.Keeping.{KeeperSeen, seen};
+ghost use Rattle.mmtel_cli.specs.Listings.{OffersRun};
+ghost use Rattle.mmtel_cli.specs.Workloads.{Counts, diversions_in, nothing_held, with_line, work_config, work_loaded, work_text, work_token};
+ghost use Rattle.mmtel_directory.specs.Directory.{directory_of};
+ghost use Rattle.mmtel_directory.specs.declared.directories.Directory.{Directory};
+ghost use Rattle.mmtel_in_force.specs.Texts.{Texts};
+ghost use Rattle.mmtel_script.specs.Script.{unheard};
+ghost use Rattle.mmtel_server.specs.Stands.{Went};
+
+use crate::reports::Report;
+use mmtel_charging::{Kind, Row};
+use mmtel_directory::{Directory, DirectoryFault, read_directory};
+use mmtel_keeper::{KeepFault, Keeper};
+use mmtel_outside::Offer;
+use mmtel_run_secret::runs_keep_the_secret;
+use mmtel_scan::{List, NoMemory, Text, add_number};
+use mmtel_server::{DriveFault, Server, connections_are_read_out, drive};
+use mmtel_types::Account;
+use mmtel_workload::{WorkKeeper, WorkLink};
+use std::alloc::Global;
+
+/// The configuration: a trusted core and another network, and three subscribers.
+const CONFIG: &[u8] = b"sip 127.0.0.1:5060
+web 127.0.0.1:8080
+home home.example
+peer 1 127.0.0.1:5071 trusted
+peer 2 127.0.0.1:5072 untrusted
+route home.example 1
+route far.example 2
+account 1 sip:alice@home.example tel:+4930111
+account 2 sip:bob@home.example
+account 3 sip:carol@home.example
+operator sip:op@home.example
+mixer 127.0.0.1 40000
+factory sip:conf@home.example
+";
+
+/// Carol's record: she diverts each call.
+const CAROL: &[u8] =
+    b"[communication-diversion]\nactive = true\n\n[[communication-diversion.rule]]\ntarget = \"sip:vm@far.example\"\n";
+
+/// Drives the server over the calls, with a turn for each event and one for the end.
+fn drive_work(
+    alloc: Global,
+    server: &mut Server,
+    work: &mut WorkLink,
+    keeper: &mut WorkKeeper,
+    out: &mut List<Offer>,
+) -> Result<(), NoMemory>
+    requires unheard { work.old ≡ unheard work.old.events }
+    ensures run { OnOk result ((directory : Directory) (token : List ℕ) (loaded : Texts) → Went directory token loaded [] [] server.old out.old →
+        OffersRun directory token loaded work.old.events (seen (Some keeper.old) None 0) (seen (Some keeper.new) None 0) out.new) }
+{
+    connections_are_read_out();
+    runs_keep_the_secret();
+    let turns = work.len().saturating_add(1);
+    match drive(alloc, server, work, keeper, turns, out) {
+        Ok(_) => Ok(()),
+        Err(DriveFault::NoMemory) => Err(NoMemory),
+        Err(DriveFault::LinkFault) => unreachable!(),
+    }
+}
+
+/// What a server of this configuration, which has carol's record in force, offers in the run of the calls.
+fn offered(
+    alloc: Global,
+    directory: Directory,
+    work: &mut WorkLink,
+    keeper: &mut WorkKeeper,
+) -> Result<List<Offer>, NoMemory>
+    requires bounded { directory.bound ≤ 16 }
+    requires unheard { work.old ≡ unheard work.old.events }
+    ensures run { IfOk result (OffersRun directory work_token work_loaded work.old.events (seen (Some keeper.old) None 0) (seen (Some keeper.new) None 0)) }
+{
+    let token = Text::of(alloc, b"0123456789abcdef")?;
+    let carol = Text::of(alloc, CAROL)?;
+    let loaded = [(Account(3), carol)];
+    let mut server = Server::new(alloc, directory, token, &loaded)?;
+    let mut out = List::new();
+    let driven = drive_work(alloc, &mut server, work, keeper, &mut out);
+    server.give_up();
+    driven?;
+    Ok(out)
+}
+
+/// How many rows are of a diversion.
+fn diversions(rows: &[Row]) -> u64
+    ensures count { result ≡ diversions_in rows.now }
+{
+    let mut count: u64 = 0;
+    for row in rows {
+        match row.kind {
+            Kind::Diversion => count += 1,
+            _ => {}
+        }
+    }
+    count
+}
+
+/// Adds a line of a name and a number.
+fn add_line(alloc: Global, text: &mut Text, name: &[u8], number: u64) -> Result<(), NoMemory>
+    ensures added { OnOk result (text.new ≡ with_line text.old name.now number) }
+{
+    text.push(alloc, name)?;
+    add_number(alloc, text, number)?;
+    text.push(alloc, b"\n")
+}
+
+/// The lines that tell the numbers.
+fn told(alloc: Global, calls: u64, offers: u64, rows: &[Row]) -> Result<Text, NoMemory>
+    ensures text { IfOk result (λ text. text ≡ work_text calls offers (length rows.now) (diversions_in rows.now)) }
+{
+    let mut text = Text::new();
+    add_line(alloc, &mut text, b"calls ", calls)?;
+    add_line(alloc, &mut text, b"offers ", offers)?;
+    add_line(alloc, &mut text, b"rows ", rows.len() as u64)?;
+    add_line(alloc, &mut text, b"diverted ", diversions(rows))?;
+    Ok(text)
+}
+
+/// The rows that the keeper holds.
+fn rows_of(alloc: Global, keeper: &mut WorkKeeper) -> Result<List<Row>, NoMemory>
+    ensures rows { IfOk result (λ rows. rows ≡ keeper.old.rows) }
+    ensures same { keeper.new ≡ keeper.old }
+{
+    match keeper.rows(alloc) {
+        Ok(rows) => Ok(rows),
+        Err(KeepFault::NoMemory) => Err(NoMemory),
+        Err(KeepFault::Failed) => unreachable!(),
+    }
+}
+
+/// Makes so many calls by this salt, and tells what they came to.
+fn worked(alloc: Global, directory: Directory, calls: u32, salt: u32) -> Result<Text, NoMemory>
+    requires bounded { directory.bound ≤ 16 }
+    ensures counts { IfOk result (λ text. Counts directory calls text) }
+{
+    let mut work = match WorkLink::new(alloc, calls, salt) {
+        Ok(work) => work,
+        Err(NoMemory) => {
+            drop(directory);
+            return Err(NoMemory);
+        }
+    };
+    let mut keeper = WorkKeeper::new();
+    let offers = offered(alloc, directory, &mut work, &mut keeper)?;
+    let rows = rows_of(alloc, &mut keeper)?;
+    told(
+        alloc,
+        u64::from(calls),
+        offers.items().len() as u64,
+        rows.items(),
+    )
+}
+
+/// What is due of `workload`.
+pub fn over_workload(alloc: Global, calls: u32, salt: u32) -> Report
+    ensures due { (keeper later : KeeperSeen) → IsDue keeper later result (due_of_work calls (directory_of work_config)) }
+    ensures read { IsRead result }
+{
+    match read_directory(alloc, CONFIG) {
+        Ok(directory) => match worked(alloc, directory, calls, salt) {
+            Ok(text) => Report::Listing(text),
+            Err(NoMemory) => Report::Memory,
+        },
+        Err(DirectoryFault::BadLine { line }) => Report::Line(line),
+        Err(DirectoryFault::NoMemory) => Report::Memory,
+    }
+}

@@ -104,7 +104,7 @@ at 0 to 2|INVITE sip:bob@far.example SIP/2.0|Via: SIP/2.0/UDP 127.0.0.1:5060;bra
 |Contact: <sip:127.0.0.1:5060>|Content-Length: 0|
 at 100 to 1|SIP/2.0 481 Call/Transaction Does Not Exist|Via: SIP/2.0/UDP 127.0.0.1:5071;branch=z9hG4bKa2|From: "Erin" <sip:erin@other.example>;tag=a
 |To: <sip:bob@far.example>;tag=0123456789abcdef-5|Call-ID: c1|CSeq: 7 CANCEL|Content-Length: 0|
-~ In a talking call the caller holds, the callee asks meanwhile and is acknowledged; the caller ends the hold, asks with an old number, and hangs up; the operator reads the charges.
+~ In a talking call the caller holds, the callee asks meanwhile and is acknowledged; the caller ends the hold, asks with an old number, and hangs up; the operator reads charges.
 at 0 peer 1|INVITE sip:bob@home.example SIP/2.0|Via: SIP/2.0/UDP 127.0.0.1:5071;branch=z9hG4bKc1|Max-Forwards: 68|From: "Alice" <sip:alice@home.example>;tag=t1
 |To: <sip:bob@home.example>|Call-ID: call1|CSeq: 7 INVITE|Contact: <sip:alice@127.0.0.1:5071>|P-Asserted-Identity: <sip:alice@home.example>|Content-Length: 0|
 at 200 peer 1|SIP/2.0 200 OK|Via: SIP/2.0/UDP 127.0.0.1:5060;branch=z9hG4bK0123456789abcdef-4|From: "Alice" <sip:alice@home.example>;tag=0123456789abcdef-3
@@ -177,7 +177,8 @@ at 4000 to 1|SIP/2.0 200 OK|Via: SIP/2.0/UDP 127.0.0.1:5071;branch=z9hG4bKh6|Fro
 at 4000 to 1|BYE sip:bob1@127.0.0.1:5071 SIP/2.0|Via: SIP/2.0/UDP 127.0.0.1:5060;branch=z9hG4bK0123456789abcdef-10|Max-Forwards: 67
 |From: "Alice" <sip:alice@home.example>;tag=0123456789abcdef-3|To: <sip:bob@home.example>;tag=b1|Call-ID: 0123456789abcdef-2|CSeq: 4 BYE|Content-Length: 0|
 at 4001 web|HTTP/1.1 200 OK|Content-Type: text/csv|Content-Length: 127|Connection: close|
-x6b696e642c6163636f756e742c63616c6c2c626567616e2c616e7377657265642c656e6465642c686f6c64732c63617573652c7374617475730a6f726967696e2c312c312c302c3230302c343030302c312c656e6465642c300a7465726d696e6174696e672c322c312c302c3230302c343030302c312c656e6465642c300a
+x6b696e642c6163636f756e742c63616c6c2c626567616e2c616e7377657265642c656e6465642c686f6c64732c63617573652c7374617475730a6f726967696e2c312c312c302c3230302c343030302\
+c312c656e6465642c300a7465726d696e6174696e672c322c312c302c3230302c343030302c312c656e6465642c300a
 ~ An INVITE of a core: two Via values, two Routes, two identities, P-Served-User of bob as the terminating user, Accept-Contact, four option tags, Record-Route and a body.
 at 0 peer 1|INVITE sip:bob@home.example SIP/2.0|Via: SIP/2.0/UDP 127.0.0.1:5071;branch=z9hG4bKr18, SIP/2.0/UDP 10.0.0.9:5060;branch=z9hG4bKup|Max-Forwards: 68
 |From: "Alice" <sip:alice@home.example>;tag=t1|To: <sip:bob@home.example>|Call-ID: call1|CSeq: 7 INVITE|Contact: <sip:alice@127.0.0.1:5071>
@@ -218,7 +219,8 @@ at 400 to 1|SIP/2.0 200 OK|Via: SIP/2.0/UDP 127.0.0.1:5071;branch=z9hG4bKy1|From
 at 400 to 1|BYE sip:bob1@127.0.0.1:5071 SIP/2.0|Via: SIP/2.0/UDP 127.0.0.1:5060;branch=z9hG4bK0123456789abcdef-6|Max-Forwards: 67
 |From: "Alice" <sip:alice@home.example>;tag=0123456789abcdef-3|To: <sip:bob@home.example>;tag=b1|Call-ID: 0123456789abcdef-2|CSeq: 2 BYE|Content-Length: 0|
 at 401 web|HTTP/1.1 200 OK|Content-Type: text/csv|Content-Length: 125|Connection: close|
-x6b696e642c6163636f756e742c63616c6c2c626567616e2c616e7377657265642c656e6465642c686f6c64732c63617573652c7374617475730a6f726967696e2c312c312c302c3230302c3430302c302c656e6465642c300a7465726d696e6174696e672c322c312c302c3230302c3430302c302c656e6465642c300a
+x6b696e642c6163636f756e742c63616c6c2c626567616e2c616e7377657265642c656e6465642c686f6c64732c63617573652c7374617475730a6f726967696e2c312c312c302c3230302c3430302c3\
+02c656e6465642c300a7465726d696e6174696e672c322c312c302c3230302c3430302c302c656e6465642c300a
 ~ Bob is busy; the operator reads the charges, and then bob asks for them.
 at 0 peer 1|INVITE sip:bob@home.example SIP/2.0|Via: SIP/2.0/UDP 127.0.0.1:5071;branch=z9hG4bKc1|Max-Forwards: 68|From: "Alice" <sip:alice@home.example>;tag=t1
 |To: <sip:bob@home.example>|Call-ID: call1|CSeq: 7 INVITE|Contact: <sip:alice@127.0.0.1:5071>|P-Asserted-Identity: <sip:alice@home.example>|Content-Length: 0|
@@ -237,7 +239,8 @@ at 300 to 1|ACK sip:bob@home.example SIP/2.0|Via: SIP/2.0/UDP 127.0.0.1:5060;bra
 at 300 to 1|SIP/2.0 486 Busy Here|Via: SIP/2.0/UDP 127.0.0.1:5071;branch=z9hG4bKc1|From: "Alice" <sip:alice@home.example>;tag=t1
 |To: <sip:bob@home.example>;tag=0123456789abcdef-1|Call-ID: call1|CSeq: 7 INVITE|Content-Length: 0|
 at 301 web|HTTP/1.1 200 OK|Content-Type: text/csv|Content-Length: 127|Connection: close|
-x6b696e642c6163636f756e742c63616c6c2c626567616e2c616e7377657265642c656e6465642c686f6c64732c63617573652c7374617475730a6f726967696e2c312c312c302c2c3330302c302c72656c617965642c3438360a7465726d696e6174696e672c322c312c302c2c3330302c302c72656c617965642c3438360a
+x6b696e642c6163636f756e742c63616c6c2c626567616e2c616e7377657265642c656e6465642c686f6c64732c63617573652c7374617475730a6f726967696e2c312c312c302c2c3330302c302c726\
+56c617965642c3438360a7465726d696e6174696e672c322c312c302c2c3330302c302c72656c617965642c3438360a
 at 302 web|HTTP/1.1 403 Forbidden|Content-Length: 0|Connection: close|
 ~ Privacy of the session is critical to the caller.
 at 0 peer 1|INVITE sip:bob@home.example SIP/2.0|Via: SIP/2.0/UDP 127.0.0.1:5071;branch=z9hG4bKc1|Max-Forwards: 68|From: "Alice" <sip:alice@home.example>;tag=t1
@@ -356,7 +359,8 @@ at 0 to 2|INVITE sip:bob@far.example SIP/2.0|Via: SIP/2.0/UDP 127.0.0.1:5060;bra
 ~ A byte 0 in Contact.
 at 0 peer 1|INVITE sip:bob@far.example SIP/2.0|Via: SIP/2.0/UDP 127.0.0.1:5071;branch=z9hG4bKa1|Max-Forwards: 68|From: "Erin" <sip:erin@other.example>;tag=a
 |To: <sip:bob@far.example>|Call-ID: c1|CSeq: 7 INVITE
-x436f6e746163743a203c7369703a657200696e403132372e302e302e313a353037313e0d0a502d41737365727465642d4964656e746974793a203c7369703a6572696e406f746865722e6578616d706c653e0d0a507269766163793a2069640d0a436f6e74656e742d4c656e6774683a20300d0a0d0a
+x436f6e746163743a203c7369703a657200696e403132372e302e302e313a353037313e0d0a502d41737365727465642d4964656e746974793a203c7369703a6572696e406f746865722e6578616d706\
+c653e0d0a507269766163793a2069640d0a436f6e74656e742d4c656e6774683a20300d0a0d0a
 ~ 400 alone.
 at 0 to 1|SIP/2.0 400 Bad Request|Via: SIP/2.0/UDP 127.0.0.1:5071;branch=z9hG4bKa1|From: "Erin" <sip:erin@other.example>;tag=a
 |To: <sip:bob@far.example>;tag=0123456789abcdef-1|Call-ID: c1|CSeq: 7 INVITE|Content-Length: 0|

@@ -1,10 +1,14 @@
 //! Tables of runs, a text each: a script and the listing that is due, and then the next script.
 //!
-//! A line that begins with `~` says in words what follows it, up to the next such line. Lines that begin with `|` may stand one behind the other. A script may begin with settings, as `runs` says; `=status:` is the status that is due in the place of 0, and with `=cut` the listing ends without its last line end. Of a script that begins with `=server` no program is run but a server, as `serving` says. Where the tests are proved a further run costs its bytes alone.
+//! A line that begins with `~` says in words what follows it, up to the next such line. Lines that begin with `|` may stand one behind the other, and `\` at the end of a
+//! line joins it with the next. A script may begin with
+//! settings, as `settings` says; `=status:` is the status that is due in the place of 0, and with `=cut` the listing ends without its last line end. Of a script that begins
+//! with `=server` no program is run but a server, as `serving` says. Where the tests are proved a further run costs its bytes alone.
 
 use crate::pages::Page;
-use crate::runs::{setting, tell};
-use crate::serving::serve;
+use crate::runs::tell;
+use crate::serving::tell_served;
+use crate::settings::setting;
 use mmtel_scan::part;
 use std::alloc::Global;
 
@@ -29,7 +33,7 @@ pub fn writes(alloc: Global, script: &[u8], listing: &[u8]) -> bool {
     due.add(listing);
     let mut page = Page::new(alloc);
     if setting(script, b"server").is_some() {
-        serve(&mut page, script);
+        tell_served(&mut page, script);
     } else {
         tell(&mut page, script, true);
     }

@@ -69,7 +69,11 @@ wrong communication-diversion.rule.0.target
 =words:check|run.script
 =status:3
 [[outgoing-communication-barring.rule]]
-one = ["sip:u0@h", "sip:u1@h", "sip:u2@h", "sip:u3@h", "sip:u4@h", "sip:u5@h", "sip:u6@h", "sip:u7@h", "sip:u8@h", "sip:u9@h", "sip:u10@h", "sip:u11@h", "sip:u12@h", "sip:u13@h", "sip:u14@h", "sip:u15@h", "sip:u16@h", "sip:u17@h", "sip:u18@h", "sip:u19@h", "sip:u20@h", "sip:u21@h", "sip:u22@h", "sip:u23@h", "sip:u24@h", "sip:u25@h", "sip:u26@h", "sip:u27@h", "sip:u28@h", "sip:u29@h", "sip:u30@h", "sip:u31@h", "sip:u32@h", "sip:u33@h", "sip:u34@h", "sip:u35@h", "sip:u36@h", "sip:u37@h", "sip:u38@h", "sip:u39@h", "sip:u40@h", "sip:u41@h", "sip:u42@h", "sip:u43@h", "sip:u44@h", "sip:u45@h", "sip:u46@h", "sip:u47@h", "sip:u48@h", "sip:u49@h", "sip:u50@h", "sip:u51@h", "sip:u52@h", "sip:u53@h", "sip:u54@h", "sip:u55@h", "sip:u56@h", "sip:u57@h", "sip:u58@h", "sip:u59@h", "sip:u60@h", "sip:u61@h", "sip:u62@h", "sip:u63@h", "sip:u64@h"]
+one = ["sip:u0@h", "sip:u1@h", "sip:u2@h", "sip:u3@h", "sip:u4@h", "sip:u5@h", "sip:u6@h", "sip:u7@h", "sip:u8@h", "sip:u9@h", "sip:u10@h", "sip:u11@h", "sip:u12@h", \
+"sip:u13@h", "sip:u14@h", "sip:u15@h", "sip:u16@h", "sip:u17@h", "sip:u18@h", "sip:u19@h", "sip:u20@h", "sip:u21@h", "sip:u22@h", "sip:u23@h", "sip:u24@h", "sip:u25@h", \
+"sip:u26@h", "sip:u27@h", "sip:u28@h", "sip:u29@h", "sip:u30@h", "sip:u31@h", "sip:u32@h", "sip:u33@h", "sip:u34@h", "sip:u35@h", "sip:u36@h", "sip:u37@h", "sip:u38@h", \
+"sip:u39@h", "sip:u40@h", "sip:u41@h", "sip:u42@h", "sip:u43@h", "sip:u44@h", "sip:u45@h", "sip:u46@h", "sip:u47@h", "sip:u48@h", "sip:u49@h", "sip:u50@h", "sip:u51@h", \
+"sip:u52@h", "sip:u53@h", "sip:u54@h", "sip:u55@h", "sip:u56@h", "sip:u57@h", "sip:u58@h", "sip:u59@h", "sip:u60@h", "sip:u61@h", "sip:u62@h", "sip:u63@h", "sip:u64@h"]
 allow = false
 ~ That is told.
 many outgoing-communication-barring.rule.0.one 64

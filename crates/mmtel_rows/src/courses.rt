@@ -7,7 +7,9 @@ use mmtel_intake::{Answer, Course, Holder, Standing, course};
 use mmtel_scan::part;
 use mmtel_types::{CallNo, RoomNo, Side};
 
-/// A row is a request: `m` where it is merged, `f` where as many calls live as may and `u` where its peer is not trusted; `t` where To has a tag of no dialog, `d` and `e` where it names that of the caller and of the callee of call 3, `s` that of seat 2 of room 5, `x` where it names no account, and `o` where it offers audio; its method and Request-URI, and further lines, each ended by `|`. Below it stands what is done with it.
+/// A row is a request: `m` where it is merged, `f` where as many calls live as may and `u` where its peer is not trusted; `t` where To has a tag of no dialog, `d` and `e`
+/// where it names that of the caller and of the callee of call 3, `s` that of seat 2 of room 5, `x` where it names no account, and `o` where it offers audio; its method
+/// and Request-URI, and further lines, each ended by `|`. Below it stands what is done with it.
 const TABLE: &str = r#"> -- INFO sip:bob@home.example
 405 Allow: INVITE, ACK, CANCEL, BYE, OPTIONS, REGISTER, REFER
 > -- INFO sips:bob@home.example

@@ -8,7 +8,11 @@ use std::alloc::Global;
 
 /// The bytes of a datagram, an INVITE of Erin to bob.
 const DATAGRAM: &str =
-    "494e56495445207369703a626f62406661722e6578616d706c65205349502f322e300d0a5669613a205349502f322e302f554450203132372e302e302e313a353037313b6272616e63683d7a39684734624b61310d0a4d61782d466f7277617264733a2036380d0a46726f6d3a20224572696e22203c7369703a6572696e406f746865722e6578616d706c653e3b7461673d610d0a546f3a203c7369703a626f62406661722e6578616d706c653e0d0a43616c6c2d49443a2063310d0a435365713a203720494e564954450d0a436f6e746163743a203c7369703a6572696e403132372e302e302e313a353037313e0d0a502d41737365727465642d4964656e746974793a203c7369703a6572696e406f746865722e6578616d706c653e0d0a507269766163793a2069640d0a436f6e74656e742d4c656e6774683a20300d0a0d0a";
+    "494e56495445207369703a626f62406661722e6578616d706c65205349502f322e300d0a5669613a205349502f322e302f554450203132372e302e302e313a353037313b6272616e63683d7a39684734\
+    624b61310d0a4d61782d466f7277617264733a2036380d0a46726f6d3a20224572696e22203c7369703a6572696e406f746865722e6578616d706c653e3b7461673d610d0a546f3a203c7369703a626f\
+    62406661722e6578616d706c653e0d0a43616c6c2d49443a2063310d0a435365713a203720494e564954450d0a436f6e746163743a203c7369703a6572696e403132372e302e302e313a353037313e0d\
+    0a502d41737365727465642d4964656e746974793a203c7369703a6572696e406f746865722e6578616d706c653e0d0a507269766163793a2069640d0a436f6e74656e742d4c656e6774683a20300d0a\
+    0d0a";
 
 /// A script of one datagram for each beginning of these bytes.
 fn beginnings(script: &mut Page) {
@@ -29,7 +33,8 @@ fn cut_datagrams(rt: HostRuntime) {
     assert!(rt; !script.has_failed() && writes(rt.alloc(), script.bytes(), b""));
 }
 
-/// Rows that the keeper does not take wait for the end of the next event; the status is 0. The keeper is bound and loaded; then rows are handed to it, which is its third call. The operator's questions are calls of it too, in the last run its fifth and its seventh.
+/// Rows that the keeper does not take wait for the end of the next event; the status is 0. The keeper is bound and loaded; then rows are handed to it, which is its third
+/// call. The operator's questions are calls of it too, in the last run its fifth and its seventh.
 const FAILING: &str =
     r#"~ A call of alice to bob that ends at 400, when the keeper fails for the first time; then the operator reads the charges twice.
 =keeps:3
@@ -60,7 +65,8 @@ at 400 to 1|BYE sip:bob1@127.0.0.1:5071 SIP/2.0|Via: SIP/2.0/UDP 127.0.0.1:5060;
 at 401 web|HTTP/1.1 200 OK|Content-Type: text/csv|Content-Length: 58|Connection: close|
 x6b696e642c6163636f756e742c63616c6c2c626567616e2c616e7377657265642c656e6465642c686f6c64732c63617573652c7374617475730a
 at 402 web|HTTP/1.1 200 OK|Content-Type: text/csv|Content-Length: 125|Connection: close|
-x6b696e642c6163636f756e742c63616c6c2c626567616e2c616e7377657265642c656e6465642c686f6c64732c63617573652c7374617475730a6f726967696e2c312c312c302c3230302c3430302c302c656e6465642c300a7465726d696e6174696e672c322c312c302c3230302c3430302c302c656e6465642c300a
+x6b696e642c6163636f756e742c63616c6c2c626567616e2c616e7377657265642c656e6465642c686f6c64732c63617573652c7374617475730a6f726967696e2c312c312c302c3230302c3430302c3\
+02c656e6465642c300a7465726d696e6174696e672c322c312c302c3230302c3430302c302c656e6465642c300a
 ~ The same, and nothing comes for a while before the operator asks.
 =keeps:3
 at 0 peer 1|INVITE sip:bob@home.example SIP/2.0|Via: SIP/2.0/UDP 127.0.0.1:5071;branch=z9hG4bKc1|Max-Forwards: 68|From: "Alice" <sip:alice@home.example>;tag=t1
@@ -88,7 +94,8 @@ at 400 to 1|SIP/2.0 200 OK|Via: SIP/2.0/UDP 127.0.0.1:5071;branch=z9hG4bKy1|From
 at 400 to 1|BYE sip:bob1@127.0.0.1:5071 SIP/2.0|Via: SIP/2.0/UDP 127.0.0.1:5060;branch=z9hG4bK0123456789abcdef-6|Max-Forwards: 67
 |From: "Alice" <sip:alice@home.example>;tag=0123456789abcdef-3|To: <sip:bob@home.example>;tag=b1|Call-ID: 0123456789abcdef-2|CSeq: 2 BYE|Content-Length: 0|
 at 501 web|HTTP/1.1 200 OK|Content-Type: text/csv|Content-Length: 125|Connection: close|
-x6b696e642c6163636f756e742c63616c6c2c626567616e2c616e7377657265642c656e6465642c686f6c64732c63617573652c7374617475730a6f726967696e2c312c312c302c3230302c3430302c302c656e6465642c300a7465726d696e6174696e672c322c312c302c3230302c3430302c302c656e6465642c300a
+x6b696e642c6163636f756e742c63616c6c2c626567616e2c616e7377657265642c656e6465642c686f6c64732c63617573652c7374617475730a6f726967696e2c312c312c302c3230302c3430302c3\
+02c656e6465642c300a7465726d696e6174696e672c322c312c302c3230302c3430302c302c656e6465642c300a
 ~ The same call, and each time that rows are handed over the keeper fails.
 =keeps:3 4 6 8
 at 0 peer 1|INVITE sip:bob@home.example SIP/2.0|Via: SIP/2.0/UDP 127.0.0.1:5071;branch=z9hG4bKc1|Max-Forwards: 68|From: "Alice" <sip:alice@home.example>;tag=t1
@@ -127,7 +134,8 @@ fn failing_rows(rt: HostRuntime) {
     assert!(rt; wrong_run(rt.alloc(), FAILING) == 0);
 }
 
-/// What `charges` answers and writes over the keeper that the first run of these left: the numbers of the keeper's calls that fail, the status and the lines. The run makes five calls of the keeper, or six where the third fails; `charges` binds it and then asks for the rows, of which the keeper has two, also where it took them late.
+/// What `charges` answers and writes over the keeper that the first run of these left: the numbers of the keeper's calls that fail, the status and the lines. The run makes
+/// five calls of the keeper, or six where the third fails; `charges` binds it and then asks for the rows, of which the keeper has two, also where it took them late.
 const CHARGES: &str =
     "|0|kind,account,call,began,answered,ended,holds,cause,status;origin,1,1,0,200,400,0,ended,0;terminating,2,1,0,200,400,0,ended,0;
 3|0|kind,account,call,began,answered,ended,holds,cause,status;origin,1,1,0,200,400,0,ended,0;terminating,2,1,0,200,400,0,ended,0;

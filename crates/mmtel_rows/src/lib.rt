@@ -1,6 +1,8 @@
-//! Worked rows over the top call: words, files, a keeper and a sink in memory, with the status and the text that come of them; and tables over the calls right below it: of the server, and of what is read of events, decided of requests and built of them.
+//! Worked rows over the top call: words, files, a keeper and a sink in memory, with the status and the text that come of them; and tables over the calls right below it: of
+//! the server, and of what is read of events, decided of requests and built of them.
 //!
-//! What the contracts say needs no test. Here stand whole runs whose texts come from the standards and from the rules of the formats, and runs over files, keepers, links and sinks that fail, with memory enough, since a body that always answers want of memory meets its contract too.
+//! What the contracts say needs no test. Here stand whole runs whose texts come from the standards and from the rules of the formats, and runs over files, keepers, links
+//! and sinks that fail, with memory enough, since a body that always answers want of memory meets its contract too.
 #![tactic(auto)]
 
 #[cfg(test)]
@@ -16,9 +18,13 @@ mod devices;
 #[cfg(test)]
 mod digesting;
 #[cfg(test)]
+mod failing;
+#[cfg(test)]
 mod faults;
 #[cfg(test)]
 mod limits;
+#[cfg(test)]
+mod links;
 #[cfg(test)]
 mod openings;
 #[cfg(test)]
@@ -40,12 +46,18 @@ mod secrets;
 #[cfg(test)]
 mod served;
 #[cfg(test)]
+mod serves;
+#[cfg(test)]
 mod services;
 #[cfg(test)]
 mod serving;
+#[cfg(test)]
+mod settings;
 #[cfg(test)]
 mod steps;
 #[cfg(test)]
 mod uploads;
 #[cfg(test)]
 mod words;
+#[cfg(test)]
+mod workloads;

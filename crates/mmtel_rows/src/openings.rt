@@ -2,7 +2,7 @@
 
 use crate::cases::{two, wrong_run};
 use crate::pages::Page;
-use crate::runs::CONFIG;
+use crate::settings::CONFIG;
 use mmtel_cli::{MemoryKeeper, ScriptLink, Server, drive, listing, read_directory};
 use mmtel_scan::{List, Text};
 use std::alloc::Global;

@@ -1,6 +1,6 @@
 //! Texts in the making.
 
-use mmtel_scan::{Text, part, plain_number};
+use mmtel_scan::{Text, part, plain_number, skip_text};
 use std::alloc::Global;
 
 /// The first line, and what follows it.
@@ -98,21 +98,40 @@ impl Page {
         }
     }
 
-    /// Adds lines; each `|` begins one, wherever it stands.
+    /// Adds bytes, without the line ends before which a backslash stands.
+    fn add_joined(&mut self, bytes: &[u8]) {
+        let mut rest = bytes;
+        for _ in 0..100 {
+            match part(b'\\', rest) {
+                None => break,
+                Some((before, later)) => {
+                    self.add(before);
+                    let next = skip_text(b"\n", later);
+                    if next.is_none() {
+                        self.add(b"\\");
+                    }
+                    rest = next.unwrap_or(later);
+                }
+            }
+        }
+        self.add(rest);
+    }
+
+    /// Adds lines; each `|` begins one, wherever it stands, and a backslash at the end of a line joins it with the next.
     pub fn add_lines(&mut self, lines: &[u8]) {
         let mut rest = lines;
         for _ in 0..10_000 {
             match part(b'|', rest) {
                 None => break,
                 Some((line, later)) => {
-                    self.add(line);
+                    self.add_joined(line);
                     self.end_line();
                     self.add(b"|");
                     rest = later;
                 }
             }
         }
-        self.add(rest);
+        self.add_joined(rest);
     }
 
     /// Adds lines so many times.

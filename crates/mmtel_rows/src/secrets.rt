@@ -138,7 +138,8 @@ at 40 peer 2|INVITE sip:bob@far.example SIP/2.0|Via: SIP/2.0/UDP 127.0.0.1:5071;
 # one = ["sip:erin@other.example", "sip:frank@other.example"]
 # target = "sip:vm@far.example"
 at 0 web|PUT /simservs/2 HTTP/1.1|X-3GPP-Asserted-Identity: "sip:bob@home.example"|Content-Type: application/toml|Content-Length: 123|
-x5b5b636f6d6d756e69636174696f6e2d646976657273696f6e2e72756c655d5d0a6f6e65203d205b227369703a6572696e406f746865722e6578616d706c65222c20227369703a6672616e6b406f746865722e6578616d706c65225d0a746172676574203d20227369703a766d406661722e6578616d706c65220a
+x5b5b636f6d6d756e69636174696f6e2d646976657273696f6e2e72756c655d5d0a6f6e65203d205b227369703a6572696e406f746865722e6578616d706c65222c20227369703a6672616e6b406f746\
+865722e6578616d706c65225d0a746172676574203d20227369703a766d406661722e6578616d706c65220a
 at 0 peer 1|INVITE sip:bob@home.example SIP/2.0|Via: SIP/2.0/UDP 127.0.0.1:5071;branch=z9hG4bKa1|Max-Forwards: 68
 |From: "{Erin^Frank}" <sip:{erin^frank}@other.example>;tag=a|To: <sip:bob@home.example>|Call-ID: c1|CSeq: 7 INVITE|Contact: <sip:{erin^frank}@127.0.0.1:5071>
 |P-Asserted-Identity: <sip:{erin^frank}@other.example>|Privacy: id|Content-Length: 0|
@@ -157,7 +158,8 @@ at 0 peer 1|INVITE sip:bob@home.example SIP/2.0|Via: SIP/2.0/UDP 127.0.0.1:5071;
 # except = ["sip:gina@other.example"]
 # target = "sip:vm@far.example"
 at 0 web|PUT /simservs/2 HTTP/1.1|X-3GPP-Asserted-Identity: "sip:bob@home.example"|Content-Type: application/toml|Content-Length: 110|
-x5b5b636f6d6d756e69636174696f6e2d646976657273696f6e2e72756c655d5d0a6d616e79203d20222a220a657863657074203d205b227369703a67696e61406f746865722e6578616d706c65225d0a746172676574203d20227369703a766d406661722e6578616d706c65220a
+x5b5b636f6d6d756e69636174696f6e2d646976657273696f6e2e72756c655d5d0a6d616e79203d20222a220a657863657074203d205b227369703a67696e61406f746865722e6578616d706c65225d0\
+a746172676574203d20227369703a766d406661722e6578616d706c65220a
 at 0 peer 1|INVITE sip:bob@home.example SIP/2.0|Via: SIP/2.0/UDP 127.0.0.1:5071;branch=z9hG4bKa1|Max-Forwards: 68
 |From: "{Erin^Frank}" <sip:{erin^frank}@other.example>;tag=a|To: <sip:bob@home.example>|Call-ID: c1|CSeq: 7 INVITE|Contact: <sip:{erin^frank}@127.0.0.1:5071>
 |P-Asserted-Identity: <sip:{erin^frank}@other.example>|Privacy: id|Content-Length: 0|
@@ -168,7 +170,8 @@ at 0 peer 1|INVITE sip:bob@home.example SIP/2.0|Via: SIP/2.0/UDP 127.0.0.1:5071;
 # allow = false
 # one = ["sip:gina@other.example"]
 at 0 web|PUT /simservs/2 HTTP/1.1|X-3GPP-Asserted-Identity: "sip:bob@home.example"|Content-Type: application/toml|Content-Length: 150|
-x5b5b636f6d6d756e69636174696f6e2d646976657273696f6e2e72756c655d5d0a746172676574203d20227369703a766d406661722e6578616d706c65220a5b5b696e636f6d696e672d636f6d6d756e69636174696f6e2d62617272696e672e72756c655d5d0a616c6c6f77203d2066616c73650a6f6e65203d205b227369703a67696e61406f746865722e6578616d706c65225d0a
+x5b5b636f6d6d756e69636174696f6e2d646976657273696f6e2e72756c655d5d0a746172676574203d20227369703a766d406661722e6578616d706c65220a5b5b696e636f6d696e672d636f6d6d756\
+e69636174696f6e2d62617272696e672e72756c655d5d0a616c6c6f77203d2066616c73650a6f6e65203d205b227369703a67696e61406f746865722e6578616d706c65225d0a
 at 0 peer 1|INVITE sip:bob@home.example SIP/2.0|Via: SIP/2.0/UDP 127.0.0.1:5071;branch=z9hG4bKa1|Max-Forwards: 68
 |From: "{Erin^Frank}" <sip:{erin^frank}@other.example>;tag=a|To: <sip:bob@home.example>|Call-ID: c1|CSeq: 7 INVITE|Contact: <sip:{erin^frank}@127.0.0.1:5071>
 |P-Asserted-Identity: <sip:{erin^frank}@other.example>|Privacy: id|Content-Length: 0|
@@ -328,7 +331,8 @@ at 400 peer 1|BYE sip:127.0.0.1:5060 SIP/2.0|Via: SIP/2.0/UDP 127.0.0.1:5071;bra
 # [terminating-identity-presentation-restriction]
 # mode = "permanent"
 at 0 web|PUT /simservs/2 HTTP/1.1|X-3GPP-Asserted-Identity: "sip:bob@home.example"|Content-Type: application/toml|Content-Length: 111|
-x5b636f6d6d756e69636174696f6e2d646976657273696f6e5d0a6465666c656374696f6e203d20747275650a5b7465726d696e6174696e672d6964656e746974792d70726573656e746174696f6e2d7265737472696374696f6e5d0a6d6f6465203d20227065726d616e656e74220a
+x5b636f6d6d756e69636174696f6e2d646976657273696f6e5d0a6465666c656374696f6e203d20747275650a5b7465726d696e6174696e672d6964656e746974792d70726573656e746174696f6e2d7\
+265737472696374696f6e5d0a6d6f6465203d20227065726d616e656e74220a
 at 0 peer 2|INVITE sip:bob@home.example SIP/2.0|Via: SIP/2.0/UDP 127.0.0.1:5072;branch=z9hG4bKa1|Max-Forwards: 68|From: "Erin" <sip:erin@other.example>;tag=a
 |To: <sip:bob@home.example>|Call-ID: c1|CSeq: 7 INVITE|Contact: <sip:erin@127.0.0.1:5072>|Content-Length: 0|
 at 100 peer 1|SIP/2.0 302 Moved|Via: SIP/2.0/UDP 127.0.0.1:5060;branch=z9hG4bK0123456789abcdef-4|From: "Erin" <sip:erin@other.example>;tag=0123456789abcdef-3
@@ -365,7 +369,8 @@ at 0 peer 2|INVITE sip:bob@far.example SIP/2.0|Via: SIP/2.0/UDP 127.0.0.1:5072;b
 # one = ["sip:frank@other.example"]
 # target = "sip:vm@far.example"
 at 0 web|PUT /simservs/2 HTTP/1.1|X-3GPP-Asserted-Identity: "sip:bob@home.example"|Content-Type: application/toml|Content-Length: 97|
-x5b5b636f6d6d756e69636174696f6e2d646976657273696f6e2e72756c655d5d0a6f6e65203d205b227369703a6672616e6b406f746865722e6578616d706c65225d0a746172676574203d20227369703a766d406661722e6578616d706c65220a
+x5b5b636f6d6d756e69636174696f6e2d646976657273696f6e2e72756c655d5d0a6f6e65203d205b227369703a6672616e6b406f746865722e6578616d706c65225d0a746172676574203d202273697\
+03a766d406661722e6578616d706c65220a
 at 0 peer 1|INVITE sip:bob@home.example SIP/2.0|Via: SIP/2.0/UDP 127.0.0.1:5071;branch=z9hG4bKa1|Max-Forwards: 68
 |From: "{Erin^Frank}" <sip:{erin^frank}@other.example>;tag=a|To: <sip:bob@home.example>|Call-ID: c1|CSeq: 7 INVITE|Contact: <sip:{erin^frank}@127.0.0.1:5071>
 |P-Asserted-Identity: <sip:{erin^frank}@other.example>|Privacy: id|Content-Length: 0|
@@ -375,7 +380,8 @@ at 0 peer 1|INVITE sip:bob@home.example SIP/2.0|Via: SIP/2.0/UDP 127.0.0.1:5071;
 # except = ["sip:frank@other.example"]
 # target = "sip:vm@far.example"
 at 0 web|PUT /simservs/2 HTTP/1.1|X-3GPP-Asserted-Identity: "sip:bob@home.example"|Content-Type: application/toml|Content-Length: 111|
-x5b5b636f6d6d756e69636174696f6e2d646976657273696f6e2e72756c655d5d0a6d616e79203d20222a220a657863657074203d205b227369703a6672616e6b406f746865722e6578616d706c65225d0a746172676574203d20227369703a766d406661722e6578616d706c65220a
+x5b5b636f6d6d756e69636174696f6e2d646976657273696f6e2e72756c655d5d0a6d616e79203d20222a220a657863657074203d205b227369703a6672616e6b406f746865722e6578616d706c65225\
+d0a746172676574203d20227369703a766d406661722e6578616d706c65220a
 at 0 peer 1|INVITE sip:bob@home.example SIP/2.0|Via: SIP/2.0/UDP 127.0.0.1:5071;branch=z9hG4bKa1|Max-Forwards: 68
 |From: "{Erin^Frank}" <sip:{erin^frank}@other.example>;tag=a|To: <sip:bob@home.example>|Call-ID: c1|CSeq: 7 INVITE|Contact: <sip:{erin^frank}@127.0.0.1:5071>
 |P-Asserted-Identity: <sip:{erin^frank}@other.example>|Privacy: id|Content-Length: 0|
@@ -386,7 +392,8 @@ at 0 peer 1|INVITE sip:bob@home.example SIP/2.0|Via: SIP/2.0/UDP 127.0.0.1:5071;
 # allow = false
 # one = ["sip:frank@other.example"]
 at 0 web|PUT /simservs/2 HTTP/1.1|X-3GPP-Asserted-Identity: "sip:bob@home.example"|Content-Type: application/toml|Content-Length: 151|
-x5b5b636f6d6d756e69636174696f6e2d646976657273696f6e2e72756c655d5d0a746172676574203d20227369703a766d406661722e6578616d706c65220a5b5b696e636f6d696e672d636f6d6d756e69636174696f6e2d62617272696e672e72756c655d5d0a616c6c6f77203d2066616c73650a6f6e65203d205b227369703a6672616e6b406f746865722e6578616d706c65225d0a
+x5b5b636f6d6d756e69636174696f6e2d646976657273696f6e2e72756c655d5d0a746172676574203d20227369703a766d406661722e6578616d706c65220a5b5b696e636f6d696e672d636f6d6d756\
+e69636174696f6e2d62617272696e672e72756c655d5d0a616c6c6f77203d2066616c73650a6f6e65203d205b227369703a6672616e6b406f746865722e6578616d706c65225d0a
 at 0 peer 1|INVITE sip:bob@home.example SIP/2.0|Via: SIP/2.0/UDP 127.0.0.1:5071;branch=z9hG4bKa1|Max-Forwards: 68
 |From: "{Erin^Frank}" <sip:{erin^frank}@other.example>;tag=a|To: <sip:bob@home.example>|Call-ID: c1|CSeq: 7 INVITE|Contact: <sip:{erin^frank}@127.0.0.1:5071>
 |P-Asserted-Identity: <sip:{erin^frank}@other.example>|Privacy: id|Content-Length: 0|

@@ -113,7 +113,7 @@ at 17 web|GET /simservs/2 HTTP/1.1|X-3GPP-Asserted-Identity: "sip:bob@home.examp
 at 18 web|GET /charges HTTP/1.1|X-3GPP-Asserted-Identity: "sip:op@home.example"|
 at 19 web|GET /charges HTTP/1.1|X-3GPP-Asserted-Identity: "sip:op@home.example"|
 at 20 web|GET /charges HTTP/1.1|X-3GPP-Asserted-Identity: "sip:bob@home.example"|
-~ An upload is answered 200 where it was kept, and is in force from then on; where the keeper failed it is answered 503, and the record before it stands. Nothing that is refused is kept.
+~ An upload is answered 200 where it was kept, and is in force then; where the keeper failed 503, and the record before it stands. Nothing that is refused is kept.
 at 0 web|HTTP/1.1 200 OK|Content-Length: 0|Connection: close|
 at 1 web|HTTP/1.1 200 OK|Content-Length: 0|Connection: close|
 at 2 web|HTTP/1.1 200 OK|Content-Type: application/toml|Content-Length: 40|Connection: close||[communication-waiting]|active = true
@@ -224,14 +224,26 @@ const PARTS: &str = "|5|closed 4;
 6|4 9 9|open 4;fault 4;closed 4;
 ";
 
-/// Whether the ends of a row are those of driving over the first run, and the offers those of the whole run.
-fn is_driven(alloc: Global, script: &[u8], listing: &[u8], row: &[u8]) -> bool {
+/// The numbers of the link's calls that fail, for how many turns it is served, how that ends, and what the link was given. Call 5 reads the web connection, and calls 2, 3,
+/// 6 and 9 give.
+const GIVEN: &str =
+    "|9|closed;5071 SIP/2.0 100 Trying;5072 INVITE sip:bob@far.example SIP/2.0;5072 INVITE sip:bob@far.example SIP/2.0;HTTP/1.1 400 Bad Request;rows 0;
+|1|open;5071 SIP/2.0 100 Trying;5072 INVITE sip:bob@far.example SIP/2.0;rows 0;
+|0|open;rows 0;
+1|9|fault;rows 0;
+4|9|fault;5071 SIP/2.0 100 Trying;5072 INVITE sip:bob@far.example SIP/2.0;rows 0;
+3 5 6|9|closed;5071 SIP/2.0 100 Trying;5072 lost INVITE sip:bob@far.example SIP/2.0;5072 INVITE sip:bob@far.example SIP/2.0;lost HTTP/1.1 400 Bad Request;rows 0;
+";
+
+/// Whether it ends as a row says where that is set in front of the script, and then all of this is told.
+fn is_right(alloc: Global, set: &[u8], script: &[u8], listing: &[u8], row: &[u8]) -> bool {
     let (link, rest) = part(b'|', row).unwrap_or((row, b""));
     let (turns, ends) = part(b'|', rest).unwrap_or((rest, b""));
     let mut case = Page::new(alloc);
     case.add(b"=link:");
     case.add(link);
-    case.add(b"\n=turns:");
+    case.add(b"\n");
+    case.add(set);
     case.add(turns);
     case.add(b"\n");
     case.add(script);
@@ -241,14 +253,14 @@ fn is_driven(alloc: Global, script: &[u8], listing: &[u8], row: &[u8]) -> bool {
     !case.has_failed() && !due.has_failed() && writes(alloc, case.bytes(), due.bytes())
 }
 
-/// The number of the first row that is not right, from 1; 0 where each is, of a hundred at most.
-fn wrong_part(alloc: Global, script: &[u8], listing: &[u8], table: &[u8]) -> usize {
-    let mut rest = table;
+/// The number of the first row of a table that is not right, from 1; 0 where each is, of a hundred at most.
+fn wrong_part(alloc: Global, set: &[u8], script: &[u8], listing: &[u8], table: &str) -> usize {
+    let mut rest = table.as_bytes();
     for number in 0..100 {
         match part(b'\n', rest) {
             None => return 0,
             Some((row, later)) => {
-                if !is_driven(alloc, script, listing, row) {
+                if !is_right(alloc, set, script, listing, row) {
                     return number + 1;
                 }
                 rest = later;
@@ -258,12 +270,17 @@ fn wrong_part(alloc: Global, script: &[u8], listing: &[u8], table: &[u8]) -> usi
     100
 }
 
-/// A link whose first call fails, or a later one; turns that end before the link is closed; a link that is closed, again and again. Call 3 reads the web connection: that it fails ends the connection alone.
+/// A link whose first call fails, or a later one; turns that end before the link is closed; a link that is closed, again and again. Call 3 reads the web connection: that
+/// it fails ends the connection alone.
 #[test]
 fn parts_of_a_run(rt: HostRuntime) {
-    let wrong = match two(SERVED.as_bytes()) {
-        Some((script, listing, _)) => wrong_part(rt.alloc(), script, listing, PARTS.as_bytes()),
-        None => 1,
-    };
-    assert!(rt; wrong == 0);
+    let (script, listing, _) = two(SERVED.as_bytes()).unwrap_or((b"", b"", b""));
+    assert!(rt; wrong_part(rt.alloc(), b"=turns:", script, listing, PARTS) == 0);
+}
+
+/// A link that is closed; turns that end before that; a link whose first call fails, or the one after an event; one that loses a datagram and a reply.
+#[test]
+fn what_a_link_is_given(rt: HostRuntime) {
+    let (script, _, _) = two(SERVED.as_bytes()).unwrap_or((b"", b"", b""));
+    assert!(rt; wrong_part(rt.alloc(), b"=serve:", script, b"", GIVEN) == 0);
 }

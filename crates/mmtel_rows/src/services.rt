@@ -11,7 +11,8 @@ const PRESENTED: &str =
 # mode = "temporary"
 # default-behaviour = "presentation-restricted"
 at 0 web|PUT /simservs/1 HTTP/1.1|X-3GPP-Asserted-Identity: "sip:alice@home.example"|Content-Type: application/toml|Content-Length: 113|
-x5b6f726967696e6174696e672d6964656e746974792d70726573656e746174696f6e2d7265737472696374696f6e5d0a6d6f6465203d202274656d706f72617279220a64656661756c742d6265686176696f7572203d202270726573656e746174696f6e2d72657374726963746564220a
+x5b6f726967696e6174696e672d6964656e746974792d70726573656e746174696f6e2d7265737472696374696f6e5d0a6d6f6465203d202274656d706f72617279220a64656661756c742d626568617\
+6696f7572203d202270726573656e746174696f6e2d72657374726963746564220a
 at 0 peer 1|INVITE sip:bob@far.example SIP/2.0|Via: SIP/2.0/UDP 127.0.0.1:5071;branch=z9hG4bKc1|Max-Forwards: 68|From: "Alice" <sip:alice@home.example>;tag=t1
 |To: <sip:bob@far.example>|Call-ID: call1|CSeq: 7 INVITE|Contact: <sip:alice@127.0.0.1:5071>|P-Asserted-Identity: <sip:alice@home.example>|Privacy: none|Content-Length: 0
 |
@@ -27,7 +28,8 @@ at 0 to 2|INVITE sip:bob@far.example SIP/2.0|Via: SIP/2.0/UDP 127.0.0.1:5060;bra
 # mode = "permanent"
 # default-behaviour = "presentation-restricted"
 at 0 web|PUT /simservs/1 HTTP/1.1|X-3GPP-Asserted-Identity: "sip:alice@home.example"|Content-Type: application/toml|Content-Length: 113|
-x5b6f726967696e6174696e672d6964656e746974792d70726573656e746174696f6e2d7265737472696374696f6e5d0a6d6f6465203d20227065726d616e656e74220a64656661756c742d6265686176696f7572203d202270726573656e746174696f6e2d72657374726963746564220a
+x5b6f726967696e6174696e672d6964656e746974792d70726573656e746174696f6e2d7265737472696374696f6e5d0a6d6f6465203d20227065726d616e656e74220a64656661756c742d626568617\
+6696f7572203d202270726573656e746174696f6e2d72657374726963746564220a
 at 0 peer 1|INVITE sip:bob@far.example SIP/2.0|Via: SIP/2.0/UDP 127.0.0.1:5071;branch=z9hG4bKc1|Max-Forwards: 68|From: "Alice" <sip:alice@home.example>;tag=t1
 |To: <sip:bob@far.example>|Call-ID: call1|CSeq: 7 INVITE|Contact: <sip:alice@127.0.0.1:5071>|P-Asserted-Identity: <sip:alice@home.example>|Privacy: none|Content-Length: 0
 |
@@ -47,7 +49,9 @@ at 0 to 2|INVITE sip:bob@far.example SIP/2.0|Via: SIP/2.0/UDP 127.0.0.1:5060;bra
 # one = ["sip:alice@home.example"]
 # allow = true
 at 0 web|PUT /simservs/2 HTTP/1.1|X-3GPP-Asserted-Identity: "sip:bob@home.example"|Content-Type: application/toml|Content-Length: 184|
-x5b696e636f6d696e672d636f6d6d756e69636174696f6e2d62617272696e675d0a5b5b696e636f6d696e672d636f6d6d756e69636174696f6e2d62617272696e672e72756c655d5d0a6d616e79203d20222a220a616c6c6f77203d2066616c73650a5b5b696e636f6d696e672d636f6d6d756e69636174696f6e2d62617272696e672e72756c655d5d0a6f6e65203d205b227369703a616c69636540686f6d652e6578616d706c65225d0a616c6c6f77203d20747275650a
+x5b696e636f6d696e672d636f6d6d756e69636174696f6e2d62617272696e675d0a5b5b696e636f6d696e672d636f6d6d756e69636174696f6e2d62617272696e672e72756c655d5d0a6d616e79203d2\
+0222a220a616c6c6f77203d2066616c73650a5b5b696e636f6d696e672d636f6d6d756e69636174696f6e2d62617272696e672e72756c655d5d0a6f6e65203d205b227369703a616c69636540686f6d6\
+52e6578616d706c65225d0a616c6c6f77203d20747275650a
 at 0 peer 1|INVITE sip:bob@home.example SIP/2.0|Via: SIP/2.0/UDP 127.0.0.1:5071;branch=z9hG4bKc1|Max-Forwards: 68|From: "Alice" <sip:alice@home.example>;tag=t1
 |To: <sip:bob@home.example>|Call-ID: call1|CSeq: 7 INVITE|Contact: <sip:alice@127.0.0.1:5071>|P-Asserted-Identity: <sip:alice@home.example>|Content-Length: 0|
 ~ She gets through.
@@ -63,7 +67,8 @@ at 0 to 1|INVITE sip:bob@home.example SIP/2.0|Via: SIP/2.0/UDP 127.0.0.1:5060;br
 # many = "*"
 # allow = false
 at 0 web|PUT /simservs/2 HTTP/1.1|X-3GPP-Asserted-Identity: "sip:bob@home.example"|Content-Type: application/toml|Content-Length: 98|
-x5b696e636f6d696e672d636f6d6d756e69636174696f6e2d62617272696e675d0a5b5b696e636f6d696e672d636f6d6d756e69636174696f6e2d62617272696e672e72756c655d5d0a6d616e79203d20222a220a616c6c6f77203d2066616c73650a
+x5b696e636f6d696e672d636f6d6d756e69636174696f6e2d62617272696e675d0a5b5b696e636f6d696e672d636f6d6d756e69636174696f6e2d62617272696e672e72756c655d5d0a6d616e79203d2\
+0222a220a616c6c6f77203d2066616c73650a
 at 0 peer 1|INVITE sip:bob@home.example SIP/2.0|Via: SIP/2.0/UDP 127.0.0.1:5071;branch=z9hG4bKc1|Max-Forwards: 68|From: "Alice" <sip:alice@home.example>;tag=t1
 |To: <sip:bob@home.example>|Call-ID: call1|CSeq: 7 INVITE|Contact: <sip:alice@127.0.0.1:5071>|P-Asserted-Identity: <sip:alice@home.example>|Content-Length: 0|
 ~ 603.
@@ -79,7 +84,8 @@ at 0 to 1|SIP/2.0 603 Decline|Via: SIP/2.0/UDP 127.0.0.1:5071;branch=z9hG4bKc1|F
 # [incoming-communication-barring]
 # reject-anonymous = true
 at 0 web|PUT /simservs/2 HTTP/1.1|X-3GPP-Asserted-Identity: "sip:bob@home.example"|Content-Type: application/toml|Content-Length: 146|
-x5b636f6d6d756e69636174696f6e2d646976657273696f6e5d0a5b5b636f6d6d756e69636174696f6e2d646976657273696f6e2e72756c655d5d0a746172676574203d20227369703a766d406661722e6578616d706c65220a5b696e636f6d696e672d636f6d6d756e69636174696f6e2d62617272696e675d0a72656a6563742d616e6f6e796d6f7573203d20747275650a
+x5b636f6d6d756e69636174696f6e2d646976657273696f6e5d0a5b5b636f6d6d756e69636174696f6e2d646976657273696f6e2e72756c655d5d0a746172676574203d20227369703a766d406661722\
+e6578616d706c65220a5b696e636f6d696e672d636f6d6d756e69636174696f6e2d62617272696e675d0a72656a6563742d616e6f6e796d6f7573203d20747275650a
 at 0 peer 1|INVITE sip:bob@home.example SIP/2.0|Via: SIP/2.0/UDP 127.0.0.1:5071;branch=z9hG4bKc1|Max-Forwards: 68|From: "Erin" <sip:erin@other.example>;tag=t1
 |To: <sip:bob@home.example>|Call-ID: call1|CSeq: 7 INVITE|Contact: <sip:erin@127.0.0.1:5071>|P-Asserted-Identity: <sip:erin@other.example>|Privacy: id|Content-Length: 0|
 ~ 433, and no 181: the rejection comes first.
@@ -153,13 +159,15 @@ const DIVERTED: &str =
 # [[communication-diversion.rule]]
 # target = "sip:carol@home.example"
 at 0 web|PUT /simservs/2 HTTP/1.1|X-3GPP-Asserted-Identity: "sip:bob@home.example"|Content-Type: application/toml|Content-Length: 93|
-x5b636f6d6d756e69636174696f6e2d646976657273696f6e5d0a5b5b636f6d6d756e69636174696f6e2d646976657273696f6e2e72756c655d5d0a746172676574203d20227369703a6361726f6c40686f6d652e6578616d706c65220a
+x5b636f6d6d756e69636174696f6e2d646976657273696f6e5d0a5b5b636f6d6d756e69636174696f6e2d646976657273696f6e2e72756c655d5d0a746172676574203d20227369703a6361726f6c406\
+86f6d652e6578616d706c65220a
 # [communication-diversion]
 # [[communication-diversion.rule]]
 # busy = true
 # target = "sip:vm@far.example"
 at 0 web|PUT /simservs/3 HTTP/1.1|X-3GPP-Asserted-Identity: "sip:carol@home.example"|Content-Type: application/toml|Content-Length: 101|
-x5b636f6d6d756e69636174696f6e2d646976657273696f6e5d0a5b5b636f6d6d756e69636174696f6e2d646976657273696f6e2e72756c655d5d0a62757379203d20747275650a746172676574203d20227369703a766d406661722e6578616d706c65220a
+x5b636f6d6d756e69636174696f6e2d646976657273696f6e5d0a5b5b636f6d6d756e69636174696f6e2d646976657273696f6e2e72756c655d5d0a62757379203d20747275650a746172676574203d2\
+0227369703a766d406661722e6578616d706c65220a
 at 0 peer 1|INVITE sip:carol@home.example SIP/2.0|Via: SIP/2.0/UDP 127.0.0.1:5071;branch=z9hG4bKc1|Max-Forwards: 68|From: "Erin" <sip:erin@other.example>;tag=t1
 |To: <sip:carol@home.example>|Call-ID: call1|CSeq: 7 INVITE|Contact: <sip:erin@127.0.0.1:5071>|P-Asserted-Identity: <sip:erin@other.example>|Content-Length: 0|
 at 0 peer 1|INVITE sip:bob@home.example SIP/2.0|Via: SIP/2.0/UDP 127.0.0.1:5071;branch=z9hG4bKc2|Max-Forwards: 68|From: "Alice" <sip:alice@home.example>;tag=t2
@@ -190,7 +198,8 @@ at 0 to 2|INVITE sip:vm@far.example;cause=486 SIP/2.0|Via: SIP/2.0/UDP 127.0.0.1
 # no-answer = true
 # target = "sip:vm@far.example"
 at 0 web|PUT /simservs/2 HTTP/1.1|X-3GPP-Asserted-Identity: "sip:bob@home.example"|Content-Type: application/toml|Content-Length: 106|
-x5b636f6d6d756e69636174696f6e2d646976657273696f6e5d0a5b5b636f6d6d756e69636174696f6e2d646976657273696f6e2e72756c655d5d0a6e6f2d616e73776572203d20747275650a746172676574203d20227369703a766d406661722e6578616d706c65220a
+x5b636f6d6d756e69636174696f6e2d646976657273696f6e5d0a5b5b636f6d6d756e69636174696f6e2d646976657273696f6e2e72756c655d5d0a6e6f2d616e73776572203d20747275650a7461726\
+76574203d20227369703a766d406661722e6578616d706c65220a
 at 0 peer 1|INVITE sip:bob@home.example SIP/2.0|Via: SIP/2.0/UDP 127.0.0.1:5071;branch=z9hG4bKc1|Max-Forwards: 68|From: "Alice" <sip:alice@home.example>;tag=t1
 |To: <sip:bob@home.example>|Call-ID: call1|CSeq: 7 INVITE|Contact: <sip:alice@127.0.0.1:5071>|P-Asserted-Identity: <sip:alice@home.example>|Content-Length: 0|
 at 100 peer 1|SIP/2.0 180 Ringing|Via: SIP/2.0/UDP 127.0.0.1:5060;branch=z9hG4bK0123456789abcdef-4|From: "Alice" <sip:alice@home.example>;tag=0123456789abcdef-3
@@ -221,7 +230,8 @@ at 20100 to 2|INVITE sip:vm@far.example;cause=408 SIP/2.0|Via: SIP/2.0/UDP 127.0
 # busy = true
 # target = "sip:vm@far.example"
 at 0 web|PUT /simservs/2 HTTP/1.1|X-3GPP-Asserted-Identity: "sip:bob@home.example"|Content-Type: application/toml|Content-Length: 101|
-x5b636f6d6d756e69636174696f6e2d646976657273696f6e5d0a5b5b636f6d6d756e69636174696f6e2d646976657273696f6e2e72756c655d5d0a62757379203d20747275650a746172676574203d20227369703a766d406661722e6578616d706c65220a
+x5b636f6d6d756e69636174696f6e2d646976657273696f6e5d0a5b5b636f6d6d756e69636174696f6e2d646976657273696f6e2e72756c655d5d0a62757379203d20747275650a746172676574203d2\
+0227369703a766d406661722e6578616d706c65220a
 at 0 peer 1|INVITE sip:bob@home.example SIP/2.0|Via: SIP/2.0/UDP 127.0.0.1:5071;branch=z9hG4bKc1|Max-Forwards: 68|From: "Erin" <sip:erin@other.example>;tag=t1
 |To: <sip:bob@home.example>|Call-ID: call1|CSeq: 7 INVITE|Contact: <sip:erin@127.0.0.1:5071>|P-Asserted-Identity: <sip:erin@other.example>|Content-Length: 0|
 at 0 peer 1|INVITE sip:bob@home.example SIP/2.0|Via: SIP/2.0/UDP 127.0.0.1:5071;branch=z9hG4bKc2|Max-Forwards: 68|From: "Alice" <sip:alice@home.example>;tag=t2
@@ -263,7 +273,8 @@ at 0 to 1|SIP/2.0 480 Temporarily Unavailable|Via: SIP/2.0/UDP 127.0.0.1:5071;br
 # busy = true
 # target = "sip:vm@far.example"
 at 0 web|PUT /simservs/2 HTTP/1.1|X-3GPP-Asserted-Identity: "sip:bob@home.example"|Content-Type: application/toml|Content-Length: 101|
-x5b636f6d6d756e69636174696f6e2d646976657273696f6e5d0a5b5b636f6d6d756e69636174696f6e2d646976657273696f6e2e72756c655d5d0a62757379203d20747275650a746172676574203d20227369703a766d406661722e6578616d706c65220a
+x5b636f6d6d756e69636174696f6e2d646976657273696f6e5d0a5b5b636f6d6d756e69636174696f6e2d646976657273696f6e2e72756c655d5d0a62757379203d20747275650a746172676574203d2\
+0227369703a766d406661722e6578616d706c65220a
 at 0 peer 1|INVITE sip:bob@home.example SIP/2.0|Via: SIP/2.0/UDP 127.0.0.1:5071;branch=z9hG4bKc1|Max-Forwards: 68|From: "Erin" <sip:erin@other.example>;tag=t1
 |To: <sip:bob@home.example>|Call-ID: call1|CSeq: 7 INVITE|Contact: <sip:erin@127.0.0.1:5071>|P-Asserted-Identity: <sip:erin@other.example>|Content-Length: 0|
 at 0 peer 1|INVITE sip:bob@home.example SIP/2.0|Via: SIP/2.0/UDP 127.0.0.1:5071;branch=z9hG4bKc2|Max-Forwards: 68|From: "Alice" <sip:alice@home.example>;tag=t2
@@ -318,7 +329,8 @@ at 0 to 2|INVITE sip:vm@far.example;cause=302 SIP/2.0|Via: SIP/2.0/UDP 127.0.0.1
 # [[communication-diversion.rule]]
 # target = "sip:bob@home.example"
 at 0 web|PUT /simservs/2 HTTP/1.1|X-3GPP-Asserted-Identity: "sip:bob@home.example"|Content-Type: application/toml|Content-Length: 91|
-x5b636f6d6d756e69636174696f6e2d646976657273696f6e5d0a5b5b636f6d6d756e69636174696f6e2d646976657273696f6e2e72756c655d5d0a746172676574203d20227369703a626f6240686f6d652e6578616d706c65220a
+x5b636f6d6d756e69636174696f6e2d646976657273696f6e5d0a5b5b636f6d6d756e69636174696f6e2d646976657273696f6e2e72756c655d5d0a746172676574203d20227369703a626f6240686f6\
+d652e6578616d706c65220a
 at 0 peer 1|INVITE sip:bob@home.example SIP/2.0|Via: SIP/2.0/UDP 127.0.0.1:5071;branch=z9hG4bKc1|Max-Forwards: 68|From: "Alice" <sip:alice@home.example>;tag=t1
 |To: <sip:bob@home.example>|Call-ID: call1|CSeq: 7 INVITE|Contact: <sip:alice@127.0.0.1:5071>|P-Asserted-Identity: <sip:alice@home.example>|Content-Length: 0|
 ~ Five 181, and then 480.
@@ -352,7 +364,8 @@ at 0 to 1|SIP/2.0 480 Temporarily Unavailable|Via: SIP/2.0/UDP 127.0.0.1:5071;br
 # not-reachable = true
 # target = "sip:vm@far.example"
 at 0 web|PUT /simservs/2 HTTP/1.1|X-3GPP-Asserted-Identity: "sip:bob@home.example"|Content-Type: application/toml|Content-Length: 110|
-x5b636f6d6d756e69636174696f6e2d646976657273696f6e5d0a5b5b636f6d6d756e69636174696f6e2d646976657273696f6e2e72756c655d5d0a6e6f742d726561636861626c65203d20747275650a746172676574203d20227369703a766d406661722e6578616d706c65220a
+x5b636f6d6d756e69636174696f6e2d646976657273696f6e5d0a5b5b636f6d6d756e69636174696f6e2d646976657273696f6e2e72756c655d5d0a6e6f742d726561636861626c65203d20747275650\
+a746172676574203d20227369703a766d406661722e6578616d706c65220a
 at 0 peer 1|INVITE sip:bob@home.example SIP/2.0|Via: SIP/2.0/UDP 127.0.0.1:5071;branch=z9hG4bKc1|Max-Forwards: 68|From: "Alice" <sip:alice@home.example>;tag=t1
 |To: <sip:bob@home.example>|Call-ID: call1|CSeq: 7 INVITE|Contact: <sip:alice@127.0.0.1:5071>|P-Asserted-Identity: <sip:alice@home.example>|Content-Length: 0|
 at 40000 quiet
@@ -469,7 +482,8 @@ at 450 to 1|INVITE sip:bob@home.example SIP/2.0|Via: SIP/2.0/UDP 127.0.0.1:5060;
 # not-registered = true
 # target = "sip:vm@far.example"
 at 0 web|PUT /simservs/2 HTTP/1.1|X-3GPP-Asserted-Identity: "sip:bob@home.example"|Content-Type: application/toml|Content-Length: 111|
-x5b636f6d6d756e69636174696f6e2d646976657273696f6e5d0a5b5b636f6d6d756e69636174696f6e2d646976657273696f6e2e72756c655d5d0a6e6f742d72656769737465726564203d20747275650a746172676574203d20227369703a766d406661722e6578616d706c65220a
+x5b636f6d6d756e69636174696f6e2d646976657273696f6e5d0a5b5b636f6d6d756e69636174696f6e2d646976657273696f6e2e72756c655d5d0a6e6f742d72656769737465726564203d207472756\
+50a746172676574203d20227369703a766d406661722e6578616d706c65220a
 at 0 peer 1|REGISTER sip:home.example SIP/2.0|Via: SIP/2.0/UDP 127.0.0.1:5071;branch=z9hG4bKreg|Max-Forwards: 68|From: <sip:scscf@home.example>;tag=r
 |To: <sip:bob@home.example>|Call-ID: reg1|CSeq: 1 REGISTER|Expires: 0|Content-Length: 0|
 at 2000 peer 1|INVITE sip:bob@home.example SIP/2.0|Via: SIP/2.0/UDP 127.0.0.1:5071;branch=z9hG4bKc1|Max-Forwards: 68|From: "Alice" <sip:alice@home.example>;tag=t1
@@ -563,7 +577,8 @@ at 100 to 1|SIP/2.0 480 Temporarily Unavailable|Via: SIP/2.0/UDP 127.0.0.1:5071;
 # [[communication-diversion.rule]]
 # target = "sip:vm@far.example;cause=486;x=y"
 at 0 web|PUT /simservs/2 HTTP/1.1|X-3GPP-Asserted-Identity: "sip:bob@home.example"|Content-Type: application/toml|Content-Length: 103|
-x5b636f6d6d756e69636174696f6e2d646976657273696f6e5d0a5b5b636f6d6d756e69636174696f6e2d646976657273696f6e2e72756c655d5d0a746172676574203d20227369703a766d406661722e6578616d706c653b63617573653d3438363b783d79220a
+x5b636f6d6d756e69636174696f6e2d646976657273696f6e5d0a5b5b636f6d6d756e69636174696f6e2d646976657273696f6e2e72756c655d5d0a746172676574203d20227369703a766d406661722\
+e6578616d706c653b63617573653d3438363b783d79220a
 at 1 peer 1|INVITE sip:bob@home.example SIP/2.0|Via: SIP/2.0/UDP 127.0.0.1:5071;branch=z9hG4bKh|Max-Forwards: 70|From: "Erin" <sip:erin@other.example>;tag=a
 |To: <sip:bob@home.example>|Call-ID: c1|CSeq: 1 INVITE|Contact: <sip:x@127.0.0.1:5071>|P-Asserted-Identity: <sip:erin@other.example>
 |History-Info: <sip:h1@home.example>;index=1.1|History-Info: <sip:h2@home.example>;index=1.2|History-Info: <sip:h3@home.example>;index=1.3

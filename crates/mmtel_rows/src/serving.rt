@@ -1,57 +1,24 @@
 //! A server: its steps over a keeper in memory, and driving it over a link in memory, whose calls fail by their numbers.
 //!
-//! Of the settings of `runs` a script may begin with `=config:`, `=further:`, `=keeps:` and `=record:`, which says what was loaded. `=peer:` is one more peer of the script, whom the server does not know. With `=turns:` the server is driven so many turns each time, over a link of whose calls those fail that `=link:` says, and how it ended is told, with how many offers there are then; else it takes a step for each event. Then the listing, how many rows wait, and the records that the keeper holds are told, CR as `^`.
+//! Of the settings of `settings` a script may begin with `=config:`, `=further:`, `=keeps:` and `=record:`, which says what was loaded. `=peer:` is one more peer of the
+//! script, whom the server does not know. With `=turns:` the server is driven so many turns each time, over a link of whose calls those fail that `=link:` says, and how it
+//! ended is told, with how many offers there are then; with `=serve:` it serves such a link for so many turns, and how that ended is told and the first line of all that
+//! the link was given: each datagram behind the port that it goes to, and then the replies; else it takes a step for each event. Then the listing, how many rows wait, and
+//! the records that the keeper holds are told, CR as `^`.
 
 ghost use Rattle.std.specs.Prelude.{◌≤◌, IfSome};
 
+use crate::links::{heard, link_of, tell_link};
 use crate::pages::Page;
-use crate::runs::{behind_settings, config, first_setting, named, numbers, setting, value};
+use crate::settings::{config, first_setting, named, numbers, setting};
 use mmtel_cli::{
-    Directory, DriveFault, Event, Keeper, MemoryKeeper, Offer, ScriptLink, Server, drive, listing,
+    Directory, DriveFault, Event, Keeper, MemoryKeeper, Offer, Server, drive, listing,
     read_directory,
 };
 use mmtel_link::MemoryLink;
 use mmtel_scan::{List, Text, plain_number, skip_text};
+use mmtel_serve::serve;
 use mmtel_types::Account;
-
-/// What is heard.
-fn heard(page: &mut Page, script: &[u8]) -> Option<ScriptLink> {
-    let mut text = config(page, script);
-    text.add_short(value(script, b"peer:"));
-    let directory = read_directory(page.alloc, text.bytes());
-    let directory = page.noted(directory)?;
-    let mut lines = Page::new(page.alloc);
-    lines.add_script(behind_settings(script), true);
-    let link = ScriptLink::read(page.alloc, lines.bytes(), &directory.peers);
-    page.noted(link)
-}
-
-fn copy(page: &mut Page, event: &Event) -> Event {
-    match event {
-        Event::Datagram { from, at, bytes } => Event::Datagram {
-            from: *from,
-            at: *at,
-            bytes: page.copy(bytes.bytes()),
-        },
-        Event::Web { at, bytes } => Event::Web {
-            at: *at,
-            bytes: page.copy(bytes.bytes()),
-        },
-        Event::Quiet { at } => Event::Quiet { at: *at },
-    }
-}
-
-/// The same events, for another link.
-fn copies(page: &mut Page, events: &[Event]) -> List<Event> {
-    let mut list = List::new();
-    for event in events {
-        let copied = copy(page, event);
-        if list.push(page.alloc, copied).is_err() {
-            page.fail();
-        }
-    }
-    list
-}
 
 fn add_record(page: &mut Page, texts: &mut List<(Account, Text)>, record: &[u8]) {
     let (digits, text) = named(page, record);
@@ -69,7 +36,7 @@ fn add_record(page: &mut Page, texts: &mut List<(Account, Text)>, record: &[u8])
 fn loaded(page: &mut Page, script: &[u8]) -> List<(Account, Text)> {
     let mut texts = List::new();
     let mut rest = script;
-    for _ in 0..9 {
+    for _ in 0..12 {
         match first_setting(rest) {
             None => break,
             Some((line, later)) => {
@@ -128,12 +95,31 @@ fn drive_all(
     keeper: &mut MemoryKeeper,
     out: &mut List<Offer>,
 ) {
-    let events = copies(page, events);
-    let mut link = MemoryLink::new(events, numbers(page, script, b"link:"));
+    let mut link = link_of(page, script, events);
     let turns = numbers(page, script, b"turns:");
     for turn in turns.items() {
         drive_on(page, server, &mut link, keeper, *turn, out);
     }
+}
+
+/// Serves a link for so many turns.
+fn serve_on(
+    page: &mut Page,
+    script: &[u8],
+    turns: &[u8],
+    events: &[Event],
+    server: &mut Server,
+    keeper: &mut MemoryKeeper,
+) {
+    let mut link = link_of(page, script, events);
+    let turns = plain_number(99, turns).unwrap_or(0);
+    match serve(page.alloc, server, &mut link, keeper, turns) {
+        Ok(true) => page.add(b"closed\n"),
+        Ok(false) => page.add(b"open\n"),
+        Err(DriveFault::LinkFault) => page.add(b"fault\n"),
+        Err(DriveFault::NoMemory) => page.fail(),
+    }
+    tell_link(page, &link, false);
 }
 
 /// Takes a step for each event.
@@ -180,6 +166,8 @@ fn tell_server(page: &mut Page, script: &[u8], events: &[Event], server: Server)
     let mut out = List::new();
     if setting(script, b"turns:").is_some() {
         drive_all(page, script, events, &mut server, &mut keeper, &mut out);
+    } else if let Some(turns) = setting(script, b"serve:") {
+        serve_on(page, script, turns, events, &mut server, &mut keeper);
     } else {
         step_all(page, events, &mut server, &mut keeper, &mut out);
     }
@@ -192,7 +180,7 @@ fn tell_server(page: &mut Page, script: &[u8], events: &[Event], server: Server)
 }
 
 /// Tells what a server does that hears a script, behind the status 0.
-pub fn serve(page: &mut Page, script: &[u8]) {
+pub fn tell_served(page: &mut Page, script: &[u8]) {
     page.add(b"0\n");
     if let Some(heard) = heard(page, script) {
         match server(page, script) {

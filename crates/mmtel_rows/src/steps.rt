@@ -41,7 +41,8 @@ at 50 to 1|SIP/2.0 480 Gone Fishing|Via: SIP/2.0/UDP 127.0.0.1:5071;branch=z9hG4
 # not-reachable = true
 # target = "sip:vm@far.example"
 at 0 web|PUT /simservs/2 HTTP/1.1|X-3GPP-Asserted-Identity: "sip:bob@home.example"|Content-Type: application/toml|Content-Length: 110|
-x5b636f6d6d756e69636174696f6e2d646976657273696f6e5d0a5b5b636f6d6d756e69636174696f6e2d646976657273696f6e2e72756c655d5d0a6e6f742d726561636861626c65203d20747275650a746172676574203d20227369703a766d406661722e6578616d706c65220a
+x5b636f6d6d756e69636174696f6e2d646976657273696f6e5d0a5b5b636f6d6d756e69636174696f6e2d646976657273696f6e2e72756c655d5d0a6e6f742d726561636861626c65203d20747275650\
+a746172676574203d20227369703a766d406661722e6578616d706c65220a
 at 0 peer 1|INVITE sip:bob@home.example SIP/2.0|Via: SIP/2.0/UDP 127.0.0.1:5071;branch=z9hG4bKc1|Max-Forwards: 68|From: "Alice" <sip:alice@home.example>;tag=t1
 |To: <sip:bob@home.example>|Call-ID: call1|CSeq: 7 INVITE|Contact: <sip:alice@127.0.0.1:5071>|P-Asserted-Identity: <sip:alice@home.example>|Content-Length: 0|
 at 50 peer 1|SIP/2.0 503 No|Via: SIP/2.0/UDP 127.0.0.1:5060;branch=z9hG4bK0123456789abcdef-4|From: "Alice" <sip:alice@home.example>;tag=0123456789abcdef-3
@@ -67,7 +68,8 @@ at 50 to 2|INVITE sip:vm@far.example;cause=503 SIP/2.0|Via: SIP/2.0/UDP 127.0.0.
 # not-reachable = true
 # target = "sip:vm@far.example"
 at 0 web|PUT /simservs/2 HTTP/1.1|X-3GPP-Asserted-Identity: "sip:bob@home.example"|Content-Type: application/toml|Content-Length: 110|
-x5b636f6d6d756e69636174696f6e2d646976657273696f6e5d0a5b5b636f6d6d756e69636174696f6e2d646976657273696f6e2e72756c655d5d0a6e6f742d726561636861626c65203d20747275650a746172676574203d20227369703a766d406661722e6578616d706c65220a
+x5b636f6d6d756e69636174696f6e2d646976657273696f6e5d0a5b5b636f6d6d756e69636174696f6e2d646976657273696f6e2e72756c655d5d0a6e6f742d726561636861626c65203d20747275650\
+a746172676574203d20227369703a766d406661722e6578616d706c65220a
 at 0 peer 1|INVITE sip:bob@home.example SIP/2.0|Via: SIP/2.0/UDP 127.0.0.1:5071;branch=z9hG4bKc1|Max-Forwards: 68|From: "Alice" <sip:alice@home.example>;tag=t1
 |To: <sip:bob@home.example>|Call-ID: call1|CSeq: 7 INVITE|Contact: <sip:alice@127.0.0.1:5071>|P-Asserted-Identity: <sip:alice@home.example>|Content-Length: 0|
 at 100 peer 1|SIP/2.0 180 Ringing|Via: SIP/2.0/UDP 127.0.0.1:5060;branch=z9hG4bK0123456789abcdef-4|From: "Alice" <sip:alice@home.example>;tag=0123456789abcdef-3
@@ -1016,7 +1018,8 @@ at 400 to 1|BYE sip:fork@127.0.0.1:5071 SIP/2.0|Via: SIP/2.0/UDP 127.0.0.1:5060;
 # no-answer = true
 # target = "sip:vm@far.example"
 at 0 web|PUT /simservs/2 HTTP/1.1|X-3GPP-Asserted-Identity: "sip:bob@home.example"|Content-Type: application/toml|Content-Length: 106|
-x5b636f6d6d756e69636174696f6e2d646976657273696f6e5d0a5b5b636f6d6d756e69636174696f6e2d646976657273696f6e2e72756c655d5d0a6e6f2d616e73776572203d20747275650a746172676574203d20227369703a766d406661722e6578616d706c65220a
+x5b636f6d6d756e69636174696f6e2d646976657273696f6e5d0a5b5b636f6d6d756e69636174696f6e2d646976657273696f6e2e72756c655d5d0a6e6f2d616e73776572203d20747275650a7461726\
+76574203d20227369703a766d406661722e6578616d706c65220a
 at 0 peer 1|INVITE sip:bob@home.example SIP/2.0|Via: SIP/2.0/UDP 127.0.0.1:5071;branch=z9hG4bKc1|Max-Forwards: 68|From: "Alice" <sip:alice@home.example>;tag=t1
 |To: <sip:bob@home.example>|Call-ID: call1|CSeq: 7 INVITE|Contact: <sip:alice@127.0.0.1:5071>|P-Asserted-Identity: <sip:alice@home.example>|Content-Length: 0|
 at 100 peer 1|SIP/2.0 180 Ringing|Via: SIP/2.0/UDP 127.0.0.1:5060;branch=z9hG4bK0123456789abcdef-4|From: "Alice" <sip:alice@home.example>;tag=0123456789abcdef-3
@@ -1237,7 +1240,8 @@ at 100 to 1|SIP/2.0 181 Forwarded Again|Via: SIP/2.0/UDP 127.0.0.1:5071;branch=z
 # reveal-served-user-identity-to-caller = false
 # target = "sip:carol@home.example"
 at 0 web|PUT /simservs/2 HTTP/1.1|X-3GPP-Asserted-Identity: "sip:bob@home.example"|Content-Type: application/toml|Content-Length: 139|
-x5b636f6d6d756e69636174696f6e2d646976657273696f6e5d0a5b5b636f6d6d756e69636174696f6e2d646976657273696f6e2e72756c655d5d0a72657665616c2d7365727665642d757365722d6964656e746974792d746f2d63616c6c6572203d2066616c73650a746172676574203d20227369703a6361726f6c40686f6d652e6578616d706c65220a
+x5b636f6d6d756e69636174696f6e2d646976657273696f6e5d0a5b5b636f6d6d756e69636174696f6e2d646976657273696f6e2e72756c655d5d0a72657665616c2d7365727665642d757365722d696\
+4656e746974792d746f2d63616c6c6572203d2066616c73650a746172676574203d20227369703a6361726f6c40686f6d652e6578616d706c65220a
 # [communication-diversion]
 # [[communication-diversion.rule]]
 # target = "sip:vm@far.example"
@@ -1265,7 +1269,8 @@ at 0 to 2|INVITE sip:vm@far.example;cause=302 SIP/2.0|Via: SIP/2.0/UDP 127.0.0.1
 # [[communication-diversion.rule]]
 # target = "sip:carol@home.example"
 at 0 web|PUT /simservs/2 HTTP/1.1|X-3GPP-Asserted-Identity: "sip:bob@home.example"|Content-Type: application/toml|Content-Length: 93|
-x5b636f6d6d756e69636174696f6e2d646976657273696f6e5d0a5b5b636f6d6d756e69636174696f6e2d646976657273696f6e2e72756c655d5d0a746172676574203d20227369703a6361726f6c40686f6d652e6578616d706c65220a
+x5b636f6d6d756e69636174696f6e2d646976657273696f6e5d0a5b5b636f6d6d756e69636174696f6e2d646976657273696f6e2e72756c655d5d0a746172676574203d20227369703a6361726f6c406\
+86f6d652e6578616d706c65220a
 # [communication-diversion]
 # [[communication-diversion.rule]]
 # target = "sip:vm@far.example"
@@ -1287,7 +1292,8 @@ at 0 to 1|INVITE sip:bob@home.example SIP/2.0|Via: SIP/2.0/UDP 127.0.0.1:5060;br
 # [[communication-diversion.rule]]
 # target = "sip:carol@home.example"
 at 0 web|PUT /simservs/2 HTTP/1.1|X-3GPP-Asserted-Identity: "sip:bob@home.example"|Content-Type: application/toml|Content-Length: 93|
-x5b636f6d6d756e69636174696f6e2d646976657273696f6e5d0a5b5b636f6d6d756e69636174696f6e2d646976657273696f6e2e72756c655d5d0a746172676574203d20227369703a6361726f6c40686f6d652e6578616d706c65220a
+x5b636f6d6d756e69636174696f6e2d646976657273696f6e5d0a5b5b636f6d6d756e69636174696f6e2d646976657273696f6e2e72756c655d5d0a746172676574203d20227369703a6361726f6c406\
+86f6d652e6578616d706c65220a
 # [communication-diversion]
 # [[communication-diversion.rule]]
 # target = "sip:vm@far.example"
@@ -1352,7 +1358,8 @@ at 0 to 1|INVITE sip:+4977@home.example;user=phone;cause=302 SIP/2.0|Via: SIP/2.
 # reveal-identity-to-caller = false
 # target = "sip:vm@far.example"
 at 0 web|PUT /simservs/2 HTTP/1.1|X-3GPP-Asserted-Identity: "sip:bob@home.example"|Content-Type: application/toml|Content-Length: 157|
-x5b636f6d6d756e69636174696f6e2d646976657273696f6e5d0a5b5b636f6d6d756e69636174696f6e2d646976657273696f6e2e72756c655d5d0a72657665616c2d6964656e746974792d746f2d746172676574203d2066616c73650a72657665616c2d6964656e746974792d746f2d63616c6c6572203d2066616c73650a746172676574203d20227369703a766d406661722e6578616d706c65220a
+x5b636f6d6d756e69636174696f6e2d646976657273696f6e5d0a5b5b636f6d6d756e69636174696f6e2d646976657273696f6e2e72756c655d5d0a72657665616c2d6964656e746974792d746f2d746\
+172676574203d2066616c73650a72657665616c2d6964656e746974792d746f2d63616c6c6572203d2066616c73650a746172676574203d20227369703a766d406661722e6578616d706c65220a
 at 0 peer 1|INVITE sip:bob@home.example SIP/2.0|Via: SIP/2.0/UDP 127.0.0.1:5071;branch=z9hG4bKc1|Max-Forwards: 68|From: "Alice" <sip:alice@home.example>;tag=t1
 |To: <sip:bob@home.example>|Call-ID: call1|CSeq: 7 INVITE|Contact: <sip:alice@127.0.0.1:5071>|P-Asserted-Identity: <sip:alice@home.example>|Content-Length: 0|
 ~ His entry is hidden from his target; in the 181 to a trusted peer both are marked.

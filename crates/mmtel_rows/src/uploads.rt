@@ -1,4 +1,5 @@
-//! Records over HTTP (3GPP TS 24.623 §5; RFC 9110 §9.3 and §15): who may read, put and delete one, what is refused and with which status, and that one is in force exactly where the keeper stored it.
+//! Records over HTTP (3GPP TS 24.623 §5; RFC 9110 §9.3 and §15): who may read, put and delete one, what is refused and with which status, and that one is in force exactly
+//! where the keeper stored it.
 
 use crate::cases::wrong_run;
 
@@ -24,7 +25,7 @@ at 3 web|HTTP/1.1 403 Forbidden|Content-Length: 0|Connection: close|
 at 4 web|HTTP/1.1 403 Forbidden|Content-Length: 0|Connection: close|
 at 5 web|HTTP/1.1 409 Conflict|Content-Type: text/plain|Content-Length: 29|Connection: close|
 x756e6b6e6f776e20636f6d6d756e69636174696f6e2d77616974696e0a
-~ Bob puts a record, which is the keeper's third call, reads it, puts it again, puts another, deletes it and reads it; the operator asks for the charging rows twice; bob deletes it and reads it.
+~ Bob puts a record, the keeper's third call, reads it, puts it again, puts another, deletes it and reads it; the operator asks for the rows twice; bob deletes and reads it.
 =keeps:3 5 6 7
 at 0 web|PUT /simservs/2 HTTP/1.1|X-3GPP-Asserted-Identity: "sip:bob@home.example"|Content-Type: application/toml|Content-Length: 38|
 x5b636f6d6d756e69636174696f6e2d77616974696e675d0a616374697665203d20747275650a
@@ -71,7 +72,7 @@ at 2 web|HTTP/1.1 200 OK|Content-Length: 0|Connection: close|
 at 3 web|HTTP/1.1 200 OK|Content-Length: 0|Connection: close|
 at 4 web|HTTP/1.1 200 OK|Content-Type: application/toml|Content-Length: 34|Connection: close|
 x5b636f6d6d756e69636174696f6e2d77616974696e675d0a63616c6c73203d20330a
-~ A head that does not end, one with Transfer-Encoding, and one with two lengths; a body that is too large; no such places; methods that are not for them; no such account; nobody's identity, and one that is not the operator's; a body of another type, and one that is no record; then what may be asked.
+~ Bad heads, and a body that is too large; places, methods and accounts that are not there; others' identities; bodies of another type, and of no record; and what is right.
 at 0 web|GET /simservs/2 HTTP/1.1|Host: x
 at 1 web|GET /simservs/2 HTTP/1.1|X-3GPP-Asserted-Identity: "sip:bob@home.example"|Transfer-Encoding: chunked|
 at 2 web|PUT /simservs/2 HTTP/1.1|X-3GPP-Asserted-Identity: "sip:bob@home.example"|Content-Length: 1|Content-Length: 1|

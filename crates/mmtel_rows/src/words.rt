@@ -5,7 +5,8 @@ use crate::pages::Page;
 use mmtel_scan::part;
 use std::alloc::Global;
 
-/// What each list of words, parted here by `|`, makes a run write. The name of the configuration is that of a file whose first line is bad, so that a run ends with its number, and that is no service record; every other name is of no file, and no file is read for words that ask for nothing.
+/// What each list of words, parted here by `|`, makes a run write. The name of the configuration is that of a file whose first line is bad, so that a run ends with its
+/// number, and that is no service record; every other name is of no file, and no file is read for words that ask for nothing. `?` stands for a byte that no UTF-8 text has.
 const WORDS: &str = "line 1|replay|c|s|--token|0123456789abcdef
 line 1|replay|c|--token|0123456789abcdef|s
 line 1|replay|--token|0123456789abcdef|c|s
@@ -25,8 +26,48 @@ file|replay|replay|s|--token|0123456789abcdef
 usage
 usage||replay|c|s|--token|0123456789abcdef
 usage|replay
+line 1|serve|c|--token|0123456789abcdef|--turns|1
+line 1|serve|--turns|1|c|--token|0123456789abcdef
+line 1|serve|--turns=1000000000|--token=ffffffffffffffff|c
+line 1|serve|--token|0123456789abcdef|--turns|1000000000|--|c
+line 1|serve|c|--turns|9|--token|0123456789abcdef|--
+line 2|serve|-|--token|0123456789abcdef|--turns|1
+line 3|serve|--token|0123456789abcdef|--turns|1|--|-c
+file|serve|s|--token|0123456789abcdef|--turns|1
+file|serve|serve|--token|0123456789abcdef|--turns|1
 usage|serve
-usage|serve|c|--token|0123456789abcdef|--turns|1
+usage|serve|c
+usage|serve|c|--turns|1
+usage|serve|c|--token|0123456789abcdef
+usage|serve|--token|0123456789abcdef|--turns|1
+usage|serve|c|s|--token|0123456789abcdef|--turns|1
+usage|serve|--token|0123456789abcdef|--turns|1|--|c|s
+usage|serve|c|--|--token|0123456789abcdef|--turns|1
+usage|serve|c|--token|0123456789abcdef|--turns|0
+usage|serve|c|--token|0123456789abcdef|--turns|01
+usage|serve|c|--token|0123456789abcdef|--turns|1000000001
+usage|serve|c|--token|0123456789abcdef|--turns|10000000000
+usage|serve|c|--token|0123456789abcdef|--turns|+1
+usage|serve|c|--turns|1 |--token|0123456789abcdef
+usage|serve|c|--token|0123456789abcdef|--turns|0x1
+usage|serve|c|--token|0123456789abcdef|--turns|
+usage|serve|c|--token|0123456789abcdef|--turns=
+usage|serve|c|--token|0123456789abcdef|--turns=-1
+usage|serve|c|--token|0123456789abcdef|--turns|-
+usage|serve|c|--token|0123456789abcdef|--turns
+usage|serve|c|--token|0123456789abcdef|--turns|1|--turns|1
+usage|serve|c|--turns=1|--token|0123456789abcdef|--turns=1
+usage|serve|c|--token|0123456789abcdef|--token|0123456789abcdef|--turns|1
+usage|serve|c|--token|--turns|1
+usage|serve|c|--token=|--turns|1
+usage|serve|c|--token|0123456789abcdeF|--turns|1
+usage|serve|c|--token|0123456789abcdef0|--turns|1
+usage|serve|c|--token|0123456789abcdef|--turn|1
+usage|serve|c|--token|0123456789abcdef|-turns|1
+usage|serve|c|--token|0123456789abcdef|--turns|1|--calls|1
+usage|serve|c|--token|0123456789abcdef|--turns|1|--help
+usage|serve|-c|--token|0123456789abcdef|--turns|1
+usage|Serve|c|--token|0123456789abcdef|--turns|1
 not toml|check|c
 not toml|check|--|c
 not toml|check|c|--
@@ -56,7 +97,33 @@ usage|charges|-c
 usage|charges|c|s
 usage|charges|c|--token|0123456789abcdef
 usage|Charges|c
-usage|workload|--calls|1|--salt|0
+usage|workload
+usage|workload|--calls|1
+usage|workload|--salt|1
+usage|workload|--calls|0|--salt|0
+usage|workload|--calls|10001|--salt|0
+usage|workload|--calls|01|--salt|0
+usage|workload|--calls||--salt|0
+usage|workload|--calls|-1|--salt|0
+usage|workload|--calls=1.0|--salt|0
+usage|workload|--calls|1|--salt|4294967296
+usage|workload|--calls|1|--salt|10000000000
+usage|workload|--calls|1|--salt|00
+usage|workload|--calls|1|--salt|01
+usage|workload|--calls|1|--salt|+1
+usage|workload|--calls|1|--salt=-1
+usage|workload|--calls|1|--salt|
+usage|workload|--calls|1|--salt
+usage|workload|--calls|--salt|0
+usage|workload|--calls|1|--salt|0|--salt|0
+usage|workload|--calls|1|--calls=1|--salt|0
+usage|workload|c|--calls|1|--salt|0
+usage|workload|--calls|1|--salt|0|-
+usage|workload|--calls|1|--salt|0|--|--
+usage|workload|--|--calls|1|--salt|0
+usage|workload|--calls|1|--salt|0|--turns|1
+usage|workload|--calls|1|--salt|0|--help
+usage|Workload|--calls|1|--salt|0
 usage|Replay|c|s|--token|0123456789abcdef
 usage|replay |c|s|--token|0123456789abcdef
 usage|--|replay|c|s|--token|0123456789abcdef
@@ -90,7 +157,16 @@ usage|replay|c|-s|--token|0123456789abcdef
 usage|replay|c|---|--token|0123456789abcdef
 usage|--help
 usage|-h
-usage|help";
+usage|help
+usage|?
+usage|check?|c
+usage|check|?
+usage|charges|c?
+usage|replay|c|?s|--token|0123456789abcdef
+usage|serve|?|--token|0123456789abcdef|--turns|1
+usage|serve|c|--token|0123456789abcdef|--turns|1?
+usage|workload|--calls|1|--salt=?
+usage|workload|--calls|1|--salt|0|?";
 
 /// The status of a run that writes this.
 fn status_of(due: &[u8]) -> u64 {
@@ -110,7 +186,7 @@ fn is_right(alloc: Global, row: &[u8]) -> bool {
     case.add(b"=file:c bad;\n=file:- ;bad;\n=file:-c ;;bad;\n=status:");
     case.add_number(status_of(due));
     case.add(b"\n=words:");
-    case.add(words);
+    case.add_ended(b'?', words, b"\xff");
     case.add(b"\n");
     let mut line = Page::new(alloc);
     line.add(due);
@@ -118,10 +194,10 @@ fn is_right(alloc: Global, row: &[u8]) -> bool {
     !case.has_failed() && writes(alloc, case.bytes(), line.bytes())
 }
 
-/// The number of the first row that is not right, from 1; 0 where each is, of a hundred at most.
+/// The number of the first row that is not right, from 1; 0 where each is, of two hundred at most.
 fn wrong_row(alloc: Global, table: &[u8]) -> usize {
     let mut rest = table;
-    for number in 0..100 {
+    for number in 0..200 {
         if rest.is_empty() {
             return 0;
         }
@@ -131,7 +207,7 @@ fn wrong_row(alloc: Global, table: &[u8]) -> usize {
         }
         rest = later;
     }
-    100
+    200
 }
 
 #[test]

@@ -1,6 +1,8 @@
-//! Tests of the lowest crates' public calls: types, deadlines, the grammars of SIP's parts, targets of calls, session descriptions, transactions and the words of the command line. One module a crate, a table a test.
+//! Tests of the lowest crates' public calls: types, deadlines, the grammars of SIP's parts, targets of calls, session descriptions, transactions and the words of the
+//! command line. One module a crate, a table a test.
 //!
-//! What the contracts say needs no test. Here stand the examples of the standards, whose values come from there, and one call of each function that takes memory, with memory enough, since a body that always answers want of memory meets its contract too.
+//! What the contracts say needs no test. Here stand the examples of the standards, whose values come from there, and one call of each function that takes memory, with
+//! memory enough, since a body that always answers want of memory meets its contract too.
 #![tactic(auto)]
 
 #[cfg(test)]

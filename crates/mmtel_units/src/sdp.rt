@@ -57,15 +57,21 @@ impl Rows for Views {
     }
 }
 
-/// The example of RFC 4566 §5, the offer and the later offer of RFC 3264 §10.1, the offer of §10.2; the medium's direction comes before the session's, and the first before later ones; a direction under another medium is not the audio's; without audio the session's is left; the first map of the first format, and no other; a port need not be a number, and lines of any letter are let through. Then bodies that are no session descriptions.
+/// The example of RFC 4566 §5, the offer and the later offer of RFC 3264 §10.1, the offer of §10.2; the medium's direction comes before the session's, and the first before
+/// later ones; a direction under another medium is not the audio's; without audio the session's is left; the first map of the first format, and no other; a port need not
+/// be a number, and lines of any letter are let through. Then bodies that are no session descriptions.
 const BODIES: &[u8] =
-    b"> v=0|o=jdoe 2890844526 2890842807 IN IP4 10.47.16.5|s=SDP Seminar|i=A Seminar on the session description protocol|u=http://www.example.com/seminars/sdp.pdf|e=j.doe@example.com (Jane Doe)|c=IN IP4 224.2.17.12/127|t=2873397496 2873404696|a=recvonly|m=audio 49170 RTP/AVP 0|m=video 51372 RTP/AVP 99|a=rtpmap:99 h263-1998/90000|
+    b"> v=0|o=jdoe 2890844526 2890842807 IN IP4 10.47.16.5|s=SDP Seminar|i=A Seminar on the session description protocol|u=http://www.example.com/seminars/sdp.pdf|\
+e=j.doe@example.com (Jane Doe)|c=IN IP4 224.2.17.12/127|t=2873397496 2873404696|a=recvonly|m=audio 49170 RTP/AVP 0|m=video 51372 RTP/AVP 99|a=rtpmap:99 h263-1998/90000|
 recvonly;audio,RTP/AVP,0,;video,RTP/AVP,99,99 h263-1998/90000
-> v=0|o=alice 2890844526 2890844526 IN IP4 host.anywhere.com|s=|c=IN IP4 host.anywhere.com|t=0 0|m=audio 49170 RTP/AVP 0|a=rtpmap:0 PCMU/8000|m=video 51372 RTP/AVP 31|a=rtpmap:31 H261/90000|m=video 53000 RTP/AVP 32|a=rtpmap:32 MPV/90000|
+> v=0|o=alice 2890844526 2890844526 IN IP4 host.anywhere.com|s=|c=IN IP4 host.anywhere.com|t=0 0|m=audio 49170 RTP/AVP 0|a=rtpmap:0 PCMU/8000|m=video 51372 RTP/AVP 31|\
+a=rtpmap:31 H261/90000|m=video 53000 RTP/AVP 32|a=rtpmap:32 MPV/90000|
 sendrecv;audio,RTP/AVP,0,0 PCMU/8000;video,RTP/AVP,31,31 H261/90000;video,RTP/AVP,32,32 MPV/90000
-> v=0|o=bob 2890844730 2890844731 IN IP4 host.example.com|s=|c=IN IP4 host.example.com|t=0 0|m=audio 65422 RTP/AVP 0|a=rtpmap:0 PCMU/8000|m=video 0 RTP/AVP 31|m=video 53000 RTP/AVP 32|a=rtpmap:32 MPV/90000|m=audio 51434 RTP/AVP 110|a=rtpmap:110 telephone-events/8000|a=recvonly|
+> v=0|o=bob 2890844730 2890844731 IN IP4 host.example.com|s=|c=IN IP4 host.example.com|t=0 0|m=audio 65422 RTP/AVP 0|a=rtpmap:0 PCMU/8000|m=video 0 RTP/AVP 31|m=video \
+53000 RTP/AVP 32|a=rtpmap:32 MPV/90000|m=audio 51434 RTP/AVP 110|a=rtpmap:110 telephone-events/8000|a=recvonly|
 sendrecv;audio,RTP/AVP,0,0 PCMU/8000;video,RTP/AVP,31,;video,RTP/AVP,32,32 MPV/90000;audio,RTP/AVP,110,110 telephone-events/8000
-> v=0|o=alice 2890844526 2890844526 IN IP4 host.anywhere.com|s=|c=IN IP4 host.anywhere.com|t=0 0|m=audio 62986 RTP/AVP 0 4 18|a=rtpmap:0 PCMU/8000|a=rtpmap:4 G723/8000|a=rtpmap:18 G729/8000|a=inactive|
+> v=0|o=alice 2890844526 2890844526 IN IP4 host.anywhere.com|s=|c=IN IP4 host.anywhere.com|t=0 0|m=audio 62986 RTP/AVP 0 4 18|a=rtpmap:0 PCMU/8000|a=rtpmap:4 G723/8000|\
+a=rtpmap:18 G729/8000|a=inactive|
 inactive;audio,RTP/AVP,0,0 PCMU/8000
 > v=0|a=inactive|m=audio 1 RTP/AVP 8|a=sendonly|a=recvonly|
 sendonly;audio,RTP/AVP,8,
@@ -184,14 +190,19 @@ impl Rows for Answers {
 
 /// The mixer takes the first audio medium, keeps its map, turns its direction, and refuses the other media; without audio it has no answer. Its own offer is audio alone.
 const ANSWERS: &[u8] =
-    b"> v=0|o=jdoe 2890844526 2890842807 IN IP4 10.47.16.5|s=SDP Seminar|i=A Seminar on the session description protocol|u=http://www.example.com/seminars/sdp.pdf|e=j.doe@example.com (Jane Doe)|c=IN IP4 224.2.17.12/127|t=2873397496 2873404696|a=recvonly|m=audio 49170 RTP/AVP 0|m=video 51372 RTP/AVP 99|a=rtpmap:99 h263-1998/90000|
+    b"> v=0|o=jdoe 2890844526 2890842807 IN IP4 10.47.16.5|s=SDP Seminar|i=A Seminar on the session description protocol|u=http://www.example.com/seminars/sdp.pdf|\
+e=j.doe@example.com (Jane Doe)|c=IN IP4 224.2.17.12/127|t=2873397496 2873404696|a=recvonly|m=audio 49170 RTP/AVP 0|m=video 51372 RTP/AVP 99|a=rtpmap:99 h263-1998/90000|
 v=0|o=mixer 1 1 IN IP4 192.0.2.10|s=-|c=IN IP4 192.0.2.10|t=0 0|m=audio 40000 RTP/AVP 0|a=sendonly|m=video 0 RTP/AVP 99|
-> v=0|o=alice 2890844526 2890844526 IN IP4 host.anywhere.com|s=|c=IN IP4 host.anywhere.com|t=0 0|m=audio 49170 RTP/AVP 0|a=rtpmap:0 PCMU/8000|m=video 51372 RTP/AVP 31|a=rtpmap:31 H261/90000|m=video 53000 RTP/AVP 32|a=rtpmap:32 MPV/90000|
+> v=0|o=alice 2890844526 2890844526 IN IP4 host.anywhere.com|s=|c=IN IP4 host.anywhere.com|t=0 0|m=audio 49170 RTP/AVP 0|a=rtpmap:0 PCMU/8000|m=video 51372 RTP/AVP 31|\
+a=rtpmap:31 H261/90000|m=video 53000 RTP/AVP 32|a=rtpmap:32 MPV/90000|
 v=0|o=mixer 1 1 IN IP4 192.0.2.10|s=-|c=IN IP4 192.0.2.10|t=0 0|m=audio 40000 RTP/AVP 0|a=rtpmap:0 PCMU/8000|a=sendrecv|m=video 0 RTP/AVP 31|m=video 0 RTP/AVP 32|
-> v=0|o=alice 2890844526 2890844526 IN IP4 host.anywhere.com|s=|c=IN IP4 host.anywhere.com|t=0 0|m=audio 62986 RTP/AVP 0 4 18|a=rtpmap:0 PCMU/8000|a=rtpmap:4 G723/8000|a=rtpmap:18 G729/8000|a=inactive|
+> v=0|o=alice 2890844526 2890844526 IN IP4 host.anywhere.com|s=|c=IN IP4 host.anywhere.com|t=0 0|m=audio 62986 RTP/AVP 0 4 18|a=rtpmap:0 PCMU/8000|a=rtpmap:4 G723/8000|\
+a=rtpmap:18 G729/8000|a=inactive|
 v=0|o=mixer 1 1 IN IP4 192.0.2.10|s=-|c=IN IP4 192.0.2.10|t=0 0|m=audio 40000 RTP/AVP 0|a=rtpmap:0 PCMU/8000|a=inactive|
-> v=0|o=bob 2890844730 2890844731 IN IP4 host.example.com|s=|c=IN IP4 host.example.com|t=0 0|m=audio 65422 RTP/AVP 0|a=rtpmap:0 PCMU/8000|m=video 0 RTP/AVP 31|m=video 53000 RTP/AVP 32|a=rtpmap:32 MPV/90000|m=audio 51434 RTP/AVP 110|a=rtpmap:110 telephone-events/8000|a=recvonly|
-v=0|o=mixer 1 1 IN IP4 192.0.2.10|s=-|c=IN IP4 192.0.2.10|t=0 0|m=audio 40000 RTP/AVP 0|a=rtpmap:0 PCMU/8000|a=sendrecv|m=video 0 RTP/AVP 31|m=video 0 RTP/AVP 32|m=audio 0 RTP/AVP 110|
+> v=0|o=bob 2890844730 2890844731 IN IP4 host.example.com|s=|c=IN IP4 host.example.com|t=0 0|m=audio 65422 RTP/AVP 0|a=rtpmap:0 PCMU/8000|m=video 0 RTP/AVP 31|m=video \
+53000 RTP/AVP 32|a=rtpmap:32 MPV/90000|m=audio 51434 RTP/AVP 110|a=rtpmap:110 telephone-events/8000|a=recvonly|
+v=0|o=mixer 1 1 IN IP4 192.0.2.10|s=-|c=IN IP4 192.0.2.10|t=0 0|m=audio 40000 RTP/AVP 0|a=rtpmap:0 PCMU/8000|a=sendrecv|m=video 0 RTP/AVP 31|m=video 0 RTP/AVP 32|\
+m=audio 0 RTP/AVP 110|
 > v=0|m=video 1 RTP/AVP 31|m=audio 1 RTP/AVP 8|a=sendonly|
 v=0|o=mixer 1 1 IN IP4 192.0.2.10|s=-|c=IN IP4 192.0.2.10|t=0 0|m=video 0 RTP/AVP 31|m=audio 40000 RTP/AVP 8|a=recvonly|
 > v=0|m=video 1 RTP/AVP 31|
@@ -276,15 +287,21 @@ impl Rows for OffersSeen {
     }
 }
 
-/// The example of RFC 4566 §5, the offer and the later offer of RFC 3264 §10.1, the offer of §10.2. A kind stands once for each of its media; other kinds of RFC 4566 §5.14; audio of port 0 is offered, and `Audio` or a longer word is another kind; a description without audio has the session's direction. Then bodies that are no session descriptions, also where an `m=audio` line stands in them.
+/// The example of RFC 4566 §5, the offer and the later offer of RFC 3264 §10.1, the offer of §10.2. A kind stands once for each of its media; other kinds of RFC 4566
+/// §5.14; audio of port 0 is offered, and `Audio` or a longer word is another kind; a description without audio has the session's direction. Then bodies that are no
+/// session descriptions, also where an `m=audio` line stands in them.
 const OFFERS: &[u8] =
-    b"> v=0|o=jdoe 2890844526 2890842807 IN IP4 10.47.16.5|s=SDP Seminar|i=A Seminar on the session description protocol|u=http://www.example.com/seminars/sdp.pdf|e=j.doe@example.com (Jane Doe)|c=IN IP4 224.2.17.12/127|t=2873397496 2873404696|a=recvonly|m=audio 49170 RTP/AVP 0|m=video 51372 RTP/AVP 99|a=rtpmap:99 h263-1998/90000|
+    b"> v=0|o=jdoe 2890844526 2890842807 IN IP4 10.47.16.5|s=SDP Seminar|i=A Seminar on the session description protocol|u=http://www.example.com/seminars/sdp.pdf|\
+e=j.doe@example.com (Jane Doe)|c=IN IP4 224.2.17.12/127|t=2873397496 2873404696|a=recvonly|m=audio 49170 RTP/AVP 0|m=video 51372 RTP/AVP 99|a=rtpmap:99 h263-1998/90000|
 audio; recvonly,audio,video
-> v=0|o=alice 2890844526 2890844526 IN IP4 host.anywhere.com|s=|c=IN IP4 host.anywhere.com|t=0 0|m=audio 49170 RTP/AVP 0|a=rtpmap:0 PCMU/8000|m=video 51372 RTP/AVP 31|a=rtpmap:31 H261/90000|m=video 53000 RTP/AVP 32|a=rtpmap:32 MPV/90000|
+> v=0|o=alice 2890844526 2890844526 IN IP4 host.anywhere.com|s=|c=IN IP4 host.anywhere.com|t=0 0|m=audio 49170 RTP/AVP 0|a=rtpmap:0 PCMU/8000|m=video 51372 RTP/AVP 31|\
+a=rtpmap:31 H261/90000|m=video 53000 RTP/AVP 32|a=rtpmap:32 MPV/90000|
 audio; sendrecv,audio,video,video
-> v=0|o=bob 2890844730 2890844731 IN IP4 host.example.com|s=|c=IN IP4 host.example.com|t=0 0|m=audio 65422 RTP/AVP 0|a=rtpmap:0 PCMU/8000|m=video 0 RTP/AVP 31|m=video 53000 RTP/AVP 32|a=rtpmap:32 MPV/90000|m=audio 51434 RTP/AVP 110|a=rtpmap:110 telephone-events/8000|a=recvonly|
+> v=0|o=bob 2890844730 2890844731 IN IP4 host.example.com|s=|c=IN IP4 host.example.com|t=0 0|m=audio 65422 RTP/AVP 0|a=rtpmap:0 PCMU/8000|m=video 0 RTP/AVP 31|m=video \
+53000 RTP/AVP 32|a=rtpmap:32 MPV/90000|m=audio 51434 RTP/AVP 110|a=rtpmap:110 telephone-events/8000|a=recvonly|
 audio; sendrecv,audio,video,video,audio
-> v=0|o=alice 2890844526 2890844526 IN IP4 host.anywhere.com|s=|c=IN IP4 host.anywhere.com|t=0 0|m=audio 62986 RTP/AVP 0 4 18|a=rtpmap:0 PCMU/8000|a=rtpmap:4 G723/8000|a=rtpmap:18 G729/8000|a=inactive|
+> v=0|o=alice 2890844526 2890844526 IN IP4 host.anywhere.com|s=|c=IN IP4 host.anywhere.com|t=0 0|m=audio 62986 RTP/AVP 0 4 18|a=rtpmap:0 PCMU/8000|a=rtpmap:4 G723/8000|\
+a=rtpmap:18 G729/8000|a=inactive|
 audio; inactive,audio
 > v=0|m=text 1 RTP/AVP 98|m=application 2 udp wb|m=message 3 TCP/MSRP *|m=audio 0 RTP/AVP 0|a=sendonly|
 audio; sendonly,text,application,message,audio

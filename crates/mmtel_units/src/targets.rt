@@ -59,7 +59,8 @@ impl Rows for Targets {
     }
 }
 
-/// A Request-URI stays as it is, a number too. A diversion to a global number, with separators and parameters, goes to the home domain and is nobody's in no case (RFC 3261 §19.1.6);
+/// A Request-URI stays as it is, a number too. A diversion to a global number, with separators and parameters, goes to the home domain and is nobody's in no case (RFC 3261
+/// §19.1.6);
 /// the same URI that no diversion made, and others of the home domain, whose case does not count, are nobody's without an account; a local number and another domain never are.
 /// Another scheme and what is no URI name no target.
 const TARGETS: &[u8] = br#"> tel:+49(30)1-1.1;x=y

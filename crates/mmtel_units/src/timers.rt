@@ -53,7 +53,8 @@ fn add_moments(told: &mut Told, schedule: Schedule) {
     told.add(b"\n");
 }
 
-/// `+` with a moment and a key arms the key, `-` with a key disarms it. `?` with a moment tells the moment and the key that are due then, or `-`. `I` and `O` tell the schedules of an INVITE and of other messages.
+/// `+` with a moment and a key arms the key, `-` with a key disarms it. `?` with a moment tells the moment and the key that are due then, or `-`. `I` and `O` tell the
+/// schedules of an INVITE and of other messages.
 impl Rows for Steps {
     fn tell(&mut self, told: &mut Told, asked: &[u8]) {
         match asked {

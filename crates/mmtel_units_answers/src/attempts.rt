@@ -194,7 +194,8 @@ Content-Length: 0
 nothing is left
 "##;
 
-/// A restricted call to an untrusted peer; the caller gives up before anything came back. A late 100 lets the CANCEL go, a late 2xx has ACK and BYE, the same 2xx again an ACK alone, and a late 302 its ACK, after which nothing is left (RFC 3261 §9.1, §13.2.2.4, §17.1.1.3).
+/// A restricted call to an untrusted peer; the caller gives up before anything came back. A late 100 lets the CANCEL go, a late 2xx has ACK and BYE, the same 2xx again an
+/// ACK alone, and a late 302 its ACK, after which nothing is left (RFC 3261 §9.1, §13.2.2.4, §17.1.1.3).
 fn wrong_gives_up(alloc: Global) -> usize {
     let mut told = Told::new(alloc);
     let opening = hearing(&mut told, OPENING, 1, 5071, true);

@@ -192,7 +192,8 @@ fn tell_legs(told: &mut Told, desk: &mut Desk, opening: &Hearing, rings: &Hearin
     }
 }
 
-/// A response with its body that is relayed to the caller, the ACK and the BYE that are relayed to the callee, an ACK of the server's own, and the BYE to a caller's leg that stands from the opening on. An ACK that names no hops has 69 left, a BYE of one hop none.
+/// A response with its body that is relayed to the caller, the ACK and the BYE that are relayed to the callee, an ACK of the server's own, and the BYE to a caller's leg
+/// that stands from the opening on. An ACK that names no hops has 69 left, a BYE of one hop none.
 fn wrong_relays(alloc: Global) -> usize {
     let mut told = Told::new(alloc);
     let opening = hearing(&mut told, OPENING, 1, 5071, true);

@@ -6,7 +6,8 @@ use crate::worlds::word;
 use mmtel_call_decisions::{invite_answered, invite_silent};
 use mmtel_scan::part;
 
-/// A method and a branch; the branch behind its cookie of the INVITE that a response to it answers, and of the INVITE where it was given up (RFC 3261 §8.1.1.7, §17.1.3). Methods and the cookie are compared byte for byte.
+/// A method and a branch; the branch behind its cookie of the INVITE that a response to it answers, and of the INVITE where it was given up (RFC 3261 §8.1.1.7, §17.1.3).
+/// Methods and the cookie are compared byte for byte.
 const BRANCHES: &str = "INVITE z9hG4bKx-1: x-1 x-1
 INVITE z9hG4bKz9hG4bK: z9hG4bK z9hG4bK
 INVITE x-1: none none

@@ -1,8 +1,10 @@
 //! Tables that are played: what calls hear, a line each behind `> `, and under it what goes out and how many calls each account has; what is asked of them, behind `? `.
 //!
 //! Bob has waiting with two calls. Transactions are numbered from 0, servers and clients together.
-//! What is heard begins with the moment: `invite PEER NUMBER WHO TARGET`, `answer TRANSACTION TAG STATUS`, `say PEER CALL-ID LOCAL REMOTE METHOD CSEQ`, `cancel TRANSACTION PEER CALL-ID LOCAL REMOTE CSEQ`, `silent TRANSACTION`, `due CALL WORD NUMBER`, `over TRANSACTION`.
-//! What is done with legs and rows stands behind `! `, see `lending`; `! fill COUNT` opens so many calls of nobody who has an account, to nobody who has one, of which nothing is told.
+//! What is heard begins with the moment: `invite PEER NUMBER WHO TARGET`, `answer TRANSACTION TAG STATUS`, `say PEER CALL-ID LOCAL REMOTE METHOD CSEQ`, `cancel TRANSACTION
+//! PEER CALL-ID LOCAL REMOTE CSEQ`, `silent TRANSACTION`, `due CALL WORD NUMBER`, `over TRANSACTION`.
+//! What is done with legs and rows stands behind `! `, see `lending`; `! fill COUNT` opens so many calls of nobody who has an account, to nobody who has one, of which
+//! nothing is told.
 //! What is asked: `find CALL-ID LOCAL REMOTE`, `asked TRANSACTION`, `party CALL`, `rows`.
 
 use crate::lending::lend;

@@ -1,4 +1,6 @@
-//! What is done on rooms beside signals, a line each: `create PEER NUMBER WHO` opens a room, `join ROOM PEER NUMBER WHO` takes a seat of one, `adopt ROOM SEAT PEER NUMBER WHO SIDE` takes one with a leg out of a call, by the REFER of a seat, `notify ROOM SEAT CODE` tells a seat a status, `leave ROOM SEAT` leaves one, `close ROOM` closes a room, and `drop COUNT` hands rows over.
+//! What is done on rooms beside signals, a line each: `create PEER NUMBER WHO` opens a room, `join ROOM PEER NUMBER WHO` takes a seat of one, `adopt ROOM SEAT PEER NUMBER
+//! WHO SIDE` takes one with a leg out of a call, by the REFER of a seat, `notify ROOM SEAT CODE` tells a seat a status, `leave ROOM SEAT` leaves one, `close ROOM` closes a
+//! room, and `drop COUNT` hands rows over.
 //!
 //! A leg that comes back is told by its dialog.
 

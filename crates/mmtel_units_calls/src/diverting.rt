@@ -6,7 +6,7 @@
 
 use crate::stepping::wrong_step;
 
-const DIVERTING: &str = r#"# to a busy target, and on from there
+const DIVERTING: &str = "# to a busy target, and on from there
 > record 2 divert always sip:carol@home.example
 > record 3 divert busy sip:vm@far.example
 > busy 3
@@ -76,7 +76,8 @@ terminating,2,1,0,,0,0,outgoing-barred,603
 -> over outgoing-barred
 # a free user, and five diversions before
 > record 2 divert always sip:vm@far.example
-> 0 invite 1 alice@home.example sip:bob@home.example|History-Info: <sip:x0@far.example>;index=1, <sip:x1@far.example;cause=302>;index=1.1, <sip:x2@far.example;cause=302>;index=1.1.1, <sip:x3@far.example;cause=302>;index=1.1.1.1, <sip:x4@far.example;cause=302>;index=1.1.1.1.1, <sip:x5@far.example;cause=302>;index=1.1.1.1.1.1
+> 0 invite 1 alice@home.example sip:bob@home.example|History-Info: <sip:x0@far.example>;index=1, <sip:x1@far.example;cause=302>;index=1.1, <sip:x2@far.example;\
+cause=302>;index=1.1.1, <sip:x3@far.example;cause=302>;index=1.1.1.1, <sip:x4@far.example;cause=302>;index=1.1.1.1.1, <sip:x5@far.example;cause=302>;index=1.1.1.1.1.1
 reply 0: 100 Trying, 7 INVITE
 reply 0: 480 Temporarily Unavailable, 7 INVITE
 origin,1,1,0,,0,0,too-many-diversions,480
@@ -85,7 +86,8 @@ terminating,2,1,0,,0,0,too-many-diversions,480
 # a busy user, and five diversions before
 > record 2 divert busy sip:vm@far.example
 > busy 2
-> 0 invite 1 alice@home.example sip:bob@home.example|History-Info: <sip:x0@far.example>;index=1, <sip:x1@far.example;cause=302>;index=1.1, <sip:x2@far.example;cause=302>;index=1.1.1, <sip:x3@far.example;cause=302>;index=1.1.1.1, <sip:x4@far.example;cause=302>;index=1.1.1.1.1, <sip:x5@far.example;cause=302>;index=1.1.1.1.1.1
+> 0 invite 1 alice@home.example sip:bob@home.example|History-Info: <sip:x0@far.example>;index=1, <sip:x1@far.example;cause=302>;index=1.1, <sip:x2@far.example;\
+cause=302>;index=1.1.1, <sip:x3@far.example;cause=302>;index=1.1.1.1, <sip:x4@far.example;cause=302>;index=1.1.1.1.1, <sip:x5@far.example;cause=302>;index=1.1.1.1.1.1
 reply 0: 100 Trying, 7 INVITE
 reply 0: 486 Busy Here, 7 INVITE
 origin,1,1,0,,0,0,too-many-diversions,486
@@ -93,7 +95,8 @@ terminating,2,1,0,,0,0,too-many-diversions,486
 -> over too-many-diversions
 # a free user, and four diversions before
 > record 2 divert always sip:vm@far.example
-> 0 invite 1 alice@home.example sip:bob@home.example|History-Info: <sip:x1@far.example;cause=302>;index=1, <sip:x2@far.example;cause=302>;index=1.1, <sip:x3@far.example;cause=302>;index=1.1.1, <sip:x4@far.example;cause=302>;index=1.1.1.1
+> 0 invite 1 alice@home.example sip:bob@home.example|History-Info: <sip:x1@far.example;cause=302>;index=1, <sip:x2@far.example;cause=302>;index=1.1, \
+<sip:x3@far.example;cause=302>;index=1.1.1, <sip:x4@far.example;cause=302>;index=1.1.1.1
 reply 0: 100 Trying, 7 INVITE
 reply 0: 181 Call Is Being Forwarded, 7 INVITE
  History-Info: <sip:x1@far.example;cause=302>;index=1
@@ -258,7 +261,7 @@ ask 5 to 2: INVITE sip:v@127.0.0.1:5072, 2 INVITE
  History-Info: <sip:anonymous@anonymous.invalid;cause=302>;index=1.1
  History-Info: <sip:anonymous@anonymous.invalid;cause=408>;index=1.1.1
 -> asking caller, loose 1
-"#;
+";
 
 #[test]
 fn diverting(rt: HostRuntime) {

@@ -1,4 +1,5 @@
-//! What is done with legs and rows, a line each behind `! `: `lend MOMENT CALL SIDE` takes a leg out and puts it back, `part MOMENT CALL SIDE` takes it out and ends the call without it, `lose MOMENT CALL SIDE` takes it out for good, `drop COUNT` hands rows over.
+//! What is done with legs and rows, a line each behind `! `: `lend MOMENT CALL SIDE` takes a leg out and puts it back, `part MOMENT CALL SIDE` takes it out and ends the
+//! call without it, `lose MOMENT CALL SIDE` takes it out for good, `drop COUNT` hands rows over.
 //!
 //! Of a leg its peer and its dialog are told, the call that has that dialog while the leg is away, and who the sides are then.
 

@@ -2,7 +2,8 @@
 
 use crate::calling::wrong_call;
 
-/// Once 4,096 calls live, the next INVITE opens none, and is handed back: no number is given and no token drawn. A call that is over makes room, though something of it may be heard still.
+/// Once 4,096 calls live, the next INVITE opens none, and is handed back: no number is given and no token drawn. A call that is over makes room, though something of it may
+/// be heard still.
 const LIMITS: &str = r#"! fill 4096
 ? asked 0
 -> 1 caller

@@ -169,7 +169,8 @@ fn add_to(text: &mut Told, asked: &Msg, tag: &[u8]) {
     text.add(b"\r\n");
 }
 
-/// A response to a request of the server, of a tag and a status: the tag stands in its To, or `-` for that of the request; a Contact goes with a tag, but not in finals from 300, nor where `=` stands before the tag.
+/// A response to a request of the server, of a tag and a status: the tag stands in its To, or `-` for that of the request; a Contact goes with a tag, but not in finals
+/// from 300, nor where `=` stands before the tag.
 pub fn response(told: &mut Told, asked: &Msg, peer: u16, words: &[u8], further: &[u8]) -> Hearing {
     let (tag, status) = word(words);
     let (tag, is_told) = match skip_text(b"=", tag) {

@@ -1,4 +1,5 @@
-//! Records in short words: `divert EVENT TARGET [FLAG]`, `deflect`, `bar`, `allow URI`, `no-anonymous`, `bar-out URI`, `oir permanent`, `oir temporary`, `tir permanent`, `no-oip`, `no-tip`, `waiting N`, parted by `|`.
+//! Records in short words: `divert EVENT TARGET [FLAG]`, `deflect`, `bar`, `allow URI`, `no-anonymous`, `bar-out URI`, `oir permanent`, `oir temporary`, `tir permanent`,
+//! `no-oip`, `no-tip`, `waiting N`, parted by `|`.
 
 use crate::told::Told;
 use crate::worlds::{World, put, uri, word};

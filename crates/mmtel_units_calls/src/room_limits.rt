@@ -2,8 +2,10 @@
 
 use crate::seating::wrong_seat;
 
-/// Once 1,024 rooms are live, the next INVITE opens none, and its leg comes back: no number is given. A room that is closed makes room. There is no room 2000, and no second seat in the first.
-/// Once 32 seats of a room are taken, no leg finds another, whether it comes or is brought; of one that is to be invited the missing peer is told first. No number of a seat is given twice.
+/// Once 1,024 rooms are live, the next INVITE opens none, and its leg comes back: no number is given. A room that is closed makes room. There is no room 2000, and no
+/// second seat in the first.
+/// Once 32 seats of a room are taken, no leg finds another, whether it comes or is brought; of one that is to be invited the missing peer is told first. No number of a
+/// seat is given twice.
 const ROOM_LIMITS: &str = r#"fill 1024 0 create
 > 0 create 2 1024 x@far.example
 no room: c1024 t-1025 a1024

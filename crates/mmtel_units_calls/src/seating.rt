@@ -1,7 +1,11 @@
-//! Tables that are played: what is heard and done, a line each behind `> `, which begins with the moment, and under it what goes out and how many seats of the first three rooms are taken; what is asked, behind `? `.
+//! Tables that are played: what is heard and done, a line each behind `> `, which begins with the moment, and under it what goes out and how many seats of the first three
+//! rooms are taken; what is asked, behind `? `.
 //!
 //! Transactions are numbered from 0, servers and clients together.
-//! What is heard: `say PEER CALL-ID LOCAL REMOTE METHOD CSEQ MORE` in a dialog, where the seat that has it is told first, `press ROOM SEAT PEER CALL-ID LOCAL REMOTE METHOD CSEQ MORE` of a seat, whether it has the dialog or not, `answer TRANSACTION TAG STATUS`, `silent TRANSACTION`, `due ROOM SEAT WORD NUMBER`, `over TRANSACTION`. What is done beside that: see `deeds`; `fill COUNT NUMBER WORDS` does so many times from moment 0 on what `WORDS 2 NUMBER x@far.example` says, with numbers that rise, and nothing of it is told. Where a table begins with `# ` messages are told whole.
+//! What is heard: `say PEER CALL-ID LOCAL REMOTE METHOD CSEQ MORE` in a dialog, where the seat that has it is told first, `press ROOM SEAT PEER CALL-ID LOCAL REMOTE METHOD
+//! CSEQ MORE` of a seat, whether it has the dialog or not, `answer TRANSACTION TAG STATUS`, `silent TRANSACTION`, `due ROOM SEAT WORD NUMBER`, `over TRANSACTION`. What is
+//! done beside that: see `deeds`; `fill COUNT NUMBER WORDS` does so many times from moment 0 on what `WORDS 2 NUMBER x@far.example` says, with numbers that rise, and
+//! nothing of it is told. Where a table begins with `# ` messages are told whole.
 //! What is asked: `find CALL-ID LOCAL REMOTE`, `rows`.
 
 use crate::deeds::is_done;

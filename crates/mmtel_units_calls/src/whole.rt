@@ -1,7 +1,9 @@
 //! The messages of calls, whole.
 //!
-//! A caller who asks for privacy calls far away, and gives up before anything came back; what comes late has its CANCEL, its ACK and its BYE (RFC 3261 §9.1, §13.2.2.4; TS 24.607 §4.5.2).
-//! A caller whose record restricts always calls home and talks: its target is of the trust domain and learns that nobody else may know (RFC 3325 §7); each side's messages reach the other one by the table of lines, an early answer fixes the dialog, and BYE ends it.
+//! A caller who asks for privacy calls far away, and gives up before anything came back; what comes late has its CANCEL, its ACK and its BYE (RFC 3261 §9.1, §13.2.2.4; TS
+//! 24.607 §4.5.2).
+//! A caller whose record restricts always calls home and talks: its target is of the trust domain and learns that nobody else may know (RFC 3325 §7); each side's messages
+//! reach the other one by the table of lines, an early answer fixes the dialog, and BYE ends it.
 
 use crate::stepping::wrong_step;
 

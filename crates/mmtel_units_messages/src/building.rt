@@ -61,7 +61,8 @@ fn pass(told: &mut Told, lines: &mut List<Line>) {
     told.keep(done.is_ok());
 }
 
-/// Via and Contact by RFC 3261 §8.1.1.7 and §8.1.1.8, and a tag behind a To value (§19.3); then all that was received, and what of it has a name, which is compared without case (§7.3.1).
+/// Via and Contact by RFC 3261 §8.1.1.7 and §8.1.1.8, and a tag behind a To value (§19.3); then all that was received, and what of it has a name, which is compared without
+/// case (§7.3.1).
 const BUILT: &[u8] = b"X-Ip: 192.0.2.255
 X-Addr: 192.0.2.255:65535
 Via: SIP/2.0/UDP 127.0.0.1:5060;branch=z9hG4bKT-4

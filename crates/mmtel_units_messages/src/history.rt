@@ -263,7 +263,8 @@ sip:vm@example.com;cause=503?Subject=x|1|503|shown|
 1
 ";
 
-/// Values that are no entry of this profile, the first of no bytes: each is refused at its place, behind one that is read. Then of 33 values none is read, and the place is 32; of 32 each.
+/// Values that are no entry of this profile, the first of no bytes: each is refused at its place, behind one that is read. Then of 33 values none is read, and the place is
+/// 32; of 32 each.
 const UNREADABLE: &[u8] = br#"> second 
 malformed 1
 > second <sip:a@b>
@@ -349,7 +350,8 @@ sip:vm@far.example;cause=486|1.1.1|486|shown|
 5
 ";
 
-/// URIs with causes of their own among their parameters, and what looks like one elsewhere: the URI without its causes, and with one of 302 in their place. The cause of a diversion stands in place of the target's own.
+/// URIs with causes of their own among their parameters, and what looks like one elsewhere: the URI without its causes, and with one of 302 in their place. The cause of a
+/// diversion stands in place of the target's own.
 const CAUSED: &[u8] = b"> without sip:vm@far;cause=486
 sip:vm@far
 > with 302 sip:vm@far;cause=486
@@ -384,7 +386,8 @@ tel:+49;cause=302
 1
 ";
 
-/// Bob's diversion, hidden by nobody, and al's entry, which asks to be hidden; a diversion to a voice mail that hides the last entry; then the first and the last are hidden too. A hidden entry is written with `Privacy=history` in its header part, once.
+/// Bob's diversion, hidden by nobody, and al's entry, which asks to be hidden; a diversion to a voice mail that hides the last entry; then the first and the last are
+/// hidden too. A hidden entry is written with `Privacy=history` in its header part, once.
 /// A hidden entry that is masked has nobody's URI and its cause; where all are masked, so has each.
 const MARKS: &[u8] = b"> new
 > value <sip:bob@home.example;cause=302>;index=1;rc=0

@@ -1,6 +1,7 @@
 //! Tests of the public calls of messages, History-Info, trust and parties: one module a crate, a table a test.
 //!
-//! What the contracts say needs no test. Here stand the examples of the standards, whose values come from there, and one call of each function that takes memory, with memory enough, since a body that always answers want of memory meets its contract too.
+//! What the contracts say needs no test. Here stand the examples of the standards, whose values come from there, and one call of each function that takes memory, with
+//! memory enough, since a body that always answers want of memory meets its contract too.
 #![tactic(auto)]
 
 #[cfg(test)]

@@ -113,7 +113,8 @@ fn add_block<'a>(told: &mut Told, mark: u8, table: &'a [u8]) -> (&'a [u8], &'a [
 
 /// Messages and, behind a line `#`, the text that each is read as; a line `#` ends that.
 ///
-/// The first is the registration of RFC 3261 §24.1, the second the BYE of §24.2; each reads as it stands. The third has what the profile lets through: folds, compact names, names in other case, commas, several Privacy and Allow lines, bytes behind the body.
+/// The first is the registration of RFC 3261 §24.1, the second the BYE of §24.2; each reads as it stands. The third has what the profile lets through: folds, compact
+/// names, names in other case, commas, several Privacy and Allow lines, bytes behind the body.
 const READ: &[u8] = br##"REGISTER sip:registrar.biloxi.com SIP/2.0
 Via: SIP/2.0/UDP bobspc.biloxi.com:5060;branch=z9hG4bKnashds7
 Max-Forwards: 70
@@ -248,7 +249,8 @@ fn wrong_read(alloc: Global, table: &[u8]) -> usize {
     came.wrong_line(wanted.whole())
 }
 
-/// Messages and what comes of each: the torture tests of RFC 4475 §3.1.1 that the profile reads or refuses for its blanks, and those of §3.1.2, in their order. The profile lets no blank stand around `;` and `=`, so it refuses the first two, the second of which is the 200 of RFC 3261 §24.1.
+/// Messages and what comes of each: the torture tests of RFC 4475 §3.1.1 that the profile reads or refuses for its blanks, and those of §3.1.2, in their order. The profile
+/// lets no blank stand around `;` and `=`, so it refuses the first two, the second of which is the 200 of RFC 3261 §24.1.
 const TORTURE: &[u8] = br##"INVITE sip:vivekg@chair-dnrc.example.com;unknownparam SIP/2.0
 TO :
  sip:vivekg@chair-dnrc.example.com ;   tag    = 1918181833n

@@ -85,7 +85,9 @@ fn carol_served(told: &mut Told, accounts: &Accounts, parties: &Parties) -> Opti
     }
 }
 
-/// Tells the accounts of caller and target, the sides that are served, what is said of the registration; the accounts that are served: the caller's, the target's, and that of carol as a further target; `refused` where a user of no account is served, else `-`; and whether the target is registered where the table says so and where it does not.
+/// Tells the accounts of caller and target, the sides that are served, what is said of the registration; the accounts that are served: the caller's, the target's, and that
+/// of carol as a further target; `refused` where a user of no account is served, else `-`; and whether the target is registered where the table says so and where it does
+/// not.
 fn tell_parties(told: &mut Told, accounts: &Accounts, parties: &Parties) {
     tell_account(told, parties.origin);
     tell_account(told, parties.target);
@@ -120,7 +122,10 @@ fn tell_call(told: &mut Told, accounts: &Accounts, asked: &[u8]) {
     tell_said(told, accounts, &message, trusted == b"trusted".as_slice());
 }
 
-/// An answer, the peer, the Request-URI, two P-Served-User lines and two P-Asserted-Identity lines. In order: who is asserted by a trusted peer; nobody by another, whatever it says; the tel identity where the sip identity is of no account, and the sip identity where both are; a Request-URI of no account, and one that is a number; a user who is served as the caller, and one of no account; one who is served as the target, and one of no account; the first of two lines; a state of another word, one of a caller, names in any case and twice.
+/// An answer, the peer, the Request-URI, two P-Served-User lines and two P-Asserted-Identity lines. In order: who is asserted by a trusted peer; nobody by another,
+/// whatever it says; the tel identity where the sip identity is of no account, and the sip identity where both are; a Request-URI of no account, and one that is a number;
+/// a user who is served as the caller, and one of no account; one who is served as the target, and one of no account; the first of two lines; a state of another word, one
+/// of a caller, names in any case and twice.
 const CALLS: &[u8] =
     br#"1 2 both - 1 2 3 - yn|trusted|sip:bob@home.example|||"Alice" <sip:alice@home.example>|<tel:+4930111>
 0 2 both - 0 2 3 - yn|untrusted|sip:bob@home.example|||<sip:alice@home.example>|
@@ -221,7 +226,9 @@ fn tell_attempt(told: &mut Told, table: &PeerTable, asked: &[u8]) {
     tell_way(told, table, &message, target);
 }
 
-/// The peer and the Route values that are kept, the target, and the Route values that came, at a server at 127.0.0.1:5060. In order: the server's own value and a further one, which leads on; its own alone, without a port and with a user, where the target leads on; one of another port and one of another host, which lead nowhere; its own twice, of which one goes; its own behind another one; a number, which leads nowhere; none.
+/// The peer and the Route values that are kept, the target, and the Route values that came, at a server at 127.0.0.1:5060. In order: the server's own value and a further
+/// one, which leads on; its own alone, without a port and with a user, where the target leads on; one of another port and one of another host, which lead nowhere; its own
+/// twice, of which one goes; its own behind another one; a number, which leads nowhere; none.
 const WAYS: &[u8] =
     b"1 <sip:odi-7@home.example;lr>|sip:bob@far.example|<sip:127.0.0.1:5060;lr>, <sip:odi-7@home.example;lr>
 2|sip:bob@far.example|<sip:orig@127.0.0.1;lr>

@@ -30,7 +30,8 @@ impl Rows for Answers {
     }
 }
 
-/// Via values; below stands each as it is completed. A host is compared with the source as text, without its port (RFC 3261 §18.2.1); an empty `rport` is filled in its place, and `received` then comes too (RFC 3581 §4).
+/// Via values; below stands each as it is completed. A host is compared with the source as text, without its port (RFC 3261 §18.2.1); an empty `rport` is filled in its
+/// place, and `received` then comes too (RFC 3581 §4).
 /// Then the codes with their phrases, and one that the server does not make.
 const ANSWERS: &[u8] = b"> SIP/2.0/UDP h;rport;branch=z9hG4bKa
 SIP/2.0/UDP h;rport=5071;branch=z9hG4bKa;received=127.0.0.1
@@ -252,7 +253,8 @@ Content-Length: 0
 
 /// An INVITE without Contact.
 const BAD: &[u8] =
-    b"INVITE sip:b@h SIP/2.0\r\nv: SIP/2.0/UDP h;rport;branch=z9hG4bKa , SIP/2.0/UDP far.example;branch=z9hG4bKb\r\nRecord-Route: <sip:r.example;lr>\r\nFrom: <sip:a@h>;tag=a\r\nTo: <sip:b@h>\r\nCall-ID: c1\r\nCSeq: 1 INVITE\r\n\r\n";
+    b"INVITE sip:b@h SIP/2.0\r\nv: SIP/2.0/UDP h;rport;branch=z9hG4bKa , SIP/2.0/UDP far.example;branch=z9hG4bKb\r\nRecord-Route: <sip:r.example;lr>\r\nFrom: <sip:a@h>;\
+tag=a\r\nTo: <sip:b@h>\r\nCall-ID: c1\r\nCSeq: 1 INVITE\r\n\r\n";
 
 fn tell_fault(told: &mut Told, fault: &ReadFault) {
     match fault {

@@ -139,7 +139,8 @@ fn wrong_peer(alloc: Global) -> usize {
     told.wrong_line(PEERS)
 }
 
-/// URIs, each behind the number of its account, 0 for none: the sip URI of account 1 is `sip:alice@home.example`, and the number of account 2 that of RFC 3966 §6, for which the sip URI of RFC 3261 §19.1.6 stands.
+/// URIs, each behind the number of its account, 0 for none: the sip URI of account 1 is `sip:alice@home.example`, and the number of account 2 that of RFC 3966 §6, for
+/// which the sip URI of RFC 3261 §19.1.6 stands.
 /// Behind `+` stands a number that is added.
 const OWNERS: &[u8] = b"done+1 sip:alice@home.example
 done+2 tel:+1-201-555-0123
@@ -266,7 +267,8 @@ fn tell_from(told: &mut Told, m: &Msg, restricted: bool) {
     told.add_made(from);
 }
 
-/// The words; the identities, which are believed of a trusted peer and of no other; the lines that are passed on, of which a line `#` ends each message; and the From, of a sender that is restricted and of one that is not.
+/// The words; the identities, which are believed of a trusted peer and of no other; the lines that are passed on, of which a line `#` ends each message; and the From, of a
+/// sender that is restricted and of one that is not.
 const TOLD: &[u8] = br#"header and none
 sip:fluffy@cisco.com
 tel:+14085264000

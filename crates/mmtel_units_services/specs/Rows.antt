@@ -1,4 +1,5 @@
--- Worked rows of Outcome, by computing it. The accounts are bob's, carol's and nobody's of home.example; vm is of far.example, without a served account. Nobody answers unless it is said.
+-- Worked rows of Outcome, by computing it. The accounts are bob's, carol's and nobody's of home.example; vm is of far.example, without a served account. Nobody answers
+-- unless it is said.
 use Rattle.std.specs.Prelude.{◌≡◌, ◌==◌, ℕ, Bool, true, false, if◌then◌else◌, List, [], ◌∷◌, Option, Some, None, codes}
 use Rattle.mmtel_types.specs.declared.causes.Cause.TheVariants as causes
 use Rattle.mmtel_types.specs.declared.numbers.Account.{Account}
@@ -71,7 +72,19 @@ rejects_and_diverts = record (diverts (rule None vm ∷ []) false) { incoming = 
 -- bars his own calls to one party
 abbrev pub bars_and_diverts : Uri → Sheet
 bars_and_diverts to = record (diverts (rule None to ∷ []) false) {
-  outgoing = Some (record { rules = record { condition = record { identity = Some (record { one = to ∷ []; many = None; except = [] }); anonymous = false; window = None; media = None; event = None }; action = action.Allow false } ∷ []; reject_anonymous = false });
+  outgoing = Some (record {
+    rules = record {
+      condition = record {
+        identity = Some (record { one = to ∷ []; many = None; except = [] });
+        anonymous = false;
+        window = None;
+        media = None;
+        event = None;
+      };
+      action = action.Allow false;
+    } ∷ [];
+    reject_anonymous = false;
+  });
 }
 
 -- hides in each call who it is that calls
@@ -163,14 +176,20 @@ comes_to targets result = record { targets = targets; result = result }
 
 pub record AreOutcomes : Type 0 where
   -- anonymous rejection before diversion: of a caller with an identity that it hides; not of one that has none
-  pub anonymous_rejection : outcome (hidden_call (call 0 5 (of_account rejects_and_diverts true 0) free)) [] ≡ comes_to (target bob None NotOffered ∷ []) (Final causes.AnonymousRejected)
+  pub anonymous_rejection : outcome (hidden_call (call 0 5 (of_account rejects_and_diverts true 0) free)) []
+      ≡ comes_to (target bob None NotOffered ∷ []) (Final causes.AnonymousRejected)
   pub no_identity : outcome (record (hidden_call (call 0 5 (of_account rejects_and_diverts true 0) free)) { has_identity = false }) []
       ≡ comes_to (target bob None NotOffered ∷ target vm (by vm 302) (Offered false) ∷ []) Pending
   -- a caller is hidden by its own record too
-  pub hidden_by_record : outcome (record (call 0 5 free free) { served = served_for (Some (number 1)) (Some (number 2)) true; opening = stands (of_account restricts_always true 0) (of_account rejects_and_diverts true 0) free }) []
+  pub hidden_by_record : outcome
+      (record (call 0 5 free free) {
+        served = served_for (Some (number 1)) (Some (number 2)) true;
+        opening = stands (of_account restricts_always true 0) (of_account rejects_and_diverts true 0) free;
+      }) []
       ≡ comes_to (target bob None NotOffered ∷ []) (Final causes.AnonymousRejected)
   -- two diversions: bob always to carol, who is in a call and diverts on busy
-  pub two_diversions : outcome (call 0 5 (of_account (diverts (rule None carol ∷ []) false) true 0) (of_account (diverts (rule (Some event.Busy) vm ∷ []) false) true 1)) (record { at = 900; how = Answer } ∷ [])
+  pub two_diversions : outcome (call 0 5 (of_account (diverts (rule None carol ∷ []) false) true 0) (of_account (diverts (rule (Some event.Busy) vm ∷ []) false) true 1))
+      (record { at = 900; how = Answer } ∷ [])
       ≡ comes_to (target bob None NotOffered ∷ target carol (by carol 302) NotOffered ∷ target vm (by vm 486) (Offered false) ∷ []) Answered
   -- the forward of the rule is said of the target
   pub hidden_forward : outcome (call 0 5 (of_account (diverts (forwards None (hidden vm) ∷ []) false) true 0) free) []
@@ -178,13 +197,16 @@ pub record AreOutcomes : Type 0 where
   -- received causes count against the bound: five, and busy; five, and free; four
   pub received_busy : outcome (call 5 5 (of_account (diverts (rule (Some event.Busy) vm ∷ []) false) true 1) free) []
       ≡ comes_to (target bob None NotOffered ∷ []) (Final (causes.TooManyDiversions true))
-  pub received_free : outcome (call 5 5 (of_account (diverts (rule None vm ∷ []) false) true 0) free) [] ≡ comes_to (target bob None NotOffered ∷ []) (Final (causes.TooManyDiversions false))
+  pub received_free : outcome (call 5 5 (of_account (diverts (rule None vm ∷ []) false) true 0) free) []
+      ≡ comes_to (target bob None NotOffered ∷ []) (Final (causes.TooManyDiversions false))
   pub received_four : outcome (call 4 5 (of_account (diverts (rule (Some event.Busy) vm ∷ []) false) true 1) free) []
       ≡ comes_to (target bob None NotOffered ∷ target vm (by vm 486) (Offered false) ∷ []) Pending
   -- a bound of zero, and bob who diverts to himself
-  pub bound_zero : outcome (call 0 0 (of_account (diverts (rule None vm ∷ []) false) true 0) free) [] ≡ comes_to (target bob None NotOffered ∷ []) (Final (causes.TooManyDiversions false))
+  pub bound_zero : outcome (call 0 0 (of_account (diverts (rule None vm ∷ []) false) true 0) free) []
+      ≡ comes_to (target bob None NotOffered ∷ []) (Final (causes.TooManyDiversions false))
   pub loop : outcome (call 0 5 (of_account (diverts (rule None bob ∷ []) false) true 0) free) []
-      ≡ comes_to (target bob None NotOffered ∷ target bob (by bob 302) NotOffered ∷ target bob (by bob 302) NotOffered ∷ target bob (by bob 302) NotOffered ∷ target bob (by bob 302) NotOffered ∷ target bob (by bob 302) NotOffered ∷ []) (Final (causes.TooManyDiversions false))
+      ≡ comes_to (target bob None NotOffered ∷ target bob (by bob 302) NotOffered ∷ target bob (by bob 302) NotOffered ∷ target bob (by bob 302) NotOffered
+      ∷ target bob (by bob 302) NotOffered ∷ target bob (by bob 302) NotOffered ∷ []) (Final (causes.TooManyDiversions false))
   -- outgoing barring of the account that diverts comes before the bound
   pub barred_at_the_bound : outcome (call 5 5 (of_account (bars_and_diverts vm) true 0) free) [] ≡ comes_to (target bob None NotOffered ∷ []) (Final causes.OutgoingBarred)
   -- deflection: before it rang, after it rang, and without leave
@@ -198,21 +220,25 @@ pub record AreOutcomes : Type 0 where
   pub not_registered : outcome (call 0 5 (of_account empty_sheet false 0) free) [] ≡ comes_to (target bob None NotOffered ∷ []) (Final causes.NotRegistered)
   pub not_registered_diverted : outcome (call 0 5 (of_account (diverts (rule (Some event.NotRegistered) vm ∷ []) false) false 0) free) []
       ≡ comes_to (target bob None NotOffered ∷ target vm (by vm 404) (Offered false) ∷ []) Pending
-  pub told_registered : outcome (record (call 0 5 (of_account empty_sheet false 0) free) { registration = Some Registered }) [] ≡ comes_to (target bob None (Offered false) ∷ []) Pending
+  pub told_registered : outcome (record (call 0 5 (of_account empty_sheet false 0) free) { registration = Some Registered }) []
+      ≡ comes_to (target bob None (Offered false) ∷ []) Pending
   pub told_not_registered : outcome (record (call 0 5 free free) { registration = Some Unregistered }) [] ≡ comes_to (target bob None NotOffered ∷ []) (Final causes.NotRegistered)
-  pub told_of_the_first : outcome (record (call 0 5 (of_account (diverts (rule None carol ∷ []) false) true 0) (of_account empty_sheet false 0)) { registration = Some Registered }) []
+  pub told_of_the_first : outcome
+      (record (call 0 5 (of_account (diverts (rule None carol ∷ []) false) true 0) (of_account empty_sheet false 0)) { registration = Some Registered }) []
       ≡ comes_to (target bob None NotOffered ∷ target carol (by carol 302) NotOffered ∷ []) (Final causes.NotRegistered)
   -- an identity of the home domain that is no account's, and a target to which no peer leads
   pub no_account : outcome (to_nobody dave (call 0 5 free free)) [] ≡ comes_to (target dave None NotOffered ∷ []) (Final causes.NoAccount)
   pub no_route : outcome (record (call 0 5 free free) { leads = λ u. false }) [] ≡ comes_to (target bob None NotOffered ∷ []) (Final causes.NoRoute)
   -- no answer, to a number, which is of the home domain and no account's; a caller cannot call it so
-  pub to_a_number : outcome (call 0 5 (of_account (diverts (rule (Some event.NoAnswer) (Tel (codes "+49-30-1234") []) ∷ []) false) true 0) free) (record { at = 20100; how = NoReply } ∷ record { at = 20300; how = UserBusy 486 } ∷ [])
+  pub to_a_number : outcome (call 0 5 (of_account (diverts (rule (Some event.NoAnswer) (Tel (codes "+49-30-1234") []) ∷ []) false) true 0) free)
+      (record { at = 20100; how = NoReply } ∷ record { at = 20300; how = UserBusy 486 } ∷ [])
       ≡ comes_to (target bob None (Offered false) ∷ target number_at_home (by (Tel (codes "+49-30-1234") []) 408) (Offered false) ∷ []) (Final (causes.Relayed 486))
   pub number_of_nobody : outcome (to_nobody number_at_home (call 0 5 free free)) [] ≡ comes_to (target number_at_home None NotOffered ∷ []) (Final causes.NoAccount)
   -- waiting: offered as such below the capacity; network determined user busy at it
   pub waits : outcome (call 0 5 (of_account (record empty_sheet { waiting = Some 2 }) true 1) free) (record { at = 10; how = UserBusy 600 } ∷ [])
       ≡ comes_to (target bob None (Offered true) ∷ []) (Final (causes.Relayed 600))
-  pub network_busy : outcome (call 0 5 (of_account (record empty_sheet { waiting = Some 2 }) true 2) free) [] ≡ comes_to (target bob None NotOffered ∷ []) (Final causes.NetworkBusy)
+  pub network_busy : outcome (call 0 5 (of_account (record empty_sheet { waiting = Some 2 }) true 2) free) []
+      ≡ comes_to (target bob None NotOffered ∷ []) (Final causes.NetworkBusy)
   -- the opening: privacy of the session that is critical, and that is not; a user of no account; the caller's own barring; in this order
   pub critical : outcome (record (called_by_alice (of_account (bars_and_diverts bob) true 0) (call 0 5 free free)) { privacy = words false true true }) []
       ≡ comes_to [] (Final causes.Critical)
@@ -223,8 +249,16 @@ pub record AreOutcomes : Type 0 where
   -- one session case: served for the caller alone bob has no services; served for bob alone the next target has none
   pub caller_alone : outcome (record (call 0 5 (of_account (diverts (rule None vm ∷ []) false) false 3) free) { served = served_for (Some (number 1)) None false }) []
       ≡ comes_to (target bob None (Offered false) ∷ []) Pending
-  pub target_alone : outcome (record (call 0 5 (of_account (diverts (rule None carol ∷ []) false) true 0) (of_account (diverts (rule None vm ∷ []) false) true 1)) { served = served_for None (Some (number 2)) false }) []
+  pub target_alone : outcome (record
+      (call 0 5 (of_account (diverts (rule None carol ∷ []) false) true 0) (of_account (diverts (rule None vm ∷ []) false) true 1)) {
+        served = served_for None
+            (Some (number 2)) false;
+      }) []
       ≡ comes_to (target bob None NotOffered ∷ target carol (by carol 302) (Offered false) ∷ []) Pending
   -- the record as it stood: that of bob when he was reached, though he has another one when the attempt ends; and that of carol when she was reached
-  pub record_of_the_attempt : outcome (record (call 0 5 (of_account (diverts (rule (Some event.NoAnswer) carol ∷ []) false) true 0) free) { later = λ k. stands free free (of_account (diverts (rule None vm ∷ []) false) true 0) }) (record { at = 20100; how = NoReply } ∷ [])
+  pub record_of_the_attempt : outcome
+      (record (call 0 5 (of_account (diverts (rule (Some event.NoAnswer) carol ∷ []) false) true 0) free) {
+        later = λ k. stands free free
+            (of_account (diverts (rule None vm ∷ []) false) true 0);
+      }) (record { at = 20100; how = NoReply } ∷ [])
       ≡ comes_to (target bob None (Offered false) ∷ target carol (by carol 408) NotOffered ∷ target vm (by vm 302) (Offered false) ∷ []) Pending

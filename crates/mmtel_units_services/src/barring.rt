@@ -1,6 +1,7 @@
 //! Barring in both directions, and the rejection of anonymous callers (TS 24.611).
 //!
-//! An answer is the place of the rule that bars the call, `a` where its caller is rejected as anonymous, `-` where it is let through. A row of incoming calls has two: of a user who does not reject anonymous callers, and of one who does. A row of outgoing calls has one, and the other party is the target.
+//! An answer is the place of the rule that bars the call, `a` where its caller is rejected as anonymous, `-` where it is let through. A row of incoming calls has two: of a
+//! user who does not reject anonymous callers, and of one who does. A row of outgoing calls has one, and the other party is the target.
 
 use crate::reading::{Called, Table, facts, read_called, sheet_of, wrong_line};
 use mmtel_barring::{Barred, Refusal, incoming, outgoing};

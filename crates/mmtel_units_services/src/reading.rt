@@ -1,7 +1,9 @@
 //! Records and calls from the rows of tables.
 //!
-//! A table is one text, which is told again. A line that begins with `#` says what follows. One that begins with `:` has the rules of the rows below it, as records write them, parted by `&`. A row is its answers and, behind `|`, what is asked.
-//! A call is its facts, the sip URI of the other party and its tel URI, parted by `|`. The facts are `r` where the caller hides who it is, else `-`; the moment; and the kinds of media that are offered, each after a blank.
+//! A table is one text, which is told again. A line that begins with `#` says what follows. One that begins with `:` has the rules of the rows below it, as records write
+//! them, parted by `&`. A row is its answers and, behind `|`, what is asked.
+//! A call is its facts, the sip URI of the other party and its tel URI, parted by `|`. The facts are `r` where the caller hides who it is, else `-`; the moment; and the
+//! kinds of media that are offered, each after a blank.
 
 use mmtel_lex::{List, Text, Uri, read_uri};
 use mmtel_rules::{Facts, Identities2};
@@ -175,7 +177,8 @@ fn write_rules(out: &mut Told, keys: &[u8], line: &[u8]) {
     write_rule(out, keys, rest);
 }
 
-/// The sheet of the record of one table: these keys of the table, and the rules of a line, each behind these keys of a rule. A line of no bytes has no rules, and any other begins with `:`.
+/// The sheet of the record of one table: these keys of the table, and the rules of a line, each behind these keys of a rule. A line of no bytes has no rules, and any other
+/// begins with `:`.
 pub fn sheet_of(
     told: &mut Told,
     table: &[u8],

@@ -1,6 +1,8 @@
 //! Whose identity is restricted, and who is shown whose (TS 24.607 and 24.608, RFC 3323 §4.2).
 //!
-//! The answers of a row are four: `r` where the caller is restricted, `r` where the called party is, `p` where the called party is shown the caller, `p` where the caller is shown the called party; `-` for each that is not so. Behind them stand the words of Privacy. The record of the account that is served stands above, as tables parted by `&`; above the first rows there is no account.
+//! The answers of a row are four: `r` where the caller is restricted, `r` where the called party is, `p` where the called party is shown the caller, `p` where the caller
+//! is shown the called party; `-` for each that is not so. Behind them stand the words of Privacy. The record of the account that is served stands above, as tables parted
+//! by `&`; above the first rows there is no account.
 
 use crate::reading::{Table, read_tables, wrong_line};
 use mmtel_identity::{callee_restricted, caller_restricted, present_to};
@@ -76,7 +78,8 @@ rrpp|user
 rrpp|header
 --pp|none
 --pp|session critical history
-:originating-identity-presentation-restriction = { active = false, mode = \"permanent\" }&terminating-identity-presentation-restriction = { active = false, default-behaviour = \"presentation-restricted\" }
+:originating-identity-presentation-restriction = { active = false, mode = \"permanent\" }&terminating-identity-presentation-restriction = { active = false, \
+default-behaviour = \"presentation-restricted\" }
 --pp|
 rrpp|id
 --pp|none

@@ -1,6 +1,7 @@
 //! Conditions over facts, and the rules that decide (RFC 4745 §6 and §7, TS 24.604 §4.9.1).
 //!
-//! The answers of a row are five: as the call arrives at a registered user, as it arrives at one who is not registered, at a busy user, without an answer, at a user who cannot be reached. Each is the place of the first rule that holds, or `-`. Rules divert, and a line has the keys behind the target.
+//! The answers of a row are five: as the call arrives at a registered user, as it arrives at one who is not registered, at a busy user, without an answer, at a user who
+//! cannot be reached. Each is the place of the first rule that holds, or `-`. Rules divert, and a line has the keys behind the target.
 
 use crate::reading::{Called, Table, facts, read_called, sheet_of, wrong_line};
 use mmtel_rules::{Facts, When, first, holds};
@@ -256,7 +257,8 @@ const RULES: &[u8] =
 -----|-0 video||
 -----|-0||
 # A rule with each part holds where each part does, and not where one of them misses.
-:, busy = true, anonymous = true, from = \"1970-01-01T00:00:00.100Z\", until = \"1970-01-01T00:00:00.200Z\", media = [\"audio\"], many = \"home.example\", except = [\"sip:carol@home.example\"]
+:, busy = true, anonymous = true, from = \"1970-01-01T00:00:00.100Z\", until = \"1970-01-01T00:00:00.200Z\", media = [\"audio\"], many = \"home.example\", except = \
+[\"sip:carol@home.example\"]
 --0--|r150 audio|sip:bob@home.example|
 --0--|r150 video audio|sip:bob@home.example|tel:+4930111
 -----|r150 audio|sip:bob@far.example|

@@ -100,7 +100,8 @@ impl Table for HoldSteps {
     }
 }
 
-/// `a` where the caller holds the call, `b` where the called party does, and how often one began to; the directions: `s` for sendonly, `r` for recvonly, `i` for inactive, `x` for both ways.
+/// `a` where the caller holds the call, `b` where the called party does, and how often one began to; the directions: `s` for sendonly, `r` for recvonly, `i` for inactive,
+/// `x` for both ways.
 const HOLDS: &[u8] = b"--0|
 a-1|as
 a-1|ai

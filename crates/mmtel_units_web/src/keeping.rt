@@ -125,7 +125,8 @@ impl Rows for Kept {
     }
 }
 
-/// The calls of one keeper, of which the third, the eighth and the eleventh fail: `b` binds a path, `s` stores a text for the account of a letter, `l` loads, `a` adds rows, `r` lists them.
+/// The calls of one keeper, of which the third, the eighth and the eleventh fail: `b` binds a path, `s` stores a text for the account of a letter, `l` loads, `a` adds
+/// rows, `r` lists them.
 const KEEPING: &[u8] = b"> b:memory:
 ok
 > sxa

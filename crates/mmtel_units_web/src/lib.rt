@@ -1,6 +1,7 @@
-//! Tests of the public calls of the crates of the outside: keepers and the texts of records, links, HTTP, and requests with their replies.
+//! Tests of the public calls of the crates of the outside: keepers in memory and over a database, the texts of records, links, HTTP, and requests with their replies.
 //!
-//! A table is one text: a line that begins with `> ` has what is asked, and the line below it the answer. In both `%` stands for CR and `~` for LF. A test writes the lines of the questions and the answers that it is given, and compares the whole.
+//! A table is one text: a line that begins with `> ` has what is asked, and the line below it the answer. In both `%` stands for CR and `~` for LF. A test writes the lines
+//! of the questions and the answers that it is given, and compares the whole.
 #![tactic(auto)]
 
 #[cfg(test)]
@@ -15,3 +16,5 @@ mod pages;
 mod requests;
 #[cfg(test)]
 mod sockets;
+#[cfg(test)]
+mod storing;

@@ -113,7 +113,8 @@ impl Rows for Linked {
     }
 }
 
-/// The calls of one link, of which the second, the sixth and the ninth fail: `b` binds, `n` asks what comes, `r` reads four bytes at most, `w` replies, `s` sends, `t` tells what it was given, `!` behind what was lost.
+/// The calls of one link, of which the second, the sixth and the ninth fail: `b` binds, `n` asks what comes, `r` reads four bytes at most, `w` replies, `s` sends, `t`
+/// tells what it was given, `!` behind what was lost.
 const LINKING: &[u8] = b"> b
 ok
 > n

@@ -303,9 +303,11 @@ HTTP/1.1 200 OK%~Content-Length: 0%~Connection: close%~%~
 charges
 > PUT /simservs/2 HTTP/1.1%~X-3GPP-Asserted-Identity: \"sip:bob@home.example\"%~Content-Length: 38%~%~[communication-waiting]~active = true~
 HTTP/1.1 415 Unsupported Media Type%~Content-Length: 0%~Connection: close%~%~
-> PUT /simservs/2 HTTP/1.1%~X-3GPP-Asserted-Identity: \"sip:bob@home.example\"%~Content-Type: application/toml; charset=utf-8%~Content-Length: 38%~%~[communication-waiting]~active = true~
+> PUT /simservs/2 HTTP/1.1%~X-3GPP-Asserted-Identity: \"sip:bob@home.example\"%~Content-Type: application/toml; charset=utf-8%~Content-Length: 38%~%~\
+[communication-waiting]~active = true~
 HTTP/1.1 415 Unsupported Media Type%~Content-Length: 0%~Connection: close%~%~
-> PUT /simservs/2 HTTP/1.1%~X-3GPP-Asserted-Identity: \"sip:bob@home.example\"%~Content-Type: application/toml%~Content-Type: application/toml%~Content-Length: 38%~%~[communication-waiting]~active = true~
+> PUT /simservs/2 HTTP/1.1%~X-3GPP-Asserted-Identity: \"sip:bob@home.example\"%~Content-Type: application/toml%~Content-Type: application/toml%~Content-Length: 38%~%~\
+[communication-waiting]~active = true~
 HTTP/1.1 415 Unsupported Media Type%~Content-Length: 0%~Connection: close%~%~
 > PUT /simservs/2 HTTP/1.1%~X-3GPP-Asserted-Identity: \"sip:bob@home.example\"%~Content-Type: Application/toml%~Content-Length: 38%~%~[communication-waiting]~active = true~
 HTTP/1.1 415 Unsupported Media Type%~Content-Length: 0%~Connection: close%~%~
@@ -327,7 +329,12 @@ HTTP/1.1 409 Conflict%~Content-Type: text/plain%~Content-Length: 29%~Connection:
 HTTP/1.1 409 Conflict%~Content-Type: text/plain%~Content-Length: 9%~Connection: close%~%~not toml~
 > PUT /simservs/2 HTTP/1.1%~X-3GPP-Asserted-Identity: \"sip:bob@home.example\"%~Content-Type: application/toml%~Content-Length: 34%~%~[communication-waiting]~calls = 9~
 HTTP/1.1 409 Conflict%~Content-Type: text/plain%~Content-Length: 34%~Connection: close%~%~wrong communication-waiting.calls~
-> PUT /simservs/2 HTTP/1.1%~X-3GPP-Asserted-Identity: \"sip:bob@home.example\"%~Content-Type: application/toml%~Content-Length: 632%~%~[[outgoing-communication-barring.rule]]~one = [\"sip:a\", \"sip:a\", \"sip:a\", \"sip:a\", \"sip:a\", \"sip:a\", \"sip:a\", \"sip:a\", \"sip:a\", \"sip:a\", \"sip:a\", \"sip:a\", \"sip:a\", \"sip:a\", \"sip:a\", \"sip:a\", \"sip:a\", \"sip:a\", \"sip:a\", \"sip:a\", \"sip:a\", \"sip:a\", \"sip:a\", \"sip:a\", \"sip:a\", \"sip:a\", \"sip:a\", \"sip:a\", \"sip:a\", \"sip:a\", \"sip:a\", \"sip:a\", \"sip:a\", \"sip:a\", \"sip:a\", \"sip:a\", \"sip:a\", \"sip:a\", \"sip:a\", \"sip:a\", \"sip:a\", \"sip:a\", \"sip:a\", \"sip:a\", \"sip:a\", \"sip:a\", \"sip:a\", \"sip:a\", \"sip:a\", \"sip:a\", \"sip:a\", \"sip:a\", \"sip:a\", \"sip:a\", \"sip:a\", \"sip:a\", \"sip:a\", \"sip:a\", \"sip:a\", \"sip:a\", \"sip:a\", \"sip:a\", \"sip:a\", \"sip:a\", \"sip:a\"]~
+> PUT /simservs/2 HTTP/1.1%~X-3GPP-Asserted-Identity: \"sip:bob@home.example\"%~Content-Type: application/toml%~Content-Length: 632%~%~\
+[[outgoing-communication-barring.rule]]~one = [\"sip:a\", \"sip:a\", \"sip:a\", \"sip:a\", \"sip:a\", \"sip:a\", \"sip:a\", \"sip:a\", \"sip:a\", \"sip:a\", \"sip:a\", \
+\"sip:a\", \"sip:a\", \"sip:a\", \"sip:a\", \"sip:a\", \"sip:a\", \"sip:a\", \"sip:a\", \"sip:a\", \"sip:a\", \"sip:a\", \"sip:a\", \"sip:a\", \"sip:a\", \"sip:a\", \
+\"sip:a\", \"sip:a\", \"sip:a\", \"sip:a\", \"sip:a\", \"sip:a\", \"sip:a\", \"sip:a\", \"sip:a\", \"sip:a\", \"sip:a\", \"sip:a\", \"sip:a\", \"sip:a\", \"sip:a\", \
+\"sip:a\", \"sip:a\", \"sip:a\", \"sip:a\", \"sip:a\", \"sip:a\", \"sip:a\", \"sip:a\", \"sip:a\", \"sip:a\", \"sip:a\", \"sip:a\", \"sip:a\", \"sip:a\", \"sip:a\", \
+\"sip:a\", \"sip:a\", \"sip:a\", \"sip:a\", \"sip:a\", \"sip:a\", \"sip:a\", \"sip:a\", \"sip:a\"]~
 HTTP/1.1 409 Conflict%~Content-Type: text/plain%~Content-Length: 50%~Connection: close%~%~many outgoing-communication-barring.rule.0.one 64~
 > GET /simservs/2
 HTTP/1.1 400 Bad Request%~Content-Length: 0%~Connection: close%~%~
@@ -377,7 +384,8 @@ HTTP/1.1 404 Not Found%~Content-Length: 0%~Connection: close%~%~
 HTTP/1.1 404 Not Found%~Content-Length: 0%~Connection: close%~%~
 ";
 
-/// Uploads of one account one after another, and behind each answer how many calls bob's record in force lets him have: it is the last that was kept, and a failed call of the keeper leaves it.
+/// Uploads of one account one after another, and behind each answer how many calls bob's record in force lets him have: it is the last that was kept, and a failed call of
+/// the keeper leaves it.
 const UPLOADS: &[u8] =
     b"> PUT /simservs/2 HTTP/1.1%~X-3GPP-Asserted-Identity: \"sip:bob@home.example\"%~Content-Type: application/toml%~Content-Length: 38%~%~[communication-waiting]~active = true~
 HTTP/1.1 200 OK%~Content-Length: 0%~Connection: close%~%~ two calls

@@ -61,6 +61,14 @@ fn add_next(told: &mut Told, link: &mut NetLink<'_>) {
     told.add(b"nothing\n");
 }
 
+/// Adds that nothing comes within one turn, as it should.
+fn add_turn(told: &mut Told, link: &mut NetLink<'_>) {
+    match link.next(told.alloc) {
+        Ok(Arrival::Quiet { .. }) => told.add(b"nothing\n"),
+        _ => told.fail(),
+    }
+}
+
 /// Adds what is read of a connection.
 fn add_read(told: &mut Told, stream: &TcpStream) {
     let mut by = stream;
@@ -86,6 +94,17 @@ fn send(rt: &HostRuntime, bytes: &[u8], to: &str) -> io::Result<usize> {
     socket.send_to(bytes, to)
 }
 
+/// Whether these bytes were written to a connection.
+fn send_on(stream: &io::Result<TcpStream>, bytes: &[u8]) -> bool {
+    match stream {
+        Ok(stream) => {
+            let mut by = stream;
+            by.write_all(bytes).is_ok()
+        }
+        Err(_) => false,
+    }
+}
+
 /// A connection to which these bytes were written.
 fn connect(rt: &HostRuntime, bytes: &[u8], to: &str) -> io::Result<TcpStream> {
     let mut stream = TcpStream::connect(rt, to)?;
@@ -93,13 +112,19 @@ fn connect(rt: &HostRuntime, bytes: &[u8], to: &str) -> io::Result<TcpStream> {
     Ok(stream)
 }
 
-/// What comes of the first and of the second sockets.
+/// What comes of the sockets, the first ones to the fourth.
 const SENT: &[u8] = b"datagram OPTIONS sip:a@b SIP/2.0%~
 web GET /charges HTTP/1.1%~%~
 reply
 web GET /fast HTTP/1.1%~%~
 datagram datagram
 web GET /slow HT
+reply
+nothing
+HTTP/1.1 100 Con
+web PUT / HTTP/1.1%~expect: 100-Continue%~Content-Length: 4%~%~body
+tinue%~%~reply
+web PUT / HTTP/1.0%~expect: 100-continue%~Content-Length: 4%~%~
 reply
 ";
 
@@ -132,10 +157,38 @@ fn slow_and_fast(rt: &HostRuntime, told: &mut Told) {
     add_reply(told, &slow);
 }
 
+/// A client that sends its body once it is told to go on.
+fn told_to_go_on(rt: &HostRuntime, told: &mut Told) {
+    let mut link = NetLink::new(rt);
+    let bound = link.bind(loopback(45_075), loopback(45_076));
+    told.keep(bound.is_ok());
+    let head = b"PUT / HTTP/1.1\r\nexpect: 100-Continue\r\nContent-Length: 4\r\n\r\n";
+    let stream = connect(rt, head, "127.0.0.1:45076");
+    add_turn(told, &mut link);
+    add_reply(told, &stream);
+    let sent = send_on(&stream, b"body");
+    told.keep(sent);
+    add_next(told, &mut link);
+    add_reply(told, &stream);
+}
+
+/// A client of HTTP/1.0, which is told nothing before the reply.
+fn not_told_to_go_on(rt: &HostRuntime, told: &mut Told) {
+    let mut link = NetLink::new(rt);
+    let bound = link.bind(loopback(45_077), loopback(45_078));
+    told.keep(bound.is_ok());
+    let head = b"PUT / HTTP/1.0\r\nexpect: 100-continue\r\nContent-Length: 4\r\n\r\n";
+    let stream = connect(rt, head, "127.0.0.1:45078");
+    add_next(told, &mut link);
+    add_reply(told, &stream);
+}
+
 fn wrong_sent(rt: &HostRuntime) -> usize {
     let mut told = Told::new(rt.alloc());
     one_of_each(rt, &mut told);
     slow_and_fast(rt, &mut told);
+    told_to_go_on(rt, &mut told);
+    not_told_to_go_on(rt, &mut told);
     told.wrong_line(SENT)
 }
 

@@ -2,7 +2,8 @@
 
 use crate::transactions::calls::wrong_call;
 
-/// A client INVITE transaction (figure 5): nobody answers, so Timer A sends again and Timer B gives up; then a provisional answer stops both; then a refusal, whose ACK is sent again as often as it is heard again; then a 2xx, which is passed up each time. It ends 32 s after its first final.
+/// A client INVITE transaction (figure 5): nobody answers, so Timer A sends again and Timer B gives up; then a provisional answer stops both; then a refusal, whose ACK is
+/// sent again as often as it is heard again; then a 2xx, which is passed up each time. It ends 32 s after its first final.
 const INVITE_CLIENT: &[u8] = b"begin 1> done
 ask 7 1000 INVITE/a> asked 0
 due 1499> nothing
@@ -39,7 +40,8 @@ due 162100> over 2 162100
 hear 7 162200 200/INVITE/c> stray
 ";
 
-/// A client transaction of another request (figure 6): Timer E doubles up to T2 and Timer F gives up; after a provisional answer it is sent again each T2 from then on, until 32 s after it was first sent; its final ends it.
+/// A client transaction of another request (figure 6): Timer E doubles up to T2 and Timer F gives up; after a provisional answer it is sent again each T2 from then on,
+/// until 32 s after it was first sent; its final ends it.
 const OTHER_CLIENT: &[u8] = b"begin 1> done
 ask 7 1000 OPTIONS/a> asked 0
 due 33000> again 7 1500 OPTIONS sip:bob@home.example SIP/2.0
@@ -86,7 +88,8 @@ due 240000> silent 3 232000 z9hG4bKd OPTIONS
 due 240000> nothing
 ";
 
-/// After its provisional answer a request other than INVITE is sent again each T2 from then on, however long before the request that answer is said to have come, and only before 32 s after the request was sent, when Timer F gives it up.
+/// After its provisional answer a request other than INVITE is sent again each T2 from then on, however long before the request that answer is said to have come, and only
+/// before 32 s after the request was sent, when Timer F gives it up.
 const SLOWLY: &[u8] = b"begin 1> done
 ask 7 10000 OPTIONS/a> asked 0
 hear 7 0 100/OPTIONS/a> answer 0
@@ -106,7 +109,9 @@ due 42000> silent 0 42000 z9hG4bKa OPTIONS
 due 42000> nothing
 ";
 
-/// A server INVITE transaction (figure 7, RFC 6026): repeats get the last provisional answer and then the refusal; the refusal is sent again by Timer G until its ACK, and the transaction ends by Timer H, or by Timer I after the ACK. A 2xx is sent again until its ACK, repeats get nothing, and the transaction ends by Timer L whether the ACK came or not.
+/// A server INVITE transaction (figure 7, RFC 6026): repeats get the last provisional answer and then the refusal; the refusal is sent again by Timer G until its ACK, and
+/// the transaction ends by Timer H, or by Timer I after the ACK. A 2xx is sent again until its ACK, repeats get nothing, and the transaction ends by Timer L whether the
+/// ACK came or not.
 const INVITE_SERVER: &[u8] = b"begin 1> done
 hear 1 0 INVITE/a> fresh 0
 hear 1 10 INVITE/a> repeat

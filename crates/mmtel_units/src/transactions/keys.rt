@@ -2,7 +2,8 @@
 
 use crate::transactions::calls::wrong_call;
 
-/// Branch, sent-by and method name a server transaction, an ACK by its INVITE; branch and CSeq method a client transaction. A repeat from another peer gets nothing; an ACK and a response count whoever sends them.
+/// Branch, sent-by and method name a server transaction, an ACK by its INVITE; branch and CSeq method a client transaction. A repeat from another peer gets nothing; an ACK
+/// and a response count whoever sends them.
 const KEYS: &[u8] = b"begin 1> done
 hear 1 0 INVITE/a> fresh 0
 hear 1 0 INVITE/b> fresh 1
@@ -34,7 +35,8 @@ peer 7> none
 peer 9> of 8
 ";
 
-/// The ACK of a 2xx is known by Call-ID, both tags and the number of CSeq, and ends the sending again of each 2xx that it is of; one that has the key of an INVITE with a refusal is of that alone.
+/// The ACK of a 2xx is known by Call-ID, both tags and the number of CSeq, and ends the sending again of each 2xx that it is of; one that has the key of an INVITE with a
+/// refusal is of that alone.
 const ACKS: &[u8] = b"begin 1> done
 hear 1 0 INVITE/a> fresh 0
 reply 0 0 200/INVITE/a> done

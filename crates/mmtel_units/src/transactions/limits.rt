@@ -5,7 +5,8 @@ use mmtel_told::Told;
 use mmtel_transaction::Tokens;
 use std::alloc::Global;
 
-/// 16,384 server transactions are live at most: the 16,385th fresh request is handed back, once and again, while repeats are heard and requests are sent; where one ended there is room for one.
+/// 16,384 server transactions are live at most: the 16,385th fresh request is handed back, once and again, while repeats are heard and requests are sent; where one ended
+/// there is room for one.
 const FULL: &[u8] = b"many 16384> opened 16384
 hear 1 0 OPTIONS/16384> full
 hear 1 0 OPTIONS/16384> full

@@ -56,7 +56,8 @@ fn parts_of(word: &[u8]) -> (&[u8], &[u8], &[u8]) {
     }
 }
 
-/// The message of a word: of a request method and branch, parted by `/`, of a response its status before them; then may follow sent-by, From tag, To tag, Call-ID and number of CSeq. None where it cannot be read.
+/// The message of a word: of a request method and branch, parted by `/`, of a response its status before them; then may follow sent-by, From tag, To tag, Call-ID and
+/// number of CSeq. None where it cannot be read.
 pub fn message(told: &mut Told, word: &[u8]) -> Option<Msg> {
     let (status, method, rest) = parts_of(word);
     let mut text = Told::new(told.alloc);

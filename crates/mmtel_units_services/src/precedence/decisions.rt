@@ -60,7 +60,8 @@ fn tell_onward(told: &mut Told, counts: &[u8], record: &[u8], target: &Called) {
     }
 }
 
-/// Asks whether a diversion is made: the causes received, the diversions made, the bound and the cause of the one that is due; the record of the account that diverts; the new target.
+/// Asks whether a diversion is made: the causes received, the diversions made, the bound and the cause of the one that is due; the record of the account that diverts; the
+/// new target.
 struct Diversions;
 
 impl Teller for Diversions {
@@ -74,11 +75,11 @@ impl Teller for Diversions {
 
 /// Anonymous rejection before diversion, two diversions, waiting, registration, deflection, and endings.
 const VERDICTS: &[u8] = b"# Erin hides who she is, or has no identity to hide.
-anonymous 433|arrived|r-0sip:erin@other.example|communication-diversion = { rule = [{ target = \"sip:vm@far.example\" }] };incoming-communication-barring = { reject-anonymous = true }
-divert 302 sip:vm@far.example|arrived|--0sip:erin@other.example|communication-diversion = { rule = [{ target = \"sip:vm@far.example\" }] };incoming-communication-barring = { reject-anonymous = true }
+anonymous 433|arrived|r-0sip:erin@other.example|communication-diversion={rule=[{target='sip:vm@far.example'}]};incoming-communication-barring={reject-anonymous=true}
+divert 302 sip:vm@far.example|arrived|--0sip:erin@other.net|communication-diversion={rule=[{target='sip:vm@far.example'}]};incoming-communication-barring={reject-anonymous=true}
 divert 302 sip:vm@far.example|arrived|r-0|communication-diversion = { rule = [{ target = \"sip:vm@far.example\" }] };incoming-communication-barring = { reject-anonymous = true }
 anonymous 433|arrived|ru1sip:erin@other.example|incoming-communication-barring = { reject-anonymous = true, rule = [{ allow = false }] }
-incoming-barred 603|arrived|--0sip:erin@other.example|communication-diversion = { rule = [{ target = \"sip:vm@far.example\" }] };incoming-communication-barring = { rule = [{ allow = false }] }
+incoming-barred 603|arrived|--0sip:erin@other.example|communication-diversion={rule=[{target='sip:vm@far.example'}]};incoming-communication-barring={rule=[{allow=false}]}
 offer|arrived|--0sip:alice@home.example|incoming-communication-barring = { rule = [{ allow = false }, { one = [\"sip:alice@home.example\"], allow = true }] }
 # Bob diverts to carol, who may have one call, has it, and diverts on busy.
 divert 302 sip:carol@home.example|arrived|--0|communication-diversion = { rule = [{ target = \"sip:carol@home.example\" }] }
@@ -103,9 +104,9 @@ offer|arrived|--0|communication-diversion = { rule = [{ not-registered = true, t
 not-registered 480|arrived|-u1|communication-diversion = { rule = [{ busy = true, target = \"sip:carol@home.example\" }] }
 divert 302 sip:vm@far.example|arrived|-u1|communication-diversion = { rule = [{ target = \"sip:vm@far.example\" }] }
 divert 404 sip:vm@far.example|arrived|-u0|communication-diversion = { rule = [{ not-registered = true, target = \"sip:vm@far.example\" }, { target = \"sip:carol@home.example\" }] }
-divert 302 sip:carol@home.example|arrived|--0|communication-diversion = { rule = [{ not-registered = true, target = \"sip:vm@far.example\" }, { target = \"sip:carol@home.example\" }] }
-divert 302 sip:carol@home.example|arrived|-u0|communication-diversion = { rule = [{ target = \"sip:carol@home.example\" }, { not-registered = true, target = \"sip:vm@far.example\" }] }
-incoming-barred 603|arrived|-u0|communication-diversion = { rule = [{ not-registered = true, target = \"sip:vm@far.example\" }] };incoming-communication-barring = { rule = [{ allow = false }] }
+divert 302 sip:carol@home.example|arrived|--0|communication-diversion={rule=[{not-registered=true,target='sip:vm@far.example'},{target='sip:carol@home.example'}]}
+divert 302 sip:carol@home.example|arrived|-u0|communication-diversion={rule=[{target='sip:carol@home.example'},{not-registered=true,target='sip:vm@far.example'}]}
+incoming-barred 603|arrived|-u0|communication-diversion={rule=[{not-registered=true,target='sip:vm@far.example'}]};incoming-communication-barring={rule=[{allow=false}]}
 # The user's device diverts the call, before it rings or after.
 divert 480|deflected|--0|communication-diversion = { deflection = true }
 divert 487|alerted|--0|communication-diversion = { deflection = true }

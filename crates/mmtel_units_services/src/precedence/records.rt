@@ -1,6 +1,7 @@
 //! Records, calls and answers from the rows of tables.
 //!
-//! A record is its tables as a TOML document has them, parted by `;`. A call is `r` where its caller hides who it is, `u` where the account that it reaches is not registered, else `-` in their places, the number of calls that the account has, and the URI of the caller, or nothing.
+//! A record is its tables as a TOML document has them, parted by `;`. A call is `r` where its caller hides who it is, `u` where the account that it reaches is not
+//! registered, else `-` in their places, the number of calls that the account has, and the URI of the caller, or nothing.
 
 use crate::reading::{first_moment, identity, read_tables};
 use mmtel_lex::{List, Text};

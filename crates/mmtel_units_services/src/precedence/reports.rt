@@ -1,4 +1,5 @@
-//! Tables that are told again: the answers are asked anew and written beside the questions, and what is written is compared with the table. A line that begins with `#` says what follows.
+//! Tables that are told again: the answers are asked anew and written beside the questions, and what is written is compared with the table. A line that begins with `#`
+//! says what follows.
 
 use mmtel_lex::{Uri, print_uri};
 use mmtel_told::{Told, cut, next_line};

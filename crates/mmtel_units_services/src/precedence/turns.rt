@@ -210,7 +210,8 @@ fn turns_after_attempts(rt: HostRuntime) {
     assert_eq!(rt; wrong_line::<After>(rt.alloc(), AFTER), 0);
 }
 
-/// Asks for the turn at a target: `s` where an account is served there, `u` where it is nobody's, `p` where no peer leads to it, else `-` in their places; the call; and the record.
+/// Asks for the turn at a target: `s` where an account is served there, `u` where it is nobody's, `p` where no peer leads to it, else `-` in their places; the call; and
+/// the record.
 struct At;
 
 fn tell_at(told: &mut Told, flags: &[u8], called: &Called, sheet: &Sheet) {
@@ -245,7 +246,7 @@ impl Teller for At {
 
 /// Anonymous rejection and barring before diversion; two diversions; registration; waiting; and last the targets of nobody and those without a peer.
 const AT: &[u8] =
-    b"s--|r-0sip:erin@other.example|communication-diversion = { rule = [{ target = \"sip:vm@far.example\" }] };incoming-communication-barring = { reject-anonymous = true }>anonymous 433
+    b"s--|r-0sip:erin@other.example|communication-diversion={rule=[{target='sip:vm@far.example'}]};incoming-communication-barring={reject-anonymous=true}>anonymous 433
 s--|--0sip:alice@home.example|incoming-communication-barring = { rule = [{ many = \"*\", allow = false }, { one = [\"sip:alice@home.example\"], allow = true }] }>offer
 sup|--0sip:alice@home.example|incoming-communication-barring = { rule = [{ many = \"*\", allow = false }] }>incoming-barred 603
 s--|--0|communication-diversion = { rule = [{ target = \"sip:carol@home.example\" }] }>divert 302 sip:carol@home.example 1111

@@ -8,7 +8,8 @@ use std::alloc::Global;
 
 /// Messages, the side that sent each, and what it says of that side: its tag, its target, and its routes in order.
 ///
-/// The first two are of RFC 3261 §16.12.1.1: the INVITE as it reaches the callee, and the answer as it reaches the caller. The others are of the profile: values that commas part, a Contact that is bare, one that cannot be read and one in another scheme, and a To without tag.
+/// The first two are of RFC 3261 §16.12.1.1: the INVITE as it reaches the callee, and the answer as it reaches the caller. The others are of the profile: values that
+/// commas part, a Contact that is bare, one that cannot be read and one in another scheme, and a To without tag.
 const REMOTES: &[u8] = br##"INVITE sip:callee@u2.domain.com SIP/2.0
 Via: SIP/2.0/UDP p2.domain.com;branch=z9hG4bKp2
 Max-Forwards: 68

@@ -114,7 +114,8 @@ fn tell_texts(told: &mut Told) {
     tell_records(told, text.bytes());
 }
 
-/// For what each meter runs; the text of no rows, which is the header line alone; the text of the rows, a line for each, in order; and what a CSV reader gives of that: a record a line, each field behind a `|`.
+/// For what each meter runs; the text of no rows, which is the header line alone; the text of the rows, a line for each, in order; and what a CSV reader gives of that: a
+/// record a line, each field behind a `|`.
 ///
 /// A row is what its meter was started with, answered at last and closed with; an absent answered moment is an empty field.
 const ROWS: &[u8] = b"origin

@@ -205,7 +205,8 @@ fn requests_to_callee(rt: HostRuntime) {
     assert_eq!(rt; wrong_requests_to_callee(rt.alloc()), 0);
 }
 
-/// What the server says to a caller: an INVITE, its ACK, and BYE; before them an ACK of nothing, whose number is 0 (RFC 3261 §13.2.2.4 has the number of the INVITE, and the server sent none).
+/// What the server says to a caller: an INVITE, its ACK, and BYE; before them an ACK of nothing, whose number is 0 (RFC 3261 §13.2.2.4 has the number of the INVITE, and
+/// the server sent none).
 struct ToCaller;
 
 impl Tells for ToCaller {
@@ -218,7 +219,8 @@ impl Tells for ToCaller {
     }
 }
 
-/// Requests to callers. From and To of the INVITE have changed places, their bytes kept, and the server's numbers begin with 1. The second caller's From and To are bare, with parameters, and its INVITE came by two proxies.
+/// Requests to callers. From and To of the INVITE have changed places, their bytes kept, and the server's numbers begin with 1. The second caller's From and To are bare,
+/// with parameters, and its INVITE came by two proxies.
 const SAID_TO_CALLERS: &[u8] = br##"1 c1 0123456789abcdef-1 a
 ACK sip:erin@127.0.0.1:5071 SIP/2.0
 Via: SIP/2.0/UDP 127.0.0.1:5060;branch=z9hG4bK0123456789abcdef-4
@@ -421,7 +423,8 @@ fn tell_cancel_of_offered(told: &mut Told) {
 
 /// What is built for a callee that is not yet in a call: the ACK of a 2xx without tag behind an early dialog, and a CANCEL.
 ///
-/// The dialog is that of the 2xx (RFC 3261 §12.1.2, §13.2.2.4), so the ACK goes by its route set, and To has the tag that it gave, which is none. Of a CANCEL (§9.1) Request-URI, Call-ID, From, To and the number are those of the INVITE, and so is its Via.
+/// The dialog is that of the 2xx (RFC 3261 §12.1.2, §13.2.2.4), so the ACK goes by its route set, and To has the tag that it gave, which is none. Of a CANCEL (§9.1)
+/// Request-URI, Call-ID, From, To and the number are those of the INVITE, and so is its Via.
 const BUILT: &[u8] = br##"ACK sip:e@127.0.0.1:5072 SIP/2.0
 Via: SIP/2.0/UDP 127.0.0.1:5060;branch=z9hG4bK0123456789abcdef-5
 Route: <sip:p1;lr>

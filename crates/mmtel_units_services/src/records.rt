@@ -664,46 +664,46 @@ fn reads_rules(rt: HostRuntime) -> Result<(), Fail> {
 }
 
 /// A record with each key, one with each default, and conditions that count as absent.
-const SHEETS: &[u8] = br#"[communication-diversion]
+const SHEETS: &[u8] = b"[communication-diversion]
 active = true
 no-reply-time = 30
 deflection = true
 [[communication-diversion.rule]]
-id = "each key"
-one = ["sip:a@home.example;user=phone", "tel:+49-30-1"]
-many = "Partner.example"
-except = ["sip:b@partner.example"]
+id = \"each key\"
+one = [\"sip:a@home.example;user=phone\", \"tel:+49-30-1\"]
+many = \"Partner.example\"
+except = [\"sip:b@partner.example\"]
 anonymous = true
-from = "2026-11-27T22:00:00+01:00"
-until = "2026-11-28T06:00:00+01:00"
-media = ["audio", "video"]
+from = \"2026-11-27T22:00:00+01:00\"
+until = \"2026-11-28T06:00:00+01:00\"
+media = [\"audio\", \"video\"]
 busy = true
 no-answer = false
 not-reachable = false
 not-registered = false
-target = "sip:night@home.example"
+target = \"sip:night@home.example\"
 notify-caller = false
 reveal-identity-to-caller = false
 reveal-served-user-identity-to-caller = false
 reveal-identity-to-target = false
 [[communication-diversion.rule]]
-target = "tel:+4930222"
+target = \"tel:+4930222\"
 anonymous = false
 busy = false
 [[communication-diversion.rule]]
-target = "sip:home.example"
+target = \"sip:home.example\"
 not-registered = true
 notify-caller = true
 reveal-identity-to-caller = false
 reveal-served-user-identity-to-caller = true
 reveal-identity-to-target = false
 [[communication-diversion.rule]]
-target = "sip:home.example"
+target = \"sip:home.example\"
 no-answer = true
 notify-caller = false
 reveal-served-user-identity-to-caller = false
 [[communication-diversion.rule]]
-target = "sip:home.example"
+target = \"sip:home.example\"
 not-reachable = true
 media = []
 one = []
@@ -712,8 +712,8 @@ active = true
 reject-anonymous = true
 [[incoming-communication-barring.rule]]
 allow = false
-many = "*"
-except = ["sip:friend@spam.example", "tel:+1"]
+many = \"*\"
+except = [\"sip:friend@spam.example\", \"tel:+1\"]
 [[incoming-communication-barring.rule]]
 allow = true
 anonymous = true
@@ -721,24 +721,25 @@ anonymous = true
 active = true
 [[outgoing-communication-barring.rule]]
 allow = false
-one = ["tel:+49900123456"]
+one = [\"tel:+49900123456\"]
 [originating-identity-presentation]
 active = false
 [originating-identity-presentation-restriction]
 active = true
-mode = "permanent"
-default-behaviour = "presentation-restricted"
+mode = \"permanent\"
+default-behaviour = \"presentation-restricted\"
 [terminating-identity-presentation]
 active = false
 [terminating-identity-presentation-restriction]
 active = false
-mode = "temporary"
-default-behaviour = "presentation-restricted"
+mode = \"temporary\"
+default-behaviour = \"presentation-restricted\"
 [communication-waiting]
 active = true
 calls = 3
 =diversion after 30 deflection
-=rule who one<sip:a@home.example;user=phone> one<tel:+49-30-1> many<Partner.example> except<sip:b@partner.example> anonymous from<1795813200000> until<1795842000000> media of<audio> of<video> busy: to<sip:night@home.example>
+=rule who one<sip:a@home.example;user=phone> one<tel:+49-30-1> many<Partner.example> except<sip:b@partner.example> anonymous from<1795813200000> until<1795842000000> \
+media of<audio> of<video> busy: to<sip:night@home.example>
 =rule: to<tel:+4930222> notify target-to-caller served-to-caller served-to-target
 =rule not-registered: to<sip:home.example> notify served-to-caller
 =rule no-answer: to<sip:home.example> target-to-caller served-to-target
@@ -769,7 +770,7 @@ rule = []
 =oir active
 =tir active
 =waiting 2
-"#;
+";
 
 /// What whole records say.
 #[test]

@@ -72,7 +72,8 @@ impl Tells for Way {
 
 /// What a side says early and then, each as tag, target and route; and target, routes and To of an ACK to it.
 ///
-/// Tag and routes of a callee are those of its 2xx, also where it has none (RFC 3261 §12.1.2, §13.2.2.4); those of a caller stay where it says no tag. Without a target the target stays, and without any it is the Request-URI of the INVITE.
+/// Tag and routes of a callee are those of its 2xx, also where it has none (RFC 3261 §12.1.2, §13.2.2.4); those of a caller stay where it says no tag. Without a target the
+/// target stays, and without any it is the Request-URI of the INVITE.
 const EARLY: &[u8] =
     br##"callee|e|sip:e@h|<sip:p0;lr>|b|sip:b@h|<sip:p1;lr>|sip:b@h <sip:p1;lr> <sip:bob@far.example>;tag=b
 callee|e|sip:e@h|<sip:p0;lr>|b|||sip:e@h <sip:bob@far.example>;tag=b

@@ -1,0 +1,107 @@
+//! Links in memory: what comes over them, and what they were given.
+
+use crate::pages::Page;
+use crate::settings::{behind_settings, config, numbers, setting, value};
+use mmtel_cli::{Event, ScriptLink, read_directory};
+use mmtel_link::MemoryLink;
+use mmtel_scan::{List, part};
+
+/// What is heard.
+pub fn heard(page: &mut Page, script: &[u8]) -> Option<ScriptLink> {
+    let mut text = config(page, script);
+    text.add_short(value(script, b"peer:"));
+    let directory = read_directory(page.alloc, text.bytes());
+    let directory = page.noted(directory)?;
+    let mut lines = Page::new(page.alloc);
+    lines.add_script(behind_settings(script), true);
+    let link = ScriptLink::read(page.alloc, lines.bytes(), &directory.peers);
+    page.noted(link)
+}
+
+fn copy(page: &mut Page, event: &Event) -> Event {
+    match event {
+        Event::Datagram { from, at, bytes } => Event::Datagram {
+            from: *from,
+            at: *at,
+            bytes: page.copy(bytes.bytes()),
+        },
+        Event::Web { at, bytes } => Event::Web {
+            at: *at,
+            bytes: page.copy(bytes.bytes()),
+        },
+        Event::Quiet { at } => Event::Quiet { at: *at },
+    }
+}
+
+/// The same events, for another link.
+fn copies(page: &mut Page, events: &[Event]) -> List<Event> {
+    let mut list = List::new();
+    for event in events {
+        let copied = copy(page, event);
+        if list.push(page.alloc, copied).is_err() {
+            page.fail();
+        }
+    }
+    list
+}
+
+/// A link of these events, of which those calls fail that the settings say.
+pub fn link_of(page: &mut Page, script: &[u8], events: &[Event]) -> MemoryLink {
+    let events = copies(page, events);
+    MemoryLink::new(events, numbers(page, script, b"link:"))
+}
+
+/// A link of what a script tells; one over which nothing comes where the settings do not ask for it, and where the configuration or the script is bad.
+pub fn link(page: &mut Page, script: &[u8]) -> MemoryLink {
+    let mut told = Page::new(page.alloc);
+    match setting(script, b"link:") {
+        None => MemoryLink::new(List::new(), List::new()),
+        Some(_) => match heard(&mut told, script) {
+            None => link_of(page, script, &[]),
+            Some(heard) => link_of(page, script, heard.events()),
+        },
+    }
+}
+
+/// Tells the first line of a text that was given.
+fn tell_first(page: &mut Page, text: &[u8]) {
+    let (line, _) = part(b'\r', text).unwrap_or((text, b""));
+    page.add(line);
+    page.add(b"\n");
+}
+
+/// Tells a text that was given, its lines behind `|`, but for the first.
+fn tell_whole(page: &mut Page, text: &[u8]) {
+    let mut lines = Page::new(page.alloc);
+    lines.add_ended(b'\r', text, b"");
+    let text = lines.bytes();
+    page.add_ended(b'\n', text.strip_suffix(b"\n").unwrap_or(text), b"\n|");
+    page.add(b"\n");
+    if lines.has_failed() {
+        page.fail();
+    }
+}
+
+/// Tells a text that was given, and whether it was lost.
+fn tell_given(page: &mut Page, text: &[u8], lost: bool, whole: bool) {
+    if lost {
+        page.add(b"lost ");
+    }
+    if whole {
+        tell_whole(page, text);
+    } else {
+        tell_first(page, text);
+    }
+}
+
+/// Tells what a link was given: each datagram behind the port that it goes to, and then the replies.
+pub fn tell_link(page: &mut Page, link: &MemoryLink, whole: bool) {
+    for sent in link.offers() {
+        page.add_number(u64::from(sent.to.port));
+        page.add(b" ");
+        tell_given(page, sent.text.bytes(), sent.lost, whole);
+    }
+    for replied in link.replies() {
+        tell_given(page, replied.text.bytes(), replied.lost, whole);
+    }
+}

@@ -1,0 +1,116 @@
+//! What a script may begin with, a line each, and what they say of the devices of a run.
+//!
+//! `=words:` the words of the run, parted by `|`; `=config:` another configuration, and `=further:` lines behind it, each ended by `;` (LF) or `^;` (CR LF); `=no-config` and
+//! `=no-script` where that file is not there; `=file:NAME LINES` one more; `=record:ACCOUNT LINES` what the keeper holds before; `=reads:`, `=keeps:`, `=writes:` and
+//! `=link:` the numbers of the reads, of the keeper's calls, of the writes and of the link's calls that fail; `=room:` and `=most:` how many bytes the sink takes in all
+//! and in one write; `=then:` the words of a second run over the same keeper, and `=before:` the status of the first one, 0 where it is not there.
+//!
+//! With `=link:`, which may name no call, what the script tells comes over a link too, and what that link was given is told behind what was written: each datagram behind the
+//! port that it goes to, and then the replies, the first line of each; with `=whole` each whole, its lines behind `|`, but for the first.
+
+use crate::pages::Page;
+use mmtel_scan::{List, part, plain_number, skip_text};
+
+/// A server with a trusted peer and one that is not.
+pub const CONFIG: &str = "sip 127.0.0.1:5060
+web 127.0.0.1:8080
+home home.example
+peer 1 127.0.0.1:5071 trusted
+peer 2 127.0.0.1:5072 untrusted
+route home.example 1
+route far.example 2
+account 1 sip:alice@home.example tel:+4930111
+account 2 sip:bob@home.example
+account 3 sip:carol@home.example
+operator sip:op@home.example
+mixer 127.0.0.1 40000
+factory sip:conf@home.example
+";
+
+/// The first setting of a script, and what follows it.
+pub fn first_setting(script: &[u8]) -> Option<(&[u8], &[u8])> {
+    let (line, later) = part(b'\n', script)?;
+    let line = skip_text(b"=", line)?;
+    Some((line, later))
+}
+
+/// The value of a setting, of which the key is that which its line begins with.
+pub fn setting<'a>(script: &'a [u8], key: &[u8]) -> Option<&'a [u8]> {
+    let mut rest = script;
+    for _ in 0..12 {
+        let (line, later) = first_setting(rest)?;
+        if let Some(value) = skip_text(key, line) {
+            return Some(value);
+        }
+        rest = later;
+    }
+    None
+}
+
+/// The value of a setting; none of no bytes.
+pub fn value<'a>(script: &'a [u8], key: &[u8]) -> &'a [u8] {
+    setting(script, key).unwrap_or(b"")
+}
+
+/// What stands behind the settings.
+pub fn behind_settings(script: &[u8]) -> &[u8] {
+    let mut rest = script;
+    for _ in 0..12 {
+        match first_setting(rest) {
+            None => break,
+            Some((_, later)) => rest = later,
+        }
+    }
+    rest
+}
+
+/// The word, and what stands behind the blank that follows it.
+fn word(words: &[u8]) -> (&[u8], &[u8]) {
+    part(b' ', words).unwrap_or((words, b""))
+}
+
+/// The numbers that stand in a setting.
+pub fn numbers(page: &mut Page, script: &[u8], key: &[u8]) -> List<u64> {
+    let mut list = List::new();
+    let mut rest = value(script, key);
+    for _ in 0..12 {
+        if rest.is_empty() {
+            break;
+        }
+        let (digits, later) = word(rest);
+        let number = plain_number(65_536, digits).unwrap_or(0);
+        if list.push(page.alloc, number).is_err() {
+            page.fail();
+        }
+        rest = later;
+    }
+    list
+}
+
+/// How many bytes a setting says; as many as a listing may have where it is not there.
+pub fn bytes_of(script: &[u8], key: &[u8]) -> usize {
+    let most: usize = 65_536;
+    match plain_number(65_536, value(script, key)) {
+        Some(number) => number as usize,
+        None => most,
+    }
+}
+
+/// The configuration.
+pub fn config(page: &Page, script: &[u8]) -> Page {
+    let mut text = Page::new(page.alloc);
+    match setting(script, b"config:") {
+        Some(lines) => text.add_short(lines),
+        None => text.add(CONFIG.as_bytes()),
+    }
+    text.add_short(value(script, b"further:"));
+    text
+}
+
+/// The name or number that a setting begins with, and its lines behind it.
+pub fn named<'a>(page: &Page, setting: &'a [u8]) -> (&'a [u8], Page) {
+    let (name, lines) = word(setting);
+    let mut text = Page::new(page.alloc);
+    text.add_short(lines);
+    (name, text)
+}

@@ -1,5 +1,5 @@
 //! The table of calls.
-ghost use Rattle.std.specs.Prelude.{◌≡◌, ◌≤◌, ◌<◌, ◌∷◌, ◌++◌, [], ℕ, true, false, drop, length, List, IfErr, IfOk, IsErr, None, OnErr, OnOk, Some, Err, MatchResult};
+ghost use Rattle.std.specs.Prelude.{◌≡◌, ◌≤◌, ◌∷◌, ◌++◌, [], ℕ, true, false, length, List, IfErr, IfOk, IsErr, None, OnErr, OnOk, Some, Err, MatchResult};
 ghost use Rattle.std.specs.Prelude.{count_by, is_some, nat_le, position};
 ghost use Rattle.std.specs.Option.{option_copied};
 ghost use Rattle.mmtel_b2bua.specs.Entries.{heard_by as had_answer_by, is_live, sent_it};
@@ -23,6 +23,7 @@ use crate::signals::{CallFault, Signal};
 use mmtel_call::NotTalking;
 use mmtel_call_decisions::Setting;
 use mmtel_charging::Row;
+use mmtel_decisions::drop_first;
 use mmtel_desk::Desk;
 use mmtel_leg::Released;
 use mmtel_scan::{List, NoMemory, Text};
@@ -226,7 +227,8 @@ impl Calls {
         ensures emits { IfOk result (λ out. (deeds : List Deed) → Stands peers.now accounts.now self.old deeds →
             out ≡ (hears_after (site_of self.old peers.now accounts.now) deeds (record { at = now; view = sheets.now; tokens = tokens.old; signal = signal })).desk.out) }
         ensures tokens { OnOk result ((deeds : List Deed) → Stands peers.now accounts.now self.old deeds →
-            tokens.new ≡ (hears_after (site_of self.old peers.now accounts.now) deeds (record { at = now; view = sheets.now; tokens = tokens.old; signal = signal })).desk.tokens) }
+            tokens.new ≡
+            (hears_after (site_of self.old peers.now accounts.now) deeds (record { at = now; view = sheets.now; tokens = tokens.old; signal = signal })).desk.tokens) }
         ensures site { OnOk result ((peers : Peers) (accounts : List AccountIdentity) → site_of self.new peers accounts ≡ site_of self.old peers accounts) }
         ensures full { self.old.has_failed ≡ false → is_full signal self.old.table.entries ≡ true →
             (result ≡ Err (CallFault.Full signal)) × ((self.new ≡ self.old) × (tokens.new ≡ tokens.old)) }
@@ -449,24 +451,5 @@ fn beginning() -> Moment {
     match Moment::new(0) {
         Some(moment) => moment,
         None => unreachable!(),
-    }
-}
-
-/// Takes the first item.
-fn drop_one<T: Drop>(items: &mut List<T>)
-    requires { 0 < length items.old }
-    ensures { items.new ≡ drop 1 items.old }
-{
-    drop(items.remove(0));
-}
-
-/// Takes so many rows from the front.
-#[tactic(auto, using(crate::proofs::Places::dropped))]
-fn drop_first(rows: &mut List<Row>, count: usize)
-    requires { count ≤ length rows.old }
-    ensures { rows.new ≡ drop count rows.old }
-{
-    for _ in 0..count {
-        drop_one(rows);
     }
 }

@@ -64,9 +64,11 @@ signals heard = map lives.Hears heard
 
 -- of a call of which no leg was taken out, and of one that ended in the deed after that
 pub record CallsSendCleanMessages : Type 0 where
-  pub clean : (site : Site) (deeds : List Deed) (number : ℕ) (start : story.Start) (heard : List story.Heard) → HasNumbers site deeds → IsClean site.home → Each IsCleanDeed deeds →
+  pub clean : (site : Site) (deeds : List Deed) (number : ℕ) (start : story.Start) (heard : List story.Heard) → HasNumbers site deeds → IsClean site.home →
+      Each IsCleanDeed deeds →
       life_of site number deeds ≡ Some (record { start = start; events = signals heard }) → Each IsCleanEmit (emits_of site number deeds)
-  pub lines : (site : Site) (deeds : List Deed) (number : ℕ) (start : story.Start) (heard : List story.Heard) → HasNumbers site deeds → IsClean site.home → Each IsCleanDeed deeds →
+  pub lines : (site : Site) (deeds : List Deed) (number : ℕ) (start : story.Start) (heard : List story.Heard) → HasNumbers site deeds → IsClean site.home →
+      Each IsCleanDeed deeds →
       life_of site number deeds ≡ Some (record { start = start; events = signals heard }) → Each SendsOwnLines (emits_of site number deeds)
   pub finished : (site : Site) (deeds : List Deed) (number : ℕ) (start : story.Start) (heard : List story.Heard) (side : Side) (at : ℕ) (desk : Desk) →
       HasNumbers site deeds → IsClean site.home → Each IsCleanDeed deeds →

@@ -24,7 +24,8 @@ told_caller site c code desk = replied_to site c c.opening.key c.opening.invite 
 -- the 181 of a diversion
 abbrev pub told_diversion : Site → Call → Desk → Desk
 told_diversion site c desk =
-    answered site.sip c.opening.key c.opening.invite c.opening.tag 181 (history_lines (masks_all c.opening) (trusts site c.opening.invite.peer) (told_list c.diversions)) [] [] desk
+    answered site.sip c.opening.key c.opening.invite c.opening.tag 181
+    (history_lines (masks_all c.opening) (trusts site c.opening.invite.peer) (told_list c.diversions)) [] [] desk
 
 -- a response of the target that the call is offered to
 abbrev pub relayed_to_caller : Site → Call → Option Service → Said → Desk → Desk

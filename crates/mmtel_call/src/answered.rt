@@ -1,5 +1,5 @@
 //! An answered call: a 2xx waits for its ACK, the call talks, or a side leaves.
-ghost use Rattle.std.specs.Prelude.{◌≡◌, IfOk, OnOk, codes, map};
+ghost use Rattle.std.specs.Prelude.{◌≡◌, IfOk, OnOk, Some, codes, map};
 ghost use Rattle.mmtel_desk.specs.Desks.{token};
 ghost use Rattle.mmtel_desk.specs.Sending.{acked, acked_for, asked_for, relayed_ack_text};
 ghost use Rattle.mmtel_types.specs.Sides.{other_of};
@@ -13,7 +13,7 @@ ghost use Rattle.mmtel_call.specs.Closing.{over_stood};
 use crate::calls::{Call, Pair, Phase, Stage, Success, Taken};
 use mmtel_answers::Hearing;
 use mmtel_call_decisions::{Setting, is_ack_of, is_same_side, number_of};
-use mmtel_desk::{Desk, Invitation};
+use mmtel_desk::Desk;
 use mmtel_leg::Ended;
 use mmtel_message::Line;
 use mmtel_scan::{List, NoMemory, Text};
@@ -153,6 +153,15 @@ impl Pair {
     }
 }
 
+/// The INVITE with the text of its ACK.
+fn acked_by(text: Text, taken: Taken) -> Taken
+    ensures { result ≡ record taken { invitation = record taken.invitation { ack = Some text } } }
+{
+    let mut taken = taken;
+    taken.invitation.ack = Some(text);
+    taken
+}
+
 /// Keeps the text of an ACK with an INVITE of this branch.
 fn with_ack(alloc: Global, branch: &[u8], text: &Text, taken: Taken) -> Result<Taken, NoMemory>
     ensures { IfOk result (λ t. t ≡ with_ack branch.now text.now taken) }
@@ -160,20 +169,13 @@ fn with_ack(alloc: Global, branch: &[u8], text: &Text, taken: Taken) -> Result<T
     if taken.invitation.branch.bytes() != branch {
         return Ok(taken);
     }
-    let kept = text.copied(alloc)?;
-    let Taken {
-        invitation,
-        tag,
-        within,
-    } = taken;
-    Ok(Taken {
-        invitation: Invitation {
-            ack: Some(kept),
-            ..invitation
-        },
-        tag,
-        within,
-    })
+    match text.copied(alloc) {
+        Err(error) => {
+            drop(taken);
+            Err(error)
+        }
+        Ok(kept) => Ok(acked_by(kept, taken)),
+    }
 }
 
 /// Keeps it with each INVITE of this branch.
@@ -227,8 +229,9 @@ impl Call {
         let Pair {
             caller,
             callee,
-            service: _,
+            service,
         } = x;
+        drop(service);
         let Ended { meter: first } = caller.leave();
         let Ended { meter: last } = callee.leave();
         self.close(alloc, at, Cause::Ended, first, last, desk)
@@ -390,7 +393,9 @@ impl Call {
             ≡ acked_for setting.now.sip (leg_of (other_of side) x.now).dialogue (shown_across setting.now self.now x.now side m.now) m.now.heard desk.old) }
     {
         let lines = self.shown_across(alloc, setting, x, side, m)?;
-        x.acknowledge_for(alloc, setting, side.other(), &lines, m, desk)
+        let acked = x.acknowledge_for(alloc, setting, side.other(), &lines, m, desk);
+        drop(lines);
+        acked
     }
 
     /// The ACK of the 2xx came, and the call talks.

@@ -14,7 +14,7 @@ ghost use Rattle.mmtel_call.specs.Ringing.{answered, armed, awaiting_ack, early_
 ghost use Rattle.mmtel_call.specs.Ringing.{with_loose};
 
 use crate::calls::{Attempt, Call, Pair, Phase, Stage, Success, Taken, Trial};
-use crate::legs::said_by_callee;
+use crate::legs::said_with_tag;
 use mmtel_answers::Hearing;
 use mmtel_call_decisions::{Setting, number_of, time_of};
 use mmtel_desk::{Desk, Invitation, Loose, file, once_cancelled, with_early};
@@ -204,8 +204,13 @@ impl Call {
         self.relay_to_caller(alloc, setting, service, m, desk)?;
         self.arm(alloc, code, at, &x.attempt, desk)?;
         let said = x.callee.early_said(alloc, m)?;
-        let kept = x.callee.early_said(alloc, m)?;
-        Ok((said, kept))
+        match x.callee.early_said(alloc, m) {
+            Err(error) => {
+                drop(said);
+                Err(error)
+            }
+            Ok(kept) => Ok((said, kept)),
+        }
     }
 
     /// A provisional response of the target but 100.
@@ -264,9 +269,13 @@ impl Call {
         self.relay_to_caller(alloc, setting, attempt.service.as_ref(), m, desk)?;
         self.await_ack(alloc, at, desk)?;
         let success = self.success_of(alloc, &self.opening.invite, &attempt.invitation)?;
-        let remote = said_by_callee(alloc, m)?;
-        let tag = remote.tag.copied(alloc)?;
-        Ok((remote, tag, success))
+        match said_with_tag(alloc, m) {
+            Err(error) => {
+                drop(success);
+                Err(error)
+            }
+            Ok((remote, tag)) => Ok((remote, tag, success)),
+        }
     }
 
     /// The call was answered: it waits for the caller's ACK.

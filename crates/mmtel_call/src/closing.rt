@@ -42,6 +42,15 @@ pub fn give_up_meter(meter: Option<Meter>, at: Moment) {
     }
 }
 
+/// Lets meters go that are left without rows.
+pub fn give_up_meters(meters: List<Meter>, at: Moment) {
+    let mut meters = meters;
+    'meters: while let Some(meter) = meters.pop_first() {
+        give_up_meter(Some(meter), at);
+    }
+    meters.destroy_empty();
+}
+
 impl Call {
     /// Where the call stands, from here on: nothing but its end stood there.
     pub fn put_phase(&mut self, phase: Phase)

@@ -14,6 +14,7 @@ use crate::closing::meter_for;
 use crate::legs::give_up_caller;
 use mmtel_answers::{Hearing, status_of};
 use mmtel_call_decisions::{Present, Service, Setting, is_handed_on};
+use mmtel_call_turns::decide_after;
 use mmtel_charging::Kind;
 use mmtel_desk::Desk;
 use mmtel_leg::{CallerLeg, Ended, Standing, request_uri};
@@ -108,16 +109,26 @@ impl Call {
             ≡ record self.old { diversions = diverted_list (uri_text target.now.uri) (self.old.diversions.left - 1) (told_due due.entry.now) self.old }) }
     {
         let from = Text::of(alloc, request_uri(self.opening.invite.message.start()))?;
-        let uri = print_uri(alloc, &target.uri)?;
-        self.diversions.note(
-            alloc,
-            &from,
-            &uri,
-            due.cause,
-            !due.reveal_to_target,
-            !due.reveal_served_to_caller,
-            !due.reveal_to_caller,
-        )
+        match print_uri(alloc, &target.uri) {
+            Err(error) => {
+                drop(from);
+                Err(error)
+            }
+            Ok(uri) => {
+                let noted = self.diversions.note(
+                    alloc,
+                    &from,
+                    &uri,
+                    due.cause,
+                    !due.reveal_to_target,
+                    !due.reveal_served_to_caller,
+                    !due.reveal_to_caller,
+                );
+                drop(from);
+                drop(uri);
+                noted
+            }
+        }
     }
 
     /// Makes a diversion to this target, by the account that is served: notes it, begins its meter, and tells the caller where that is wished.
@@ -169,6 +180,7 @@ impl Call {
             }
             Ok((target, barred)) => {
                 if barred {
+                    drop(target);
                     let cause = Cause::OutgoingBarred;
                     return self.refuse(alloc, setting, present.at, caller, cause, desk);
                 }
@@ -199,6 +211,7 @@ impl Call {
             ≡ (divert self.old.diversions.left setting.now (standing present.now) caller (option_copied service.entry) (told_due due.entry.now) self.old desk.old).desk) }
     {
         if self.diversions.left() == 0 {
+            drop(target);
             let cause = Cause::TooManyDiversions {
                 busy: due.cause == 486,
             };
@@ -206,6 +219,7 @@ impl Call {
         }
         match self.make_diversion(alloc, setting, present.at, service, due, &target, desk) {
             Err(error) => {
+                drop(target);
                 give_up_caller(caller, present.at);
                 Err(error)
             }
@@ -254,6 +268,7 @@ impl Call {
     {
         match self.weigh_target(alloc, setting, present, cause, &target) {
             Err(error) => {
+                drop(target);
                 give_up_caller(caller, present.at);
                 Err(error)
             }
@@ -295,23 +310,29 @@ impl Call {
             ),
             Turn::Divert(due) => match self.pass_by(alloc, at, service.as_ref()) {
                 Err(error) => {
+                    drop(target);
+                    drop(service);
                     give_up_caller(caller, at);
                     Err(error)
                 }
                 Ok(()) => {
-                    self.divert(
-                        alloc,
-                        setting,
-                        present,
-                        caller,
-                        service.as_ref(),
-                        &due,
-                        desk,
-                    )
+                    let reached = service.as_ref();
+                    let diverted = self.divert(
+                        alloc, setting, present, caller, reached, &due, desk,
+                    );
+                    drop(target);
+                    drop(service);
+                    diverted
                 }
             },
             Turn::Refuse(why) => {
-                self.pass_by_and_refuse(alloc, setting, at, caller, service.as_ref(), why, desk)
+                let reached = service.as_ref();
+                let refused = self.pass_by_and_refuse(
+                    alloc, setting, at, caller, reached, why, desk,
+                );
+                drop(target);
+                drop(service);
+                refused
             }
         }
     }
@@ -372,11 +393,18 @@ impl Call {
         ensures desk { OnOk result (desk.new ≡ (offer_where peer setting.now at caller service waiting cause target self.old desk.old).desk) }
     {
         let Some(peer) = peer else {
+            drop(target);
             let why = Cause::NoRoute;
-            return self.pass_by_and_refuse(alloc, setting, at, caller, service.as_ref(), why, desk);
+            let reached = service.as_ref();
+            let refused = self.pass_by_and_refuse(alloc, setting, at, caller, reached, why, desk);
+            drop(service);
+            return refused;
         };
-        match self.opening.aim_at(alloc, peer, cause, &target) {
+        let aim = self.opening.aim_at(alloc, peer, cause, &target);
+        drop(target);
+        match aim {
             Err(error) => {
+                drop(service);
                 give_up_caller(caller, at);
                 Err(error)
             }
@@ -405,7 +433,7 @@ impl Call {
             (decided_after self.old.opening present.now.at (option_copied service.entry) (told_end how.entry.now)) self.old desk.old).desk) }
     {
         let at = present.at;
-        match self.opening.decide_after(present, service, how) {
+        match decide_after(&self.opening, present, service, how) {
             AfterEnding::Answered => {
                 let Ended { meter } = caller.leave();
                 self.close(alloc, at, Cause::Ended, meter, None, desk)

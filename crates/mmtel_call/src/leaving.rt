@@ -1,5 +1,5 @@
 //! INVITEs of a call that are not the one it waits on.
-ghost use Rattle.std.specs.Prelude.{◌≡◌, ◌<◌, ℕ, length, OnOk, position, Some, slice_get};
+ghost use Rattle.std.specs.Prelude.{◌≡◌, ◌<◌, ℕ, length, IfOk, OnOk, position, Some, slice_get};
 ghost use Rattle.mmtel_answers.specs.Said.{Said};
 ghost use Rattle.mmtel_call.specs.Leaving.{answered_loose, answered_other, answered_taken, forked, is_fork, is_key, is_loose_key, is_success, is_taken, is_taken_key};
 ghost use Rattle.mmtel_call.specs.Leaving.{is_talking, repeated, without, without_key, without_silent};
@@ -42,6 +42,16 @@ impl Taken {
         ensures { (m : Said) → tag.now ≡ tag_given m → result ≡ is_fork self.now m }
     {
         is_other_dialog(self.within, self.tag.bytes(), tag)
+    }
+
+    /// The same, by the response.
+    fn is_forked_by(&self, alloc: Global, response: &Hearing) -> Result<bool, NoMemory>
+        ensures { IfOk result (λ yes. yes ≡ is_fork self.now response.now) }
+    {
+        let remote = said_by_callee(alloc, response)?;
+        let forked = self.is_fork(remote.tag.bytes());
+        drop(remote);
+        Ok(forked)
     }
 }
 
@@ -176,7 +186,10 @@ impl Call {
             within: false,
         };
         match desk.hear_loose(alloc, setting.sip, key, loose, m)? {
-            None => Ok(()),
+            None => {
+                drop(tag);
+                Ok(())
+            }
             Some(left) => {
                 let Loose {
                     invitation,
@@ -211,8 +224,7 @@ impl Call {
         if !is_success(status_of(m.message.start())) {
             return Ok(());
         }
-        let remote = said_by_callee(alloc, m)?;
-        if taken.is_fork(remote.tag.bytes()) {
+        if taken.is_forked_by(alloc, m)? {
             return self.hear_fork(alloc, setting, key, m, at, desk);
         }
         self.repeat_ack(alloc, taken, desk)

@@ -12,7 +12,7 @@ use crate::closing::give_up_meter;
 use mmtel_answers::Hearing;
 use mmtel_charging::Meter;
 use mmtel_leg::{CalleeLeg, CallerLeg, DialogueFault, Ended, InFlight, LegOf, Remote, Standing};
-use mmtel_scan::NoMemory;
+use mmtel_scan::{NoMemory, Text};
 use mmtel_types::{Moment, Side};
 use std::alloc::Global;
 
@@ -39,6 +39,35 @@ pub fn said_by_callee(alloc: Global, response: &Hearing) -> Result<Remote, NoMem
     Remote::read(alloc, &response.message, Side::Callee)
 }
 
+/// The callee's tag in a response.
+pub fn tag_said(alloc: Global, response: &Hearing) -> Result<Text, NoMemory>
+    ensures { IfOk result (λ tag. tag ≡ tag_given response.now) }
+{
+    let Remote {
+        tag,
+        target,
+        routes,
+    } = said_by_callee(alloc, response)?;
+    drop(target);
+    drop(routes);
+    Ok(tag)
+}
+
+/// What the callee says of itself in a response, and its tag once more.
+pub fn said_with_tag(alloc: Global, response: &Hearing) -> Result<(Remote, Text), NoMemory>
+    ensures remote { IfOk result (λ r. r.0 ≡ remote_of Callee response.now.heard.lines) }
+    ensures tag { IfOk result (λ r. r.1 ≡ tag_given response.now) }
+{
+    let remote = said_by_callee(alloc, response)?;
+    match remote.tag.copied(alloc) {
+        Err(error) => {
+            drop(remote);
+            Err(error)
+        }
+        Ok(tag) => Ok((remote, tag)),
+    }
+}
+
 impl Tried {
     /// Whether a response made an early dialog.
     fn is_early(&self) -> bool
@@ -56,6 +85,7 @@ impl Tried {
     {
         let remote = said_by_callee(alloc, response)?;
         if self.is_early() || remote.tag.bytes().is_empty() {
+            drop(remote);
             return Ok(None);
         }
         Ok(Some(remote))
@@ -138,8 +168,9 @@ impl Trial {
         let Trial {
             caller,
             callee,
-            attempt: _,
+            attempt,
         } = self;
+        drop(attempt);
         give_up_caller(caller, at);
         give_up_meter(callee.leave(), at);
     }
@@ -151,8 +182,9 @@ impl Pair {
         let Pair {
             caller,
             callee,
-            service: _,
+            service,
         } = self;
+        drop(service);
         give_up_caller(caller, at);
         let Ended { meter } = callee.leave();
         give_up_meter(meter, at);

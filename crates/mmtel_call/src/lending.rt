@@ -111,8 +111,9 @@ impl Loan {
         let Loan {
             left,
             meter,
-            service: _,
+            service,
         } = self;
+        drop(service);
         match left {
             Released::Caller(leg) => {
                 let Ended { meter: first } = leg.leave();

@@ -1,14 +1,19 @@
 //! How a call is offered to a target.
-ghost use Rattle.std.specs.Prelude.{◌≡◌, false, IfOk, OnOk};
+ghost use Rattle.std.specs.Prelude.{◌≡◌, ◌+◌, false, IfOk, IsOk, OnOk};
 ghost use Rattle.std.specs.Option.{option_copied};
 ghost use Rattle.mmtel_answers.specs.Attempts.{called};
-ghost use Rattle.mmtel_desk.specs.Desks.{drew, token};
+ghost use Rattle.mmtel_desk.specs.Desks.{drew, emitted, token};
 ghost use Rattle.mmtel_desk.specs.Invitations.{sent};
+ghost use Rattle.mmtel_desk.specs.Sending.{offered};
+ghost use Rattle.mmtel_transaction.specs.declared.words.DueWord.TheVariants.{Cap};
+ghost use Rattle.mmtel_transaction.specs.declared.words.Emit.TheVariants.{Arm};
 ghost use Rattle.mmtel_types.specs.declared.causes.Cause.TheVariants.{Ended as HasEnded};
+ghost use Rattle.mmtel_types.specs.declared.sides.Side.TheVariants.{Caller as TheCaller};
 ghost use Rattle.mmtel_charging.specs.declared.rows.Kind.TheVariants.{Terminating};
+ghost use Rattle.mmtel_call_decisions.specs.Showing.{shown_to};
 ghost use Rattle.mmtel_call.specs.Calls.{Offered, Over};
 ghost use Rattle.mmtel_call.specs.Closing.{meter_for};
-ghost use Rattle.mmtel_call.specs.Offering.{dialog_of, next_attempt, offer, sent_to};
+ghost use Rattle.mmtel_call.specs.Offering.{dialog_of, longest_time, next_attempt, offer, sent_to};
 
 use crate::calls::{Attempt, Call, Phase, Trial, Tried, TriedLeg};
 use crate::closing::meter_for;
@@ -18,13 +23,40 @@ use mmtel_call_decisions::{Service, Setting};
 use mmtel_charging::Kind;
 use mmtel_desk::{Desk, Invitation};
 use mmtel_leg::{CalleeLeg, CallerLeg, Dialogue, Standing};
-use mmtel_scan::NoMemory;
+use mmtel_message::Line;
+use mmtel_scan::{List, NoMemory};
 use mmtel_transaction::{DueWord, Emit};
-use mmtel_types::{Moment, Side};
+use mmtel_types::{Moment, Peer, Side};
 use std::alloc::Global;
 
 /// The longest time that an attempt may take, in milliseconds.
 const LONGEST_TIME: u64 = 180_000;
+
+/// The value, unless what came after it failed.
+fn unless_failed<T: Drop>(after: Result<(), NoMemory>, value: T) -> Result<T, NoMemory>
+    ensures value { IfOk result (λ kept. kept ≡ value) }
+    ensures passed { IsOk result → IsOk after }
+{
+    after?;
+    Ok(value)
+}
+
+/// An INVITE, and its dialog once more.
+fn with_its_dialog(
+    alloc: Global,
+    invitation: Invitation,
+) -> Result<(Invitation, Dialogue), NoMemory>
+    ensures invitation { IfOk result (λ r. r.0 ≡ invitation) }
+    ensures dialog { IfOk result (λ r. r.1 ≡ invitation.dialogue) }
+{
+    match invitation.dialogue.copied(alloc) {
+        Err(error) => {
+            drop(invitation);
+            Err(error)
+        }
+        Ok(dialogue) => Ok((invitation, dialogue)),
+    }
+}
 
 impl Call {
     /// The number of the next attempt.
@@ -32,6 +64,71 @@ impl Call {
         ensures { result ≡ next_attempt self.now }
     {
         self.attempts.saturating_add(1)
+    }
+
+    /// What a target behind this peer is shown of the INVITE that opened the call.
+    fn shown_to_target(
+        &self,
+        alloc: Global,
+        setting: &Setting<'_>,
+        service: Option<&Service>,
+        peer: Peer,
+    ) -> Result<List<Line>, NoMemory>
+        ensures { IfOk result (λ ls. ls ≡ shown_to setting.now self.now.opening self.now.diversions (option_copied service.entry) TheCaller peer self.now.opening.invite) }
+    {
+        let opening = &self.opening;
+        opening.shown_to(
+            alloc,
+            setting,
+            &self.diversions,
+            service,
+            Side::Caller,
+            peer,
+            &opening.invite,
+        )
+    }
+
+    /// Arms the longest time that the next attempt may take.
+    fn arm_cap(&self, alloc: Global, at: Moment, desk: &mut Desk) -> Result<(), NoMemory>
+        ensures { OnOk result (desk.new ≡ emitted (Arm self.now.opening.number (Cap (next_attempt self.now)) (at + longest_time)) desk.old) }
+    {
+        desk.emit(
+            alloc,
+            Emit::Arm {
+                call: self.opening.number,
+                what: DueWord::Cap(self.next_attempt()),
+                at: at.ms() + LONGEST_TIME,
+            },
+        )
+    }
+
+    /// Sends the INVITE of an attempt with these lines of the one that opened the call, and arms the longest time that it may take.
+    fn send_shown(
+        &self,
+        alloc: Global,
+        setting: &Setting<'_>,
+        at: Moment,
+        waiting: bool,
+        aim: Aim,
+        lines: &List<Line>,
+        desk: &mut Desk,
+    ) -> Result<Invitation, NoMemory>
+        ensures done { OnOk result (desk.new
+            ≡ emitted (Arm self.now.opening.number (Cap (next_attempt self.now)) (at + longest_time))
+            (offered setting.now.sip aim self.now.opening.invite.heard self.now.opening.restricted lines.now waiting desk.old)) }
+        ensures sent { IfOk result (λ i. i ≡ sent (dialog_of self.now.opening aim desk.old) 1 (token (drew (drew desk.old)))) }
+    {
+        let opening = &self.opening;
+        let invitation = desk.offer(
+            alloc,
+            setting.sip,
+            aim,
+            &opening.invite,
+            opening.restricted,
+            lines.items(),
+            waiting,
+        )?;
+        unless_failed(self.arm_cap(alloc, at, desk), invitation)
     }
 
     /// Sends the INVITE of an attempt, and arms the longest time that it may take. Gives the INVITE as it was sent.
@@ -48,36 +145,17 @@ impl Call {
         ensures done { OnOk result (desk.new ≡ sent_to setting.now at (option_copied service.entry) waiting aim self.now desk.old) }
         ensures sent { IfOk result (λ i. i ≡ sent (dialog_of self.now.opening aim desk.old) 1 (token (drew (drew desk.old)))) }
     {
-        let opening = &self.opening;
-        let peer = aim.peer;
-        let caller = Side::Caller;
-        let lines = opening.shown_to(
-            alloc,
-            setting,
-            &self.diversions,
-            service,
-            caller,
-            peer,
-            &opening.invite,
-        )?;
-        let invitation = desk.offer(
-            alloc,
-            setting.sip,
-            aim,
-            &opening.invite,
-            opening.restricted,
-            lines.items(),
-            waiting,
-        )?;
-        desk.emit(
-            alloc,
-            Emit::Arm {
-                call: opening.number,
-                what: DueWord::Cap(self.next_attempt()),
-                at: at.ms() + LONGEST_TIME,
-            },
-        )?;
-        Ok(invitation)
+        match self.shown_to_target(alloc, setting, service, aim.peer) {
+            Err(error) => {
+                drop(aim);
+                Err(error)
+            }
+            Ok(lines) => {
+                let sent = self.send_shown(alloc, setting, at, waiting, aim, &lines, desk);
+                drop(lines);
+                sent
+            }
+        }
     }
 
     /// The call waits for the answer to this INVITE, whose dialog the target's leg keeps.
@@ -144,6 +222,7 @@ impl Call {
                 Ok(())
             }
             Err(error) => {
+                drop(service);
                 give_up_caller(caller, at);
                 Err(error)
             }
@@ -166,7 +245,6 @@ impl Call {
         ensures dialog { IfOk result (λ r. r.1 ≡ dialog_of self.now.opening aim desk.old) }
     {
         let invitation = self.send_offer(alloc, setting, at, service, waiting, aim, desk)?;
-        let dialogue = invitation.dialogue.copied(alloc)?;
-        Ok((invitation, dialogue))
+        with_its_dialog(alloc, invitation)
     }
 }

@@ -8,7 +8,7 @@ ghost use Rattle.mmtel_sdp.specs.Offers.{direction_told};
 ghost use Rattle.mmtel_types.specs.Sides.{other_of};
 ghost use Rattle.mmtel_types.specs.declared.causes.Cause.TheVariants.{Ended as HasEnded};
 ghost use Rattle.mmtel_call.specs.Answered.{at_stage, bye_to, leg_of, with_leg};
-ghost use Rattle.mmtel_call.specs.Calls.{Over, Talking};
+ghost use Rattle.mmtel_call.specs.Calls.{Answered, Over, Stood, Talking};
 ghost use Rattle.mmtel_call.specs.Closing.{onward, over_stood};
 ghost use Rattle.mmtel_call.specs.Reinvites.{agreed, asked_across, bye_to_both, bye_while_asking, cancelled_across, cancelled_if_due, cancelling, ended_dialogs};
 ghost use Rattle.mmtel_call.specs.Reinvites.{ends_dialog, having_invited, held_by, invited, on_response_across, proceeding, proceeding_across, refused_back, relayed_back};
@@ -18,7 +18,7 @@ ghost use Rattle.mmtel_call.specs.Sending.{replied_to};
 
 use crate::attempts::{has_said, taken_by};
 use crate::calls::{Call, Pair, Phase, Reinvite, Stage, Success, Taken};
-use crate::legs::said_by_callee;
+use crate::legs::tag_said;
 use mmtel_answers::{Hearing, status_of};
 use mmtel_call_decisions::{Setting, is_same_side};
 use mmtel_desk::{Desk, Invitation, file, once_cancelled};
@@ -107,6 +107,26 @@ impl Reinvite {
             cancel_due: !provisional,
         }
     }
+
+    /// The INVITE to the other side alone.
+    fn sent(self) -> Invitation
+        ensures { result ≡ self.invitation }
+    {
+        let Reinvite {
+            key: _,
+            request,
+            invitation,
+            cancel_due: _,
+        } = self;
+        drop(request);
+        invitation
+    }
+}
+
+/// Lets both legs go, and the INVITE that was relayed, whose call is given up.
+fn give_up_asking(x: Pair, q: Reinvite, at: Moment) {
+    drop(q);
+    x.give_up(at);
 }
 
 impl Pair {
@@ -209,7 +229,9 @@ impl Call {
     {
         self.reply_to(alloc, setting, key, m, 100, desk)?;
         let lines = self.shown_across(alloc, setting, x, side, m)?;
-        x.invite(alloc, setting, side.other(), &lines, m, desk)
+        let invited = x.invite(alloc, setting, side.other(), &lines, m, desk);
+        drop(lines);
+        invited
     }
 
     /// A side of a talking call sends an INVITE.
@@ -231,6 +253,7 @@ impl Call {
         let mut x = x;
         match self.pass_invite(alloc, setting, &mut x, side, key, &m, desk) {
             Err(error) => {
+                drop(m);
                 x.give_up(at);
                 Err(error)
             }
@@ -266,7 +289,9 @@ impl Call {
         let other = side.other();
         let lines = opening.shown_to(alloc, setting, &self.diversions, service, other, peer, m)?;
         let tag = opening.tag.bytes();
-        desk.relay(alloc, setting.sip, q.key, &q.request, tag, lines.items(), m)
+        let relayed = desk.relay(alloc, setting.sip, q.key, &q.request, tag, lines.items(), m);
+        drop(lines);
+        relayed
     }
 
     /// A final from 300 has its ACK, and goes back to the side that asked.
@@ -327,9 +352,14 @@ impl Call {
         self.relay_back(alloc, setting, x, side, q, m, desk)?;
         self.await_ack(alloc, at, desk)?;
         let direction = direction_told(alloc, q.request.message.body())?;
-        let success = self.success_of(alloc, &q.request, &q.invitation)?;
-        let remote = said_by_callee(alloc, m)?;
-        Ok((remote.tag, direction, success))
+        let tag = tag_said(alloc, m)?;
+        match self.success_of(alloc, &q.request, &q.invitation) {
+            Err(error) => {
+                drop(tag);
+                Err(error)
+            }
+            Ok(success) => Ok((tag, direction, success)),
+        }
     }
 
     /// The INVITE of a side was answered: the call waits for its ACK.
@@ -347,6 +377,30 @@ impl Call {
         self.successes = self.successes.saturating_add(1);
         self.hold = held_by(side, direction, self.hold);
         file(alloc, &mut self.taken, taken)
+    }
+
+    /// The same, and where the call stands then.
+    fn agree(
+        &mut self,
+        alloc: Global,
+        x: Pair,
+        side: Side,
+        direction: Option<Direction>,
+        taken: Taken,
+        success: Success,
+    ) -> Result<(), NoMemory>
+        requires { self.old.phase ≡ Over HasEnded }
+        ensures { OnOk result (self.new
+            ≡ record self.old {
+              successes = next_success self.old;
+              hold = held_by side direction self.old.hold;
+              taken = self.old.taken ++ taken ∷ [];
+              phase = Stood x (Answered side success);
+            }) }
+    {
+        let noted = self.note_agreement(alloc, side, direction, taken);
+        self.put_phase(Phase::Stood(x, Stage::Answered(side, success)));
+        noted
     }
 
     /// A 2xx of the other side.
@@ -368,14 +422,12 @@ impl Call {
     {
         match self.pass_agreement(alloc, setting, at, &x, side, &q, m, desk) {
             Err(error) => {
-                x.give_up(at);
+                give_up_asking(x, q, at);
                 Err(error)
             }
             Ok((tag, direction, success)) => {
-                let taken = taken_by(key, tag, true, q.invitation);
-                let noted = self.note_agreement(alloc, side, direction, taken);
-                self.put_phase(Phase::Stood(x, Stage::Answered(side, success)));
-                noted
+                let taken = taken_by(key, tag, true, q.sent());
+                self.agree(alloc, x, side, direction, taken, success)
             }
         }
     }
@@ -479,6 +531,31 @@ impl Call {
         if code < 300 {
             return self.hear_agreement(alloc, setting, at, x, side, q, key, m, desk);
         }
+        self.take_final_across(alloc, setting, at, x, side, q, key, m, code, desk)
+    }
+
+    /// The same of a final from 300, with which the INVITE goes.
+    fn take_final_across(
+        &mut self,
+        alloc: Global,
+        setting: &Setting<'_>,
+        at: Moment,
+        x: Pair,
+        side: Side,
+        q: Reinvite,
+        key: TKey,
+        m: &Hearing,
+        code: u16,
+        desk: &mut Desk,
+    ) -> Result<(), NoMemory>
+        requires { self.old.phase ≡ Over HasEnded }
+        ensures call { OnOk result (self.new
+            ≡ (if ends_dialog code then over_stood at x self.old (bye_to_both setting.now x (refused_back setting.now x side q key m.now self.old desk.old))
+            else onward (at_stage x Talking self.old) (refused_back setting.now x side q key m.now self.old desk.old)).call) }
+        ensures desk { OnOk result (desk.new
+            ≡ (if ends_dialog code then over_stood at x self.old (bye_to_both setting.now x (refused_back setting.now x side q key m.now self.old desk.old))
+            else onward (at_stage x Talking self.old) (refused_back setting.now x side q key m.now self.old desk.old)).desk) }
+    {
         let heard = self.hear_final_across(alloc, setting, at, x, side, &q, key, m, code, desk);
         drop(q);
         heard
@@ -569,16 +646,7 @@ impl Call {
         ensures done { OnOk result (self.new ≡ with_loose (record { invitation = record q.invitation { forks = forks }; within = true }) self.old) }
         ensures phase { self.new.phase ≡ self.old.phase }
     {
-        let Reinvite {
-            key: _,
-            request: _,
-            invitation,
-            cancel_due: _,
-        } = q;
-        let invitation = Invitation {
-            forks,
-            ..invitation
-        };
+        let invitation = Invitation { forks, ..q.sent() };
         self.loosen(alloc, invitation, true)
     }
 
@@ -629,7 +697,7 @@ impl Call {
     {
         match ended_dialogs(alloc, &x, asking, leaving) {
             Err(error) => {
-                x.give_up(at);
+                give_up_asking(x, q, at);
                 Err(error)
             }
             Ok(forks) => self.end_asking(alloc, setting, at, x, q, forks, leaving, desk),

@@ -81,9 +81,11 @@ impl Call {
             attempt,
         } = x;
         let service = attempt.service.as_ref();
-        self.go_on_from(
+        let gone = self.go_on_from(
             alloc, setting, present, caller, callee, service, how, response, desk,
-        )
+        );
+        drop(attempt);
+        gone
     }
 
     /// The same, said of the call as it was offered.
@@ -97,8 +99,10 @@ impl Call {
         desk: &mut Desk,
     ) -> Result<(), NoMemory>
         requires { self.old.phase ≡ Over HasEnded }
-        ensures call { OnOk result (self.new ≡ (goes_on setting.now (standing present.now) x (told_end how.entry.now) None (record self.old { phase = Offered x }) desk.old).call) }
-        ensures desk { OnOk result (desk.new ≡ (goes_on setting.now (standing present.now) x (told_end how.entry.now) None (record self.old { phase = Offered x }) desk.old).desk) }
+        ensures call { OnOk result (self.new
+            ≡ (goes_on setting.now (standing present.now) x (told_end how.entry.now) None (record self.old { phase = Offered x }) desk.old).call) }
+        ensures desk { OnOk result (desk.new
+            ≡ (goes_on setting.now (standing present.now) x (told_end how.entry.now) None (record self.old { phase = Offered x }) desk.old).desk) }
     {
         self.go_on_after(alloc, setting, present, x, how, None, desk)
     }
@@ -144,7 +148,9 @@ impl Call {
         ensures desk { OnOk result (desk.new ≡ (goes_on setting.now (standing present.now) x (end_by_final code redirect x.attempt.rang) (Some m.now) self.old desk.old).desk) }
     {
         let target = redirect.as_ref();
-        self.go_on_from_final(alloc, setting, present, x, target, m, code, desk)
+        let gone = self.go_on_from_final(alloc, setting, present, x, target, m, code, desk);
+        drop(redirect);
+        gone
     }
 
     /// A final from 300 of the target.
@@ -168,6 +174,7 @@ impl Call {
         let redirect = redirect_of(alloc, m);
         match acked {
             Err(error) => {
+                drop(redirect);
                 x.give_up(present.at);
                 Err(error)
             }
@@ -291,10 +298,12 @@ impl Call {
             rang: _,
             invitation,
         } = attempt;
-        let service = service.as_ref();
-        self.leave_for_next(
-            alloc, setting, present, caller, callee, service, invitation, how, desk,
-        )
+        let reached = service.as_ref();
+        let gone = self.leave_for_next(
+            alloc, setting, present, caller, callee, reached, invitation, how, desk,
+        );
+        drop(service);
+        gone
     }
 
     /// The same, said of the call as it was offered.

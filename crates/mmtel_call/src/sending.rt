@@ -5,6 +5,7 @@ ghost use Rattle.mmtel_desk.specs.Sending.{answered};
 ghost use Rattle.mmtel_precedence.specs.Told.{told_due};
 ghost use Rattle.mmtel_call.specs.Diverting.{told_of};
 ghost use Rattle.mmtel_call.specs.Requests.{answered_to, unheard, unlisted};
+ghost use Rattle.mmtel_answers.specs.Answers.{allowed};
 ghost use Rattle.mmtel_call.specs.Sending.{relayed_to_caller, replied_to, told_caller};
 
 use crate::calls::Call;
@@ -87,7 +88,11 @@ impl Call {
         let opening = &self.opening;
         match opening.notice_of(alloc, setting, &self.diversions, due)? {
             None => Ok(()),
-            Some(lines) => self.answer_with(alloc, setting, 181, &lines, desk),
+            Some(lines) => {
+                let answered = self.answer_with(alloc, setting, 181, &lines, desk);
+                drop(lines);
+                answered
+            }
         }
     }
 
@@ -140,7 +145,7 @@ impl Call {
             peer,
             response,
         )?;
-        desk.relay(
+        let relayed = desk.relay(
             alloc,
             setting.sip,
             opening.key,
@@ -148,7 +153,9 @@ impl Call {
             opening.tag.bytes(),
             lines.items(),
             response,
-        )
+        );
+        drop(lines);
+        relayed
     }
 
     /// Answers a request that its leg did not hear.
@@ -170,9 +177,28 @@ impl Call {
             DialogueFault::Pending => self.reply_to(alloc, setting, key, request, 491, desk),
             DialogueFault::Unfinished => {
                 let named = retry_after(alloc)?;
-                self.answer_to(alloc, setting, key, request, 500, &named, desk)
+                let answered = self.answer_to(alloc, setting, key, request, 500, &named, desk);
+                drop(named);
+                answered
             }
         }
+    }
+
+    /// Answers OPTIONS (RFC 3261 §11.2).
+    fn answer_options(
+        &self,
+        alloc: Global,
+        setting: &Setting<'_>,
+        key: TKey,
+        request: &Hearing,
+        desk: &mut Desk,
+    ) -> Result<(), NoMemory>
+        ensures { OnOk result (desk.new ≡ answered_to setting.now self.now key request.now 200 allowed desk.old) }
+    {
+        let named = allowed(alloc)?;
+        let answered = self.answer_to(alloc, setting, key, request, 200, &named, desk);
+        drop(named);
+        answered
     }
 
     /// Answers a request that no row of the step table has.
@@ -188,8 +214,7 @@ impl Call {
     {
         let status = unlisted_status(request.message.start());
         if status == 200 {
-            let named = allowed(alloc)?;
-            return self.answer_to(alloc, setting, key, request, 200, &named, desk);
+            return self.answer_options(alloc, setting, key, request, desk);
         }
         self.reply_to(alloc, setting, key, request, status, desk)
     }

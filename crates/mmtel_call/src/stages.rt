@@ -1,14 +1,16 @@
 //! What an answered call does on each signal, by its stage.
-ghost use Rattle.std.specs.Prelude.{◌≡◌, OnErr, OnOk};
+ghost use Rattle.std.specs.Prelude.{◌≡◌, if◌then◌else◌, OnErr, OnOk};
 ghost use Rattle.mmtel_types.specs.declared.causes.Cause.TheVariants.{Ended as HasEnded};
 ghost use Rattle.mmtel_call.specs.Calls.{Answered, Over, Parting, Stood};
 ghost use Rattle.mmtel_call.specs.Stages.{busy_in, has_left, is_due_at, left_by, on_ack_at, on_bye, on_cancel_at, on_due_at, on_heard_at, on_invite, on_request_at};
 ghost use Rattle.mmtel_call.specs.Stages.{on_response_at, on_silence_at, rung_out};
 ghost use Rattle.mmtel_call.specs.Answered.{leg_of, with_leg};
-ghost use Rattle.mmtel_call.specs.Requests.{having_heard, says};
+ghost use Rattle.mmtel_call.specs.Closing.{onward};
+ghost use Rattle.mmtel_call.specs.Reinvites.{silenced_across};
+ghost use Rattle.mmtel_call.specs.Requests.{having_heard, is_bye, says, unlisted};
 
 use crate::answered::acknowledges;
-use crate::calls::{Call, Pair, Phase, Stage, Success};
+use crate::calls::{Call, Pair, Phase, Reinvite, Stage, Success};
 use crate::legs::hear;
 use mmtel_answers::Hearing;
 use mmtel_call_decisions::{Setting, is_same_side};
@@ -88,6 +90,15 @@ impl Call {
         Ok(())
     }
 
+    /// The same, and lets a request go of which no more is kept.
+    fn pass_over(&mut self, phase: Phase, request: Hearing)
+        requires { self.old.phase ≡ Over HasEnded }
+        ensures { self.new ≡ record self.old { phase = phase } }
+    {
+        drop(request);
+        self.put_phase(phase);
+    }
+
     /// An INVITE of a side that its leg heard.
     fn take_invite(
         &mut self,
@@ -107,15 +118,18 @@ impl Call {
     {
         match stage {
             Stage::Talking => self.invite_across(alloc, setting, at, x, side, key, m, desk),
-            Stage::Answered(waiting, success) => self.stay(Phase::Stood(
-                x,
-                Stage::Answered(waiting, success),
-            )),
-            Stage::Parting(waiting, success) => self.stay(Phase::Stood(
-                x,
-                Stage::Parting(waiting, success),
-            )),
-            Stage::Asking(asking, q) => self.stay(Phase::Stood(x, Stage::Asking(asking, q))),
+            Stage::Answered(waiting, success) => {
+                self.pass_over(Phase::Stood(x, Stage::Answered(waiting, success)), m);
+                Ok(())
+            }
+            Stage::Parting(waiting, success) => {
+                self.pass_over(Phase::Stood(x, Stage::Parting(waiting, success)), m);
+                Ok(())
+            }
+            Stage::Asking(asking, q) => {
+                self.pass_over(Phase::Stood(x, Stage::Asking(asking, q)), m);
+                Ok(())
+            }
         }
     }
 
@@ -178,6 +192,35 @@ impl Call {
         left
     }
 
+    /// A request of a side that its leg heard, other than INVITE.
+    fn take_other_request(
+        &mut self,
+        alloc: Global,
+        setting: &Setting<'_>,
+        at: Moment,
+        x: Pair,
+        stage: Stage,
+        side: Side,
+        key: TKey,
+        m: &Hearing,
+        desk: &mut Desk,
+    ) -> Result<(), NoMemory>
+        requires { self.old.phase ≡ Over HasEnded }
+        ensures call { OnOk result (self.new
+            ≡ (if is_bye m.now then on_bye stage setting.now at x side key m.now (record self.old { phase = Stood x stage }) desk.old
+            else onward (record self.old { phase = Stood x stage }) (unlisted setting.now self.old key m.now desk.old)).call) }
+        ensures desk { OnOk result (desk.new
+            ≡ (if is_bye m.now then on_bye stage setting.now at x side key m.now (record self.old { phase = Stood x stage }) desk.old
+            else onward (record self.old { phase = Stood x stage }) (unlisted setting.now self.old key m.now desk.old)).desk) }
+    {
+        if is_method(b"BYE", m.message.start()) {
+            return self.take_bye(alloc, setting, at, x, stage, side, key, m, desk);
+        }
+        let answered = self.answer_unlisted(alloc, setting, key, m, desk);
+        self.put_phase(Phase::Stood(x, stage));
+        answered
+    }
+
     /// A request of a side that its leg heard.
     fn take_request(
         &mut self,
@@ -198,12 +241,9 @@ impl Call {
         if is_method(b"INVITE", m.message.start()) {
             return self.take_invite(alloc, setting, at, x, stage, side, key, m, desk);
         }
-        if is_method(b"BYE", m.message.start()) {
-            return self.take_bye(alloc, setting, at, x, stage, side, key, &m, desk);
-        }
-        let answered = self.answer_unlisted(alloc, setting, key, &m, desk);
-        self.put_phase(Phase::Stood(x, stage));
-        answered
+        let taken = self.take_other_request(alloc, setting, at, x, stage, side, key, &m, desk);
+        drop(m);
+        taken
     }
 
     /// A request of a side of an answered call.
@@ -228,7 +268,7 @@ impl Call {
             Ok(()) => self.take_request(alloc, setting, at, x, stage, side, key, m, desk),
             Err(fault) => {
                 let refused = self.refuse_unheard(alloc, setting, key, &m, fault, desk);
-                self.put_phase(Phase::Stood(x, stage));
+                self.pass_over(Phase::Stood(x, stage), m);
                 refused
             }
         }
@@ -255,10 +295,15 @@ impl Call {
     {
         match acknowledges(alloc, waiting, &success, side, m) {
             Err(error) => {
+                drop(success);
                 x.give_up(at);
                 Err(error)
             }
-            Ok(true) => self.acknowledge_across(alloc, setting, x, side, &success, m, desk),
+            Ok(true) => {
+                let acked = self.acknowledge_across(alloc, setting, x, side, &success, m, desk);
+                drop(success);
+                acked
+            }
             Ok(false) => self.stay(Phase::Stood(x, Stage::Answered(waiting, success))),
         }
     }
@@ -284,10 +329,14 @@ impl Call {
     {
         match acknowledges(alloc, waiting, &success, side, m) {
             Err(error) => {
+                drop(success);
                 x.give_up(at);
                 Err(error)
             }
-            Ok(true) => self.part(alloc, setting, at, x, side, desk),
+            Ok(true) => {
+                drop(success);
+                self.part(alloc, setting, at, x, side, desk)
+            }
             Ok(false) => self.stay(Phase::Stood(x, Stage::Parting(waiting, success))),
         }
     }
@@ -385,6 +434,25 @@ impl Call {
         }
     }
 
+    /// No response came to this INVITE, which goes with the call.
+    fn end_by_silence(
+        &mut self,
+        alloc: Global,
+        setting: &Setting<'_>,
+        at: Moment,
+        x: Pair,
+        q: Reinvite,
+        desk: &mut Desk,
+    ) -> Result<(), NoMemory>
+        requires { self.old.phase ≡ Over HasEnded }
+        ensures call { OnOk result (self.new ≡ (silenced_across setting.now at x q self.old desk.old).call) }
+        ensures desk { OnOk result (desk.new ≡ (silenced_across setting.now at x q self.old desk.old).desk) }
+    {
+        let heard = self.hear_silence_across(alloc, setting, at, x, &q, desk);
+        drop(q);
+        heard
+    }
+
     /// No response came to the INVITE that was relayed.
     pub fn hear_silence_at(
         &mut self,
@@ -409,9 +477,7 @@ impl Call {
                 Stage::Parting(waiting, success),
             )),
             Stage::Talking => self.stay(Phase::Stood(x, Stage::Talking)),
-            Stage::Asking(_asking, q) => {
-                self.hear_silence_across(alloc, setting, at, x, &q, desk)
-            }
+            Stage::Asking(_asking, q) => self.end_by_silence(alloc, setting, at, x, q, desk),
         }
     }
 

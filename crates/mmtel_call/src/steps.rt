@@ -56,13 +56,21 @@ impl Call {
     {
         match mem::replace(&mut self.phase, Phase::Over(Cause::Ended)) {
             Phase::Offered(x) => {
-                self.hear_request_offered(alloc, setting, at, x, side, key, &m, desk)
+                let heard = self.hear_request_offered(alloc, setting, at, x, side, key, &m, desk);
+                drop(m);
+                heard
             }
             Phase::Stood(x, stage) => {
                 self.hear_request_at(alloc, setting, at, x, stage, side, key, m, desk)
             }
-            Phase::Lent(loan) => self.stay(Phase::Lent(loan)),
-            Phase::Over(cause) => self.stay(Phase::Over(cause)),
+            Phase::Lent(loan) => {
+                drop(m);
+                self.stay(Phase::Lent(loan))
+            }
+            Phase::Over(cause) => {
+                drop(m);
+                self.stay(Phase::Over(cause))
+            }
         }
     }
 
@@ -265,8 +273,10 @@ impl Call {
         match invite_answered(alloc, m)? {
             None => Ok(()),
             Some(branch) => {
-                let branch = Some(branch.bytes());
-                self.hear_answer_to(alloc, setting, present, branch, key, m, desk)
+                let answered = Some(branch.bytes());
+                let heard = self.hear_answer_to(alloc, setting, present, answered, key, m, desk);
+                drop(branch);
+                heard
             }
         }
     }
@@ -293,19 +303,31 @@ impl Call {
                 self.hear_request(alloc, setting, present.at, side, key, request, desk)
             }
             Signal::Ack { side, ack } => {
-                self.hear_ack(alloc, setting, present.at, side, &ack, desk)
+                let heard = self.hear_ack(alloc, setting, present.at, side, &ack, desk);
+                drop(ack);
+                heard
             }
             Signal::Cancel {
                 key,
                 cancel,
                 invite,
-            } => self.hear_any_cancel(alloc, setting, present.at, key, &cancel, invite, desk),
+            } => {
+                let at = present.at;
+                let heard = self.hear_any_cancel(alloc, setting, at, key, &cancel, invite, desk);
+                drop(cancel);
+                heard
+            }
             Signal::Answer { key, response } => {
-                self.hear_any_answer(alloc, setting, present, key, &response, desk)
+                let heard = self.hear_any_answer(alloc, setting, present, key, &response, desk);
+                drop(response);
+                heard
             }
             Signal::Silent { branch, method } => {
-                let branch = invite_silent(branch.bytes(), method.bytes());
-                self.hear_silence_to(alloc, setting, present, branch, desk)
+                let invite = invite_silent(branch.bytes(), method.bytes());
+                let heard = self.hear_silence_to(alloc, setting, present, invite, desk);
+                drop(branch);
+                drop(method);
+                heard
             }
             Signal::Due { what } => self.hear_due(alloc, setting, present, what, desk),
             Signal::Ended { key } => {

@@ -1,29 +1,26 @@
 //! What is decided of a call at a target and after an attempt.
 ghost use Rattle.std.specs.Prelude.{◌≡◌, false, IfOk};
 ghost use Rattle.std.specs.Option.{option_copied, option_map_or};
-ghost use Rattle.mmtel_precedence.specs.Told.{told_account, told_after, told_due, told_end, told_reach, told_turn};
+ghost use Rattle.mmtel_precedence.specs.Told.{told_account, told_due, told_reach, told_turn};
 ghost use Rattle.mmtel_precedence.specs.Calls.{sheet_at};
 ghost use Rattle.mmtel_precedence.specs.Services.{bars_outgoing};
 ghost use Rattle.mmtel_rules.specs.Circumstances.{known};
 ghost use Rattle.mmtel_lex.specs.Reading.{uri_of};
 ghost use Rattle.mmtel_trust.specs.Asserted.{or_no_uri, uri_in};
 ghost use Rattle.mmtel_trust.specs.Mask.{redirects};
-ghost use Rattle.mmtel_call_decisions.specs.Decisions.{account_by, account_for, aim_at, circumstances, decided_after, decided_at, is_barred, its_sheet, of_target};
+ghost use Rattle.mmtel_call_decisions.specs.Decisions.{account_by, account_for, aim_at, circumstances, decided_at, is_barred, its_sheet, of_target};
 ghost use Rattle.mmtel_call_decisions.specs.Decisions.{peer_for, reach_at, redirect_of, served_at, service_at, target_of, told_at};
 ghost use Rattle.mmtel_call_decisions.specs.Site.{calls_among, standing};
 
 use crate::openings::{Opening, Service};
 use crate::settings::{Present, Setting};
-use crate::showing::its_sheet;
 use crate::uris::uri_copied;
 use mmtel_answers::{Aim, Hearing, diverted_aim, first_aim};
 use mmtel_barring::outgoing;
 use mmtel_lex::{LexFault, Uri, UriFault, read_name_addr, read_uri};
 use mmtel_message::Start;
 use mmtel_parties::next_hop;
-use mmtel_precedence::{
-    AfterEnding, AttemptEnd, Onward, Reached, ServedAccount, Turn, party_of, turn_at, turn_on,
-};
+use mmtel_precedence::{Onward, Reached, ServedAccount, Turn, party_of, turn_at};
 use mmtel_rules::laws::barred_where_no_rule_allows;
 use mmtel_rules::{Facts, Identities2};
 use mmtel_scan::NoMemory;
@@ -187,23 +184,6 @@ impl Opening {
     {
         let reached = self.reach_at(setting, present, cause, target, service, peer);
         turn_at(&self.facts(&self.identities, present.at), &reached)
-    }
-
-    /// What is done with the call after an attempt that ended so: by the record under which it was offered, which the attempt keeps, and not by the one in force at its end
-    /// (TS 24.604 §4.5.2.6).
-    pub fn decide_after<'a>(
-        &self,
-        present: &Present<'a>,
-        service: Option<&'a Service>,
-        how: &AttemptEnd<'a>,
-    ) -> AfterEnding<'a>
-        ensures exact { told_after result ≡ decided_after self.now present.now.at (option_copied service.entry) (told_end how.entry.now) }
-    {
-        turn_on(
-            &self.facts(&self.identities, present.at),
-            its_sheet(service),
-            how,
-        )
     }
 
     /// Whether the outgoing barring of the account that diverts refuses the new target.

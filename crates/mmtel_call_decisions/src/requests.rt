@@ -1,12 +1,12 @@
-//! What is decided of a request of a side, and of a 2xx that is heard again.
+//! What is decided of a request of a side.
 ghost use Rattle.std.specs.Prelude.{◌≡◌, IfOk};
-ghost use Rattle.mmtel_call_decisions.specs.Requests.{is_ack_of, is_other_dialog, is_same_number, is_same_side, number_of, unlisted_status};
+ghost use Rattle.mmtel_call_decisions.specs.Requests.{number_of, unlisted_status};
 
 use mmtel_answers::Hearing;
+use mmtel_decisions::status_out_of_place;
 use mmtel_lex::LexFault;
-use mmtel_message::{Start, first_of, is_method, read_cseq};
+use mmtel_message::{Start, first_of, read_cseq};
 use mmtel_scan::NoMemory;
-use mmtel_types::Side;
 use std::alloc::Global;
 
 /// The number of CSeq of a request (RFC 3261 §20.16), where that can be read.
@@ -28,59 +28,13 @@ pub fn number_of(alloc: Global, request: &Hearing) -> Result<Option<u32>, NoMemo
     }
 }
 
-/// Whether two sides are one.
-pub fn is_same_side(one: Side, other: Side) -> bool
-    ensures exact { result ≡ is_same_side one other }
-{
-    match one {
-        Side::Caller => match other {
-            Side::Caller => true,
-            Side::Callee => false,
-        },
-        Side::Callee => match other {
-            Side::Caller => false,
-            Side::Callee => true,
-        },
-    }
-}
-
-/// Whether there are two numbers, and they are equal.
-fn is_same_number(one: Option<u32>, other: Option<u32>) -> bool
-    ensures { result ≡ is_same_number one other }
-{
-    match one {
-        None => false,
-        Some(one) => match other {
-            None => false,
-            Some(other) => one == other,
-        },
-    }
-}
-
-/// Whether an ACK of a side with this number of CSeq is that of a 2xx which waits for one of that side, where the INVITE had the number that is due (RFC 3261 §13.2.2.4).
-pub fn is_ack_of(waiting: Side, due: Option<u32>, side: Side, number: Option<u32>) -> bool
-    ensures exact { result ≡ is_ack_of waiting due side number }
-{
-    is_same_side(waiting, side) && is_same_number(number, due)
-}
-
-/// Whether a 2xx with this tag is of another dialog than the one that was made, whose tag is the own one (RFC 3261 §13.2.2.4): an INVITE within a dialog makes none.
-pub fn is_other_dialog(within: bool, own: &[u8], tag: &[u8]) -> bool
-    ensures exact { result ≡ is_other_dialog within own.now tag.now }
-{
-    !within && tag != own
-}
-
 /// The status that a request gets that no row of the step table has: 200 to OPTIONS (RFC 3261 §11.2), 403 to REFER, which only a room takes, and 481 to what is asked at
 /// the wrong time (§12.2.2).
 pub fn unlisted_status(start: &Start) -> u16
     ensures exact { result ≡ unlisted_status start.now }
 {
-    if is_method(b"OPTIONS", start) {
-        return 200;
+    match start {
+        Start::Request { method, uri: _ } => status_out_of_place(method.bytes()),
+        Start::Status { code: _, phrase: _ } => 481,
     }
-    if is_method(b"REFER", start) {
-        return 403;
-    }
-    481
 }

@@ -3,6 +3,7 @@ ghost use Rattle.std.specs.Prelude.{◌≡◌, ◌++◌, OnOk, map, option_to_li
 ghost use Rattle.mmtel_call_decisions.specs.Rows.{cause_by, last_row, past_answer, past_row, rows_by, with_answer};
 
 use mmtel_charging::{Kind, Meter, Row};
+use mmtel_decisions::file_some;
 use mmtel_desk::file;
 use mmtel_scan::{List, NoMemory};
 use mmtel_types::{Cause, Moment};
@@ -70,33 +71,23 @@ fn last_row(meter: Meter, end: &Ending) -> Row
     with_answer(meter, end.answered).close(end.at, end.holds, end.cause)
 }
 
-/// Files the row of the caller's meter, if there is one.
-fn file_first(
-    alloc: Global,
-    rows: &mut List<Row>,
-    first: Option<Meter>,
-    end: &Ending,
-) -> Result<(), NoMemory>
-    ensures { OnOk result (rows.new ≡ rows.old ++ map (past_row end.now) (option_to_list first)) }
+/// The row of the caller's meter, where there is one.
+fn first_row(first: Option<Meter>, end: &Ending) -> Option<Row>
+    ensures { option_to_list result ≡ map (past_row end.now) (option_to_list first) }
 {
     match first {
-        None => Ok(()),
-        Some(meter) => file(alloc, rows, past_row(meter, end)),
+        None => None,
+        Some(meter) => Some(past_row(meter, end)),
     }
 }
 
-/// Files the row of the meter of the target that is left last, if there is one.
-fn file_last(
-    alloc: Global,
-    rows: &mut List<Row>,
-    last: Option<Meter>,
-    end: &Ending,
-) -> Result<(), NoMemory>
-    ensures { OnOk result (rows.new ≡ rows.old ++ map (last_row end.now) (option_to_list last)) }
+/// The row of the meter of the target that is left last, where there is one.
+fn row_of_target(last: Option<Meter>, end: &Ending) -> Option<Row>
+    ensures { option_to_list result ≡ map (last_row end.now) (option_to_list last) }
 {
     match last {
-        None => Ok(()),
-        Some(meter) => file(alloc, rows, last_row(meter, end)),
+        None => None,
+        Some(meter) => Some(last_row(meter, end)),
     }
 }
 
@@ -135,9 +126,9 @@ pub fn file_rows(
 ) -> Result<(), NoMemory>
     ensures filed { OnOk result (rows.new ≡ rows.old ++ rows_by end.now past first last) }
 {
-    let filed_first = file_first(alloc, rows, first, end);
+    let filed_first = file_some(alloc, rows, first_row(first, end));
     let filed_past = file_past(alloc, rows, past, end);
-    let filed_last = file_last(alloc, rows, last, end);
+    let filed_last = file_some(alloc, rows, row_of_target(last, end));
     filed_first?;
     filed_past?;
     filed_last

@@ -11,6 +11,7 @@ use crate::diversions::Diversions;
 use crate::openings::{Opening, Service};
 use crate::settings::Setting;
 use mmtel_answers::{Hearing, status_of};
+use mmtel_decisions::restricted_in;
 use mmtel_history::History;
 use mmtel_identity::{callee_restricted, present_to};
 use mmtel_message::{Line, Msg};
@@ -55,16 +56,18 @@ impl Opening {
     {
         let from_trusted = message.trusted;
         let mask_all = self.masks_all();
+        let callee = callee_restricted(&wants(&message.message), its_sheet(service));
+        let restricted = restricted_in(side, self.restricted, callee);
         match side {
             Side::Caller => Facing {
                 from_trusted,
-                restricted: self.restricted,
+                restricted,
                 present: present_to(its_sheet(service), Side::Callee),
                 mask_all,
             },
             Side::Callee => Facing {
                 from_trusted,
-                restricted: callee_restricted(&wants(&message.message), its_sheet(service)),
+                restricted,
                 present: present_to(self.origin_sheet(), Side::Caller),
                 mask_all,
             },
@@ -134,7 +137,7 @@ impl Opening {
     ) -> Result<Option<List<Line>>, NoMemory>
         ensures lines { IfOk result (λ ls. ls ≡ notice_of setting.now self.now diversions.now (told_due due.entry.now)) }
     {
-        if !due.notify_caller {
+        if !due.tells_caller() {
             return Ok(None);
         }
         let told = diversions.told(alloc)?;

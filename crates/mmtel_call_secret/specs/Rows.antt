@@ -24,7 +24,8 @@ use Rattle.mmtel_call.specs.Leaving.{answered_other}
 use Rattle.mmtel_call.specs.Ringing.{answered, on_cancel, on_due, on_request, on_response, proceeding, silenced, tried}
 use Rattle.mmtel_call.specs.Stages.{on_ack_at, on_cancel_at, on_due_at, on_request_at, on_response_at, on_silence_at}
 use Rattle.mmtel_call_secret.specs.Parts.{public_call, public_pair, public_stage, public_trial}
-use Rattle.mmtel_call_secret.specs.Premises.{AreAsked, CanGoOn, DecideAlike, Fits, HearsOther, IsAnswer, IsAsked, IsTargets, IsWhole, ServiceIsAsked, stage_is_asked, stage_is_sent}
+use Rattle.mmtel_call_secret.specs.Premises.{AreAsked, CanGoOn, DecideAlike, Fits, HearsOther, IsAnswer, IsAsked, IsTargets, IsWhole, ServiceIsAsked}
+use Rattle.mmtel_call_secret.specs.Premises.{stage_is_asked, stage_is_sent}
 use Rattle.mmtel_call_secret.specs.Roles.{Role, without_private}
 use Rattle.mmtel_call_secret.specs.Seen.{AlikeDesks, AlikeSteps, trust_of}
 
@@ -149,7 +150,8 @@ AnswersOfOthers = (site : Site) (keys : TKey → Bool) (who : Identities2) (key 
 
 -- the ACK of a 2xx: it goes across, and is kept; or a parting call ends
 abbrev pub AcksOnceAnswered : Type 0
-AcksOnceAnswered = (stage : Stage) (site : Site) (keys : TKey → Bool) (who : Identities2) (at : ℕ) (x : Pair) (side : Side) (role : Role) (m : Said) (c : Call) (one other : Desk) →
+AcksOnceAnswered = (stage : Stage) (site : Site) (keys : TKey → Bool) (who : Identities2) (at : ℕ) (x : Pair) (side : Side) (role : Role) (m : Said) (c : Call)
+    (one other : Desk) →
     Fits c.opening x.service side m role → stage_is_sent (trust_of site keys) c x side m stage → AlikeDesks (trust_of site keys) one other →
     AlikeSteps (trust_of site keys)
     (on_ack_at (public_stage (trusts site) stage) site at (public_pair (trusts site) x) side (without_private role m) (public_call (trusts site) who c) one)

@@ -228,5 +228,6 @@ StatusesAreThese = OfEachRun (λ link far keeper later words status before after
 -- and where none of the counts of the files' faults, of the link's of taking in, of the keeper's and of the sink's rose, it is 0, 1, 2, 3 or 8
 abbrev pub NoFaultNoFailure : Type 0
 NoFaultNoFailure = OfEachRun (λ link far keeper later words status before after faults now.
-    (earlier since : ℕ) → CountsAtFive status earlier since → ¬ (Rose earlier since) → ¬ (Rose link.taking far.taking) → ¬ (Rose keeper.faults later.faults) → ¬ (Rose faults now) →
+    (earlier since : ℕ) → CountsAtFive status earlier since → ¬ (Rose earlier since) → ¬ (Rose link.taking far.taking) → ¬ (Rose keeper.faults later.faults) →
+    ¬ (Rose faults now) →
     list_any (λ known. known == status) (0 ∷ 1 ∷ 2 ∷ 3 ∷ 8 ∷ []) ≡ true)

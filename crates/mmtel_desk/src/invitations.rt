@@ -2,6 +2,7 @@
 ghost use Rattle.std.specs.Prelude.{◌≡◌};
 ghost use Rattle.mmtel_desk.specs.Invitations.{early_said, is_cancellable, once_cancelled, sent, with_early};
 
+use mmtel_decisions::is_cancel_due;
 use mmtel_leg::{Dialogue, Remote};
 use mmtel_scan::{List, Text};
 use mmtel_transaction::TKey;
@@ -84,18 +85,16 @@ pub fn with_early(said: Option<Remote>, invitation: Invitation) -> Invitation
 pub fn is_cancellable(invitation: &Invitation) -> bool
     ensures { result ≡ is_cancellable invitation.now }
 {
-    invitation.provisional && !invitation.cancelled
+    is_cancel_due(invitation.provisional, invitation.cancelled)
 }
 
 /// The INVITE once it was cancelled, where that was due.
 pub fn once_cancelled(invitation: Invitation) -> Invitation
     ensures invitation { result ≡ once_cancelled invitation }
 {
+    let mut invitation = invitation;
     if is_cancellable(&invitation) {
-        return Invitation {
-            cancelled: true,
-            ..invitation
-        };
+        invitation.cancelled = true;
     }
     invitation
 }

@@ -1,13 +1,19 @@
 //! INVITEs that were left before they had a final answer.
-ghost use Rattle.std.specs.Prelude.{◌≡◌, ◌∷◌, ◌++◌, [], IfOk, OnErr, OnOk, position};
-ghost use Rattle.std.specs.Option.{option_copied};
+ghost use Rattle.std.specs.Prelude.{◌≡◌, ◌<◌, IfOk, OnErr, OnOk, Some, None, codes, if◌then◌else◌, position, true, false};
+ghost use Rattle.std.specs.Option.{option_copied, option_or};
+ghost use Rattle.mmtel_answers.specs.Attempts.{called};
+ghost use Rattle.mmtel_answers.specs.Said.{status_of};
+ghost use Rattle.mmtel_decisions.specs.Late.{late_dues};
 ghost use Rattle.mmtel_desk.specs.Loose.{acked_and_ended, begun, fork_at, is_ended, is_of, late_cancelled, made_from, on_response, on_success, told_late};
+ghost use Rattle.mmtel_desk.specs.Sending.{acked, bye};
+ghost use Rattle.mmtel_leg.specs.Dialogues.{after_request};
 ghost use Rattle.mmtel_leg.specs.Remotes.{remote_of};
 ghost use Rattle.mmtel_types.specs.declared.sides.Side.TheVariants.{Callee};
 
 use crate::desks::{Desk, file};
-use crate::invitations::{Invitation, Loose, early_said, with_early};
+use crate::invitations::{Loose, early_said, is_cancellable};
 use mmtel_answers::{Hearing, called, status_of};
+use mmtel_decisions::{Dues, late_dues};
 use mmtel_leg::{Dialogue, Remote};
 use mmtel_scan::{NoMemory, texts_copied};
 use mmtel_transaction::TKey;
@@ -34,7 +40,7 @@ pub fn loose_at(loose: &[Loose], branch: &[u8]) -> Option<usize>
 fn is_ended(within: bool, tag: &[u8], dialogue: &Dialogue) -> bool
     ensures { result ≡ is_ended within tag.now dialogue.now }
 {
-    within || dialogue.remote_tag.bytes() == tag
+    mmtel_decisions::is_ended(within, dialogue.remote_tag.bytes(), tag)
 }
 
 /// The place of the dialog of a 2xx with this tag.
@@ -67,24 +73,35 @@ fn copied(alloc: Global, remote: &Remote) -> Result<Remote, NoMemory>
     })
 }
 
+/// A dialog once the callee said this of itself, where that was in the dialog of this tag.
+fn met_before(
+    alloc: Global,
+    said: &Remote,
+    tag: &[u8],
+    dialogue: Dialogue,
+) -> Result<Dialogue, NoMemory>
+    ensures { IfOk result (λ d. d ≡ begun (Some said.now) tag.now dialogue) }
+{
+    if said.tag.bytes() != tag {
+        return Ok(dialogue);
+    }
+    let said = copied(alloc, said)?;
+    Ok(dialogue.meet(said))
+}
+
 /// The dialog of a tag as it stands before a 2xx: the early one, or what the INVITE began.
 fn begun(
     alloc: Global,
     early: Option<&Remote>,
     tag: &[u8],
-    dialogue: Dialogue,
+    dialogue: &Dialogue,
 ) -> Result<Dialogue, NoMemory>
-    ensures { IfOk result (λ d. d ≡ begun (option_copied early.entry) tag.now dialogue) }
+    ensures { IfOk result (λ d. d ≡ begun (option_copied early.entry) tag.now (called dialogue.now)) }
 {
+    let dialogue = called(dialogue.copied(alloc)?);
     match early {
         None => Ok(dialogue),
-        Some(said) => {
-            if said.tag.bytes() == tag {
-                let said = copied(alloc, said)?;
-                return Ok(dialogue.meet(said));
-            }
-            Ok(dialogue)
-        }
+        Some(said) => met_before(alloc, said, tag, dialogue),
     }
 }
 
@@ -98,64 +115,114 @@ fn made_from(
 ) -> Result<Dialogue, NoMemory>
     ensures { IfOk result (λ d. d ≡ made_from within (option_copied early.entry) dialogue.now remote) }
 {
-    let dialogue = dialogue.copied(alloc)?;
     if within {
-        return Ok(dialogue);
+        return dialogue.copied(alloc);
     }
-    let before = begun(alloc, early, remote.tag.bytes(), called(dialogue))?;
+    let before = begun(alloc, early, remote.tag.bytes(), dialogue)?;
     Ok(before.meet(remote))
 }
 
-/// The INVITE whose 2xx made this dialog, which had its BYE.
-fn with_fork(
-    alloc: Global,
-    invitation: Invitation,
-    dialogue: Dialogue,
-) -> Result<Invitation, NoMemory>
-    ensures { IfOk result (λ i. i ≡ record invitation { forks = invitation.forks ++ dialogue ∷ [] }) }
+/// The early dialog, where this makes one: the first is kept.
+fn keep_first(said: Option<Remote>, early: &mut Option<Remote>)
+    ensures { early.new ≡ option_or early.old said }
 {
-    let mut invitation = invitation;
-    file(alloc, &mut invitation.forks, dialogue)?;
-    Ok(invitation)
-}
-
-/// A loose INVITE of which this provisional response came by this client transaction, with what it says of the callee.
-fn told_late(key: TKey, heard: &Hearing, remote: Remote, loose: Loose) -> Loose
-    requires { remote ≡ remote_of Callee heard.now.heard.lines }
-    ensures { result ≡ told_late key heard.now.heard loose }
-{
-    let code = status_of(heard.message.start());
-    let Loose { invitation, within } = loose;
-    let invitation = Invitation {
-        key: Some(key),
-        provisional: true,
-        ..invitation
-    };
-    Loose {
-        invitation: with_early(early_said(code, remote), invitation),
-        within,
+    if early.is_none() {
+        *early = said;
     }
 }
 
+/// Notes a provisional response of a loose INVITE by this client transaction, with what it says of the callee.
+fn note_late(key: TKey, heard: &Hearing, remote: Remote, loose: &mut Loose)
+    requires { remote ≡ remote_of Callee heard.now.heard.lines }
+    ensures { loose.new ≡ told_late key heard.now.heard loose.old }
+{
+    loose.invitation.key = Some(key);
+    loose.invitation.provisional = true;
+    let said = early_said(status_of(heard.message.start()), remote);
+    keep_first(said, &mut loose.invitation.early);
+}
+
+/// A loose INVITE, where it stays.
+fn staying(stays: bool, loose: Loose) -> Option<Loose>
+    ensures { result ≡ (if stays then Some loose else None) }
+{
+    if stays {
+        return Some(loose);
+    }
+    drop(loose);
+    None
+}
+
 impl Desk {
-    /// The ACK of a 2xx of a loose INVITE, and the BYE of its dialog.
+    /// The ACK of a 2xx, where that is due.
+    fn acknowledge_if(
+        &mut self,
+        alloc: Global,
+        sip: Addr,
+        due: bool,
+        dialogue: &Dialogue,
+    ) -> Result<(), NoMemory>
+        ensures done { OnOk result (self.new ≡ (if due then acked sip dialogue.now self.old else self.old)) }
+        ensures rows { OnErr result (self.new.rows ≡ self.old.rows) }
+    {
+        if due {
+            return self.acknowledge_in(alloc, sip, dialogue);
+        }
+        Ok(())
+    }
+
+    /// The BYE of a dialog, where that is due.
+    fn end_if(
+        &mut self,
+        alloc: Global,
+        sip: Addr,
+        due: bool,
+        dialogue: &mut Dialogue,
+    ) -> Result<(), NoMemory>
+        ensures done { OnOk result (self.new ≡ (if due then bye sip dialogue.old self.old else self.old)) }
+        ensures counted { OnOk result (dialogue.new ≡ (if due then after_request dialogue.old (codes "BYE") else dialogue.old)) }
+        ensures rows { OnErr result (self.new.rows ≡ self.old.rows) }
+    {
+        if due {
+            return self.bye_in(alloc, sip, dialogue);
+        }
+        Ok(())
+    }
+
+    /// What is due in the dialog of a 2xx of a loose INVITE.
+    fn settle(
+        &mut self,
+        alloc: Global,
+        sip: Addr,
+        dues: Dues,
+        dialogue: &mut Dialogue,
+    ) -> Result<(), NoMemory>
+        requires { dues ≡ late_dues false }
+        ensures done { OnOk result (self.new ≡ bye sip dialogue.old (acked sip dialogue.old self.old)) }
+        ensures counted { OnOk result (dialogue.new ≡ after_request dialogue.old (codes "BYE")) }
+        ensures rows { OnErr result (self.new.rows ≡ self.old.rows) }
+    {
+        self.acknowledge_if(alloc, sip, dues.ack, dialogue)?;
+        self.end_if(alloc, sip, dues.bye, dialogue)
+    }
+
+    /// The ACK of a 2xx of a loose INVITE and the BYE of its dialog, which is kept.
     fn acknowledge_and_end(
         &mut self,
         alloc: Global,
         sip: Addr,
-        loose: Loose,
+        dues: Dues,
+        loose: &mut Loose,
         dialogue: Dialogue,
-    ) -> Result<Option<Loose>, NoMemory>
-        ensures desk { OnOk result (self.new ≡ (acked_and_ended sip loose dialogue self.old).desk) }
-        ensures left { IfOk result (λ left. left ≡ (acked_and_ended sip loose dialogue self.old).left) }
+    ) -> Result<(), NoMemory>
+        requires { dues ≡ late_dues false }
+        ensures desk { OnOk result (self.new ≡ (acked_and_ended sip loose.old dialogue self.old).desk) }
+        ensures left { OnOk result (Some loose.new ≡ (acked_and_ended sip loose.old dialogue self.old).left) }
         ensures rows { OnErr result (self.new.rows ≡ self.old.rows) }
     {
         let mut dialogue = dialogue;
-        self.acknowledge_in(alloc, sip, &dialogue)?;
-        self.bye_in(alloc, sip, &mut dialogue)?;
-        let Loose { invitation, within } = loose;
-        let invitation = with_fork(alloc, invitation, dialogue)?;
-        Ok(Some(Loose { invitation, within }))
+        self.settle(alloc, sip, dues, &mut dialogue)?;
+        file(alloc, &mut loose.invitation.forks, dialogue)
     }
 
     /// What a 2xx of a loose INVITE brings, where the callee says this of itself.
@@ -163,49 +230,83 @@ impl Desk {
         &mut self,
         alloc: Global,
         sip: Addr,
-        loose: Loose,
+        loose: &mut Loose,
         remote: Remote,
-    ) -> Result<Option<Loose>, NoMemory>
-        ensures desk { OnOk result (self.new ≡ (on_success sip loose remote self.old).desk) }
-        ensures left { IfOk result (λ left. left ≡ (on_success sip loose remote self.old).left) }
+    ) -> Result<(), NoMemory>
+        ensures desk { OnOk result (self.new ≡ (on_success sip loose.old remote self.old).desk) }
+        ensures left { OnOk result (Some loose.new ≡ (on_success sip loose.old remote self.old).left) }
         ensures rows { OnErr result (self.new.rows ≡ self.old.rows) }
     {
         let forks = loose.invitation.forks.items();
         match ended_before(loose.within, remote.tag.bytes(), forks) {
-            Some(dialogue) => {
-                self.acknowledge_in(alloc, sip, dialogue)?;
-                Ok(Some(loose))
-            }
+            Some(dialogue) => self.acknowledge_if(alloc, sip, late_dues(true).ack, dialogue),
             None => {
-                let sent = &loose.invitation;
-                let early = sent.early.as_ref();
-                let dialogue = made_from(alloc, loose.within, early, &sent.dialogue, remote)?;
-                self.acknowledge_and_end(alloc, sip, loose, dialogue)
+                let early = loose.invitation.early.as_ref();
+                let sent = &loose.invitation.dialogue;
+                let dialogue = made_from(alloc, loose.within, early, sent, remote)?;
+                self.acknowledge_and_end(alloc, sip, late_dues(false), loose, dialogue)
             }
         }
     }
 
     /// What a provisional response of a loose INVITE brings.
-    fn cancel_late(
+    fn cancel_late(&mut self, alloc: Global, sip: Addr, loose: &mut Loose) -> Result<(), NoMemory>
+        requires { loose.old.invitation.provisional ≡ true }
+        ensures desk { OnOk result (self.new ≡ (late_cancelled sip loose.old self.old).desk) }
+        ensures left { OnOk result (Some loose.new ≡ (late_cancelled sip loose.old self.old).left) }
+        ensures refused { OnErr result (self.new ≡ self.old) }
+    {
+        if is_cancellable(&loose.invitation) {
+            self.emit_cancel(alloc, sip, &loose.invitation)?;
+            loose.invitation.cancelled = true;
+        }
+        Ok(())
+    }
+
+    /// What a response below 300 of a loose INVITE brings, which says this of the callee.
+    fn hear_remote(
         &mut self,
         alloc: Global,
         sip: Addr,
-        loose: Loose,
-    ) -> Result<Option<Loose>, NoMemory>
-        ensures desk { OnOk result (self.new ≡ (late_cancelled sip loose self.old).desk) }
-        ensures left { IfOk result (λ left. left ≡ (late_cancelled sip loose self.old).left) }
-        ensures refused { OnErr result (self.new ≡ self.old) }
+        key: TKey,
+        loose: &mut Loose,
+        heard: &Hearing,
+        remote: Remote,
+    ) -> Result<(), NoMemory>
+        requires remote { remote ≡ remote_of Callee heard.now.heard.lines }
+        requires below { status_of heard.now.heard.start < 300 }
+        ensures desk { OnOk result (self.new ≡ (on_response sip key heard.now.heard loose.old self.old).desk) }
+        ensures left { OnOk result (Some loose.new ≡ (on_response sip key heard.now.heard loose.old self.old).left) }
+        ensures rows { OnErr result (self.new.rows ≡ self.old.rows) }
     {
-        if loose.invitation.cancelled {
-            return Ok(Some(loose));
+        if status_of(heard.message.start()) < 200 {
+            note_late(key, heard, remote, loose);
+            return self.cancel_late(alloc, sip, loose);
         }
-        self.emit_cancel(alloc, sip, &loose.invitation)?;
-        let Loose { invitation, within } = loose;
-        let invitation = Invitation {
-            cancelled: true,
-            ..invitation
-        };
-        Ok(Some(Loose { invitation, within }))
+        loose.invitation.key = Some(key);
+        self.hear_success(alloc, sip, loose, remote)
+    }
+
+    /// The same of any response; whether the INVITE stays.
+    fn hear_in(
+        &mut self,
+        alloc: Global,
+        sip: Addr,
+        key: TKey,
+        loose: &mut Loose,
+        heard: &Hearing,
+    ) -> Result<bool, NoMemory>
+        ensures desk { OnOk result (self.new ≡ (on_response sip key heard.now.heard loose.old self.old).desk) }
+        ensures left { IfOk result (λ stays. (if stays then Some loose.new else None) ≡ (on_response sip key heard.now.heard loose.old self.old).left) }
+        ensures rows { OnErr result (self.new.rows ≡ self.old.rows) }
+    {
+        if status_of(heard.message.start()) >= 300 {
+            self.acknowledge_final(alloc, sip, key, &loose.invitation, heard)?;
+            return Ok(false);
+        }
+        let remote = Remote::read(alloc, &heard.message, Side::Callee)?;
+        self.hear_remote(alloc, sip, key, loose, heard, remote)?;
+        Ok(true)
     }
 
     /// Hears a response of a loose INVITE, by its client transaction: a provisional one lets the CANCEL go that was due (RFC 3261 §9.1); a 2xx has its ACK, and its dialog
@@ -226,20 +327,13 @@ impl Desk {
         ensures left { IfOk result (λ left. left ≡ (on_response sip key heard.now.heard loose self.old).left) }
         ensures rows { OnErr result (self.new.rows ≡ self.old.rows) }
     {
-        let code = status_of(heard.message.start());
-        if code >= 300 {
-            self.acknowledge_final(alloc, sip, key, &loose.invitation, heard)?;
-            return Ok(None);
+        let mut loose = loose;
+        match self.hear_in(alloc, sip, key, &mut loose, heard) {
+            Ok(stays) => Ok(staying(stays, loose)),
+            Err(error) => {
+                drop(loose);
+                Err(error)
+            }
         }
-        let remote = Remote::read(alloc, &heard.message, Side::Callee)?;
-        if code >= 200 {
-            let Loose { invitation, within } = loose;
-            let invitation = Invitation {
-                key: Some(key),
-                ..invitation
-            };
-            return self.hear_success(alloc, sip, Loose { invitation, within }, remote);
-        }
-        self.cancel_late(alloc, sip, told_late(key, heard, remote, loose))
     }
 }

@@ -13,3 +13,4 @@ pub mod Names
 pub mod Histories
 -- What private functions alone cite.
 pub mod Private
+pub mod Lent

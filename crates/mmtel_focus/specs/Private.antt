@@ -1,10 +1,14 @@
--- What private functions alone cite: a leg that is handed back to whoever gave it, a request that the seat at a place hears, and what a room makes of a REFER.
+-- What private functions alone cite: a leg that is handed back to whoever gave it, a room for a leg, a request that the seat at a place hears, and what a room makes of a
+-- REFER.
 use Rattle.std.specs.Prelude.{ℕ, Option, Some, None, Result, Ok, slice_set}
 use Rattle.mmtel_answers.specs.Said.{Said}
 use Rattle.mmtel_leg.specs.Legs.{Leg}
 use Rattle.mmtel_leg.specs.declared.dialogues.DialogueFault.{DialogueFault}
 use Rattle.mmtel_leg.specs.declared.legs.Released.{Released}
 use Rattle.mmtel_leg.specs.declared.legs.Released.TheVariants as released
+use Rattle.mmtel_transaction.specs.declared.words.TKey.{TKey}
+use Rattle.mmtel_types.specs.declared.numbers.Account.{Account}
+use Rattle.mmtel_focus.specs.Histories.{Deed, Opens, no_tokens}
 use Rattle.mmtel_focus.specs.Requests.{busy, heard_seat, says}
 use Rattle.mmtel_focus.specs.Joining.{told_failure, with_new}
 use Rattle.mmtel_focus.specs.Rooms.{Room, Seat, Step, with_desk}
@@ -36,3 +40,7 @@ after_bid site by (Refused code) s = told_failure site by code s
 
 abbrev pub after_bidding : Site → (by : ℕ) → Bidding → Step → Step
 after_bidding site by b s = after_bid site by b.bid (with_desk b.desk s)
+
+-- a leg for which a room is opened, by which no token is drawn
+abbrev pub arriving : (at : ℕ) → Released → Option Account → TKey → Said → Deed
+arriving at leg account key m = Opens (record { at = at; tokens = no_tokens; leg = leg; account = account; key = key; invite = m })

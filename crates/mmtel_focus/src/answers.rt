@@ -1,5 +1,6 @@
 //! What comes of the server's INVITE to a seat, and of its deadlines.
-ghost use Rattle.std.specs.Prelude.{◌≡◌, ◌<◌, IfOk, OnOk, length, slice_get};
+ghost use Rattle.std.specs.Prelude.{◌≡◌, ◌<◌, ◌&&◌, false, IfOk, OnOk, length, slice_get};
+ghost use Rattle.std.specs.Str.{bytes_eq};
 ghost use Rattle.mmtel_answers.specs.Requests.{bare};
 ghost use Rattle.mmtel_answers.specs.Said.{phrase_in, status_of};
 ghost use Rattle.mmtel_desk.specs.Desks.{token};
@@ -9,8 +10,8 @@ ghost use Rattle.mmtel_leg.specs.Requests.{ack_of};
 ghost use Rattle.mmtel_types.specs.declared.sides.Side.TheVariants.{Callee};
 ghost use Rattle.mmtel_focus.specs.Answers.{acknowledged, ended_unasked, ended_without, is_success, on_answer, on_cap, on_due, on_failure, on_no_ack, on_repeat};
 ghost use Rattle.mmtel_focus.specs.Answers.{on_response, on_silence, on_success, stood_in, tag_given, too_long, unacknowledged};
-ghost use Rattle.mmtel_focus.specs.Seats.{at_seat};
-ghost use Rattle.mmtel_focus.specs.Texts.{status_line};
+ghost use Rattle.mmtel_focus.specs.Seats.{at_seat, told_by};
+ghost use Rattle.mmtel_focus.specs.Texts.{own_status, status_line};
 
 use crate::rooms::Room;
 use crate::texts::{own_status, status_line};
@@ -31,6 +32,17 @@ fn said_by_callee(alloc: Global, response: &Hearing) -> Result<Remote, NoMemory>
     ensures tag { IfOk result (λ r. r.tag ≡ tag_given response.now) }
 {
     Remote::read(alloc, &response.message, Side::Callee)
+}
+
+/// Whether a response is another 2xx with this tag.
+fn is_repeat(alloc: Global, response: &Hearing, tag: &[u8]) -> Result<bool, NoMemory>
+    ensures { IfOk result (λ yes. yes ≡ (is_success (status_of response.now.heard.start) && bytes_eq (tag_given response.now) tag.now)) }
+{
+    if !is_success(status_of(response.message.start())) {
+        return Ok(false);
+    }
+    let remote = said_by_callee(alloc, response)?;
+    Ok(remote.tag.bytes() == tag)
 }
 
 /// The status line of a response, as it was heard.
@@ -115,6 +127,42 @@ impl Room {
         Ok(())
     }
 
+    /// Whoever is invited to the seat at this place is seated by a 2xx. Gives its tag.
+    fn seat_at(
+        &mut self,
+        alloc: Global,
+        now: Moment,
+        m: &Hearing,
+        place: usize,
+    ) -> Result<Text, NoMemory>
+        requires { place < length self.old.seats }
+        ensures tag { IfOk result (λ tag. tag ≡ tag_given m.now) }
+        ensures room { OnOk result (self.new ≡ record self.old {
+          seats =
+              stood_in self.old.number now (remote_of Callee m.now.heard.lines) place (slice_get self.old.seats place) self.old.seats;
+        }) }
+    {
+        let remote = said_by_callee(alloc, m)?;
+        let tag = remote.tag.copied(alloc)?;
+        stand_at(&mut self.seats, self.number, now, remote, place);
+        Ok(tag)
+    }
+
+    /// Tells the seat whose REFER brought another one that its request has had a success.
+    fn tell_success(
+        &mut self,
+        alloc: Global,
+        setting: &Setting<'_>,
+        by: Option<u64>,
+        effects: &mut Effects,
+    ) -> Result<(), NoMemory>
+        ensures room { OnOk result (self.new ≡ (told_by setting.now false (own_status 200) by (record { room = self.old; effects = effects.old })).room) }
+        ensures effects { OnOk result (effects.new ≡ (told_by setting.now false (own_status 200) by (record { room = self.old; effects = effects.old })).effects) }
+    {
+        let line = own_status(alloc, 200)?;
+        self.tell_by(alloc, setting, false, line.bytes(), by, effects)
+    }
+
     /// A 2xx: it has its ACK, whoever is invited is seated, and the seat that asked is told.
     fn hear_success(
         &mut self,
@@ -130,12 +178,9 @@ impl Room {
         ensures effects { OnOk result (effects.new ≡ (at_seat (on_success setting.now now m.now) place (record { room = self.old; effects = effects.old })).effects) }
     {
         let by = self.seats[place].by;
-        let remote = said_by_callee(alloc, m)?;
-        let tag = remote.tag.copied(alloc)?;
-        stand_at(&mut self.seats, self.number, now, remote, place);
+        let tag = self.seat_at(alloc, now, m, place)?;
         self.acknowledge_at(alloc, setting, tag, place, effects)?;
-        let line = own_status(alloc, 200)?;
-        self.tell_by(alloc, setting, false, line.bytes(), by, effects)
+        self.tell_success(alloc, setting, by, effects)
     }
 
     /// The seat at this place is left, with BYE where somebody is seated, and the seat that asked for it is told this status line.
@@ -172,7 +217,7 @@ impl Room {
         ensures room { OnOk result (self.new ≡ (at_seat (ended_unasked setting.now now line.now) place (record { room = self.old; effects = effects.old })).room) }
         ensures effects { OnOk result (effects.new ≡ (at_seat (ended_unasked setting.now now line.now) place (record { room = self.old; effects = effects.old })).effects) }
     {
-        self.seats[place].invite = None;
+        drop(self.seats[place].invite.take());
         self.end_at(alloc, setting, now, line, place, effects)
     }
 
@@ -191,9 +236,9 @@ impl Room {
         ensures room { OnOk result (self.new ≡ (at_seat (on_failure setting.now now key m.now) place (record { room = self.old; effects = effects.old })).room) }
         ensures effects { OnOk result (effects.new ≡ (at_seat (on_failure setting.now now key m.now) place (record { room = self.old; effects = effects.old })).effects) }
     {
-        let line = line_of(alloc, m)?;
         let desk = &mut effects.desk;
         self.seats[place].acknowledge_failure(alloc, setting.sip, key, m, desk)?;
+        let line = line_of(alloc, m)?;
         self.end_unasked(alloc, setting, now, line.bytes(), place, effects)
     }
 
@@ -237,11 +282,7 @@ impl Room {
         ensures room { (at_seat (on_repeat m.now tag.now ack.now) place (record { room = self.now; effects = effects.old })).room ≡ self.now }
         ensures effects { OnOk result (effects.new ≡ (at_seat (on_repeat m.now tag.now ack.now) place (record { room = self.now; effects = effects.old })).effects) }
     {
-        if !is_success(status_of(m.message.start())) {
-            return Ok(());
-        }
-        let remote = said_by_callee(alloc, m)?;
-        if remote.tag.bytes() != tag {
+        if !is_repeat(alloc, m, tag)? {
             return Ok(());
         }
         let text = ack.copied(alloc)?;
@@ -310,9 +351,9 @@ impl Room {
         ensures room { OnOk result (self.new ≡ (at_seat (too_long setting.now now) place (record { room = self.old; effects = effects.old })).room) }
         ensures effects { OnOk result (effects.new ≡ (at_seat (too_long setting.now now) place (record { room = self.old; effects = effects.old })).effects) }
     {
-        let line = own_status(alloc, 408)?;
         self.seats[place].cancel(alloc, setting.sip, &mut effects.desk)?;
         self.seats[place].note_cancelled();
+        let line = own_status(alloc, 408)?;
         self.end_at(alloc, setting, now, line.bytes(), place, effects)
     }
 

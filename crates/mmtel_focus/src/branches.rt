@@ -1,7 +1,7 @@
 //! Which INVITE of the server a response answers (RFC 3261 §17.1.3).
 ghost use Rattle.std.specs.Prelude.{◌≡◌, IfOk};
 ghost use Rattle.std.specs.Option.{option_copied};
-ghost use Rattle.mmtel_focus.specs.Table.{answers_invite, behind, branch_in, first_via, invite_answered, invite_silent};
+ghost use Rattle.mmtel_focus.specs.Table.{answers_invite, behind, branch_in, first_via, invite_answered, invite_silent, via_branch};
 
 use mmtel_answers::Hearing;
 use mmtel_lex::LexFault;
@@ -34,16 +34,23 @@ fn first_via(alloc: Global, m: &Hearing) -> Result<Option<Via>, NoMemory>
     }
 }
 
+/// The branch of a Via, behind its cookie.
+fn branch_by(alloc: Global, via: &Via) -> Result<Option<Text>, NoMemory>
+    ensures { IfOk result (λ branch. branch ≡ behind (via_branch via.now)) }
+{
+    match behind_cookie(param_value(via.params.items(), b"branch")) {
+        None => Ok(None),
+        Some(branch) => Ok(Some(Text::of(alloc, branch)?)),
+    }
+}
+
 /// The branch, behind its cookie, of the first Via of a response.
 fn branch_of(alloc: Global, m: &Hearing) -> Result<Option<Text>, NoMemory>
     ensures { IfOk result (λ branch. branch ≡ branch_in m.now.heard.vias) }
 {
     match first_via(alloc, m)? {
         None => Ok(None),
-        Some(via) => match behind_cookie(param_value(via.params.items(), b"branch")) {
-            None => Ok(None),
-            Some(branch) => Ok(Some(Text::of(alloc, branch)?)),
-        },
+        Some(via) => branch_by(alloc, &via),
     }
 }
 

@@ -108,7 +108,8 @@ fn tell_at(
 ) -> Result<(), NoMemory>
     requires { place < length live.old.items }
     ensures live { OnOk result (live.new.items ≡ (stays_at (told_to setting.now goes_on line.now seat) place (slice_get live.old.items place) live.old.items effects.old).live) }
-    ensures effects { OnOk result (effects.new ≡ (stays_at (told_to setting.now goes_on line.now seat) place (slice_get live.old.items place) live.old.items effects.old).effects) }
+    ensures effects { OnOk result (effects.new
+        ≡ (stays_at (told_to setting.now goes_on line.now seat) place (slice_get live.old.items place) live.old.items effects.old).effects) }
 {
     live[place].tell(alloc, setting, goes_on, line, seat, effects)
 }

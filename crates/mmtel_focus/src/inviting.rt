@@ -4,9 +4,10 @@ ghost use Rattle.mmtel_focus.specs.Joining.{bidden, told_failure};
 
 use crate::rooms::Room;
 use crate::texts::own_status;
+use mmtel_bids::bring;
 use mmtel_lex::Uri;
 use mmtel_scan::NoMemory;
-use mmtel_seats::{Bid, Effects, Setting, bring};
+use mmtel_seats::{Bid, Effects, Setting};
 use mmtel_types::Moment;
 use std::alloc::Global;
 
@@ -27,7 +28,7 @@ impl Room {
         self.tell(alloc, setting, false, line.bytes(), by, effects)
     }
 
-    /// Invites whoever this URI is of, by the REFER of a seat; the seat is told where no peer leads there, and else where no seat is free.
+    /// Invites whoever this URI, which is taken, is of, by the REFER of a seat; the seat is told where no peer leads there, and else where no seat is free.
     #[tactic(auto, using(crate::proofs::Bids::bid_taken))]
     pub fn bid(
         &mut self,
@@ -35,11 +36,11 @@ impl Room {
         setting: &Setting<'_>,
         now: Moment,
         by: u64,
-        uri: Option<Uri>,
+        uri: &mut Option<Uri>,
         effects: &mut Effects,
     ) -> Result<(), NoMemory>
-        ensures room { OnOk result (self.new ≡ (bidden setting.now now by uri (record { room = self.old; effects = effects.old })).room) }
-        ensures effects { OnOk result (effects.new ≡ (bidden setting.now now by uri (record { room = self.old; effects = effects.old })).effects) }
+        ensures room { OnOk result (self.new ≡ (bidden setting.now now by uri.old (record { room = self.old; effects = effects.old })).room) }
+        ensures effects { OnOk result (effects.new ≡ (bidden setting.now now by uri.old (record { room = self.old; effects = effects.old })).effects) }
     {
         self.seats.reserve(1)?;
         let next = self.next();
@@ -50,7 +51,7 @@ impl Room {
             next,
             by,
             &self.seats,
-            uri,
+            uri.take(),
             &mut effects.desk,
         )? {
             Bid::Refused(code) => self.tell_failure(alloc, setting, by, code, effects),

@@ -1,8 +1,8 @@
 //! How a seat is taken: by an INVITE to the room, and by a leg out of a call.
-ghost use Rattle.std.specs.Prelude.{◌≡◌, IfErr, IfOk, None, OnErr, OnOk, Some, codes, true};
+ghost use Rattle.std.specs.Prelude.{◌≡◌, [], IfErr, IfOk, None, OnErr, OnOk, Some, codes, true};
 ghost use Rattle.mmtel_desk.specs.Desks.{token};
 ghost use Rattle.mmtel_desk.specs.Invitations.{sent};
-ghost use Rattle.mmtel_desk.specs.Sending.{asked_with};
+ghost use Rattle.mmtel_desk.specs.Sending.{answered_at, asked_with};
 ghost use Rattle.mmtel_leg.specs.Releases.{released_leg};
 ghost use Rattle.mmtel_scan.specs.Numbers.{next_number};
 ghost use Rattle.mmtel_sdp.specs.Mixing.{offer_text};
@@ -10,7 +10,7 @@ ghost use Rattle.mmtel_sdp.specs.Offers.{offers_audio};
 ghost use Rattle.mmtel_focus.specs.Joining.{adopted, agreed, come, having_invited, having_invited_by, is_same_side, new_room, new_seat, next_in, party_of};
 ghost use Rattle.mmtel_focus.specs.Rooms.{Waiting};
 ghost use Rattle.mmtel_focus.specs.Seats.{meter_of};
-ghost use Rattle.mmtel_focus.specs.Texts.{described};
+ghost use Rattle.mmtel_focus.specs.Texts.{answer_in, contact_value, described, sdp_lines};
 
 use crate::rooms::Room;
 use crate::texts::answer_in;
@@ -41,6 +41,36 @@ fn party_of(leg: Released, meter: Option<Meter>, now: Moment) -> Party
     }
 }
 
+/// Answers an INVITE to a room with the mixer's answer.
+fn answer(
+    alloc: Global,
+    setting: &Setting<'_>,
+    room: RoomNo,
+    key: TKey,
+    invite: &Hearing,
+    tag: &[u8],
+    desk: &mut Desk,
+) -> Result<(), NoMemory>
+    requires { offers_audio invite.now.heard.body ≡ true }
+    ensures { OnOk result (desk.new
+        ≡ answered_at (contact_value setting.now.sip room) key invite.now tag.now 200 [] sdp_lines (answer_in setting.now.mixer invite.now.heard.body) desk.old) }
+{
+    let contact = contact_value(alloc, setting.sip, room)?;
+    let named = sdp_lines(alloc)?;
+    let body = answer_in(alloc, setting.mixer, invite.message.body())?;
+    desk.answer_at(
+        alloc,
+        contact.bytes(),
+        key,
+        invite,
+        tag,
+        200,
+        &[],
+        named.items(),
+        body.bytes(),
+    )
+}
+
 /// Answers an INVITE to a room with the mixer's answer, and arms the deadline of its ACK.
 pub fn agree(
     alloc: Global,
@@ -57,20 +87,7 @@ pub fn agree(
     requires { offers_audio invite.now.heard.body ≡ true }
     ensures { OnOk result (desk.new ≡ agreed setting.now now room seat number key invite.now tag.now desk.old) }
 {
-    let contact = contact_value(alloc, setting.sip, room)?;
-    let named = sdp_lines(alloc)?;
-    let body = answer_in(alloc, setting.mixer, invite.message.body())?;
-    desk.answer_at(
-        alloc,
-        contact.bytes(),
-        key,
-        invite,
-        tag,
-        200,
-        &[],
-        named.items(),
-        body.bytes(),
-    )?;
+    answer(alloc, setting, room, key, invite, tag, desk)?;
     let at = now.ms() + ACK_TIME;
     let what = RoomWord::NoAck(number);
     desk.emit(

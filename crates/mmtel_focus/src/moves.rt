@@ -1,14 +1,15 @@
 //! A signal moves the rooms: the seat that it is of takes its row, or something is heard of an INVITE that was left.
 ghost use Rattle.std.specs.Prelude.{◌≡◌, ◌<◌, ℕ, List, OnOk, Some, length, position, slice_get};
 ghost use Rattle.mmtel_desk.specs.Loose.{is_of};
+ghost use Rattle.mmtel_focus.specs.Lent.{lent};
 ghost use Rattle.mmtel_focus.specs.Rooms.{Room};
 ghost use Rattle.mmtel_focus.specs.Seats.{at_place, at_seat};
-ghost use Rattle.mmtel_focus.specs.Table.{answered_at, answered_loose, asks, heard_by, heard_in, heard_of, hears, is_asked, is_key, is_loose_key, place_of, silenced_at};
-ghost use Rattle.mmtel_focus.specs.Table.{stepped_at, stepped_in, taken, without};
+ghost use Rattle.mmtel_focus.specs.Table.{answered_at, answered_by, answered_loose, asks, heard_by, heard_in, heard_of, hears, invite_answered, invite_silent};
+ghost use Rattle.mmtel_focus.specs.Table.{is_asked, is_key, is_loose_key, place_of, silenced_at, silenced_by, stepped_at, stepped_in, taken, without};
 
 use crate::branches::{invite_answered, invite_silent};
 use crate::rooms::Room;
-use crate::signals::{RoomSignal, SeatSignal};
+use crate::signals::{LentSignal, RoomSignal};
 use mmtel_answers::Hearing;
 use mmtel_desk::{Loose, file, loose_at};
 use mmtel_scan::{List, NoMemory};
@@ -61,24 +62,24 @@ impl Room {
         alloc: Global,
         setting: &Setting<'_>,
         now: Moment,
-        signal: SeatSignal,
+        signal: LentSignal<'_>,
         place: usize,
         effects: &mut Effects,
     ) -> Result<(), NoMemory>
         requires { place < length self.old.seats }
-        ensures room { OnOk result (self.new ≡ (at_seat (hears setting.now now signal) place (record { room = self.old; effects = effects.old })).room) }
-        ensures effects { OnOk result (effects.new ≡ (at_seat (hears setting.now now signal) place (record { room = self.old; effects = effects.old })).effects) }
+        ensures room { OnOk result (self.new ≡ (at_seat (hears setting.now now (lent signal.entry)) place (record { room = self.old; effects = effects.old })).room) }
+        ensures effects { OnOk result (effects.new ≡ (at_seat (hears setting.now now (lent signal.entry)) place (record { room = self.old; effects = effects.old })).effects) }
     {
         match signal {
-            SeatSignal::Request { key, request } => {
-                self.hear_request(alloc, setting, now, key, &request, place, effects)
+            LentSignal::Request { key, request } => {
+                self.hear_request(alloc, setting, now, key, request, place, effects)
             }
-            SeatSignal::Ack { ack } => self.hear_ack(alloc, &ack, place, effects),
-            SeatSignal::Answer { key, response } => {
-                self.hear_answer(alloc, setting, now, key, &response, place, effects)
+            LentSignal::Ack { ack } => self.hear_ack(alloc, ack, place, effects),
+            LentSignal::Answer { key, response } => {
+                self.hear_answer(alloc, setting, now, key, response, place, effects)
             }
-            SeatSignal::Silent => self.hear_silence(alloc, setting, now, place, effects),
-            SeatSignal::Due { what } => self.hear_due(alloc, setting, now, what, place, effects),
+            LentSignal::Silent => self.hear_silence(alloc, setting, now, place, effects),
+            LentSignal::Due { what } => self.hear_due(alloc, setting, now, what, place, effects),
         }
     }
 
@@ -88,13 +89,13 @@ impl Room {
         alloc: Global,
         setting: &Setting<'_>,
         now: Moment,
-        signal: SeatSignal,
+        signal: LentSignal<'_>,
         place: Option<usize>,
         effects: &mut Effects,
     ) -> Result<(), NoMemory>
         requires { (n : ℕ) → place ≡ Some n → n < length self.old.seats }
-        ensures room { OnOk result (self.new ≡ (at_place (hears setting.now now signal) place (record { room = self.old; effects = effects.old })).room) }
-        ensures effects { OnOk result (effects.new ≡ (at_place (hears setting.now now signal) place (record { room = self.old; effects = effects.old })).effects) }
+        ensures room { OnOk result (self.new ≡ (at_place (hears setting.now now (lent signal.entry)) place (record { room = self.old; effects = effects.old })).room) }
+        ensures effects { OnOk result (effects.new ≡ (at_place (hears setting.now now (lent signal.entry)) place (record { room = self.old; effects = effects.old })).effects) }
     {
         match place {
             None => Ok(()),
@@ -109,7 +110,7 @@ fn step_at(
     alloc: Global,
     setting: &Setting<'_>,
     now: Moment,
-    signal: SeatSignal,
+    signal: LentSignal<'_>,
     place: usize,
     seat: Option<usize>,
     effects: &mut Effects,
@@ -117,9 +118,9 @@ fn step_at(
     requires place { place < length live.old.items }
     requires seat { (room : Room) → slice_get live.old.items place ≡ Some room → (n : ℕ) → seat ≡ Some n → n < length room.seats }
     ensures live { OnOk result (live.new.items
-        ≡ (stepped_at (at_place (hears setting.now now signal) seat) place (slice_get live.old.items place) live.old.items effects.old).live) }
+        ≡ (stepped_at (at_place (hears setting.now now (lent signal.entry)) seat) place (slice_get live.old.items place) live.old.items effects.old).live) }
     ensures effects { OnOk result (effects.new
-        ≡ (stepped_at (at_place (hears setting.now now signal) seat) place (slice_get live.old.items place) live.old.items effects.old).effects) }
+        ≡ (stepped_at (at_place (hears setting.now now (lent signal.entry)) seat) place (slice_get live.old.items place) live.old.items effects.old).effects) }
 {
     live[place].hear(alloc, setting, now, signal, seat, effects)?;
     if effects.closes {
@@ -136,11 +137,11 @@ fn hear_in(
     now: Moment,
     room: RoomNo,
     seat: u64,
-    signal: SeatSignal,
+    signal: LentSignal<'_>,
     effects: &mut Effects,
 ) -> Result<(), NoMemory>
-    ensures live { OnOk result (live.new.items ≡ (heard_in setting.now now room.0 seat signal live.old.items effects.old).live) }
-    ensures effects { OnOk result (effects.new ≡ (heard_in setting.now now room.0 seat signal live.old.items effects.old).effects) }
+    ensures live { OnOk result (live.new.items ≡ (heard_in setting.now now room.0 seat (lent signal.entry) live.old.items effects.old).live) }
+    ensures effects { OnOk result (effects.new ≡ (heard_in setting.now now room.0 seat (lent signal.entry) live.old.items effects.old).effects) }
 {
     match place_of(live, room) {
         None => Ok(()),
@@ -166,11 +167,11 @@ fn hear_of(
     setting: &Setting<'_>,
     now: Moment,
     branch: &[u8],
-    signal: SeatSignal,
+    signal: LentSignal<'_>,
     effects: &mut Effects,
 ) -> Result<(), NoMemory>
-    ensures live { OnOk result (live.new.items ≡ (heard_of setting.now now branch.now signal live.old.items effects.old).live) }
-    ensures effects { OnOk result (effects.new ≡ (heard_of setting.now now branch.now signal live.old.items effects.old).effects) }
+    ensures live { OnOk result (live.new.items ≡ (heard_of setting.now now branch.now (lent signal.entry) live.old.items effects.old).live) }
+    ensures effects { OnOk result (effects.new ≡ (heard_of setting.now now branch.now (lent signal.entry) live.old.items effects.old).effects) }
 {
     match asking_at(live, branch) {
         None => Ok(()),
@@ -211,19 +212,21 @@ fn hear_answer(
     setting: &Setting<'_>,
     now: Moment,
     key: TKey,
-    m: Hearing,
+    m: &Hearing,
     branch: &[u8],
     effects: &mut Effects,
 ) -> Result<(), NoMemory>
-    ensures live { OnOk result (live.new.items ≡ (answered_at setting.now now key m branch.now (position (is_of branch.now) loose.old) live.old.items loose.old effects.old).live) }
-    ensures loose { OnOk result (loose.new ≡ (answered_at setting.now now key m branch.now (position (is_of branch.now) loose.old) live.old.items loose.old effects.old).loose) }
+    ensures live { OnOk result (live.new.items
+        ≡ (answered_at setting.now now key m.now branch.now (position (is_of branch.now) loose.old) live.old.items loose.old effects.old).live) }
+    ensures loose { OnOk result (loose.new
+        ≡ (answered_at setting.now now key m.now branch.now (position (is_of branch.now) loose.old) live.old.items loose.old effects.old).loose) }
     ensures effects { OnOk result (effects.new
-        ≡ (answered_at setting.now now key m branch.now (position (is_of branch.now) loose.old) live.old.items loose.old effects.old).effects) }
+        ≡ (answered_at setting.now now key m.now branch.now (position (is_of branch.now) loose.old) live.old.items loose.old effects.old).effects) }
 {
     match loose_at(loose.items(), branch) {
-        Some(place) => hear_loose_at(loose, alloc, setting.sip, key, &m, place, effects),
+        Some(place) => hear_loose_at(loose, alloc, setting.sip, key, m, place, effects),
         None => {
-            let signal = SeatSignal::Answer { key, response: m };
+            let signal = LentSignal::Answer { key, response: m };
             hear_of(live, alloc, setting, now, branch, signal, effects)
         }
     }
@@ -254,9 +257,56 @@ fn hear_silence(
             setting,
             now,
             branch,
-            SeatSignal::Silent,
+            LentSignal::Silent,
             effects,
         ),
+    }
+}
+
+/// A response: to an INVITE of the server's own, by its branch, or to another request, whose response is not awaited.
+fn hear_response(
+    live: &mut Vec<Room>,
+    loose: &mut List<Loose>,
+    alloc: Global,
+    setting: &Setting<'_>,
+    now: Moment,
+    key: TKey,
+    m: &Hearing,
+    effects: &mut Effects,
+) -> Result<(), NoMemory>
+    ensures live { OnOk result (live.new.items ≡ (answered_by setting.now now key m.now (invite_answered m.now) live.old.items loose.old effects.old).live) }
+    ensures loose { OnOk result (loose.new ≡ (answered_by setting.now now key m.now (invite_answered m.now) live.old.items loose.old effects.old).loose) }
+    ensures effects { OnOk result (effects.new ≡ (answered_by setting.now now key m.now (invite_answered m.now) live.old.items loose.old effects.old).effects) }
+{
+    match invite_answered(alloc, m)? {
+        None => Ok(()),
+        Some(branch) => {
+            let branch = branch.bytes();
+            hear_answer(live, loose, alloc, setting, now, key, m, branch, effects)
+        }
+    }
+}
+
+/// The request of this branch and this method had no response at all.
+fn hear_silent(
+    live: &mut Vec<Room>,
+    loose: &mut List<Loose>,
+    alloc: Global,
+    setting: &Setting<'_>,
+    now: Moment,
+    branch: &[u8],
+    method: &[u8],
+    effects: &mut Effects,
+) -> Result<(), NoMemory>
+    ensures live { OnOk result (live.new.items
+        ≡ (silenced_by setting.now now (invite_silent branch.now method.now) live.old.items loose.old effects.old).live) }
+    ensures loose { OnOk result (loose.new ≡ (silenced_by setting.now now (invite_silent branch.now method.now) live.old.items loose.old effects.old).loose) }
+    ensures effects { OnOk result (effects.new
+        ≡ (silenced_by setting.now now (invite_silent branch.now method.now) live.old.items loose.old effects.old).effects) }
+{
+    match invite_silent(branch, method) {
+        None => Ok(()),
+        Some(branch) => hear_silence(live, loose, alloc, setting, now, branch, effects),
     }
 }
 
@@ -304,12 +354,12 @@ pub fn take(
     alloc: Global,
     setting: &Setting<'_>,
     now: Moment,
-    signal: RoomSignal,
+    signal: &RoomSignal,
     effects: &mut Effects,
 ) -> Result<(), NoMemory>
-    ensures live { OnOk result (live.new.items ≡ (taken setting.now now signal live.old.items loose.old effects.old).live) }
-    ensures loose { OnOk result (loose.new ≡ (taken setting.now now signal live.old.items loose.old effects.old).loose) }
-    ensures effects { OnOk result (effects.new ≡ (taken setting.now now signal live.old.items loose.old effects.old).effects) }
+    ensures live { OnOk result (live.new.items ≡ (taken setting.now now signal.now live.old.items loose.old effects.old).live) }
+    ensures loose { OnOk result (loose.new ≡ (taken setting.now now signal.now live.old.items loose.old effects.old).loose) }
+    ensures effects { OnOk result (effects.new ≡ (taken setting.now now signal.now live.old.items loose.old effects.old).effects) }
 {
     match signal {
         RoomSignal::Request {
@@ -318,34 +368,27 @@ pub fn take(
             key,
             request,
         } => {
-            let signal = SeatSignal::Request { key, request };
-            hear_in(live, alloc, setting, now, room, seat, signal, effects)
+            let signal = LentSignal::Request { key: *key, request };
+            hear_in(live, alloc, setting, now, *room, *seat, signal, effects)
         }
         RoomSignal::Ack { room, seat, ack } => {
-            let signal = SeatSignal::Ack { ack };
-            hear_in(live, alloc, setting, now, room, seat, signal, effects)
+            let signal = LentSignal::Ack { ack };
+            hear_in(live, alloc, setting, now, *room, *seat, signal, effects)
         }
-        RoomSignal::Answer { key, response } => match invite_answered(alloc, &response)? {
-            None => Ok(()),
-            Some(branch) => {
-                let branch = branch.bytes();
-                hear_answer(
-                    live, loose, alloc, setting, now, key, response, branch, effects,
-                )
-            }
-        },
+        RoomSignal::Answer { key, response } => hear_response(
+            live, loose, alloc, setting, now, *key, response, effects,
+        ),
         RoomSignal::Silent { branch, method } => {
-            match invite_silent(branch.bytes(), method.bytes()) {
-                None => Ok(()),
-                Some(branch) => hear_silence(live, loose, alloc, setting, now, branch, effects),
-            }
+            let branch = branch.bytes();
+            let method = method.bytes();
+            hear_silent(live, loose, alloc, setting, now, branch, method, effects)
         }
         RoomSignal::Due { room, seat, what } => {
-            let signal = SeatSignal::Due { what };
-            hear_in(live, alloc, setting, now, room, seat, signal, effects)
+            let signal = LentSignal::Due { what: *what };
+            hear_in(live, alloc, setting, now, *room, *seat, signal, effects)
         }
         RoomSignal::Over { key } => {
-            drop_ended(loose, key);
+            drop_ended(loose, *key);
             Ok(())
         }
     }

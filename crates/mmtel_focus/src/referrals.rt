@@ -156,21 +156,29 @@ fn uri_in(alloc: Global, value: &[u8]) -> Result<Option<Uri>, NoMemory>
     }
 }
 
-fn referral_to(alloc: Global, uri: Option<Uri>) -> Result<Referral, NoMemory>
-    ensures { IfOk result (λ r. r ≡ referral_to uri) }
+/// What a REFER asks for by this URI, which is taken where it goes into the answer.
+fn referral_by(alloc: Global, uri: &mut Option<Uri>) -> Result<Referral, NoMemory>
+    ensures { IfOk result (λ r. r ≡ referral_to uri.old) }
 {
     match uri {
         None => Ok(Referral::Invite(None)),
-        Some(uri) => {
-            if !asks_invite(&uri) {
+        Some(named) => {
+            if !asks_invite(named) {
                 return Ok(Referral::OtherMethod);
             }
-            match replaces_by(alloc, &uri)? {
-                None => Ok(Referral::Invite(Some(uri))),
+            match replaces_by(alloc, named)? {
+                None => Ok(Referral::Invite(uri.take())),
                 Some(replaces) => Ok(Referral::Replace(replaces)),
             }
         }
     }
+}
+
+fn referral_to(alloc: Global, uri: Option<Uri>) -> Result<Referral, NoMemory>
+    ensures { IfOk result (λ r. r ≡ referral_to uri) }
+{
+    let mut uri = uri;
+    referral_by(alloc, &mut uri)
 }
 
 /// What a REFER asks for by its first Refer-To (RFC 3515 §2.1): an INVITE, by name or because its URI names no method, in the place of a dialog where the header part of

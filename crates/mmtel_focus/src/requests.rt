@@ -3,6 +3,7 @@ ghost use Rattle.std.specs.Prelude.{◌≡◌, ◌<◌, IfOk, OnErr, OnOk, lengt
 ghost use Rattle.mmtel_answers.specs.Answers.{allowed};
 ghost use Rattle.mmtel_sdp.specs.Offers.{offers_audio};
 ghost use Rattle.mmtel_focus.specs.Private.{heard_at, says_at};
+ghost use Rattle.mmtel_focus.specs.Referrals.{referral_in};
 ghost use Rattle.mmtel_focus.specs.Requests.{accepted, acknowledges, agreed_again, answered_with, is_same_number, number_of, on_ack, on_bye, on_heard, on_hearing};
 ghost use Rattle.mmtel_focus.specs.Requests.{on_invite, on_referral, on_request, refused, trying, unheard};
 ghost use Rattle.mmtel_focus.specs.Seats.{at_seat};
@@ -219,7 +220,7 @@ impl Room {
         self.tell(alloc, setting, true, line.bytes(), number, effects)
     }
 
-    /// A REFER that asks for this.
+    /// A REFER that asks for this; a URI is taken out of it.
     fn hear_referral(
         &mut self,
         alloc: Global,
@@ -227,13 +228,14 @@ impl Room {
         now: Moment,
         key: TKey,
         m: &Hearing,
-        referral: Referral,
+        referral: &mut Referral,
         place: usize,
         effects: &mut Effects,
     ) -> Result<(), NoMemory>
         requires { place < length self.old.seats }
-        ensures room { OnOk result (self.new ≡ (at_seat (on_referral setting.now now key m.now referral) place (record { room = self.old; effects = effects.old })).room) }
-        ensures effects { OnOk result (effects.new ≡ (at_seat (on_referral setting.now now key m.now referral) place (record { room = self.old; effects = effects.old })).effects) }
+        ensures room { OnOk result (self.new ≡ (at_seat (on_referral setting.now now key m.now referral.old) place (record { room = self.old; effects = effects.old })).room) }
+        ensures effects { OnOk result (effects.new
+            ≡ (at_seat (on_referral setting.now now key m.now referral.old) place (record { room = self.old; effects = effects.old })).effects) }
     {
         match referral {
             Referral::Missing => self.refuse(alloc, setting, key, m, 400, place, effects),
@@ -246,6 +248,30 @@ impl Room {
                 self.bid(alloc, setting, now, number, uri, effects)
             }
         }
+    }
+
+    /// A REFER.
+    fn hear_refer(
+        &mut self,
+        alloc: Global,
+        setting: &Setting<'_>,
+        now: Moment,
+        key: TKey,
+        m: &Hearing,
+        place: usize,
+        effects: &mut Effects,
+    ) -> Result<(), NoMemory>
+        requires { place < length self.old.seats }
+        ensures room { OnOk result (self.new
+            ≡ (at_seat (on_referral setting.now now key m.now (referral_in m.now.heard.refer_to)) place (record { room = self.old; effects = effects.old })).room) }
+        ensures effects { OnOk result (effects.new
+            ≡ (at_seat (on_referral setting.now now key m.now (referral_in m.now.heard.refer_to)) place (record { room = self.old; effects = effects.old })).effects) }
+    {
+        let mut referral = referral_of(alloc, m)?;
+        let asked = &mut referral;
+        let heard = self.hear_referral(alloc, setting, now, key, m, asked, place, effects);
+        drop(referral);
+        heard
     }
 
     /// An OPTIONS (RFC 3261 §11.2).
@@ -291,8 +317,7 @@ impl Room {
             return self.hear_bye(alloc, setting, now, key, m, place, effects);
         }
         if is_method(b"REFER", start) {
-            let referral = referral_of(alloc, m)?;
-            return self.hear_referral(alloc, setting, now, key, m, referral, place, effects);
+            return self.hear_refer(alloc, setting, now, key, m, place, effects);
         }
         if is_method(b"OPTIONS", start) {
             return self.hear_options(alloc, setting, key, m, place, effects);

@@ -9,7 +9,7 @@ ghost use Rattle.mmtel_focus.specs.Histories.{Closes, Deed, Drops, Hears, Leaves
 ghost use Rattle.mmtel_focus.specs.Histories.{is_offer, no_tokens, site_of, table_after};
 ghost use Rattle.mmtel_focus.specs.Joining.{is_same_side};
 ghost use Rattle.mmtel_focus.specs.Names.{all_ended, found, seats_taken};
-ghost use Rattle.mmtel_focus.specs.Private.{caller_in};
+ghost use Rattle.mmtel_focus.specs.Private.{arriving, caller_in};
 ghost use Rattle.mmtel_focus.specs.Table.{access, has_no_room, no_rooms, opened, row_left};
 ghost use Rattle.mmtel_focus.specs.declared.faults.RoomFault.TheVariants as fault;
 
@@ -22,7 +22,7 @@ use crate::rooms::Room;
 use crate::signals::{Joining, RoomSignal};
 use mmtel_answers::Hearing;
 use mmtel_charging::Row;
-use mmtel_desk::{Desk, Loose};
+use mmtel_desk::Loose;
 use mmtel_leg::{CallerLeg, Ended, Released, Standing};
 use mmtel_scan::{List, NoMemory, Text};
 use mmtel_sdp::Mixer;
@@ -143,19 +143,36 @@ impl Rooms {
         }
     }
 
+    /// Keeps what a step left and closed, and gives what goes out.
+    fn settle(&mut self, alloc: Global, effects: Effects) -> Result<Emits, NoMemory>
+        ensures kept { OnOk result (self.new ≡ record self.old {
+          table =
+              record self.old.table { loose = self.old.table.loose ++ effects.loose; rows = self.old.table.rows ++ effects.desk.rows };
+        }) }
+        ensures emits { IfOk result (λ out. out ≡ effects.desk.out) }
+    {
+        let mut effects = effects;
+        let loose = mem::replace(&mut effects.loose, List::new());
+        let rows = mem::replace(&mut effects.desk.rows, List::new());
+        let out = effects.into_emits();
+        self.keep(alloc, loose, rows)?;
+        Ok(out)
+    }
+
     /// The rooms hear a signal and keep what it left and closed.
     fn hear(
         &mut self,
         alloc: Global,
-        signal: RoomSignal,
+        signal: &RoomSignal,
         peers: &PeerTable,
         accounts: &Accounts,
         tokens: &mut Tokens,
         now: Moment,
     ) -> Result<Emits, NoMemory>
-        ensures done { OnOk result (self.new ≡ after_deed peers.now accounts.now (Hears (record { at = now; tokens = tokens.old; signal = signal })) self.old) }
-        ensures emits { IfOk result (λ out. out ≡ (brought_by peers.now accounts.now (Hears (record { at = now; tokens = tokens.old; signal = signal })) self.old).desk.out) }
-        ensures tokens { OnOk result (tokens.new ≡ (brought_by peers.now accounts.now (Hears (record { at = now; tokens = tokens.old; signal = signal })) self.old).desk.tokens) }
+        ensures done { OnOk result (self.new ≡ after_deed peers.now accounts.now (Hears (record { at = now; tokens = tokens.old; signal = signal.now })) self.old) }
+        ensures emits { IfOk result (λ out. out ≡ (brought_by peers.now accounts.now (Hears (record { at = now; tokens = tokens.old; signal = signal.now })) self.old).desk.out) }
+        ensures tokens { OnOk result (tokens.new
+            ≡ (brought_by peers.now accounts.now (Hears (record { at = now; tokens = tokens.old; signal = signal.now })) self.old).desk.tokens) }
     {
         let setting = Setting {
             sip: self.sip,
@@ -173,20 +190,9 @@ impl Rooms {
             signal,
             &mut effects,
         );
-        let Effects {
-            closes: _,
-            loose,
-            desk,
-        } = effects;
-        let Desk {
-            tokens: drawn,
-            out,
-            rows,
-        } = desk;
-        *tokens = drawn;
+        mem::swap(tokens, &mut effects.desk.tokens);
         heard?;
-        self.keep(alloc, loose, rows)?;
-        Ok(out)
+        self.settle(alloc, effects)
     }
 
     /// The rooms hear a signal: the seat that it is of takes its row of the room table, or what was left of an INVITE goes on (RFC 4579 §5, RFC 3515 §2.4, RFC 3261 §12 to §15).
@@ -214,9 +220,11 @@ impl Rooms {
         ensures stuck { self.old.has_failed ≡ true → IsErr result × ((self.new ≡ self.old) × (tokens.new ≡ tokens.old)) }
     {
         if self.has_failed {
+            drop(signal);
             return Err(NoMemory);
         }
-        let heard = self.hear(alloc, signal, peers, accounts, tokens, now);
+        let heard = self.hear(alloc, &signal, peers, accounts, tokens, now);
+        drop(signal);
         if heard.is_err() {
             self.has_failed = true;
         }
@@ -254,20 +262,9 @@ impl Rooms {
             code,
             &mut effects,
         );
-        let Effects {
-            closes: _,
-            loose,
-            desk,
-        } = effects;
-        let Desk {
-            tokens: drawn,
-            out,
-            rows,
-        } = desk;
-        *tokens = drawn;
+        mem::swap(tokens, &mut effects.desk.tokens);
         told?;
-        self.keep(alloc, loose, rows)?;
-        Ok(out)
+        self.settle(alloc, effects)
     }
 
     /// Tells a seat what became of its REFER, by the status line of this code; nothing goes out once it has left (RFC 3515 §2.4.4). The code has a phrase among those of
@@ -306,6 +303,61 @@ impl Rooms {
         told
     }
 
+    /// Opens a room for a leg that comes by an INVITE which offers audio.
+    ///
+    /// # Errors
+    ///
+    /// Want of memory alone; the leg is handed back, and the rooms are as before.
+    fn begin(
+        &mut self,
+        alloc: Global,
+        leg: Released,
+        account: Option<Account>,
+        key: TKey,
+        invite: &Hearing,
+        peers: &PeerTable,
+        accounts: &Accounts,
+        now: Moment,
+    ) -> Result<(RoomNo, Emits), Released>
+        requires unmetered { (released_leg leg).meter ≡ None }
+        requires audio { offers_audio invite.now.heard.body ≡ true }
+        ensures done { OnOk result (self.new ≡ after_deed peers.now accounts.now (arriving now leg account key invite.now) self.old) }
+        ensures emits { IfOk result (λ made. made.1 ≡ (brought_by peers.now accounts.now (arriving now leg account key invite.now) self.old).desk.out) }
+        ensures number { IfOk result (λ made. made.0.0 ≡ next_number self.old.table.opened) }
+        ensures refused { OnErr result (self.new ≡ self.old) }
+        ensures handed_back { IfErr result (λ l. l ≡ leg) }
+    {
+        if self.live.reserve(1).is_err() {
+            return Err(leg);
+        }
+        let setting = Setting {
+            sip: self.sip,
+            mixer: self.mixer,
+            peers,
+            accounts,
+        };
+        let number = RoomNo(self.opened.saturating_add(1));
+        let mut effects = Effects::new(no_tokens());
+        match open(
+            alloc,
+            &setting,
+            now,
+            number,
+            leg,
+            account,
+            key,
+            invite,
+            &mut effects,
+        ) {
+            Err(leg) => Err(leg),
+            Ok(room) => {
+                self.live.push_reserved(room);
+                self.opened = number.0;
+                Ok((number, effects.into_emits()))
+            }
+        }
+    }
+
     /// Opens a room for a caller whose INVITE offers audio, who has its first seat (RFC 4579 §5.4). No token is drawn.
     ///
     /// # Errors
@@ -342,35 +394,10 @@ impl Rooms {
         if self.live.len() >= ROOMS {
             return Err((leg, RoomFault::NoRoom));
         }
-        let setting = Setting {
-            sip: self.sip,
-            mixer: self.mixer,
-            peers,
-            accounts,
-        };
-        if self.live.reserve(1).is_err() {
-            return Err((leg, RoomFault::NoMemory));
-        }
-        let number = RoomNo(self.opened.saturating_add(1));
         let leg = Released::Caller(leg);
-        let mut effects = Effects::new(no_tokens());
-        match open(
-            alloc,
-            &setting,
-            now,
-            number,
-            leg,
-            account,
-            key,
-            invite,
-            &mut effects,
-        ) {
+        match self.begin(alloc, leg, account, key, invite, peers, accounts, now) {
+            Ok(made) => Ok(made),
             Err(leg) => Err((callers(leg), RoomFault::NoMemory)),
-            Ok(room) => {
-                self.live.push_reserved(room);
-                self.opened = number.0;
-                Ok((number, effects.into_emits()))
-            }
         }
     }
 
@@ -435,19 +462,9 @@ impl Rooms {
                 &mut effects,
             ),
         };
-        let Effects {
-            closes: _,
-            loose: _,
-            desk,
-        } = effects;
-        let Desk {
-            tokens: drawn,
-            out,
-            rows: _,
-        } = desk;
-        *tokens = drawn;
+        mem::swap(tokens, &mut effects.desk.tokens);
         entered?;
-        Ok(out)
+        Ok(effects.into_emits())
     }
 
     /// Gives a leg, whose account this is, a seat in a room: one that comes by an INVITE (RFC 4579 §5.1), or one out of a call by the REFER of a seat (§5.6), which is

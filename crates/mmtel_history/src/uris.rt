@@ -181,7 +181,8 @@ fn caused(alloc: Global, uri: &[u8], cause: Option<u16>) -> Result<Text, NoMemor
     Ok(out)
 }
 
-/// The URI without the causes of a diversion that led to it: each parameter `cause` goes, its name in any case of letters (RFC 4458 §2, RFC 3261 §19.1.1). All else stays as it is.
+/// The URI without the causes of a diversion that led to it: each parameter `cause` goes, its name in any case of letters (RFC 4458 §2, RFC 3261 §19.1.1).
+/// All else stays as it is.
 ///
 /// # Errors
 ///

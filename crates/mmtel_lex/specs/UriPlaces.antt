@@ -1,4 +1,5 @@
--- Where the parts of a URI stand, whatever its scheme (RFC 3261 §19.1.1): its parameters and its header part are looked for behind its last '@', or in all of it where it has none.
+-- Where the parts of a URI stand, whatever its scheme (RFC 3261 §19.1.1): its parameters and its header part are looked for behind its last '@', or in all of it
+-- where it has none.
 use Rattle.std.specs.Prelude.{ℕ, Bool, not, ◌==◌, ◌-◌, List, [], length, take, drop, Option, Some, None}
 use Rattle.std.specs.List.{slice_split, after_last, suffix_len}
 use Rattle.std.specs.Str.{str_eq_ignore_ascii_case}

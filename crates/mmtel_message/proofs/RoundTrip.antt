@@ -257,7 +257,11 @@ reads_back m is within =
     let raws : List (List ℕ) = map raw_of m.lines in
     let text : message_text m ≡ (first ++ tail_text raws) ++ close m.body = text_is first m.lines m.body in
     let fits : length ((first ++ tail_text raws) ++ close m.body) ≤ 16384 = subst (λ (t : List ℕ). length t ≤ 16384) text within.fits in
-    rw (text, reads_lines first raws m.body is.start_in.one_line (raws_are m.lines is.lines_in) (raws_unfolded m.lines is.lines_in) fits, headers_again m.lines is.lines_in, is.start_in.again) (sound_reads m is within.few)
+    ap (λ (t : List ℕ). reads t) text
+    ∙ (reads_lines first raws m.body is.start_in.one_line (raws_are m.lines is.lines_in) (raws_unfolded m.lines is.lines_in) fits
+    ∙ (ap (λ (hs : List Header). after_start hs m.body (start_at first)) (headers_again m.lines is.lines_in)
+    ∙ (ap (λ (start : Option Start). after_start m.lines m.body start) is.start_in.again
+    ∙ sound_reads m is within.few)))
 
 pub text_reads_back : (m : Message Start) → IsCanonical m → IsWithinLimits m → (r : Result (List ℕ) NoMemory) → IfOk r (λ t. t ≡ message_text m) → IfOk r (λ t. reads t ≡ Ok m)
 text_reads_back m is within (Ok t) e = rw e (reads_back m is within)

@@ -123,7 +123,8 @@ VerdictsSeeAnswersAlone = (asks asks2 : Who → Bool) (c : Circumstances) (accou
 abbrev pub where_later : (ℕ → Standing) → Call → Call
 where_later other call = record call { later = other }
 
--- the outcome is the same wherever things stand the same at the targets that the call reaches: what else it might have found, at targets that it does not come to, is nothing to it
+-- the outcome is the same wherever things stand the same at the targets that the call reaches: what else it might have found, at targets that it does not come to, is
+-- nothing to it
 abbrev pub OnlyReachedTargetsCount : Type 0
 OnlyReachedTargetsCount = (call : Call) (endings : List Ended) (other : ℕ → Standing) →
     ((k : ℕ) → suc k < length (outcome call endings).targets → call.later k ≡ other k) →

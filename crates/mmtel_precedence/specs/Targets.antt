@@ -97,7 +97,8 @@ of_target call now target = record { asks = identity_holds (party_of target); ha
 
 -- the outgoing barring of the account that diverts refuses the new target
 abbrev pub is_refused : Call → Option AccountState → (now : ℕ) → DueDiversion → Bool
-is_refused call served now due = option_map_or (λ (account : AccountState). bars_outgoing (of_target call now (new_target call.home due.forward.target)) account.sheet) served false
+is_refused call served now due =
+    option_map_or (λ (account : AccountState). bars_outgoing (of_target call now (new_target call.home due.forward.target)) account.sheet) served false
 
 -- the diversion by the rules of the account for what happened; none where no account is served
 abbrev pub due_at : Circumstances → When → Option AccountState → Option DueDiversion

@@ -36,6 +36,15 @@ pub struct Onward<'a> {
     pub cause: u16,
 }
 
+impl<'a> Onward<'a> {
+    /// Whether the caller is told of the diversion (TS 24.604 §4.5.2.6): where the rule says so, whatever the cause.
+    pub fn tells_caller(&self) -> bool
+        ensures exact { result ≡ self.entry.now.notify_caller }
+    {
+        self.notify_caller
+    }
+}
+
 /// What is done with a call at a target that it reached.
 #[derive(Clone, Copy)]
 pub enum Turn<'a> {

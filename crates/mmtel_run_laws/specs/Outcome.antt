@@ -93,7 +93,8 @@ pub record CallComesToOutcome (directory : Directory) (token : List ℕ) (loaded
   -- how it stands in the table, its result, what went out for it, and what was counted of it
   pub exact : CallIsExact (site_of directory) (world_after directory token loaded fuel happened).deeds number life
   -- the INVITEs to its targets, each by the diversion that led there, and its final are those of Outcome, in order
-  pub shown : seen_of life ≡ signs_of_targets (opening_in life.start) (outcome_after life.start life.events).targets ++ sign_of_result (outcome_after life.start life.events).result
+  pub shown : seen_of life ≡ signs_of_targets (opening_in life.start) (outcome_after life.start life.events).targets ++
+      sign_of_result (outcome_after life.start life.events).result
   -- it heard signals, and no leg of it is away: one that was taken out was put back at once, or the call ended
   pub lent : AreLentAtOnce false life.events
   -- the server's own 181s to its caller are those of the diversions that its Outcome says were made, in order (TS 24.604 §4.5.2.6)

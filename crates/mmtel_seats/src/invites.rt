@@ -5,6 +5,7 @@ ghost use Rattle.mmtel_seats.specs.Invites.{agreed_by, cancelled_in, failure_ack
 use crate::meters::{meter_of, metered};
 use crate::seats::{Invite, Party, Seat};
 use mmtel_answers::Hearing;
+use mmtel_decisions::failure_dues;
 use mmtel_desk::{Desk, Invitation};
 use mmtel_leg::Remote;
 use mmtel_scan::{NoMemory, Text};
@@ -95,6 +96,7 @@ impl Seat {
     }
 
     /// Acknowledges a final from 300 of the server's INVITE to it.
+    #[tactic(auto, using(crate::proofs::Failures::none_acked))]
     pub fn acknowledge_failure(
         &self,
         alloc: Global,
@@ -105,6 +107,9 @@ impl Seat {
     ) -> Result<(), NoMemory>
         ensures acked { OnOk result (desk.new ≡ failure_acked sip key m.now self.now.invite desk.old) }
     {
+        if !failure_dues(self.is_waiting(), self.is_seated()).ack {
+            return Ok(());
+        }
         match &self.invite {
             None => Ok(()),
             Some(invite) => invite.acknowledge_failure(alloc, sip, key, m, desk),

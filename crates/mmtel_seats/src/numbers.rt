@@ -1,10 +1,10 @@
 //! The numbers of seats: which is next, whether one is free, where one stands.
 ghost use Rattle.std.specs.Prelude.{◌≡◌};
-ghost use Rattle.mmtel_seats.specs.Seats.{has_no_seat, is_creator, next_of, place_of};
+ghost use Rattle.mmtel_seats.specs.Seats.{has_no_seat, next_of, place_of};
 
 use crate::seats::Seat;
+use mmtel_decisions::{is_full, is_numbered, number_after};
 use mmtel_types::RoomNo;
-use mmtel_types::limits::SEATS;
 
 /// The numbers that the next seat of a room has.
 #[derive(Clone, Copy)]
@@ -22,8 +22,8 @@ impl Next {
     pub fn after(room: RoomNo, taken: u64, counted: u64) -> Next
         ensures numbers { result ≡ next_of room taken counted }
     {
-        let seat = taken.saturating_add(1);
-        let number = counted.saturating_add(1);
+        let seat = number_after(taken);
+        let number = number_after(counted);
         Next { room, seat, number }
     }
 }
@@ -32,19 +32,14 @@ impl Next {
 pub fn has_no_seat(seats: &[Seat]) -> bool
     ensures full { result ≡ has_no_seat seats.now }
 {
-    seats.len() >= SEATS
+    is_full(seats.len())
 }
 
 /// The place of the seat of this number.
 pub fn place_of(seats: &[Seat], number: u64) -> Option<usize>
     ensures place { result ≡ place_of number seats.now }
 {
-    seats.iter().position(|seat| seat.number == number)
-}
-
-/// Whether the room closes with the seat of this number: its creator has the first one.
-pub fn is_creator(number: u64) -> bool
-    ensures creator { result ≡ is_creator number }
-{
-    number == 1
+    seats
+        .iter()
+        .position(|seat| is_numbered(seat.number, number))
 }

@@ -28,7 +28,7 @@ unmapped None e = refl
 unmapped (Some n) e = absurd cc
 
 -- where nothing parts a value it is its only part
-one_part : (m : Mode) (s : List ℕ) → parting m s ≡ None → parts m s ≡ s ∷ []
+pub one_part : (m : Mode) (s : List ℕ) → parting m s ≡ None → parts m s ≡ s ∷ []
 unfolding parting parts
 one_part m [] e = refl
 one_part m (b ∷ s) e =

@@ -1,58 +1,233 @@
--- They compute.
-use Rattle.std.proofs.Common.{◌≡◌, [], ◌∷◌, refl}
+-- They compute, once the heads are put in.
+use Rattle.std.proofs.Common.{◌≡◌, ℕ, zero, suc, List, [], ◌∷◌, drop, true, false, append-nil, codes, refl, ap, ◌∙◌}
 use Rattle.std.specs.Prelude.{Some, None}
-use Rattle.mmtel_transaction.specs.Calls.{DidFire, live}
-use Rattle.mmtel_transaction.specs.Answers.{hear_says, next_due, says_due, tkey}
+use Rattle.mmtel_types.specs.declared.numbers.Peer.{Peer}
+use Rattle.mmtel_message.specs.Message.{Message}
+use Rattle.mmtel_message.specs.Texts.{message_text}
+use Rattle.mmtel_message.specs.declared.messages.Start.{Start}
+use Rattle.mmtel_transaction.specs.Answers.{Next, hear_says, next_due, says_due, tkey}
+use Rattle.mmtel_transaction.specs.Calls.{Done, DidAck, DidAsk, DidFire, DidHear, DidReply, entry_of, live, offers, opened}
+use Rattle.mmtel_transaction.specs.Changes.{acked, asked_first, heard_first, hit, replied}
+use Rattle.mmtel_transaction.specs.Heads.{head_of}
+use Rattle.mmtel_transaction.specs.Laws.{said_in_turn, sent_again}
+use Rattle.mmtel_transaction.specs.declared.entries.Entry.{Entry}
+use Rattle.mmtel_transaction.specs.declared.heads.Head.{Head}
+use Rattle.mmtel_transaction.specs.declared.parts.Part.TheVariants as part
 use Rattle.mmtel_transaction.specs.declared.words.Due.TheVariants as due
 use Rattle.mmtel_transaction.specs.declared.words.Heard.TheVariants as heard
-use Rattle.mmtel_message.specs.Fields.{call_in, cseq_at, five_at, parties_in, via_at}
-use Rattle.mmtel_message.specs.Values.{parting, parts}
-use Rattle.mmtel_lex.specs.Reading.{all_params_at, angle_of, bare_of, headers_at, headers_of, host_at, name_addr_of, number_at, param_at, params_at, params_of, port_at, port_number, quoted_of, scheme_of, sip_of, tel_of, text_at, token_at, uri_of, user_at, value_at, words_of}
-use Rattle.mmtel_scan.specs.Classes.{in_class}
-use Rattle.mmtel_scan.specs.Numbers.{number_of, within}
-use Rattle.mmtel_scan.specs.Scanning.{after_run, closes, parted, run, trimmed}
-use Rattle.mmtel_transaction.specs.Heads.{head_of}
-use Rattle.mmtel_transaction.specs.Laws.{said_in_turn}
-use Rattle.mmtel_transaction_rows.specs.Rows.{EndsAfterTheAck, RepeatedInvite, SecondSilence, Silence, acknowledged, callers_side, first_invite, peer, refused, repeat_of, ringing}
+use Rattle.mmtel_transaction_rows.specs.Rows.{EndsAfterTheAck, RepeatedInvite, SecondSilence, Silence, peer}
+use Rattle.mmtel_transaction_rows.proofs.Stages.{again, fires_one, fresh, front, last_turn, next, replies, turn}
+use Rattle.mmtel_transaction_rows.proofs.WorkedHeads.{Worked, known, worked}
+
+-- ---- silence
+
+-- an INVITE of this branch that is asked at t, and its deadline fired so often
+abbrev asked : Peer → Message Start → ℕ → ℕ → List Done
+asked p m t zero = DidAsk p m t ∷ []
+asked p m t (suc k) = DidFire 0 ∷ asked p m t k
+
+abbrev shot : Peer → Message Start → ℕ → List ℕ → ℕ → Entry
+shot p m t branch k = record (asked_first 0 0 0 p (known true 0 branch) (message_text m) t) { shots = k }
+
+abbrev shot_at : Peer → Message Start → ℕ → List ℕ → ℕ → ℕ → Next
+shot_at p m t branch at k = record { at = at; entry = shot p m t branch k }
+
+module _ (p : Peer) (m : Message Start) (t : ℕ) (branch : List ℕ) (is : head_of m ≡ known true 0 branch) where
+  asked_opens : (k : ℕ) → opened (asked p m t k) ≡ shot p m t branch 0 ∷ []
+  asked_opens zero = ap (λ (x : Head). asked_first 0 0 0 p x (message_text m) t ∷ []) is
+  asked_opens (suc k) = append-nil (opened (asked p m t k)) ∙ asked_opens k
+
+  abbrev IsAt : ℕ → Type 0
+  IsAt k = entry_of (asked p m t k) (shot p m t branch 0) ≡ shot p m t branch k
+
+  at_1 : IsAt 1
+  at_1 = fires_one (asked p m t 0) (shot p m t branch 0) (shot p m t branch 0) refl refl
+
+  at_2 : IsAt 2
+  at_2 = fires_one (asked p m t 1) (shot p m t branch 0) (shot p m t branch 1) refl at_1
+
+  at_3 : IsAt 3
+  at_3 = fires_one (asked p m t 2) (shot p m t branch 0) (shot p m t branch 2) refl at_2
+
+  at_4 : IsAt 4
+  at_4 = fires_one (asked p m t 3) (shot p m t branch 0) (shot p m t branch 3) refl at_3
+
+  at_5 : IsAt 5
+  at_5 = fires_one (asked p m t 4) (shot p m t branch 0) (shot p m t branch 4) refl at_4
+
+  at_6 : IsAt 6
+  at_6 = fires_one (asked p m t 5) (shot p m t branch 0) (shot p m t branch 5) refl at_5
+
+  stands : (k : ℕ) → IsAt k → live (asked p m t k) ≡ shot p m t branch k ∷ []
+  stands k at = front (asked p m t k) (shot p m t branch 0) (shot p m t branch k) [] (asked_opens k) at
+
+  given_up : live (asked p m t 7) ≡ []
+  given_up = front (asked p m t 7) (shot p m t branch 0) (record (shot p m t branch 6) { is_over = true }) [] (asked_opens 7)
+      (fires_one (asked p m t 6) (shot p m t branch 0) (shot p m t branch 6) refl at_6)
+
+silence_of : (c : Worked) → said_in_turn 8 40000 (DidAsk (peer 1) c.first 0 ∷ []) ≡ sent_again (peer 1) c.first 0 500 ∷ sent_again (peer 1) c.first 0 1500
+    ∷ sent_again (peer 1) c.first 0 3500 ∷ sent_again (peer 1) c.first 0 7500 ∷ sent_again (peer 1) c.first 0 15500
+    ∷ sent_again (peer 1) c.first 0 31500 ∷ due.Silent (tkey 0) (codes "a") (codes "INVITE") 32000 ∷ due.Nothing ∷ []
+silence_of c =
+    let p : Peer = peer 1 in
+    let m : Message Start = c.first in
+    let a : List ℕ = codes "a" in
+    let e = c.of_first in
+    turn 7 40000 (asked p m 0 0) (shot p m 0 a 0) (shot_at p m 0 a 500 0) _ _ (stands p m 0 a e 0 refl) refl refl
+    (turn 6 40000 (asked p m 0 1) (shot p m 0 a 1) (shot_at p m 0 a 1500 1) _ _ (stands p m 0 a e 1 (at_1 p m 0 a e)) refl refl
+    (turn 5 40000 (asked p m 0 2) (shot p m 0 a 2) (shot_at p m 0 a 3500 2) _ _ (stands p m 0 a e 2 (at_2 p m 0 a e)) refl refl
+    (turn 4 40000 (asked p m 0 3) (shot p m 0 a 3) (shot_at p m 0 a 7500 3) _ _ (stands p m 0 a e 3 (at_3 p m 0 a e)) refl refl
+    (turn 3 40000 (asked p m 0 4) (shot p m 0 a 4) (shot_at p m 0 a 15500 4) _ _ (stands p m 0 a e 4 (at_4 p m 0 a e)) refl refl
+    (turn 2 40000 (asked p m 0 5) (shot p m 0 a 5) (shot_at p m 0 a 31500 5) _ _ (stands p m 0 a e 5 (at_5 p m 0 a e)) refl refl
+    (turn 1 40000 (asked p m 0 6) (shot p m 0 a 6) (shot_at p m 0 a 32000 6) _ _ (stands p m 0 a e 6 (at_6 p m 0 a e)) refl refl
+    (last_turn 40000 (asked p m 0 7) [] due.Nothing (given_up p m 0 a e) refl)))))))
 
 pub silence : Silence
-unfolding parting parts headers_at headers_of number_at scheme_of sip_of tel_of uri_of user_at head_of five_at via_at parties_in call_in cseq_at token_at text_at value_at param_at params_at all_params_at params_of host_at port_number port_at angle_of bare_of words_of quoted_of name_addr_of in_class number_of within run after_run parted closes trimmed said_in_turn
-silence = refl
+silence = silence_of worked
+
+second_of : (c : Worked) → said_in_turn 5 40000 (DidAsk (peer 2) c.second 32000 ∷ []) ≡ sent_again (peer 2) c.second 32000 500 ∷ sent_again (peer 2) c.second 32000 1500
+    ∷ sent_again (peer 2) c.second 32000 3500 ∷ sent_again (peer 2) c.second 32000 7500 ∷ due.Nothing ∷ []
+second_of c =
+    let p : Peer = peer 2 in
+    let m : Message Start = c.second in
+    let b : List ℕ = codes "b" in
+    let e = c.of_second in
+    turn 4 40000 (asked p m 32000 0) (shot p m 32000 b 0) (shot_at p m 32000 b 32500 0) _ _ (stands p m 32000 b e 0 refl) refl refl
+    (turn 3 40000 (asked p m 32000 1) (shot p m 32000 b 1) (shot_at p m 32000 b 33500 1) _ _ (stands p m 32000 b e 1 (at_1 p m 32000 b e)) refl refl
+    (turn 2 40000 (asked p m 32000 2) (shot p m 32000 b 2) (shot_at p m 32000 b 35500 2) _ _ (stands p m 32000 b e 2 (at_2 p m 32000 b e)) refl refl
+    (turn 1 40000 (asked p m 32000 3) (shot p m 32000 b 3) (shot_at p m 32000 b 39500 3) _ _ (stands p m 32000 b e 3 (at_3 p m 32000 b e)) refl refl
+    (last_turn 40000 (asked p m 32000 4) (shot p m 32000 b 4 ∷ []) due.Nothing (stands p m 32000 b e 4 (at_4 p m 32000 b e)) refl))))
 
 pub second_silence : SecondSilence
-unfolding parting parts headers_at headers_of number_at scheme_of sip_of tel_of uri_of user_at head_of five_at via_at parties_in call_in cseq_at token_at text_at value_at param_at params_at all_params_at params_of host_at port_number port_at angle_of bare_of words_of quoted_of name_addr_of in_class number_of within run after_run parted closes trimmed said_in_turn
-second_silence = refl
+second_silence = second_of worked
 
-opens : hear_says [] (peer 1) first_invite ≡ Some (heard.Fresh (tkey 0) first_invite)
-unfolding parting parts headers_at headers_of number_at scheme_of sip_of tel_of uri_of user_at head_of five_at via_at parties_in call_in cseq_at token_at text_at value_at param_at params_at all_params_at params_of host_at port_number port_at angle_of bare_of words_of quoted_of name_addr_of in_class number_of within run after_run parted closes trimmed
-opens = refl
+-- ---- the repeated INVITE
 
-ringing_again : hear_says ringing (peer 1) first_invite ≡ repeat_of 180
-unfolding parting parts headers_at headers_of number_at scheme_of sip_of tel_of uri_of user_at head_of five_at via_at parties_in call_in cseq_at token_at text_at value_at param_at params_at all_params_at params_of host_at port_number port_at angle_of bare_of words_of quoted_of name_addr_of in_class number_of within run after_run parted closes trimmed
-ringing_again = refl
+abbrev invite : Head
+invite = known true 0 (codes "a")
 
-refused_again : hear_says refused (peer 1) first_invite ≡ repeat_of 486
-unfolding parting parts headers_at headers_of number_at scheme_of sip_of tel_of uri_of user_at head_of five_at via_at parties_in call_in cseq_at token_at text_at value_at param_at params_at all_params_at params_of host_at port_number port_at angle_of bare_of words_of quoted_of name_addr_of in_class number_of within run after_run parted closes trimmed
-refused_again = refl
+-- the transaction as the INVITE opens it
+abbrev opening : Entry
+opening = heard_first 0 0 (peer 1) invite 0
 
-nothing_again : hear_says acknowledged (peer 1) first_invite ≡ Some (heard.Repeat None)
-unfolding parting parts headers_at headers_of number_at scheme_of sip_of tel_of uri_of user_at head_of five_at via_at parties_in call_in cseq_at token_at text_at value_at param_at params_at all_params_at params_of host_at port_number port_at angle_of bare_of words_of quoted_of name_addr_of in_class number_of within run after_run parted closes trimmed
-nothing_again = refl
+module _ (c : Worked) where
+  abbrev heard_1 : List Done
+  heard_1 = DidHear (peer 1) c.first 0 part.Fresh ∷ []
+
+  abbrev asked_2 : List Done
+  asked_2 = DidAsk (peer 2) c.second 0 ∷ DidReply 0 c.trying 0 ∷ heard_1
+
+  abbrev rings_2 : List Done
+  rings_2 = DidHear (peer 2) c.peer_rings 100 (part.Answer 1) ∷ asked_2
+
+  abbrev ringing : List Done
+  ringing = DidReply 0 c.rings 100 ∷ rings_2
+
+  abbrev again_1 : List Done
+  again_1 = DidHear (peer 1) c.first 200 (part.Repeat 0) ∷ ringing
+
+  abbrev busy_2 : List Done
+  busy_2 = DidHear (peer 2) c.peer_busy 300 (part.Answer 1) ∷ again_1
+
+  abbrev acked_2 : List Done
+  acked_2 = DidAck 1 c.peer_ack ∷ busy_2
+
+  abbrev refused : List Done
+  refused = DidReply 0 c.busy 300 ∷ acked_2
+
+  abbrev later_1 : List Done
+  later_1 = DidHear (peer 1) c.first 350 (part.Repeat 0) ∷ refused
+
+  abbrev acknowledged : List Done
+  acknowledged = DidHear (peer 1) c.ack 400 (part.Acked 0) ∷ later_1
+
+  -- the transaction with the 100, the 180, the 486 and the ACK
+  abbrev tried : Entry
+  tried = record opening { last = Some (message_text c.trying) }
+
+  abbrev rung : Entry
+  rung = record opening { last = Some (message_text c.rings) }
+
+  abbrev with_busy : Entry
+  with_busy = hit 0 (replied 0 3 486 (message_text c.busy) (codes "b") 300) rung
+
+  abbrev with_ack : Entry
+  with_ack = hit 0 (acked 0 400) with_busy
+
+  is_tried : entry_of rings_2 opening ≡ tried
+  is_tried =
+      next (DidHear (peer 2) c.peer_rings 100 (part.Answer 1)) asked_2 opening tried tried refl
+      (next (DidAsk (peer 2) c.second 0) (DidReply 0 c.trying 0 ∷ heard_1) opening tried tried refl
+      (next (DidReply 0 c.trying 0) heard_1 opening opening tried refl refl (replies 0 c.trying 0 0 0 opening (known false 100 (codes "a")) c.of_trying)) refl) refl
+
+  is_rung : entry_of ringing opening ≡ rung
+  is_rung = next (DidReply 0 c.rings 100) rings_2 opening tried rung refl is_tried (replies 0 c.rings 100 0 2 tried (known false 180 (codes "a")) c.of_rings)
+
+  is_rung_still : entry_of acked_2 opening ≡ rung
+  is_rung_still =
+      next (DidAck 1 c.peer_ack) busy_2 opening rung rung refl
+      (next (DidHear (peer 2) c.peer_busy 300 (part.Answer 1)) again_1 opening rung rung refl
+      (next (DidHear (peer 1) c.first 200 (part.Repeat 0)) ringing opening rung rung refl is_rung refl) refl) refl
+
+  is_busy : entry_of refused opening ≡ with_busy
+  is_busy = next (DidReply 0 c.busy 300) acked_2 opening rung with_busy refl is_rung_still (replies 0 c.busy 300 0 3 rung (known false 486 (codes "a")) c.of_busy)
+
+  is_acked : entry_of acknowledged opening ≡ with_ack
+  is_acked =
+      next (DidHear (peer 1) c.ack 400 (part.Acked 0)) later_1 opening with_busy with_ack refl
+      (next (DidHear (peer 1) c.first 350 (part.Repeat 0)) refused opening with_busy with_busy refl is_busy refl) refl
+
+  opened_as : (more : List Entry) → heard_first 0 0 (peer 1) (head_of c.first) 0 ∷ more ≡ opening ∷ more
+  opened_as more = ap (λ (x : Head). heard_first 0 0 (peer 1) x 0 ∷ more) c.of_first
+
+  opens : hear_says [] (peer 1) c.first ≡ Some (heard.Fresh (tkey 0) c.first)
+  opens = fresh [] (peer 1) c.first invite [] refl c.of_first refl
+
+  ringing_again : hear_says ringing (peer 1) c.first ≡ Some (heard.Repeat (Some (peer 1, message_text c.rings)))
+  ringing_again = again ringing (peer 1) c.first invite _ 0 (front ringing opening rung (drop 1 (opened ringing)) (opened_as (drop 1 (opened ringing))) is_rung) c.of_first refl
+
+  refused_again : hear_says refused (peer 1) c.first ≡ Some (heard.Repeat (Some (peer 1, message_text c.busy)))
+  refused_again = again refused (peer 1) c.first invite _ 0 (front refused opening with_busy (drop 1 (opened refused)) (opened_as (drop 1 (opened refused))) is_busy) c.of_first refl
+
+  nothing_again : hear_says acknowledged (peer 1) c.first ≡ Some (heard.Repeat None)
+  nothing_again = again acknowledged (peer 1) c.first invite _ 0 (front acknowledged opening with_ack (drop 1 (opened acknowledged)) (opened_as (drop 1 (opened acknowledged))) is_acked) c.of_first refl
+
+  -- ---- the caller's side alone
+
+  abbrev callers_busy : List Done
+  callers_busy = DidReply 0 c.busy 300 ∷ heard_1
+
+  abbrev callers_side : List Done
+  callers_side = DidHear (peer 1) c.ack 400 (part.Acked 0) ∷ callers_busy
+
+  abbrev first_busy : Entry
+  first_busy = hit 0 (replied 0 0 486 (message_text c.busy) (codes "b") 300) opening
+
+  abbrev first_acked : Entry
+  first_acked = hit 0 (acked 0 400) first_busy
+
+  is_first_acked : entry_of callers_side opening ≡ first_acked
+  is_first_acked =
+      next (DidHear (peer 1) c.ack 400 (part.Acked 0)) callers_busy opening first_busy first_acked refl
+      (next (DidReply 0 c.busy 300) heard_1 opening opening first_busy refl refl (replies 0 c.busy 300 0 0 opening (known false 486 (codes "a")) c.of_busy)) refl
+
+  callers_live : live callers_side ≡ first_acked ∷ []
+  callers_live = front callers_side opening first_acked [] (opened_as []) is_first_acked
+
+  waits_after : says_due (next_due 5399 (live callers_side)) ≡ due.Nothing
+  waits_after = ap (λ (es : List Entry). says_due (next_due 5399 es)) callers_live
+
+  ends_after : says_due (next_due 5400 (live callers_side)) ≡ due.Over (tkey 0) 5400
+  ends_after = ap (λ (es : List Entry). says_due (next_due 5400 es)) callers_live
+
+  none_live : live (DidFire 0 ∷ callers_side) ≡ []
+  none_live = front (DidFire 0 ∷ callers_side) opening (record first_acked { is_over = true }) [] (opened_as []) (fires_one callers_side opening first_acked refl is_first_acked)
+
+  opens_after : hear_says (DidFire 0 ∷ callers_side) (peer 1) c.first ≡ Some (heard.Fresh (tkey 1) c.first)
+  opens_after = fresh (DidFire 0 ∷ callers_side) (peer 1) c.first invite [] none_live c.of_first refl
 
 pub repeated_invite : RepeatedInvite
-repeated_invite = record { opens = opens; ringing_again = ringing_again; refused_again = refused_again; nothing_again = nothing_again }
-
-waits_after : says_due (next_due 5399 (live callers_side)) ≡ due.Nothing
-unfolding parting parts headers_at headers_of number_at scheme_of sip_of tel_of uri_of user_at head_of five_at via_at parties_in call_in cseq_at token_at text_at value_at param_at params_at all_params_at params_of host_at port_number port_at angle_of bare_of words_of quoted_of name_addr_of in_class number_of within run after_run parted closes trimmed
-waits_after = refl
-
-ends_after : says_due (next_due 5400 (live callers_side)) ≡ due.Over (tkey 0) 5400
-unfolding parting parts headers_at headers_of number_at scheme_of sip_of tel_of uri_of user_at head_of five_at via_at parties_in call_in cseq_at token_at text_at value_at param_at params_at all_params_at params_of host_at port_number port_at angle_of bare_of words_of quoted_of name_addr_of in_class number_of within run after_run parted closes trimmed
-ends_after = refl
-
-opens_after : hear_says (DidFire 0 ∷ callers_side) (peer 1) first_invite ≡ Some (heard.Fresh (tkey 1) first_invite)
-unfolding parting parts headers_at headers_of number_at scheme_of sip_of tel_of uri_of user_at head_of five_at via_at parties_in call_in cseq_at token_at text_at value_at param_at params_at all_params_at params_of host_at port_number port_at angle_of bare_of words_of quoted_of name_addr_of in_class number_of within run after_run parted closes trimmed
-opens_after = refl
+repeated_invite = record { opens = opens worked; ringing_again = ringing_again worked; refused_again = refused_again worked; nothing_again = nothing_again worked }
 
 pub ends_after_the_ack : EndsAfterTheAck
-ends_after_the_ack = record { waits = waits_after; ends = ends_after; opens = opens_after }
+ends_after_the_ack = record { waits = waits_after worked; ends = ends_after worked; opens = opens_after worked }

@@ -28,7 +28,17 @@ request method branch to = record {
 -- a response of this status to the request of this method and branch
 abbrev pub response : ℕ → List ℕ → List ℕ → Head
 response status method branch =
-    record { is_request = false; status = status; method = method; branch = branch; sent_by = codes "h"; from_tag = codes "f"; to_tag = codes "t"; call_id = codes "c"; number = 1 }
+    record {
+      is_request = false;
+      status = status;
+      method = method;
+      branch = branch;
+      sent_by = codes "h";
+      from_tag = codes "f";
+      to_tag = codes "t";
+      call_id = codes "c";
+      number = 1;
+    }
 
 -- an INVITE, its answers, its ACK and its CANCEL; an OPTIONS and its answer; a BYE
 pub record Messages : Type 0 where

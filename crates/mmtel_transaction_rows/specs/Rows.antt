@@ -77,7 +77,8 @@ pub record RepeatedInvite : Type 0 where
 
 -- the calls on the caller's side alone, up to the ACK
 abbrev pub callers_side : List Done
-callers_side = DidHear (peer 1) (request (codes "ACK") (codes "a")) 400 (part.Acked 0) ∷ DidReply 0 (response 486 (codes "a")) 300 ∷ DidHear (peer 1) first_invite 0 part.Fresh ∷ []
+callers_side = DidHear (peer 1) (request (codes "ACK") (codes "a")) 400 (part.Acked 0) ∷ DidReply 0 (response 486 (codes "a")) 300
+    ∷ DidHear (peer 1) first_invite 0 part.Fresh ∷ []
 
 -- after the ACK the transaction ends at 5,400, and not before
 pub record EndsAfterTheAck : Type 0 where

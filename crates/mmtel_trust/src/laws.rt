@@ -63,7 +63,8 @@ pub fn masking_is_once()
 pub fn masking_keeps_the_rest()
     ensures lines { (p : Places) (name : List ℕ) (ls : List Line) → is_kept p (kind_of name) ≡ true → named name (masked_lines p ls) ≡ named name ls }
     ensures first { (p : Places) (name : List ℕ) (ls : List Line) → is_kept p (kind_of name) ≡ true → first_value name (masked_lines p ls) ≡ first_value name ls }
-    ensures values { (p : Places) (m : Mode) (name : List ℕ) (ls : List Line) → is_kept p (kind_of name) ≡ true → values_named m name (masked_lines p ls) ≡ values_named m name ls }
+    ensures values { (p : Places) (m : Mode) (name : List ℕ) (ls : List Line) → is_kept p (kind_of name) ≡ true →
+        values_named m name (masked_lines p ls) ≡ values_named m name ls }
     ensures words { (p : Places) (ls : List Line) → wants (masked_lines p ls) ≡ wants ls }
     ensures from_tag { (p : Places) (ls : List Line) → tag_of (first_value (codes "From") (masked_lines p ls)) ≡ tag_of (first_value (codes "From") ls) }
     ensures to_tag { (p : Places) (ls : List Line) → tag_of (first_value (codes "To") (masked_lines p ls)) ≡ tag_of (first_value (codes "To") ls) }

@@ -69,9 +69,7 @@ fn addr_of(peers: &[KnownPeer], p: Peer) -> Option<Addr>
 fn is_trusted(peers: &[KnownPeer], p: Peer) -> bool
     ensures { result ≡ is_trusted p peers.now }
 {
-    peers
-        .iter()
-        .any(|known| known.peer.0 == p.0 && known.trusted)
+    peers.iter().any(|known| mmtel_decisions::is_trusted(known.peer, known.trusted, p))
 }
 
 fn is_route(route: &Route, name: &[u8]) -> bool

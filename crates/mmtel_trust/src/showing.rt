@@ -9,6 +9,7 @@ ghost use Rattle.mmtel_trust.specs.Passed.{shown_lines, nobody, named_text, atte
 
 use crate::kinds::{HeaderKind, kind_of};
 use crate::privacy::restricted_text;
+use mmtel_decisions::{shows_identity, unless_restricted};
 use mmtel_history::{ANONYMOUS, Entry, History, write_entry};
 use mmtel_lex::{LexFault, List, NameAddr, NoMemory, Text, print_name_addr, read_name_addr};
 use mmtel_message::{Line, Msg, Start, add_bytes, add_line, add_named, first_of};
@@ -31,7 +32,7 @@ pub struct Facing {
 fn is_asserted(f: Facing, to_trusted: bool) -> bool
     ensures { result ≡ (f.from_trusted && f.present && (to_trusted || not f.restricted)) }
 {
-    f.from_trusted && f.present && (to_trusted || !f.restricted)
+    shows_identity(f.from_trusted, f.present, to_trusted, f.restricted)
 }
 
 fn add_asserted(
@@ -284,10 +285,10 @@ fn read_by(alloc: Global, value: Option<&[u8]>) -> Result<Option<NameAddr>, NoMe
 fn from_name(alloc: Global, restricted: bool, lines: &[Line]) -> Result<Option<NameAddr>, NoMemory>
     ensures { IfOk result (λ n. n ≡ (if restricted then None else read_by (first_value (codes "From") lines.now))) }
 {
-    if restricted {
-        return Ok(None);
-    }
-    read_by(alloc, first_of(lines, b"From"))
+    read_by(
+        alloc,
+        unless_restricted(restricted, first_of(lines, b"From")),
+    )
 }
 
 /// From of an attempt that is made of a message: `"Anonymous" <sip:anonymous@anonymous.invalid>` where the call is restricted, else the display and the URI as received;

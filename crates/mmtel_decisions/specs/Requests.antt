@@ -1,0 +1,32 @@
+-- What is decided of a request of a side, and of a 2xx that is heard again: whose ACK it is (RFC 3261 §13.2.2.4), whether a 2xx is of another dialog (§13.2.2.4), and which
+-- status a request gets that no row of the step table has (§11.2, §12.2.2).
+use Rattle.std.specs.Prelude.{ℕ, ◌==◌, ◌&&◌, not, Bool, true, false, if◌then◌else◌, Option, Some, None, List, codes}
+use Rattle.std.specs.Str.{bytes_eq}
+use Rattle.mmtel_types.specs.declared.sides.Side.{Side}
+use Rattle.mmtel_types.specs.declared.sides.Side.TheVariants.{Caller, Callee}
+
+abbrev pub is_same_side : Side → Side → Bool
+is_same_side Caller Caller = true
+is_same_side Caller Callee = false
+is_same_side Callee Caller = false
+is_same_side Callee Callee = true
+
+abbrev pub is_number : ℕ → Option ℕ → Bool
+is_number n None = false
+is_number n (Some m) = n == m
+
+abbrev pub is_same_number : Option ℕ → Option ℕ → Bool
+is_same_number None other = false
+is_same_number (Some n) other = is_number n other
+
+-- an ACK of this side with this number is that of the 2xx which waits for one of that side, of an INVITE with the number that is due
+abbrev pub is_ack_of : (waiting : Side) → (due : Option ℕ) → (side : Side) → (number : Option ℕ) → Bool
+is_ack_of waiting due side number = is_same_side waiting side && is_same_number number due
+
+-- a 2xx with this tag is of another dialog than the one that was made, which has the other one; an INVITE within a dialog makes none
+abbrev pub is_other_dialog : (within : Bool) → (own tag : List ℕ) → Bool
+is_other_dialog within own tag = not within && not (bytes_eq tag own)
+
+-- OPTIONS, REFER, which only a room takes, and what is asked at the wrong time
+abbrev pub status_out_of_place : (method : List ℕ) → ℕ
+status_out_of_place method = if bytes_eq method (codes "OPTIONS") then 200 else if bytes_eq method (codes "REFER") then 403 else 481

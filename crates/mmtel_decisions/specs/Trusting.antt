@@ -1,0 +1,22 @@
+-- Whom the server trusts (RFC 3325 §2.3), and whose identity is shown (RFC 3325 §5 and §7, RFC 3323 §4.1).
+use Rattle.std.specs.Prelude.{◌==◌, ◌&&◌, ◌||◌, not, Bool, if◌then◌else◌, Option, None}
+use Rattle.mmtel_types.specs.declared.numbers.Peer.{Peer}
+use Rattle.mmtel_types.specs.declared.sides.Side.{Side}
+use Rattle.mmtel_types.specs.declared.sides.Side.TheVariants.{Caller, Callee}
+
+-- a peer of the configuration is this one, and is trusted
+abbrev pub is_trusted : Peer → (trusted : Bool) → Peer → Bool
+is_trusted known trusted peer = known.0 == peer.0 && trusted
+
+-- asserted identities are believed of a trusted peer, and shown where they are presented and, of a restricted sender, to trusted peers alone
+abbrev pub shows_identity : (from_trusted present to_trusted restricted : Bool) → Bool
+shows_identity from_trusted present to_trusted restricted = from_trusted && present && (to_trusted || not restricted)
+
+-- nothing names somebody who is restricted
+abbrev pub unless_restricted : {A : Type 0} → (restricted : Bool) → Option A → Option A
+unless_restricted restricted name = if restricted then None else name
+
+-- who is restricted of a side's message
+abbrev pub restricted_in : Side → (caller callee : Bool) → Bool
+restricted_in Caller caller callee = caller
+restricted_in Callee caller callee = callee

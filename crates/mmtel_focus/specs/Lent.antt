@@ -1,0 +1,12 @@
+-- What a seat hears, where its messages are lent: what private functions alone cite.
+use Rattle.mmtel_focus.specs.declared.signals.LentSignal.{LentSignal}
+use Rattle.mmtel_focus.specs.declared.signals.LentSignal.TheVariants as lent_signal
+use Rattle.mmtel_focus.specs.declared.signals.SeatSignal.{SeatSignal}
+use Rattle.mmtel_focus.specs.declared.signals.SeatSignal.TheVariants as of_seat
+
+abbrev pub lent : LentSignal → SeatSignal
+lent (lent_signal.Request key request) = of_seat.Request key request.now
+lent (lent_signal.Ack ack) = of_seat.Ack ack.now
+lent (lent_signal.Answer key response) = of_seat.Answer key response.now
+lent lent_signal.Silent = of_seat.Silent
+lent (lent_signal.Due what) = of_seat.Due what

@@ -5,8 +5,8 @@
 use crate::cases::wrong_run;
 
 /// The runs; the first is cut short in `faults`.
-pub const CALLS: &str =
-    r#"~ Bob rings and is busy; the INVITE comes again before each answer, behind the last, just before Timer I ends its transaction, and when it has ended.
+const CALLS: &[u8] =
+    br#"~ Bob rings and is busy; the INVITE comes again before each answer, behind the last, just before Timer I ends its transaction, and when it has ended.
 at 0 peer 1|INVITE sip:bob@home.example SIP/2.0|Via: SIP/2.0/UDP 127.0.0.1:5071;branch=z9hG4bKc1|Max-Forwards: 68|From: "Alice" <sip:alice@home.example>;tag=t1
 |To: <sip:bob@home.example>|Call-ID: call1|CSeq: 7 INVITE|Contact: <sip:alice@127.0.0.1:5071>|P-Asserted-Identity: <sip:alice@home.example>|Content-Length: 0|
 at 100 peer 1|SIP/2.0 180 Ringing|Via: SIP/2.0/UDP 127.0.0.1:5060;branch=z9hG4bK0123456789abcdef-4|From: "Alice" <sip:alice@home.example>;tag=0123456789abcdef-3
@@ -23,7 +23,7 @@ at 5399 peer 1|INVITE sip:bob@home.example SIP/2.0|Via: SIP/2.0/UDP 127.0.0.1:50
 |To: <sip:bob@home.example>|Call-ID: call1|CSeq: 7 INVITE|Contact: <sip:alice@127.0.0.1:5071>|P-Asserted-Identity: <sip:alice@home.example>|Content-Length: 0|
 at 5400 peer 1|INVITE sip:bob@home.example SIP/2.0|Via: SIP/2.0/UDP 127.0.0.1:5071;branch=z9hG4bKc1|Max-Forwards: 68|From: "Alice" <sip:alice@home.example>;tag=t1
 |To: <sip:bob@home.example>|Call-ID: call1|CSeq: 7 INVITE|Contact: <sip:alice@127.0.0.1:5071>|P-Asserted-Identity: <sip:alice@home.example>|Content-Length: 0|
-~ Each answer is sent again, nothing goes on to bob, and the last INVITE opens a call of its own (RFC 3261 §17.2.1).
+~ Each answer is sent again, nothing goes on to bob, and the last INVITE opens a call of its own (RFC 3261 section 17.2.1).
 at 0 to 1|SIP/2.0 100 Trying|Via: SIP/2.0/UDP 127.0.0.1:5071;branch=z9hG4bKc1|From: "Alice" <sip:alice@home.example>;tag=t1|To: <sip:bob@home.example>|Call-ID: call1
 |CSeq: 7 INVITE|Content-Length: 0|
 at 0 to 1|INVITE sip:bob@home.example SIP/2.0|Via: SIP/2.0/UDP 127.0.0.1:5060;branch=z9hG4bK0123456789abcdef-4|Max-Forwards: 67
@@ -47,7 +47,7 @@ at 5400 to 1|INVITE sip:bob@home.example SIP/2.0|Via: SIP/2.0/UDP 127.0.0.1:5060
 ~ Erin calls bob, whose peer is not trusted, and asks for no privacy.
 at 0 peer 1|INVITE sip:bob@far.example SIP/2.0|Via: SIP/2.0/UDP 127.0.0.1:5071;branch=z9hG4bKa1|Max-Forwards: 68|From: "Erin" <sip:erin@other.example>;tag=a
 |To: <sip:bob@far.example>|Call-ID: c1|CSeq: 7 INVITE|Contact: <sip:erin@127.0.0.1:5071>|P-Asserted-Identity: <sip:erin@other.example>|Content-Length: 0|
-~ Her name and her identity are shown to it (RFC 3325 §7).
+~ Her name and her identity are shown to it (RFC 3325 section 7).
 at 0 to 1|SIP/2.0 100 Trying|Via: SIP/2.0/UDP 127.0.0.1:5071;branch=z9hG4bKa1|From: "Erin" <sip:erin@other.example>;tag=a|To: <sip:bob@far.example>|Call-ID: c1
 |CSeq: 7 INVITE|Content-Length: 0|
 at 0 to 2|INVITE sip:bob@far.example SIP/2.0|Via: SIP/2.0/UDP 127.0.0.1:5060;branch=z9hG4bK0123456789abcdef-4|Max-Forwards: 67
@@ -58,7 +58,7 @@ at 0 peer 1|INVITE sip:bob@far.example SIP/2.0|Via: SIP/2.0/UDP 127.0.0.1:5071;b
 |To: <sip:bob@far.example>|Call-ID: c1|CSeq: 7 INVITE|Contact: <sip:erin@127.0.0.1:5071>|P-Asserted-Identity: <sip:erin@other.example>|Content-Length: 0|
 at 10 peer 1|INVITE sip:bob@far.example SIP/2.0|Via: SIP/2.0/UDP 127.0.0.1:5071;branch=z9hG4bKa2|Max-Forwards: 68|From: "Erin" <sip:erin@other.example>;tag=a
 |To: <sip:bob@far.example>|Call-ID: c1|CSeq: 7 INVITE|Contact: <sip:erin@127.0.0.1:5071>|P-Asserted-Identity: <sip:erin@other.example>|Content-Length: 0|
-~ A loop (RFC 3261 §8.2.2.2).
+~ A loop (RFC 3261 section 8.2.2.2).
 at 0 to 1|SIP/2.0 100 Trying|Via: SIP/2.0/UDP 127.0.0.1:5071;branch=z9hG4bKa1|From: "Erin" <sip:erin@other.example>;tag=a|To: <sip:bob@far.example>|Call-ID: c1
 |CSeq: 7 INVITE|Content-Length: 0|
 at 0 to 2|INVITE sip:bob@far.example SIP/2.0|Via: SIP/2.0/UDP 127.0.0.1:5060;branch=z9hG4bK0123456789abcdef-4|Max-Forwards: 67
@@ -75,7 +75,7 @@ at 200 peer 2|SIP/2.0 100 Trying|Via: SIP/2.0/UDP 127.0.0.1:5060;branch=z9hG4bK0
 |From: "Anonymous" <sip:anonymous@anonymous.invalid>;tag=0123456789abcdef-3|To: <sip:bob@far.example>;tag=bt|Call-ID: 0123456789abcdef-2|CSeq: 1 INVITE|Content-Length: 0|
 at 250 peer 2|SIP/2.0 200 OK|Via: SIP/2.0/UDP 127.0.0.1:5060;branch=z9hG4bK0123456789abcdef-4|From: "Anonymous" <sip:anonymous@anonymous.invalid>;tag=0123456789abcdef-3
 |To: <sip:bob@far.example>;tag=bt|Call-ID: 0123456789abcdef-2|CSeq: 1 INVITE|Contact: <sip:bob@127.0.0.1:5072>|Content-Length: 0|
-~ The CANCEL waits for the 100, and the 200 is acknowledged and ended (RFC 3261 §9.1).
+~ The CANCEL waits for the 100, and the 200 is acknowledged and ended (RFC 3261 section 9.1).
 at 0 to 1|SIP/2.0 100 Trying|Via: SIP/2.0/UDP 127.0.0.1:5071;branch=z9hG4bKa1|From: "Erin" <sip:erin@other.example>;tag=a|To: <sip:bob@far.example>|Call-ID: c1
 |CSeq: 7 INVITE|Content-Length: 0|
 at 0 to 2|INVITE sip:bob@far.example SIP/2.0|Via: SIP/2.0/UDP 127.0.0.1:5060;branch=z9hG4bK0123456789abcdef-4|Max-Forwards: 67
@@ -96,7 +96,7 @@ at 0 peer 1|INVITE sip:bob@far.example SIP/2.0|Via: SIP/2.0/UDP 127.0.0.1:5071;b
 |To: <sip:bob@far.example>|Call-ID: c1|CSeq: 7 INVITE|Contact: <sip:erin@127.0.0.1:5071>|P-Asserted-Identity: <sip:erin@other.example>|Privacy: id|Content-Length: 0|
 at 100 peer 1|CANCEL sip:bob@far.example SIP/2.0|Via: SIP/2.0/UDP 127.0.0.1:5071;branch=z9hG4bKa2|Max-Forwards: 68|From: "Erin" <sip:erin@other.example>;tag=a
 |To: <sip:bob@far.example>|Call-ID: c1|CSeq: 7 CANCEL|Content-Length: 0|
-~ 481 (RFC 3261 §9.2).
+~ 481 (RFC 3261 section 9.2).
 at 0 to 1|SIP/2.0 100 Trying|Via: SIP/2.0/UDP 127.0.0.1:5071;branch=z9hG4bKa1|From: "Erin" <sip:erin@other.example>;tag=a|To: <sip:bob@far.example>|Call-ID: c1
 |CSeq: 7 INVITE|Content-Length: 0|
 at 0 to 2|INVITE sip:bob@far.example SIP/2.0|Via: SIP/2.0/UDP 127.0.0.1:5060;branch=z9hG4bK0123456789abcdef-4|Max-Forwards: 67
@@ -137,7 +137,7 @@ at 4000 peer 1|BYE sip:127.0.0.1:5060 SIP/2.0|Via: SIP/2.0/UDP 127.0.0.1:5071;br
 at 4000 peer 1|SIP/2.0 200 OK|Via: SIP/2.0/UDP 127.0.0.1:5060;branch=z9hG4bK0123456789abcdef-10|From: "Alice" <sip:alice@home.example>;tag=0123456789abcdef-3
 |To: <sip:bob@home.example>;tag=b1|Call-ID: 0123456789abcdef-2|CSeq: 4 BYE|Content-Length: 0|
 at 4001 web|GET /charges HTTP/1.1|X-3GPP-Asserted-Identity: "sip:op@home.example"|
-~ 491 to the callee (RFC 3261 §14.2), 500 for the old number (§12.2.2), and rows with one hold.
+~ 491 to the callee (RFC 3261 section 14.2), 500 for the old number (section 12.2.2), and rows with one hold.
 at 0 to 1|SIP/2.0 100 Trying|Via: SIP/2.0/UDP 127.0.0.1:5071;branch=z9hG4bKc1|From: "Alice" <sip:alice@home.example>;tag=t1|To: <sip:bob@home.example>|Call-ID: call1
 |CSeq: 7 INVITE|Content-Length: 0|
 at 0 to 1|INVITE sip:bob@home.example SIP/2.0|Via: SIP/2.0/UDP 127.0.0.1:5060;branch=z9hG4bK0123456789abcdef-4|Max-Forwards: 67
@@ -246,7 +246,7 @@ at 302 web|HTTP/1.1 403 Forbidden|Content-Length: 0|Connection: close|
 at 0 peer 1|INVITE sip:bob@home.example SIP/2.0|Via: SIP/2.0/UDP 127.0.0.1:5071;branch=z9hG4bKc1|Max-Forwards: 68|From: "Alice" <sip:alice@home.example>;tag=t1
 |To: <sip:bob@home.example>|Call-ID: call1|CSeq: 7 INVITE|Contact: <sip:alice@127.0.0.1:5071>|P-Asserted-Identity: <sip:alice@home.example>|Privacy: session;critical
 |Content-Length: 0|
-~ 500: the server cannot give it (RFC 3323 §4.3).
+~ 500: the server cannot give it (RFC 3323 section 4.3).
 at 0 to 1|SIP/2.0 100 Trying|Via: SIP/2.0/UDP 127.0.0.1:5071;branch=z9hG4bKc1|From: "Alice" <sip:alice@home.example>;tag=t1|To: <sip:bob@home.example>|Call-ID: call1
 |CSeq: 7 INVITE|Content-Length: 0|
 at 0 to 1|SIP/2.0 500 Server Internal Error|Via: SIP/2.0/UDP 127.0.0.1:5071;branch=z9hG4bKc1|From: "Alice" <sip:alice@home.example>;tag=t1
@@ -366,7 +366,12 @@ at 0 to 1|SIP/2.0 400 Bad Request|Via: SIP/2.0/UDP 127.0.0.1:5071;branch=z9hG4bK
 |To: <sip:bob@far.example>;tag=0123456789abcdef-1|Call-ID: c1|CSeq: 7 INVITE|Content-Length: 0|
 "#;
 
+/// The table, which other tests ask of too.
+pub fn call_runs() -> &'static [u8] {
+    CALLS
+}
+
 #[test]
 fn calls(rt: HostRuntime) {
-    assert!(rt; wrong_run(rt.alloc(), CALLS) == 0);
+    assert!(rt; wrong_run(rt.alloc(), call_runs()) == 0);
 }

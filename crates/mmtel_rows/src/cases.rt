@@ -5,7 +5,7 @@
 //! settings, as `settings` says; `=status:` is the status that is due in the place of 0, and with `=cut` the listing ends without its last line end. Of a script that begins
 //! with `=server` no program is run but a server, as `serving` says. Where the tests are proved a further run costs its bytes alone.
 
-use crate::pages::Page;
+use crate::pages::{Page, add_lines, are_alike};
 use crate::runs::tell;
 use crate::serving::tell_served;
 use crate::settings::setting;
@@ -25,6 +25,15 @@ pub fn two(text: &[u8]) -> Option<(&[u8], &[u8], &[u8])> {
     Some((first, second, text))
 }
 
+/// Tells what comes of a script.
+fn tell_script(page: &mut Page, script: &[u8]) {
+    if setting(script, b"server").is_some() {
+        tell_served(page, script);
+    } else {
+        tell(page, script, true);
+    }
+}
+
 /// Whether the run of a script answers the status that is due and writes this.
 pub fn writes(alloc: Global, script: &[u8], listing: &[u8]) -> bool {
     let mut due = Page::new(alloc);
@@ -32,19 +41,15 @@ pub fn writes(alloc: Global, script: &[u8], listing: &[u8]) -> bool {
     due.add(b"\n");
     due.add(listing);
     let mut page = Page::new(alloc);
-    if setting(script, b"server").is_some() {
-        tell_served(&mut page, script);
-    } else {
-        tell(&mut page, script, true);
-    }
-    page.is_like(&due)
+    tell_script(&mut page, script);
+    let alike = are_alike(&page, &due);
+    drop(page);
+    drop(due);
+    alike
 }
 
-/// The same of a listing of a table.
-fn is_right(alloc: Global, script: &[u8], listing: &[u8]) -> bool {
-    let mut lines = Page::new(alloc);
-    lines.add_lines(listing);
-    let due = lines.bytes();
+/// The same of a listing whose last line end is left out where the script says so.
+fn writes_lines(alloc: Global, script: &[u8], due: &[u8]) -> bool {
     if setting(script, b"cut").is_some() {
         writes(alloc, script, due.strip_suffix(b"\n").unwrap_or(due))
     } else {
@@ -52,9 +57,18 @@ fn is_right(alloc: Global, script: &[u8], listing: &[u8]) -> bool {
     }
 }
 
+/// The same of a listing of a table.
+fn is_right(alloc: Global, script: &[u8], listing: &[u8]) -> bool {
+    let mut lines = Page::new(alloc);
+    add_lines(&mut lines, listing);
+    let right = writes_lines(alloc, script, lines.bytes());
+    drop(lines);
+    right
+}
+
 /// The number of the first run of the table that answers or writes something else than is due, from 1; 0 where there is none, of a hundred at most.
-pub fn wrong_run(alloc: Global, table: &str) -> usize {
-    let mut rest = table.as_bytes();
+pub fn wrong_run(alloc: Global, table: &[u8]) -> usize {
+    let mut rest = table;
     for number in 0..100 {
         if rest.is_empty() {
             return 0;

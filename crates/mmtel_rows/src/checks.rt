@@ -3,7 +3,7 @@
 use crate::cases::wrong_run;
 
 /// The file is the script of a case.
-const CHECKS: &str = r#"~ An empty text.
+const CHECKS: &[u8] = br#"~ An empty text.
 =words:check|run.script
 ~ A record.
 ok

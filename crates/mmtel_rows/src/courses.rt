@@ -1,16 +1,17 @@
 //! What is done with requests.
 
-use crate::pages::Page;
+use crate::pages::{Page, next_line, wrong_line};
 use crate::requests::{add_request, add_request_to, add_request_with, directory, hearing};
 use mmtel_directory::Directory;
 use mmtel_intake::{Answer, Course, Holder, Standing, course};
 use mmtel_scan::part;
 use mmtel_types::{CallNo, RoomNo, Side};
+use std::alloc::Global;
 
 /// A row is a request: `m` where it is merged, `f` where as many calls live as may and `u` where its peer is not trusted; `t` where To has a tag of no dialog, `d` and `e`
 /// where it names that of the caller and of the callee of call 3, `s` that of seat 2 of room 5, `x` where it names no account, and `o` where it offers audio; its method
 /// and Request-URI, and further lines, each ended by `|`. Below it stands what is done with it.
-const TABLE: &str = r#"> -- INFO sip:bob@home.example
+const TABLE: &[u8] = br#"> -- INFO sip:bob@home.example
 405 Allow: INVITE, ACK, CANCEL, BYE, OPTIONS, REGISTER, REFER
 > -- INFO sips:bob@home.example
 405 Allow: INVITE, ACK, CANCEL, BYE, OPTIONS, REGISTER, REFER
@@ -236,10 +237,14 @@ fn tell_row(page: &mut Page, directory: &Directory, whence: u8, to: u8, row: &[u
     } else {
         add_request(&mut text, to != b'-', start, further);
     }
-    if let Some(request) = hearing(page, text.bytes(), whence != b'u') {
+    let request = hearing(page, text.bytes(), whence != b'u');
+    drop(text);
+    if let Some(request) = request {
         let course = course(page.alloc, directory, &standing(whence, to), &request);
+        drop(request);
         if let Some(course) = page.noted(course) {
             tell_course(page, &course);
+            drop(course);
         }
     }
 }
@@ -255,17 +260,30 @@ fn tell_line(page: &mut Page, directory: &Directory, line: &[u8]) {
     }
 }
 
+fn tell_lines(page: &mut Page, directory: &Directory, table: &[u8]) {
+    let mut rest = table;
+    for _ in 0..200 {
+        let (line, later) = next_line(rest);
+        tell_line(page, directory, line);
+        rest = later;
+    }
+}
+
+fn tell_all(page: &mut Page, table: &[u8]) {
+    if let Some(directory) = directory(page) {
+        tell_lines(page, &directory, table);
+        drop(directory);
+    }
+}
+
+fn wrong_course(alloc: Global, table: &[u8]) -> usize {
+    let mut page = Page::new(alloc);
+    tell_all(&mut page, table);
+    wrong_line(page, table)
+}
+
 /// Each refusal and the order between them, each method, what enters a dialog, and which INVITEs open a call.
 #[test]
 fn decides(rt: HostRuntime) {
-    let mut page = Page::new(rt.alloc());
-    if let Some(directory) = directory(&mut page) {
-        let mut rest = TABLE.as_bytes();
-        for _ in 0..200 {
-            let (line, later) = part(b'\n', rest).unwrap_or((rest, b""));
-            tell_line(&mut page, &directory, line);
-            rest = later;
-        }
-    }
-    assert!(rt; page.wrong_line(TABLE.as_bytes()) == 0);
+    assert_eq!(rt; wrong_course(rt.alloc(), TABLE), 0);
 }

@@ -2,7 +2,7 @@
 
 use crate::cases::wrong_run;
 
-const DEVICES: &str = r#"~ The third line of the configuration is bad.
+const DEVICES: &[u8] = br#"~ The third line of the configuration is bad.
 =config:sip 127.0.0.1:5060;home home.example;peer x;
 =status:2
 at 0 peer 1|INVITE sip:bob@far.example SIP/2.0|Via: SIP/2.0/UDP 127.0.0.1:5071;branch=z9hG4bKa1|Max-Forwards: 68|From: "Erin" <sip:erin@other.example>;tag=a

@@ -1,14 +1,15 @@
 //! What is read of events.
 
-use crate::pages::Page;
+use crate::pages::{Page, wrong_line};
 use crate::requests::{add_request, address, directory};
 use mmtel_cli::Event;
 use mmtel_directory::Directory;
 use mmtel_intake::{Told, digest, moment};
 use mmtel_scan::part;
 use mmtel_types::{Addr, Moment, Peer};
+use std::alloc::Global;
 
-const WANTED: &str = r#"a message 5
+const WANTED: &[u8] = br#"a message 5
 heard 1 at 5071 trusted
 a stranger's 6
 heard 2 at 5072
@@ -71,6 +72,7 @@ fn tell_told(page: &mut Page, told: &Told) {
             let text = reply.text(page.alloc);
             if let Some(text) = page.noted(text) {
                 page.add_ended(b'\r', text.bytes(), b"");
+                drop(text);
             }
         }
         Told::Heard(hearing) => {
@@ -94,6 +96,7 @@ fn tell(page: &mut Page, directory: &Directory, word: &[u8], event: &Event) {
         let told = digest(page.alloc, directory, *from, bytes.bytes());
         if let Some(told) = page.noted(told) {
             tell_told(page, &told);
+            drop(told);
         }
     }
 }
@@ -107,16 +110,16 @@ fn tell_datagram(
     port: u16,
     bytes: &[u8],
 ) {
-    let bytes = page.copy(bytes);
     match Moment::new(ms) {
         None => page.fail(),
         Some(at) => {
             let event = Event::Datagram {
                 from: address(port),
                 at,
-                bytes,
+                bytes: page.copy(bytes),
             };
             tell(page, directory, word, &event);
+            drop(event);
         }
     }
 }
@@ -129,6 +132,7 @@ fn request(page: &Page, start: &[u8], line: &[u8], times: usize) -> Page {
     }
     let mut text = Page::new(page.alloc);
     add_request(&mut text, false, start, lines.bytes());
+    drop(lines);
     text
 }
 
@@ -159,15 +163,23 @@ fn tell_messages(page: &mut Page, directory: &Directory) {
         5071,
         b"OPTIONS sip:x SIP/2.0\r\n",
     );
+    drop(invite);
+}
+
+fn tell_misspelled(page: &mut Page, directory: &Directory) {
+    let wrong = misspelled(page, b"INVITE sip:bob@home.example");
+    tell_datagram(page, directory, b"wrong branch", 10, 5071, wrong.bytes());
+    drop(wrong);
+    let wrong = misspelled(page, b"ACK sip:bob@home.example");
+    tell_datagram(page, directory, b"an ACK", 11, 5071, wrong.bytes());
+    drop(wrong);
 }
 
 fn tell_refused(page: &mut Page, directory: &Directory) {
-    let wrong = misspelled(page, b"INVITE sip:bob@home.example");
-    tell_datagram(page, directory, b"wrong branch", 10, 5071, wrong.bytes());
-    let wrong = misspelled(page, b"ACK sip:bob@home.example");
-    tell_datagram(page, directory, b"an ACK", 11, 5071, wrong.bytes());
+    tell_misspelled(page, directory);
     let many = request(page, b"OPTIONS sip:bob@home.example", b"Subject: x|", 122);
     tell_datagram(page, directory, b"many lines", 12, 5072, many.bytes());
+    drop(many);
     let large = request(
         page,
         b"OPTIONS sip:bob@home.example",
@@ -175,27 +187,42 @@ fn tell_refused(page: &mut Page, directory: &Directory) {
         1024,
     );
     tell_datagram(page, directory, b"many bytes", 13, 5071, large.bytes());
+    drop(large);
+}
+
+fn tell_event(page: &mut Page, directory: &Directory, word: &[u8], event: Event) {
+    tell(page, directory, word, &event);
+    drop(event);
 }
 
 fn tell_others(page: &mut Page, directory: &Directory) {
     match (Moment::new(14), Moment::new(15)) {
         (Some(at), Some(later)) => {
             let bytes = page.copy(b"GET / HTTP/1.1\r\n\r\n");
-            tell(page, directory, b"web", &Event::Web { at, bytes });
-            tell(page, directory, b"quiet", &Event::Quiet { at: later });
+            tell_event(page, directory, b"web", Event::Web { at, bytes });
+            tell_event(page, directory, b"quiet", Event::Quiet { at: later });
         }
         _ => page.fail(),
     }
 }
 
+fn tell_all(page: &mut Page) {
+    if let Some(directory) = directory(page) {
+        tell_messages(page, &directory);
+        tell_refused(page, &directory);
+        tell_others(page, &directory);
+        drop(directory);
+    }
+}
+
+fn wrong_reading(alloc: Global) -> usize {
+    let mut page = Page::new(alloc);
+    tell_all(&mut page);
+    wrong_line(page, WANTED)
+}
+
 /// A message of a trusted peer and of another one, a datagram of nobody, each fault of reading, and the moments of all events.
 #[test]
 fn reads(rt: HostRuntime) {
-    let mut page = Page::new(rt.alloc());
-    if let Some(directory) = directory(&mut page) {
-        tell_messages(&mut page, &directory);
-        tell_refused(&mut page, &directory);
-        tell_others(&mut page, &directory);
-    }
-    assert!(rt; page.wrong_line(WANTED.as_bytes()) == 0);
+    assert_eq!(rt; wrong_reading(rt.alloc()), 0);
 }

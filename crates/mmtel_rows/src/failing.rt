@@ -4,16 +4,16 @@
 //! script; the status that is due; and what comes of it then: lines, in which `+N` stands for the first N lines of what comes of the script by itself. Settings and lines are
 //! each ended by `;`.
 
-use crate::calls::CALLS;
+use crate::calls::call_runs;
 use crate::cases::{piece, two, writes};
-use crate::pages::{Page, next_line};
+use crate::pages::{Page, add_lines, add_short, is_well, next_line};
 use mmtel_scan::{part, plain_number, skip_text};
 use std::alloc::Global;
 
 /// The keeper is bound by its first call, and loaded, or asked for its rows, by its second. The link is bound by its first call; each event takes one call, reading a web
 /// connection one more, and each datagram or reply that it is given one. What comes first decides: the words, the configuration, the script, the keeper, the link, the sink.
-const FAILING: &str =
-    r#"~ serve: Erin calls bob, the operator reads the charges, and the INVITE is sent again, since nobody answered. The link's calls 2, 5, 8 and 10 take in.
+const FAILING: &[u8] =
+    br#"~ serve: Erin calls bob, the operator reads the charges, and the INVITE is sent again, since nobody answered. The link's calls 2, 5, 8 and 10 take in.
 =words:serve|server.cfg|--token|0123456789abcdef|--turns|9
 =link:
 at 0 peer 1|INVITE sip:bob@far.example SIP/2.0|Via: SIP/2.0/UDP 127.0.0.1:5071;branch=z9hG4bKa1|Max-Forwards: 68|From: "Erin" <sip:erin@other.example>;tag=a
@@ -225,7 +225,7 @@ terminating,2,1,0,200,400,0,ended,0
 
 /// Bob rings and is busy, and the INVITE comes again before and behind each answer: the link's calls that take in, each of which fails in its turn, and how many of these lines
 /// it was given before.
-const BUSY: &str = "5071 SIP/2.0 100 Trying
+const BUSY: &[u8] = b"5071 SIP/2.0 100 Trying
 5071 INVITE sip:bob@home.example SIP/2.0
 5071 SIP/2.0 180 Ringing
 5071 SIP/2.0 180 Ringing
@@ -237,7 +237,7 @@ const BUSY: &str = "5071 SIP/2.0 100 Trying
 ";
 
 /// The rows of that script.
-const BUSY_ROWS: &str = "/0/+9;
+const BUSY_ROWS: &[u8] = b"/0/+9;
 =link:1;/4/link;
 =link:2;/4/link;
 =link:5;/4/link;+2;
@@ -293,11 +293,13 @@ fn is_right(alloc: Global, script: &[u8], whole: &[u8], row: &[u8]) -> bool {
     case.add(b"=status:");
     case.add(status);
     case.add(b"\n");
-    case.add_short(settings);
+    add_short(&mut case, settings);
     case.add(script);
     let mut lines = Page::new(alloc);
     add_due(&mut lines, whole, due);
-    !case.has_failed() && !lines.has_failed() && writes(alloc, case.bytes(), lines.bytes())
+    let right = writes(alloc, case.bytes(), lines.bytes());
+    let well = is_well(case);
+    is_well(lines) && well && right
 }
 
 /// The number of the first row that is not right, from 1; 0 where each is, of a hundred at most.
@@ -320,16 +322,14 @@ fn wrong_row(alloc: Global, script: &[u8], whole: &[u8], rows: &[u8]) -> usize {
 /// The same of rows over what comes of the script by itself, in which each `|` begins a line.
 fn wrong_lines(alloc: Global, script: &[u8], whole: &[u8], rows: &[u8]) -> usize {
     let mut lines = Page::new(alloc);
-    lines.add_lines(whole);
-    if lines.has_failed() {
-        return 100;
-    }
-    wrong_row(alloc, script, lines.bytes(), rows)
+    add_lines(&mut lines, whole);
+    let wrong = wrong_row(alloc, script, lines.bytes(), rows);
+    if is_well(lines) { wrong } else { 100 }
 }
 
 /// The number of the first script of a table of which a row is not right, from 1; 0 where each is right, of twenty at most.
-fn wrong_failure(alloc: Global, table: &str) -> usize {
-    let mut rest = table.as_bytes();
+fn wrong_failure(alloc: Global, table: &[u8]) -> usize {
+    let mut rest = table;
     for number in 0..20 {
         if rest.is_empty() {
             return 0;
@@ -352,14 +352,12 @@ fn failing_devices(rt: HostRuntime) {
 
 /// The number of the first row of a call to one who is busy that is not right, where it is served.
 fn wrong_busy(alloc: Global) -> usize {
-    let (script, _, _) = two(CALLS.as_bytes()).unwrap_or((b"", b"", b""));
+    let (script, _, _) = two(call_runs()).unwrap_or((b"", b"", b""));
     let mut served = Page::new(alloc);
     served.add(b"=link:\n=words:serve|server.cfg|--token|0123456789abcdef|--turns|99\n");
     served.add(script);
-    if served.has_failed() {
-        return 100;
-    }
-    wrong_row(alloc, served.bytes(), BUSY.as_bytes(), BUSY_ROWS.as_bytes())
+    let wrong = wrong_row(alloc, served.bytes(), BUSY, BUSY_ROWS);
+    if is_well(served) { wrong } else { 100 }
 }
 
 /// A link of which a `next` fails is status 4, wherever it is, and it was given what was due before.

@@ -1,14 +1,14 @@
 //! Calls over keepers and sinks that fail, and datagrams that are cut short.
 
-use crate::calls::CALLS;
+use crate::calls::call_runs;
 use crate::cases::{two, writes, wrong_run};
-use crate::pages::Page;
+use crate::pages::{Page, add_lines, add_short, is_well};
 use mmtel_scan::part;
 use std::alloc::Global;
 
 /// The bytes of a datagram, an INVITE of Erin to bob.
-const DATAGRAM: &str =
-    "494e56495445207369703a626f62406661722e6578616d706c65205349502f322e300d0a5669613a205349502f322e302f554450203132372e302e302e313a353037313b6272616e63683d7a39684734\
+const DATAGRAM: &[u8] =
+    b"494e56495445207369703a626f62406661722e6578616d706c65205349502f322e300d0a5669613a205349502f322e302f554450203132372e302e302e313a353037313b6272616e63683d7a39684734\
     624b61310d0a4d61782d466f7277617264733a2036380d0a46726f6d3a20224572696e22203c7369703a6572696e406f746865722e6578616d706c653e3b7461673d610d0a546f3a203c7369703a626f\
     62406661722e6578616d706c653e0d0a43616c6c2d49443a2063310d0a435365713a203720494e564954450d0a436f6e746163743a203c7369703a6572696e403132372e302e302e313a353037313e0d\
     0a502d41737365727465642d4964656e746974793a203c7369703a6572696e406f746865722e6578616d706c653e0d0a507269766163793a2069640d0a436f6e74656e742d4c656e6774683a20300d0a\
@@ -19,24 +19,29 @@ fn beginnings(script: &mut Page) {
     for place in 0..DATAGRAM.len() {
         if place % 2 == 0 {
             script.add(b"at 0 peer 1\nx");
-            script.add(DATAGRAM.as_bytes().get(..place).unwrap_or(b"?"));
+            script.add(DATAGRAM.get(..place).unwrap_or(b"?"));
             script.add(b"\n");
         }
     }
 }
 
+fn are_cut_dropped(alloc: Global) -> bool {
+    let mut script = Page::new(alloc);
+    beginnings(&mut script);
+    let right = writes(alloc, script.bytes(), b"");
+    is_well(script) && right
+}
+
 /// Nothing comes of a datagram that is cut short.
 #[test]
 fn cut_datagrams(rt: HostRuntime) {
-    let mut script = Page::new(rt.alloc());
-    beginnings(&mut script);
-    assert!(rt; !script.has_failed() && writes(rt.alloc(), script.bytes(), b""));
+    assert!(rt; are_cut_dropped(rt.alloc()));
 }
 
 /// Rows that the keeper does not take wait for the end of the next event; the status is 0. The keeper is bound and loaded; then rows are handed to it, which is its third
 /// call. The operator's questions are calls of it too, in the last run its fifth and its seventh.
-const FAILING: &str =
-    r#"~ A call of alice to bob that ends at 400, when the keeper fails for the first time; then the operator reads the charges twice.
+const FAILING: &[u8] =
+    br#"~ A call of alice to bob that ends at 400, when the keeper fails for the first time; then the operator reads the charges twice.
 =keeps:3
 at 0 peer 1|INVITE sip:bob@home.example SIP/2.0|Via: SIP/2.0/UDP 127.0.0.1:5071;branch=z9hG4bKc1|Max-Forwards: 68|From: "Alice" <sip:alice@home.example>;tag=t1
 |To: <sip:bob@home.example>|Call-ID: call1|CSeq: 7 INVITE|Contact: <sip:alice@127.0.0.1:5071>|P-Asserted-Identity: <sip:alice@home.example>|Content-Length: 0|
@@ -129,15 +134,20 @@ at 502 web|HTTP/1.1 200 OK|Content-Type: text/csv|Content-Length: 58|Connection:
 x6b696e642c6163636f756e742c63616c6c2c626567616e2c616e7377657265642c656e6465642c686f6c64732c63617573652c7374617475730a
 "#;
 
+/// The table, for several tests.
+fn failing_runs() -> &'static [u8] {
+    FAILING
+}
+
 #[test]
 fn failing_rows(rt: HostRuntime) {
-    assert!(rt; wrong_run(rt.alloc(), FAILING) == 0);
+    assert!(rt; wrong_run(rt.alloc(), failing_runs()) == 0);
 }
 
 /// What `charges` answers and writes over the keeper that the first run of these left: the numbers of the keeper's calls that fail, the status and the lines. The run makes
 /// five calls of the keeper, or six where the third fails; `charges` binds it and then asks for the rows, of which the keeper has two, also where it took them late.
-const CHARGES: &str =
-    "|0|kind,account,call,began,answered,ended,holds,cause,status;origin,1,1,0,200,400,0,ended,0;terminating,2,1,0,200,400,0,ended,0;
+const CHARGES: &[u8] =
+    b"|0|kind,account,call,began,answered,ended,holds,cause,status;origin,1,1,0,200,400,0,ended,0;terminating,2,1,0,200,400,0,ended,0;
 3|0|kind,account,call,began,answered,ended,holds,cause,status;origin,1,1,0,200,400,0,ended,0;terminating,2,1,0,200,400,0,ended,0;
 6|6|keeper;
 7|6|keeper;
@@ -157,8 +167,10 @@ fn is_charged(alloc: Global, script: &[u8], row: &[u8]) -> bool {
     case.add(b"\n");
     case.add(script);
     let mut due = Page::new(alloc);
-    due.add_short(lines);
-    !case.has_failed() && !due.has_failed() && writes(alloc, case.bytes(), due.bytes())
+    add_short(&mut due, lines);
+    let right = writes(alloc, case.bytes(), due.bytes());
+    let well = is_well(case);
+    is_well(due) && well && right
 }
 
 /// The number of the first row that is not right, from 1; 0 where each is, of a hundred at most.
@@ -180,8 +192,8 @@ fn wrong_charge(alloc: Global, script: &[u8], table: &[u8]) -> usize {
 
 #[test]
 fn charged_rows(rt: HostRuntime) {
-    let wrong = match two(FAILING.as_bytes()) {
-        Some((script, _, _)) => wrong_charge(rt.alloc(), script, CHARGES.as_bytes()),
+    let wrong = match two(failing_runs()) {
+        Some((script, _, _)) => wrong_charge(rt.alloc(), script, CHARGES),
         None => 1,
     };
     assert!(rt; wrong == 0);
@@ -195,7 +207,8 @@ fn is_cut(alloc: Global, script: &[u8], listing: &[u8], place: usize) -> bool {
     case.add(b"\n");
     case.add(script);
     let due = listing.get(..place).unwrap_or(b"?");
-    !case.has_failed() && writes(alloc, case.bytes(), due)
+    let right = writes(alloc, case.bytes(), due);
+    is_well(case) && right
 }
 
 /// Whether it is so for each write.
@@ -203,11 +216,23 @@ fn is_cut_anywhere(alloc: Global, script: &[u8], listing: &[u8]) -> bool {
     (0..listing.len()).all(|place| place % 7 != 0 || is_cut(alloc, script, listing, place))
 }
 
+/// Whether it is so of a script and a listing in which each `|` begins a line.
+fn are_listings_cut(alloc: Global, script: &[u8], listing: &[u8]) -> bool {
+    let mut due = Page::new(alloc);
+    add_lines(&mut due, listing);
+    let cut = !due.bytes().is_empty() && is_cut_anywhere(alloc, script, due.bytes());
+    drop(due);
+    cut
+}
+
+/// Whether it is so of the first run of a table.
+fn is_first_cut(alloc: Global, table: &[u8]) -> bool {
+    let (script, listing, _) = two(table).unwrap_or((b"", b"", b""));
+    are_listings_cut(alloc, script, listing)
+}
+
 /// A listing that a sink cuts short is status 7, wherever it is.
 #[test]
 fn cut_listings(rt: HostRuntime) {
-    let mut due = Page::new(rt.alloc());
-    let (script, listing, _) = two(CALLS.as_bytes()).unwrap_or((b"", b"", b""));
-    due.add_lines(listing);
-    assert!(rt; !due.bytes().is_empty() && is_cut_anywhere(rt.alloc(), script, due.bytes()));
+    assert!(rt; is_first_cut(rt.alloc(), call_runs()));
 }

@@ -3,7 +3,7 @@
 
 use crate::cases::wrong_run;
 
-const LIMITS: &str = r#"~ A branch without the cookie.
+const LIMITS: &[u8] = br#"~ A branch without the cookie.
 at 0 peer 1|INVITE sip:bob@far.example SIP/2.0|Via: SIP/2.0/UDP 127.0.0.1:5071;branch=abc|Max-Forwards: 68|From: "Erin" <sip:erin@other.example>;tag=a
 |To: <sip:bob@far.example>|Call-ID: c1|CSeq: 7 INVITE|Contact: <sip:erin@127.0.0.1:5071>|P-Asserted-Identity: <sip:erin@other.example>|Content-Length: 0|
 ~ 400.

@@ -1,21 +1,30 @@
 //! Links in memory: what comes over them, and what they were given.
 
-use crate::pages::Page;
+use crate::pages::{Page, add_script, add_short};
 use crate::settings::{behind_settings, config, numbers, setting, value};
-use mmtel_cli::{Event, ScriptLink, read_directory};
+use mmtel_cli::{Directory, Event, ScriptLink, read_directory};
 use mmtel_link::MemoryLink;
 use mmtel_scan::{List, part};
+
+/// What is heard of the peers of a configuration.
+fn heard_of(page: &mut Page, script: &[u8], directory: &Directory) -> Option<ScriptLink> {
+    let mut lines = Page::new(page.alloc);
+    add_script(&mut lines, behind_settings(script), true);
+    let link = ScriptLink::read(page.alloc, lines.bytes(), &directory.peers);
+    drop(lines);
+    page.noted(link)
+}
 
 /// What is heard.
 pub fn heard(page: &mut Page, script: &[u8]) -> Option<ScriptLink> {
     let mut text = config(page, script);
-    text.add_short(value(script, b"peer:"));
+    add_short(&mut text, value(script, b"peer:"));
     let directory = read_directory(page.alloc, text.bytes());
+    drop(text);
     let directory = page.noted(directory)?;
-    let mut lines = Page::new(page.alloc);
-    lines.add_script(behind_settings(script), true);
-    let link = ScriptLink::read(page.alloc, lines.bytes(), &directory.peers);
-    page.noted(link)
+    let heard = heard_of(page, script, &directory);
+    drop(directory);
+    heard
 }
 
 fn copy(page: &mut Page, event: &Event) -> Event {
@@ -51,15 +60,31 @@ pub fn link_of(page: &mut Page, script: &[u8], events: &[Event]) -> MemoryLink {
     MemoryLink::new(events, numbers(page, script, b"link:"))
 }
 
+/// A link of what was heard.
+fn link_of_heard(page: &mut Page, script: &[u8], heard: Option<ScriptLink>) -> MemoryLink {
+    match heard {
+        None => link_of(page, script, &[]),
+        Some(heard) => {
+            let link = link_of(page, script, heard.events());
+            drop(heard);
+            link
+        }
+    }
+}
+
+/// A link of what a script tells.
+fn told_link(page: &mut Page, script: &[u8]) -> MemoryLink {
+    let mut told = Page::new(page.alloc);
+    let heard = heard(&mut told, script);
+    drop(told);
+    link_of_heard(page, script, heard)
+}
+
 /// A link of what a script tells; one over which nothing comes where the settings do not ask for it, and where the configuration or the script is bad.
 pub fn link(page: &mut Page, script: &[u8]) -> MemoryLink {
-    let mut told = Page::new(page.alloc);
     match setting(script, b"link:") {
         None => MemoryLink::new(List::new(), List::new()),
-        Some(_) => match heard(&mut told, script) {
-            None => link_of(page, script, &[]),
-            Some(heard) => link_of(page, script, heard.events()),
-        },
+        Some(_) => told_link(page, script),
     }
 }
 
@@ -77,9 +102,8 @@ fn tell_whole(page: &mut Page, text: &[u8]) {
     let text = lines.bytes();
     page.add_ended(b'\n', text.strip_suffix(b"\n").unwrap_or(text), b"\n|");
     page.add(b"\n");
-    if lines.has_failed() {
-        page.fail();
-    }
+    page.keep(!lines.has_failed());
+    drop(lines);
 }
 
 /// Tells a text that was given, and whether it was lost.

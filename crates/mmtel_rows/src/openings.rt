@@ -1,14 +1,15 @@
 //! Openings: the INVITE of a caller who asks for privacy, from a trusted peer to one that is not.
 
 use crate::cases::{two, wrong_run};
-use crate::pages::Page;
-use crate::settings::CONFIG;
-use mmtel_cli::{MemoryKeeper, ScriptLink, Server, drive, listing, read_directory};
-use mmtel_scan::{List, Text};
+use crate::links::heard;
+use crate::pages::{Page, add_lines, are_alike};
+use crate::serving::{add_listing, server};
+use mmtel_cli::{MemoryKeeper, ScriptLink, Server, drive};
+use mmtel_scan::List;
 use std::alloc::Global;
 
 /// RFC 3323 §4.1 and RFC 3325 §9.3: who asks for privacy is anonymous towards a network that is not trusted.
-const OPENINGS: &str = r#"~ Erin calls bob, and asks that her identity be kept private.
+const OPENINGS: &[u8] = br#"~ Erin calls bob, and asks that her identity be kept private.
 at 0 peer 1|INVITE sip:bob@far.example SIP/2.0|Via: SIP/2.0/UDP 127.0.0.1:5071;branch=z9hG4bKa1|Max-Forwards: 68|From: "Erin" <sip:erin@other.example>;tag=a
 |To: <sip:bob@far.example>|Call-ID: c1|CSeq: 7 INVITE|Contact: <sip:erin@127.0.0.1:5071>|P-Asserted-Identity: <sip:erin@other.example>|Privacy: id|Content-Length: 0|
 ~ The 100 to her peer, and the INVITE to his.
@@ -32,7 +33,7 @@ at 500 peer 1|INVITE sip:bob@far.example SIP/2.0|Via: SIP/2.0/UDP 127.0.0.1:5071
 at 900 peer 2|SIP/2.0 180 Ringing|
 at 700 peer 1
 at 1000 peer 2
-~ The datagrams are dropped; the INVITE, which nobody answered, is sent again after 500 (RFC 3261 §17.1.1.2).
+~ The datagrams are dropped; the INVITE, which nobody answered, is sent again after 500 (RFC 3261 section 17.1.1.2).
 at 500 to 1|SIP/2.0 100 Trying|Via: SIP/2.0/UDP 127.0.0.1:5071;branch=z9hG4bKa1|From: "Erin" <sip:erin@other.example>;tag=a|To: <sip:bob@far.example>|Call-ID: c1
 |CSeq: 7 INVITE|Content-Length: 0|
 at 500 to 2|INVITE sip:bob@far.example SIP/2.0|Via: SIP/2.0/UDP 127.0.0.1:5060;branch=z9hG4bK0123456789abcdef-4|Max-Forwards: 67
@@ -63,58 +64,80 @@ at 0 to 2|INVITE sip:bob@far.example SIP/2.0|Via: SIP/2.0/UDP 127.0.0.1:5060;bra
 ~ Nothing is offered.
 "#;
 
-#[test]
-fn restricted_openings(rt: HostRuntime) {
-    assert!(rt; wrong_run(rt.alloc(), OPENINGS) == 0);
+/// The table, for several tests.
+fn opening_runs() -> &'static [u8] {
+    OPENINGS
 }
 
-/// The listing of what a script makes a server offer in so many turns, by the calls right below the top call; None where the link did not end as it is due to.
-fn offered(alloc: Global, script: &[u8], turns: u64, closed: bool) -> Option<Text> {
-    let directory = read_directory(alloc, CONFIG.as_bytes()).ok()?;
-    let mut script = ScriptLink::read(alloc, script, &directory.peers).ok()?;
-    let token = Text::of(alloc, b"0123456789abcdef").ok()?;
-    let mut server = Server::new(alloc, directory, token, &[]).ok()?;
+#[test]
+fn restricted_openings(rt: HostRuntime) {
+    assert!(rt; wrong_run(rt.alloc(), opening_runs()) == 0);
+}
+
+/// Adds what a server offers in so many turns, by the calls right below the top call; the link has ended after the second.
+fn add_driven(page: &mut Page, server: Server, link: &mut ScriptLink, turns: u64) {
+    let mut server = server;
     let mut keeper = MemoryKeeper::new(List::new());
     let mut out = List::new();
-    let driven = drive(
-        alloc,
-        &mut server,
-        &mut script,
-        &mut keeper,
-        turns,
-        &mut out,
-    );
+    let driven = drive(page.alloc, &mut server, link, &mut keeper, turns, &mut out);
     server.give_up();
-    match driven {
-        Ok(end) if end == closed => listing(alloc, &out).ok(),
-        _ => None,
+    drop(keeper);
+    page.keep(match driven {
+        Ok(end) => end == (turns == 2),
+        Err(_) => false,
+    });
+    add_listing(page, &out);
+    drop(out);
+}
+
+fn add_turns(page: &mut Page, link: &mut ScriptLink, turns: u64) {
+    match server(page, b"") {
+        None => page.fail(),
+        Some(server) => add_driven(page, server, link, turns),
     }
 }
 
-/// Adds what the first script of the openings makes a server offer in so many turns.
+/// Adds what a script makes a server offer in so many turns.
 fn add_offered(page: &mut Page, script: &[u8], turns: u64) {
-    let mut lines = Page::new(page.alloc);
-    lines.add_lines(script);
-    match offered(page.alloc, lines.bytes(), turns, turns == 2) {
-        None => page.fail(),
-        Some(listed) => page.add(listed.bytes()),
+    page.add_number(turns);
+    if let Some(link) = heard(page, script) {
+        let mut link = link;
+        add_turns(page, &mut link, turns);
+        drop(link);
+    }
+}
+
+/// Adds what is due: nothing in no turn, and the listing in one and in two.
+fn add_due(due: &mut Page, listing: &[u8]) {
+    due.add(b"01");
+    add_lines(due, listing);
+    due.add(b"2");
+    add_lines(due, listing);
+}
+
+/// Whether the script makes a server offer what is due.
+fn is_offered(alloc: Global, script: &[u8], listing: &[u8]) -> bool {
+    let mut page = Page::new(alloc);
+    for turns in 0..3 {
+        add_offered(&mut page, script, turns);
+    }
+    let mut due = Page::new(alloc);
+    add_due(&mut due, listing);
+    let alike = are_alike(&page, &due);
+    drop(page);
+    drop(due);
+    alike
+}
+
+fn is_first_offered(alloc: Global, table: &[u8]) -> bool {
+    match two(table) {
+        Some((script, listing, _)) => is_offered(alloc, script, listing),
+        None => false,
     }
 }
 
 /// No turn takes nothing; one takes the one event, and one more comes to the end.
 #[test]
 fn turns_over_an_opening(rt: HostRuntime) {
-    let mut page = Page::new(rt.alloc());
-    let mut due = Page::new(rt.alloc());
-    if let Some((script, listing, _)) = two(OPENINGS.as_bytes()) {
-        for turns in 0..3 {
-            page.add_number(turns);
-            add_offered(&mut page, script, turns);
-        }
-        due.add(b"01");
-        due.add_lines(listing);
-        due.add(b"2");
-        due.add_lines(listing);
-    }
-    assert!(rt; page.is_like(&due));
+    assert!(rt; is_first_offered(rt.alloc(), opening_runs()));
 }

@@ -3,7 +3,7 @@
 //! A script stands for two: of each `{this^that}` one of them has the one, and the other the other.
 
 use crate::cases::piece;
-use crate::pages::Page;
+use crate::pages::{Page, are_alike, are_apart};
 use crate::runs::tell;
 use mmtel_scan::part;
 use std::alloc::Global;
@@ -29,15 +29,22 @@ fn show(view: &mut Page, listing: &[u8]) {
     }
 }
 
+/// The same of what a run whose status is 0 wrote.
+fn show_listing(view: &mut Page, written: &[u8]) {
+    match written.strip_prefix(b"0\n") {
+        Some(listing) => show(view, listing),
+        None => view.fail(),
+    }
+}
+
 /// What the second peer is offered in one of the two runs, whose status is to be 0.
 fn seen(alloc: Global, script: &[u8], first: bool) -> Page {
     let mut page = Page::new(alloc);
     tell(&mut page, script, first);
     let mut view = Page::new(alloc);
-    match page.bytes().strip_prefix(b"0\n") {
-        Some(listing) if !page.has_failed() => show(&mut view, listing),
-        _ => view.fail(),
-    }
+    view.keep(!page.has_failed());
+    show_listing(&mut view, page.bytes());
+    drop(page);
     view
 }
 
@@ -45,16 +52,19 @@ fn seen(alloc: Global, script: &[u8], first: bool) -> Page {
 fn is_due(alloc: Global, script: &[u8], due: bool) -> bool {
     let one = seen(alloc, script, true);
     let other = seen(alloc, script, false);
-    if due {
-        one.is_like(&other)
+    let right = if due {
+        are_alike(&one, &other)
     } else {
-        one.is_other_than(&other)
-    }
+        are_apart(&one, &other)
+    };
+    drop(one);
+    drop(other);
+    right
 }
 
 /// The number of the first pair of a table that is not as it is due, from 1; 0 where there is none, of a hundred at most.
-pub fn wrong_pair(alloc: Global, table: &str, due: bool) -> usize {
-    let mut rest = table.as_bytes();
+pub fn wrong_pair(alloc: Global, table: &[u8], due: bool) -> usize {
+    let mut rest = table;
     for number in 0..100 {
         if rest.is_empty() {
             return 0;

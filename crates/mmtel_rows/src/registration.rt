@@ -2,8 +2,8 @@
 
 use crate::cases::wrong_run;
 
-const REGISTRATIONS: &str =
-    r#"~ Bob's registration ends, told again a second later; one of no account here; for the longest time, and for no time; bob's from a peer that is not trusted.
+const REGISTRATIONS: &[u8] =
+    br#"~ Bob's registration ends, told again a second later; one of no account here; for the longest time, and for no time; bob's from a peer that is not trusted.
 at 0 peer 1|REGISTER sip:home.example SIP/2.0|Via: SIP/2.0/UDP 127.0.0.1:5071;branch=z9hG4bKreg|Max-Forwards: 68|From: <sip:scscf@home.example>;tag=r
 |To: <sip:bob@home.example>|Call-ID: reg1|CSeq: 1 REGISTER|Expires: 0|Content-Length: 0|
 at 1000 peer 1|REGISTER sip:home.example SIP/2.0|Via: SIP/2.0/UDP 127.0.0.1:5071;branch=z9hG4bKreg|Max-Forwards: 68|From: <sip:scscf@home.example>;tag=r

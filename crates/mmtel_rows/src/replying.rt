@@ -1,14 +1,15 @@
 //! What is built of requests.
 
-use crate::pages::Page;
+use crate::pages::{Page, wrong_line};
 use crate::requests::{SIP, address, hearing};
 use mmtel_answers::Hearing;
 use mmtel_intake::{Answer, completed_reply, dialog_name, is_untagged, plainly, response_to};
 use mmtel_message::{Msg, add_bytes, reply_with};
 use mmtel_scan::{List, NoMemory};
+use std::alloc::Global;
 
 /// An INVITE whose Via names another address than it came from.
-const OPENING: &str = r#"INVITE sip:bob@far.example SIP/2.0
+const OPENING: &[u8] = br#"INVITE sip:bob@far.example SIP/2.0
 Via: SIP/2.0/UDP 10.0.0.9:5071;branch=z9hG4bKa1;rport
 Max-Forwards: 68
 From: "Erin" <sip:erin@other.example>;tag=a
@@ -28,7 +29,7 @@ Content-Length: 2
 hi"#;
 
 /// One with a To tag.
-const OPEN: &str = r#"INVITE sip:bob@far.example SIP/2.0
+const OPEN: &[u8] = br#"INVITE sip:bob@far.example SIP/2.0
 Via: SIP/2.0/UDP 127.0.0.1:5071;branch=z9hG4bKa1
 From: "Erin" <sip:erin@other.example>;tag=a
 To: "Bob" <sip:bob@far.example>;tag=b
@@ -40,7 +41,7 @@ Content-Length: 0
 
 "#;
 
-const WANTED: &str = r#"untagged
+const WANTED: &[u8] = br#"untagged
 SIP/2.0 420 Bad Extension
 Via: SIP/2.0/UDP 10.0.0.9:5071;branch=z9hG4bKa1;rport=5071;received=127.0.0.1
 From: "Erin" <sip:erin@other.example>;tag=a
@@ -75,8 +76,10 @@ dialog c1 b a
 fn tell(page: &mut Page, built: Result<Msg, NoMemory>) {
     if let Some(message) = page.noted(built) {
         let text = message.text(page.alloc);
+        drop(message);
         if let Some(text) = page.noted(text) {
             page.add_ended(b'\r', text.bytes(), b"");
+            drop(text);
         }
     }
 }
@@ -84,7 +87,9 @@ fn tell(page: &mut Page, built: Result<Msg, NoMemory>) {
 fn heard(page: &mut Page, lines: &[u8]) -> Option<Hearing> {
     let mut text = Page::new(page.alloc);
     text.add_ended(b'\n', lines, b"\r\n");
-    hearing(page, text.bytes(), true)
+    let heard = hearing(page, text.bytes(), true);
+    drop(text);
+    heard
 }
 
 fn tell_tag(page: &mut Page, request: &Hearing) {
@@ -118,6 +123,7 @@ fn tell_dialog(page: &mut Page, request: &Hearing) {
             page.add(b" ");
             page.add(name.remote.bytes());
             page.add(b"\n");
+            drop(name);
         }
     }
 }
@@ -127,6 +133,7 @@ fn tell_completed(page: &mut Page, request: &Hearing) {
     let reply = reply_with(page.alloc, 420, b"Bad Extension", request.message.lines());
     if let Some(reply) = page.noted(reply) {
         let built = completed_reply(page.alloc, b"t1", address(5072), &reply);
+        drop(reply);
         tell(page, built);
     }
 }
@@ -135,6 +142,7 @@ fn tell_hidden(page: &mut Page, request: &Hearing) {
     tell_tag(page, request);
     let refusal = refusal(page);
     let built = response_to(page.alloc, SIP, b"t1", request, &refusal);
+    drop(refusal);
     tell(page, built);
     tell_completed(page, request);
     tell_dialog(page, request);
@@ -142,20 +150,32 @@ fn tell_hidden(page: &mut Page, request: &Hearing) {
 
 fn tell_open(page: &mut Page, request: &Hearing) {
     tell_tag(page, request);
-    let built = response_to(page.alloc, SIP, b"t1", request, &plainly(503));
+    let refusal = plainly(503);
+    let built = response_to(page.alloc, SIP, b"t1", request, &refusal);
+    drop(refusal);
     tell(page, built);
     tell_dialog(page, request);
+}
+
+fn tell_all(page: &mut Page) {
+    if let Some(request) = heard(page, OPENING) {
+        tell_hidden(page, &request);
+        drop(request);
+    }
+    if let Some(request) = heard(page, OPEN) {
+        tell_open(page, &request);
+        drop(request);
+    }
+}
+
+fn wrong_reply(alloc: Global) -> usize {
+    let mut page = Page::new(alloc);
+    tell_all(&mut page);
+    wrong_line(page, WANTED)
 }
 
 /// A refusal with its line and the server's tag, a reply that is completed, an answer within a dialog, and the dialogs that both requests name.
 #[test]
 fn builds(rt: HostRuntime) {
-    let mut page = Page::new(rt.alloc());
-    if let Some(request) = heard(&mut page, OPENING.as_bytes()) {
-        tell_hidden(&mut page, &request);
-    }
-    if let Some(request) = heard(&mut page, OPEN.as_bytes()) {
-        tell_open(&mut page, &request);
-    }
-    assert!(rt; page.wrong_line(WANTED.as_bytes()) == 0);
+    assert_eq!(rt; wrong_reply(rt.alloc()), 0);
 }

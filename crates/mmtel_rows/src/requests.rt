@@ -13,7 +13,7 @@ pub const SIP: Addr = Addr {
     port: 5060,
 };
 
-const CONFIGURATION: &str = "sip 127.0.0.1:5060
+const CONFIGURATION: &[u8] = b"sip 127.0.0.1:5060
 home home.example
 peer 1 127.0.0.1:5071 trusted
 peer 2 127.0.0.1:5072 untrusted
@@ -26,7 +26,7 @@ account 7 sip:bob@home.example
 
 /// The configuration.
 pub fn directory(page: &mut Page) -> Option<Directory> {
-    let read = read_directory(page.alloc, CONFIGURATION.as_bytes());
+    let read = read_directory(page.alloc, CONFIGURATION);
     page.noted(read)
 }
 

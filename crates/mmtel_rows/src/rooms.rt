@@ -3,8 +3,8 @@
 use crate::cases::wrong_run;
 
 /// A room from its opening to its end, and INVITEs that are refused.
-const ROOMS: &str =
-    r#"~ Alice talks with bob, asks the factory for a room, and has bob's leg taken over into it (RFC 3891 §3); he hangs up, and she closes the room.
+const ROOMS: &[u8] =
+    br#"~ Alice talks with bob, asks the factory for a room, and has bob's leg taken over into it (RFC 3891 section 3); he hangs up, and she closes the room.
 at 0 peer 1|INVITE sip:bob@home.example SIP/2.0|Via: SIP/2.0/UDP 127.0.0.1:5071;branch=z9hG4bKc1|Max-Forwards: 68|From: "Alice" <sip:alice@home.example>;tag=t1
 |To: <sip:bob@home.example>|Call-ID: call1|CSeq: 7 INVITE|Contact: <sip:alice@127.0.0.1:5071>|P-Asserted-Identity: <sip:alice@home.example>|Content-Length: 0|
 at 200 peer 1|SIP/2.0 200 OK|Via: SIP/2.0/UDP 127.0.0.1:5060;branch=z9hG4bK0123456789abcdef-4|From: "Alice" <sip:alice@home.example>;tag=0123456789abcdef-3
@@ -103,8 +103,8 @@ fn rooms(rt: HostRuntime) {
 }
 
 /// A room of which all 32 seats are taken.
-const FULL: &str =
-    r#"~ Alice talks with bob, opens a room, and so many come that all seats are taken and one more is turned away; she asks for bob's leg.
+const FULL: &[u8] =
+    br#"~ Alice talks with bob, opens a room, and so many come that all seats are taken and one more is turned away; she asks for bob's leg.
 at 0 peer 1|INVITE sip:bob@home.example SIP/2.0|Via: SIP/2.0/UDP 127.0.0.1:5071;branch=z9hG4bKc1|Max-Forwards: 68|From: "Alice" <sip:alice@home.example>;tag=t1
 |To: <sip:bob@home.example>|Call-ID: call1|CSeq: 7 INVITE|Contact: <sip:alice@127.0.0.1:5071>|P-Asserted-Identity: <sip:alice@home.example>|Content-Length: 0|
 at 200 peer 1|SIP/2.0 200 OK|Via: SIP/2.0/UDP 127.0.0.1:5060;branch=z9hG4bK0123456789abcdef-4|From: "Alice" <sip:alice@home.example>;tag=0123456789abcdef-3

@@ -3,14 +3,14 @@
 //! A script may begin with `settings`, which say what the devices are, and what of them fails.
 
 use crate::links::{link, tell_link};
-use crate::pages::Page;
+use crate::pages::{Page, add_script};
 use crate::settings::{behind_settings, bytes_of, config, first_setting, named, numbers, setting};
 use mmtel_cli::{Keeper, MemoryFiles, MemoryKeeper, MemorySink, run};
 use mmtel_scan::{List, Text, part, plain_number, skip_text};
 use mmtel_types::Account;
 
 /// The words of a replay with the token that the listings have.
-const REPLAY: &str = "replay|server.cfg|run.script|--token|0123456789abcdef";
+const REPLAY: &[u8] = b"replay|server.cfg|run.script|--token|0123456789abcdef";
 
 fn add_file(page: &mut Page, files: &mut List<(Text, Text)>, name: &[u8], text: &Page) {
     let file = (page.copy(name), page.copy(text.bytes()));
@@ -20,10 +20,11 @@ fn add_file(page: &mut Page, files: &mut List<(Text, Text)>, name: &[u8], text: 
 }
 
 /// Adds the script, with the first or the second of each two.
-fn add_script(page: &mut Page, files: &mut List<(Text, Text)>, script: &[u8], first: bool) {
+fn add_script_file(page: &mut Page, files: &mut List<(Text, Text)>, script: &[u8], first: bool) {
     let mut text = Page::new(page.alloc);
-    text.add_script(behind_settings(script), first);
+    add_script(&mut text, behind_settings(script), first);
     add_file(page, files, b"run.script", &text);
+    drop(text);
 }
 
 /// Adds the further files that the settings name.
@@ -36,6 +37,7 @@ fn add_named(page: &mut Page, files: &mut List<(Text, Text)>, script: &[u8]) {
                 if let Some(file) = skip_text(b"file:", line) {
                     let (name, text) = named(page, file);
                     add_file(page, files, name, &text);
+                    drop(text);
                 }
                 rest = later;
             }
@@ -43,16 +45,27 @@ fn add_named(page: &mut Page, files: &mut List<(Text, Text)>, script: &[u8]) {
     }
 }
 
-fn files(page: &mut Page, script: &[u8], first: bool) -> MemoryFiles {
-    let mut files = List::new();
+/// Adds the configuration.
+fn add_config(page: &mut Page, files: &mut List<(Text, Text)>, script: &[u8]) {
+    let config = config(page, script);
+    add_file(page, files, b"server.cfg", &config);
+    drop(config);
+}
+
+/// Adds the files that are there.
+fn add_files(page: &mut Page, files: &mut List<(Text, Text)>, script: &[u8], first: bool) {
     if setting(script, b"no-config").is_none() {
-        let config = config(page, script);
-        add_file(page, &mut files, b"server.cfg", &config);
+        add_config(page, files, script);
     }
     if setting(script, b"no-script").is_none() {
-        add_script(page, &mut files, script, first);
+        add_script_file(page, files, script, first);
     }
-    add_named(page, &mut files, script);
+    add_named(page, files, script);
+}
+
+fn files(page: &mut Page, script: &[u8], first: bool) -> MemoryFiles {
+    let mut files = List::new();
+    add_files(page, &mut files, script, first);
     let failing = numbers(page, script, b"reads:");
     MemoryFiles::new(files, failing)
 }
@@ -65,25 +78,29 @@ fn store(page: &mut Page, keeper: &mut MemoryKeeper, record: &[u8]) {
         None => 0,
     };
     let stored = keeper.store(page.alloc, Account(account), text.bytes());
-    if stored.is_err() || text.has_failed() {
-        page.fail();
-    }
+    page.keep(stored.is_ok() && !text.has_failed());
+    drop(text);
 }
 
-fn keeper(page: &mut Page, script: &[u8]) -> MemoryKeeper {
-    let mut keeper = MemoryKeeper::new(numbers(page, script, b"keeps:"));
+/// The keeper holds the records that the settings name.
+fn store_all(page: &mut Page, keeper: &mut MemoryKeeper, script: &[u8]) {
     let mut rest = script;
     for _ in 0..12 {
         match first_setting(rest) {
             None => break,
             Some((line, later)) => {
                 if let Some(record) = skip_text(b"record:", line) {
-                    store(page, &mut keeper, record);
+                    store(page, keeper, record);
                 }
                 rest = later;
             }
         }
     }
+}
+
+fn keeper(page: &mut Page, script: &[u8]) -> MemoryKeeper {
+    let mut keeper = MemoryKeeper::new(numbers(page, script, b"keeps:"));
+    store_all(page, &mut keeper, script);
     keeper
 }
 
@@ -94,30 +111,56 @@ fn add_word(page: &mut Page, words: &mut List<Text>, word: &[u8]) {
     }
 }
 
-/// The words that `|` parts, at most a dozen; none where there is no byte.
-fn texts(page: &mut Page, words: &[u8]) -> List<Text> {
-    let mut texts = List::new();
-    if words.is_empty() {
-        return texts;
-    }
+/// Adds the words that `|` parts, at most a dozen.
+fn add_words(page: &mut Page, texts: &mut List<Text>, words: &[u8]) {
     let mut rest = words;
     for _ in 0..12 {
         match part(b'|', rest) {
             None => break,
             Some((word, later)) => {
-                add_word(page, &mut texts, word);
+                add_word(page, texts, word);
                 rest = later;
             }
         }
     }
-    add_word(page, &mut texts, rest);
+    add_word(page, texts, rest);
+}
+
+/// The words that `|` parts; none where there is no byte.
+fn texts(page: &mut Page, words: &[u8]) -> List<Text> {
+    let mut texts = List::new();
+    if !words.is_empty() {
+        add_words(page, &mut texts, words);
+    }
     texts
 }
 
-/// Writes the status of a run of these words, a line end, what the run writes, and what the link was given.
-fn tell_run(page: &mut Page, script: &[u8], first: bool, words: &[u8], keeper: &mut MemoryKeeper) {
-    let words = texts(page, words);
-    let mut files = files(page, script, first);
+/// Writes the status of a run of these words over these files, a line end, what the run writes to the sink, and what the link was given.
+fn tell_over(
+    page: &mut Page,
+    script: &[u8],
+    words: &[Text],
+    files: &mut MemoryFiles,
+    keeper: &mut MemoryKeeper,
+    sink: &mut MemorySink,
+) {
+    let mut link = link(page, script);
+    let status = run(page.alloc, words, files, &mut link, keeper, sink);
+    page.add_number(u64::from(status));
+    page.add(b"\n");
+    page.add(sink.taken());
+    tell_link(page, &link, setting(script, b"whole").is_some());
+    drop(link);
+}
+
+/// The same over a sink as the settings say.
+fn tell_to_sink(
+    page: &mut Page,
+    script: &[u8],
+    words: &[Text],
+    files: &mut MemoryFiles,
+    keeper: &mut MemoryKeeper,
+) {
     let failing = numbers(page, script, b"writes:");
     let room = bytes_of(script, b"room:");
     let most = bytes_of(script, b"most:");
@@ -125,19 +168,44 @@ fn tell_run(page: &mut Page, script: &[u8], first: bool, words: &[u8], keeper: &
         Err(_) => page.fail(),
         Ok(sink) => {
             let mut sink = sink;
-            let mut link = link(page, script);
-            let status = run(
-                page.alloc,
-                words.items(),
-                &mut files,
-                &mut link,
-                keeper,
-                &mut sink,
-            );
-            page.add_number(u64::from(status));
-            page.add(b"\n");
-            page.add(sink.taken());
-            tell_link(page, &link, setting(script, b"whole").is_some());
+            tell_over(page, script, words, files, keeper, &mut sink);
+            drop(sink);
+        }
+    }
+}
+
+/// The same of these words, over files as the settings say.
+fn tell_run(page: &mut Page, script: &[u8], first: bool, words: &[u8], keeper: &mut MemoryKeeper) {
+    let words = texts(page, words);
+    let mut files = files(page, script, first);
+    tell_to_sink(page, script, words.items(), &mut files, keeper);
+    drop(files);
+    drop(words);
+}
+
+/// Makes the first of two runs, whose status is due.
+fn run_before(
+    page: &mut Page,
+    script: &[u8],
+    first: bool,
+    words: &[u8],
+    keeper: &mut MemoryKeeper,
+) {
+    let mut before = Page::new(page.alloc);
+    tell_run(&mut before, script, first, words, keeper);
+    let status = setting(script, b"before:").unwrap_or(b"0");
+    page.keep(before.bytes().starts_with(status));
+    drop(before);
+}
+
+/// Tells the one run, or the second of two over one keeper.
+fn tell_runs(page: &mut Page, script: &[u8], first: bool, keeper: &mut MemoryKeeper) {
+    let words = setting(script, b"words:").unwrap_or(REPLAY);
+    match setting(script, b"then:") {
+        None => tell_run(page, script, first, words, keeper),
+        Some(then) => {
+            run_before(page, script, first, words, keeper);
+            tell_run(page, script, first, then, keeper);
         }
     }
 }
@@ -145,19 +213,6 @@ fn tell_run(page: &mut Page, script: &[u8], first: bool, words: &[u8], keeper: &
 /// Writes the status of the run of a script, with the first or the second of each two, a line end, and what the run writes; where there is a second run, these of that one.
 pub fn tell(page: &mut Page, script: &[u8], first: bool) {
     let mut keeper = keeper(page, script);
-    let words = setting(script, b"words:").unwrap_or(REPLAY.as_bytes());
-    match setting(script, b"then:") {
-        None => tell_run(page, script, first, words, &mut keeper),
-        Some(then) => {
-            let mut before = Page::new(page.alloc);
-            tell_run(&mut before, script, first, words, &mut keeper);
-            if !before
-                .bytes()
-                .starts_with(setting(script, b"before:").unwrap_or(b"0"))
-            {
-                page.fail();
-            }
-            tell_run(page, script, first, then, &mut keeper);
-        }
-    }
+    tell_runs(page, script, first, &mut keeper);
+    drop(keeper);
 }

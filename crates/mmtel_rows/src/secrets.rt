@@ -3,8 +3,8 @@
 use crate::pairs::wrong_pair;
 
 /// They differ in private places alone, and whoever is asked for answers alike; with rooms, also of whoever opens one, and of whoever is taken over into one.
-const ALIKE: &str =
-    r#"~ A caller who asks for privacy is answered, acknowledges with lines of her own, and hangs up.
+const ALIKE: &[u8] =
+    br#"~ A caller who asks for privacy is answered, acknowledges with lines of her own, and hangs up.
 at 0 peer 1|INVITE sip:bob@far.example SIP/2.0|Via: SIP/2.0/UDP 127.0.0.1:5071;branch=z9hG4bKa1|Max-Forwards: 68
 |From: "{Erin^Frank}" <sip:{erin^frank}@other.example>;tag=a|To: <sip:bob@far.example>|Call-ID: c1|CSeq: 7 INVITE|Contact: <sip:{erin^frank}@127.0.0.1:5071>
 |P-Asserted-Identity: <sip:{erin^frank}@other.example>|Privacy: id|User-Agent: {one^another}|Content-Length: 0|
@@ -95,7 +95,7 @@ at 300 peer 2|ACK sip:127.0.0.1:5060 SIP/2.0|Via: SIP/2.0/UDP 127.0.0.1:5072;bra
 at 400 peer 1|BYE sip:127.0.0.1:5060 SIP/2.0|Via: SIP/2.0/UDP 127.0.0.1:5071;branch=z9hG4bKy|Max-Forwards: 68|From: "{Bob^Robert}" <sip:{bob^robert}@home.example>;tag=b1
 |To: "Erin" <sip:erin@other.example>;tag=0123456789abcdef-3|Call-ID: 0123456789abcdef-2|CSeq: 1 BYE|User-Agent: {one^another}
 |P-Asserted-Identity: <sip:{bob^robert}@home.example>|Content-Length: 0|
-~ An entry of the history is marked (RFC 7044 §10.1): it is not shown in the INVITE, nor in the next one of the call.
+~ An entry of the history is marked (RFC 7044 section 10.1): it is not shown in the INVITE, nor in the next one of the call.
 at 0 peer 1|INVITE sip:bob@far.example SIP/2.0|Via: SIP/2.0/UDP 127.0.0.1:5071;branch=z9hG4bKa1|Max-Forwards: 68|From: "Erin" <sip:erin@other.example>;tag=a
 |To: <sip:bob@far.example>|Call-ID: c1|CSeq: 7 INVITE|Contact: <sip:erin@127.0.0.1:5071>|P-Asserted-Identity: <sip:erin@other.example>
 |History-Info: <sip:{carol^dave}@home.example?Privacy=history>;index=1|History-Info: <sip:bob@far.example;cause=302>;index=1.1|Content-Length: 0|
@@ -268,7 +268,7 @@ at 3000 peer 1|BYE sip:room-1@127.0.0.1:5060 SIP/2.0|Via: SIP/2.0/UDP 127.0.0.1:
 "#;
 
 /// They differ in a place that is not private, or in an answer.
-const APART: &str = r#"~ Her INVITE has other hops left.
+const APART: &[u8] = br#"~ Her INVITE has other hops left.
 at 0 peer 1|INVITE sip:bob@far.example SIP/2.0|Via: SIP/2.0/UDP 127.0.0.1:5071;branch=z9hG4bKa1|Max-Forwards: {68^67}
 |From: "{Erin^Frank}" <sip:{erin^frank}@other.example>;tag=a|To: <sip:bob@far.example>|Call-ID: c1|CSeq: 7 INVITE|Contact: <sip:{erin^frank}@127.0.0.1:5071>
 |P-Asserted-Identity: <sip:{erin^frank}@other.example>|Privacy: id|Content-Length: 0|

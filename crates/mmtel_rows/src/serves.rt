@@ -3,8 +3,8 @@
 use crate::cases::wrong_run;
 
 /// The link is bound by its first call; each event takes one call, reading a web connection one more, and each datagram or reply that it is given one.
-const SERVES: &str =
-    r#"~ Erin calls bob, and asks that her identity be kept private (RFC 3323 §4.1); then the link is closed.
+const SERVES: &[u8] =
+    br#"~ Erin calls bob, and asks that her identity be kept private (RFC 3323 section 4.1); then the link is closed.
 =words:serve|server.cfg|--token|0123456789abcdef|--turns|9
 =link:
 =whole
@@ -85,7 +85,7 @@ at 0 peer 1|INVITE sip:bob@home.example SIP/2.0|Via: SIP/2.0/UDP 127.0.0.1:5071;
 |To: <sip:bob@home.example>|Call-ID: call1|CSeq: 7 INVITE|Contact: <sip:alice@127.0.0.1:5071>|P-Asserted-Identity: <sip:alice@home.example>|Content-Length: 0|
 at 100 web|PUT /simservs/2 HTTP/1.1|X-3GPP-Asserted-Identity: "sip:bob@home.example"|Content-Type: application/toml|Content-Length: 65|
 |[[communication-diversion.rule]]|target = "sip:vm@far.example"
-~ His record was kept, and is in force from the load on (TS 24.604 §4.5.2.6).
+~ His record was kept, and is in force from the load on (TS 24.604 section 4.5.2.6).
 5071 SIP/2.0 100 Trying
 5071 SIP/2.0 181 Call Is Being Forwarded
 5072 INVITE sip:vm@far.example;cause=302 SIP/2.0
@@ -122,7 +122,7 @@ at 0 peer 1|INVITE sip:bob@home.example SIP/2.0|Via: SIP/2.0/UDP 127.0.0.1:5071;
 |To: <sip:bob@home.example>|Call-ID: call1|CSeq: 7 INVITE|Contact: <sip:alice@127.0.0.1:5071>|P-Asserted-Identity: <sip:alice@home.example>|Content-Length: 0|
 at 100 web|PUT /simservs/2 HTTP/1.1|X-3GPP-Asserted-Identity: "sip:bob@home.example"|Content-Type: application/toml|Content-Length: 65|
 |[[communication-diversion.rule]]|target = "sip:vm@far.example"
-~ It is answered as one that was cut short (RFC 9112 §8), and nothing is kept.
+~ It is answered as one that was cut short (RFC 9112 section 8), and nothing is kept.
 5071 SIP/2.0 100 Trying
 5071 INVITE sip:bob@home.example SIP/2.0
 HTTP/1.1 400 Bad Request

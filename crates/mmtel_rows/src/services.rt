@@ -5,8 +5,8 @@
 use crate::cases::wrong_run;
 
 /// Presentation, restriction and barring; and no diversion where the configuration allows none.
-const PRESENTED: &str =
-    r#"~ Alice's record restricts her identity unless she says otherwise, and she does (3GPP TS 24.607 §4.5.2.4).
+const PRESENTED: &[u8] =
+    br#"~ Alice's record restricts her identity unless she says otherwise, and she does (3GPP TS 24.607 section 4.5.2.4).
 # [originating-identity-presentation-restriction]
 # mode = "temporary"
 # default-behaviour = "presentation-restricted"
@@ -40,7 +40,7 @@ at 0 to 1|SIP/2.0 100 Trying|Via: SIP/2.0/UDP 127.0.0.1:5071;branch=z9hG4bKc1|Fr
 at 0 to 2|INVITE sip:bob@far.example SIP/2.0|Via: SIP/2.0/UDP 127.0.0.1:5060;branch=z9hG4bK0123456789abcdef-4|Max-Forwards: 67
 |From: "Anonymous" <sip:anonymous@anonymous.invalid>;tag=0123456789abcdef-3|To: <sip:bob@far.example>|Call-ID: 0123456789abcdef-2|CSeq: 1 INVITE
 |Contact: <sip:127.0.0.1:5060>|Content-Length: 0|
-~ Bob bars everybody, and allows alice (3GPP TS 24.611 §4.5.2.6).
+~ Bob bars everybody, and allows alice (3GPP TS 24.611 section 4.5.2.6).
 # [incoming-communication-barring]
 # [[incoming-communication-barring.rule]]
 # many = "*"
@@ -101,7 +101,7 @@ at 0 web|PUT /simservs/2 HTTP/1.1|X-3GPP-Asserted-Identity: "sip:bob@home.exampl
 x5b696e636f6d696e672d636f6d6d756e69636174696f6e2d62617272696e675d0a72656a6563742d616e6f6e796d6f7573203d20747275650a
 at 0 peer 2|INVITE sip:bob@home.example SIP/2.0|Via: SIP/2.0/UDP 127.0.0.1:5072;branch=z9hG4bKc1|Max-Forwards: 68|From: "Erin" <sip:erin@other.example>;tag=t1
 |To: <sip:bob@home.example>|Call-ID: call1|CSeq: 7 INVITE|Contact: <sip:erin@127.0.0.1:5072>|P-Asserted-Identity: <sip:erin@other.example>|Privacy: id|Content-Length: 0|
-~ It is not believed (RFC 3325 §5), so the caller has no identity that could be withheld, and gets through without one.
+~ It is not believed (RFC 3325 section 5), so the caller has no identity that could be withheld, and gets through without one.
 at 0 web|HTTP/1.1 200 OK|Content-Length: 0|Connection: close|
 at 0 to 2|SIP/2.0 100 Trying|Via: SIP/2.0/UDP 127.0.0.1:5072;branch=z9hG4bKc1|From: "Erin" <sip:erin@other.example>;tag=t1|To: <sip:bob@home.example>|Call-ID: call1
 |CSeq: 7 INVITE|Content-Length: 0|
@@ -153,8 +153,8 @@ fn presented_or_barred(rt: HostRuntime) {
 }
 
 /// Diversion and waiting.
-const DIVERTED: &str =
-    r#"~ Bob diverts everybody to carol, who is in a call and diverts when busy (3GPP TS 24.604 §4.5.2.6).
+const DIVERTED: &[u8] =
+    br#"~ Bob diverts everybody to carol, who is in a call and diverts when busy (3GPP TS 24.604 section 4.5.2.6).
 # [communication-diversion]
 # [[communication-diversion.rule]]
 # target = "sip:carol@home.example"
@@ -172,7 +172,7 @@ at 0 peer 1|INVITE sip:carol@home.example SIP/2.0|Via: SIP/2.0/UDP 127.0.0.1:507
 |To: <sip:carol@home.example>|Call-ID: call1|CSeq: 7 INVITE|Contact: <sip:erin@127.0.0.1:5071>|P-Asserted-Identity: <sip:erin@other.example>|Content-Length: 0|
 at 0 peer 1|INVITE sip:bob@home.example SIP/2.0|Via: SIP/2.0/UDP 127.0.0.1:5071;branch=z9hG4bKc2|Max-Forwards: 68|From: "Alice" <sip:alice@home.example>;tag=t2
 |To: <sip:bob@home.example>|Call-ID: call2|CSeq: 7 INVITE|Contact: <sip:alice@127.0.0.1:5071>|P-Asserted-Identity: <sip:alice@home.example>|Content-Length: 0|
-~ Two 181, and the INVITE to her target with the whole history (RFC 7044 §10).
+~ Two 181, and the INVITE to her target with the whole history (RFC 7044 section 10).
 at 0 web|HTTP/1.1 200 OK|Content-Length: 0|Connection: close|
 at 0 web|HTTP/1.1 200 OK|Content-Length: 0|Connection: close|
 at 0 to 1|SIP/2.0 100 Trying|Via: SIP/2.0/UDP 127.0.0.1:5071;branch=z9hG4bKc1|From: "Erin" <sip:erin@other.example>;tag=t1|To: <sip:carol@home.example>|Call-ID: call1
@@ -369,7 +369,7 @@ a746172676574203d20227369703a766d406661722e6578616d706c65220a
 at 0 peer 1|INVITE sip:bob@home.example SIP/2.0|Via: SIP/2.0/UDP 127.0.0.1:5071;branch=z9hG4bKc1|Max-Forwards: 68|From: "Alice" <sip:alice@home.example>;tag=t1
 |To: <sip:bob@home.example>|Call-ID: call1|CSeq: 7 INVITE|Contact: <sip:alice@127.0.0.1:5071>|P-Asserted-Identity: <sip:alice@home.example>|Content-Length: 0|
 at 40000 quiet
-~ The INVITE is sent six times again (Timer A of RFC 3261 §17.1.1.2), and the call goes on when Timer B fires.
+~ The INVITE is sent six times again (Timer A of RFC 3261 section 17.1.1.2), and the call goes on when Timer B fires.
 at 0 web|HTTP/1.1 200 OK|Content-Length: 0|Connection: close|
 at 0 to 1|SIP/2.0 100 Trying|Via: SIP/2.0/UDP 127.0.0.1:5071;branch=z9hG4bKc1|From: "Alice" <sip:alice@home.example>;tag=t1|To: <sip:bob@home.example>|Call-ID: call1
 |CSeq: 7 INVITE|Content-Length: 0|
@@ -412,7 +412,7 @@ at 35500 to 2|INVITE sip:vm@far.example;cause=503 SIP/2.0|Via: SIP/2.0/UDP 127.0
 at 39500 to 2|INVITE sip:vm@far.example;cause=503 SIP/2.0|Via: SIP/2.0/UDP 127.0.0.1:5060;branch=z9hG4bK0123456789abcdef-7|Max-Forwards: 67
 |From: "Alice" <sip:alice@home.example>;tag=0123456789abcdef-6|To: <sip:vm@far.example>|Call-ID: 0123456789abcdef-5|CSeq: 1 INVITE|Contact: <sip:127.0.0.1:5060>
 |P-Asserted-Identity: <sip:alice@home.example>|History-Info: <sip:bob@home.example>;index=1|History-Info: <sip:vm@far.example;cause=503>;index=1.1|Content-Length: 0|
-~ Bob has communication waiting with two calls; three call him at once, two are answered and end, and carol calls again (3GPP TS 24.615 §4.5.5).
+~ Bob has communication waiting with two calls; three call him at once, two are answered and end, and carol calls again (3GPP TS 24.615 section 4.5.5).
 # [communication-waiting]
 # calls = 2
 at 0 web|PUT /simservs/2 HTTP/1.1|X-3GPP-Asserted-Identity: "sip:bob@home.example"|Content-Type: application/toml|Content-Length: 34|
@@ -509,7 +509,7 @@ at 0 peer 1|INVITE sip:bob@home.example SIP/2.0|Via: SIP/2.0/UDP 127.0.0.1:5071;
 |To: <sip:bob@home.example>|Call-ID: call1|CSeq: 7 INVITE|Contact: <sip:alice@127.0.0.1:5071>|P-Asserted-Identity: <sip:alice@home.example>|Content-Length: 0|
 at 100 peer 1|SIP/2.0 302 Moved|Via: SIP/2.0/UDP 127.0.0.1:5060;branch=z9hG4bK0123456789abcdef-4|From: "Alice" <sip:alice@home.example>;tag=0123456789abcdef-3
 |To: <sip:bob@home.example>;tag=bt|Call-ID: 0123456789abcdef-2|CSeq: 1 INVITE|Contact: <sip:vm@far.example>|Content-Length: 0|
-~ Cause 480 (RFC 4458 §2, as 3GPP TS 24.604 §4.5.2.6 has it).
+~ Cause 480 (RFC 4458 section 2, as 3GPP TS 24.604 section 4.5.2.6 has it).
 at 0 web|HTTP/1.1 200 OK|Content-Length: 0|Connection: close|
 at 0 to 1|SIP/2.0 100 Trying|Via: SIP/2.0/UDP 127.0.0.1:5071;branch=z9hG4bKc1|From: "Alice" <sip:alice@home.example>;tag=t1|To: <sip:bob@home.example>|Call-ID: call1
 |CSeq: 7 INVITE|Content-Length: 0|

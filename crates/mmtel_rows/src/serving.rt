@@ -19,6 +19,7 @@ use mmtel_link::MemoryLink;
 use mmtel_scan::{List, Text, plain_number, skip_text};
 use mmtel_serve::serve;
 use mmtel_types::Account;
+use std::alloc::Global;
 
 fn add_record(page: &mut Page, texts: &mut List<(Account, Text)>, record: &[u8]) {
     let (digits, text) = named(page, record);
@@ -27,44 +28,60 @@ fn add_record(page: &mut Page, texts: &mut List<(Account, Text)>, record: &[u8])
         None => 0,
     };
     let record = (Account(account), page.copy(text.bytes()));
-    if texts.push(page.alloc, record).is_err() || text.has_failed() {
-        page.fail();
-    }
+    let pushed = texts.push(page.alloc, record);
+    page.keep(pushed.is_ok() && !text.has_failed());
+    drop(text);
 }
 
-/// The records that were loaded.
-fn loaded(page: &mut Page, script: &[u8]) -> List<(Account, Text)> {
-    let mut texts = List::new();
+/// Adds the records that the settings name.
+fn add_records(page: &mut Page, texts: &mut List<(Account, Text)>, script: &[u8]) {
     let mut rest = script;
     for _ in 0..12 {
         match first_setting(rest) {
             None => break,
             Some((line, later)) => {
                 if let Some(record) = skip_text(b"record:", line) {
-                    add_record(page, &mut texts, record);
+                    add_record(page, texts, record);
                 }
                 rest = later;
             }
         }
     }
+}
+
+/// The records that were loaded.
+fn loaded(page: &mut Page, script: &[u8]) -> List<(Account, Text)> {
+    let mut texts = List::new();
+    add_records(page, &mut texts, script);
     texts
+}
+
+fn directory_of(alloc: Global, text: &[u8]) -> Option<Directory>
+    ensures { IfSome result (λ directory. directory.bound ≤ 16) }
+{
+    match read_directory(alloc, text) {
+        Ok(directory) => Some(directory),
+        Err(_) => None,
+    }
 }
 
 fn directory(page: &mut Page, script: &[u8]) -> Option<Directory>
     ensures { IfSome result (λ directory. directory.bound ≤ 16) }
 {
     let text = config(page, script);
-    match read_directory(page.alloc, text.bytes()) {
-        Ok(directory) => Some(directory),
-        Err(_) => None,
-    }
+    let read = directory_of(page.alloc, text.bytes());
+    drop(text);
+    read
 }
 
-fn server(page: &mut Page, script: &[u8]) -> Option<Server> {
+/// A server as the settings say.
+pub fn server(page: &mut Page, script: &[u8]) -> Option<Server> {
     let directory = directory(page, script)?;
     let token = page.copy(b"0123456789abcdef");
     let texts = loaded(page, script);
-    Server::new(page.alloc, directory, token, texts.items()).ok()
+    let server = Server::new(page.alloc, directory, token, texts.items());
+    drop(texts);
+    server.ok()
 }
 
 /// Drives for so many turns, and tells how that ended and how many offers there are then.
@@ -100,6 +117,8 @@ fn drive_all(
     for turn in turns.items() {
         drive_on(page, server, &mut link, keeper, *turn, out);
     }
+    drop(turns);
+    drop(link);
 }
 
 /// Serves a link for so many turns.
@@ -120,6 +139,7 @@ fn serve_on(
         Err(DriveFault::NoMemory) => page.fail(),
     }
     tell_link(page, &link, false);
+    drop(link);
 }
 
 /// Takes a step for each event.
@@ -137,10 +157,23 @@ fn step_all(
     }
 }
 
-fn add_listing(page: &mut Page, out: &List<Offer>) {
+/// Adds the listing of these offers.
+pub fn add_listing(page: &mut Page, out: &List<Offer>) {
     match listing(page.alloc, out) {
-        Ok(text) => page.add(text.bytes()),
+        Ok(text) => {
+            page.add(text.bytes());
+            drop(text);
+        }
         Err(_) => page.fail(),
+    }
+}
+
+fn add_texts(page: &mut Page, records: &[(Account, Text)]) {
+    for (account, text) in records {
+        page.add(b"kept ");
+        page.add_number(u64::from(account.0));
+        page.add(b"\n");
+        page.add_ended(b'\r', text.bytes(), b"^");
     }
 }
 
@@ -148,44 +181,70 @@ fn add_listing(page: &mut Page, out: &List<Offer>) {
 fn add_kept(page: &mut Page, keeper: &mut MemoryKeeper) {
     match keeper.load(page.alloc) {
         Ok(records) => {
-            for (account, text) in records.items() {
-                page.add(b"kept ");
-                page.add_number(u64::from(account.0));
-                page.add(b"\n");
-                page.add_ended(b'\r', text.bytes(), b"^");
-            }
+            add_texts(page, records.items());
+            drop(records);
         }
         Err(_) => page.fail(),
     }
 }
 
-/// Tells what a server does at these events.
-fn tell_server(page: &mut Page, script: &[u8], events: &[Event], server: Server) {
-    let mut server = server;
-    let mut keeper = MemoryKeeper::new(numbers(page, script, b"keeps:"));
-    let mut out = List::new();
+/// The server hears these events, as the settings say.
+fn hear(
+    page: &mut Page,
+    script: &[u8],
+    events: &[Event],
+    server: &mut Server,
+    keeper: &mut MemoryKeeper,
+    out: &mut List<Offer>,
+) {
     if setting(script, b"turns:").is_some() {
-        drive_all(page, script, events, &mut server, &mut keeper, &mut out);
+        drive_all(page, script, events, server, keeper, out);
     } else if let Some(turns) = setting(script, b"serve:") {
-        serve_on(page, script, turns, events, &mut server, &mut keeper);
+        serve_on(page, script, turns, events, server, keeper);
     } else {
-        step_all(page, events, &mut server, &mut keeper, &mut out);
+        step_all(page, events, server, keeper, out);
     }
+}
+
+/// Tells what a server does at these events, and how many rows wait.
+fn tell_heard(
+    page: &mut Page,
+    script: &[u8],
+    events: &[Event],
+    server: &mut Server,
+    keeper: &mut MemoryKeeper,
+) {
+    let mut out = List::new();
+    hear(page, script, events, server, keeper, &mut out);
     add_listing(page, &out);
+    drop(out);
     page.add(b"rows ");
     page.add_number(server.rows_waiting().len() as u64);
     page.add(b"\n");
+}
+
+/// Tells what a server does at these events, and what is kept then.
+fn tell_server(page: &mut Page, script: &[u8], events: &[Event], server: Server) {
+    let mut server = server;
+    let mut keeper = MemoryKeeper::new(numbers(page, script, b"keeps:"));
+    tell_heard(page, script, events, &mut server, &mut keeper);
     server.give_up();
     add_kept(page, &mut keeper);
+    drop(keeper);
+}
+
+fn tell_events(page: &mut Page, script: &[u8], events: &[Event]) {
+    match server(page, script) {
+        None => page.fail(),
+        Some(server) => tell_server(page, script, events, server),
+    }
 }
 
 /// Tells what a server does that hears a script, behind the status 0.
 pub fn tell_served(page: &mut Page, script: &[u8]) {
     page.add(b"0\n");
     if let Some(heard) = heard(page, script) {
-        match server(page, script) {
-            None => page.fail(),
-            Some(server) => tell_server(page, script, heard.events(), server),
-        }
+        tell_events(page, script, heard.events());
+        drop(heard);
     }
 }

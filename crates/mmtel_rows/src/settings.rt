@@ -8,11 +8,11 @@
 //! With `=link:`, which may name no call, what the script tells comes over a link too, and what that link was given is told behind what was written: each datagram behind the
 //! port that it goes to, and then the replies, the first line of each; with `=whole` each whole, its lines behind `|`, but for the first.
 
-use crate::pages::Page;
+use crate::pages::{Page, add_short};
 use mmtel_scan::{List, part, plain_number, skip_text};
 
 /// A server with a trusted peer and one that is not.
-pub const CONFIG: &str = "sip 127.0.0.1:5060
+const CONFIG: &[u8] = b"sip 127.0.0.1:5060
 web 127.0.0.1:8080
 home home.example
 peer 1 127.0.0.1:5071 trusted
@@ -100,10 +100,10 @@ pub fn bytes_of(script: &[u8], key: &[u8]) -> usize {
 pub fn config(page: &Page, script: &[u8]) -> Page {
     let mut text = Page::new(page.alloc);
     match setting(script, b"config:") {
-        Some(lines) => text.add_short(lines),
-        None => text.add(CONFIG.as_bytes()),
+        Some(lines) => add_short(&mut text, lines),
+        None => text.add(CONFIG),
     }
-    text.add_short(value(script, b"further:"));
+    add_short(&mut text, value(script, b"further:"));
     text
 }
 
@@ -111,6 +111,6 @@ pub fn config(page: &Page, script: &[u8]) -> Page {
 pub fn named<'a>(page: &Page, setting: &'a [u8]) -> (&'a [u8], Page) {
     let (name, lines) = word(setting);
     let mut text = Page::new(page.alloc);
-    text.add_short(lines);
+    add_short(&mut text, lines);
     (name, text)
 }

@@ -5,7 +5,7 @@
 use crate::cases::wrong_run;
 
 /// Until the call is answered.
-const RINGING: &str = r#"~ Bob sends 183.
+const RINGING: &[u8] = br#"~ Bob sends 183.
 at 0 peer 1|INVITE sip:bob@home.example SIP/2.0|Via: SIP/2.0/UDP 127.0.0.1:5071;branch=z9hG4bKc1|Max-Forwards: 68|From: "Alice" <sip:alice@home.example>;tag=t1
 |To: <sip:bob@home.example>|Call-ID: call1|CSeq: 7 INVITE|Contact: <sip:alice@127.0.0.1:5071>|P-Asserted-Identity: <sip:alice@home.example>|Content-Length: 0|
 at 50 peer 1|SIP/2.0 183 On The Way|Via: SIP/2.0/UDP 127.0.0.1:5060;branch=z9hG4bK0123456789abcdef-4|From: "Alice" <sip:alice@home.example>;tag=0123456789abcdef-3
@@ -123,7 +123,7 @@ at 180000 to 1|CANCEL sip:bob@home.example SIP/2.0|Via: SIP/2.0/UDP 127.0.0.1:50
 |From: "Alice" <sip:alice@home.example>;tag=0123456789abcdef-3|To: <sip:bob@home.example>|Call-ID: 0123456789abcdef-2|CSeq: 1 CANCEL|Content-Length: 0|
 at 180000 to 1|SIP/2.0 480 Temporarily Unavailable|Via: SIP/2.0/UDP 127.0.0.1:5071;branch=z9hG4bKc1|From: "Alice" <sip:alice@home.example>;tag=t1
 |To: <sip:bob@home.example>;tag=0123456789abcdef-1|Call-ID: call1|CSeq: 7 INVITE|Content-Length: 0|
-~ Alice cancels while he rings (RFC 3261 §9.2).
+~ Alice cancels while he rings (RFC 3261 section 9.2).
 at 0 peer 1|INVITE sip:bob@home.example SIP/2.0|Via: SIP/2.0/UDP 127.0.0.1:5071;branch=z9hG4bKc1|Max-Forwards: 68|From: "Alice" <sip:alice@home.example>;tag=t1
 |To: <sip:bob@home.example>|Call-ID: call1|CSeq: 7 INVITE|Contact: <sip:alice@127.0.0.1:5071>|P-Asserted-Identity: <sip:alice@home.example>|Content-Length: 0|
 at 100 peer 1|SIP/2.0 180 Ringing|Via: SIP/2.0/UDP 127.0.0.1:5060;branch=z9hG4bK0123456789abcdef-4|From: "Alice" <sip:alice@home.example>;tag=0123456789abcdef-3
@@ -165,7 +165,7 @@ at 270 peer 2|SIP/2.0 200 OK|Via: SIP/2.0/UDP 127.0.0.1:5060;branch=z9hG4bK01234
 |To: <sip:bob@far.example>;tag=y|Call-ID: 0123456789abcdef-2|CSeq: 1 INVITE|Contact: <sip:y@127.0.0.1:5072>|Content-Length: 0|
 at 280 peer 2|SIP/2.0 180 Ringing|Via: SIP/2.0/UDP 127.0.0.1:5060;branch=z9hG4bK0123456789abcdef-4
 |From: "Anonymous" <sip:anonymous@anonymous.invalid>;tag=0123456789abcdef-3|To: <sip:bob@far.example>;tag=z|Call-ID: 0123456789abcdef-2|CSeq: 1 INVITE|Content-Length: 0|
-~ Each 200 is acknowledged, each dialog has one BYE, and the CANCEL goes with the 180 (RFC 3261 §13.2.2.4).
+~ Each 200 is acknowledged, each dialog has one BYE, and the CANCEL goes with the 180 (RFC 3261 section 13.2.2.4).
 at 0 to 1|SIP/2.0 100 Trying|Via: SIP/2.0/UDP 127.0.0.1:5071;branch=z9hG4bKa1|From: "Erin" <sip:erin@other.example>;tag=a|To: <sip:bob@far.example>|Call-ID: c1
 |CSeq: 7 INVITE|Content-Length: 0|
 at 0 to 2|INVITE sip:bob@far.example SIP/2.0|Via: SIP/2.0/UDP 127.0.0.1:5060;branch=z9hG4bK0123456789abcdef-4|Max-Forwards: 67
@@ -236,7 +236,7 @@ at 120 peer 1|INVITE sip:127.0.0.1:5060 SIP/2.0|Via: SIP/2.0/UDP 127.0.0.1:5071;
 |To: <sip:bob@home.example>;tag=0123456789abcdef-1|Call-ID: call1|CSeq: 8 INVITE|Contact: <sip:alice@127.0.0.1:5071>|Content-Length: 0|
 at 130 peer 1|INVITE sip:127.0.0.1:5060 SIP/2.0|Via: SIP/2.0/UDP 127.0.0.1:5071;branch=z9hG4bKg2|Max-Forwards: 68|From: <sip:bob@home.example>;tag=b1
 |To: "Alice" <sip:alice@home.example>;tag=0123456789abcdef-3|Call-ID: 0123456789abcdef-2|CSeq: 6 INVITE|Contact: <sip:bob1@127.0.0.1:5071>|Content-Length: 0|
-~ 481, 500 with Retry-After, and 491 (RFC 3261 §14.2).
+~ 481, 500 with Retry-After, and 491 (RFC 3261 section 14.2).
 at 0 to 1|SIP/2.0 100 Trying|Via: SIP/2.0/UDP 127.0.0.1:5071;branch=z9hG4bKc1|From: "Alice" <sip:alice@home.example>;tag=t1|To: <sip:bob@home.example>|Call-ID: call1
 |CSeq: 7 INVITE|Content-Length: 0|
 at 0 to 1|INVITE sip:bob@home.example SIP/2.0|Via: SIP/2.0/UDP 127.0.0.1:5060;branch=z9hG4bK0123456789abcdef-4|Max-Forwards: 67
@@ -275,7 +275,7 @@ fn ringing(rt: HostRuntime) {
 }
 
 /// From the answer on, and how a call ends.
-const ANSWERED: &str = r#"~ The ACK of the 200 has another number.
+const ANSWERED: &[u8] = br#"~ The ACK of the 200 has another number.
 at 0 peer 1|INVITE sip:bob@home.example SIP/2.0|Via: SIP/2.0/UDP 127.0.0.1:5071;branch=z9hG4bKc1|Max-Forwards: 68|From: "Alice" <sip:alice@home.example>;tag=t1
 |To: <sip:bob@home.example>|Call-ID: call1|CSeq: 7 INVITE|Contact: <sip:alice@127.0.0.1:5071>|P-Asserted-Identity: <sip:alice@home.example>|Content-Length: 0|
 at 200 peer 1|SIP/2.0 200 OK|Via: SIP/2.0/UDP 127.0.0.1:5060;branch=z9hG4bK0123456789abcdef-4|From: "Alice" <sip:alice@home.example>;tag=0123456789abcdef-3
@@ -326,7 +326,7 @@ at 0 peer 1|INVITE sip:bob@home.example SIP/2.0|Via: SIP/2.0/UDP 127.0.0.1:5071;
 at 200 peer 1|SIP/2.0 200 OK|Via: SIP/2.0/UDP 127.0.0.1:5060;branch=z9hG4bK0123456789abcdef-4|From: "Alice" <sip:alice@home.example>;tag=0123456789abcdef-3
 |To: <sip:bob@home.example>;tag=b1|Call-ID: 0123456789abcdef-2|CSeq: 1 INVITE|Contact: <sip:bob1@127.0.0.1:5071>|Content-Length: 0|
 at 32200 quiet
-~ The 200 is sent again until then; then ACK and BYE to bob, and BYE to alice (RFC 3261 §13.3.1.4).
+~ The 200 is sent again until then; then ACK and BYE to bob, and BYE to alice (RFC 3261 section 13.3.1.4).
 at 0 to 1|SIP/2.0 100 Trying|Via: SIP/2.0/UDP 127.0.0.1:5071;branch=z9hG4bKc1|From: "Alice" <sip:alice@home.example>;tag=t1|To: <sip:bob@home.example>|Call-ID: call1
 |CSeq: 7 INVITE|Content-Length: 0|
 at 0 to 1|INVITE sip:bob@home.example SIP/2.0|Via: SIP/2.0/UDP 127.0.0.1:5060;branch=z9hG4bK0123456789abcdef-4|Max-Forwards: 67
@@ -545,7 +545,7 @@ fn answered(rt: HostRuntime) {
 }
 
 /// One side asks for another session.
-const ASKING: &str = r#"~ Bob asks alice for another session, and she agrees.
+const ASKING: &[u8] = br#"~ Bob asks alice for another session, and she agrees.
 at 0 peer 1|INVITE sip:bob@home.example SIP/2.0|Via: SIP/2.0/UDP 127.0.0.1:5071;branch=z9hG4bKc1|Max-Forwards: 68|From: "Alice" <sip:alice@home.example>;tag=t1
 |To: <sip:bob@home.example>|Call-ID: call1|CSeq: 7 INVITE|Contact: <sip:alice@127.0.0.1:5071>|P-Asserted-Identity: <sip:alice@home.example>|Content-Length: 0|
 at 200 peer 1|SIP/2.0 200 OK|Via: SIP/2.0/UDP 127.0.0.1:5060;branch=z9hG4bK0123456789abcdef-4|From: "Alice" <sip:alice@home.example>;tag=0123456789abcdef-3
@@ -661,7 +661,7 @@ at 1000 peer 1|INVITE sip:127.0.0.1:5060 SIP/2.0|Via: SIP/2.0/UDP 127.0.0.1:5071
 |v=0|o=- 1 1 IN IP4 127.0.0.1|s=-|c=IN IP4 127.0.0.1|t=0 0|m=audio 5004 RTP/AVP 8 0|a=rtpmap:8 PCMA/8000|a=sendonly
 at 1020 peer 1|SIP/2.0 481 Gone|Via: SIP/2.0/UDP 127.0.0.1:5060;branch=z9hG4bK0123456789abcdef-6|From: "Alice" <sip:alice@home.example>;tag=0123456789abcdef-3
 |To: <sip:bob@home.example>;tag=b1|Call-ID: 0123456789abcdef-2|CSeq: 2 INVITE|Content-Length: 0|
-~ It goes on to alice, and both have a BYE (RFC 3261 §12.2.1.2).
+~ It goes on to alice, and both have a BYE (RFC 3261 section 12.2.1.2).
 at 0 to 1|SIP/2.0 100 Trying|Via: SIP/2.0/UDP 127.0.0.1:5071;branch=z9hG4bKc1|From: "Alice" <sip:alice@home.example>;tag=t1|To: <sip:bob@home.example>|Call-ID: call1
 |CSeq: 7 INVITE|Content-Length: 0|
 at 0 to 1|INVITE sip:bob@home.example SIP/2.0|Via: SIP/2.0/UDP 127.0.0.1:5060;branch=z9hG4bK0123456789abcdef-4|Max-Forwards: 67
@@ -989,7 +989,7 @@ fn asking(rt: HostRuntime) {
 }
 
 /// What comes late, and what is shown to whom.
-const LATE: &str = r#"~ A 200 of another dialog comes in a talking call.
+const LATE: &[u8] = br#"~ A 200 of another dialog comes in a talking call.
 at 0 peer 1|INVITE sip:bob@home.example SIP/2.0|Via: SIP/2.0/UDP 127.0.0.1:5071;branch=z9hG4bKc1|Max-Forwards: 68|From: "Alice" <sip:alice@home.example>;tag=t1
 |To: <sip:bob@home.example>|Call-ID: call1|CSeq: 7 INVITE|Contact: <sip:alice@127.0.0.1:5071>|P-Asserted-Identity: <sip:alice@home.example>|Content-Length: 0|
 at 200 peer 1|SIP/2.0 200 OK|Via: SIP/2.0/UDP 127.0.0.1:5060;branch=z9hG4bK0123456789abcdef-4|From: "Alice" <sip:alice@home.example>;tag=0123456789abcdef-3
@@ -1326,7 +1326,7 @@ at 0 to 1|SIP/2.0 404 Not Found|Via: SIP/2.0/UDP 127.0.0.1:5071;branch=z9hG4bKc1
 at 0 peer 1|INVITE sip:bob@home.example SIP/2.0|Via: SIP/2.0/UDP 127.0.0.1:5071;branch=z9hG4bKc1|Max-Forwards: 68|From: "Alice" <sip:alice@home.example>;tag=t1
 |To: <sip:bob@home.example>|Call-ID: call1|CSeq: 7 INVITE|Contact: <sip:alice@127.0.0.1:5071>|P-Asserted-Identity: <sip:alice@home.example>
 |Route: <sip:127.0.0.1:5060;lr>, <sip:edge@far.example;lr>, <sip:two@x>|Content-Length: 0|
-~ They stay, and the first says to which peer the INVITE goes (RFC 3261 §16.6).
+~ They stay, and the first says to which peer the INVITE goes (RFC 3261 section 16.6).
 at 0 to 1|SIP/2.0 100 Trying|Via: SIP/2.0/UDP 127.0.0.1:5071;branch=z9hG4bKc1|From: "Alice" <sip:alice@home.example>;tag=t1|To: <sip:bob@home.example>|Call-ID: call1
 |CSeq: 7 INVITE|Content-Length: 0|
 at 0 to 2|INVITE sip:bob@home.example SIP/2.0|Via: SIP/2.0/UDP 127.0.0.1:5060;branch=z9hG4bK0123456789abcdef-4|Route: <sip:edge@far.example;lr>|Route: <sip:two@x>
@@ -1340,7 +1340,7 @@ at 0 web|PUT /simservs/2 HTTP/1.1|X-3GPP-Asserted-Identity: "sip:bob@home.exampl
 x5b636f6d6d756e69636174696f6e2d646976657273696f6e5d0a5b5b636f6d6d756e69636174696f6e2d646976657273696f6e2e72756c655d5d0a746172676574203d202274656c3a2b34393737220a
 at 0 peer 1|INVITE sip:bob@home.example SIP/2.0|Via: SIP/2.0/UDP 127.0.0.1:5071;branch=z9hG4bKc1|Max-Forwards: 68|From: "Alice" <sip:alice@home.example>;tag=t1
 |To: <sip:bob@home.example>|Call-ID: call1|CSeq: 7 INVITE|Contact: <sip:alice@127.0.0.1:5071>|P-Asserted-Identity: <sip:alice@home.example>|Content-Length: 0|
-~ The number as a user of this domain (RFC 3261 §19.1.6).
+~ The number as a user of this domain (RFC 3261 section 19.1.6).
 at 0 web|HTTP/1.1 200 OK|Content-Length: 0|Connection: close|
 at 0 to 1|SIP/2.0 100 Trying|Via: SIP/2.0/UDP 127.0.0.1:5071;branch=z9hG4bKc1|From: "Alice" <sip:alice@home.example>;tag=t1|To: <sip:bob@home.example>|Call-ID: call1
 |CSeq: 7 INVITE|Content-Length: 0|

@@ -3,8 +3,8 @@
 
 use crate::cases::wrong_run;
 
-const UPLOADS: &str =
-    r#"~ Bob puts a record twice and reads it; alice and somebody who has no account put it in his name; he puts a text that is no record.
+const UPLOADS: &[u8] =
+    br#"~ Bob puts a record twice and reads it; alice and somebody who has no account put it in his name; he puts a text that is no record.
 at 0 web|PUT /simservs/2 HTTP/1.1|X-3GPP-Asserted-Identity: "sip:bob@home.example"|Content-Type: application/toml|Content-Length: 38|
 x5b636f6d6d756e69636174696f6e2d77616974696e675d0a616374697665203d20747275650a
 at 1 web|PUT /simservs/2 HTTP/1.1|X-3GPP-Asserted-Identity: "sip:bob@home.example"|Content-Type: application/toml|Content-Length: 38|

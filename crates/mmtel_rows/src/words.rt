@@ -1,13 +1,13 @@
 //! The words of the command line.
 
 use crate::cases::writes;
-use crate::pages::Page;
+use crate::pages::{Page, is_well};
 use mmtel_scan::part;
 use std::alloc::Global;
 
 /// What each list of words, parted here by `|`, makes a run write. The name of the configuration is that of a file whose first line is bad, so that a run ends with its
 /// number, and that is no service record; every other name is of no file, and no file is read for words that ask for nothing. `?` stands for a byte that no UTF-8 text has.
-const WORDS: &str = "line 1|replay|c|s|--token|0123456789abcdef
+const WORDS: &[u8] = b"line 1|replay|c|s|--token|0123456789abcdef
 line 1|replay|c|--token|0123456789abcdef|s
 line 1|replay|--token|0123456789abcdef|c|s
 line 1|replay|c|s|--token=0123456789abcdef
@@ -191,7 +191,9 @@ fn is_right(alloc: Global, row: &[u8]) -> bool {
     let mut line = Page::new(alloc);
     line.add(due);
     line.add(b"\n");
-    !case.has_failed() && writes(alloc, case.bytes(), line.bytes())
+    let right = writes(alloc, case.bytes(), line.bytes());
+    let well = is_well(case);
+    is_well(line) && well && right
 }
 
 /// The number of the first row that is not right, from 1; 0 where each is, of two hundred at most.
@@ -212,5 +214,5 @@ fn wrong_row(alloc: Global, table: &[u8]) -> usize {
 
 #[test]
 fn lists_of_words(rt: HostRuntime) {
-    assert!(rt; wrong_row(rt.alloc(), WORDS.as_bytes()) == 0);
+    assert!(rt; wrong_row(rt.alloc(), WORDS) == 0);
 }

@@ -5,8 +5,8 @@
 
 use crate::cases::wrong_run;
 
-const WORKLOADS: &str =
-    "~ Four calls: two to one who is busy, one that is diverted, and one that is given up.
+const WORKLOADS: &[u8] =
+    b"~ Four calls: two to one who is busy, one that is diverted, and one that is given up.
 =words:workload|--calls|4|--salt|1
 ~ 4, 4, 8 and 7 offers; 2, 2, 3 and 2 rows.
 calls 4

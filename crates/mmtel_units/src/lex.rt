@@ -1,5 +1,6 @@
 //! Parameters, URIs, their places and escaped bytes, name-addrs and identities.
 
+use crate::asserting::assert_right;
 use mmtel_lex::params::{params_front, text, token};
 use mmtel_lex::uris::{host, port};
 use mmtel_lex::{
@@ -255,8 +256,12 @@ malformed
 
 #[test]
 fn reads_and_prints_uris(rt: HostRuntime) {
-    assert_eq!(rt; wrong_line(rt.alloc(), &mut Uris, URIS), 0);
-    assert_eq!(rt; wrong_line(rt.alloc(), &mut Uris, OTHER_BYTES), 0);
+    assert_right(&rt, "URIS", wrong_line(rt.alloc(), &mut Uris, URIS));
+    assert_right(
+        &rt,
+        "OTHER_BYTES",
+        wrong_line(rt.alloc(), &mut Uris, OTHER_BYTES),
+    );
 }
 
 /// Adds the parts of a name-addr, those that are absent left out.
@@ -351,7 +356,11 @@ malformed
 
 #[test]
 fn reads_and_prints_name_addrs(rt: HostRuntime) {
-    assert_eq!(rt; wrong_line(rt.alloc(), &mut NameAddrs, NAME_ADDRS), 0);
+    assert_right(
+        &rt,
+        "NAME_ADDRS",
+        wrong_line(rt.alloc(), &mut NameAddrs, NAME_ADDRS),
+    );
 }
 
 /// Adds the text that is written of parameters.
@@ -402,7 +411,11 @@ malformed
 
 #[test]
 fn reads_params(rt: HostRuntime) {
-    assert_eq!(rt; wrong_line(rt.alloc(), &mut ParamsRows, PARAMS), 0);
+    assert_right(
+        &rt,
+        "PARAMS",
+        wrong_line(rt.alloc(), &mut ParamsRows, PARAMS),
+    );
 }
 
 /// `y` where two URIs, which a blank parts, are of one identity, else `n`, asked both ways; and the domain of the first, or `-`.
@@ -488,7 +501,7 @@ nn h
 
 #[test]
 fn compares_identities(rt: HostRuntime) {
-    assert_eq!(rt; wrong_line(rt.alloc(), &mut Pairs, PAIRS), 0);
+    assert_right(&rt, "PAIRS", wrong_line(rt.alloc(), &mut Pairs, PAIRS));
 }
 
 /// What each reader of a front reads of a text, and what it leaves, with the numbers of a port; then the text itself, and as a token of a greatest number.
@@ -591,7 +604,7 @@ h.example:50;x y-18446744073709551615
 
 #[test]
 fn reads_fronts(rt: HostRuntime) {
-    assert_eq!(rt; wrong_line(rt.alloc(), &mut Fronts, FRONTS), 0);
+    assert_right(&rt, "FRONTS", wrong_line(rt.alloc(), &mut Fronts, FRONTS));
 }
 
 /// Adds a part that was found, or `-`.
@@ -648,7 +661,7 @@ const PLACES: &[u8] = br#"> SUBJECT sips:alice@atlanta.com?subject=project%20x&p
 
 #[test]
 fn finds_places(rt: HostRuntime) {
-    assert_eq!(rt; wrong_line(rt.alloc(), &mut Places, PLACES), 0);
+    assert_right(&rt, "PLACES", wrong_line(rt.alloc(), &mut Places, PLACES));
 }
 
 /// What a text of a URI stands for.
@@ -686,7 +699,11 @@ const ESCAPES: &[u8] = br#"> plain
 
 #[test]
 fn decodes_escapes(rt: HostRuntime) {
-    assert_eq!(rt; wrong_line(rt.alloc(), &mut Escapes, ESCAPES), 0);
+    assert_right(
+        &rt,
+        "ESCAPES",
+        wrong_line(rt.alloc(), &mut Escapes, ESCAPES),
+    );
 }
 
 /// A text at its first `;`, and the first of its parts that is named `x`.
@@ -719,5 +736,5 @@ const PARTS: &[u8] = br#"> x=1;X=2
 
 #[test]
 fn parts_texts(rt: HostRuntime) {
-    assert_eq!(rt; wrong_line(rt.alloc(), &mut Parts, PARTS), 0);
+    assert_right(&rt, "PARTS", wrong_line(rt.alloc(), &mut Parts, PARTS));
 }

@@ -1,72 +1,186 @@
 //! Texts, lists and numbers.
 
-use mmtel_scan::{List, NoMemory, Text, add_number, leads_zero, plain_number, texts_copied};
-use mmtel_told::{Rows, Told, wrong_line};
+use crate::asserting::assert_right;
+use mmtel_scan::{
+    List, NoMemory, Text, add_number, leads_zero, number_up_to, plain_number, texts_copied,
+};
+use mmtel_told::{Rows, Told, cut, wrong_line};
 use std::alloc::Global;
 
-/// Adds 1, 2 and 4, and says whether memory was enough.
-fn add_three(alloc: Global, list: &mut List<u8>) -> bool {
+/// A list of small numbers, and what is done to it.
+#[derive(Drop)]
+struct Lists {
+    list: List<u8>,
+}
+
+/// A number of one digit; 0 where there is none.
+fn digit(digits: &[u8]) -> u8 {
+    u8::try_from(number_up_to(9, digits).unwrap_or(0)).unwrap_or(0)
+}
+
+/// Adds 1, 2 and 4.
+fn add_three(told: &mut Told, list: &mut List<u8>) {
     for item in [1, 2, 4] {
-        if list.push(alloc, item).is_err() {
-            return false;
+        let done = list.push(told.alloc, item);
+        told.keep(done.is_ok());
+    }
+}
+
+/// A list of 1, 2 and 4.
+fn three(told: &mut Told) -> List<u8> {
+    let mut list = List::new();
+    add_three(told, &mut list);
+    list
+}
+
+/// Tells an item, or `-` for none.
+fn tell_item(told: &mut Told, item: Option<u8>) {
+    match item {
+        None => told.add(b" -"),
+        Some(item) => told.add_spaced_number(u64::from(item)),
+    }
+}
+
+impl Lists {
+    fn insert(&mut self, told: &mut Told, at: usize, item: u8) {
+        if at <= self.list.items().len() {
+            let done = self.list.insert(told.alloc, at, item);
+            told.keep(done.is_ok());
+        } else {
+            told.fail();
         }
     }
-    true
+
+    fn replace(&mut self, told: &mut Told, at: usize, item: u8) {
+        if at < self.list.items().len() {
+            tell_item(told, Some(self.list.replace(at, item)));
+        } else {
+            told.fail();
+        }
+    }
+
+    fn remove(&mut self, told: &mut Told, at: usize) {
+        if at < self.list.items().len() {
+            tell_item(told, Some(self.list.remove(at)));
+        } else {
+            told.fail();
+        }
+    }
+
+    fn join(&mut self, told: &mut Told, other: List<u8>) {
+        let done = self.list.extend(told.alloc, other);
+        told.keep(done.is_ok());
+    }
+
+    fn join_three(&mut self, told: &mut Told) {
+        let other = three(told);
+        self.join(told, other);
+    }
+
+    /// What is joined, taken or told.
+    fn take(&mut self, told: &mut Told, word: &[u8]) {
+        match word {
+            b"three" => add_three(told, &mut self.list),
+            b"join" => self.join_three(told),
+            b"join-none" => self.join(told, List::new()),
+            b"first" => tell_item(told, self.list.pop_first()),
+            b"last" => tell_item(told, self.list.pop()),
+            _ => {
+                for item in self.list.items() {
+                    tell_item(told, Some(*item));
+                }
+            }
+        }
+    }
 }
 
-#[test]
-fn keeps_lists(rt: HostRuntime) {
-    let mut list = List::new();
-    assert!(rt; add_three(rt.alloc(), &mut list));
-    assert!(rt; list.items().len() == 3);
-    assert!(rt; list.insert(rt.alloc(), 2, 3).is_ok());
-    let first = list.replace(0, 9);
-    let second = list.remove(1);
-    let last = list.pop();
-    assert_eq!(rt; (first, second, last), (1, 2, Some(4)));
-    assert_eq!(rt; list.items(), [9, 3].as_slice());
+impl Rows for Lists {
+    fn tell(&mut self, told: &mut Told, asked: &[u8]) {
+        let (word, rest) = cut(b' ', asked);
+        let (at, item) = cut(b' ', rest);
+        let at = usize::from(digit(at));
+        match word {
+            b"insert" => self.insert(told, at, digit(item)),
+            b"replace" => self.replace(told, at, digit(item)),
+            b"remove" => self.remove(told, at),
+            _ => self.take(told, word),
+        }
+        told.add(b"\n");
+    }
 }
 
-/// Two lists of three joined, the first items taken off, and then the others.
-#[test]
-fn joins_lists_and_takes_the_first(rt: HostRuntime) {
-    let mut list = List::new();
-    let mut other = List::new();
-    assert!(rt; add_three(rt.alloc(), &mut list));
-    assert!(rt; add_three(rt.alloc(), &mut other));
-    assert!(rt; list.extend(rt.alloc(), other).is_ok());
-    let first = (list.pop_first(), list.pop_first());
-    assert_eq!(rt; first, (Some(1), Some(2)));
-    assert_eq!(rt; list.items(), [4, 1, 2, 4].as_slice());
-    assert!(rt; list.extend(rt.alloc(), List::new()).is_ok());
-    let rest = (list.pop_first(), list.pop_first(), list.pop_first());
-    assert_eq!(rt; rest, (Some(4), Some(1), Some(2)));
-    let last = (list.pop_first(), list.pop_first());
-    assert_eq!(rt; last, (Some(4), None));
+/// A list of three items that is edited and emptied; then two lists of three that are joined, the first items taken off, and then the others.
+const LISTS: &[u8] = b"> three
+
+> all
+ 1 2 4
+> insert 2 3
+
+> replace 0 9
+ 1
+> remove 1
+ 2
+> last
+ 4
+> all
+ 9 3
+> last
+ 3
+> last
+ 9
+> three
+
+> join
+
+> first
+ 1
+> first
+ 2
+> all
+ 4 1 2 4
+> join-none
+
+> first
+ 4
+> first
+ 1
+> first
+ 2
+> first
+ 4
+> first
+ -
+";
+
+fn wrong_lists(alloc: Global) -> usize {
+    let mut lists = Lists { list: List::new() };
+    wrong_line(alloc, &mut lists, LISTS)
 }
 
 fn push_text(told: &mut Told, list: &mut List<Text>, bytes: &[u8]) {
-    match Text::of(told.alloc, bytes) {
-        Ok(text) => if list.push(told.alloc, text).is_err() {
-            told.fail();
-        },
-        Err(NoMemory) => told.fail(),
+    let text = told.copy(bytes);
+    let done = list.push(told.alloc, text);
+    told.keep(done.is_ok());
+}
+
+/// Tells a copy of each text.
+fn tell_copies(told: &mut Told, list: &List<Text>) {
+    for text in list.items() {
+        let copy = text.copied(told.alloc);
+        told.add_made(copy);
     }
 }
 
-#[test]
-fn copies_texts(rt: HostRuntime) {
-    let mut told = Told::new(rt.alloc());
+fn wrong_copies(alloc: Global) -> usize {
+    let mut told = Told::new(alloc);
     let mut list = List::new();
     push_text(&mut told, &mut list, b"a");
     push_text(&mut told, &mut list, b"bc");
-    match texts_copied(rt.alloc(), list.items()) {
-        Ok(copy) => for text in copy.items() {
-            told.add_made(text.copied(rt.alloc()));
-        },
-        Err(NoMemory) => told.fail(),
+    let copy = texts_copied(alloc, list.items());
+    if let Some(copy) = told.noted(copy) {
+        tell_copies(&mut told, &copy);
     }
-    assert_eq!(rt; told.wrong_line(b"a\nbc\n"), 0);
+    told.wrong_line(b"a\nbc\n")
 }
 
 /// The number of a text, of at most 255, whether a zero leads, and the number printed again.
@@ -83,11 +197,7 @@ fn add_again(told: &mut Told, number: u64) {
 
 impl Rows for Numbers {
     fn tell(&mut self, told: &mut Told, asked: &[u8]) {
-        told.add(if leads_zero(asked) {
-            b"zero".as_slice()
-        } else {
-            b"plain".as_slice()
-        });
+        told.add_if(leads_zero(asked), b"zero", b"plain");
         match plain_number(255, asked) {
             None => told.add(b" none"),
             Some(number) => add_again(told, number),
@@ -115,6 +225,12 @@ plain none
 ";
 
 #[test]
-fn reads_plain_numbers(rt: HostRuntime) {
-    assert_eq!(rt; wrong_line(rt.alloc(), &mut Numbers, NUMBERS), 0);
+fn lists_texts_and_numbers(rt: HostRuntime) {
+    assert_right(&rt, "lists", wrong_lists(rt.alloc()));
+    assert_right(&rt, "copies", wrong_copies(rt.alloc()));
+    assert_right(
+        &rt,
+        "NUMBERS",
+        wrong_line(rt.alloc(), &mut Numbers, NUMBERS),
+    );
 }

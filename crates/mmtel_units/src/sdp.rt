@@ -2,6 +2,7 @@
 //!
 //! A `|` in a row ends a line of a description.
 
+use crate::asserting::assert_right;
 use mmtel_scan::{List, NoMemory, Text, part};
 use mmtel_sdp::{
     AnswerFault, Direction, Medium, Mixer, SdpFault, SdpView, direction_told, kinds_of, look,
@@ -123,13 +124,15 @@ no session description
 
 #[test]
 fn looks_into_bodies(rt: HostRuntime) {
-    assert_eq!(rt;
+    assert_right(
+        &rt,
+        "BODIES with LF",
         wrong_line(rt.alloc(), &mut Views { end: b"\n" }, BODIES),
-        0
     );
-    assert_eq!(rt;
+    assert_right(
+        &rt,
+        "BODIES with CRLF",
         wrong_line(rt.alloc(), &mut Views { end: b"\r\n" }, BODIES),
-        0
     );
 }
 
@@ -213,7 +216,11 @@ v=0|o=mixer 1 1 IN IP4 192.0.2.10|s=-|c=IN IP4 192.0.2.10|t=0 0|m=audio 40000 RT
 
 #[test]
 fn answers_and_offers(rt: HostRuntime) {
-    assert_eq!(rt; wrong_line(rt.alloc(), &mut Answers, ANSWERS), 0);
+    assert_right(
+        &rt,
+        "ANSWERS",
+        wrong_line(rt.alloc(), &mut Answers, ANSWERS),
+    );
 }
 
 fn audio_name(offers: bool) -> &'static [u8] {
@@ -323,6 +330,10 @@ no audio; no direction
 
 #[test]
 fn bodies_offer(rt: HostRuntime) {
-    assert_eq!(rt; wrong_line(rt.alloc(), &mut Offers, OFFERS), 0);
-    assert_eq!(rt; wrong_line(rt.alloc(), &mut OffersSeen, OFFERS), 0);
+    assert_right(&rt, "OFFERS", wrong_line(rt.alloc(), &mut Offers, OFFERS));
+    assert_right(
+        &rt,
+        "OFFERS by views",
+        wrong_line(rt.alloc(), &mut OffersSeen, OFFERS),
+    );
 }

@@ -1,5 +1,6 @@
 //! Targets of a call: those that a Request-URI names, those of diversions, the home domain, and which are nobody's.
 
+use crate::asserting::assert_right;
 use mmtel_lex::{Uri, UriFault, print_uri, read_uri};
 use mmtel_targets::{Target, diverted_target, first_target, is_at_home, is_global_number};
 use mmtel_told::{Rows, Told, wrong_line};
@@ -92,5 +93,9 @@ none
 
 #[test]
 fn targets_of_calls(rt: HostRuntime) {
-    assert_eq!(rt; wrong_line(rt.alloc(), &mut Targets, TARGETS), 0);
+    assert_right(
+        &rt,
+        "TARGETS",
+        wrong_line(rt.alloc(), &mut Targets, TARGETS),
+    );
 }

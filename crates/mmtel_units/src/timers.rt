@@ -1,5 +1,6 @@
 //! Deadlines, and the moments at which messages are sent again.
 
+use crate::asserting::assert_right;
 use mmtel_scan::{number_up_to, part};
 use mmtel_timers::{Deadlines, Key, Schedule};
 use mmtel_told::{Rows, Told, wrong_line};
@@ -153,5 +154,5 @@ fn deadlines_and_schedules(rt: HostRuntime) {
     let mut steps = Steps {
         deadlines: Deadlines::new(),
     };
-    assert_eq!(rt; wrong_line(rt.alloc(), &mut steps, STEPS), 0);
+    assert_right(&rt, "STEPS", wrong_line(rt.alloc(), &mut steps, STEPS));
 }

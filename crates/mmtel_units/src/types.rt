@@ -1,7 +1,9 @@
 //! Addresses, causes, privacy words and limits.
 
+use crate::asserting::assert_right;
 use mmtel_told::Told;
 use mmtel_types::{Addr, Cause, PrivacySet, limits};
+use std::alloc::Global;
 
 /// The cause of this number, in the order in which they are declared; those with a status or a flag stand twice.
 fn cause(number: u8) -> Cause {
@@ -56,54 +58,59 @@ full 503
 ended 0
 ";
 
-#[test]
-fn causes(rt: HostRuntime) {
-    let mut told = Told::new(rt.alloc());
+fn wrong_cause(alloc: Global) -> usize {
+    let mut told = Told::new(alloc);
     for number in 0..22 {
         let cause = cause(number);
         told.add(cause.word().as_bytes());
         told.add_spaced_number(u64::from(cause.status()));
         told.add(b"\n");
     }
-    assert_eq!(rt; told.wrong_line(CAUSES), 0);
+    told.wrong_line(CAUSES)
 }
 
-/// No Privacy header field asks for nothing.
-#[test]
-fn privacy(rt: HostRuntime) {
-    let none_asked = PrivacySet {
-        header: false,
-        session: false,
-        user: false,
-        none: false,
-        critical: false,
-        id: false,
-        history: false,
-    };
-    assert_eq!(rt; PrivacySet::default(), none_asked);
+/// What no Privacy header field asks for: nothing.
+const NOTHING: PrivacySet = PrivacySet {
+    header: false,
+    session: false,
+    user: false,
+    none: false,
+    critical: false,
+    id: false,
+    history: false,
+};
+
+/// An address of a documentation network.
+fn addr(last: u8, port: u16) -> Addr {
+    Addr {
+        ip: [192, 0, 2, last],
+        port,
+    }
 }
 
-/// The same address has the same four numbers and the same port.
-#[test]
-fn addresses(rt: HostRuntime) {
-    let one = Addr {
-        ip: [192, 0, 2, 1],
-        port: 5060,
-    };
-    let elsewhere = Addr {
-        ip: [192, 0, 2, 2],
-        port: 5060,
-    };
-    let other_port = Addr {
-        ip: [192, 0, 2, 1],
-        port: 5061,
-    };
-    let same = (
-        one.is_same(one),
-        one.is_same(elsewhere),
-        one.is_same(other_port),
+/// Tells whether two addresses are the same.
+fn tell_same(told: &mut Told, one: Addr, other: Addr) {
+    told.add_if(one.is_same(other), b"same\n", b"another\n");
+}
+
+/// What no Privacy header field asks for; and addresses: the same has the same four numbers and the same port.
+fn wrong_value(alloc: Global) -> usize {
+    let mut told = Told::new(alloc);
+    told.add_if(
+        PrivacySet::default() == NOTHING,
+        b"nothing\n",
+        b"something\n",
     );
-    assert_eq!(rt; same, (true, false, false));
+    tell_same(&mut told, addr(1, 5060), addr(1, 5060));
+    tell_same(&mut told, addr(1, 5060), addr(2, 5060));
+    tell_same(&mut told, addr(1, 5060), addr(1, 5061));
+    told.wrong_line(b"nothing\nsame\nanother\nanother\n")
+}
+
+#[test]
+fn causes_privacy_and_addresses(rt: HostRuntime) {
+    assert_right(&rt, "CAUSES", wrong_cause(rt.alloc()));
+    assert_right(&rt, "privacy and addresses", wrong_value(rt.alloc()));
 }
 
 // The limits that the documents promise. The last moment stands in a contract.

@@ -1,5 +1,6 @@
 //! The words of the command line.
 
+use crate::asserting::assert_right;
 use mmtel_scan::{List, Text, part};
 use mmtel_told::{Rows, Told, wrong_line};
 use mmtel_words::{Wanted, command};
@@ -178,5 +179,5 @@ none
 
 #[test]
 fn reads_the_words(rt: HostRuntime) {
-    assert_eq!(rt; wrong_line(rt.alloc(), &mut Lines, LINES), 0);
+    assert_right(&rt, "LINES", wrong_line(rt.alloc(), &mut Lines, LINES));
 }

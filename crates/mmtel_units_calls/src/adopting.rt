@@ -6,7 +6,7 @@ use crate::seating::wrong_seat;
 /// INVITE crosses, no ringing ends them, a 2xx of another tag than the dialog's has its ACK again by its own tag. A refusal and silence end them by BYE, behind the ACK and
 /// before the NOTIFY. One that leaves by itself while it is asked has CANCEL at the next provisional response, and ACK and BYE at a late 2xx; one that had its BYE has the
 /// ACK alone. A REFER that names a dialog has its 202 and nothing more. The leg that finds no room comes back.
-const ADOPTING: &str = r#"> 0 create 1 1 alice@home.example
+const ADOPTING: &[u8] = br#"> 0 create 1 1 alice@home.example
 room 1
 reply 0: 200 OK, 7 INVITE
 due 1 seat 1 no-ack 1 at 32000

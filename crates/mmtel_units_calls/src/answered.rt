@@ -6,7 +6,7 @@
 
 use crate::stepping::wrong_step;
 
-const ANSWERED: &str = r#"# what comes before the ACK, and an ACK of another number or side
+const ANSWERED: &[u8] = br#"# what comes before the ACK, and an ACK of another number or side
 > 0 invite 1 alice@home.example sip:bob@home.example
 reply 0: 100 Trying, 7 INVITE
 ask 1 to 1: INVITE sip:bob@home.example, 1 INVITE

@@ -7,7 +7,7 @@
 
 use crate::stepping::wrong_step;
 
-const ASKING: &str = r#"# the caller holds the call, and takes it up again
+const ASKING: &[u8] = br#"# the caller holds the call, and takes it up again
 > 0 invite 1 alice@home.example sip:bob@home.example
 reply 0: 100 Trying, 7 INVITE
 ask 1 to 1: INVITE sip:bob@home.example, 1 INVITE

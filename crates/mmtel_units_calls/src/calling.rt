@@ -11,20 +11,19 @@ use crate::lending::lend;
 use crate::messages::{Coming, invite, named, request_in, response};
 use crate::records::put_record;
 use crate::telling::{Style, Wire, branch_and_method, tell_emits, tell_head, tell_rows};
-use crate::told::Told;
-use crate::worlds::{SIP, World, first_moment, moment, number, peer_of, quiet_world, word};
+use crate::worlds::{
+    SIP, World, first_moment, is, moment, number, peer_of, quiet_world, readings, word,
+};
 use mmtel_answers::Hearing;
 use mmtel_b2bua::{CallFault, Calls, Signal};
-use mmtel_parties::Parties;
-use mmtel_rules::Identities2;
 use mmtel_scan::{part, skip_text};
+use mmtel_told::Told;
 use mmtel_transaction::{DueWord, Emits, TKey};
-use mmtel_trust::asserted;
 use mmtel_types::{Account, CallNo, Moment, Peer, Side};
 use std::alloc::Global;
 
 /// Tells that no more calls are opened, and the transaction of the INVITE that was handed back.
-fn tell_fault(told: &mut Told, fault: CallFault) {
+fn tell_fault(told: &mut Told, fault: &CallFault) {
     match fault {
         CallFault::Full(Signal::Arrived { key, .. }) => {
             tell_head(told, b"full ", key.0);
@@ -37,7 +36,10 @@ fn tell_fault(told: &mut Told, fault: CallFault) {
 fn tell_outcome(told: &mut Told, wire: &mut Wire, outcome: Result<Emits, CallFault>) {
     match outcome {
         Ok(emits) => tell_emits(told, wire, emits),
-        Err(fault) => tell_fault(told, fault),
+        Err(fault) => {
+            tell_fault(told, &fault);
+            drop(fault);
+        }
     }
 }
 
@@ -94,20 +96,19 @@ pub fn tell_parties(told: &mut Told, calls: &Calls, call: u64) {
 /// An INVITE, with what is read of its parties.
 fn arrival(told: &mut Told, world: &World, coming: Coming<'_>) -> Option<Signal> {
     let invite = invite(told, coming, b"");
-    let parties = Parties::of(told.alloc, &world.accounts, &invite.message, invite.trusted);
-    let parties = told.noted(parties)?;
-    let identities = asserted(told.alloc, &invite.message, invite.trusted);
-    let identities = told.noted(identities)?;
-    Some(Signal::Arrived {
-        key: TKey(coming.key),
-        invite,
-        served: parties.served_accounts(),
-        registration: parties.registration,
-        identities: Identities2 {
-            sip: identities.sip,
-            tel: identities.tel,
-        },
-    })
+    match readings(told, world, &invite) {
+        Some((parties, identities)) => Some(Signal::Arrived {
+            key: TKey(coming.key),
+            invite,
+            served: parties.served_accounts(),
+            registration: parties.registration,
+            identities,
+        }),
+        None => {
+            drop(invite);
+            None
+        }
+    }
 }
 
 fn arrives(told: &mut Told, world: &World, wire: &mut Wire, words: &[u8]) -> Option<Signal> {
@@ -141,7 +142,7 @@ fn answer(told: &mut Told, wire: &Wire, words: &[u8]) -> Option<Signal> {
 /// A request of a side, of this method, or its ACK.
 fn asked(place: (CallNo, Side), key: u64, method: &[u8], request: Hearing) -> Signal {
     let (call, side) = place;
-    if method == b"ACK".as_slice() {
+    if is(method, b"ACK") {
         Signal::Ack {
             call,
             side,
@@ -203,7 +204,7 @@ fn due(told: &mut Told, words: &[u8]) -> Signal {
     let (call, rest) = word(words);
     let (kind, digits) = word(rest);
     let number_of = number(told, digits);
-    let what = if kind == b"cap".as_slice() {
+    let what = if is(kind, b"cap") {
         DueWord::Cap(number_of)
     } else {
         DueWord::NoAck(number_of)
@@ -222,25 +223,25 @@ fn signal(
     words: &[u8],
 ) -> Option<Signal> {
     let (kind, rest) = word(words);
-    if kind == b"invite".as_slice() {
+    if is(kind, b"invite") {
         return arrives(told, world, wire, rest);
     }
-    if kind == b"answer".as_slice() {
+    if is(kind, b"answer") {
         return answer(told, wire, rest);
     }
-    if kind == b"say".as_slice() {
+    if is(kind, b"say") {
         return say(told, wire, calls, rest);
     }
-    if kind == b"cancel".as_slice() {
+    if is(kind, b"cancel") {
         return cancel(told, wire, calls, rest);
     }
-    if kind == b"silent".as_slice() {
+    if is(kind, b"silent") {
         return silent(told, wire, rest);
     }
-    if kind == b"due".as_slice() {
+    if is(kind, b"due") {
         return Some(due(told, rest));
     }
-    if kind == b"over".as_slice() {
+    if is(kind, b"over") {
         return Some(Signal::Over {
             key: TKey(number(told, rest)),
         });
@@ -280,38 +281,51 @@ fn play_line(told: &mut Told, world: &World, wire: &mut Wire, calls: &mut Calls,
     }
 }
 
+/// The INVITE of nobody who has an account, to nobody who has one, by these digits.
+fn stranger(told: &mut Told, world: &World, key: u64, digits: &[u8]) -> Option<Signal> {
+    let coming = Coming {
+        peer: 2,
+        key,
+        name: b"",
+        tag: digits,
+        call: digits,
+        who: b"x@far.example",
+        whom: b"sip:y@far.example",
+        asserts: true,
+    };
+    arrival(told, world, coming)
+}
+
+/// Opens one such call; nothing of it is told.
+fn fill_one(told: &mut Told, world: &World, wire: &mut Wire, calls: &mut Calls) {
+    let key = wire.open();
+    let mut digits = Told::new(told.alloc);
+    digits.add_number(key);
+    let signal = stranger(told, world, key, digits.bytes());
+    drop(digits);
+    if let Some(signal) = signal {
+        let outcome = heard(told, world, wire, calls, first_moment(), signal);
+        drop(told.noted(outcome));
+    }
+}
+
 /// Opens so many calls of nobody who has an account, to nobody who has one; nothing of them is told.
 fn fill(told: &mut Told, world: &World, wire: &mut Wire, calls: &mut Calls, words: &[u8]) {
     for _ in 0..number(told, words) {
-        let mut digits = Told::new(told.alloc);
-        digits.add_number(wire.opened);
-        let coming = Coming {
-            peer: 2,
-            key: wire.open(),
-            name: b"",
-            tag: digits.bytes(),
-            call: digits.bytes(),
-            who: b"x@far.example",
-            whom: b"sip:y@far.example",
-            asserts: true,
-        };
-        if let Some(signal) = arrival(told, world, coming) {
-            let outcome = heard(told, world, wire, calls, first_moment(), signal);
-            told.noted(outcome);
-        }
+        fill_one(told, world, wire, calls);
     }
 }
 
 /// What is asked of the calls.
 fn ask(told: &mut Told, calls: &Calls, words: &[u8]) {
     let (kind, rest) = word(words);
-    if kind == b"find".as_slice() {
+    if is(kind, b"find") {
         let (name, _) = named(rest);
         tell_place(told, calls.find(name.call_id, name.local, name.remote));
-    } else if kind == b"asked".as_slice() {
+    } else if is(kind, b"asked") {
         let key = TKey(number(told, rest));
         tell_place(told, calls.asked_by(key));
-    } else if kind == b"party".as_slice() {
+    } else if is(kind, b"party") {
         let call = number(told, rest);
         tell_parties(told, calls, call);
     } else {
@@ -341,18 +355,24 @@ fn play_row(told: &mut Told, world: &World, wire: &mut Wire, calls: &mut Calls, 
     }
 }
 
-fn play_rows(told: &mut Told, world: &World, calls: &mut Calls, table: &[u8]) {
-    let mut wire = Wire::new(told, Style::Calls, b"t");
+fn play_rows(told: &mut Told, world: &World, wire: &mut Wire, calls: &mut Calls, table: &[u8]) {
     let mut rest = table;
     for _ in 0..2_000 {
         match part(b'\n', rest) {
             None => break,
             Some((row, later)) => {
-                play_row(told, world, &mut wire, calls, row);
+                play_row(told, world, wire, calls, row);
                 rest = later;
             }
         }
     }
+}
+
+/// Plays a table over calls.
+fn play_over(told: &mut Told, world: &World, calls: &mut Calls, table: &[u8]) {
+    let mut wire = Wire::new(told, Style::Calls, b"t");
+    play_rows(told, world, &mut wire, calls, table);
+    drop(wire);
 }
 
 /// Plays a table, and tells it again, with what goes out; Bob has waiting with two calls.
@@ -362,14 +382,17 @@ fn play(told: &mut Told, table: &[u8]) {
     let home = told.copy(b"home.example");
     let calls = Calls::new(told.alloc, home, SIP, 5);
     if let Some(mut calls) = told.noted(calls) {
-        play_rows(told, &world, &mut calls, table);
+        play_over(told, &world, &mut calls, table);
         calls.give_up();
     }
+    drop(world);
 }
 
 /// The number of the first line of a table, from 1, in which it is another one when it is told again; 0 where there is none.
-pub fn wrong_call(alloc: Global, table: &str) -> usize {
+pub fn wrong_call(alloc: Global, table: &[u8]) -> usize {
     let mut told = Told::new(alloc);
-    play(&mut told, table.as_bytes());
-    told.wrong_line(table.as_bytes())
+    play(&mut told, table);
+    let wrong = told.wrong_line(table);
+    drop(told);
+    wrong
 }

@@ -4,7 +4,7 @@ use crate::seating::wrong_seat;
 
 /// Leaving gives a row where the seat has an account; nobody leaves an empty seat or an invitation, and no seat of a room that is not live. A room goes on without its
 /// creator then, and without any seat. Closing gives what is left of all its seats, in their order; nothing goes out, and nothing waits.
-const CLOSING: &str = r#"> 0 create 1 1 alice@home.example
+const CLOSING: &[u8] = br#"> 0 create 1 1 alice@home.example
 room 1
 reply 0: 200 OK, 7 INVITE
 due 1 seat 1 no-ack 1 at 32000

@@ -11,14 +11,14 @@ ghost use Rattle.mmtel_focus.specs.Histories.{is_offer};
 
 use crate::messages::{Coming, Saying, add_place, invite, offer, request};
 use crate::telling::{Wire, tell_emits, tell_rows};
-use crate::told::Told;
-use crate::worlds::{World, number, peer_of, uri, word};
+use crate::worlds::{World, is, number, peer_of, uri, word};
 use mmtel_answers::Hearing;
 use mmtel_charging::{Meter, Row};
 use mmtel_focus::{Joining, RoomFault, Rooms};
 use mmtel_leg::{Asked, CalleeLeg, CallerLeg, Dialogue, Ended, Released, Remote, Standing};
 use mmtel_scan::{List, Text};
 use mmtel_sdp::offers_audio;
+use mmtel_told::Told;
 use mmtel_transaction::TKey;
 use mmtel_types::{Account, Cause, Moment, Peer, RoomNo};
 
@@ -27,14 +27,18 @@ fn account(told: &mut Told, world: &World, who: &[u8]) -> Option<Account> {
     let mut text = Told::new(told.alloc);
     text.add(b"sip:");
     text.add(who);
-    let uri = uri(told, text.bytes())?;
-    world.accounts.find(&uri)
+    let uri = uri(told, text.bytes());
+    drop(text);
+    let uri = uri?;
+    let found = world.accounts.find(&uri);
+    drop(uri);
+    found
 }
 
 /// The token that is drawn next.
 fn draw(told: &mut Told, wire: &mut Wire) -> Text {
     let drawn = wire.desk.tokens.draw(told.alloc);
-    told.noted(drawn).unwrap_or(Text::new())
+    told.made(drawn)
 }
 
 /// A meter is closed, and its row told, or that there is none.
@@ -51,6 +55,7 @@ fn tell_row(told: &mut Told, row: Row) {
     told.noted(kept);
     told.add(b"-> ");
     tell_rows(told, rows.items());
+    drop(rows);
 }
 
 /// A leg that comes to a room has no meter.
@@ -109,16 +114,8 @@ fn caller_leg(
     }
 }
 
-/// The leg of a callee to whom the server sent this INVITE and who has this tag.
-fn callee_leg(
-    told: &mut Told,
-    peer: u16,
-    invite: &Hearing,
-    number: &[u8],
-    now: Moment,
-) -> Option<CalleeLeg<Standing>>
-    ensures meter { IfSome result (λ leg. leg.meter ≡ None) }
-{
+/// A callee who has this tag.
+fn remote(told: &mut Told, peer: u16, number: &[u8]) -> Remote {
     let mut tag = Told::new(told.alloc);
     tag.add(b"b");
     tag.add(number);
@@ -129,9 +126,26 @@ fn callee_leg(
         target: told.copy(place.bytes()),
         routes: List::new(),
     };
+    drop(tag);
+    drop(place);
+    remote
+}
+
+/// The leg of a callee to whom the server sent this INVITE and who has this tag.
+fn callee_leg(
+    told: &mut Told,
+    peer: u16,
+    invite: &Hearing,
+    number: &[u8],
+    now: Moment,
+) -> Option<CalleeLeg<Standing>>
+    ensures meter { IfSome result (λ leg. leg.meter ≡ None) }
+{
+    let remote = remote(told, peer, number);
     match CalleeLeg::<Asked>::start(told.alloc, Peer(peer), &invite.message, None) {
         Ok(leg) => Some(leg.stand(remote)),
         Err((meter, _)) => {
+            drop(remote);
             told.fail();
             check_meter(told, meter, now);
             None
@@ -229,22 +243,22 @@ fn come(
     room: Option<RoomNo>,
     key: u64,
     account: Option<Account>,
-    invite: Hearing,
+    invite: &Hearing,
     now: Moment,
 ) {
-    let tag = draw(told, wire);
-    if !has_offer(told, &invite) {
+    if !has_offer(told, invite) {
         return told.fail();
     }
-    let Some(leg) = caller_leg(told, &invite, tag, now) else {
+    let tag = draw(told, wire);
+    let Some(leg) = caller_leg(told, invite, tag, now) else {
         return;
     };
     match room {
-        None => open(told, world, wire, rooms, key, account, leg, &invite, now),
+        None => open(told, world, wire, rooms, key, account, leg, invite, now),
         Some(room) => {
             let how = Joining::Invited {
                 key: TKey(key),
-                invite: &invite,
+                invite,
             };
             enter(
                 told,
@@ -287,7 +301,8 @@ fn invited(
     };
     let invite = invite(told, coming, offer(b"audio"));
     let account = account(told, world, who);
-    come(told, world, wire, rooms, room, key, account, invite, now);
+    come(told, world, wire, rooms, room, key, account, &invite, now);
+    drop(invite);
 }
 
 /// An INVITE to the factory.
@@ -327,6 +342,15 @@ fn join(
     uri.add(b"@127.0.0.1:5060");
     let room = RoomNo(number(told, room));
     invited(told, world, wire, rooms, Some(room), uri.bytes(), now, rest);
+    drop(uri);
+}
+
+/// The leg of a caller out of a call, who came by this INVITE.
+fn leg_by_invite(told: &mut Told, invite: &Hearing, tag: Text, now: Moment) -> Option<Released>
+    ensures meter { IfSome result (λ leg. (released_leg leg).meter ≡ None) }
+{
+    let leg = caller_leg(told, invite, tag, now)?;
+    Some(Released::Caller(leg))
 }
 
 /// The leg of a caller out of a call, who came by an INVITE of this number.
@@ -351,21 +375,13 @@ fn leg_of_caller(
         asserts: false,
     };
     let invite = invite(told, coming, b"");
-    let leg = caller_leg(told, &invite, tag, now)?;
-    Some(Released::Caller(leg))
+    let leg = leg_by_invite(told, &invite, tag, now);
+    drop(invite);
+    leg
 }
 
-/// The leg of a callee out of a call, who had an INVITE of the server's own of this number.
-fn leg_of_callee(
-    told: &mut Told,
-    peer: u16,
-    call: &[u8],
-    who: &[u8],
-    tag: Text,
-    now: Moment,
-) -> Option<Released>
-    ensures meter { IfSome result (λ leg. (released_leg leg).meter ≡ None) }
-{
+/// An INVITE of the server's own of this number, to who.
+fn own_invite(told: &mut Told, peer: u16, call: &[u8], who: &[u8], tag: &Text) -> Hearing {
     let mut from = Told::new(told.alloc);
     from.add(b"<sip:alice@home.example>;tag=");
     from.add(tag.bytes());
@@ -385,8 +401,42 @@ fn leg_of_callee(
         user: b"server",
     };
     let invite = request(told, saying, b"INVITE", b"1", b"");
-    let leg = callee_leg(told, peer, &invite, call, now)?;
+    drop(from);
+    drop(to);
+    drop(call_id);
+    invite
+}
+
+/// The leg of a callee out of a call, who had this INVITE of the server's own.
+fn leg_by_own_invite(
+    told: &mut Told,
+    peer: u16,
+    invite: &Hearing,
+    call: &[u8],
+    now: Moment,
+) -> Option<Released>
+    ensures meter { IfSome result (λ leg. (released_leg leg).meter ≡ None) }
+{
+    let leg = callee_leg(told, peer, invite, call, now)?;
     Some(Released::Callee(leg))
+}
+
+/// The leg of a callee out of a call, who had an INVITE of the server's own of this number.
+fn leg_of_callee(
+    told: &mut Told,
+    peer: u16,
+    call: &[u8],
+    who: &[u8],
+    tag: Text,
+    now: Moment,
+) -> Option<Released>
+    ensures meter { IfSome result (λ leg. (released_leg leg).meter ≡ None) }
+{
+    let invite = own_invite(told, peer, call, who, &tag);
+    drop(tag);
+    let leg = leg_by_own_invite(told, peer, &invite, call, now);
+    drop(invite);
+    leg
 }
 
 /// The leg of who, out of a call, on this side of it.
@@ -402,7 +452,7 @@ fn leg_of(
 {
     let (who, side) = word(words);
     let tag = draw(told, wire);
-    if side == b"caller".as_slice() {
+    if is(side, b"caller") {
         leg_of_caller(told, peer, call, who, tag, now)
     } else {
         leg_of_callee(told, peer, call, who, tag, now)
@@ -517,19 +567,19 @@ pub fn is_done(
     words: &[u8],
 ) -> bool {
     let (kind, rest) = word(words);
-    if kind == b"create".as_slice() {
+    if is(kind, b"create") {
         create(told, world, wire, rooms, now, rest);
-    } else if kind == b"join".as_slice() {
+    } else if is(kind, b"join") {
         join(told, world, wire, rooms, now, rest);
-    } else if kind == b"adopt".as_slice() {
+    } else if is(kind, b"adopt") {
         adopt(told, world, wire, rooms, now, rest);
-    } else if kind == b"notify".as_slice() {
+    } else if is(kind, b"notify") {
         notify(told, world, wire, rooms, rest);
-    } else if kind == b"leave".as_slice() {
+    } else if is(kind, b"leave") {
         leave(told, rooms, now, rest);
-    } else if kind == b"close".as_slice() {
+    } else if is(kind, b"close") {
         close(told, rooms, now, rest);
-    } else if kind == b"drop".as_slice() {
+    } else if is(kind, b"drop") {
         drop_rows(told, rooms, rest);
     } else {
         return false;

@@ -6,7 +6,7 @@
 
 use crate::stepping::wrong_step;
 
-const DIVERTING: &str = "# to a busy target, and on from there
+const DIVERTING: &[u8] = b"# to a busy target, and on from there
 > record 2 divert always sip:carol@home.example
 > record 3 divert busy sip:vm@far.example
 > busy 3

@@ -4,7 +4,7 @@ use crate::calling::wrong_call;
 
 /// A call of each kind: offered, ringing, answered, left by its target before the ACK, talking, asked for something else, without a leg that does not come back, and over
 /// with an INVITE of which something may be heard.
-const KINDS: &str = r#"> 0 invite 1 1 carol@home.example sip:x@far.example
+const KINDS: &[u8] = br#"> 0 invite 1 1 carol@home.example sip:x@far.example
 reply 0: 100 Trying, 7 INVITE
 ask 1 to 2: INVITE sip:x@far.example, 1 INVITE
 due 1 cap 1 at 180000

@@ -6,7 +6,7 @@ use crate::seating::wrong_seat;
 /// seated, his 2xx has its ACK again, and one of another branch of his has nothing. Carol is busy, x does not answer at all, then too long with and without a provisional
 /// response, which decides when the CANCEL goes (RFC 3261 §9.1); a late 2xx has ACK and BYE, once for each of its tags. The one who asked is told of each end, but not once
 /// he has left; where the room closes an invitation goes on alone.
-const INVITING: &str = r#"> 0 create 1 1 alice@home.example
+const INVITING: &[u8] = br#"> 0 create 1 1 alice@home.example
 room 1
 reply 0: 200 OK, 7 INVITE
 due 1 seat 1 no-ack 1 at 32000

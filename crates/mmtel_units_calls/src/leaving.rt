@@ -8,8 +8,8 @@
 
 use crate::stepping::wrong_step;
 
-const LEAVING: &str =
-    r#"# 2xx first, of two dialogs, each heard twice, and a provisional response then
+const LEAVING: &[u8] =
+    br#"# 2xx first, of two dialogs, each heard twice, and a provisional response then
 > 0 invite 1 alice@home.example sip:bob@home.example
 reply 0: 100 Trying, 7 INVITE
 ask 1 to 1: INVITE sip:bob@home.example, 1 INVITE

@@ -4,7 +4,7 @@ use crate::calling::wrong_call;
 
 /// A leg is taken out of a talking call alone; while it is away, neither its dialog is found nor its side, and both accounts are in the call still. Put back, the call goes
 /// on; else it ends by BYE to the leg that is left (RFC 4579 §5.6). Rows are handed over from the front.
-const LEGS: &str = r#"> 0 invite 1 1 alice@home.example sip:bob@home.example
+const LEGS: &[u8] = br#"> 0 invite 1 1 alice@home.example sip:bob@home.example
 reply 0: 100 Trying, 7 INVITE
 ask 1 to 1: INVITE sip:bob@home.example, 1 INVITE
 due 1 cap 1 at 180000

@@ -5,11 +5,11 @@
 
 use crate::calling::{tell_live, tell_parties, tell_place};
 use crate::telling::{Wire, tell_emits};
-use crate::told::Told;
-use crate::worlds::{World, moment, number, word};
+use crate::worlds::{World, is, moment, number, word};
 use mmtel_b2bua::{Calls, NotTalking};
 use mmtel_charging::Meter;
 use mmtel_leg::{Ended, Released};
+use mmtel_told::Told;
 use mmtel_types::{CallNo, Cause, Moment, Side};
 
 fn tell_leg(told: &mut Told, calls: &Calls, call: u64, leg: &Released) {
@@ -110,21 +110,21 @@ fn drop_rows(told: &mut Told, calls: &mut Calls, count: u64) {
 pub fn lend(told: &mut Told, world: &World, wire: &mut Wire, calls: &mut Calls, words: &[u8]) {
     let (kind, rest) = word(words);
     let (first, rest) = word(rest);
-    if kind == b"drop".as_slice() {
+    if is(kind, b"drop") {
         let count = number(told, first);
         return drop_rows(told, calls, count);
     }
     let (call, side) = word(rest);
     let call = number(told, call);
     let at = moment(told, first);
-    let side = if side == b"caller".as_slice() {
+    let side = if is(side, b"caller") {
         Side::Caller
     } else {
         Side::Callee
     };
-    if kind == b"lend".as_slice() {
+    if is(kind, b"lend") {
         lend_and_restore(told, calls, call, side);
-    } else if kind == b"part".as_slice() {
+    } else if is(kind, b"part") {
         part(told, world, wire, calls, call, side, at);
     } else {
         lose(told, calls, call, side, at);

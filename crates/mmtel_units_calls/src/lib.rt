@@ -53,8 +53,6 @@ mod telling;
 #[cfg(test)]
 mod together;
 #[cfg(test)]
-mod told;
-#[cfg(test)]
 mod whole;
 #[cfg(test)]
 mod worlds;

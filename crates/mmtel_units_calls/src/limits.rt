@@ -4,7 +4,7 @@ use crate::calling::wrong_call;
 
 /// Once 4,096 calls live, the next INVITE opens none, and is handed back: no number is given and no token drawn. A call that is over makes room, though something of it may
 /// be heard still.
-const LIMITS: &str = r#"! fill 4096
+const LIMITS: &[u8] = br#"! fill 4096
 ? asked 0
 -> 1 caller
 ? asked 4095

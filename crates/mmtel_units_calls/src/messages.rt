@@ -1,10 +1,10 @@
 //! Messages as they are heard, of short words.
 
-use crate::told::Told;
-use crate::worlds::{source, word};
+use crate::worlds::{is, source, word};
 use mmtel_answers::Hearing;
 use mmtel_message::{Msg, Start, read};
 use mmtel_scan::{Text, part, skip_text};
+use mmtel_told::Told;
 use mmtel_types::Peer;
 
 /// A message without lines.
@@ -26,12 +26,14 @@ pub fn value<'a>(message: &'a Msg, name: &[u8]) -> &'a [u8] {
 /// The message of this text, from a peer; the first is trusted.
 fn hearing(told: &mut Told, text: &Told, peer: u16) -> Hearing {
     let message = read(told.alloc, text.bytes());
-    let message = told.noted(message).unwrap_or(nothing());
     Hearing {
         peer: Peer(peer),
         source: source(peer),
         trusted: peer == 1,
-        message,
+        message: match told.noted(message) {
+            Some(message) => message,
+            None => nothing(),
+        },
     }
 }
 
@@ -105,7 +107,7 @@ fn add_number(text: &mut Told, number: &[u8], method: &[u8]) {
 
 /// The offer of audio and video that this word means, as further lines; of another word none.
 pub fn offer(word: &[u8]) -> &[u8] {
-    if word == b"audio".as_slice() {
+    if is(word, b"audio") {
         b"=v=0|=m=audio 4000 RTP/AVP 96|=a=rtpmap:96 X/8000|=m=video 4002 RTP/AVP 31"
     } else {
         b""
@@ -151,14 +153,16 @@ pub fn invite(told: &mut Told, coming: Coming<'_>, further: &[u8]) -> Hearing {
         text.add(b">\r\n");
     }
     add_further(&mut text, further);
-    hearing(told, &text, coming.peer)
+    let heard = hearing(told, &text, coming.peer);
+    drop(text);
+    heard
 }
 
 /// To of a response: that of the request with this tag in the place of its own, or as it is for `-`.
 fn add_to(text: &mut Told, asked: &Msg, tag: &[u8]) {
     let to = value(asked, b"To");
     text.add(b"To: ");
-    if tag == b"-".as_slice() {
+    if is(tag, b"-") {
         text.add(to);
     } else {
         let (front, _) = part(b'>', to).unwrap_or((to, b""));
@@ -175,7 +179,7 @@ pub fn response(told: &mut Told, asked: &Msg, peer: u16, words: &[u8], further: 
     let (tag, status) = word(words);
     let (tag, is_told) = match skip_text(b"=", tag) {
         Some(tag) => (tag, false),
-        None => (tag, tag != b"-".as_slice()),
+        None => (tag, !is(tag, b"-")),
     };
     let mut text = Told::new(told.alloc);
     text.add(b"SIP/2.0 ");
@@ -190,7 +194,9 @@ pub fn response(told: &mut Told, asked: &Msg, peer: u16, words: &[u8], further: 
         add_contact(&mut text, tag, peer);
     }
     add_further(&mut text, further);
-    hearing(told, &text, peer)
+    let heard = hearing(told, &text, peer);
+    drop(text);
+    heard
 }
 
 /// A 2xx of a request of this method and branch.
@@ -201,7 +207,9 @@ pub fn success(told: &mut Told, method: &[u8], branch: &[u8]) -> Hearing {
     text.add(b"\r\nFrom: <sip:a@h>;tag=a\r\nTo: <sip:b@h>;tag=b\r\nCall-ID: c\r\n");
     add_number(&mut text, b"1", method);
     text.add(b"\r\n");
-    hearing(told, &text, 1)
+    let heard = hearing(told, &text, 1);
+    drop(text);
+    heard
 }
 
 /// Who says a request in a dialog, or CANCEL, and in which.
@@ -236,11 +244,13 @@ pub fn request(
     add_line(&mut text, b"To", saying.to);
     add_line(&mut text, b"Call-ID", saying.call_id);
     add_number(&mut text, cseq, method);
-    if method == b"INVITE".as_slice() {
+    if is(method, b"INVITE") {
         add_contact(&mut text, saying.user, saying.peer);
     }
     add_further(&mut text, further);
-    hearing(told, &text, saying.peer)
+    let heard = hearing(told, &text, saying.peer);
+    drop(text);
+    heard
 }
 
 /// The name of a dialog in words: its Call-ID, the server's tag and the other side's; `-` is none.
@@ -252,7 +262,7 @@ pub struct Name<'a> {
 }
 
 fn or_none(word: &[u8]) -> &[u8] {
-    if word == b"-".as_slice() { b"" } else { word }
+    if is(word, b"-") { b"" } else { word }
 }
 
 /// The name of a dialog, and the words that follow it.
@@ -299,5 +309,8 @@ pub fn request_in(
         call_id: name.call_id,
         user: b"again",
     };
-    request(told, saying, method, cseq, further)
+    let heard = request(told, saying, method, cseq, further);
+    drop(from);
+    drop(to);
+    heard
 }

@@ -8,7 +8,7 @@
 
 use crate::stepping::wrong_step;
 
-const OFFERED: &str = r#"# the target tries, rings and answers
+const OFFERED: &[u8] = br#"# the target tries, rings and answers
 > 0 invite 1 alice@home.example sip:bob@home.example
 reply 0: 100 Trying, 7 INVITE
 ask 1 to 1: INVITE sip:bob@home.example, 1 INVITE

@@ -6,7 +6,7 @@
 
 use crate::stepping::wrong_step;
 
-const OPENING: &str = r#"# a caller who hides nothing
+const OPENING: &[u8] = br#"# a caller who hides nothing
 > 0 invite 1 erin@other.example sip:bob@far.example
 reply 0: 100 Trying, 7 INVITE
 ask 1 to 2: INVITE sip:bob@far.example, 1 INVITE

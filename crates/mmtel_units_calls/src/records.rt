@@ -1,24 +1,24 @@
 //! Records in short words: `divert EVENT TARGET [FLAG]`, `deflect`, `bar`, `allow URI`, `no-anonymous`, `bar-out URI`, `oir permanent`, `oir temporary`, `tir permanent`,
 //! `no-oip`, `no-tip`, `waiting N`, parted by `|`.
 
-use crate::told::Told;
-use crate::worlds::{World, put, uri, word};
+use crate::worlds::{World, is, put, uri, word};
 use mmtel_lex::Uri;
 use mmtel_scan::{List, part};
 use mmtel_sheet_values::{
     Action, BarPart, Condition, DiversionPart, EventWord, Forward, Restriction, Rule, Sheet, Who,
 };
+use mmtel_told::Told;
 use std::mem;
 
 /// The event of a rule; None for each call.
 fn event_of(word: &[u8]) -> Option<EventWord> {
-    if word == b"busy".as_slice() {
+    if is(word, b"busy") {
         Some(EventWord::Busy)
-    } else if word == b"no-answer".as_slice() {
+    } else if is(word, b"no-answer") {
         Some(EventWord::NoAnswer)
-    } else if word == b"not-reachable".as_slice() {
+    } else if is(word, b"not-reachable") {
         Some(EventWord::NotReachable)
-    } else if word == b"not-registered".as_slice() {
+    } else if is(word, b"not-registered") {
         Some(EventWord::NotRegistered)
     } else {
         None
@@ -38,10 +38,10 @@ fn condition(event: Option<EventWord>, identity: Option<Who>) -> Condition {
 fn forward(target: Uri, flag: &[u8]) -> Forward {
     Forward {
         target,
-        notify_caller: flag != b"untold".as_slice(),
-        reveal_to_caller: flag != b"hides-target".as_slice(),
-        reveal_served_to_caller: flag != b"hides-diverting".as_slice(),
-        reveal_to_target: flag != b"hides-from-target".as_slice(),
+        notify_caller: !is(flag, b"untold"),
+        reveal_to_caller: !is(flag, b"hides-target"),
+        reveal_served_to_caller: !is(flag, b"hides-diverting"),
+        reveal_to_target: !is(flag, b"hides-from-target"),
     }
 }
 
@@ -61,10 +61,17 @@ fn no_bars() -> BarPart {
     }
 }
 
-fn divert(told: &mut Told, sheet: &mut Sheet, words: &[u8]) {
+/// The diversion that the place has, or one without rules.
+fn take_diversion(place: &mut Option<DiversionPart>) -> DiversionPart {
+    match mem::replace(place, None) {
+        Some(part) => part,
+        None => no_rules(),
+    }
+}
+
+fn add_rule(told: &mut Told, part: &mut DiversionPart, words: &[u8]) {
     let (event, rest) = word(words);
     let (target, flag) = word(rest);
-    let mut part = mem::replace(&mut sheet.diversion, None).unwrap_or(no_rules());
     if let Some(target) = uri(told, target) {
         let rule = Rule {
             condition: condition(event_of(event), None),
@@ -73,13 +80,18 @@ fn divert(told: &mut Told, sheet: &mut Sheet, words: &[u8]) {
         let pushed = part.rules.push(told.alloc, rule);
         told.noted(pushed);
     }
-    sheet.diversion = Some(part);
 }
 
-fn deflect(sheet: &mut Sheet) {
-    let mut part = mem::replace(&mut sheet.diversion, None).unwrap_or(no_rules());
+fn divert(told: &mut Told, place: &mut Option<DiversionPart>, words: &[u8]) {
+    let mut part = take_diversion(place);
+    add_rule(told, &mut part, words);
+    drop(mem::replace(place, Some(part)));
+}
+
+fn deflect(place: &mut Option<DiversionPart>) {
+    let mut part = take_diversion(place);
     part.deflection = true;
-    sheet.diversion = Some(part);
+    drop(mem::replace(place, Some(part)));
 }
 
 /// One identity.
@@ -96,51 +108,67 @@ fn only(told: &mut Told, identity: &[u8]) -> Who {
     }
 }
 
-/// A barring with one rule more, for this identity, or for each where there is none.
-fn barred(told: &mut Told, part: Option<BarPart>, identity: &[u8], allow: bool) -> Option<BarPart> {
-    let mut part = part.unwrap_or(no_bars());
-    let who = if identity.is_empty() {
+/// The barring that the place has, or one without rules.
+fn take_bars(place: &mut Option<BarPart>) -> BarPart {
+    match mem::replace(place, None) {
+        Some(part) => part,
+        None => no_bars(),
+    }
+}
+
+/// This identity; none where there is no byte.
+fn who(told: &mut Told, identity: &[u8]) -> Option<Who> {
+    if identity.is_empty() {
         None
     } else {
         Some(only(told, identity))
-    };
+    }
+}
+
+/// One rule more, for this identity, or for each where there is none.
+fn add_bar(told: &mut Told, part: &mut BarPart, identity: &[u8], allow: bool) {
     let rule = Rule {
-        condition: condition(None, who),
+        condition: condition(None, who(told, identity)),
         action: Action::Allow(allow),
     };
     let pushed = part.rules.push(told.alloc, rule);
     told.noted(pushed);
-    Some(part)
 }
 
-fn reject_anonymous(sheet: &mut Sheet) {
-    let mut part = mem::replace(&mut sheet.incoming, None).unwrap_or(no_bars());
+fn bar(told: &mut Told, place: &mut Option<BarPart>, identity: &[u8], allow: bool) {
+    let mut part = take_bars(place);
+    add_bar(told, &mut part, identity, allow);
+    drop(mem::replace(place, Some(part)));
+}
+
+fn reject_anonymous(place: &mut Option<BarPart>) {
+    let mut part = take_bars(place);
     part.reject_anonymous = true;
-    sheet.incoming = Some(part);
+    drop(mem::replace(place, Some(part)));
 }
 
 /// A restriction that is permanent, or else one by default.
 fn restriction(mode: &[u8]) -> Restriction {
     Restriction {
         active: true,
-        permanent: mode == b"permanent".as_slice(),
+        permanent: is(mode, b"permanent"),
         by_default: true,
     }
 }
 
 fn change_rules(told: &mut Told, sheet: &mut Sheet, kind: &[u8], rest: &[u8]) -> bool {
-    if kind == b"divert".as_slice() {
-        divert(told, sheet, rest);
-    } else if kind == b"deflect".as_slice() {
-        deflect(sheet);
-    } else if kind == b"bar".as_slice() {
-        sheet.incoming = barred(told, mem::replace(&mut sheet.incoming, None), b"", false);
-    } else if kind == b"allow".as_slice() {
-        sheet.incoming = barred(told, mem::replace(&mut sheet.incoming, None), rest, true);
-    } else if kind == b"bar-out".as_slice() {
-        sheet.outgoing = barred(told, mem::replace(&mut sheet.outgoing, None), rest, false);
-    } else if kind == b"no-anonymous".as_slice() {
-        reject_anonymous(sheet);
+    if is(kind, b"divert") {
+        divert(told, &mut sheet.diversion, rest);
+    } else if is(kind, b"deflect") {
+        deflect(&mut sheet.diversion);
+    } else if is(kind, b"bar") {
+        bar(told, &mut sheet.incoming, b"", false);
+    } else if is(kind, b"allow") {
+        bar(told, &mut sheet.incoming, rest, true);
+    } else if is(kind, b"bar-out") {
+        bar(told, &mut sheet.outgoing, rest, false);
+    } else if is(kind, b"no-anonymous") {
+        reject_anonymous(&mut sheet.incoming);
     } else {
         return false;
     }
@@ -148,20 +176,16 @@ fn change_rules(told: &mut Told, sheet: &mut Sheet, kind: &[u8], rest: &[u8]) ->
 }
 
 fn change_identity(sheet: &mut Sheet, kind: &[u8], rest: &[u8]) -> bool {
-    if kind == b"oir".as_slice() {
+    if is(kind, b"oir") {
         sheet.oir = restriction(rest);
-    } else if kind == b"tir".as_slice() {
+    } else if is(kind, b"tir") {
         sheet.tir = restriction(rest);
-    } else if kind == b"no-oip".as_slice() {
+    } else if is(kind, b"no-oip") {
         sheet.oip = false;
-    } else if kind == b"no-tip".as_slice() {
+    } else if is(kind, b"no-tip") {
         sheet.tip = false;
-    } else if kind == b"waiting".as_slice() {
-        sheet.waiting = if rest == b"2".as_slice() {
-            Some(2)
-        } else {
-            Some(8)
-        };
+    } else if is(kind, b"waiting") {
+        sheet.waiting = if is(rest, b"2") { Some(2) } else { Some(8) };
     } else {
         return false;
     }
@@ -175,18 +199,23 @@ fn change(told: &mut Told, sheet: &mut Sheet, clause: &[u8]) {
     }
 }
 
-/// The record of these words.
-fn sheet(told: &mut Told, words: &[u8]) -> Sheet {
-    let mut sheet = Sheet::empty();
+/// Changes a record as these words say.
+fn change_all(told: &mut Told, sheet: &mut Sheet, words: &[u8]) {
     let mut rest = words;
     for _ in 0..9 {
         if rest.is_empty() {
             break;
         }
         let (clause, later) = part(b'|', rest).unwrap_or((rest, b""));
-        change(told, &mut sheet, clause);
+        change(told, sheet, clause);
         rest = later;
     }
+}
+
+/// The record of these words.
+fn sheet(told: &mut Told, words: &[u8]) -> Sheet {
+    let mut sheet = Sheet::empty();
+    change_all(told, &mut sheet, words);
     sheet
 }
 

@@ -6,7 +6,7 @@ use crate::seating::wrong_seat;
 /// second seat in the first.
 /// Once 32 seats of a room are taken, no leg finds another, whether it comes or is brought; of one that is to be invited the missing peer is told first. No number of a
 /// seat is given twice.
-const ROOM_LIMITS: &str = r#"fill 1024 0 create
+const ROOM_LIMITS: &[u8] = br#"fill 1024 0 create
 > 0 create 2 1024 x@far.example
 no room: c1024 t-1025 a1024
 seats 1 1 1

@@ -11,11 +11,11 @@
 use crate::deeds::is_done;
 use crate::messages::{Name, named, offer, request_in, response};
 use crate::telling::{Style, Wire, branch_and_method, tell_emits, tell_rows};
-use crate::told::Told;
-use crate::worlds::{SIP, World, first_moment, moment, number, peer_of, quiet_world, word};
+use crate::worlds::{SIP, World, first_moment, is, moment, number, peer_of, quiet_world, word};
 use mmtel_focus::{RoomSignal, Rooms};
 use mmtel_scan::{part, skip_text};
 use mmtel_sdp::Mixer;
+use mmtel_told::Told;
 use mmtel_transaction::{RoomWord, TKey};
 use mmtel_types::{Moment, RoomNo};
 use std::alloc::Global;
@@ -58,14 +58,15 @@ fn asked(
     let (room, seat) = place;
     let key = wire.key_of(method);
     let mut further = Told::new(told.alloc);
-    if method == b"REFER".as_slice() && !more.is_empty() {
+    if is(method, b"REFER") && !more.is_empty() {
         further.add(b"Refer-To: ");
         further.add(more);
     } else {
         further.add(offer(more));
     }
     let request = request_in(told, peer, key, name, method, cseq, further.bytes());
-    if method == b"ACK".as_slice() {
+    drop(further);
+    if is(method, b"ACK") {
         return RoomSignal::Ack {
             room,
             seat,
@@ -131,7 +132,7 @@ fn due(told: &mut Told, words: &[u8]) -> RoomSignal {
     let (seat, rest) = word(rest);
     let (kind, digits) = word(rest);
     let number_of = number(told, digits);
-    let what = if kind == b"cap".as_slice() {
+    let what = if is(kind, b"cap") {
         RoomWord::Cap(number_of)
     } else {
         RoomWord::NoAck(number_of)
@@ -145,22 +146,22 @@ fn due(told: &mut Told, words: &[u8]) -> RoomSignal {
 
 fn signal(told: &mut Told, wire: &mut Wire, rooms: &Rooms, words: &[u8]) -> Option<RoomSignal> {
     let (kind, rest) = word(words);
-    if kind == b"say".as_slice() {
+    if is(kind, b"say") {
         return say(told, wire, rooms, rest);
     }
-    if kind == b"press".as_slice() {
+    if is(kind, b"press") {
         return Some(press(told, wire, rest));
     }
-    if kind == b"answer".as_slice() {
+    if is(kind, b"answer") {
         return answer(told, wire, rest);
     }
-    if kind == b"silent".as_slice() {
+    if is(kind, b"silent") {
         return silent(told, wire, rest);
     }
-    if kind == b"due".as_slice() {
+    if is(kind, b"due") {
         return Some(due(told, rest));
     }
-    if kind == b"over".as_slice() {
+    if is(kind, b"over") {
         return Some(RoomSignal::Over {
             key: TKey(number(told, rest)),
         });
@@ -207,12 +208,31 @@ fn play_line(told: &mut Told, world: &World, wire: &mut Wire, rooms: &mut Rooms,
 /// What is asked of the rooms.
 fn ask(told: &mut Told, rooms: &Rooms, words: &[u8]) {
     let (kind, rest) = word(words);
-    if kind == b"find".as_slice() {
+    if is(kind, b"find") {
         let (name, _) = named(rest);
         tell_place(told, rooms.find(name.call_id, name.local, name.remote));
     } else {
         tell_rows(told, rooms.rows_waiting());
     }
+}
+
+/// Somebody without an account does this with this number.
+fn fill_one(
+    quiet: &mut Told,
+    world: &World,
+    wire: &mut Wire,
+    rooms: &mut Rooms,
+    number: u64,
+    deed: &[u8],
+) {
+    let mut line = Told::new(quiet.alloc);
+    line.add(deed);
+    line.add(b" 2 ");
+    line.add_number(number);
+    line.add(b" x@far.example");
+    let done = is_done(quiet, world, wire, rooms, first_moment(), line.bytes());
+    quiet.keep(done);
+    drop(line);
 }
 
 /// Somebody without an account opens or joins rooms, so many times from this number on; nothing of it is told.
@@ -222,18 +242,11 @@ fn fill(told: &mut Told, world: &World, wire: &mut Wire, rooms: &mut Rooms, word
     let from = number(told, from);
     let mut quiet = Told::new(told.alloc);
     for index in 0..number(told, count) {
-        let mut line = Told::new(told.alloc);
-        line.add(deed);
-        line.add(b" 2 ");
-        line.add_number(from.saturating_add(index));
-        line.add(b" x@far.example");
-        if !is_done(&mut quiet, world, wire, rooms, first_moment(), line.bytes()) {
-            quiet.fail();
-        }
+        let number = from.saturating_add(index);
+        fill_one(&mut quiet, world, wire, rooms, number, deed);
     }
-    if quiet.has_failed() {
-        told.fail();
-    }
+    told.keep(!quiet.has_failed());
+    drop(quiet);
 }
 
 /// Plays a row of a table, and tells it again where it says what is heard, done or asked.
@@ -253,18 +266,24 @@ fn play_row(told: &mut Told, world: &World, wire: &mut Wire, rooms: &mut Rooms, 
     }
 }
 
-fn play_rows(told: &mut Told, world: &World, rooms: &mut Rooms, table: &[u8]) {
-    let mut wire = Wire::new(told, Style::Rooms, b"t");
+fn play_rows(told: &mut Told, world: &World, wire: &mut Wire, rooms: &mut Rooms, table: &[u8]) {
     let mut rest = table;
     for _ in 0..2_000 {
         match part(b'\n', rest) {
             None => break,
             Some((row, later)) => {
-                play_row(told, world, &mut wire, rooms, row);
+                play_row(told, world, wire, rooms, row);
                 rest = later;
             }
         }
     }
+}
+
+/// Plays a table over rooms.
+fn play_over(told: &mut Told, world: &World, rooms: &mut Rooms, table: &[u8]) {
+    let mut wire = Wire::new(told, Style::Rooms, b"t");
+    play_rows(told, world, &mut wire, rooms, table);
+    drop(wire);
 }
 
 /// Plays a table, and tells it again, with what goes out.
@@ -276,14 +295,17 @@ fn play(told: &mut Told, table: &[u8]) {
     };
     let rooms = Rooms::new(told.alloc, mixer, SIP);
     if let Some(mut rooms) = told.noted(rooms) {
-        play_rows(told, &world, &mut rooms, table);
+        play_over(told, &world, &mut rooms, table);
         rooms.give_up();
     }
+    drop(world);
 }
 
 /// The number of the first line of a table, from 1, in which it is another one when it is told again; 0 where there is none.
-pub fn wrong_seat(alloc: Global, table: &str) -> usize {
+pub fn wrong_seat(alloc: Global, table: &[u8]) -> usize {
     let mut told = Told::new(alloc);
-    play(&mut told, table.as_bytes());
-    told.wrong_line(table.as_bytes())
+    play(&mut told, table);
+    let wrong = told.wrong_line(table);
+    drop(told);
+    wrong
 }

@@ -6,7 +6,7 @@ use crate::seating::wrong_seat;
 /// asked in again and answered by the mixer, sends an old number, an INVITE that offers nothing and a method that a seat does not have. Carol sends no ACK, and has BYE and
 /// leaves after 32 s; Erin leaves by BYE; with Alice's BYE, and in the second room where her ACK does not come, the room closes, and all that are left have BYE in their
 /// order. A room that is closed is gone, and its leg comes back. Rows wait in the order of leaving.
-const SEATS: &str = r#"> 0 create 1 1 alice@home.example
+const SEATS: &[u8] = br#"> 0 create 1 1 alice@home.example
 room 1
 reply 0: 200 OK, 7 INVITE
 due 1 seat 1 no-ack 1 at 32000

@@ -2,25 +2,24 @@
 //!
 //! `# ..` begins anew: nobody has a record, nobody is in a call, and no transaction was opened. Transactions are numbered from 0, servers and clients together.
 //! `> record N ..` gives account N a record, `> busy N` says that it is in one more call, `> away N` that its registration has ended, `> bound N` sets the bound.
-//! All other lines begin with the moment; where they begin with `>> ` messages are told whole. Behind a `|` each stand further lines of the message, behind `|=` those of its body.
+//! All other lines begin with the moment; where they begin with `>> ` messages are told whole. Behind a `|` each stand further lines of the message, behind `|=` those of
+//! its body.
 //! `invite PEER WHO TARGET`, `answer TRANSACTION TAG STATUS`, `caller METHOD CSEQ`, `callee METHOD CSEQ` (of the first peer), `far METHOD CSEQ` (of the second),
 //! `cancel TRANSACTION CSEQ`, `silent TRANSACTION`, `due WORD NUMBER`, `ended TRANSACTION`.
 
 use crate::messages::{Coming, Saying, invite, request, response, value};
 use crate::records::put_record;
 use crate::telling::{Style, Wire, branch_and_method, tell_emits, tell_rows};
-use crate::told::Told;
 use crate::worlds::{
-    SIP, World, first_moment, moment, number, peer_of, quiet_world, set_away, set_busy, small, word,
+    SIP, World, first_moment, is, moment, number, peer_of, quiet_world, readings, set_away,
+    set_busy, small, word,
 };
 use mmtel_answers::Hearing;
 use mmtel_call::{Call, Phase, Signal, Stage};
 use mmtel_call_decisions::{Arrival, Present, Setting};
-use mmtel_parties::Parties;
-use mmtel_rules::Identities2;
 use mmtel_scan::{List, NoMemory, part, skip_text};
+use mmtel_told::Told;
 use mmtel_transaction::{DueWord, TKey};
-use mmtel_trust::asserted;
 use mmtel_types::{CallNo, Moment, Side};
 use std::alloc::Global;
 use std::mem;
@@ -77,6 +76,7 @@ fn tell_step(told: &mut Told, wire: &mut Wire, outcome: Result<(), NoMemory>, ca
     tell_emits(told, wire, emits);
     let rows = mem::replace(&mut wire.desk.rows, List::new());
     tell_rows(told, rows.items());
+    drop(rows);
     tell_call(told, call);
 }
 
@@ -101,23 +101,22 @@ fn present(world: &World, at: Moment) -> Present<'_> {
     }
 }
 
-/// What is read of the parties of an INVITE.
+/// What is read of an INVITE.
 fn arrival(told: &mut Told, world: &World, key: u64, invite: Hearing) -> Option<Arrival> {
-    let parties = Parties::of(told.alloc, &world.accounts, &invite.message, invite.trusted);
-    let parties = told.noted(parties)?;
-    let identities = asserted(told.alloc, &invite.message, invite.trusted);
-    let identities = told.noted(identities)?;
-    Some(Arrival {
-        number: CallNo(1),
-        key: TKey(key),
-        invite,
-        served: parties.served_accounts(),
-        registration: parties.registration,
-        identities: Identities2 {
-            sip: identities.sip,
-            tel: identities.tel,
-        },
-    })
+    match readings(told, world, &invite) {
+        Some((parties, identities)) => Some(Arrival {
+            number: CallNo(1),
+            key: TKey(key),
+            invite,
+            served: parties.served_accounts(),
+            registration: parties.registration,
+            identities,
+        }),
+        None => {
+            drop(invite);
+            None
+        }
+    }
 }
 
 /// Lets a call go.
@@ -202,7 +201,7 @@ fn answer(told: &mut Told, wire: &Wire, words: &[u8], further: &[u8]) -> Option<
 
 /// A request of a side, of this method, or its ACK.
 fn asked(side: Side, key: u64, method: &[u8], request: Hearing) -> Signal {
-    if method == b"ACK".as_slice() {
+    if is(method, b"ACK") {
         Signal::Ack { side, ack: request }
     } else {
         Signal::Request {
@@ -224,7 +223,7 @@ fn of_caller(
 ) -> Hearing {
     let mut to = Told::new(told.alloc);
     to.add(value(&opening.message, b"To"));
-    if method != b"CANCEL".as_slice() {
+    if !is(method, b"CANCEL") {
         to.add(b";tag=0123456789abcdef-1");
     }
     let saying = Saying {
@@ -235,7 +234,9 @@ fn of_caller(
         call_id: b"c1",
         user: b"caller",
     };
-    request(told, saying, method, cseq, further)
+    let heard = request(told, saying, method, cseq, further);
+    drop(to);
+    heard
 }
 
 fn caller_asks(
@@ -297,9 +298,9 @@ fn silent(told: &mut Told, wire: &Wire, words: &[u8]) -> Option<Signal> {
 fn due(told: &mut Told, words: &[u8]) -> Signal {
     let (kind, digits) = word(words);
     let number = number(told, digits);
-    let what = if kind == b"no-reply".as_slice() {
+    let what = if is(kind, b"no-reply") {
         DueWord::NoReply(number)
-    } else if kind == b"cap".as_slice() {
+    } else if is(kind, b"cap") {
         DueWord::Cap(number)
     } else {
         DueWord::NoAck(number)
@@ -315,28 +316,28 @@ fn signal(
     further: &[u8],
 ) -> Option<Signal> {
     let (kind, rest) = word(words);
-    if kind == b"answer".as_slice() {
+    if is(kind, b"answer") {
         return answer(told, wire, rest, further);
     }
-    if kind == b"caller".as_slice() {
+    if is(kind, b"caller") {
         return Some(caller_asks(told, wire, call, rest, further));
     }
-    if kind == b"callee".as_slice() {
+    if is(kind, b"callee") {
         return Some(callee_asks(told, wire, 1, rest, further));
     }
-    if kind == b"far".as_slice() {
+    if is(kind, b"far") {
         return Some(callee_asks(told, wire, 2, rest, further));
     }
-    if kind == b"cancel".as_slice() {
+    if is(kind, b"cancel") {
         return Some(cancel(told, wire, call, rest));
     }
-    if kind == b"silent".as_slice() {
+    if is(kind, b"silent") {
         return silent(told, wire, rest);
     }
-    if kind == b"due".as_slice() {
+    if is(kind, b"due") {
         return Some(due(told, rest));
     }
-    if kind == b"ended".as_slice() {
+    if is(kind, b"ended") {
         return Some(Signal::Ended {
             key: TKey(number(told, rest)),
         });
@@ -409,17 +410,17 @@ fn act(
 /// Sets what stands round the call, where the line says so.
 fn is_set(told: &mut Told, world: &mut World, line: &[u8]) -> bool {
     let (kind, rest) = word(line);
-    if kind == b"record".as_slice() {
+    if is(kind, b"record") {
         let (account, words) = word(rest);
         let account = u32::from(small(told, account));
         put_record(told, world, account, words);
-    } else if kind == b"busy".as_slice() {
+    } else if is(kind, b"busy") {
         let account = u32::from(small(told, rest));
         set_busy(told, world, account);
-    } else if kind == b"away".as_slice() {
+    } else if is(kind, b"away") {
         let account = u32::from(small(told, rest));
         set_away(told, world, account);
-    } else if kind == b"bound".as_slice() {
+    } else if is(kind, b"bound") {
         world.bound = small(told, rest);
     } else {
         return false;
@@ -461,6 +462,11 @@ fn play_row(
     call
 }
 
+/// Nothing was sent.
+fn first_wire(told: &mut Told) -> Wire {
+    Wire::new(told, Style::Call, b"0123456789abcdef")
+}
+
 /// Begins anew, where the row says so.
 fn begin(
     told: &mut Told,
@@ -474,23 +480,20 @@ fn begin(
     }
     told.add_line(row);
     let_go(call, first_moment());
-    *world = quiet_world(told);
-    *wire = Wire::new(told, Style::Call, b"0123456789abcdef");
+    drop(mem::replace(world, quiet_world(told)));
+    drop(mem::replace(wire, first_wire(told)));
     None
 }
 
-/// Plays a table, and tells it again, with what goes out.
-fn play(told: &mut Told, table: &[u8]) {
-    let mut world = quiet_world(told);
-    let mut wire = Wire::new(told, Style::Call, b"0123456789abcdef");
+fn play_rows(told: &mut Told, world: &mut World, wire: &mut Wire, table: &[u8]) {
     let mut call: Option<Call> = None;
     let mut rest = table;
     for _ in 0..2_000 {
         match part(b'\n', rest) {
             None => break,
             Some((row, later)) => {
-                call = begin(told, &mut world, &mut wire, call, row);
-                call = play_row(told, &mut world, &mut wire, call, row);
+                call = begin(told, world, wire, call, row);
+                call = play_row(told, world, wire, call, row);
                 rest = later;
             }
         }
@@ -498,9 +501,20 @@ fn play(told: &mut Told, table: &[u8]) {
     let_go(call, first_moment());
 }
 
+/// Plays a table, and tells it again, with what goes out.
+fn play(told: &mut Told, table: &[u8]) {
+    let mut world = quiet_world(told);
+    let mut wire = first_wire(told);
+    play_rows(told, &mut world, &mut wire, table);
+    drop(wire);
+    drop(world);
+}
+
 /// The number of the first line of a table, from 1, in which it is another one when it is told again; 0 where there is none.
-pub fn wrong_step(alloc: Global, table: &str) -> usize {
+pub fn wrong_step(alloc: Global, table: &[u8]) -> usize {
     let mut told = Told::new(alloc);
-    play(&mut told, table.as_bytes());
-    told.wrong_line(table.as_bytes())
+    play(&mut told, table);
+    let wrong = told.wrong_line(table);
+    drop(told);
+    wrong
 }

@@ -1,13 +1,14 @@
 //! What is told of a step: all that goes out, and rows; and what was sent.
 
 use crate::messages::value;
-use crate::told::Told;
+use crate::worlds::is;
 use mmtel_charging::{Row, rows_text};
 use mmtel_desk::Desk;
 use mmtel_message::{Msg, Start, read};
 use mmtel_scan::{List, Text, part};
+use mmtel_told::Told;
 use mmtel_transaction::{DueWord, Emit, Emits, RoomWord, Tokens};
-use mmtel_types::Peer;
+use mmtel_types::{CallNo, Peer, RoomNo};
 
 /// A request that the server sent, with the number of its transaction.
 #[derive(Drop)]
@@ -60,7 +61,7 @@ impl Wire {
 
     /// The number of the transaction that a request opens; an ACK opens none.
     pub fn key_of(&mut self, method: &[u8]) -> u64 {
-        if method == b"ACK".as_slice() {
+        if is(method, b"ACK") {
             self.opened
         } else {
             self.open()
@@ -94,7 +95,7 @@ fn is_among(names: &[u8], name: &[u8]) -> bool {
         match part(b';', rest) {
             None => break,
             Some((first, later)) => {
-                if first == name {
+                if is(first, name) {
                     return true;
                 }
                 rest = later;
@@ -178,6 +179,7 @@ fn tell_whole(told: &mut Told, message: &Msg) {
     let text = message.text(told.alloc);
     if let Some(text) = told.noted(text) {
         told.add_without_cr(text.bytes());
+        drop(text);
     }
 }
 
@@ -193,6 +195,7 @@ fn tell_text(told: &mut Told, wire: &Wire, text: &Text) {
     let message = read(told.alloc, text.bytes());
     if let Some(message) = told.noted(message) {
         tell_message(told, wire, &message);
+        drop(message);
     }
 }
 
@@ -243,41 +246,49 @@ fn tell_request(told: &mut Told, wire: &mut Wire, peer: Peer, message: Msg) {
     told.noted(kept);
 }
 
+/// Tells a message behind whose it is.
+fn tell_of(told: &mut Told, wire: &Wire, word: &[u8], number: u64, message: Msg) {
+    tell_head(told, word, number);
+    tell_message(told, wire, &message);
+    drop(message);
+}
+
+/// Tells a message in no transaction behind to whom it goes.
+fn tell_plain(told: &mut Told, wire: &Wire, peer: Peer, text: Text) {
+    tell_head(told, b"plain to ", u64::from(peer.0));
+    tell_text(told, wire, &text);
+    drop(text);
+}
+
+fn tell_call_due(told: &mut Told, style: Style, call: CallNo, what: DueWord, at: u64) {
+    told.add(b"due");
+    if matches!(style, Style::Calls) {
+        told.add_spaced_number(call.0);
+    }
+    tell_due(told, what, at);
+}
+
+fn tell_seat_due(told: &mut Told, room: RoomNo, seat: u64, what: RoomWord, at: u64) {
+    told.add(b"due");
+    told.add_spaced_number(room.0);
+    told.add(b" seat");
+    told.add_spaced_number(seat);
+    tell_room_due(told, what, at);
+}
+
 fn tell_emit(told: &mut Told, wire: &mut Wire, emit: Emit) {
     match emit {
         Emit::Ask { peer, msg } => tell_request(told, wire, peer, msg),
-        Emit::Reply { key, msg } => {
-            tell_head(told, b"reply ", key.0);
-            tell_message(told, wire, &msg);
-        }
-        Emit::Plain { peer, text } => {
-            tell_head(told, b"plain to ", u64::from(peer.0));
-            tell_text(told, wire, &text);
-        }
-        Emit::Ack { key, msg } => {
-            tell_head(told, b"ack ", key.0);
-            tell_message(told, wire, &msg);
-        }
-        Emit::Arm { call, what, at } => {
-            told.add(b"due");
-            if matches!(&wire.style, Style::Calls) {
-                told.add(b" ");
-                told.add_number(call.0);
-            }
-            tell_due(told, what, at);
-        }
+        Emit::Reply { key, msg } => tell_of(told, wire, b"reply ", key.0, msg),
+        Emit::Plain { peer, text } => tell_plain(told, wire, peer, text),
+        Emit::Ack { key, msg } => tell_of(told, wire, b"ack ", key.0, msg),
+        Emit::Arm { call, what, at } => tell_call_due(told, wire.style, call, what, at),
         Emit::ArmSeat {
             room,
             seat,
             what,
             at,
-        } => {
-            told.add(b"due ");
-            told.add_number(room.0);
-            told.add(b" seat ");
-            told.add_number(seat);
-            tell_room_due(told, what, at);
-        }
+        } => tell_seat_due(told, room, seat, what, at),
     }
 }
 
@@ -289,6 +300,7 @@ pub fn tell_emits(told: &mut Told, wire: &mut Wire, emits: Emits) {
             Some(emit) => tell_emit(told, wire, emit),
         }
     }
+    drop(rest);
 }
 
 /// Tells rows, a line each.
@@ -297,5 +309,6 @@ pub fn tell_rows(told: &mut Told, rows: &[Row]) {
     if let Some(text) = told.noted(text) {
         let (_, lines) = part(b'\n', text.bytes()).unwrap_or((b"", b""));
         told.add(lines);
+        drop(text);
     }
 }

@@ -7,7 +7,7 @@
 
 use crate::stepping::wrong_step;
 
-const WHOLE: &str = r#"# a caller who asks for privacy calls far away, and gives up
+const WHOLE: &[u8] = br#"# a caller who asks for privacy calls far away, and gives up
 >> 0 invite 1 erin@other.example sip:bob@far.example|Privacy: id
 reply 0:
 SIP/2.0 100 Trying

@@ -1,10 +1,13 @@
 //! What stands round calls and rooms: the peers and accounts, the records in force, the accounts in calls, and the bound; and the words of tables.
 
-use crate::told::Told;
+use mmtel_answers::Hearing;
 use mmtel_lex::{Uri, read_uri};
+use mmtel_parties::Parties;
+use mmtel_rules::Identities2;
 use mmtel_scan::{List, part, plain_number};
 use mmtel_sheet_values::{Sheet, SheetView};
-use mmtel_trust::{Accounts, PeerTable};
+use mmtel_told::Told;
+use mmtel_trust::{Accounts, Identities, PeerTable, asserted};
 use mmtel_types::{Account, Addr, Moment, Peer};
 
 /// The server's address.
@@ -21,6 +24,11 @@ pub struct World {
     pub sheets: SheetView,
     pub busy: List<Account>,
     pub bound: u16,
+}
+
+/// Whether a word is this one.
+pub fn is(word: &[u8], this: &[u8]) -> bool {
+    word == this
 }
 
 /// The first word, and what follows it.
@@ -70,7 +78,7 @@ pub fn moment(told: &mut Told, digits: &[u8]) -> Moment {
 
 /// The peer of this word.
 pub fn peer_of(word: &[u8]) -> u16 {
-    if word == b"1".as_slice() { 1 } else { 2 }
+    if is(word, b"1") { 1 } else { 2 }
 }
 
 /// The address of a peer: 5071 is that of the first.
@@ -131,6 +139,20 @@ pub fn quiet_world(told: &mut Told) -> World {
         busy: List::new(),
         bound: 5,
     }
+}
+
+/// What is read of an INVITE: of its parties, and who is asserted.
+pub fn readings(
+    told: &mut Told,
+    world: &World,
+    invite: &Hearing,
+) -> Option<(Parties, Identities2)> {
+    let message = &invite.message;
+    let parties = Parties::of(told.alloc, &world.accounts, message, invite.trusted);
+    let parties = told.noted(parties)?;
+    let identities = asserted(told.alloc, message, invite.trusted);
+    let Identities { sip, tel } = told.noted(identities)?;
+    Some((parties, Identities2 { sip, tel }))
 }
 
 /// The account has this record.

@@ -3,6 +3,7 @@
 //! An answer is the place of the rule that bars the call, `a` where its caller is rejected as anonymous, `-` where it is let through. A row of incoming calls has two: of a
 //! user who does not reject anonymous callers, and of one who does. A row of outgoing calls has one, and the other party is the target.
 
+use crate::asserting::assert_right;
 use crate::reading::{Called, Table, facts, read_called, sheet_of, wrong_line};
 use mmtel_barring::{Barred, Refusal, incoming, outgoing};
 use mmtel_rules::all_bar;
@@ -34,6 +35,7 @@ fn tell_incoming(told: &mut Told, keys: &[u8], line: &[u8], called: &Called) {
     let sheet = sheet_of(told, b"incoming-communication-barring", keys, b"", line);
     if let Some(sheet) = sheet {
         told.add(refused(incoming(&sheet, &facts(called))));
+        drop(sheet);
     }
 }
 
@@ -45,6 +47,7 @@ impl Table for Incoming {
         let called = read_called(told, asked);
         tell_incoming(told, b"", line, &called);
         tell_incoming(told, b"reject-anonymous = true, ", line, &called);
+        drop(called);
     }
 }
 
@@ -70,6 +73,7 @@ fn tell_outgoing(told: &mut Told, line: &[u8], called: &Called) {
             None => told.fail(),
             Some(part) => tell_bars(told, &sheet, part, called),
         }
+        drop(sheet);
     }
 }
 
@@ -80,6 +84,7 @@ impl Table for Outgoing {
     fn tell(told: &mut Told, line: &[u8], asked: &[u8]) {
         let called = read_called(told, asked);
         tell_outgoing(told, line, &called);
+        drop(called);
     }
 }
 
@@ -152,7 +157,11 @@ const INCOMING: &[u8] =
 
 #[test]
 fn incoming_calls(rt: HostRuntime) {
-    assert_eq!(rt; wrong_line::<Incoming>(rt.alloc(), INCOMING), 0);
+    assert_right(
+        &rt,
+        "INCOMING",
+        wrong_line::<Incoming>(rt.alloc(), INCOMING),
+    );
 }
 
 /// A foreign domain and a number are barred.
@@ -181,5 +190,9 @@ const OUTGOING: &[u8] =
 
 #[test]
 fn outgoing_calls(rt: HostRuntime) {
-    assert_eq!(rt; wrong_line::<Outgoing>(rt.alloc(), OUTGOING), 0);
+    assert_right(
+        &rt,
+        "OUTGOING",
+        wrong_line::<Outgoing>(rt.alloc(), OUTGOING),
+    );
 }

@@ -11,6 +11,8 @@
 #![tactic(auto)]
 
 #[cfg(test)]
+mod asserting;
+#[cfg(test)]
 mod barring;
 mod outcomes;
 #[cfg(test)]

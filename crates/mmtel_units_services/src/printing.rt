@@ -1,17 +1,22 @@
 //! Sheets as records.
 
-use mmtel_lex::{List, Text};
-use mmtel_sheets::{
-    BarPart, DiversionPart, Restriction, Sheet, SheetFault, print_sheet, read_sheet,
-};
+use crate::asserting::assert_right;
+use mmtel_lex::{List, NoMemory, Text};
+use mmtel_sheets::{BarPart, DiversionPart, Restriction, Sheet, print_sheet, read_sheet};
+use mmtel_told::Told;
 use std::alloc::Global;
-use std::test::Fail;
 
-/// The sheet of a record that says nothing: each part that is always there, with its default.
-#[test]
-fn prints_the_empty_sheet(rt: HostRuntime) -> Result<(), Fail> {
-    let sheet = Sheet::empty();
-    let record = b"[originating-identity-presentation]
+/// The number of the first line of a record that is printed otherwise; 0 where none is. A line `#` ends it.
+fn wrong_text(alloc: Global, printed: Result<Text, NoMemory>, record: &[u8]) -> usize {
+    let mut told = Told::new(alloc);
+    let printed = told.made(printed);
+    told.add(printed.bytes());
+    told.add(b"#\n");
+    told.wrong_line(record)
+}
+
+/// The record of a sheet that says nothing: each part that is always there, with its default.
+const EMPTY: &[u8] = b"[originating-identity-presentation]
 active = true
 
 [originating-identity-presentation-restriction]
@@ -26,44 +31,18 @@ active = true
 active = false
 default-behaviour = \"presentation-not-restricted\"
 mode = \"temporary\"
+#
 ";
-    let alloc = rt.alloc();
-    assert_eq!(rt; print_sheet(alloc, &sheet)?.bytes(), record.as_slice());
-    Ok(())
+
+fn wrong_empty(alloc: Global) -> usize {
+    let sheet = Sheet::empty();
+    let printed = print_sheet(alloc, &sheet);
+    drop(sheet);
+    wrong_text(alloc, printed, EMPTY)
 }
 
-/// Each part, without rules.
-#[test]
-fn prints_each_part(rt: HostRuntime) -> Result<(), Fail> {
-    let sheet = Sheet {
-        diversion: Some(DiversionPart {
-            rules: List::new(),
-            no_reply: 30,
-            deflection: true,
-        }),
-        incoming: Some(BarPart {
-            rules: List::new(),
-            reject_anonymous: true,
-        }),
-        outgoing: Some(BarPart {
-            rules: List::new(),
-            reject_anonymous: false,
-        }),
-        oip: false,
-        oir: Restriction {
-            active: true,
-            permanent: true,
-            by_default: false,
-        },
-        tip: false,
-        tir: Restriction {
-            active: true,
-            permanent: false,
-            by_default: true,
-        },
-        waiting: Some(3),
-    };
-    let record = b"[communication-diversion]
+/// The record of a sheet with each part, without rules.
+const EACH_PART: &[u8] = b"[communication-diversion]
 active = true
 deflection = true
 no-reply-time = 30
@@ -97,10 +76,41 @@ active = false
 active = true
 default-behaviour = \"presentation-restricted\"
 mode = \"temporary\"
+#
 ";
-    let alloc = rt.alloc();
-    assert_eq!(rt; print_sheet(alloc, &sheet)?.bytes(), record.as_slice());
-    Ok(())
+
+fn wrong_each_part(alloc: Global) -> usize {
+    let sheet = Sheet {
+        diversion: Some(DiversionPart {
+            rules: List::new(),
+            no_reply: 30,
+            deflection: true,
+        }),
+        incoming: Some(BarPart {
+            rules: List::new(),
+            reject_anonymous: true,
+        }),
+        outgoing: Some(BarPart {
+            rules: List::new(),
+            reject_anonymous: false,
+        }),
+        oip: false,
+        oir: Restriction {
+            active: true,
+            permanent: true,
+            by_default: false,
+        },
+        tip: false,
+        tir: Restriction {
+            active: true,
+            permanent: false,
+            by_default: true,
+        },
+        waiting: Some(3),
+    };
+    let printed = print_sheet(alloc, &sheet);
+    drop(sheet);
+    wrong_text(alloc, printed, EACH_PART)
 }
 
 /// A rule of each kind, as a user may write it.
@@ -142,7 +152,7 @@ rule = [{allow = true, anonymous = true}, {allow = false, one = []}]
 rule = [{allow = false, many = "far.example", except = ["tel:+1"]}, {allow = true}]
 "#;
 
-/// The same as it is printed.
+/// The same as it is printed, with a line `#` behind it.
 const PRINTED: &[u8] = br#"[communication-diversion]
 active = true
 deflection = false
@@ -261,19 +271,26 @@ active = true
 active = false
 default-behaviour = "presentation-not-restricted"
 mode = "temporary"
+#
 "#;
 
-/// What is printed of the sheet that the record says.
-fn printed(alloc: Global, record: &[u8]) -> Result<Text, SheetFault> {
-    let sheet = read_sheet(alloc, record)?;
-    Ok(print_sheet(alloc, &sheet)?)
+/// The number of the first line that the sheet of a record is not printed as.
+fn wrong_record(alloc: Global, record: &[u8], wanted: &[u8]) -> usize {
+    match read_sheet(alloc, record) {
+        Ok(sheet) => {
+            let printed = print_sheet(alloc, &sheet);
+            drop(sheet);
+            wrong_text(alloc, printed, wanted)
+        }
+        Err(_) => 1,
+    }
 }
 
-/// A rule of each kind: what is printed of the record, and of what was printed.
+/// Sheets without rules; and a rule of each kind: what is printed of the record, and of what was printed.
 #[test]
-fn prints_rules(rt: HostRuntime) -> Result<(), Fail> {
-    let alloc = rt.alloc();
-    assert_eq!(rt; printed(alloc, WRITTEN)?.bytes(), PRINTED);
-    assert_eq!(rt; printed(alloc, PRINTED)?.bytes(), PRINTED);
-    Ok(())
+fn prints_sheets(rt: HostRuntime) {
+    assert_right(&rt, "empty", wrong_empty(rt.alloc()));
+    assert_right(&rt, "each_part", wrong_each_part(rt.alloc()));
+    assert_right(&rt, "WRITTEN", wrong_record(rt.alloc(), WRITTEN, PRINTED));
+    assert_right(&rt, "PRINTED", wrong_record(rt.alloc(), PRINTED, PRINTED));
 }

@@ -1,223 +1,203 @@
 //! Service records: the sheet that is read of each, or its first fault.
+//!
+//! A table is one text: the lines of a record, behind them those that reading it answers, each behind `=`, and an empty line. A line behind `*` is meant 63 times, behind
+//! `**` 64 times, behind `***` 65 times.
 
-use mmtel_lex::{List, NoMemory, Text, Uri, print_uri};
-use mmtel_scan::{part, skip_byte};
+use crate::asserting::assert_right;
+use mmtel_lex::{List, Text, Uri, print_uri};
 use mmtel_sheet_grammar::SheetFault;
 use mmtel_sheet_reader::read_sheet;
 use mmtel_sheet_values::{
     Action, BarPart, Condition, DiversionPart, EventWord, Forward, Restriction, Rule, Sheet, Who,
+    Window,
 };
+use mmtel_told::{Told, next_line};
 use std::alloc::Global;
-use std::process::Abort;
-use std::test::Fail;
 
-fn add_flag(alloc: Global, out: &mut Text, name: &[u8], flag: bool) -> Result<(), NoMemory> {
-    if !flag {
-        return Ok(());
+fn add_flag(told: &mut Told, name: &[u8], flag: bool) {
+    if flag {
+        told.add(b" ");
+        told.add(name);
     }
-    out.push(alloc, b" ")?;
-    out.push(alloc, name)
 }
 
-fn add_item(alloc: Global, out: &mut Text, name: &[u8], bytes: &[u8]) -> Result<(), NoMemory> {
-    add_flag(alloc, out, name, true)?;
-    out.push(alloc, b"<")?;
-    out.push(alloc, bytes)?;
-    out.push(alloc, b">")
+fn add_uri(told: &mut Told, name: &[u8], uri: &Uri) {
+    let text = print_uri(told.alloc, uri);
+    let text = told.made(text);
+    told.add_part(name, text.bytes());
 }
 
-fn add_uris(alloc: Global, out: &mut Text, name: &[u8], uris: &List<Uri>) -> Result<(), NoMemory> {
+fn add_uris(told: &mut Told, name: &[u8], uris: &List<Uri>) {
     for uri in uris.items() {
-        add_item(alloc, out, name, print_uri(alloc, uri)?.bytes())?;
+        add_uri(told, name, uri);
     }
-    Ok(())
 }
 
-fn add_who(alloc: Global, out: &mut Text, who: &Who) -> Result<(), NoMemory> {
-    add_flag(alloc, out, b"who", true)?;
-    add_uris(alloc, out, b"one", &who.one)?;
-    if let Some(domain) = &who.many {
-        add_item(alloc, out, b"many", domain.bytes())?;
+fn add_domain(told: &mut Told, many: &Option<Text>) {
+    if let Some(domain) = many {
+        told.add_part(b"many", domain.bytes());
     }
-    add_uris(alloc, out, b"except", &who.except)
 }
 
-fn add_media(alloc: Global, out: &mut Text, media: &List<Text>) -> Result<(), NoMemory> {
-    add_flag(alloc, out, b"media", true)?;
-    for kind in media.items() {
-        add_item(alloc, out, b"of", kind.bytes())?;
+fn add_who(told: &mut Told, who: &Option<Who>) {
+    if let Some(who) = who {
+        told.add(b" who");
+        add_uris(told, b"one", &who.one);
+        add_domain(told, &who.many);
+        add_uris(told, b"except", &who.except);
     }
-    Ok(())
 }
 
-fn event_name(event: EventWord) -> &'static [u8] {
+/// Adds a moment in milliseconds since 1970, which may be before that.
+fn add_moment(told: &mut Told, name: &[u8], moment: i128) {
+    match moment.to_string(told.alloc) {
+        Ok(digits) => told.add_part(name, digits.as_bytes()),
+        Err(_) => told.fail(),
+    }
+}
+
+fn add_window(told: &mut Told, window: Option<Window>) {
+    if let Some(window) = window {
+        add_moment(told, b"from", window.from);
+        add_moment(told, b"until", window.until);
+    }
+}
+
+fn add_media(told: &mut Told, media: &Option<List<Text>>) {
+    if let Some(media) = media {
+        told.add(b" media");
+        for kind in media.items() {
+            told.add_part(b"of", kind.bytes());
+        }
+    }
+}
+
+fn event_name(event: Option<EventWord>) -> &'static [u8] {
     match event {
-        EventWord::Busy => b"busy",
-        EventWord::NoAnswer => b"no-answer",
-        EventWord::NotReachable => b"not-reachable",
-        EventWord::NotRegistered => b"not-registered",
+        None => b"",
+        Some(EventWord::Busy) => b" busy",
+        Some(EventWord::NoAnswer) => b" no-answer",
+        Some(EventWord::NotReachable) => b" not-reachable",
+        Some(EventWord::NotRegistered) => b" not-registered",
     }
 }
 
 /// The parts of a condition that are there.
-fn add_condition(alloc: Global, out: &mut Text, condition: &Condition) -> Result<(), NoMemory> {
-    if let Some(who) = &condition.identity {
-        add_who(alloc, out, who)?;
-    }
-    add_flag(alloc, out, b"anonymous", condition.anonymous)?;
-    if let Some(window) = condition.window {
-        add_item(
-            alloc,
-            out,
-            b"from",
-            window.from.to_string(alloc)?.as_bytes(),
-        )?;
-        add_item(
-            alloc,
-            out,
-            b"until",
-            window.until.to_string(alloc)?.as_bytes(),
-        )?;
-    }
-    if let Some(media) = &condition.media {
-        add_media(alloc, out, media)?;
-    }
-    match condition.event {
-        Some(event) => add_flag(alloc, out, event_name(event), true),
-        None => Ok(()),
+fn add_condition(told: &mut Told, condition: &Condition) {
+    add_who(told, &condition.identity);
+    add_flag(told, b"anonymous", condition.anonymous);
+    add_window(told, condition.window);
+    add_media(told, &condition.media);
+    told.add(event_name(condition.event));
+}
+
+fn add_forward(told: &mut Told, forward: &Forward) {
+    add_uri(told, b"to", &forward.target);
+    add_flag(told, b"notify", forward.notify_caller);
+    add_flag(told, b"target-to-caller", forward.reveal_to_caller);
+    add_flag(told, b"served-to-caller", forward.reveal_served_to_caller);
+    add_flag(told, b"served-to-target", forward.reveal_to_target);
+}
+
+fn add_action(told: &mut Told, action: &Action) {
+    match action {
+        Action::Forward(forward) => add_forward(told, forward),
+        Action::Allow(allowed) => told.add_if(*allowed, b" allow", b" bar"),
     }
 }
 
-fn add_forward(alloc: Global, out: &mut Text, forward: &Forward) -> Result<(), NoMemory> {
-    add_item(
-        alloc,
-        out,
-        b"to",
-        print_uri(alloc, &forward.target)?.bytes(),
-    )?;
-    add_flag(alloc, out, b"notify", forward.notify_caller)?;
-    add_flag(alloc, out, b"target-to-caller", forward.reveal_to_caller)?;
-    add_flag(
-        alloc,
-        out,
-        b"served-to-caller",
-        forward.reveal_served_to_caller,
-    )?;
-    add_flag(alloc, out, b"served-to-target", forward.reveal_to_target)
-}
-
-/// A line for each rule: when it holds, and what it does.
-fn add_rules(alloc: Global, out: &mut Text, rules: &List<Rule>) -> Result<(), NoMemory> {
+/// Adds a line for each rule: when it holds, and what it does.
+fn add_rules(told: &mut Told, rules: &List<Rule>) {
     for rule in rules.items() {
-        out.push(alloc, b"rule")?;
-        add_condition(alloc, out, &rule.condition)?;
-        out.push(alloc, b":")?;
-        match &rule.action {
-            Action::Forward(forward) => add_forward(alloc, out, forward)?,
-            Action::Allow(true) => out.push(alloc, b" allow")?,
-            Action::Allow(false) => out.push(alloc, b" bar")?,
+        told.add(b"rule");
+        add_condition(told, &rule.condition);
+        told.add(b":");
+        add_action(told, &rule.action);
+        told.add(b"\n");
+    }
+}
+
+fn add_diversion(told: &mut Told, part: &Option<DiversionPart>) {
+    if let Some(part) = part {
+        told.add(b"diversion after");
+        told.add_spaced_number(u64::from(part.no_reply));
+        add_flag(told, b"deflection", part.deflection);
+        told.add(b"\n");
+        add_rules(told, &part.rules);
+    }
+}
+
+fn add_bar(told: &mut Told, word: &[u8], part: &Option<BarPart>) {
+    if let Some(part) = part {
+        told.add(word);
+        add_flag(told, b"reject-anonymous", part.reject_anonymous);
+        told.add(b"\n");
+        add_rules(told, &part.rules);
+    }
+}
+
+/// Adds a line for a restriction that says anything.
+fn add_restriction(told: &mut Told, word: &[u8], restriction: Restriction) {
+    if restriction.active || restriction.permanent || restriction.by_default {
+        told.add(word);
+        add_flag(told, b"active", restriction.active);
+        add_flag(told, b"permanent", restriction.permanent);
+        add_flag(told, b"by-default", restriction.by_default);
+        told.add(b"\n");
+    }
+}
+
+fn add_waiting(told: &mut Told, calls: Option<u8>) {
+    if let Some(calls) = calls {
+        told.add(b"waiting");
+        told.add_spaced_number(u64::from(calls));
+        told.add(b"\n");
+    }
+}
+
+/// Adds a line for each part of the sheet that is not as in an empty record.
+fn add_sheet(told: &mut Told, sheet: &Sheet) {
+    add_diversion(told, &sheet.diversion);
+    add_bar(told, b"incoming", &sheet.incoming);
+    add_bar(told, b"outgoing", &sheet.outgoing);
+    told.add_if(sheet.oip, b"", b"no oip\n");
+    add_restriction(told, b"oir", sheet.oir);
+    told.add_if(sheet.tip, b"", b"no tip\n");
+    add_restriction(told, b"tir", sheet.tir);
+    add_waiting(told, sheet.waiting);
+}
+
+fn add_key(told: &mut Told, word: &[u8], key: &Text) {
+    told.add(word);
+    told.add_line(key.bytes());
+}
+
+fn add_fault(told: &mut Told, fault: &SheetFault) {
+    match fault {
+        SheetFault::NotToml { .. } => told.add(b"not TOML\n"),
+        SheetFault::Unknown { key } => add_key(told, b"unknown ", key),
+        SheetFault::Wrong { key } => add_key(told, b"wrong ", key),
+        SheetFault::Many { key, limit: 64 } => add_key(told, b"many ", key),
+        SheetFault::Many { key, .. } => add_key(told, b"other limit ", key),
+        SheetFault::NoMemory => told.fail(),
+    }
+}
+
+/// Tells what reading the record answers: the lines of the sheet, or a line for its first fault.
+fn tell_read(told: &mut Told, record: &[u8]) {
+    match read_sheet(told.alloc, record) {
+        Ok(sheet) => {
+            add_sheet(told, &sheet);
+            drop(sheet);
         }
-        out.push(alloc, b"\n")?;
-    }
-    Ok(())
-}
-
-fn add_diversion(
-    alloc: Global,
-    out: &mut Text,
-    part: &Option<DiversionPart>,
-) -> Result<(), NoMemory> {
-    let Some(part) = part else {
-        return Ok(());
-    };
-    out.push(alloc, b"diversion after ")?;
-    out.push(alloc, part.no_reply.to_string(alloc)?.as_bytes())?;
-    add_flag(alloc, out, b"deflection", part.deflection)?;
-    out.push(alloc, b"\n")?;
-    add_rules(alloc, out, &part.rules)
-}
-
-fn add_bar(
-    alloc: Global,
-    out: &mut Text,
-    name: &[u8],
-    part: &Option<BarPart>,
-) -> Result<(), NoMemory> {
-    let Some(part) = part else {
-        return Ok(());
-    };
-    out.push(alloc, name)?;
-    add_flag(alloc, out, b"reject-anonymous", part.reject_anonymous)?;
-    out.push(alloc, b"\n")?;
-    add_rules(alloc, out, &part.rules)
-}
-
-/// A line for a restriction that says anything.
-fn add_restriction(
-    alloc: Global,
-    out: &mut Text,
-    name: &[u8],
-    restriction: Restriction,
-) -> Result<(), NoMemory> {
-    if !restriction.active && !restriction.permanent && !restriction.by_default {
-        return Ok(());
-    }
-    out.push(alloc, name)?;
-    add_flag(alloc, out, b"active", restriction.active)?;
-    add_flag(alloc, out, b"permanent", restriction.permanent)?;
-    add_flag(alloc, out, b"by-default", restriction.by_default)?;
-    out.push(alloc, b"\n")
-}
-
-/// A line for each part of the sheet that is not as in an empty record.
-fn sheet_lines(alloc: Global, sheet: &Sheet) -> Result<Text, NoMemory> {
-    let mut out = Text::new();
-    add_diversion(alloc, &mut out, &sheet.diversion)?;
-    add_bar(alloc, &mut out, b"incoming", &sheet.incoming)?;
-    add_bar(alloc, &mut out, b"outgoing", &sheet.outgoing)?;
-    if !sheet.oip {
-        out.push(alloc, b"no oip\n")?;
-    }
-    add_restriction(alloc, &mut out, b"oir", sheet.oir)?;
-    if !sheet.tip {
-        out.push(alloc, b"no tip\n")?;
-    }
-    add_restriction(alloc, &mut out, b"tir", sheet.tir)?;
-    if let Some(calls) = sheet.waiting {
-        out.push(alloc, b"waiting ")?;
-        out.push(alloc, calls.to_string(alloc)?.as_bytes())?;
-        out.push(alloc, b"\n")?;
-    }
-    Ok(out)
-}
-
-fn fault_line(alloc: Global, word: &[u8], key: &Text) -> Result<Text, SheetFault> {
-    let mut out = Text::of(alloc, word)?;
-    out.push(alloc, b" ")?;
-    out.push(alloc, key.bytes())?;
-    out.push(alloc, b"\n")?;
-    Ok(out)
-}
-
-/// What reading the record answers: the lines of the sheet, or a line for its first fault.
-fn told(alloc: Global, record: &[u8]) -> Result<Text, SheetFault> {
-    match read_sheet(alloc, record) {
-        Ok(sheet) => Ok(sheet_lines(alloc, &sheet)?),
-        Err(SheetFault::NotToml { .. }) => Ok(Text::of(alloc, b"not TOML\n")?),
-        Err(SheetFault::Unknown { key }) => fault_line(alloc, b"unknown", &key),
-        Err(SheetFault::Wrong { key }) => fault_line(alloc, b"wrong", &key),
-        Err(SheetFault::Many { key, limit: 64 }) => fault_line(alloc, b"many", &key),
-        Err(SheetFault::Many { key, .. }) => fault_line(alloc, b"other limit", &key),
-        Err(SheetFault::NoMemory) => Err(SheetFault::NoMemory),
+        Err(fault) => {
+            add_fault(told, &fault);
+            drop(fault);
+        }
     }
 }
 
-/// The first line of a table, and what follows it.
-fn next_line(table: &[u8]) -> (&[u8], &[u8]) {
-    part(b'\n', table).unwrap_or((table, b""))
-}
-
-/// How often a line is meant, and the line: 63 times behind `*`, 64 times behind `**`, 65 times behind `***`.
+/// How often a line is meant, and the line.
 fn repeated(line: &[u8]) -> (u8, &[u8]) {
     match line {
         [b'*', b'*', b'*', rest @ ..] => (65, rest),
@@ -227,43 +207,57 @@ fn repeated(line: &[u8]) -> (u8, &[u8]) {
     }
 }
 
-fn add_line(alloc: Global, out: &mut Text, line: &[u8]) -> Result<(), NoMemory> {
+fn add_repeated(text: &mut Told, line: &[u8]) {
     let (times, line) = repeated(line);
     for _ in 0..times {
-        out.push(alloc, line)?;
-        out.push(alloc, b"\n")?;
+        text.add_line(line);
     }
-    Ok(())
 }
 
-/// The lines of a record, those that it is to give, and what follows the row's end, an empty line.
-fn next_row(alloc: Global, table: &[u8]) -> Result<(Text, Text, &[u8]), NoMemory> {
-    let mut record = Text::new();
-    let mut wanted = Text::new();
-    let mut rows = table;
+/// Adds the lines of the first record of a table, and those that it is to give; gives what follows the row's end, an empty line.
+fn add_row<'a>(record: &mut Told, wanted: &mut Told, table: &'a [u8]) -> &'a [u8] {
+    let mut rest = table;
     for _ in 0..120 {
-        let (line, rest) = next_line(rows);
-        rows = rest;
-        match skip_byte(b'=', line) {
-            Some(answer) => add_line(alloc, &mut wanted, answer)?,
-            None if line.is_empty() => break,
-            None => add_line(alloc, &mut record, line)?,
+        let (line, later) = next_line(rest);
+        rest = later;
+        match line {
+            [] => break,
+            [b'=', answer @ ..] => add_repeated(wanted, answer),
+            _ => add_repeated(record, line),
         }
     }
-    Ok((record, wanted, rows))
+    rest
 }
 
-/// Each record of the table gives the lines that stand behind `=`.
-fn check_rows(rt: &impl Abort, alloc: Global, table: &[u8], count: u8) -> Result<(), Fail> {
-    let mut rows = table;
-    for _ in 0..count {
-        let (record, wanted, rest) = next_row(alloc, rows)?;
-        rows = rest;
-        let answer = told(alloc, record.bytes())?;
-        assert_eq!(rt; answer.bytes(), wanted.bytes(), "{:?}", record.bytes());
+/// Whether the first record of a table gives another line than those that stand behind `=`, and what follows it.
+fn is_wrong(alloc: Global, table: &[u8]) -> (bool, &[u8]) {
+    let mut record = Told::new(alloc);
+    let mut wanted = Told::new(alloc);
+    let rest = add_row(&mut record, &mut wanted, table);
+    (
+        wrong_answer(alloc, record.whole(), wanted.whole()) > 0,
+        rest,
+    )
+}
+
+/// The number of the first record of a table, from 1, that gives another line; 0 where none does.
+fn wrong_record(alloc: Global, table: &[u8]) -> usize {
+    let mut rest = table;
+    for before in 0..60 {
+        let (wrong, later) = is_wrong(alloc, rest);
+        if wrong {
+            return before + 1;
+        }
+        rest = later;
     }
-    assert!(rt; rows.is_empty());
-    Ok(())
+    rest.len()
+}
+
+/// The number of the first line, from 1, that reading this record answers otherwise; 0 where none is.
+fn wrong_answer(alloc: Global, record: &[u8], answer: &[u8]) -> usize {
+    let mut told = Told::new(alloc);
+    tell_read(&mut told, record);
+    told.wrong_line(answer)
 }
 
 /// Tables without rules. The first record is empty.
@@ -457,22 +451,6 @@ mode = 1
 =wrong terminating-identity-presentation-restriction.default-behaviour
 "#;
 
-/// Tables: their keys, ranges and defaults, and the first fault where there are several.
-#[test]
-fn reads_tables(rt: HostRuntime) -> Result<(), Fail> {
-    let alloc = rt.alloc();
-    check_rows(&rt, alloc, TABLES, 60)?;
-    assert_eq!(rt;
-        told(alloc, b"communication-waiting.calls = 3 # \xc3\xa4")?.bytes(),
-        b"waiting 3\n".as_slice()
-    );
-    assert_eq!(rt;
-        told(alloc, b"communication-waiting.calls = 3 # \xe4")?.bytes(),
-        b"not TOML\n".as_slice()
-    );
-    Ok(())
-}
-
 /// Rules, in tables that are not active, so that those that are read give no line.
 const RULES: &[u8] = br#"[communication-diversion]
 active = false
@@ -657,12 +635,6 @@ rule = [{many = "*"}, {many = 1}]
 =wrong outgoing-communication-barring.rule.0.allow
 "#;
 
-/// Rules: their keys, and the first fault where there are several.
-#[test]
-fn reads_rules(rt: HostRuntime) -> Result<(), Fail> {
-    check_rows(&rt, rt.alloc(), RULES, 60)
-}
-
 /// A record with each key, one with each default, and conditions that count as absent.
 const SHEETS: &[u8] = b"[communication-diversion]
 active = true
@@ -771,12 +743,6 @@ rule = []
 =tir active
 =waiting 2
 ";
-
-/// What whole records say.
-#[test]
-fn reads_sheets(rt: HostRuntime) -> Result<(), Fail> {
-    check_rows(&rt, rt.alloc(), SHEETS, 3)
-}
 
 /// Windows: the ends of the range, offsets, fractions that are taken down, and what is no time.
 const TIMES: &[u8] = br#"[[outgoing-communication-barring.rule]]
@@ -890,12 +856,6 @@ from = "2026-01-01T00:00:00Z"
 until = 1
 =wrong outgoing-communication-barring.rule.0.until
 "#;
-
-/// Times of records.
-#[test]
-fn reads_times(rt: HostRuntime) -> Result<(), Fail> {
-    check_rows(&rt, rt.alloc(), TIMES, 20)
-}
 
 /// Arrays and texts at their limits and past them; the items of `one` and `except` are counted together.
 const ARRAYS: &[u8] = br#"[outgoing-communication-barring]
@@ -1057,8 +1017,24 @@ media = [
 active = false
 "#;
 
-/// Arrays of rules and of identities, domains and targets.
+/// Records: keys, ranges and defaults of tables and rules, whole sheets, times, limits; and the first fault where there are several.
 #[test]
-fn counts_items(rt: HostRuntime) -> Result<(), Fail> {
-    check_rows(&rt, rt.alloc(), ARRAYS, 24)
+fn reads_records(rt: HostRuntime) {
+    assert_right(&rt, "TABLES", wrong_record(rt.alloc(), TABLES));
+    assert_right(&rt, "RULES", wrong_record(rt.alloc(), RULES));
+    assert_right(&rt, "SHEETS", wrong_record(rt.alloc(), SHEETS));
+    assert_right(&rt, "TIMES", wrong_record(rt.alloc(), TIMES));
+    assert_right(&rt, "ARRAYS", wrong_record(rt.alloc(), ARRAYS));
+    let letter = b"communication-waiting.calls = 3 # \xc3\xa4";
+    assert_right(
+        &rt,
+        "a letter of two bytes",
+        wrong_answer(rt.alloc(), letter, b"waiting 3\n"),
+    );
+    let broken = b"communication-waiting.calls = 3 # \xe4";
+    assert_right(
+        &rt,
+        "a byte that is no letter",
+        wrong_answer(rt.alloc(), broken, b"not TOML\n"),
+    );
 }

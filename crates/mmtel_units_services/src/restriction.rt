@@ -4,6 +4,7 @@
 //! is shown the called party; `-` for each that is not so. Behind them stand the words of Privacy. The record of the account that is served stands above, as tables parted
 //! by `&`; above the first rows there is no account.
 
+use crate::asserting::assert_right;
 use crate::reading::{Table, read_tables, wrong_line};
 use mmtel_identity::{callee_restricted, caller_restricted, present_to};
 use mmtel_sheet_values::Sheet;
@@ -54,6 +55,7 @@ impl Table for Identities {
             [_colon, tables @ ..] => {
                 if let Some(sheet) = read_tables(told, b'&', tables) {
                     tell_answers(told, &words, Some(&sheet));
+                    drop(sheet);
                 }
             }
         }
@@ -83,7 +85,8 @@ default-behaviour = \"presentation-restricted\" }
 --pp|
 rrpp|id
 --pp|none
-# A temporary restriction by default yields to the word `none`, and a permanent one does not; the originating service is of the caller, and the terminating one of the called party.
+# A temporary restriction by default yields to the word `none`, and a permanent one does not; the originating service is of the caller, and
+# the terminating one of the called party.
 :originating-identity-presentation-restriction = { default-behaviour = \"presentation-restricted\" }
 r-pp|
 --pp|none
@@ -124,5 +127,9 @@ rr-p|id
 
 #[test]
 fn restrictions_and_presentations(rt: HostRuntime) {
-    assert_eq!(rt; wrong_line::<Identities>(rt.alloc(), IDENTITIES), 0);
+    assert_right(
+        &rt,
+        "IDENTITIES",
+        wrong_line::<Identities>(rt.alloc(), IDENTITIES),
+    );
 }

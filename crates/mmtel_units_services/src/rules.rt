@@ -3,6 +3,7 @@
 //! The answers of a row are five: as the call arrives at a registered user, as it arrives at one who is not registered, at a busy user, without an answer, at a user who
 //! cannot be reached. Each is the place of the first rule that holds, or `-`. Rules divert, and a line has the keys behind the target.
 
+use crate::asserting::assert_right;
 use crate::reading::{Called, Table, facts, read_called, sheet_of, wrong_line};
 use mmtel_rules::{Facts, When, first, holds};
 use mmtel_sheet_values::Rule;
@@ -51,6 +52,7 @@ fn tell_of(told: &mut Told, line: &[u8], called: &Called) {
             None => told.fail(),
             Some(part) => tell_answers(told, part.rules.items(), &facts(called)),
         }
+        drop(sheet);
     }
 }
 
@@ -61,6 +63,7 @@ impl Table for Rules {
     fn tell(told: &mut Told, line: &[u8], asked: &[u8]) {
         let called = read_called(told, asked);
         tell_of(told, line, &called);
+        drop(called);
     }
 }
 
@@ -296,5 +299,5 @@ const RULES: &[u8] =
 
 #[test]
 fn conditions_and_rules(rt: HostRuntime) {
-    assert_eq!(rt; wrong_line::<Rules>(rt.alloc(), RULES), 0);
+    assert_right(&rt, "RULES", wrong_line::<Rules>(rt.alloc(), RULES));
 }

@@ -1,72 +1,30 @@
 //! The sheets that are in force, and the registrations.
 
-use mmtel_lex::Text;
-use mmtel_sheet_reader::read_sheet;
+use crate::asserting::assert_right;
+use crate::reading::read_tables;
+use mmtel_scan::number_up_to;
 use mmtel_sheet_values::{SharedSheet, Sheet, SheetView};
+use mmtel_told::{Rows, Told, cut, wrong_line};
 use mmtel_types::{Account, Moment};
 use mmtel_uploads::kept_sheet;
 use std::alloc::Global;
-use std::test::Fail;
 
-/// What was put is there, in the place of what was there before; the sheets of other accounts stay.
-#[test]
-fn keeps_sheets(rt: HostRuntime) -> Result<(), Fail> {
-    let alloc = rt.alloc();
-    let mut view = SheetView::new(alloc);
-    for (account, record) in [
-        (1, b"communication-waiting.calls = 4".as_slice()),
-        (u32::MAX, b"communication-waiting.calls = 5".as_slice()),
-        (1, b"communication-waiting.calls = 6".as_slice()),
-        (0, b"".as_slice()),
-    ] {
-        view.put(Account(account), read_sheet(alloc, record)?)?;
-    }
-    for (account, there, calls) in [
-        (0, true, None),
-        (1, true, Some(6)),
-        (2, false, None),
-        (u32::MAX, true, Some(5)),
-    ] {
-        let sheet = view.sheet(Account(account));
-        assert_eq!(rt; sheet.is_some(), there, "{account}");
-        if let Some(sheet) = sheet {
-            assert_eq!(rt; sheet.waiting, calls, "{account}");
-        }
-    }
-    Ok(())
-}
-
-/// What a walk through the calls of a view has shown. It remembers that something went wrong on the way, so that a test asks once, at its end.
+/// A view, and one of its sheets that is kept.
 #[derive(Drop)]
-struct Page {
-    text: Text,
-    failed: bool,
+struct Views {
+    view: SheetView,
+    kept: Option<SharedSheet>,
 }
 
-impl Page {
-    fn new() -> Page {
-        Page {
-            text: Text::new(),
-            failed: false,
-        }
-    }
+/// The account of this number.
+fn account(digits: &[u8]) -> Account {
+    let number = number_up_to(u64::from(u32::MAX), digits).unwrap_or(0);
+    Account(u32::try_from(number).unwrap_or(0))
+}
 
-    /// Keeps in mind that something went wrong, where it was not done.
-    fn keep(&mut self, done: bool) {
-        if !done {
-            self.failed = true;
-        }
-    }
-
-    /// Adds the calls that the sheet allows at once, or `-` where there is none.
-    fn add(&mut self, alloc: Global, sheet: Option<&Sheet>) {
-        let mark = match sheet {
-            None => b'-',
-            Some(sheet) => b'0' + sheet.waiting.unwrap_or(0).min(9),
-        };
-        let done = self.text.push(alloc, &[mark]);
-        self.keep(done.is_ok());
-    }
+/// The moment of this many milliseconds; none of what is no number.
+fn moment(digits: &[u8]) -> Option<Moment> {
+    Moment::new(number_up_to(u64::MAX, digits)?)
 }
 
 /// A sheet with so many calls at once.
@@ -76,145 +34,256 @@ fn waiting(calls: u8) -> Sheet {
     sheet
 }
 
-/// Puts a sheet in the place of the account's without memory, and adds the one that was there.
-fn replace(page: &mut Page, alloc: Global, view: &mut SheetView, account: Account, calls: u8) {
-    match SharedSheet::of(alloc, waiting(calls)) {
-        Err(_) => page.failed = true,
-        Ok(sheet) => match view.reserve(account) {
-            Err(_) => page.failed = true,
-            Ok(()) => match view.replace(account, sheet) {
-                None => page.add(alloc, None),
-                Some(before) => page.add(alloc, Some(before.sheet())),
-            },
-        },
-    }
-}
-
-/// The account's sheet, to be kept.
-fn share(page: &mut Page, view: &SheetView, account: Account) -> Option<SharedSheet> {
-    match view.shared(account) {
-        Ok(shared) => shared,
-        Err(_) => {
-            page.failed = true;
-            None
+/// Tells a number, or `-` for none.
+fn tell_number(told: &mut Told, number: Option<u64>) {
+    match number {
+        None => told.add(b"-\n"),
+        Some(number) => {
+            told.add_number(number);
+            told.add(b"\n");
         }
     }
 }
 
-fn add_shared(page: &mut Page, alloc: Global, shared: &Option<SharedSheet>) {
-    match shared {
-        None => page.add(alloc, None),
-        Some(shared) => page.add(alloc, Some(shared.sheet())),
+/// Tells how many calls the sheet allows at once.
+fn tell_calls(told: &mut Told, sheet: &Sheet) {
+    match sheet.waiting {
+        None => tell_number(told, None),
+        Some(calls) => tell_number(told, Some(u64::from(calls))),
     }
 }
 
-/// Sheets are reserved for, put, kept and replaced.
-fn replaced(alloc: Global) -> Page {
-    let (first, second) = (Account(1), Account(2));
-    let mut page = Page::new();
-    let mut view = SheetView::new(alloc);
-    page.keep(view.reserve(first).is_ok());
-    page.add(alloc, view.sheet(first));
-    page.keep(view.put(first, waiting(4)).is_ok());
-    page.keep(view.reserve(first).is_ok());
-    page.add(alloc, view.sheet(first));
-    let kept = share(&mut page, &view, first);
-    replace(&mut page, alloc, &mut view, first, 5);
-    page.add(alloc, view.sheet(first));
-    add_shared(&mut page, alloc, &kept);
-    replace(&mut page, alloc, &mut view, second, 6);
-    page.add(alloc, view.sheet(second));
-    page.add(alloc, view.sheet(first));
-    let none = share(&mut page, &view, Account(3));
-    add_shared(&mut page, alloc, &none);
-    page
+/// Tells how many calls the sheet allows at once; `none` where there is no sheet.
+fn tell_sheet(told: &mut Told, sheet: Option<&Sheet>) {
+    match sheet {
+        None => told.add(b"none\n"),
+        Some(sheet) => tell_calls(told, sheet),
+    }
 }
+
+fn tell_shared(told: &mut Told, shared: &Option<SharedSheet>) {
+    match shared {
+        None => tell_sheet(told, None),
+        Some(shared) => tell_calls(told, shared.sheet()),
+    }
+}
+
+/// Tells the no-reply time of a record, in which `|` ends a line.
+fn tell_time(told: &mut Told, record: &[u8]) {
+    if let Some(sheet) = read_tables(told, b'|', record) {
+        tell_number(told, sheet.no_reply_time());
+        drop(sheet);
+    }
+}
+
+/// Tells how many calls at once a text allows that was kept.
+fn tell_text(told: &mut Told, text: &[u8]) {
+    match kept_sheet(told.alloc, text) {
+        Ok(sheet) => {
+            tell_calls(told, &sheet);
+            drop(sheet);
+        }
+        Err(_) => told.fail(),
+    }
+}
+
+impl Views {
+    fn reserve(&mut self, told: &mut Told, account: Account) {
+        let done = self.view.reserve(account);
+        told.keep(done.is_ok());
+    }
+
+    /// Puts the sheet of a record.
+    fn put(&mut self, told: &mut Told, account: Account, record: &[u8]) {
+        if let Some(sheet) = read_tables(told, b'|', record) {
+            let done = self.view.put(account, sheet);
+            told.keep(done.is_ok());
+        }
+    }
+
+    /// Puts a sheet in the place of the account's without memory, and tells the one that was there.
+    fn replace_by(&mut self, told: &mut Told, account: Account, sheet: SharedSheet) {
+        match self.view.reserve(account) {
+            Ok(()) => tell_shared(told, &self.view.replace(account, sheet)),
+            Err(_) => told.fail(),
+        }
+    }
+
+    /// The same of a sheet with so many calls at once.
+    fn replace(&mut self, told: &mut Told, account: Account, digits: &[u8]) {
+        let calls = number_up_to(9, digits).unwrap_or(0);
+        let sheet = waiting(u8::try_from(calls).unwrap_or(0));
+        match SharedSheet::of(told.alloc, sheet) {
+            Ok(sheet) => self.replace_by(told, account, sheet),
+            Err(_) => told.fail(),
+        }
+    }
+
+    /// Keeps the account's sheet, and tells it.
+    fn keep(&mut self, told: &mut Told, account: Account) {
+        match self.view.shared(account) {
+            Ok(shared) => self.kept = shared,
+            Err(_) => told.fail(),
+        }
+        tell_shared(told, &self.kept);
+    }
+
+    /// Sets the end of a registration, or that it has none.
+    fn end(&mut self, told: &mut Told, account: Account, digits: &[u8]) {
+        let done = self.view.set_registered(account, moment(digits));
+        told.keep(done.is_ok());
+    }
+
+    /// Tells whether the account is registered at this moment.
+    fn tell_registered(&self, told: &mut Told, account: Account, digits: &[u8]) {
+        match moment(digits) {
+            Some(now) => told.add_if(self.view.registered(account, now), b"yes\n", b"no\n"),
+            None => told.fail(),
+        }
+    }
+
+    /// What becomes of the sheets.
+    fn tell_sheets(&mut self, told: &mut Told, word: &[u8], account: Account, rest: &[u8]) {
+        match word {
+            b"reserve" => self.reserve(told, account),
+            b"put" => self.put(told, account, rest),
+            b"replace" => self.replace(told, account, rest),
+            b"keep" => self.keep(told, account),
+            b"kept" => tell_shared(told, &self.kept),
+            _ => tell_sheet(told, self.view.sheet(account)),
+        }
+    }
+}
+
+impl Rows for Views {
+    fn tell(&mut self, told: &mut Told, asked: &[u8]) {
+        let (word, rest) = cut(b' ', asked);
+        let (number, more) = cut(b' ', rest);
+        match word {
+            b"end" => self.end(told, account(number), more),
+            b"registered" => self.tell_registered(told, account(number), more),
+            b"time" => tell_time(told, rest),
+            b"text" => tell_text(told, rest),
+            _ => self.tell_sheets(told, word, account(number), more),
+        }
+    }
+}
+
+/// What was put is there, in the place of what was there before; the sheets of other accounts stay. A sheet is told by the calls that it allows at once.
+const KEPT: &[u8] = b"> put 1 communication-waiting.calls = 4
+> put 4294967295 communication-waiting.calls = 5
+> put 1 communication-waiting.calls = 6
+> put 0 
+> sheet 0
+-
+> sheet 1
+6
+> sheet 2
+none
+> sheet 4294967295
+5
+";
 
 /// Room is no sheet and takes none away; a sheet that is kept stays as it is when another is put in its place.
-#[test]
-fn replaces_sheets(rt: HostRuntime) -> Result<(), Fail> {
-    let page = replaced(rt.alloc());
-    assert!(rt; !page.failed, "memory");
-    assert_eq!(rt; page.text.bytes(), b"-4454-65-".as_slice());
-    Ok(())
-}
+const REPLACED: &[u8] = b"> reserve 1
+> sheet 1
+none
+> put 1 communication-waiting.calls = 4
+> reserve 1
+> sheet 1
+4
+> keep 1
+4
+> replace 1 5
+4
+> sheet 1
+5
+> kept
+4
+> replace 2 6
+none
+> sheet 2
+6
+> sheet 1
+5
+> keep 3
+none
+";
 
-/// The no-reply time is there where the diversion is active and has a rule for calls that are not answered.
-#[test]
-fn no_reply_times(rt: HostRuntime) -> Result<(), Fail> {
-    for (record, time) in [
-        (b"".as_slice(), None),
-        (b"[communication-diversion]".as_slice(), None),
-        (
-            b"[communication-diversion]\nno-reply-time = 30\nrule = [{busy = true, target = \"sip:a@b\"}, {target = \"sip:a@b\"}]",
-            None,
-        ),
-        (
-            b"[communication-diversion]\nno-reply-time = 30\nrule = [{no-answer = false, target = \"sip:a@b\"}]",
-            None,
-        ),
-        (
-            b"[communication-diversion]\nactive = false\nno-reply-time = 30\nrule = [{no-answer = true, target = \"sip:a@b\"}]",
-            None,
-        ),
-        (
-            b"[communication-diversion]\nrule = [{no-answer = true, target = \"sip:a@b\"}]",
-            Some(20_000),
-        ),
-        (
-            b"[communication-diversion]\nno-reply-time = 180\nrule = [{busy = true, target = \"sip:a@b\"}, {no-answer = true, anonymous = true, target = \"sip:a@b\"}]",
-            Some(180_000),
-        ),
-    ] {
-        let sheet = read_sheet(rt.alloc(), record)?;
-        assert_eq!(rt; sheet.no_reply_time(), time, "{:?}", record);
-    }
-    Ok(())
-}
+/// The no-reply time is there where the diversion is active and has a rule for calls that are not answered. A `|` ends a line of a record.
+const TIMES: &[u8] = b"> time 
+-
+> time [communication-diversion]
+-
+> time [communication-diversion]|no-reply-time = 30|rule = [{busy = true, target = \"sip:a@b\"}, {target = \"sip:a@b\"}]
+-
+> time [communication-diversion]|no-reply-time = 30|rule = [{no-answer = false, target = \"sip:a@b\"}]
+-
+> time [communication-diversion]|active = false|no-reply-time = 30|rule = [{no-answer = true, target = \"sip:a@b\"}]
+-
+> time [communication-diversion]|rule = [{no-answer = true, target = \"sip:a@b\"}]
+20000
+> time [communication-diversion]|no-reply-time = 180|rule = [{busy = true, target = \"sip:a@b\"}, {no-answer = true, anonymous = true, target = \"sip:a@b\"}]
+180000
+";
 
 /// A text that was kept and is no record counts as the empty one.
-#[test]
-fn kept_texts(rt: HostRuntime) -> Result<(), Fail> {
-    for (text, calls) in [
-        (b"".as_slice(), None),
-        (b"communication-waiting.calls = 4".as_slice(), Some(4)),
-        (b"communication-waiting.calls = 9".as_slice(), None),
-        (b"communication-waitin = 1".as_slice(), None),
-        (b"communication-waiting.calls = 4 # \xe4".as_slice(), None),
-    ] {
-        let sheet = kept_sheet(rt.alloc(), text)?;
-        assert_eq!(rt; sheet.waiting, calls, "{:?}", text);
-    }
-    Ok(())
-}
+const TEXTS: &[u8] = b"> text 
+-
+> text communication-waiting.calls = 4
+4
+> text communication-waiting.calls = 9
+-
+> text communication-waitin = 1
+-
+> text communication-waiting.calls = 4 # \xe4
+-
+";
 
 /// A registration ends at its moment, and one without an end does not; a sheet does not change it.
+const ENDS: &[u8] = b"> end 1 10
+> end 2 20
+> end 2 30
+> end 3 0
+> end 4 0
+> end 4 never
+> put 1 
+> registered 0 250000000000000
+yes
+> registered 1 9
+yes
+> registered 1 10
+no
+> registered 1 11
+no
+> registered 2 20
+yes
+> registered 2 29
+yes
+> registered 2 30
+no
+> registered 3 0
+no
+> registered 4 0
+yes
+> registered 4 250000000000000
+yes
+";
+
+/// The number of the first line of a table that is not told again; 0 where each is.
+fn wrong(alloc: Global, table: &[u8]) -> usize {
+    let mut views = Views {
+        view: SheetView::new(alloc),
+        kept: None,
+    };
+    wrong_line(alloc, &mut views, table)
+}
+
 #[test]
-fn ends_registrations(rt: HostRuntime) -> Result<(), Fail> {
-    let alloc = rt.alloc();
-    let mut view = SheetView::new(alloc);
-    view.set_registered(Account(1), Moment::new(10))?;
-    view.set_registered(Account(2), Moment::new(20))?;
-    view.set_registered(Account(2), Moment::new(30))?;
-    view.set_registered(Account(3), Moment::new(0))?;
-    view.set_registered(Account(4), Moment::new(0))?;
-    view.set_registered(Account(4), None)?;
-    view.put(Account(1), read_sheet(alloc, b"")?)?;
-    for (account, now, registered) in [
-        (0, 250_000_000_000_000, true),
-        (1, 9, true),
-        (1, 10, false),
-        (1, 11, false),
-        (2, 20, true),
-        (2, 29, true),
-        (2, 30, false),
-        (3, 0, false),
-        (4, 0, true),
-        (4, 250_000_000_000_000, true),
-    ] {
-        let now = Moment::new(now).ok_or("out of range")?;
-        let answer = view.registered(Account(account), now);
-        assert_eq!(rt; answer, registered, "{account}");
-    }
-    Ok(())
+fn sheets_and_registrations(rt: HostRuntime) {
+    assert_right(&rt, "KEPT", wrong(rt.alloc(), KEPT));
+    assert_right(&rt, "REPLACED", wrong(rt.alloc(), REPLACED));
+    assert_right(&rt, "TIMES", wrong(rt.alloc(), TIMES));
+    assert_right(&rt, "TEXTS", wrong(rt.alloc(), TEXTS));
+    assert_right(&rt, "ENDS", wrong(rt.alloc(), ENDS));
 }

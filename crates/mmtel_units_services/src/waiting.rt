@@ -1,5 +1,6 @@
 //! How many calls a user may have at once (TS 24.615), and which sides of a call hold it (RFC 3264 §8.4, TS 24.610).
 
+use crate::asserting::assert_right;
 use crate::reading::{Table, wrong_line};
 use mmtel_scan::number_up_to;
 use mmtel_sdp::Direction;
@@ -30,6 +31,7 @@ impl Table for BusyUsers {
         if let Some(sheet) = told.noted(sheet) {
             told.add_number(u64::from(capacity(&sheet)));
             told.add_if(is_busy(live, &sheet), b"b", b"-");
+            drop(sheet);
         }
     }
 }
@@ -55,7 +57,11 @@ const CAPACITIES: &[u8] = b"1-|0
 
 #[test]
 fn busy_users_of_a_capacity(rt: HostRuntime) {
-    assert_eq!(rt; wrong_line::<BusyUsers>(rt.alloc(), CAPACITIES), 0);
+    assert_right(
+        &rt,
+        "CAPACITIES",
+        wrong_line::<BusyUsers>(rt.alloc(), CAPACITIES),
+    );
 }
 
 fn side_of(letter: u8) -> Side {
@@ -125,5 +131,5 @@ a-3|asaxaiaras
 
 #[test]
 fn sides_that_hold(rt: HostRuntime) {
-    assert_eq!(rt; wrong_line::<HoldSteps>(rt.alloc(), HOLDS), 0);
+    assert_right(&rt, "HOLDS", wrong_line::<HoldSteps>(rt.alloc(), HOLDS));
 }

@@ -26,6 +26,7 @@ impl Rows for Wholes {
     fn tell(&mut self, told: &mut Told, asked: &[u8]) {
         let bytes = meant(told, asked);
         add_whole(told, bytes.whole());
+        drop(bytes);
     }
 }
 
@@ -100,6 +101,7 @@ fn add_long(told: &mut Told, size: usize, end: &[u8]) {
     add_many(&mut head, b"a", size);
     head.add(end);
     add_length(told, &head);
+    drop(head);
 }
 
 /// Adds what `whole` says of a request of these lines, with so many copies of a piece and this end.
@@ -109,25 +111,41 @@ fn add_wide(told: &mut Told, lines: &[u8], piece: &[u8], count: usize, end: &[u8
     add_many(&mut text, piece, count);
     text.add(end);
     add_length(told, &text);
+    drop(text);
 }
 
 /// A head of 8,192 bytes is taken and one of 8,193 is not; as many bytes that do not end a head are not enough, or too many.
-/// 64 headers are taken and 65 are not; the largest body is taken once it is whole.
-fn wrong_limit(alloc: Global) -> usize {
-    let mut told = Told::new(alloc);
+fn add_heads(told: &mut Told) {
     let end = b"\r\n\r\n";
-    add_long(&mut told, 8_169, end);
-    add_long(&mut told, 8_170, end);
-    add_long(&mut told, 8_173, b"");
-    add_long(&mut told, 8_174, b"");
+    add_long(told, 8_169, end);
+    add_long(told, 8_170, end);
+    add_long(told, 8_173, b"");
+    add_long(told, 8_174, b"");
+}
+
+/// 64 headers are taken and 65 are not.
+fn add_headers(told: &mut Told) {
     let line = b"GET / HTTP/1.1\r\n";
-    add_wide(&mut told, line, b"A: b\r\n", 64, b"\r\n");
-    add_wide(&mut told, line, b"A: b\r\n", 65, b"\r\n");
+    add_wide(told, line, b"A: b\r\n", 64, b"\r\n");
+    add_wide(told, line, b"A: b\r\n", 65, b"\r\n");
+}
+
+/// The largest body is taken once it is whole.
+fn add_bodies(told: &mut Told) {
     let head = b"GET / HTTP/1.1\r\nContent-Length: 65536\r\n\r\n";
     let piece = b"0123456789abcdef0123456789abcdef0123456789abcdef0123456789abcdef";
-    add_wide(&mut told, head, piece, 1_023, b"");
-    add_wide(&mut told, head, piece, 1_024, b"");
-    told.wrong_line(b"8192\nbad\nmore\nbad\n402\nbad\nmore\n65577\n")
+    add_wide(told, head, piece, 1_023, b"");
+    add_wide(told, head, piece, 1_024, b"");
+}
+
+fn wrong_limit(alloc: Global) -> usize {
+    let mut told = Told::new(alloc);
+    add_heads(&mut told);
+    add_headers(&mut told);
+    add_bodies(&mut told);
+    let wrong = told.wrong_line(b"8192\nbad\nmore\nbad\n402\nbad\nmore\n65577\n");
+    drop(told);
+    wrong
 }
 
 #[test]

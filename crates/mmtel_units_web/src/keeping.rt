@@ -1,6 +1,6 @@
 //! The keeper in memory, and the texts of records.
 
-use crate::pages::numbers;
+use crate::pages::{numbers, unless_failed};
 use mmtel_charging::{Kind, Row};
 use mmtel_keeper::{KeepFault, Keeper, MemoryKeeper};
 use mmtel_scan::Text;
@@ -71,17 +71,25 @@ fn add_sheets(told: &mut Told, sheets: &[(Account, Text)]) {
 
 fn add_loaded(told: &mut Told, keeper: &mut MemoryKeeper) {
     match keeper.load(told.alloc) {
-        Ok(sheets) => add_sheets(told, sheets.items()),
+        Ok(sheets) => {
+            add_sheets(told, sheets.items());
+            drop(sheets);
+        }
         Err(fault) => add_fault(told, fault),
+    }
+}
+
+fn add_digits(told: &mut Told, rows: &[Row]) {
+    for row in rows {
+        told.add(&[digit_of(row)]);
     }
 }
 
 fn add_listed(told: &mut Told, keeper: &mut MemoryKeeper) {
     match keeper.rows(told.alloc) {
         Ok(rows) => {
-            for row in rows.items() {
-                told.add(&[digit_of(row)]);
-            }
+            add_digits(told, rows.items());
+            drop(rows);
         }
         Err(fault) => add_fault(told, fault),
     }
@@ -175,7 +183,10 @@ impl Texts {
         let text = told.copy(text);
         match self.texts.reserve(told.alloc) {
             Ok(()) => self.texts.replace(account, text),
-            Err(_) => told.fail(),
+            Err(_) => {
+                drop(text);
+                told.fail();
+            }
         }
     }
 
@@ -230,19 +241,20 @@ fn wrong_text(alloc: Global) -> usize {
     let mut texts = Texts {
         texts: SheetTexts::new(),
     };
-    wrong_line(alloc, &mut texts, TEXTS)
+    let wrong = wrong_line(alloc, &mut texts, TEXTS);
+    drop(texts);
+    wrong
 }
 
 fn wrong_kept(alloc: Global) -> usize {
     let mut told = Told::new(alloc);
     let failing = numbers(&mut told, &[3, 8, 11]);
-    if told.has_failed() {
-        return 1;
-    }
     let mut kept = Kept {
         keeper: MemoryKeeper::new(failing),
     };
-    wrong_line(alloc, &mut kept, KEEPING)
+    let wrong = wrong_line(alloc, &mut kept, KEEPING);
+    drop(kept);
+    unless_failed(told, wrong)
 }
 
 #[test]

@@ -1,6 +1,6 @@
 //! The link in memory.
 
-use crate::pages::numbers;
+use crate::pages::{numbers, unless_failed};
 use mmtel_link::{Arrival, Event, Link, MemoryLink, SendFault};
 use mmtel_scan::{List, Text};
 use mmtel_told::{Rows, Told, wrong_line};
@@ -41,13 +41,22 @@ fn three_events(told: &mut Told) -> List<Event> {
     events
 }
 
+fn add_arrival(told: &mut Told, arrival: &Arrival) {
+    match arrival {
+        Arrival::Datagram { bytes, .. } => told.add(bytes.bytes()),
+        Arrival::Web { .. } => told.add(b"web"),
+        Arrival::Quiet { .. } => told.add(b"quiet"),
+        Arrival::Closed => told.add(b"closed"),
+        Arrival::NoMemory => told.fail(),
+    }
+}
+
 fn add_next(told: &mut Told, link: &mut MemoryLink) {
     match link.next(told.alloc) {
-        Ok(Arrival::Datagram { bytes, .. }) => told.add(bytes.bytes()),
-        Ok(Arrival::Web { .. }) => told.add(b"web"),
-        Ok(Arrival::Quiet { .. }) => told.add(b"quiet"),
-        Ok(Arrival::Closed) => told.add(b"closed"),
-        Ok(Arrival::NoMemory) => told.fail(),
+        Ok(arrival) => {
+            add_arrival(told, &arrival);
+            drop(arrival);
+        }
         Err(_) => told.add(b"failed"),
     }
 }
@@ -149,13 +158,12 @@ fn wrong_link(alloc: Global) -> usize {
     let mut told = Told::new(alloc);
     let events = three_events(&mut told);
     let failing = numbers(&mut told, &[2, 6, 9]);
-    if told.has_failed() {
-        return 1;
-    }
     let mut linked = Linked {
         link: MemoryLink::new(events, failing),
     };
-    wrong_line(alloc, &mut linked, LINKING)
+    let wrong = wrong_line(alloc, &mut linked, LINKING);
+    drop(linked);
+    unless_failed(told, wrong)
 }
 
 #[test]

@@ -44,3 +44,10 @@ pub fn numbers(told: &mut Told, numbers: &[u64]) -> List<u64> {
     }
     list
 }
+
+/// The number of a line; 1 where something went wrong.
+pub fn unless_failed(told: Told, line: usize) -> usize {
+    let failed = told.has_failed();
+    drop(told);
+    if failed { 1 } else { line }
+}

@@ -2,7 +2,7 @@
 
 ghost use Rattle.http.specs.StatusCode.{IsStatusCode};
 
-use crate::pages::{add_shown, meant, numbers};
+use crate::pages::{add_shown, meant, numbers, unless_failed};
 use mmtel_in_force::Records;
 use mmtel_keeper::MemoryKeeper;
 use mmtel_lex::{Uri, read_uri};
@@ -95,7 +95,10 @@ fn add_web(told: &mut Told, web: &Web) {
 
 fn add_asked(told: &mut Told, server: &Server, bytes: &[u8]) {
     match answer(told.alloc, &server.directory, server.records.texts(), bytes) {
-        Ok(web) => add_web(told, &web),
+        Ok(web) => {
+            add_web(told, &web);
+            drop(web);
+        }
         Err(_) => told.fail(),
     }
 }
@@ -110,6 +113,7 @@ impl Rows for Asking {
     fn tell(&mut self, told: &mut Told, asked: &[u8]) {
         let bytes = meant(told, asked);
         add_asked(told, &self.server, bytes.bytes());
+        drop(bytes);
         told.add(b"\n");
     }
 }
@@ -131,7 +135,10 @@ impl Server {
             &mut self.keeper,
             bytes,
         ) {
-            Ok(served) => add_shown(told, served.reply.bytes()),
+            Ok(served) => {
+                add_shown(told, served.reply.bytes());
+                drop(served);
+            }
             Err(_) => told.fail(),
         }
     }
@@ -142,6 +149,7 @@ impl Rows for Server {
     fn tell(&mut self, told: &mut Told, asked: &[u8]) {
         let bytes = meant(told, asked);
         self.serve(told, bytes.bytes());
+        drop(bytes);
         if let Some(sheet) = self.records.sheet(Account(2)) {
             add_waiting(told, sheet.waiting);
         }
@@ -156,20 +164,19 @@ fn wrong_asked(alloc: Global, table: &[u8]) -> usize {
     let record = told.copy(b"a = 1");
     let done = server.records.put(alloc, Account(1), record);
     told.keep(done.is_ok());
-    if told.has_failed() {
-        return 1;
-    }
-    wrong_line(alloc, &mut Asking { server }, table)
+    let mut asking = Asking { server };
+    let wrong = wrong_line(alloc, &mut asking, table);
+    drop(asking);
+    unless_failed(told, wrong)
 }
 
 /// The same of a server whose keeper's third and sixth call fail.
 fn wrong_served(alloc: Global, table: &[u8]) -> usize {
     let mut told = Told::new(alloc);
     let mut server = make_server(&mut told, &[3, 6]);
-    if told.has_failed() {
-        return 1;
-    }
-    wrong_line(alloc, &mut server, table)
+    let wrong = wrong_line(alloc, &mut server, table);
+    drop(server);
+    unless_failed(told, wrong)
 }
 
 /// Paths, methods, accounts, identities, records, uploads, and what is no request; the first that applies is the answer.
@@ -425,7 +432,10 @@ fn add_reply(told: &mut Told, code: u16, body: &[u8])
     requires { IsStatusCode code }
 {
     match reply(told.alloc, code, body) {
-        Ok(text) => add_shown(told, text.bytes()),
+        Ok(text) => {
+            add_shown(told, text.bytes());
+            drop(text);
+        }
         Err(_) => told.fail(),
     }
     told.add(b"\n");
@@ -436,7 +446,9 @@ fn wrong_reply(alloc: Global) -> usize {
     add_reply(&mut told, 503, b"");
     add_reply(&mut told, 507, b"");
     add_reply(&mut told, 200, b"a,b\n");
-    told.wrong_line(REPLIES)
+    let wrong = told.wrong_line(REPLIES);
+    drop(told);
+    wrong
 }
 
 /// An upload that is kept.
@@ -451,16 +463,30 @@ fn could_be_whole(bytes: &[u8]) -> bool {
     }
 }
 
+/// Whether the answer is the reply 400.
+fn is_refused(web: &Web) -> bool {
+    match web {
+        Web::Read(text) => text.bytes().starts_with(b"HTTP/1.1 400 ".as_slice()),
+        _ => false,
+    }
+}
+
 /// Adds `!` where these bytes could be a whole request, or get another reply than 400.
 fn add_early(told: &mut Told, server: &Server, bytes: &[u8]) {
     told.add_if(could_be_whole(bytes), b"!", b"");
     match answer(told.alloc, &server.directory, server.records.texts(), bytes) {
-        Ok(Web::Read(text)) => {
-            let refused = text.bytes().starts_with(b"HTTP/1.1 400 ".as_slice());
-            told.add_if(refused, b"", b"!");
+        Ok(web) => {
+            told.add_if(is_refused(&web), b"", b"!");
+            drop(web);
         }
-        Ok(_) => told.add(b"!"),
         Err(_) => told.fail(),
+    }
+}
+
+/// The same of each beginning of these bytes.
+fn add_beginnings(told: &mut Told, server: &Server, bytes: &[u8]) {
+    for len in 0..bytes.len() {
+        add_early(told, server, &bytes[..len]);
     }
 }
 
@@ -469,11 +495,12 @@ fn wrong_early(alloc: Global) -> usize {
     let mut told = Told::new(alloc);
     let server = make_server(&mut told, &[1, 2]);
     let upload = meant(&mut told, UPLOAD);
-    let bytes = upload.bytes();
-    for len in 0..bytes.len() {
-        add_early(&mut told, &server, &bytes[..len]);
-    }
-    told.wrong_line(b"")
+    add_beginnings(&mut told, &server, upload.bytes());
+    drop(upload);
+    drop(server);
+    let wrong = told.wrong_line(b"");
+    drop(told);
+    wrong
 }
 
 #[test]

@@ -17,56 +17,93 @@ fn loopback(port: u16) -> Addr {
     }
 }
 
+/// Adds a piece of what is read of the connection that came: whether there may be more.
+fn add_piece(told: &mut Told, link: &mut NetLink<'_>) -> bool {
+    let mut buf = [0; 16];
+    match link.web_read(&mut buf) {
+        Ok(count) => {
+            add_shown(told, &buf[..count]);
+            count > 0
+        }
+        Err(_) => {
+            told.add(b"failed");
+            false
+        }
+    }
+}
+
 /// Adds what is read of the connection that came, and replies.
 fn add_web(told: &mut Told, link: &mut NetLink<'_>) {
     told.add(b"web ");
-    let mut buf = [0; 16];
     for _ in 0..20 {
-        match link.web_read(&mut buf) {
-            Ok(0) => break,
-            Ok(count) => add_shown(told, &buf[..count]),
-            Err(_) => {
-                told.add(b"failed");
-                break;
-            }
+        if !add_piece(told, link) {
+            break;
         }
     }
-    if link.web_reply(told.alloc, b"reply").is_err() {
-        told.fail();
-    }
+    let replied = link.web_reply(told.alloc, b"reply");
+    told.keep(replied.is_ok());
     told.add(b"\n");
+}
+
+/// Adds what came.
+fn add_arrival(told: &mut Told, link: &mut NetLink<'_>, arrival: &Arrival) {
+    match arrival {
+        Arrival::Datagram { bytes, .. } => {
+            told.add(b"datagram ");
+            add_shown(told, bytes.bytes());
+            told.add(b"\n");
+        }
+        Arrival::Web { .. } => add_web(told, link),
+        Arrival::Quiet { .. } => told.add(b"nothing\n"),
+        _ => told.fail(),
+    }
+}
+
+/// Adds what comes within one turn, or that nothing does.
+fn add_turn(told: &mut Told, link: &mut NetLink<'_>) {
+    match link.next(told.alloc) {
+        Ok(arrival) => {
+            add_arrival(told, link, &arrival);
+            drop(arrival);
+        }
+        Err(_) => told.fail(),
+    }
+}
+
+/// Adds what came, where something did; whether it did.
+fn is_added(told: &mut Told, link: &mut NetLink<'_>, arrival: &Arrival) -> bool {
+    match arrival {
+        Arrival::Quiet { .. } => false,
+        other => {
+            add_arrival(told, link, other);
+            true
+        }
+    }
+}
+
+/// Adds what comes within one turn, where something does; whether it did.
+fn is_turn_added(told: &mut Told, link: &mut NetLink<'_>) -> bool {
+    match link.next(told.alloc) {
+        Ok(arrival) => {
+            let added = is_added(told, link, &arrival);
+            drop(arrival);
+            added
+        }
+        Err(_) => {
+            told.fail();
+            true
+        }
+    }
 }
 
 /// Adds what comes next, where something comes within some two seconds.
 fn add_next(told: &mut Told, link: &mut NetLink<'_>) {
     for _ in 0..40 {
-        match link.next(told.alloc) {
-            Ok(Arrival::Datagram { bytes, .. }) => {
-                told.add(b"datagram ");
-                add_shown(told, bytes.bytes());
-                told.add(b"\n");
-                return;
-            }
-            Ok(Arrival::Web { .. }) => {
-                add_web(told, link);
-                return;
-            }
-            Ok(Arrival::Quiet { .. }) => {}
-            _ => {
-                told.fail();
-                return;
-            }
+        if is_turn_added(told, link) {
+            return;
         }
     }
     told.add(b"nothing\n");
-}
-
-/// Adds that nothing comes within one turn, as it should.
-fn add_turn(told: &mut Told, link: &mut NetLink<'_>) {
-    match link.next(told.alloc) {
-        Ok(Arrival::Quiet { .. }) => told.add(b"nothing\n"),
-        _ => told.fail(),
-    }
 }
 
 /// Adds what is read of a connection.
@@ -88,28 +125,56 @@ fn add_reply(told: &mut Told, stream: &io::Result<TcpStream>) {
     }
 }
 
-/// Sends a datagram.
-fn send(rt: &HostRuntime, bytes: &[u8], to: &str) -> io::Result<usize> {
-    let socket = UdpSocket::bind(rt, "127.0.0.1:0")?;
-    socket.send_to(bytes, to)
+/// Sends a datagram from a socket.
+fn send_from(socket: &UdpSocket, told: &mut Told, bytes: &[u8], to: &str) {
+    let sent = socket.send_to(bytes, to);
+    told.keep(sent.is_ok());
+    drop(sent);
 }
 
-/// Whether these bytes were written to a connection.
-fn send_on(stream: &io::Result<TcpStream>, bytes: &[u8]) -> bool {
-    match stream {
-        Ok(stream) => {
-            let mut by = stream;
-            by.write_all(bytes).is_ok()
+/// Sends a datagram.
+fn send(rt: &HostRuntime, told: &mut Told, bytes: &[u8], to: &str) {
+    match UdpSocket::bind(rt, "127.0.0.1:0") {
+        Ok(socket) => {
+            send_from(&socket, told, bytes, to);
+            drop(socket);
         }
-        Err(_) => false,
+        Err(error) => {
+            drop(error);
+            told.fail();
+        }
+    }
+}
+
+/// Writes these bytes to a connection.
+fn write(told: &mut Told, stream: &TcpStream, bytes: &[u8]) {
+    let mut by = stream;
+    let written = by.write_all(bytes);
+    told.keep(written.is_ok());
+    drop(written);
+}
+
+/// Writes these bytes to a connection, where there is one.
+fn send_on(told: &mut Told, stream: &io::Result<TcpStream>, bytes: &[u8]) {
+    match stream {
+        Ok(stream) => write(told, stream, bytes),
+        Err(_) => told.fail(),
     }
 }
 
 /// A connection to which these bytes were written.
-fn connect(rt: &HostRuntime, bytes: &[u8], to: &str) -> io::Result<TcpStream> {
-    let mut stream = TcpStream::connect(rt, to)?;
-    stream.write_all(bytes)?;
-    Ok(stream)
+fn connect(rt: &HostRuntime, told: &mut Told, bytes: &[u8], to: &str) -> io::Result<TcpStream> {
+    let stream = TcpStream::connect(rt, to);
+    send_on(told, &stream, bytes);
+    stream
+}
+
+/// A link that is bound to these ports.
+fn bound<'a>(rt: &'a HostRuntime, told: &mut Told, sip: u16, web: u16) -> NetLink<'a> {
+    let mut link = NetLink::new(rt);
+    let bound = link.bind(loopback(sip), loopback(web));
+    told.keep(bound.is_ok());
+    link
 }
 
 /// What comes of the sockets, the first ones to the fourth.
@@ -130,57 +195,59 @@ reply
 
 /// A datagram and a request that were sent, and the reply.
 fn one_of_each(rt: &HostRuntime, told: &mut Told) {
-    let mut link = NetLink::new(rt);
-    let bound = link.bind(loopback(45_071), loopback(45_072));
-    told.keep(bound.is_ok());
-    let sent = send(rt, b"OPTIONS sip:a@b SIP/2.0\r\n", "127.0.0.1:45071");
-    told.keep(sent.is_ok());
+    let mut link = bound(rt, told, 45_071, 45_072);
+    send(rt, told, b"OPTIONS sip:a@b SIP/2.0\r\n", "127.0.0.1:45071");
     add_next(told, &mut link);
-    let stream = connect(rt, b"GET /charges HTTP/1.1\r\n\r\n", "127.0.0.1:45072");
+    let stream = connect(
+        rt,
+        told,
+        b"GET /charges HTTP/1.1\r\n\r\n",
+        "127.0.0.1:45072",
+    );
     add_next(told, &mut link);
     add_reply(told, &stream);
+    drop(stream);
+    drop(link);
 }
 
 /// A client that sends a part of a request and no more, beside one that sends a whole one, and a datagram.
 fn slow_and_fast(rt: &HostRuntime, told: &mut Told) {
-    let mut link = NetLink::new(rt);
-    let bound = link.bind(loopback(45_073), loopback(45_074));
-    told.keep(bound.is_ok());
-    let slow = connect(rt, b"GET /slow HT", "127.0.0.1:45074");
-    let fast = connect(rt, b"GET /fast HTTP/1.1\r\n\r\n", "127.0.0.1:45074");
-    told.keep(fast.is_ok());
+    let mut link = bound(rt, told, 45_073, 45_074);
+    let slow = connect(rt, told, b"GET /slow HT", "127.0.0.1:45074");
+    let fast = connect(rt, told, b"GET /fast HTTP/1.1\r\n\r\n", "127.0.0.1:45074");
     add_next(told, &mut link);
-    let sent = send(rt, b"datagram", "127.0.0.1:45073");
-    told.keep(sent.is_ok());
+    send(rt, told, b"datagram", "127.0.0.1:45073");
     add_next(told, &mut link);
     add_next(told, &mut link);
     add_reply(told, &slow);
+    drop(fast);
+    drop(slow);
+    drop(link);
 }
 
 /// A client that sends its body once it is told to go on.
 fn told_to_go_on(rt: &HostRuntime, told: &mut Told) {
-    let mut link = NetLink::new(rt);
-    let bound = link.bind(loopback(45_075), loopback(45_076));
-    told.keep(bound.is_ok());
+    let mut link = bound(rt, told, 45_075, 45_076);
     let head = b"PUT / HTTP/1.1\r\nexpect: 100-Continue\r\nContent-Length: 4\r\n\r\n";
-    let stream = connect(rt, head, "127.0.0.1:45076");
+    let stream = connect(rt, told, head, "127.0.0.1:45076");
     add_turn(told, &mut link);
     add_reply(told, &stream);
-    let sent = send_on(&stream, b"body");
-    told.keep(sent);
+    send_on(told, &stream, b"body");
     add_next(told, &mut link);
     add_reply(told, &stream);
+    drop(stream);
+    drop(link);
 }
 
 /// A client of HTTP/1.0, which is told nothing before the reply.
 fn not_told_to_go_on(rt: &HostRuntime, told: &mut Told) {
-    let mut link = NetLink::new(rt);
-    let bound = link.bind(loopback(45_077), loopback(45_078));
-    told.keep(bound.is_ok());
+    let mut link = bound(rt, told, 45_077, 45_078);
     let head = b"PUT / HTTP/1.0\r\nexpect: 100-continue\r\nContent-Length: 4\r\n\r\n";
-    let stream = connect(rt, head, "127.0.0.1:45078");
+    let stream = connect(rt, told, head, "127.0.0.1:45078");
     add_next(told, &mut link);
     add_reply(told, &stream);
+    drop(stream);
+    drop(link);
 }
 
 fn wrong_sent(rt: &HostRuntime) -> usize {
@@ -189,7 +256,9 @@ fn wrong_sent(rt: &HostRuntime) -> usize {
     slow_and_fast(rt, &mut told);
     told_to_go_on(rt, &mut told);
     not_told_to_go_on(rt, &mut told);
-    told.wrong_line(SENT)
+    let wrong = told.wrong_line(SENT);
+    drop(told);
+    wrong
 }
 
 #[test]

@@ -27,7 +27,10 @@ fn add_sheets(told: &mut Told, sheets: &[(Account, Text)]) {
 
 fn add_loaded(told: &mut Told, loaded: Result<List<(Account, Text)>, KeepFault>) {
     match loaded {
-        Ok(sheets) => add_sheets(told, sheets.items()),
+        Ok(sheets) => {
+            add_sheets(told, sheets.items());
+            drop(sheets);
+        }
         Err(KeepFault::Failed) => told.add(b"failed\n"),
         Err(KeepFault::NoMemory) => told.fail(),
     }
@@ -35,14 +38,20 @@ fn add_loaded(told: &mut Told, loaded: Result<List<(Account, Text)>, KeepFault>)
 
 fn add_rows(told: &mut Told, rows: &[Row]) {
     match rows_text(told.alloc, rows) {
-        Ok(text) => told.add(text.bytes()),
+        Ok(text) => {
+            told.add(text.bytes());
+            drop(text);
+        }
         Err(_) => told.fail(),
     }
 }
 
 fn add_listed(told: &mut Told, listed: Result<List<Row>, KeepFault>) {
     match listed {
-        Ok(rows) => add_rows(told, rows.items()),
+        Ok(rows) => {
+            add_rows(told, rows.items());
+            drop(rows);
+        }
         Err(KeepFault::Failed) => told.add(b"failed\n"),
         Err(KeepFault::NoMemory) => told.fail(),
     }
@@ -118,18 +127,26 @@ failed
 failed
 ";
 
+/// Binds the keeper to a path, and tells what it holds then.
+fn bind_and_tell(told: &mut Told, keeper: &mut SqliteKeeper<'_>, path: &[u8]) {
+    let done = keeper.bind(told.alloc, path);
+    add_done(told, done);
+    tell(told, keeper);
+}
+
 /// A call before any bind; a file, bound again; a path that cannot be opened; and a call after that.
 fn wrong_over_a_file(rt: &HostRuntime) -> usize {
-    let alloc = rt.alloc();
-    let mut told = Told::new(alloc);
+    let mut told = Told::new(rt.alloc());
     let mut keeper = SqliteKeeper::new(rt);
-    add_done(&mut told, keeper.store(alloc, Account(2), b"lost"));
+    let done = keeper.store(told.alloc, Account(2), b"lost");
+    add_done(&mut told, done);
     keep(&mut told, &mut keeper, b"keeper.db");
-    add_done(&mut told, keeper.bind(alloc, b"keeper.db"));
-    tell(&mut told, &mut keeper);
-    add_done(&mut told, keeper.bind(alloc, b"no/folder/keeper.db"));
-    tell(&mut told, &mut keeper);
-    told.wrong_line(OVER_A_FILE)
+    bind_and_tell(&mut told, &mut keeper, b"keeper.db");
+    bind_and_tell(&mut told, &mut keeper, b"no/folder/keeper.db");
+    drop(keeper);
+    let wrong = told.wrong_line(OVER_A_FILE);
+    drop(told);
+    wrong
 }
 
 #[test]

@@ -1,5 +1,6 @@
 //! The state machines of RFC 3261 (figures 5 to 8) with RFC 6026's 2xx, and two sequences that go through several of them.
 
+use crate::asserting::assert_right;
 use crate::transactions::calls::wrong_call;
 
 /// A client INVITE transaction (figure 5): nobody answers, so Timer A sends again and Timer B gives up; then a provisional answer stops both; then a refusal, whose ACK is
@@ -243,11 +244,15 @@ upcoming 40000> nothing
 
 #[test]
 fn figures_and_sequences(rt: HostRuntime) {
-    assert_eq!(rt; wrong_call(rt.alloc(), INVITE_CLIENT), 0);
-    assert_eq!(rt; wrong_call(rt.alloc(), OTHER_CLIENT), 0);
-    assert_eq!(rt; wrong_call(rt.alloc(), SLOWLY), 0);
-    assert_eq!(rt; wrong_call(rt.alloc(), INVITE_SERVER), 0);
-    assert_eq!(rt; wrong_call(rt.alloc(), OTHER_SERVER), 0);
-    assert_eq!(rt; wrong_call(rt.alloc(), REPEATED_INVITE), 0);
-    assert_eq!(rt; wrong_call(rt.alloc(), SILENCE), 0);
+    assert_right(&rt, "INVITE_CLIENT", wrong_call(rt.alloc(), INVITE_CLIENT));
+    assert_right(&rt, "OTHER_CLIENT", wrong_call(rt.alloc(), OTHER_CLIENT));
+    assert_right(&rt, "SLOWLY", wrong_call(rt.alloc(), SLOWLY));
+    assert_right(&rt, "INVITE_SERVER", wrong_call(rt.alloc(), INVITE_SERVER));
+    assert_right(&rt, "OTHER_SERVER", wrong_call(rt.alloc(), OTHER_SERVER));
+    assert_right(
+        &rt,
+        "REPEATED_INVITE",
+        wrong_call(rt.alloc(), REPEATED_INVITE),
+    );
+    assert_right(&rt, "SILENCE", wrong_call(rt.alloc(), SILENCE));
 }

@@ -1,5 +1,6 @@
 //! Which message belongs to which transaction (RFC 3261 §17.1.3, §17.2.3, §9.2, §8.2.2.2), and the order of deadlines.
 
+use crate::asserting::assert_right;
 use crate::transactions::calls::wrong_call;
 
 /// Branch, sent-by and method name a server transaction, an ACK by its INVITE; branch and CSeq method a client transaction. A repeat from another peer gets nothing; an ACK
@@ -106,8 +107,8 @@ due 3500> again 2 3500 OPTIONS sip:bob@home.example SIP/2.0
 
 #[test]
 fn keys_and_order(rt: HostRuntime) {
-    assert_eq!(rt; wrong_call(rt.alloc(), KEYS), 0);
-    assert_eq!(rt; wrong_call(rt.alloc(), ACKS), 0);
-    assert_eq!(rt; wrong_call(rt.alloc(), MERGED), 0);
-    assert_eq!(rt; wrong_call(rt.alloc(), ORDER), 0);
+    assert_right(&rt, "KEYS", wrong_call(rt.alloc(), KEYS));
+    assert_right(&rt, "ACKS", wrong_call(rt.alloc(), ACKS));
+    assert_right(&rt, "MERGED", wrong_call(rt.alloc(), MERGED));
+    assert_right(&rt, "ORDER", wrong_call(rt.alloc(), ORDER));
 }

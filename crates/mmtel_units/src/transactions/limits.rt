@@ -1,5 +1,6 @@
 //! As many live server transactions as may be, and tokens.
 
+use crate::asserting::assert_right;
 use crate::transactions::calls::wrong_call;
 use mmtel_told::Told;
 use mmtel_transaction::Tokens;
@@ -40,6 +41,6 @@ fn wrong_token(alloc: Global) -> usize {
 
 #[test]
 fn limit_and_tokens(rt: HostRuntime) {
-    assert_eq!(rt; wrong_call(rt.alloc(), FULL), 0);
-    assert_eq!(rt; wrong_token(rt.alloc()), 0);
+    assert_right(&rt, "FULL", wrong_call(rt.alloc(), FULL));
+    assert_right(&rt, "token", wrong_token(rt.alloc()));
 }

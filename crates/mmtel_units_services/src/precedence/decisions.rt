@@ -1,5 +1,6 @@
 //! Decisions of whole calls.
 
+use crate::asserting::assert_right;
 use crate::precedence::records::{Called, facts, numbers, read_call, read_ending, read_record};
 use crate::precedence::reports::{Teller, put_cause, put_code, put_uri, wrong_row};
 use mmtel_precedence::{CallFacts, Verdict, go_on, verdict};
@@ -34,6 +35,7 @@ fn tell_verdict(told: &mut Told, ending: &[u8], called: &Called, record: &[u8]) 
     };
     if let Some(sheet) = read_record(told, record) {
         put_verdict(told, &verdict(&call, &sheet, ending));
+        drop(sheet);
     }
 }
 
@@ -46,6 +48,7 @@ impl Teller for Verdicts {
         let (call, record) = cut(b'|', rest);
         let called = read_call(told, call);
         tell_verdict(told, ending, &called, record);
+        drop(called);
     }
 }
 
@@ -57,6 +60,7 @@ fn tell_onward(told: &mut Told, counts: &[u8], record: &[u8], target: &Called) {
             None => told.add(b"made"),
             Some(refusal) => put_cause(told, &refusal),
         }
+        drop(sheet);
     }
 }
 
@@ -70,6 +74,7 @@ impl Teller for Diversions {
         let (record, target) = cut(b'|', rest);
         let target = read_call(told, target);
         tell_onward(told, counts, record, &target);
+        drop(target);
     }
 }
 
@@ -103,7 +108,7 @@ divert 404 sip:vm@far.example|arrived|-u0|communication-diversion = { rule = [{ 
 offer|arrived|--0|communication-diversion = { rule = [{ not-registered = true, target = \"sip:vm@far.example\" }] }
 not-registered 480|arrived|-u1|communication-diversion = { rule = [{ busy = true, target = \"sip:carol@home.example\" }] }
 divert 302 sip:vm@far.example|arrived|-u1|communication-diversion = { rule = [{ target = \"sip:vm@far.example\" }] }
-divert 404 sip:vm@far.example|arrived|-u0|communication-diversion = { rule = [{ not-registered = true, target = \"sip:vm@far.example\" }, { target = \"sip:carol@home.example\" }] }
+divert 404 sip:vm@far.example|arrived|-u0|communication-diversion={rule=[{not-registered=true,target='sip:vm@far.example'},{target='sip:carol@home.example'}]}
 divert 302 sip:carol@home.example|arrived|--0|communication-diversion={rule=[{not-registered=true,target='sip:vm@far.example'},{target='sip:carol@home.example'}]}
 divert 302 sip:carol@home.example|arrived|-u0|communication-diversion={rule=[{target='sip:carol@home.example'},{not-registered=true,target='sip:vm@far.example'}]}
 incoming-barred 603|arrived|-u0|communication-diversion={rule=[{not-registered=true,target='sip:vm@far.example'}]};incoming-communication-barring={rule=[{allow=false}]}
@@ -124,7 +129,7 @@ relayed 404|other 404|--0|communication-diversion = { rule = [{ target = \"sip:v
 
 #[test]
 fn tells_verdicts(rt: HostRuntime) {
-    assert_eq!(rt; wrong_row::<Verdicts>(rt.alloc(), VERDICTS), 0);
+    assert_right(&rt, "VERDICTS", wrong_row::<Verdicts>(rt.alloc(), VERDICTS));
 }
 
 /// Received causes count against the bound; bound zero and a diversion loop; outgoing barring before a diversion.
@@ -153,5 +158,9 @@ made|0 0 5 302|incoming-communication-barring = { rule = [{ allow = false }] }|-
 
 #[test]
 fn tells_diversions(rt: HostRuntime) {
-    assert_eq!(rt; wrong_row::<Diversions>(rt.alloc(), DIVERSIONS), 0);
+    assert_right(
+        &rt,
+        "DIVERSIONS",
+        wrong_row::<Diversions>(rt.alloc(), DIVERSIONS),
+    );
 }

@@ -1,5 +1,6 @@
 //! Turns of whole calls: how attempts end, what is done at a target and after an attempt, and what refuses a call as it opens.
 
+use crate::asserting::assert_right;
 use crate::precedence::records::{Called, facts, read_call, read_record};
 use crate::precedence::reports::{Teller, put_cause, put_code, put_uri, wrong_line};
 use mmtel_lex::{Uri, read_uri};
@@ -136,7 +137,7 @@ rcaller-gave-up>cancelled
 
 #[test]
 fn ends_of_attempts(rt: HostRuntime) {
-    assert_eq!(rt; wrong_line::<Ends>(rt.alloc(), ENDS), 0);
+    assert_right(&rt, "ENDS", wrong_line::<Ends>(rt.alloc(), ENDS));
 }
 
 /// Asks for the turn after an attempt: how it ended, as above, and the record under which it was offered; `none` of a target of no account.
@@ -171,6 +172,7 @@ fn tell_under(told: &mut Told, called: &Called, what: &[u8], record: &[u8]) {
         tell_what(told, called, None, what);
     } else if let Some(sheet) = read_record(told, record) {
         tell_what(told, called, Some(&sheet), what);
+        drop(sheet);
     }
 }
 
@@ -179,6 +181,7 @@ impl Teller for After {
         let (what, record) = cut(b'|', question);
         let called = read_call(told, b"--0sip:alice@home.example");
         tell_under(told, &called, what, record);
+        drop(called);
     }
 }
 
@@ -207,7 +210,7 @@ rno-reply-time|communication-diversion = { rule = [{ busy = true, target = \"sip
 
 #[test]
 fn turns_after_attempts(rt: HostRuntime) {
-    assert_eq!(rt; wrong_line::<After>(rt.alloc(), AFTER), 0);
+    assert_right(&rt, "AFTER", wrong_line::<After>(rt.alloc(), AFTER));
 }
 
 /// Asks for the turn at a target: `s` where an account is served there, `u` where it is nobody's, `p` where no peer leads to it, else `-` in their places; the call; and
@@ -240,7 +243,9 @@ impl Teller for At {
         let called = read_call(told, call);
         if let Some(sheet) = read_record(told, record) {
             tell_at(told, flags, &called, &sheet);
+            drop(sheet);
         }
+        drop(called);
     }
 }
 
@@ -266,7 +271,7 @@ s-p|--0|>no-route 404
 
 #[test]
 fn turns_at_targets(rt: HostRuntime) {
-    assert_eq!(rt; wrong_line::<At>(rt.alloc(), AT), 0);
+    assert_right(&rt, "AT", wrong_line::<At>(rt.alloc(), AT));
 }
 
 /// Asks what refuses a call as it opens: `s` and `c` for the words session and critical; `b` where both cases are served, `o` and `t` for accounts that are;
@@ -317,6 +322,8 @@ fn tell_opening(told: &mut Told, flags: &[u8], target: Uri, sheet: &Sheet) {
         now: called.now,
     };
     put_opening(told, flags, &facts, sheet);
+    drop(party);
+    drop(called);
 }
 
 /// By the target.
@@ -333,6 +340,7 @@ impl Teller for Opening {
         let (target, record) = cut(b'|', rest);
         if let Some(sheet) = read_record(told, record) {
             tell_target(told, flags, target, &sheet);
+            drop(sheet);
         }
     }
 }
@@ -355,5 +363,5 @@ scbot|sip:bob@home.example|outgoing-communication-barring = { rule = [{ one = [\
 
 #[test]
 fn refusals_at_the_opening(rt: HostRuntime) {
-    assert_eq!(rt; wrong_line::<Opening>(rt.alloc(), OPENING), 0);
+    assert_right(&rt, "OPENING", wrong_line::<Opening>(rt.alloc(), OPENING));
 }

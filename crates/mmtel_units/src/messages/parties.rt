@@ -1,6 +1,7 @@
 //! The parties of a call, and the way of its attempts.
 
-use crate::drafts::add;
+use crate::asserting::assert_right;
+use crate::messages::drafts::add;
 use mmtel_lex::{List, NoMemory, Text, read_uri};
 use mmtel_message::{Msg, Start, read};
 use mmtel_parties::{Parties, RegistrationState, ServedSides, kept_routes, next_hop};
@@ -120,6 +121,7 @@ fn tell_call(told: &mut Told, accounts: &Accounts, asked: &[u8]) {
     let rest = add_field(told, &mut message, b"P-Asserted-Identity", rest);
     let _ = add_field(told, &mut message, b"P-Asserted-Identity", rest);
     tell_said(told, accounts, &message, trusted == b"trusted".as_slice());
+    drop(message);
 }
 
 /// An answer, the peer, the Request-URI, two P-Served-User lines and two P-Asserted-Identity lines. In order: who is asserted by a trusted peer; nobody by another,
@@ -224,6 +226,7 @@ fn tell_attempt(told: &mut Told, table: &PeerTable, asked: &[u8]) {
     let mut message = invite(told, target);
     let _ = add_field(told, &mut message, b"Route", rest);
     tell_way(told, table, &message, target);
+    drop(message);
 }
 
 /// The peer and the Route values that are kept, the target, and the Route values that came, at a server at 127.0.0.1:5060. In order: the server's own value and a further
@@ -289,7 +292,10 @@ fn tell_read(told: &mut Told, message: &Msg) {
 fn wrong_terminating(alloc: Global) -> usize {
     let mut told = Told::new(alloc);
     match read(alloc, TERMINATING) {
-        Ok(message) => tell_read(&mut told, &message),
+        Ok(message) => {
+            tell_read(&mut told, &message);
+            drop(message);
+        }
         Err(_) => told.fail(),
     }
     told.wrong_line(b"1 2 term reg 0 2 0 - yy\n1 <sip:odi-7@home.example;lr>")
@@ -297,7 +303,7 @@ fn wrong_terminating(alloc: Global) -> usize {
 
 #[test]
 fn parties_and_ways(rt: HostRuntime) {
-    assert_eq!(rt; wrong_call(rt.alloc()), 0);
-    assert_eq!(rt; wrong_way(rt.alloc()), 0);
-    assert_eq!(rt; wrong_terminating(rt.alloc()), 0);
+    assert_right(&rt, "call", wrong_call(rt.alloc()));
+    assert_right(&rt, "way", wrong_way(rt.alloc()));
+    assert_right(&rt, "terminating", wrong_terminating(rt.alloc()));
 }

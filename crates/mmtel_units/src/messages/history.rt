@@ -1,5 +1,6 @@
 //! History-Info: reading, diversions, marks and masks.
 
+use crate::asserting::assert_right;
 use mmtel_history::{
     Entry, History, HistoryFault, read_values, with_cause, without_cause, write_entry,
 };
@@ -430,10 +431,10 @@ fn wrong(alloc: Global, table: &[u8]) -> usize {
 
 #[test]
 fn tells_histories(rt: HostRuntime) {
-    assert_eq!(rt; wrong(rt.alloc(), ENTRIES), 0);
-    assert_eq!(rt; wrong(rt.alloc(), CAUSES), 0);
-    assert_eq!(rt; wrong(rt.alloc(), UNREADABLE), 0);
-    assert_eq!(rt; wrong(rt.alloc(), DIVERSIONS), 0);
-    assert_eq!(rt; wrong(rt.alloc(), CAUSED), 0);
-    assert_eq!(rt; wrong(rt.alloc(), MARKS), 0);
+    assert_right(&rt, "ENTRIES", wrong(rt.alloc(), ENTRIES));
+    assert_right(&rt, "CAUSES", wrong(rt.alloc(), CAUSES));
+    assert_right(&rt, "UNREADABLE", wrong(rt.alloc(), UNREADABLE));
+    assert_right(&rt, "DIVERSIONS", wrong(rt.alloc(), DIVERSIONS));
+    assert_right(&rt, "CAUSED", wrong(rt.alloc(), CAUSED));
+    assert_right(&rt, "MARKS", wrong(rt.alloc(), MARKS));
 }

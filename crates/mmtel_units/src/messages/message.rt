@@ -1,6 +1,7 @@
 //! SIP messages: what comes of the standards' examples, of damaged messages and at the limits, and the edits.
 
-use crate::drafts::{of_lines, request};
+use crate::asserting::assert_right;
+use crate::messages::drafts::{of_lines, request};
 use mmtel_lex::{List, NoMemory, Text};
 use mmtel_message::{
     Mode, Msg, ReadFault, Start, is_readable, joined_by, line_texts, param_value, read, read_cseq,
@@ -78,7 +79,10 @@ fn tell_refusal(told: &mut Told, fault: &ReadFault) {
 /// Tells the text of the message that is read, or of the reply.
 fn tell_answer(told: &mut Told, bytes: &[u8]) {
     match read(told.alloc, bytes) {
-        Ok(message) => tell_message(told, &message),
+        Ok(message) => {
+            tell_message(told, &message);
+            drop(message);
+        }
         Err(fault) => tell_refusal(told, &fault),
     }
 }
@@ -711,10 +715,10 @@ fn wrong_limit(alloc: Global) -> usize {
 /// Messages that are read and printed, those that are judged, and the limits.
 #[test]
 fn reads_messages(rt: HostRuntime) {
-    assert_eq!(rt; wrong_read(rt.alloc(), READ), 0);
-    assert_eq!(rt; wrong_verdict(rt.alloc(), TORTURE), 0);
-    assert_eq!(rt; wrong_verdict(rt.alloc(), DAMAGED), 0);
-    assert_eq!(rt; wrong_limit(rt.alloc()), 0);
+    assert_right(&rt, "READ", wrong_read(rt.alloc(), READ));
+    assert_right(&rt, "TORTURE", wrong_verdict(rt.alloc(), TORTURE));
+    assert_right(&rt, "DAMAGED", wrong_verdict(rt.alloc(), DAMAGED));
+    assert_right(&rt, "limit", wrong_limit(rt.alloc()));
 }
 
 /// Tells the parts of a Via value.
@@ -799,7 +803,10 @@ fn tell_five(told: &mut Told, message: &Msg) {
 /// Tells the text of the response to a request, which repeats the lines of the request.
 fn tell_busy(told: &mut Told, message: &Msg) {
     match reply_with(told.alloc, 486, b"Busy Here", message.lines()) {
-        Ok(reply) => tell_message(told, &reply),
+        Ok(reply) => {
+            tell_message(told, &reply);
+            drop(reply);
+        }
         Err(_) => told.fail(),
     }
 }
@@ -874,14 +881,16 @@ fn wrong_part(alloc: Global) -> usize {
     let message = of_lines(&mut told, start, FIVE);
     tell_five(&mut told, &message);
     tell_busy(&mut told, &message);
+    drop(message);
     let start = request(&mut told, b"OPTIONS");
     let mut message = of_lines(&mut told, start, ROUTED);
     tell_found(&mut told, &message);
     edit(&mut told, &mut message);
+    drop(message);
     told.wrong_line(PARTS)
 }
 
 #[test]
 fn parts_and_edits_messages(rt: HostRuntime) {
-    assert_eq!(rt; wrong_part(rt.alloc()), 0);
+    assert_right(&rt, "part", wrong_part(rt.alloc()));
 }

@@ -1,6 +1,6 @@
 //! The limits of configurations.
 
-use crate::configurations::broken_config;
+use crate::directory::configurations::broken_config;
 use mmtel_told::Told;
 use std::alloc::Global;
 

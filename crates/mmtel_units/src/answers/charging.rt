@@ -2,7 +2,8 @@
 ghost use Rattle.std.specs.Prelude.{◌≤◌};
 ghost use Rattle.mmtel_types.specs.Moments.{last_moment};
 
-use crate::legs::moment;
+use crate::answers::legs::moment;
+use crate::asserting::assert_right;
 use csv::{ByteRecord, ReaderBuilder};
 use mmtel_charging::{Kind, Meter, Row, rows_text};
 use mmtel_scan::{List, Text};
@@ -149,5 +150,5 @@ fn wrong_rows_of_meters(alloc: Global) -> usize {
 
 #[test]
 fn rows_of_meters(rt: HostRuntime) {
-    assert_eq!(rt; wrong_rows_of_meters(rt.alloc()), 0);
+    assert_right(&rt, "rows_of_meters", wrong_rows_of_meters(rt.alloc()));
 }

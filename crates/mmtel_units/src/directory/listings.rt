@@ -1,5 +1,6 @@
 //! The listing.
 
+use crate::asserting::assert_right;
 use mmtel_outside::Offer;
 use mmtel_scan::List;
 use mmtel_script::listing;
@@ -8,7 +9,7 @@ use mmtel_types::Peer;
 use std::alloc::Global;
 
 /// Adds an offer to a list.
-fn push(told: &mut Told, offers: &mut List<Offer>, offer: Offer) {
+pub fn push(told: &mut Told, offers: &mut List<Offer>, offer: Offer) {
     let done = offers.push(told.alloc, offer);
     told.keep(done.is_ok());
 }
@@ -98,5 +99,5 @@ fn wrong_listed(alloc: Global) -> usize {
 
 #[test]
 fn lists_bytes_and_offers(rt: HostRuntime) {
-    assert_eq!(rt; wrong_listed(rt.alloc()), 0);
+    assert_right(&rt, "listed", wrong_listed(rt.alloc()));
 }

@@ -1,9 +1,10 @@
 //! Legs that stand: what is relayed in their dialogs, and their end.
 
-use crate::heard::{OPENING, SIP, desk, hearing, tell_desk};
+use crate::answers::heard::{OPENING, SIP, desk, hearing, tell_desk};
+use crate::asserting::assert_right;
 use mmtel_answers::{Hearing, called, calling, first_aim};
 use mmtel_desk::Desk;
-use mmtel_leg::{Asked, CalleeLeg, CallerLeg, Ended, LegOf, Released, Remote, Standing};
+use mmtel_leg::{Asked, CalleeLeg, CallerLeg, Dialogue, Ended, Released, Remote, Standing};
 use mmtel_lex::List;
 use mmtel_message::{Line, add_bytes};
 use mmtel_told::Told;
@@ -116,17 +117,28 @@ fn line(told: &mut Told, name: &[u8], value: &[u8]) -> List<Line> {
     lines
 }
 
-/// The leg to which the INVITE was offered, once this answer came.
-fn callee(told: &mut Told, opening: &Hearing, answer: &Hearing) -> Option<CalleeLeg<Standing>> {
+/// The dialog of the INVITE that is offered.
+fn dialogue(told: &mut Told, opening: &Hearing) -> Option<Dialogue> {
     let aim = first_aim(told.alloc, Peer(2), &[], opening);
     let aim = told.noted(aim)?;
     let call_id = told.copy(b"c2");
     let tag = told.copy(b"t2");
-    let dialogue = calling(told.alloc, aim, opening, true, call_id, tag);
-    let dialogue = told.noted(dialogue)?;
+    let calling = calling(told.alloc, aim, opening, true, call_id, tag);
+    let calling = told.noted(calling)?;
+    Some(called(calling))
+}
+
+/// The leg to which the INVITE was offered, once this answer came.
+fn callee(told: &mut Told, opening: &Hearing, answer: &Hearing) -> Option<CalleeLeg<Standing>> {
     let remote = Remote::read(told.alloc, &answer.message, Side::Callee);
     let remote = told.noted(remote)?;
-    Some(CalleeLeg::<Asked>::begun(called(dialogue), None).stand(remote))
+    match dialogue(told, opening) {
+        Some(dialogue) => Some(CalleeLeg::<Asked>::begun(dialogue, None).stand(remote)),
+        None => {
+            drop(remote);
+            None
+        }
+    }
 }
 
 /// The leg of the caller, which stands from the opening on.
@@ -166,12 +178,15 @@ fn end(told: &mut Told, ended: Ended) {
 fn ask_callee(told: &mut Told, desk: &mut Desk, leg: &mut CalleeLeg<Standing>) {
     let ack = hearing(told, ACKED, 1, 5071, true);
     let done = desk.acknowledge_for(told.alloc, SIP, leg, &List::new(), &ack);
+    drop(ack);
     told.noted(done);
     let bye = hearing(told, GOES, 1, 5071, true);
     let passed = line(told, b"Reason", b"SIP;cause=200");
     let done = desk.ask_for(told.alloc, SIP, b"BYE", leg, &passed, &bye);
+    drop(passed);
     told.noted(done);
     let done = desk.reply(told.alloc, SIP, TKey(3), &bye, b"", 200);
+    drop(bye);
     told.noted(done);
     let done = desk.acknowledge(told.alloc, SIP, leg);
     told.noted(done);
@@ -201,13 +216,17 @@ fn wrong_relays(alloc: Global) -> usize {
     let mut desk = desk(&mut told);
     let passed = line(&mut told, b"Content-Type", b"text/plain");
     let done = desk.relay(alloc, SIP, TKey(0), &opening, b"t1", passed.items(), &rings);
+    drop(passed);
     told.noted(done);
     tell_legs(&mut told, &mut desk, &opening, &rings);
+    drop(opening);
+    drop(rings);
     tell_desk(&mut told, &desk);
+    drop(desk);
     told.wrong_line(TOLD)
 }
 
 #[test]
 fn relays(rt: HostRuntime) {
-    assert_eq!(rt; wrong_relays(rt.alloc()), 0);
+    assert_right(&rt, "relays", wrong_relays(rt.alloc()));
 }

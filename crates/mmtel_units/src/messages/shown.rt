@@ -1,7 +1,8 @@
 //! History-Info in the header table: in which messages a call's list is passed, and what of it to whom.
 
-use crate::drafts::{of_lines, request, tell_lines};
-use crate::history::divert;
+use crate::asserting::assert_right;
+use crate::messages::drafts::{of_lines, request, tell_lines};
+use crate::messages::history::divert;
 use mmtel_history::History;
 use mmtel_message::Start;
 use mmtel_told::Told;
@@ -38,7 +39,9 @@ fn tell_message(
         present: true,
         mask_all,
     };
-    match shown(told.alloc, &message, history, &facing, to_trusted) {
+    let lines = shown(told.alloc, &message, history, &facing, to_trusted);
+    drop(message);
+    match lines {
         Ok(lines) => tell_lines(told, lines.items()),
         Err(_) => told.fail(),
     }
@@ -175,6 +178,6 @@ fn wrong(alloc: Global, tell: u8, wanted: &[u8]) -> usize {
 
 #[test]
 fn shows_the_list(rt: HostRuntime) {
-    assert_eq!(rt; wrong(rt.alloc(), b'l', LIST), 0);
-    assert_eq!(rt; wrong(rt.alloc(), b'e', ELSEWHERE), 0);
+    assert_right(&rt, "LIST", wrong(rt.alloc(), b'l', LIST));
+    assert_right(&rt, "ELSEWHERE", wrong(rt.alloc(), b'e', ELSEWHERE));
 }

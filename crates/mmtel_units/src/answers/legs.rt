@@ -78,6 +78,7 @@ pub fn message(told: &mut Told, lines: &[u8]) -> Option<Msg> {
 pub fn remote_in(told: &mut Told, lines: &[u8], side: Side) -> Option<Remote> {
     let message = message(told, lines)?;
     let remote = Remote::read(told.alloc, &message, side);
+    drop(message);
     told.noted(remote)
 }
 
@@ -131,6 +132,8 @@ fn tell_caller<T: Tells>(told: &mut Told, invite: &Msg, early: Option<Remote>, s
             tell_end(told, Released::Caller(leg));
         }
         Err((meter, _)) => {
+            drop(early);
+            drop(said);
             told.fail();
             tell_meter(told, meter);
         }
@@ -146,9 +149,25 @@ fn tell_callee<T: Tells>(told: &mut Told, invite: &Msg, early: Option<Remote>, s
             tell_end(told, Released::Callee(leg));
         }
         Err((meter, _)) => {
+            drop(early);
+            drop(said);
             told.fail();
             tell_meter(told, meter);
         }
+    }
+}
+
+/// Tells of the leg of this side.
+fn tell_side<T: Tells>(
+    told: &mut Told,
+    side: Side,
+    invite: &Msg,
+    early: Option<Remote>,
+    said: Remote,
+) {
+    match side {
+        Side::Caller => tell_caller::<T>(told, invite, early, said),
+        Side::Callee => tell_callee::<T>(told, invite, early, said),
     }
 }
 
@@ -160,10 +179,14 @@ pub fn tell_leg<T: Tells>(
     early: Option<Remote>,
     said: Remote,
 ) {
-    if let Some(invite) = message(told, invite) {
-        match side {
-            Side::Caller => tell_caller::<T>(told, &invite, early, said),
-            Side::Callee => tell_callee::<T>(told, &invite, early, said),
+    match message(told, invite) {
+        Some(invite) => {
+            tell_side::<T>(told, side, &invite, early, said);
+            drop(invite);
+        }
+        None => {
+            drop(early);
+            drop(said);
         }
     }
 }

@@ -1,6 +1,7 @@
 //! Header lines that the server builds, and how it names itself in them.
 
-use crate::drafts::tell_lines;
+use crate::asserting::assert_right;
+use crate::messages::drafts::tell_lines;
 use mmtel_lex::{List, NoMemory, Text};
 use mmtel_message::{
     Line, add_bytes, add_decimal, add_line, add_named, add_passed, addr_text, contact_text,
@@ -90,5 +91,5 @@ fn wrong_built(alloc: Global) -> usize {
 
 #[test]
 fn builds_lines(rt: HostRuntime) {
-    assert_eq!(rt; wrong_built(rt.alloc()), 0);
+    assert_right(&rt, "built", wrong_built(rt.alloc()));
 }

@@ -1,6 +1,7 @@
 //! What messages say of the side that sent them.
 
-use crate::legs::{next_line, remote_in};
+use crate::answers::legs::{next_line, remote_in};
+use crate::asserting::assert_right;
 use mmtel_scan::part;
 use mmtel_told::Told;
 use mmtel_types::Side;
@@ -120,6 +121,7 @@ fn tell_remote(told: &mut Told, lines: &[u8], side: Side) {
             told.add(route.bytes());
             told.add(b"\n");
         }
+        drop(remote);
     }
 }
 
@@ -154,5 +156,5 @@ fn wrong_remotes(alloc: Global) -> usize {
 
 #[test]
 fn remotes(rt: HostRuntime) {
-    assert_eq!(rt; wrong_remotes(rt.alloc()), 0);
+    assert_right(&rt, "remotes", wrong_remotes(rt.alloc()));
 }

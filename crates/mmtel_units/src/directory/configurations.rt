@@ -1,6 +1,7 @@
 //! Configurations.
 
-use crate::tables::{Grammar, wrong_row};
+use crate::asserting::assert_right;
+use crate::directory::tables::{Grammar, wrong_row};
 use mmtel_directory::{Directory, DirectoryFault, read_directory};
 use mmtel_lex::{Uri, print_uri, read_uri};
 use mmtel_scan::number_up_to;
@@ -209,9 +210,9 @@ fn wrong_known(alloc: Global, text: &[u8], table: &[u8]) -> usize {
 
 #[test]
 fn reads_lines_of_each_kind(rt: HostRuntime) {
-    assert_eq!(rt; wrong_known(rt.alloc(), HOME, HOME_TOLD), 0);
+    assert_right(&rt, "HOME_TOLD", wrong_known(rt.alloc(), HOME, HOME_TOLD));
     let bare = b"home h\nsip 127.0.0.1:1";
-    assert_eq!(rt; wrong_known(rt.alloc(), bare, BARE_TOLD), 0);
+    assert_right(&rt, "BARE_TOLD", wrong_known(rt.alloc(), bare, BARE_TOLD));
 }
 
 /// The number of the line that a configuration breaks its grammar in; 0 where it is read.
@@ -396,10 +397,10 @@ fn wrong_config(alloc: Global, before: &[u8], table: &[u8]) -> usize {
 #[test]
 fn names_the_first_bad_line(rt: HostRuntime) {
     let both = b"sip 1.2.3.4:5\nhome h\n";
-    assert_eq!(rt; wrong_config(rt.alloc(), b"", WHOLE), 0);
-    assert_eq!(rt; wrong_config(rt.alloc(), both, ROUTES), 0);
-    assert_eq!(rt; wrong_config(rt.alloc(), both, ACCOUNTS), 0);
-    assert_eq!(rt; wrong_config(rt.alloc(), both, ONCE), 0);
-    assert_eq!(rt; wrong_config(rt.alloc(), SMALL, DAMAGED), 0);
-    assert_eq!(rt; wrong_config(rt.alloc(), PHONE, NUMBERS), 0);
+    assert_right(&rt, "WHOLE", wrong_config(rt.alloc(), b"", WHOLE));
+    assert_right(&rt, "ROUTES", wrong_config(rt.alloc(), both, ROUTES));
+    assert_right(&rt, "ACCOUNTS", wrong_config(rt.alloc(), both, ACCOUNTS));
+    assert_right(&rt, "ONCE", wrong_config(rt.alloc(), both, ONCE));
+    assert_right(&rt, "DAMAGED", wrong_config(rt.alloc(), SMALL, DAMAGED));
+    assert_right(&rt, "NUMBERS", wrong_config(rt.alloc(), PHONE, NUMBERS));
 }

@@ -1,7 +1,8 @@
 //! Scripts.
 
-use crate::configurations::{HOME, peer_addr};
-use crate::tables::{Grammar, wrong_row};
+use crate::asserting::assert_right;
+use crate::directory::configurations::{HOME, peer_addr};
+use crate::directory::tables::{Grammar, wrong_row};
 use mmtel_directory::{Directory, read_directory};
 use mmtel_outside::Event;
 use mmtel_script::{ScriptFault, ScriptLink};
@@ -157,7 +158,7 @@ fn wrong_rows(alloc: Global, table: &[u8]) -> usize {
 
 #[test]
 fn reads_scripts(rt: HostRuntime) {
-    assert_eq!(rt; wrong_script(rt.alloc()), 0);
-    assert_eq!(rt; wrong_rows(rt.alloc(), EVENTS), 0);
-    assert_eq!(rt; wrong_rows(rt.alloc(), DATA), 0);
+    assert_right(&rt, "script", wrong_script(rt.alloc()));
+    assert_right(&rt, "EVENTS", wrong_rows(rt.alloc(), EVENTS));
+    assert_right(&rt, "DATA", wrong_rows(rt.alloc(), DATA));
 }

@@ -1,9 +1,10 @@
 //! What legs know of their dialogs: what they take of the other side, what they hear, and their meters.
 
-use crate::legs::{
+use crate::answers::legs::{
     ANSWER, CAME, OFFERED, SIP, Tells, message, moment, next_line, tell_answered, tell_leg,
     tell_meter,
 };
+use crate::asserting::assert_right;
 use mmtel_charging::{Kind, Meter};
 use mmtel_leg::{DialogueFault, InFlight, LegOf, Remote, Standing};
 use mmtel_message::{Msg, Start};
@@ -66,6 +67,7 @@ impl Tells for Way {
         let ack = leg.ack(told.alloc, SIP, 70, &Text::new(), &List::new(), b"");
         if let Some(ack) = told.noted(ack) {
             tell_way(told, &ack);
+            drop(ack);
         }
     }
 }
@@ -113,7 +115,7 @@ fn wrong_early_dialogs(alloc: Global) -> usize {
 
 #[test]
 fn early_dialogs(rt: HostRuntime) {
-    assert_eq!(rt; wrong_early_dialogs(rt.alloc()), 0);
+    assert_right(&rt, "early_dialogs", wrong_early_dialogs(rt.alloc()));
 }
 
 /// The request of this number and method to the server, as lines.
@@ -163,6 +165,7 @@ fn tell_heard<P>(told: &mut Told, leg: &mut LegOf<P, Standing>, row: &[u8]) {
     let lines = lines_of(told, number, method);
     if let Some(request) = message(told, lines.bytes()) {
         let answer = leg.heard(&request, in_flight(busy));
+        drop(request);
         tell_answer(told, answer);
     }
 }
@@ -247,7 +250,7 @@ fn wrong_hears_the_caller(alloc: Global) -> usize {
 
 #[test]
 fn hears_the_caller(rt: HostRuntime) {
-    assert_eq!(rt; wrong_hears_the_caller(rt.alloc()), 0);
+    assert_right(&rt, "hears_the_caller", wrong_hears_the_caller(rt.alloc()));
 }
 
 /// What a callee's leg hears; and the meters of a leg: each is given back by a swap, and the last one by its leaving, where the leg was taken out of its call.
@@ -271,5 +274,9 @@ fn wrong_hears_the_callee_and_has_meters(alloc: Global) -> usize {
 
 #[test]
 fn hears_the_callee_and_has_meters(rt: HostRuntime) {
-    assert_eq!(rt; wrong_hears_the_callee_and_has_meters(rt.alloc()), 0);
+    assert_right(
+        &rt,
+        "hears_the_callee_and_has_meters",
+        wrong_hears_the_callee_and_has_meters(rt.alloc()),
+    );
 }

@@ -1,6 +1,7 @@
 //! Scripts as links.
 
-use crate::configurations::{HOME, peer_addr};
+use crate::asserting::assert_right;
+use crate::directory::configurations::{HOME, peer_addr};
 use mmtel_directory::{Directory, read_directory};
 use mmtel_link::{Arrival, Link};
 use mmtel_script::ScriptLink;
@@ -72,5 +73,5 @@ fn wrong_heard(alloc: Global) -> usize {
 
 #[test]
 fn gives_the_events_of_a_script(rt: HostRuntime) {
-    assert_eq!(rt; wrong_heard(rt.alloc()), 0);
+    assert_right(&rt, "heard", wrong_heard(rt.alloc()));
 }

@@ -1,6 +1,7 @@
 //! Peers and routes, accounts, the words of Privacy, asserted identities and the header table.
 
-use crate::drafts::{of_lines, request, tell_lines};
+use crate::asserting::assert_right;
+use crate::messages::drafts::{of_lines, request, tell_lines};
 use mmtel_history::History;
 use mmtel_lex::{Uri, print_uri, read_uri};
 use mmtel_message::Msg;
@@ -312,13 +313,14 @@ fn wrong_told(alloc: Global) -> usize {
     tell_passed(&mut told, &message);
     tell_from(&mut told, &message, true);
     tell_from(&mut told, &message, false);
+    drop(message);
     told.wrong_line(TOLD)
 }
 
 #[test]
 fn peers_accounts_and_trust(rt: HostRuntime) {
-    assert_eq!(rt; wrong_route(rt.alloc()), 0);
-    assert_eq!(rt; wrong_peer(rt.alloc()), 0);
-    assert_eq!(rt; wrong_owner(rt.alloc()), 0);
-    assert_eq!(rt; wrong_told(rt.alloc()), 0);
+    assert_right(&rt, "route", wrong_route(rt.alloc()));
+    assert_right(&rt, "peer", wrong_peer(rt.alloc()));
+    assert_right(&rt, "owner", wrong_owner(rt.alloc()));
+    assert_right(&rt, "told", wrong_told(rt.alloc()));
 }

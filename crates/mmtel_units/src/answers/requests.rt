@@ -1,8 +1,9 @@
 //! Requests and ACKs of legs, byte for byte.
 
-use crate::legs::{
+use crate::answers::legs::{
     ANSWER, CAME, OFFERED, SIP, Tells, message, remote_in, tell_answered, tell_leg, tell_meter,
 };
+use crate::asserting::assert_right;
 use mmtel_leg::{Asked, CalleeLeg, Dialogue, Ended, LegOf, Parts, Standing, numbered};
 use mmtel_message::{Line, Msg, add_bytes};
 use mmtel_scan::{List, NoMemory, Text};
@@ -29,6 +30,7 @@ fn tell_message(told: &mut Told, message: &Msg) {
 fn tell_built(told: &mut Told, built: Result<Msg, NoMemory>) {
     if let Some(message) = told.noted(built) {
         tell_message(told, &message);
+        drop(message);
     }
 }
 
@@ -51,6 +53,7 @@ fn tell_request<P>(
 ) {
     let branch = branch(told, number);
     let request = leg.request(told.alloc, method, SIP, 70, &branch, lines, body);
+    drop(branch);
     tell_built(told, request);
 }
 
@@ -63,6 +66,7 @@ fn tell_plain<P>(told: &mut Told, leg: &mut LegOf<P, Standing>, method: &[u8], n
 fn tell_ack<P>(told: &mut Told, leg: &LegOf<P, Standing>, hops: u8, number: &[u8]) {
     let branch = branch(told, number);
     let ack = leg.ack(told.alloc, SIP, hops, &branch, &List::new(), b"");
+    drop(branch);
     tell_built(told, ack);
 }
 
@@ -72,6 +76,7 @@ fn tell_invite<P>(told: &mut Told, leg: &mut LegOf<P, Standing>) {
     show(told, &mut lines, b"Privacy", b"id");
     show(told, &mut lines, b"Content-Type", b"application/sdp");
     tell_request(told, leg, b"INVITE", b"6", &lines, b"v=0\n");
+    drop(lines);
 }
 
 /// Tells a NOTIFY of a conference room, whose Contact is shown.
@@ -84,6 +89,7 @@ fn tell_notify<P>(told: &mut Told, leg: &mut LegOf<P, Standing>) {
         b"<sip:room-1@127.0.0.1:5060>;isfocus",
     );
     tell_request(told, leg, b"NOTIFY", b"8", &lines, b"");
+    drop(lines);
 }
 
 /// Tells the number of a leg's peer, its Call-ID, the server's tag and the other side's.
@@ -202,7 +208,11 @@ fn wrong_requests_to_callee(alloc: Global) -> usize {
 
 #[test]
 fn requests_to_callee(rt: HostRuntime) {
-    assert_eq!(rt; wrong_requests_to_callee(rt.alloc()), 0);
+    assert_right(
+        &rt,
+        "requests_to_callee",
+        wrong_requests_to_callee(rt.alloc()),
+    );
 }
 
 /// What the server says to a caller: an INVITE, its ACK, and BYE; before them an ACK of nothing, whose number is 0 (RFC 3261 §13.2.2.4 has the number of the INVITE, and
@@ -336,7 +346,11 @@ fn wrong_requests_to_callers(alloc: Global) -> usize {
 
 #[test]
 fn requests_to_callers(rt: HostRuntime) {
-    assert_eq!(rt; wrong_requests_to_callers(rt.alloc()), 0);
+    assert_right(
+        &rt,
+        "requests_to_callers",
+        wrong_requests_to_callers(rt.alloc()),
+    );
 }
 
 /// What the server says to a callee that answers: the ACK.
@@ -411,6 +425,7 @@ fn tell_canceled(told: &mut Told, invite: &Msg) {
     let dialogue = Dialogue::of_callee(told.alloc, Peer(2), invite);
     if let Some(dialogue) = told.noted(dialogue) {
         tell_copied(told, &dialogue);
+        drop(dialogue);
     }
 }
 
@@ -418,6 +433,7 @@ fn tell_canceled(told: &mut Told, invite: &Msg) {
 fn tell_cancel_of_offered(told: &mut Told) {
     if let Some(invite) = message(told, OFFERED) {
         tell_canceled(told, &invite);
+        drop(invite);
     }
 }
 
@@ -457,5 +473,9 @@ fn wrong_untagged_answer_and_cancel(alloc: Global) -> usize {
 
 #[test]
 fn untagged_answer_and_cancel(rt: HostRuntime) {
-    assert_eq!(rt; wrong_untagged_answer_and_cancel(rt.alloc()), 0);
+    assert_right(
+        &rt,
+        "untagged_answer_and_cancel",
+        wrong_untagged_answer_and_cancel(rt.alloc()),
+    );
 }

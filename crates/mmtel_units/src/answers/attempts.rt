@@ -1,9 +1,10 @@
 //! An attempt from its offer to its end, and what comes late.
 
-use crate::heard::{OPENING, SIP, desk, hearing, tell_desk};
-use mmtel_answers::{Hearing, diverted_aim, first_aim, retry_after};
+use crate::answers::heard::{OPENING, SIP, desk, hearing, tell_desk};
+use crate::asserting::assert_right;
+use mmtel_answers::{Aim, Hearing, diverted_aim, first_aim, retry_after};
 use mmtel_desk::{Desk, Invitation, Loose, loose_at, once_cancelled};
-use mmtel_lex::{List, Text, read_uri};
+use mmtel_lex::{List, Text, Uri, read_uri};
 use mmtel_message::{Line, add_bytes};
 use mmtel_told::Told;
 use mmtel_transaction::TKey;
@@ -67,6 +68,7 @@ fn begin(told: &mut Told, desk: &mut Desk, opening: &Hearing) -> Option<Invitati
     let tag = desk.draw(told.alloc);
     let tag = told.noted(tag)?;
     let trying = desk.reply(told.alloc, SIP, TKey(0), opening, tag.bytes(), 100);
+    drop(tag);
     told.noted(trying);
     offered(told, desk, opening)
 }
@@ -76,6 +78,7 @@ fn give_up(told: &mut Told, desk: &mut Desk, opening: &Hearing, sent: &Invitatio
     let cancel = hearing(told, GIVEN_UP, 1, 5071, true);
     let tag = b"0123456789abcdef-1";
     let done = desk.reply(told.alloc, SIP, TKey(2), &cancel, tag, 200);
+    drop(cancel);
     told.noted(done);
     let done = desk.reply(told.alloc, SIP, TKey(0), opening, tag, 487);
     told.noted(done);
@@ -87,6 +90,7 @@ fn give_up(told: &mut Told, desk: &mut Desk, opening: &Hearing, sent: &Invitatio
 fn late(told: &mut Told, desk: &mut Desk, loose: Loose, lines: &[u8]) -> Option<Loose> {
     let heard = hearing(told, lines, 2, 5072, false);
     let left = desk.hear_loose(told.alloc, SIP, TKey(1), loose, &heard);
+    drop(heard);
     told.noted(left)?
 }
 
@@ -211,14 +215,16 @@ fn wrong_gives_up(alloc: Global) -> usize {
             told.fail();
         }
     }
+    drop(opening);
     tell_desk(&mut told, &desk);
+    drop(desk);
     told.add(b"nothing is left\n");
     told.wrong_line(GIVEN_UP_TOLD)
 }
 
 #[test]
 fn gives_up(rt: HostRuntime) {
-    assert_eq!(rt; wrong_gives_up(rt.alloc()), 0);
+    assert_right(&rt, "gives_up", wrong_gives_up(rt.alloc()));
 }
 
 /// An INVITE of a caller who hides nothing, with a Route value that is kept and a line that is passed on.
@@ -273,19 +279,44 @@ Content-Length: 0
 place 1
 "##;
 
-fn offer_diverted(told: &mut Told, desk: &mut Desk, open: &Hearing) -> Option<Invitation> {
-    let target = read_uri(told.alloc, b"sip:vm@far.example;x=y;cause=302");
-    let target = told.noted(target)?;
+/// The Route value that is kept.
+fn kept_route(told: &mut Told) -> List<Text> {
     let mut routes = List::new();
     let route = told.copy(b"<sip:odi-7@home.example;lr>");
     let pushed = routes.push(told.alloc, route);
-    told.noted(pushed);
-    let mut passed: List<Line> = List::new();
+    told.keep(pushed.is_ok());
+    routes
+}
+
+/// The line that is passed on.
+fn passed_line(told: &mut Told) -> List<Line> {
+    let mut passed = List::new();
     let added = add_bytes(told.alloc, &mut passed, b"Content-Type", b"text/plain");
-    told.noted(added);
-    let aim = diverted_aim(told.alloc, Peer(3), routes.items(), &target, 486);
-    let aim = told.noted(aim)?;
+    told.keep(added.is_ok());
+    passed
+}
+
+/// The aim of the diverted attempt.
+fn aim_at(told: &mut Told, target: &Uri) -> Option<Aim> {
+    let routes = kept_route(told);
+    let aim = diverted_aim(told.alloc, Peer(3), routes.items(), target, 486);
+    drop(routes);
+    told.noted(aim)
+}
+
+fn diverted(told: &mut Told) -> Option<Aim> {
+    let target = read_uri(told.alloc, b"sip:vm@far.example;x=y;cause=302");
+    let target = told.noted(target)?;
+    let aim = aim_at(told, &target);
+    drop(target);
+    aim
+}
+
+fn offer_diverted(told: &mut Told, desk: &mut Desk, open: &Hearing) -> Option<Invitation> {
+    let aim = diverted(told)?;
+    let passed = passed_line(told);
     let sent = desk.offer(told.alloc, SIP, aim, open, false, passed.items(), true);
+    drop(passed);
     told.noted(sent)
 }
 
@@ -308,23 +339,39 @@ fn leave(told: &mut Told, loose: &mut List<Loose>, sent: Option<Invitation>) {
     }
 }
 
-fn refuse(told: &mut Told, desk: &mut Desk, open: &Hearing) -> Option<()> {
-    let tag = desk.draw(told.alloc);
-    let tag: Text = told.noted(tag)?;
-    let named = retry_after(told.alloc);
-    let named = told.noted(named)?;
+/// Refuses with a tag and these lines.
+fn refuse_by(told: &mut Told, desk: &mut Desk, open: &Hearing, tag: &[u8], named: &List<Line>) {
     let done = desk.answer(
         told.alloc,
         SIP,
         TKey(0),
         open,
-        tag.bytes(),
+        tag,
         500,
         &[],
         named.items(),
         b"",
     );
-    told.noted(done)
+    told.keep(done.is_ok());
+}
+
+/// Refuses, and says when to try again.
+fn refuse(told: &mut Told, desk: &mut Desk, open: &Hearing) {
+    let tag = desk.draw(told.alloc);
+    let tag = told.made(tag);
+    let named = retry_after(told.alloc);
+    if let Some(named) = told.noted(named) {
+        refuse_by(told, desk, open, tag.bytes(), &named);
+    }
+}
+
+/// Tells the place of the loose INVITE of a branch.
+fn tell_place(told: &mut Told, loose: &List<Loose>) {
+    if let Some(place) = loose_at(loose.items(), b"0123456789abcdef-6") {
+        told.add(b"place ");
+        told.add_number(place as u64);
+        told.add(b"\n");
+    }
 }
 
 /// A diverted attempt, which waits at its target, and a first one of an open caller, both without hops left; a refusal with its named line; and which loose INVITE has a branch.
@@ -338,16 +385,15 @@ fn wrong_diverts(alloc: Global) -> usize {
     let sent = offer_first(&mut told, &mut desk, &open);
     leave(&mut told, &mut loose, sent);
     refuse(&mut told, &mut desk, &open);
+    drop(open);
     tell_desk(&mut told, &desk);
-    if let Some(place) = loose_at(loose.items(), b"0123456789abcdef-6") {
-        told.add(b"place ");
-        told.add_number(place as u64);
-        told.add(b"\n");
-    }
+    drop(desk);
+    tell_place(&mut told, &loose);
+    drop(loose);
     told.wrong_line(DIVERTED_TOLD)
 }
 
 #[test]
 fn diverts(rt: HostRuntime) {
-    assert_eq!(rt; wrong_diverts(rt.alloc()), 0);
+    assert_right(&rt, "diverts", wrong_diverts(rt.alloc()));
 }

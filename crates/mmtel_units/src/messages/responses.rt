@@ -1,6 +1,7 @@
 //! Responses: the first Via with where a request came from, phrases, and what of a request's lines an answer has.
 
-use crate::drafts::{of_lines, request};
+use crate::asserting::assert_right;
+use crate::messages::drafts::{of_lines, request};
 use mmtel_lex::Text;
 use mmtel_message::{Msg, ReadFault, Reply, Start, completed, phrase_of, read, response};
 use mmtel_scan::number_up_to;
@@ -149,7 +150,10 @@ fn tell_response(told: &mut Told, asked: &Msg, code: u16, passed: &Msg, named: &
         body,
     };
     match response(told.alloc, asked.start(), asked.lines(), &reply) {
-        Ok(message) => tell_message(told, &message),
+        Ok(message) => {
+            tell_message(told, &message);
+            drop(message);
+        }
         Err(_) => told.fail(),
     }
 }
@@ -166,12 +170,15 @@ fn tell_answer(
     let passed = asked(told, b"X", passed);
     let named = asked(told, b"X", named);
     tell_response(told, request, code, &passed, &named, body);
+    drop(passed);
+    drop(named);
 }
 
 /// Tells a response that passes on nothing and has no body: to a request without a tag in To, with these lines named for it.
 fn tell_plain(told: &mut Told, method: &[u8], code: u16, named: &[u8]) {
     let request = asked(told, method, ASKED);
     tell_answer(told, &request, code, b"", named, b"");
+    drop(request);
 }
 
 /// A 200 of an INVITE has Record-Route and Contact, what is passed on, what is named for it and the body.
@@ -285,6 +292,7 @@ fn wrong_response(alloc: Global) -> usize {
         b"Content-Type: application/sdp\n",
         b"v=0\r\n",
     );
+    drop(invite);
     tell_plain(&mut told, b"INVITE", 100, b"");
     tell_plain(&mut told, b"INVITE", 400, b"");
     tell_plain(
@@ -301,12 +309,17 @@ fn wrong_response(alloc: Global) -> usize {
     );
     let refer = asked(&mut told, b"REFER", IN_A_DIALOG);
     tell_answer(&mut told, &refer, 202, b"", b"", b"");
+    drop(refer);
     tell_bad(&mut told);
     told.wrong_line(RESPONSES)
 }
 
 #[test]
 fn answers_requests(rt: HostRuntime) {
-    assert_eq!(rt; wrong_line(rt.alloc(), &mut Answers, ANSWERS), 0);
-    assert_eq!(rt; wrong_response(rt.alloc()), 0);
+    assert_right(
+        &rt,
+        "ANSWERS",
+        wrong_line(rt.alloc(), &mut Answers, ANSWERS),
+    );
+    assert_right(&rt, "response", wrong_response(rt.alloc()));
 }

@@ -1,0 +1,10 @@
+//! Messages, History-Info, trust and parties.
+
+mod building;
+mod drafts;
+mod history;
+mod message;
+mod parties;
+mod responses;
+mod shown;
+mod trust;

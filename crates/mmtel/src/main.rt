@@ -22,25 +22,28 @@ fn words(rt: &HostRuntime, alloc: Global) -> io::Result<Vec<Text>> {
     Ok(words)
 }
 
+/// Does what the words say, over the files of the system, the network and a database.
+fn perform(rt: &HostRuntime, alloc: Global, words: &[Text], out: &mut OutSink<'_>) -> ExitCode {
+    let mut files = DiskFiles::new(rt);
+    let mut link = NetLink::new(rt);
+    let mut keeper = SqliteKeeper::new(rt);
+    let status = program(alloc, words, &mut files, &mut link, &mut keeper, out);
+    keeper.close();
+    drop(link);
+    drop(files);
+    status
+}
+
 fn main(rt: HostRuntime) -> ExitCode {
     let alloc = rt.alloc();
-    let mut files = DiskFiles::new(&rt);
-    let mut link = NetLink::new(&rt);
-    let mut keeper = SqliteKeeper::new(&rt);
     let mut out = OutSink::new(&rt);
-    let words = match words(&rt, alloc) {
-        Ok(words) => words,
-        Err(e) if e.kind() == ErrorKind::OutOfMemory => {
-            return ExitCode::from(out_of_memory(&mut out));
+    match words(&rt, alloc) {
+        Ok(words) => {
+            let status = perform(&rt, alloc, words.as_slice(), &mut out);
+            drop(words);
+            status
         }
-        Err(_) => Vec::new(alloc),
-    };
-    program(
-        alloc,
-        words.as_slice(),
-        &mut files,
-        &mut link,
-        &mut keeper,
-        &mut out,
-    )
+        Err(e) if e.kind() == ErrorKind::OutOfMemory => ExitCode::from(out_of_memory(&mut out)),
+        Err(_) => perform(&rt, alloc, &[], &mut out),
+    }
 }

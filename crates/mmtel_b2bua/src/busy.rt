@@ -114,9 +114,35 @@ pub fn busy_beside(
 {
     let mut accounts = List::new();
     for entry in entries {
-        entry.add_beside(alloc, number, &mut accounts)?;
+        match entry.add_beside(alloc, number, &mut accounts) {
+            Ok(()) => {}
+            Err(error) => {
+                drop(accounts);
+                return Err(error);
+            }
+        }
     }
     Ok(accounts)
+}
+
+/// Adds the accounts that this INVITE, where it opens a call, and these calls keep busy.
+fn add_with(
+    alloc: Global,
+    arrival: &Arrival,
+    entries: &[Entry],
+    accounts: &mut List<Account>,
+) -> Result<(), NoMemory>
+    ensures { OnOk result (accounts.new ≡ (accounts.old ++ option_to_list arrival.now.served.origin) ++ busy_beside arrival.now.number.0 entries.now) }
+{
+    add(alloc, accounts, arrival.served.origin)?;
+    let others = busy_beside(alloc, arrival.number, entries)?;
+    match accounts.extend(alloc, others) {
+        Ok(()) => Ok(()),
+        Err((others, error)) => {
+            drop(others);
+            Err(error)
+        }
+    }
 }
 
 /// The same where this INVITE opens a call.
@@ -128,11 +154,12 @@ pub fn busy_with(
     ensures { IfOk result (λ accounts. accounts ≡ busy_with arrival.now entries.now) }
 {
     let mut accounts = List::new();
-    add(alloc, &mut accounts, arrival.served.origin)?;
-    let others = busy_beside(alloc, arrival.number, entries)?;
-    match accounts.extend(alloc, others) {
+    match add_with(alloc, arrival, entries, &mut accounts) {
         Ok(()) => Ok(accounts),
-        Err((_, error)) => Err(error),
+        Err(error) => {
+            drop(accounts);
+            Err(error)
+        }
     }
 }
 

@@ -1,11 +1,12 @@
 //! A signal moves the calls: the one that it is of takes its step, or one is opened.
-ghost use Rattle.std.specs.Prelude.{◌≡◌, ◌<◌, ◌++◌, ℕ, IfOk, OnOk, Some, length, option_to_list, position, slice_get};
+ghost use Rattle.std.specs.Prelude.{◌≡◌, ◌<◌, ◌++◌, ◌∷◌, [], ℕ, IfOk, OnOk, Some, length, option_to_list, position, slice_get};
 ghost use Rattle.std.specs.Option.{option_copied};
 ghost use Rattle.mmtel_call_decisions.specs.Invites.{invite_answered, invite_silent};
 ghost use Rattle.mmtel_call.specs.Settled.{is_settled};
+ghost use Rattle.mmtel_types.specs.declared.sides.Side.TheVariants.{Caller};
 ghost use Rattle.mmtel_b2bua.specs.Entries.{busy_beside, heard_by, is_numbered, kept, sent_it};
 ghost use Rattle.mmtel_b2bua.specs.Lending.{ended};
-ghost use Rattle.mmtel_b2bua.specs.Tables.{arrived, entry_after, heard, invites_by, moved_at, moved_by, moved_in, open_of, step_of, taken};
+ghost use Rattle.mmtel_b2bua.specs.Tables.{arrived, busy_with, entry_after, heard, invites_by, moved_at, moved_by, moved_in, open_of, step_of, taken};
 
 use crate::asked::place_of;
 use crate::busy::{busy_beside, busy_with};
@@ -24,7 +25,8 @@ use std::alloc::Global;
 
 /// Spends a call and its place.
 pub fn give_up_entry(entry: Entry, at: Moment) {
-    let Entry { call, invites: _ } = entry;
+    let Entry { call, invites } = entry;
+    drop(invites);
     call.give_up(at);
 }
 
@@ -81,13 +83,21 @@ fn step_at(
         ≡ (moved_at setting.now at sheets.now signal (option_to_list invite) place (slice_get entries.old.items place) entries.old.items desk.old).desk) }
 {
     let number = entries[place].call.opening.number;
-    let busy = busy_beside(alloc, number, entries)?;
+    let busy = match busy_beside(alloc, number, entries) {
+        Ok(busy) => busy,
+        Err(error) => {
+            drop(signal);
+            return Err(error);
+        }
+    };
     let present = Present {
         at,
         sheets,
         busy: busy.items(),
     };
-    if entries[place].hear(alloc, setting, &present, signal, invite, desk)? {
+    let settled = entries[place].hear(alloc, setting, &present, signal, invite, desk);
+    drop(busy);
+    if settled? {
         give_up_entry(entries.remove(place), at);
     }
     Ok(())
@@ -110,7 +120,10 @@ fn hear(
     ensures desk { OnOk result (desk.new ≡ (moved_in setting.now at sheets.now signal (option_to_list invite) place entries.old.items desk.old).desk) }
 {
     match place {
-        None => Ok(()),
+        None => {
+            drop(signal);
+            Ok(())
+        }
         Some(place) => {
             step_at(
                 entries, alloc, setting, sheets, at, place, signal, invite, desk,
@@ -119,8 +132,38 @@ fn hear(
     }
 }
 
-/// An INVITE opens a call.
+/// The call that an INVITE opens beside these.
 #[tactic(auto, unfolding(crate::specs::Tables::open_of))]
+fn opened(
+    entries: &[Entry],
+    alloc: Global,
+    setting: &Setting<'_>,
+    sheets: &SheetView,
+    at: Moment,
+    arrival: Arrival,
+    desk: &mut Desk,
+) -> Result<Call, NoMemory>
+    ensures call { IfOk result (λ call. call ≡ (open_of setting.now at sheets.now (busy_with arrival entries.now) arrival desk.old).call) }
+    ensures desk { OnOk result (desk.new ≡ (open_of setting.now at sheets.now (busy_with arrival entries.now) arrival desk.old).desk) }
+{
+    let busy = match busy_with(alloc, &arrival, entries) {
+        Ok(busy) => busy,
+        Err(error) => {
+            drop(arrival);
+            return Err(error);
+        }
+    };
+    let present = Present {
+        at,
+        sheets,
+        busy: busy.items(),
+    };
+    let call = Call::open(alloc, setting, &present, arrival, desk);
+    drop(busy);
+    call
+}
+
+/// An INVITE opens a call.
 fn open(
     entries: &mut Vec<Entry>,
     alloc: Global,
@@ -133,20 +176,43 @@ fn open(
     ensures entries { OnOk result (entries.new.items ≡ (arrived setting.now at sheets.now arrival entries.old.items desk.old).entries) }
     ensures desk { OnOk result (desk.new ≡ (arrived setting.now at sheets.now arrival entries.old.items desk.old).desk) }
 {
-    let invite = InviteKey {
-        key: arrival.key,
-        side: Side::Caller,
-    };
+    let key = arrival.key;
+    let call = opened(entries, alloc, setting, sheets, at, arrival, desk)?;
+    keep_call(entries, alloc, call, key, at)
+}
+
+/// The INVITE of the caller that this server transaction heard, as the first of its call.
+fn first_invite(alloc: Global, key: TKey) -> Result<List<InviteKey>, NoMemory>
+    ensures { IfOk result (λ invites. invites ≡ record { key = key; side = Caller } ∷ []) }
+{
     let mut invites = List::new();
-    file(alloc, &mut invites, invite)?;
-    let busy = busy_with(alloc, &arrival, entries)?;
-    let present = Present {
-        at,
-        sheets,
-        busy: busy.items(),
-    };
-    let call = Call::open(alloc, setting, &present, arrival, desk)?;
-    keep(entries, Entry { call, invites }, at)
+    let side = Side::Caller;
+    match file(alloc, &mut invites, InviteKey { key, side }) {
+        Ok(()) => Ok(invites),
+        Err(error) => {
+            drop(invites);
+            Err(error)
+        }
+    }
+}
+
+/// Keeps a call that this server transaction opened, as long as something may be heard of it.
+fn keep_call(
+    entries: &mut Vec<Entry>,
+    alloc: Global,
+    call: Call,
+    key: TKey,
+    at: Moment,
+) -> Result<(), NoMemory>
+    ensures { OnOk result (entries.new.items ≡ entries.old.items ++ kept (record { call = call; invites = record { key = key; side = Caller } ∷ [] })) }
+{
+    match first_invite(alloc, key) {
+        Ok(invites) => keep(entries, Entry { call, invites }, at),
+        Err(error) => {
+            call.give_up(at);
+            Err(error)
+        }
+    }
 }
 
 /// Keeps a call that was opened, as long as something may be heard of it.
@@ -198,6 +264,20 @@ fn bytes_of(text: &Option<Text>) -> Option<&[u8]>
         None => None,
         Some(text) => Some(text.bytes()),
     }
+}
+
+/// The place of the call of which this answers an INVITE.
+fn place_answered(
+    entries: &[Entry],
+    alloc: Global,
+    response: &Hearing,
+) -> Result<Option<usize>, NoMemory>
+    ensures { IfOk result (λ place. place ≡ position (sent_it (invite_answered response.now)) entries.now) }
+{
+    let branch = invite_answered(alloc, response)?;
+    let place = place_sent(entries, bytes_of(&branch));
+    drop(branch);
+    Ok(place)
 }
 
 /// The calls once they heard a signal; one that is opened has this number.
@@ -270,8 +350,13 @@ pub fn take(
             )
         }
         Signal::Answer { key, response } => {
-            let branch = invite_answered(alloc, &response)?;
-            let place = place_sent(entries, bytes_of(&branch));
+            let place = match place_answered(entries, alloc, &response) {
+                Ok(place) => place,
+                Err(error) => {
+                    drop(response);
+                    return Err(error);
+                }
+            };
             let signal = CallSignal::Answer { key, response };
             hear(
                 entries, alloc, setting, sheets, at, place, signal, None, desk,

@@ -172,7 +172,10 @@ impl Calls {
     {
         match self.rows.extend(alloc, rows) {
             Ok(()) => Ok(()),
-            Err((_, error)) => Err(error),
+            Err((rows, error)) => {
+                drop(rows);
+                Err(error)
+            }
         }
     }
 
@@ -200,10 +203,21 @@ impl Calls {
             out,
             rows,
         } = desk;
-        *tokens = drawn;
-        heard?;
-        self.keep_rows(alloc, rows)?;
-        Ok(out)
+        drop(mem::replace(tokens, drawn));
+        match heard {
+            Ok(()) => match self.keep_rows(alloc, rows) {
+                Ok(()) => Ok(out),
+                Err(error) => {
+                    drop(out);
+                    Err(error)
+                }
+            },
+            Err(error) => {
+                drop(rows);
+                drop(out);
+                Err(error)
+            }
+        }
     }
 
     /// The calls hear a signal: the call that it is of takes its step by the step table of a call, or one is opened (RFC 3261 §12 to §15, TS 24.604 §4.5.2.6).
@@ -236,6 +250,7 @@ impl Calls {
         ensures stuck { self.old.has_failed ≡ true → (result ≡ Err CallFault.NoMemory) × ((self.new ≡ self.old) × (tokens.new ≡ tokens.old)) }
     {
         if self.has_failed {
+            drop(signal);
             return Err(CallFault::NoMemory);
         }
         if is_full(&signal, &self.entries) {
@@ -385,10 +400,21 @@ impl Calls {
             out,
             rows,
         } = desk;
-        *tokens = drawn;
-        finished?;
-        self.keep_rows(alloc, rows)?;
-        Ok(out)
+        drop(mem::replace(tokens, drawn));
+        match finished {
+            Ok(()) => match self.keep_rows(alloc, rows) {
+                Ok(()) => Ok(out),
+                Err(error) => {
+                    drop(out);
+                    Err(error)
+                }
+            },
+            Err(error) => {
+                drop(rows);
+                drop(out);
+                Err(error)
+            }
+        }
     }
 
     /// Ends a call whose leg is away: BYE to the leg that is left, and its rows are closed; the tokens have drawn what that took.
@@ -431,19 +457,26 @@ impl Calls {
     pub fn give_up(self) {
         let Calls {
             sip: _,
-            home: _,
+            home,
             bound: _,
             entries,
             opened: _,
-            rows: _,
+            rows,
             has_failed: _,
         } = self;
-        let mut entries = entries;
-        'given: while let Some(entry) = entries.pop() {
-            give_up_entry(entry, beginning());
-        }
-        entries.destroy_empty();
+        drop(home);
+        drop(rows);
+        give_up_all(entries);
     }
+}
+
+/// Spends these calls and their places.
+fn give_up_all(entries: Vec<Entry>) {
+    let mut entries = entries;
+    'given: while let Some(entry) = entries.pop() {
+        give_up_entry(entry, beginning());
+    }
+    entries.destroy_empty();
 }
 
 /// The first of all moments: of rows that nobody keeps.

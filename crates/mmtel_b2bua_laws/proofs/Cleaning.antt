@@ -8,9 +8,9 @@ use Rattle.mmtel_types.specs.declared.sides.Side.{Side}
 use Rattle.mmtel_call_decisions.specs.Site.{Site}
 use Rattle.mmtel_call.specs.Lending.{finished, lent_in}
 use Rattle.mmtel_call.specs.declared.calls.Call.{Call}
-use Rattle.mmtel_call_heads.specs.Clean.{IsClean}
-use Rattle.mmtel_call_heads.specs.Emits.{Each, IsCleanDesk, IsCleanEmit}
-use Rattle.mmtel_call_heads.specs.Stories.{EmitsAreClean, EmitsHaveTheirLines, FinishedEmitsAreClean, IsCleanHeard, IsCleanStart, SendsOwnLines, desk_after}
+use Rattle.mmtel_call_laws.specs.Heads.Clean.{IsClean}
+use Rattle.mmtel_call_laws.specs.Heads.Emits.{Each, IsCleanDesk, IsCleanEmit}
+use Rattle.mmtel_call_laws.specs.Heads.Stories.{EmitsAreClean, EmitsHaveTheirLines, FinishedEmitsAreClean, IsCleanHeard, IsCleanStart, SendsOwnLines, desk_after}
 use Rattle.mmtel_call_laws.specs.GoingOn.{CallsGoOn}
 use Rattle.mmtel_call_laws.specs.Laws.{ChargingIsExact}
 use Rattle.mmtel_call_laws.specs.Story as story

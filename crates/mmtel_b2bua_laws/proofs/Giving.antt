@@ -15,15 +15,15 @@ use Rattle.mmtel_call.specs.Closing.{Step}
 use Rattle.mmtel_call.specs.Settled.{is_settled}
 use Rattle.mmtel_call.specs.declared.signals.Signal as calls
 use Rattle.mmtel_call.specs.declared.signals.Signal.TheVariants as of_call
-use Rattle.mmtel_call_heads.specs.Clean.{IsClean}
-use Rattle.mmtel_call_heads.specs.Emits.{Each, IsCleanDesk, IsCleanEmit}
-use Rattle.mmtel_call_heads.specs.Heard.{IsOfClean}
-use Rattle.mmtel_call_heads.specs.Kept.{IsCleanLeg}
-use Rattle.mmtel_call_heads.specs.Stories as stories
-use Rattle.mmtel_call_heads.proofs.Going.{IsGood}
-use Rattle.mmtel_call_heads.proofs.Keeping.{IsCleanStep}
-use Rattle.mmtel_call_heads.proofs.Sending.{each_append, each_drop, each_get, each_take}
-use Rattle.mmtel_call_heads.proofs.Stories.{IsCleanSoFar, finished_clean, lent_clean, opened_step_clean, put_back_clean, step_clean, taken_out_clean}
+use Rattle.mmtel_call_laws.specs.Heads.Clean.{IsClean}
+use Rattle.mmtel_call_laws.specs.Heads.Emits.{Each, IsCleanDesk, IsCleanEmit}
+use Rattle.mmtel_call_laws.specs.Heads.Heard.{IsOfClean}
+use Rattle.mmtel_call_laws.specs.Heads.Kept.{IsCleanLeg}
+use Rattle.mmtel_call_laws.specs.Heads.Stories as stories
+use Rattle.mmtel_call_laws.proofs.Heads.Going.{IsGood}
+use Rattle.mmtel_call_laws.proofs.Heads.Keeping.{IsCleanStep}
+use Rattle.mmtel_call_laws.proofs.Heads.Sending.{each_append, each_drop, each_get, each_take}
+use Rattle.mmtel_call_laws.proofs.Heads.Stories.{IsCleanSoFar, finished_clean, lent_clean, opened_step_clean, put_back_clean, step_clean, taken_out_clean}
 use Rattle.mmtel_scan.specs.Numbers.{next_number}
 use Rattle.mmtel_b2bua.specs.Entries.{busy_beside, heard_by, is_numbered, kept, sent_it}
 use Rattle.mmtel_b2bua.specs.Histories as histories

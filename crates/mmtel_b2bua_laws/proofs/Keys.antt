@@ -6,7 +6,7 @@ use Rattle.mmtel_sheet_values.specs.View.{InForce}
 use Rattle.mmtel_transaction.specs.Tokens.{Drawn}
 use Rattle.mmtel_transaction.specs.declared.words.TKey.{TKey}
 use Rattle.mmtel_call_decisions.specs.Site.{Site}
-use Rattle.mmtel_call_heads.specs.Emits.{Each}
+use Rattle.mmtel_call_laws.specs.Heads.Emits.{Each}
 use Rattle.mmtel_call_laws.specs.Story.{Start}
 use Rattle.mmtel_b2bua.specs.Histories.{Deed, Drops, Finishes, Hears, Releases, Restores, table_after}
 use Rattle.mmtel_b2bua.specs.Tables.{Table}

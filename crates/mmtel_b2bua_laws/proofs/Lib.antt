@@ -1,3 +1,4 @@
+-- What each call of a table comes to:
 mod Tables
 mod Moving
 pub mod Living
@@ -9,3 +10,11 @@ mod Giving
 mod Legs
 mod Filing
 mod Keys
+-- What nobody may learn from a table:
+mod Places
+mod Told
+mod Keeping
+mod MovingAlike
+mod Lent
+mod Staying
+mod Asked

@@ -5,11 +5,11 @@ use Rattle.mmtel_leg.specs.Dialogues.{request_uri}
 use Rattle.mmtel_sheet_values.specs.View.{InForce, sheet_in}
 use Rattle.mmtel_types.specs.declared.sides.Side.{Side}
 use Rattle.mmtel_call_decisions.specs.Site.{Site}
-use Rattle.mmtel_call_heads.specs.Clean.{IsClean}
-use Rattle.mmtel_call_heads.specs.Emits.{Each, IsCleanEmit}
-use Rattle.mmtel_call_heads.specs.Heard.{IsCleanSheet, IsOfClean}
-use Rattle.mmtel_call_heads.specs.Kept.{IsCleanLeg}
-use Rattle.mmtel_call_heads.specs.Stories.{SendsOwnLines}
+use Rattle.mmtel_call_laws.specs.Heads.Clean.{IsClean}
+use Rattle.mmtel_call_laws.specs.Heads.Emits.{Each, IsCleanEmit}
+use Rattle.mmtel_call_laws.specs.Heads.Heard.{IsCleanSheet, IsOfClean}
+use Rattle.mmtel_call_laws.specs.Heads.Kept.{IsCleanLeg}
+use Rattle.mmtel_call_laws.specs.Heads.Stories.{SendsOwnLines}
 use Rattle.mmtel_call_laws.specs.Story as story
 use Rattle.mmtel_b2bua.specs.Histories.{Deed, Drops, Finishes, Heard, Hears, Releases, Restores, table_after}
 use Rattle.mmtel_b2bua.specs.Lending.{leg_out}

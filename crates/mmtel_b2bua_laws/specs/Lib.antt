@@ -1,7 +1,13 @@
 -- What the laws cite.
+-- What each call of a table comes to:
 pub mod Lives
 pub mod Known
 pub mod Deeds
 pub mod Laws
 pub mod Clean
 pub mod Legs
+-- What nobody may learn from a table:
+pub mod Signals
+pub mod Alike
+pub mod AlikeDeeds
+pub mod Answers

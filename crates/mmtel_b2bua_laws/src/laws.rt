@@ -4,10 +4,9 @@ ghost use Rattle.mmtel_b2bua_laws.specs.Laws.{CallsBringForthTheirOwn, CallsOfTa
 ghost use Rattle.mmtel_b2bua_laws.specs.Laws.{LivesComeToTheirOutcome, LivesShowTheirOutcome, NothingIsOfNobody, RowsAreInOrder, RowsAreOfTheirCalls};
 ghost use Rattle.mmtel_b2bua_laws.specs.Legs.{LegsGoBack};
 
-use mmtel_call_heads::calls_send_clean_messages;
 use mmtel_call_laws::{
-    calls_come_to_their_outcome, calls_go_on, calls_show_their_outcome, charging_is_exact,
-    diversions_are_counted,
+    calls_come_to_their_outcome, calls_go_on, calls_send_clean_messages, calls_show_their_outcome,
+    charging_is_exact, diversions_are_counted,
 };
 
 /// A call of which legs are taken out and put back, or that is ended without one, comes to what a call comes to that only hears signals: its Outcome, what goes out while it

@@ -13,13 +13,14 @@ ghost use Rattle.mmtel_call.specs.Closing.{over_stood};
 use crate::calls::{Call, Pair, Phase, Stage, Success, Taken};
 use mmtel_answers::Hearing;
 use mmtel_call_decisions::{Setting, is_ack_of, is_same_side, number_of};
-use mmtel_desk::Desk;
+use mmtel_desk::{Desk, file};
 use mmtel_leg::Ended;
 use mmtel_message::Line;
 use mmtel_scan::{List, NoMemory, Text};
 use mmtel_transaction::DueWord;
 use mmtel_types::{Cause, Moment, Peer, Side};
 use std::alloc::Global;
+use std::mem;
 
 /// Whether an ACK of this side is that of the 2xx.
 pub fn acknowledges(
@@ -153,28 +154,17 @@ impl Pair {
     }
 }
 
-/// The INVITE with the text of its ACK.
-fn acked_by(text: Text, taken: Taken) -> Taken
-    ensures { result ≡ record taken { invitation = record taken.invitation { ack = Some text } } }
-{
-    let mut taken = taken;
-    taken.invitation.ack = Some(text);
-    taken
-}
-
-/// Keeps the text of an ACK with an INVITE of this branch.
-fn with_ack(alloc: Global, branch: &[u8], text: &Text, taken: Taken) -> Result<Taken, NoMemory>
-    ensures { IfOk result (λ t. t ≡ with_ack branch.now text.now taken) }
-{
-    if taken.invitation.branch.bytes() != branch {
-        return Ok(taken);
-    }
-    match text.copied(alloc) {
-        Err(error) => {
-            drop(taken);
-            Err(error)
+impl Taken {
+    /// Keeps the text of an ACK, where the INVITE is of this branch.
+    fn keep_ack(&mut self, alloc: Global, branch: &[u8], text: &Text) -> Result<(), NoMemory>
+        ensures { OnOk result (self.new ≡ with_ack branch.now text.now self.old) }
+    {
+        if self.invitation.branch.bytes() != branch {
+            return Ok(());
         }
-        Ok(kept) => Ok(acked_by(kept, taken)),
+        let text = text.copied(alloc)?;
+        drop(self.invitation.ack.replace(text));
+        Ok(())
     }
 }
 
@@ -190,9 +180,25 @@ fn with_acks(
     let mut rest = taken;
     let mut kept = List::new();
     'rest: while let Some(taken) = rest.pop_first() {
-        let taken = with_ack(alloc, branch, text, taken)?;
-        kept.push(alloc, taken)?;
+        let mut taken = taken;
+        match taken.keep_ack(alloc, branch, text) {
+            Err(error) => {
+                drop(taken);
+                drop(rest);
+                drop(kept);
+                return Err(error);
+            }
+            Ok(()) => match file(alloc, &mut kept, taken) {
+                Ok(()) => {}
+                Err(error) => {
+                    drop(rest);
+                    drop(kept);
+                    return Err(error);
+                }
+            },
+        }
     }
+    drop(rest);
     Ok(kept)
 }
 
@@ -341,8 +347,15 @@ impl Call {
         ensures callee { x.new.callee.meter ≡ x.old.callee.meter }
     {
         let lines = self.shown_across(alloc, setting, x, side, m)?;
-        x.ask_for(alloc, setting, b"BYE", side.other(), &lines, m, desk)?;
-        Ok(())
+        let asked = x.ask_for(alloc, setting, b"BYE", side.other(), &lines, m, desk);
+        drop(lines);
+        match asked {
+            Ok(branch) => {
+                drop(branch);
+                Ok(())
+            }
+            Err(error) => Err(error),
+        }
     }
 
     /// A talking side leaves, and the call is over.
@@ -372,8 +385,9 @@ impl Call {
         ensures done { OnOk result (self.new ≡ keeps_ack branch.now text.now self.old) }
         ensures phase { self.new.phase ≡ self.old.phase }
     {
-        let taken = std::mem::replace(&mut self.taken, List::new());
-        self.taken = with_acks(alloc, branch, text, taken)?;
+        let taken = mem::replace(&mut self.taken, List::new());
+        let taken = with_acks(alloc, branch, text, taken)?;
+        drop(mem::replace(&mut self.taken, taken));
         Ok(())
     }
 

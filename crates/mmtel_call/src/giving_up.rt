@@ -54,10 +54,11 @@ impl Call {
         } = x;
         let Attempt {
             number: _,
-            service: _,
+            service,
             rang: _,
             invitation,
         } = attempt;
+        drop(service);
         let left = self.leave_attempt(alloc, invitation);
         let Ended { meter: first } = caller.leave();
         let last = callee.leave();

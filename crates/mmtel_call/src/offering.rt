@@ -37,8 +37,13 @@ fn unless_failed<T: Drop>(after: Result<(), NoMemory>, value: T) -> Result<T, No
     ensures value { IfOk result (λ kept. kept ≡ value) }
     ensures passed { IsOk result → IsOk after }
 {
-    after?;
-    Ok(value)
+    match after {
+        Ok(()) => Ok(value),
+        Err(error) => {
+            drop(value);
+            Err(error)
+        }
+    }
 }
 
 /// An INVITE, and its dialog once more.

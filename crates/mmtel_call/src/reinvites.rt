@@ -30,14 +30,22 @@ use mmtel_transaction::TKey;
 use mmtel_types::{Moment, Side};
 use mmtel_waiting::HoldState;
 use std::alloc::Global;
+use std::mem;
 
 /// The INVITE as it was sent in this dialog.
 fn sent_in(alloc: Global, dialogue: &Dialogue, branch: Text) -> Result<Invitation, NoMemory>
     ensures { IfOk result (λ i. i ≡ sent_in dialogue.now branch) }
 {
-    let dialogue = dialogue.copied(alloc)?;
-    let number = dialogue.own;
-    Ok(Invitation::sent(dialogue, number, branch))
+    match dialogue.copied(alloc) {
+        Err(error) => {
+            drop(branch);
+            Err(error)
+        }
+        Ok(dialogue) => {
+            let number = dialogue.own;
+            Ok(Invitation::sent(dialogue, number, branch))
+        }
+    }
 }
 
 /// Whether the status ends the dialog (RFC 5057 §5.1).
@@ -202,13 +210,19 @@ fn ended_dialogs(
 ) -> Result<List<Dialogue>, NoMemory>
     ensures { IfOk result (λ ds. ds ≡ ended_dialogs x.now asking leaving) }
 {
-    let mut ended = List::new();
-    if is_same_side(asking, leaving) {
-        let mut dialogue = x.dialogue_of(asking.other()).copied(alloc)?;
-        dialogue.own = dialogue.own.saturating_add(1);
-        file(alloc, &mut ended, dialogue)?;
+    if !is_same_side(asking, leaving) {
+        return Ok(List::new());
     }
-    Ok(ended)
+    let mut dialogue = x.dialogue_of(asking.other()).copied(alloc)?;
+    dialogue.own = dialogue.own.saturating_add(1);
+    let mut ended = List::new();
+    match file(alloc, &mut ended, dialogue) {
+        Ok(()) => Ok(ended),
+        Err(error) => {
+            drop(ended);
+            Err(error)
+        }
+    }
 }
 
 impl Call {
@@ -646,7 +660,8 @@ impl Call {
         ensures done { OnOk result (self.new ≡ with_loose (record { invitation = record q.invitation { forks = forks }; within = true }) self.old) }
         ensures phase { self.new.phase ≡ self.old.phase }
     {
-        let invitation = Invitation { forks, ..q.sent() };
+        let mut invitation = q.sent();
+        drop(mem::replace(&mut invitation.forks, forks));
         self.loosen(alloc, invitation, true)
     }
 

@@ -201,8 +201,15 @@ impl Opening {
         let Target { uri, of_number: _ } = target;
         let party = party_of(uri);
         match service {
-            None => false,
-            Some(service) => self.bars_target(at, &party, service.sheet.sheet()),
+            None => {
+                drop(party);
+                false
+            }
+            Some(service) => {
+                let barred = self.bars_target(at, &party, service.sheet.sheet());
+                drop(party);
+                barred
+            }
         }
     }
 
@@ -222,8 +229,8 @@ impl Opening {
         ensures service { IfOk result (λ r. r.0 ≡ service_at setting.now (standing present.now) self.now cause target.now) }
         ensures peer { IfOk result (λ r. r.1 ≡ peer_for setting.now self.now target.now) }
     {
-        let service = self.service_at(alloc, setting, present, cause, target)?;
         let peer = self.peer_for(alloc, setting, target)?;
+        let service = self.service_at(alloc, setting, present, cause, target)?;
         Ok((service, peer))
     }
 
@@ -301,7 +308,11 @@ fn uri_in(alloc: Global, value: &[u8]) -> Result<Option<Uri>, NoMemory>
     ensures { IfOk result (λ u. u ≡ uri_in value.now) }
 {
     match read_name_addr(alloc, value) {
-        Ok(name) => uri_of(alloc, name.uri.bytes()),
+        Ok(name) => {
+            let uri = uri_of(alloc, name.uri.bytes());
+            drop(name);
+            uri
+        }
         Err(LexFault::Malformed { at: _ }) => Ok(None),
         Err(LexFault::NoMemory) => Err(NoMemory),
     }

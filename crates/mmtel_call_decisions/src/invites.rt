@@ -41,8 +41,15 @@ fn branch_of(alloc: Global, m: &Hearing) -> Result<Option<Text>, NoMemory>
     match first_via(alloc, m)? {
         None => Ok(None),
         Some(via) => match behind_cookie(param_value(via.params.items(), b"branch")) {
-            None => Ok(None),
-            Some(branch) => Ok(Some(Text::of(alloc, branch)?)),
+            None => {
+                drop(via);
+                Ok(None)
+            }
+            Some(branch) => {
+                let branch = Text::of(alloc, branch);
+                drop(via);
+                Ok(Some(branch?))
+            }
         },
     }
 }
@@ -54,7 +61,11 @@ fn is_of_invite(alloc: Global, m: &Hearing) -> Result<bool, NoMemory>
     match first_of(m.message.lines(), b"CSeq") {
         None => Ok(false),
         Some(value) => match read_cseq(alloc, value) {
-            Ok(cseq) => Ok(cseq.method.bytes() == b"INVITE".as_slice()),
+            Ok(cseq) => {
+                let yes = cseq.method.bytes() == b"INVITE".as_slice();
+                drop(cseq);
+                Ok(yes)
+            }
             Err(LexFault::Malformed { at: _ }) => Ok(false),
             Err(LexFault::NoMemory) => Err(NoMemory),
         },

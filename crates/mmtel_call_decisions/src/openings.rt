@@ -2,6 +2,7 @@
 ghost use Rattle.std.specs.Prelude.{◌≡◌, ◌≤◌, length, IfOk};
 ghost use Rattle.std.specs.Option.{option_copied};
 ghost use Rattle.mmtel_parties.specs.Routing.{kept_routes};
+ghost use Rattle.mmtel_sdp.specs.Offers.{kinds_of};
 ghost use Rattle.mmtel_call_decisions.specs.Opening.{first_of, nowhere, opening_of, origin_sheet, received_list, refusal_of, undiverted};
 ghost use Rattle.mmtel_call_decisions.specs.Site.{standing};
 
@@ -112,6 +113,35 @@ fn routes_of(alloc: Global, setting: &Setting<'_>, invite: &Hearing) -> Result<L
     kept_routes(alloc, setting.sip, values)
 }
 
+/// What is read as a call opens: the record of its caller's account, the kinds of media that it offers, and the Route values that are kept.
+fn read_opening(
+    alloc: Global,
+    setting: &Setting<'_>,
+    present: &Present<'_>,
+    arrival: &Arrival,
+) -> Result<(Option<SharedSheet>, List<Text>, List<Text>), NoMemory>
+    ensures sheet { IfOk result (λ r. r.0 ≡ origin_sheet (standing present.now) arrival.now.served) }
+    ensures media { IfOk result (λ r. r.1 ≡ kinds_of arrival.now.invite.heard.body) }
+    ensures routes { IfOk result (λ r. r.2 ≡ kept_routes setting.now.sip arrival.now.invite.heard.routes) }
+{
+    let sheet = origin_sheet(alloc, present, &arrival.served)?;
+    let media = match kinds_of(alloc, arrival.invite.message.body()) {
+        Ok(media) => media,
+        Err(error) => {
+            drop(sheet);
+            return Err(error);
+        }
+    };
+    match routes_of(alloc, setting, &arrival.invite) {
+        Ok(routes) => Ok((sheet, media, routes)),
+        Err(error) => {
+            drop(sheet);
+            drop(media);
+            Err(error)
+        }
+    }
+}
+
 /// What is known of a call as it opens, where its caller's dialog has this tag of the server.
 ///
 /// # Errors
@@ -126,10 +156,15 @@ pub fn opening_of(
 ) -> Result<Opening, NoMemory>
     ensures opening { IfOk result (λ o. o ≡ opening_of setting.now (standing present.now) tag arrival) }
 {
-    let sheet = origin_sheet(alloc, present, &arrival.served)?;
+    let (sheet, media, routes) = match read_opening(alloc, setting, present, &arrival) {
+        Ok(read) => read,
+        Err(error) => {
+            drop(tag);
+            drop(arrival);
+            return Err(error);
+        }
+    };
     let restricted = caller_restricted(&wants(&arrival.invite.message), kept_sheet(&sheet));
-    let media = kinds_of(alloc, arrival.invite.message.body())?;
-    let routes = routes_of(alloc, setting, &arrival.invite)?;
     Ok(Opening {
         number: arrival.number,
         key: arrival.key,
@@ -151,7 +186,9 @@ fn received_list(alloc: Global, invite: &Hearing) -> Result<History, NoMemory>
     ensures few { IfOk result (λ h. length h ≤ 32) }
 {
     let values = line_texts(alloc, invite.message.lines(), b"History-Info")?;
-    match read_values(alloc, &values) {
+    let read = read_values(alloc, &values);
+    drop(values);
+    match read {
         Ok(history) => Ok(history),
         Err(HistoryFault::Malformed { at: _ }) => Ok(History::new(alloc)),
         Err(HistoryFault::NoMemory) => Err(NoMemory),
@@ -214,6 +251,8 @@ impl Opening {
         let party = party_of(uri_copied(alloc, &target.uri)?);
         let words = wants(&self.invite.message);
         let sheet = self.origin_sheet();
-        Ok(refused_at_opening(&words, &self.served, sheet, &self.facts(&party, at)))
+        let refusal = refused_at_opening(&words, &self.served, sheet, &self.facts(&party, at));
+        drop(party);
+        Ok(refusal)
     }
 }

@@ -21,7 +21,11 @@ pub fn number_of(alloc: Global, request: &Hearing) -> Result<Option<u32>, NoMemo
     match first_of(request.message.lines(), b"CSeq") {
         None => Ok(None),
         Some(value) => match read_cseq(alloc, value) {
-            Ok(cseq) => Ok(Some(cseq.number)),
+            Ok(cseq) => {
+                let number = cseq.number;
+                drop(cseq);
+                Ok(Some(number))
+            }
             Err(LexFault::Malformed { at: _ }) => Ok(None),
             Err(LexFault::NoMemory) => Err(NoMemory),
         },

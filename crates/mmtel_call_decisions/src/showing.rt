@@ -111,7 +111,9 @@ impl Opening {
         let facing = self.facing(service, side, message);
         if status_of(message.message.start()) == 181 {
             let told = diversions.told(alloc)?;
-            return shown_with(alloc, setting, &message.message, &told, &facing, peer);
+            let shown = shown_with(alloc, setting, &message.message, &told, &facing, peer);
+            drop(told);
+            return shown;
         }
         shown_with(
             alloc,
@@ -142,7 +144,8 @@ impl Opening {
         }
         let told = diversions.told(alloc)?;
         let to_trusted = setting.peers.trusted(self.invite.peer);
-        let lines = history_lines(alloc, &told, self.masks_all(), to_trusted)?;
-        Ok(Some(lines))
+        let lines = history_lines(alloc, &told, self.masks_all(), to_trusted);
+        drop(told);
+        Ok(Some(lines?))
     }
 }

@@ -1,6 +1,7 @@
 //! URIs that are kept once more.
 ghost use Rattle.std.specs.Prelude.{◌≡◌, IfOk};
 
+use mmtel_desk::file;
 use mmtel_lex::{Param, Params, Uri};
 use mmtel_scan::{List, NoMemory, Text};
 use std::alloc::Global;
@@ -19,8 +20,13 @@ fn param_copied(alloc: Global, param: &Param) -> Result<Param, NoMemory>
     ensures { IfOk result (λ copy. copy ≡ param.now) }
 {
     let name = param.name.copied(alloc)?;
-    let value = text_copied(alloc, &param.value)?;
-    Ok(Param { name, value })
+    match text_copied(alloc, &param.value) {
+        Ok(value) => Ok(Param { name, value }),
+        Err(error) => {
+            drop(name);
+            Err(error)
+        }
+    }
 }
 
 fn params_copied(alloc: Global, params: &[Param]) -> Result<Params, NoMemory>
@@ -28,8 +34,19 @@ fn params_copied(alloc: Global, params: &[Param]) -> Result<Params, NoMemory>
 {
     let mut copy = List::new();
     for param in params {
-        let param = param_copied(alloc, param)?;
-        copy.push(alloc, param)?;
+        match param_copied(alloc, param) {
+            Err(error) => {
+                drop(copy);
+                return Err(error);
+            }
+            Ok(param) => match file(alloc, &mut copy, param) {
+                Ok(()) => {}
+                Err(error) => {
+                    drop(copy);
+                    return Err(error);
+                }
+            },
+        }
     }
     Ok(copy)
 }
@@ -51,9 +68,30 @@ pub fn uri_copied(alloc: Global, uri: &Uri) -> Result<Uri, NoMemory>
             headers,
         } => {
             let user = text_copied(alloc, user)?;
-            let host = host.copied(alloc)?;
-            let params = params_copied(alloc, params.items())?;
-            let headers = headers.copied(alloc)?;
+            let host = match host.copied(alloc) {
+                Ok(host) => host,
+                Err(error) => {
+                    drop(user);
+                    return Err(error);
+                }
+            };
+            let params = match params_copied(alloc, params.items()) {
+                Ok(params) => params,
+                Err(error) => {
+                    drop(user);
+                    drop(host);
+                    return Err(error);
+                }
+            };
+            let headers = match headers.copied(alloc) {
+                Ok(headers) => headers,
+                Err(error) => {
+                    drop(user);
+                    drop(host);
+                    drop(params);
+                    return Err(error);
+                }
+            };
             Ok(Uri::Sip {
                 user,
                 host,
@@ -64,8 +102,13 @@ pub fn uri_copied(alloc: Global, uri: &Uri) -> Result<Uri, NoMemory>
         }
         Uri::Tel { number, params } => {
             let number = number.copied(alloc)?;
-            let params = params_copied(alloc, params.items())?;
-            Ok(Uri::Tel { number, params })
+            match params_copied(alloc, params.items()) {
+                Ok(params) => Ok(Uri::Tel { number, params }),
+                Err(error) => {
+                    drop(number);
+                    Err(error)
+                }
+            }
         }
     }
 }

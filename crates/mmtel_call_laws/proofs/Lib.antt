@@ -13,3 +13,8 @@ pub mod Concluding
 mod Signs
 mod Moments
 mod GoingOn
+mod Notices
+mod Trace
+pub mod Heads
+pub mod Branches
+pub mod Secret

@@ -9,8 +9,8 @@ use Rattle.mmtel_cli.specs.Found.{HasCalled, SparedBy, TakingBy, UnboundBy}
 use Rattle.mmtel_cli.specs.Gives.{GivesCommand, Prepares}
 use Rattle.mmtel_cli.specs.Keeping.{KeeperSeen}
 use Rattle.mmtel_cli.specs.Serving.{LinkSeen}
-use Rattle.mmtel_cli.specs.declared.reports.Report.{Report}
-use Rattle.mmtel_cli.specs.declared.reports.Report.TheVariants.{Memory, Usage}
+use Rattle.mmtel_reports.specs.declared.reports.Report.{Report}
+use Rattle.mmtel_reports.specs.declared.reports.Report.TheVariants.{Memory, Usage}
 
 -- each command that the words spell is this one
 abbrev IsAll : Option Command → List (List ℕ) → Type 0

@@ -4,13 +4,13 @@ use Rattle.std.proofs.Common.{◌≡◌, ◌==◌, ◌<◌, true, ℕ, List, [],
 use Rattle.std.proofs.lemmas.Bool.Decides.{nat_tests}
 use Rattle.std.specs.Prelude.{IfOk}
 use Rattle.std.specs.List.{list_all}
-use Rattle.mmtel_call_heads.specs.Clean.{IsClean}
+use Rattle.mmtel_call_laws.specs.Heads.Clean.{IsClean}
 use Rattle.mmtel_directory.specs.Directory.{directory_of}
 use Rattle.mmtel_directory.specs.declared.directories.Directory.{Directory}
 use Rattle.mmtel_message.specs.Headers.{is_value_byte}
 use Rattle.mmtel_run_laws.specs.Clean.{HomesAreClean}
-use Rattle.mmtel_run_offers.specs.Seen.{PeersAreApart}
-use Rattle.mmtel_run_secret.specs.Headline.{BranchesAreRead, ConfigurationsAreRead}
+use Rattle.mmtel_run_laws.specs.Seen.{PeersAreApart}
+use Rattle.mmtel_run_laws.specs.Secret.{BranchesAreRead, ConfigurationsAreRead}
 use Rattle.mmtel_scan.proofs.Runs.{and_true}
 use Rattle.mmtel_trust.specs.Peers.{are_apart}
 use Rattle.mmtel_words.specs.CommandLine.{is_hex, is_token}

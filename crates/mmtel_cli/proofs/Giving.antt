@@ -9,8 +9,8 @@ use Rattle.mmtel_cli.specs.Serving.{LinkSeen}
 use Rattle.mmtel_outside.specs.Shelf.{Shelf, answer_at, called, ReadsTold}
 use Rattle.mmtel_words.specs.CommandLine.{Asked}
 use Rattle.mmtel_directory.specs.declared.directories.Directory.{Directory}
-use Rattle.mmtel_cli.specs.declared.reports.Report.{Report}
-use Rattle.mmtel_cli.specs.declared.reports.Report.TheVariants.{Line, File, Memory}
+use Rattle.mmtel_reports.specs.declared.reports.Report.{Report}
+use Rattle.mmtel_reports.specs.declared.reports.Report.TheVariants.{Line, File, Memory}
 use Rattle.mmtel_outside.specs.declared.files.FileFault.TheVariants.{Failed}
 
 -- the told answer, or none where nothing is told

@@ -4,14 +4,14 @@ use Rattle.mmtel_outside.specs.Shelf.{Shelf}
 use Rattle.mmtel_words.specs.CommandLine.{Command, Serve, Replay, Check, Charges, Workload}
 use Rattle.mmtel_cli.proofs.Saying.{four_rose}
 use Rattle.mmtel_cli.specs.Asks.{AsksFor, IsServe}
-use Rattle.mmtel_cli.specs.Ends.{Ends}
+use Rattle.mmtel_reports.specs.Ends.{Ends}
 use Rattle.mmtel_cli.specs.Found.{CountsLink, SparesLink, TakingBy, UnboundBy}
 use Rattle.mmtel_cli.specs.Gives.{Prepares}
 use Rattle.mmtel_cli.specs.Keeping.{KeeperSeen}
 use Rattle.mmtel_cli.specs.Runs.{CountsAtFour, Ran}
 use Rattle.mmtel_cli.specs.Serving.{IsUnbound, LinkSeen}
-use Rattle.mmtel_cli.specs.declared.reports.Report.{Report}
-use Rattle.mmtel_cli.specs.declared.reports.Report.TheVariants.{Usage, Line, Link, File, Keeper, Memory, Listing, Sound, Served, Unsound}
+use Rattle.mmtel_reports.specs.declared.reports.Report.{Report}
+use Rattle.mmtel_reports.specs.declared.reports.Report.TheVariants.{Usage, Line, Link, File, Keeper, Memory, Listing, Sound, Served, Unsound}
 
 module _ (status : ℕ) (before after : Option (List ℕ)) (faults now : ℕ) where
   abbrev EndsSo : Report → Type 0

@@ -9,8 +9,8 @@ use Rattle.mmtel_outside.specs.declared.events.Event.{Event}
 use Rattle.mmtel_run_laws.specs.Clean.{HomesAreClean, RunsSendCleanMessages}
 use Rattle.mmtel_run_laws.specs.Outcome.{CallsOfRunsComeToOutcome}
 use Rattle.mmtel_run_laws.specs.Rows.{SeatsOfRunsAreChargedOnce}
-use Rattle.mmtel_run_offers.specs.Seen.{PeersAreApart}
-use Rattle.mmtel_run_secret.specs.Headline.{ConfigurationsAreRead}
+use Rattle.mmtel_run_laws.specs.Seen.{PeersAreApart}
+use Rattle.mmtel_run_laws.specs.Secret.{ConfigurationsAreRead}
 use Rattle.mmtel_script.specs.Script.{events_of}
 use Rattle.mmtel_uploads.specs.Uploads.{upload_of}
 use Rattle.mmtel_uploads.specs.declared.uploads.Upload.{Upload}
@@ -21,7 +21,7 @@ use Rattle.mmtel_cli.specs.Asks.{AsksFor, IsOnly, SpellsNone}
 use Rattle.mmtel_cli.specs.Due as due
 use Rattle.mmtel_cli.specs.Due.{due_of_events, due_of_script, due_of_directory, due_of_config, due_of_store, due_of_charges, due_of_upload, due_of_records, due_of_work}
 use Rattle.mmtel_cli.specs.Due.{first_after, shelf_by, shelf_first, shelf_after}
-use Rattle.mmtel_cli.specs.Ends.{Ends, WroteListing}
+use Rattle.mmtel_reports.specs.Ends.{Ends, WroteListing}
 use Rattle.mmtel_cli.specs.Found.{HasCalled, IsDue, IsServedBy, SparedBy, Spares}
 use Rattle.mmtel_cli.specs.Gives.{GivesBoth, GivesCharges, GivesRecords, GivesRun, GivesServe, Prepares, ServesConfig, ServesDirectory}
 use Rattle.mmtel_cli.specs.Keeping.{IsNotLoaded, IsSpared, KeeperSeen}
@@ -32,8 +32,8 @@ use Rattle.mmtel_cli.specs.Runs.{WroteMemory, WroteLine, WroteFile, WroteKeeper,
 use Rattle.mmtel_cli.specs.Runs.{Ran, RanServe, RanReplay, RanCheck, RanCharges, RanWork, RanNone, RanShort, Called, CalledFor}
 use Rattle.mmtel_cli.specs.Runs.{EndsOfEvents, EndsOfScript, EndsOfDirectory, EndsOfConfig, EndsOfStore, EndsOfCharges, EndsOfWork, EndsOfUpload, EndsOfRecords}
 use Rattle.mmtel_cli.specs.Runs.{EndsOfServe, EndsOfServing, EndsServed, EndsServing, EndsUnkept, EndsUnlinked}
-use Rattle.mmtel_cli.specs.declared.reports.Report.{Report}
-use Rattle.mmtel_cli.specs.declared.reports.Report.TheVariants.{Usage, Line, Link, File, Keeper, Memory, Listing, Sound, Served, Unsound}
+use Rattle.mmtel_reports.specs.declared.reports.Report.{Report}
+use Rattle.mmtel_reports.specs.declared.reports.Report.TheVariants.{Usage, Line, Link, File, Keeper, Memory, Listing, Sound, Served, Unsound}
 
 -- ---- what was written, where it is known what is due
 

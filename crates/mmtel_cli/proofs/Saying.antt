@@ -11,7 +11,7 @@ use Rattle.mmtel_link.specs.Told.{LinkCalls, fails_next}
 use Rattle.mmtel_outside.specs.Counts.{Rose}
 use Rattle.mmtel_outside.specs.Shelf.{Shelf, answer_at, called}
 use Rattle.mmtel_outside.specs.declared.events.Event.{Event}
-use Rattle.mmtel_script.specs.Listing.{listing_of}
+use Rattle.mmtel_listing.specs.Listing.{listing_of}
 use Rattle.mmtel_script.specs.Script.{events_of}
 use Rattle.mmtel_scan.proofs.ChainLaws.{some_is}
 use Rattle.mmtel_uploads.specs.Uploads.{upload_of}
@@ -20,7 +20,7 @@ use Rattle.mmtel_uploads.specs.declared.uploads.Upload.TheVariants as upload
 use Rattle.mmtel_words.specs.CommandLine.{Asked, Command, Serve, Replay, Check, Charges, Workload, IsCommand}
 use Rattle.mmtel_cli.specs.Asks.{IsServe, IsReplay, IsCheck, IsCharges, IsWorkload, IsOnly, SpellsNone}
 use Rattle.mmtel_cli.specs.Workloads.{work_config}
-use Rattle.mmtel_cli.specs.Ends.{WroteListing, WroteNothing}
+use Rattle.mmtel_reports.specs.Ends.{WroteListing, WroteNothing}
 use Rattle.mmtel_cli.specs.Keeping.{IsLoaded, IsNotLoaded, IsOpened, KeeperSeen, refuses}
 use Rattle.mmtel_cli.specs.Serving.{IsBindCall, IsLinked, LinkFails, LinkSeen}
 use Rattle.mmtel_cli.specs.Runs.{Counted, HasServed, Listed, ListedRows, WroteMemory, Replayed, Checked, Charged, Worked, Refused, ServedLink, Ran, RanServe, RanReplay}

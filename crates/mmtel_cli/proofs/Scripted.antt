@@ -20,7 +20,7 @@ use Rattle.mmtel_run.specs.InForce.{upload_at, uploads_of}
 use Rattle.mmtel_run.specs.Run.{IsEnough, IsEnoughAfter, after, world_after}
 use Rattle.mmtel_run.specs.Short.{IsShort, IsShortRun}
 use Rattle.mmtel_run.specs.World.{World, beginning}
-use Rattle.mmtel_run_secret.specs.Headline.{OffersKeepTheSecret}
+use Rattle.mmtel_run_laws.specs.Secret.{OffersKeepTheSecret}
 use Rattle.mmtel_script.specs.Script.{unheard}
 use Rattle.mmtel_server.specs.Driven.{Driven, EachAnswers, EachCounted, EachRead, EndsAfter, HeardMore, to_come, with_all}
 use Rattle.mmtel_server.specs.Charged.{RowsCharged, took_last}

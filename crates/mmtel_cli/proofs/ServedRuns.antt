@@ -27,8 +27,8 @@ use Rattle.mmtel_cli.proofs.Scripted.{bound_still, none_waits}
 use Rattle.mmtel_cli.specs.Found.{CountsLink, IsServedBy, IsSuited}
 use Rattle.mmtel_cli.specs.Keeping.{IsLoaded, KeeperSeen, seen}
 use Rattle.mmtel_cli.specs.Serving.{IsBindCall, IsLinked, IsNotLinked, LinkSeen, ServesLink, ServesRun, line_seen}
-use Rattle.mmtel_cli.specs.declared.reports.Report.{Report}
-use Rattle.mmtel_cli.specs.declared.reports.Report.TheVariants.{Link, Served}
+use Rattle.mmtel_reports.specs.declared.reports.Report.{Report}
+use Rattle.mmtel_reports.specs.declared.reports.Report.TheVariants.{Link, Served}
 
 -- ---- binding
 

@@ -1,11 +1,11 @@
 -- What was found due, beside what is due.
 use Rattle.std.specs.Prelude.{◌≡◌, ℕ, ◌⊎◌, Bool, true, List, Some, None, Ok, ⊤}
 use Rattle.std.specs.declared.option.Option.{Option}
-use Rattle.mmtel_call_heads.specs.Clean.{IsClean}
+use Rattle.mmtel_call_laws.specs.Heads.Clean.{IsClean}
 use Rattle.mmtel_directory.specs.declared.directories.Directory.{Directory}
 use Rattle.mmtel_outside.specs.Counts.{Rose}
 use Rattle.mmtel_outside.specs.Shelf.{Shelf}
-use Rattle.mmtel_run_secret.specs.Headline.{BranchesAreRead}
+use Rattle.mmtel_run_laws.specs.Secret.{BranchesAreRead}
 use Rattle.mmtel_trust.specs.Peers.{are_apart}
 use Rattle.mmtel_words.specs.CommandLine.{Command, Serve, Replay, Check, Charges, Workload}
 use Rattle.mmtel_cli.specs.Due as due
@@ -14,8 +14,8 @@ use Rattle.mmtel_cli.specs.Keeping.{IsNotLoaded, KeeperSeen}
 use Rattle.mmtel_cli.specs.Listings.{Lists, ListsRows}
 use Rattle.mmtel_cli.specs.Serving.{LinkFails, LinkSeen, ServesLink}
 use Rattle.mmtel_cli.specs.Workloads.{Counts}
-use Rattle.mmtel_cli.specs.declared.reports.Report.{Report}
-use Rattle.mmtel_cli.specs.declared.reports.Report.TheVariants.{Usage, Line, Link, File, Keeper, Memory, Listing, Sound, Served, Unsound}
+use Rattle.mmtel_reports.specs.declared.reports.Report.{Report}
+use Rattle.mmtel_reports.specs.declared.reports.Report.TheVariants.{Usage, Line, Link, File, Keeper, Memory, Listing, Sound, Served, Unsound}
 
 -- the text lists the run or the rows that are to be listed, or counts what a workload comes to
 abbrev pub IsListing : (keeper later : KeeperSeen) → List ℕ → Due → Type 0

@@ -13,8 +13,8 @@ use Rattle.mmtel_outside.specs.Shelf.{Shelf, answer_at, called}
 use Rattle.mmtel_cli.specs.Workloads.{work_config}
 use Rattle.mmtel_directory.specs.Directory.{directory_of}
 use Rattle.mmtel_directory.specs.declared.directories.Directory.{Directory}
-use Rattle.mmtel_cli.specs.declared.reports.Report.{Report}
-use Rattle.mmtel_cli.specs.declared.reports.Report.TheVariants.{Memory, Usage}
+use Rattle.mmtel_reports.specs.declared.reports.Report.{Report}
+use Rattle.mmtel_reports.specs.declared.reports.Report.TheVariants.{Memory, Usage}
 
 -- there is an answer for the script, the told one where the files tell, by which this was found due
 pub record GivesScript (told : Option Shelf) (keeper later : KeeperSeen) (asked : Asked) (directory : Result Directory ℕ) (outcome : Report) : Type 0 where

@@ -10,7 +10,6 @@ pub mod Workloads
 pub mod Sayings
 -- The reports that are due, and how each is written (of calls below the top call):
 pub mod Due
-pub mod Ends
 -- What private functions alone cite.
 pub mod Found
 pub mod Gives

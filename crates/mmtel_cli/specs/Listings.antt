@@ -15,8 +15,8 @@ use Rattle.mmtel_run.specs.InForce.{uploads_of}
 use Rattle.mmtel_run.specs.Run.{IsEnough, world_after}
 use Rattle.mmtel_run.specs.Short.{IsShortRun}
 use Rattle.mmtel_run.specs.World.{World}
-use Rattle.mmtel_run_secret.specs.Headline.{SeesAlike}
-use Rattle.mmtel_script.specs.Listing.{listing_of}
+use Rattle.mmtel_run_laws.specs.Secret.{SeesAlike}
+use Rattle.mmtel_listing.specs.Listing.{listing_of}
 use Rattle.mmtel_server.specs.Driven.{EachAnswers, EachCounted, with_all}
 use Rattle.mmtel_server.specs.Charged.{RowsCharged}
 use Rattle.mmtel_cli.specs.Keeping.{GivesRows, IsBoundStill, IsLoaded, KeeperSeen}

@@ -15,8 +15,8 @@ use Rattle.mmtel_run.specs.Short.{IsShortRun}
 use Rattle.mmtel_run_laws.specs.Clean.{SendsCleanMessages}
 use Rattle.mmtel_run_laws.specs.Outcome.{CallsComeToOutcome}
 use Rattle.mmtel_run_laws.specs.Rows.{SeatsAreChargedOnce}
-use Rattle.mmtel_run_secret.specs.Headline.{BranchesAreRead}
-use Rattle.mmtel_script.specs.Listing.{listing_of}
+use Rattle.mmtel_run_laws.specs.Secret.{BranchesAreRead}
+use Rattle.mmtel_listing.specs.Listing.{listing_of}
 use Rattle.mmtel_script.specs.Script.{events_of}
 use Rattle.mmtel_uploads.specs.Uploads.{upload_of}
 use Rattle.mmtel_uploads.specs.declared.uploads.Upload.{Upload}
@@ -24,7 +24,7 @@ use Rattle.mmtel_uploads.specs.declared.uploads.Upload.TheVariants as upload
 use Rattle.mmtel_words.specs.CommandLine.{Asked, Serve, Replay, Check, Charges, Workload}
 use Rattle.mmtel_cli.specs.Asks.{IsServe, IsReplay, IsCheck, IsCharges, IsWorkload, IsOnly, SpellsNone}
 use Rattle.mmtel_cli.specs.Due.{shelf_of_config}
-use Rattle.mmtel_cli.specs.Ends.{Wrote, WroteListing, WroteNothing, line_text}
+use Rattle.mmtel_reports.specs.Ends.{Wrote, WroteListing, WroteNothing, line_text}
 use Rattle.mmtel_cli.specs.Keeping.{GivesRows, IsLoaded, IsNotLoaded, KeeperSeen}
 use Rattle.mmtel_cli.specs.Listings.{OffersRun}
 use Rattle.mmtel_cli.specs.Serving.{LinkFails, LinkSeen, ServesLink}

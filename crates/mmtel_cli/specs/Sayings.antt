@@ -15,7 +15,7 @@ use Rattle.mmtel_uploads.specs.Uploads.{upload_of}
 use Rattle.mmtel_uploads.specs.declared.uploads.Upload.TheVariants.{Accepted, Refused}
 use Rattle.mmtel_words.specs.CommandLine.{Asked}
 use Rattle.mmtel_cli.specs.Asks.{IsServe, IsReplay, IsCheck, IsCharges, IsWorkload, SpellsNone}
-use Rattle.mmtel_cli.specs.Ends.{WroteListing}
+use Rattle.mmtel_reports.specs.Ends.{WroteListing}
 use Rattle.mmtel_cli.specs.Keeping.{KeeperSeen, refuses}
 use Rattle.mmtel_cli.specs.Runs.{Counted, CountsAtFive, EndsOfUpload, Listed, ListedRows, Ran, ServedLink}
 use Rattle.mmtel_cli.specs.Serving.{LinkSeen}

@@ -12,8 +12,8 @@ use Rattle.mmtel_run.specs.Short.{IsShortRun}
 use Rattle.mmtel_run_laws.specs.Clean.{SendsCleanMessages}
 use Rattle.mmtel_run_laws.specs.Outcome.{CallsComeToOutcome}
 use Rattle.mmtel_run_laws.specs.Rows.{SeatsAreChargedOnce}
-use Rattle.mmtel_run_offers.specs.Seen.{texts_seen}
-use Rattle.mmtel_run_secret.specs.Headline.{BranchesAreRead, SeesAlike}
+use Rattle.mmtel_run_laws.specs.Seen.{texts_seen}
+use Rattle.mmtel_run_laws.specs.Secret.{BranchesAreRead, SeesAlike}
 use Rattle.mmtel_serve.specs.Served.{ReadsAll, SentTo}
 use Rattle.mmtel_server.specs.Driven.{EachAnswers, EachCounted, EndsAfter, HasDriveCause, HasFailedByNumber, HeardMore, StandsOrRose}
 use Rattle.mmtel_server.specs.declared.driving.DriveFault.{DriveFault}

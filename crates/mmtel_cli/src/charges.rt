@@ -9,11 +9,11 @@ ghost use Rattle.mmtel_cli.specs.Listings.{ListsRows};
 ghost use Rattle.mmtel_keeper.specs.declared.keepers.KeepFault.TheVariants as fault;
 ghost use Rattle.mmtel_outside.specs.Shelf.{called};
 
-use crate::reports::Report;
 use mmtel_charging::{Row, rows_text};
 use mmtel_directory::{DirectoryFault, read_directory};
 use mmtel_keeper::{KeepFault, Keeper};
 use mmtel_outside::{FileFault, Files};
+use mmtel_reports::Report;
 use mmtel_scan::{List, Text};
 use std::alloc::Global;
 
@@ -62,7 +62,11 @@ fn over_text<K: Keeper>(alloc: Global, config: &Text, keeper: &mut K) -> Report
     ensures spares { Spares result keeper.old keeper.new }
 {
     match read_directory(alloc, config.bytes()) {
-        Ok(directory) => over_store(alloc, keeper, directory.store.bytes()),
+        Ok(directory) => {
+            let due = over_store(alloc, keeper, directory.store.bytes());
+            drop(directory);
+            due
+        }
         Err(DirectoryFault::BadLine { line }) => Report::Line(line),
         Err(DirectoryFault::NoMemory) => Report::Memory,
     }

@@ -6,8 +6,8 @@ ghost use Rattle.mmtel_cli.specs.Gives.{GivesRecords};
 ghost use Rattle.mmtel_cli.specs.Keeping.{KeeperSeen};
 ghost use Rattle.mmtel_outside.specs.Shelf.{called};
 
-use crate::reports::Report;
 use mmtel_outside::{FileFault, Files};
+use mmtel_reports::Report;
 use mmtel_scan::{NoMemory, Text};
 use mmtel_uploads::{Upload, upload_of};
 use std::alloc::Global;
@@ -18,7 +18,10 @@ fn over_text(alloc: Global, text: &Text) -> Report
     ensures read { IsRead result }
 {
     match upload_of(alloc, text.bytes()) {
-        Ok(Upload::Accepted(_)) => Report::Sound,
+        Ok(Upload::Accepted(record)) => {
+            drop(record);
+            Report::Sound
+        }
         Ok(Upload::Refused(line)) => Report::Unsound(line),
         Err(NoMemory) => Report::Memory,
     }

@@ -4,7 +4,6 @@
 mod charges;
 mod checks;
 mod laws;
-mod reports;
 mod runs;
 mod serving;
 mod top;
@@ -17,11 +16,11 @@ pub use mmtel_link::{Link, MemoryLink};
 pub use mmtel_outside::{
     DiskFiles, Event, FileFault, Files, MemoryFiles, MemorySink, Offer, OutSink, Sink, write_all,
 };
+pub use mmtel_reports::{Report, out_of_memory, write_report};
 pub use mmtel_script::{ScriptFault, ScriptLink, listed_bytes_read_back, listing};
 pub use mmtel_serve::serve;
 pub use mmtel_server::{DriveFault, Server, drive};
 pub use mmtel_types::Failed;
 pub use mmtel_words::{Replay, Serve, Wanted, command};
 pub use mmtel_workload::WorkLink;
-pub use reports::{Report, out_of_memory, write_report};
 pub use top::{program, run};

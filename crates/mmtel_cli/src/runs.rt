@@ -1,5 +1,5 @@
 //! A run over a script and a keeper, to its end.
-ghost use Rattle.std.specs.Prelude.{◌≡◌, ◌≤◌, ℕ, List, [], IfOk, IsErrOf, OnOk, false, true};
+ghost use Rattle.std.specs.Prelude.{◌≡◌, ◌≤◌, ℕ, List, [], IfOk, IsErrOf, OnOk};
 ghost use Rattle.mmtel_cli.specs.Keeping.{IsLoaded, IsNotLoaded, seen};
 ghost use Rattle.mmtel_cli.specs.Listings.{Lists, ListsOver, OffersRun};
 ghost use Rattle.mmtel_directory.specs.declared.directories.Directory.{Directory};
@@ -11,7 +11,7 @@ ghost use Rattle.mmtel_server.specs.Stands.{Went};
 use mmtel_directory::Directory;
 use mmtel_keeper::{KeepFault, Keeper};
 use mmtel_outside::Offer;
-use mmtel_run_secret::runs_keep_the_secret;
+use mmtel_run_laws::runs_keep_the_secret;
 use mmtel_scan::{List, NoMemory, Text};
 use mmtel_script::{ScriptLink, listing};
 use mmtel_server::{DriveFault, Server, connections_are_read_out, drive};
@@ -70,7 +70,13 @@ fn offered<K: Keeper>(
     ensures run { IfOk result (OffersRun directory token.now loaded.now script.old.events (seen (K.held keeper.old) (K.calls keeper.old) (K.faults keeper.old))
         (seen (K.held keeper.new) (K.calls keeper.new) (K.faults keeper.new))) }
 {
-    let token = Text::of(alloc, token)?;
+    let token = match Text::of(alloc, token) {
+        Ok(token) => token,
+        Err(error) => {
+            drop(directory);
+            return Err(error);
+        }
+    };
     let mut server = Server::new(alloc, directory, token, loaded)?;
     let mut out = List::new();
     let driven = drive_over(alloc, &mut server, script, keeper, &mut out);
@@ -119,7 +125,9 @@ pub fn listed<K: Keeper>(
 {
     match open(alloc, keeper, directory.store.bytes()) {
         Ok(loaded) => {
-            let text = listed_over(alloc, directory, token, loaded.items(), script, keeper)?;
+            let listed = listed_over(alloc, directory, token, loaded.items(), script, keeper);
+            drop(loaded);
+            let text = listed?;
             Ok(text)
         }
         Err(fault) => {

@@ -9,12 +9,12 @@ ghost use Rattle.mmtel_in_force.specs.Texts.{Texts};
 ghost use Rattle.mmtel_outside.specs.Shelf.{called};
 ghost use Rattle.mmtel_server.specs.Stands.{Serves};
 
-use crate::reports::Report;
 use crate::runs::open;
 use mmtel_directory::{Directory, DirectoryFault, read_directory};
 use mmtel_keeper::{KeepFault, Keeper};
 use mmtel_link::Link;
 use mmtel_outside::{FileFault, Files};
+use mmtel_reports::Report;
 use mmtel_scan::{NoMemory, Text};
 use mmtel_serve::serve;
 use mmtel_server::{DriveFault, Server};
@@ -74,9 +74,15 @@ fn over_link<L: Link, K: Keeper>(
     ensures serving { IsServing result }
     ensures taking { CountsLink result (L.taking link.old) (L.taking link.new) }
 {
-    match Server::new(alloc, directory, asked.token, loaded) {
+    let Serve {
+        config,
+        token,
+        turns,
+    } = asked;
+    drop(config);
+    match Server::new(alloc, directory, token, loaded) {
         Ok(mut server) => {
-            let due = over_server(alloc, &mut server, asked.turns, link, keeper);
+            let due = over_server(alloc, &mut server, turns, link, keeper);
             server.give_up();
             due
         }
@@ -105,6 +111,7 @@ fn over_loaded<L: Link, K: Keeper>(
         Ok(()) => over_link(alloc, directory, asked, loaded, link, keeper),
         Err(Failed) => {
             drop(directory);
+            drop(asked);
             Report::Link
         }
     }
@@ -128,13 +135,19 @@ fn over_directory<L: Link, K: Keeper>(
     ensures taking { CountsLink result (L.taking link.old) (L.taking link.new) }
 {
     match open(alloc, keeper, directory.store.bytes()) {
-        Ok(loaded) => over_loaded(alloc, directory, asked, loaded.items(), link, keeper),
+        Ok(loaded) => {
+            let due = over_loaded(alloc, directory, asked, loaded.items(), link, keeper);
+            drop(loaded);
+            due
+        }
         Err(KeepFault::Failed) => {
             drop(directory);
+            drop(asked);
             Report::Keeper
         }
         Err(KeepFault::NoMemory) => {
             drop(directory);
+            drop(asked);
             Report::Memory
         }
     }
@@ -159,8 +172,14 @@ fn over_config<L: Link, K: Keeper>(
 {
     match read_directory(alloc, config.bytes()) {
         Ok(directory) => over_directory(alloc, directory, asked, link, keeper),
-        Err(DirectoryFault::BadLine { line }) => Report::Line(line),
-        Err(DirectoryFault::NoMemory) => Report::Memory,
+        Err(DirectoryFault::BadLine { line }) => {
+            drop(asked);
+            Report::Line(line)
+        }
+        Err(DirectoryFault::NoMemory) => {
+            drop(asked);
+            Report::Memory
+        }
     }
 }
 
@@ -185,8 +204,18 @@ pub fn over_serve<F: Files, L: Link, K: Keeper>(
     ensures taking { CountsLink result (L.taking link.old) (L.taking link.new) }
 {
     match files.read(alloc, asked.config.bytes()) {
-        Ok(config) => over_config(alloc, asked, &config, link, keeper),
-        Err(FileFault::Failed) => Report::File,
-        Err(FileFault::NoMemory) => Report::Memory,
+        Ok(config) => {
+            let due = over_config(alloc, asked, &config, link, keeper);
+            drop(config);
+            due
+        }
+        Err(FileFault::Failed) => {
+            drop(asked);
+            Report::File
+        }
+        Err(FileFault::NoMemory) => {
+            drop(asked);
+            Report::Memory
+        }
     }
 }

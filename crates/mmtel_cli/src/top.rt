@@ -16,7 +16,6 @@ ghost use Rattle.mmtel_script.specs.Script.{unheard};
 
 use crate::charges::over_charges;
 use crate::checks::over_records;
-use crate::reports::{Report, write_report};
 use crate::runs::listed;
 use crate::serving::over_serve;
 use crate::workloads::over_workload;
@@ -24,12 +23,11 @@ use mmtel_directory::{Directory, DirectoryFault, read_directory};
 use mmtel_keeper::{KeepFault, Keeper};
 use mmtel_link::Link;
 use mmtel_outside::{FileFault, Files, Sink};
+use mmtel_reports::{Report, write_report};
 use mmtel_run_laws::{
-    calls_of_runs_come_to_their_outcome, homes_of_configurations_are_clean,
-    runs_send_clean_messages, seats_of_runs_are_charged_once,
+    bytes_are_seen, calls_of_runs_come_to_their_outcome, configurations_are_read,
+    homes_of_configurations_are_clean, runs_send_clean_messages, seats_of_runs_are_charged_once,
 };
-use mmtel_run_offers::bytes_are_seen;
-use mmtel_run_secret::configurations_are_read;
 use mmtel_scan::{NoMemory, Text};
 use mmtel_script::{ScriptFault, ScriptLink};
 use mmtel_words::{Replay, Wanted, command};
@@ -73,9 +71,19 @@ fn over_script<K: Keeper>(
     ensures spares { Spares result keeper.old keeper.new }
 {
     match ScriptLink::read(alloc, script.bytes(), &directory.peers) {
-        Ok(mut script) => over_events(alloc, directory, token, &mut script, keeper),
-        Err(ScriptFault::BadLine { line }) => Report::Line(line),
-        Err(ScriptFault::NoMemory) => Report::Memory,
+        Ok(mut script) => {
+            let due = over_events(alloc, directory, token, &mut script, keeper);
+            drop(script);
+            due
+        }
+        Err(ScriptFault::BadLine { line }) => {
+            drop(directory);
+            Report::Line(line)
+        }
+        Err(ScriptFault::NoMemory) => {
+            drop(directory);
+            Report::Memory
+        }
     }
 }
 
@@ -96,13 +104,20 @@ fn over_directory<F: Files, K: Keeper>(
     ensures spares { Spares result keeper.old keeper.new }
 {
     match files.read(alloc, replay.script.bytes()) {
-        Ok(script) => over_script(alloc, directory, replay.token.bytes(), &script, keeper),
+        Ok(script) => {
+            let due = over_script(alloc, directory, replay.token.bytes(), &script, keeper);
+            drop(script);
+            drop(replay);
+            due
+        }
         Err(FileFault::Failed) => {
             drop(directory);
+            drop(replay);
             Report::File
         }
         Err(FileFault::NoMemory) => {
             drop(directory);
+            drop(replay);
             Report::Memory
         }
     }
@@ -125,8 +140,14 @@ fn over_config<F: Files, K: Keeper>(
 {
     match read_directory(alloc, config.bytes()) {
         Ok(directory) => over_directory(alloc, replay, directory, files, keeper),
-        Err(DirectoryFault::BadLine { line }) => Report::Line(line),
-        Err(DirectoryFault::NoMemory) => Report::Memory,
+        Err(DirectoryFault::BadLine { line }) => {
+            drop(replay);
+            Report::Line(line)
+        }
+        Err(DirectoryFault::NoMemory) => {
+            drop(replay);
+            Report::Memory
+        }
     }
 }
 
@@ -145,9 +166,19 @@ fn over_replay<F: Files, K: Keeper>(
     ensures spares { Spares result keeper.old keeper.new }
 {
     match files.read(alloc, replay.config.bytes()) {
-        Ok(config) => over_config(alloc, replay, &config, files, keeper),
-        Err(FileFault::Failed) => Report::File,
-        Err(FileFault::NoMemory) => Report::Memory,
+        Ok(config) => {
+            let due = over_config(alloc, replay, &config, files, keeper);
+            drop(config);
+            due
+        }
+        Err(FileFault::Failed) => {
+            drop(replay);
+            Report::File
+        }
+        Err(FileFault::NoMemory) => {
+            drop(replay);
+            Report::Memory
+        }
     }
 }
 
@@ -255,7 +286,9 @@ pub fn run<F: Files, L: Link, K: Keeper, S: Sink>(
     configurations_are_read();
     bytes_are_seen();
     let due = prepare(alloc, words, files, link, keeper);
-    write_report(&due, out)
+    let status = write_report(&due, out);
+    drop(due);
+    status
 }
 
 /// The program: `run`, and a process that ends with its status.

@@ -1,22 +1,22 @@
 //! A workload: what a server makes of the calls of a rule, counted.
-ghost use Rattle.std.specs.Prelude.{◌≡◌, ◌≤◌, ◌≢◌, ℕ, List, [], IfOk, None, OnOk, Some, codes, length};
+ghost use Rattle.std.specs.Prelude.{◌≡◌, ◌≤◌, ℕ, List, [], IfOk, None, OnOk, Some, length};
 ghost use Rattle.mmtel_cli.specs.Due.{due_of_work};
 ghost use Rattle.mmtel_cli.specs.Found.{IsDue, IsRead};
 ghost use Rattle.mmtel_cli.specs.Keeping.{KeeperSeen, seen};
 ghost use Rattle.mmtel_cli.specs.Listings.{OffersRun};
-ghost use Rattle.mmtel_cli.specs.Workloads.{Counts, diversions_in, nothing_held, with_line, work_config, work_loaded, work_text, work_token};
+ghost use Rattle.mmtel_cli.specs.Workloads.{Counts, diversions_in, with_line, work_config, work_loaded, work_text, work_token};
 ghost use Rattle.mmtel_directory.specs.Directory.{directory_of};
 ghost use Rattle.mmtel_directory.specs.declared.directories.Directory.{Directory};
 ghost use Rattle.mmtel_in_force.specs.Texts.{Texts};
 ghost use Rattle.mmtel_script.specs.Script.{unheard};
 ghost use Rattle.mmtel_server.specs.Stands.{Went};
 
-use crate::reports::Report;
 use mmtel_charging::{Kind, Row};
 use mmtel_directory::{Directory, DirectoryFault, read_directory};
 use mmtel_keeper::{KeepFault, Keeper};
 use mmtel_outside::Offer;
-use mmtel_run_secret::runs_keep_the_secret;
+use mmtel_reports::Report;
+use mmtel_run_laws::runs_keep_the_secret;
 use mmtel_scan::{List, NoMemory, Text, add_number};
 use mmtel_server::{DriveFault, Server, connections_are_read_out, drive};
 use mmtel_types::Account;
@@ -76,8 +76,21 @@ fn offered(
     requires unheard { work.old ≡ unheard work.old.events }
     ensures run { IfOk result (OffersRun directory work_token work_loaded work.old.events (seen (Some keeper.old) None 0) (seen (Some keeper.new) None 0)) }
 {
-    let token = Text::of(alloc, b"0123456789abcdef")?;
-    let carol = Text::of(alloc, CAROL)?;
+    let token = match Text::of(alloc, b"0123456789abcdef") {
+        Ok(token) => token,
+        Err(error) => {
+            drop(directory);
+            return Err(error);
+        }
+    };
+    let carol = match Text::of(alloc, CAROL) {
+        Ok(carol) => carol,
+        Err(error) => {
+            drop(token);
+            drop(directory);
+            return Err(error);
+        }
+    };
     let loaded = [(Account(3), carol)];
     let mut server = Server::new(alloc, directory, token, &loaded)?;
     let mut out = List::new();

@@ -1,4 +1,6 @@
 -- What public clauses cite.
+pub mod Arriving
+pub mod Inviting
 pub mod Late
 pub mod Requests
 pub mod Seating

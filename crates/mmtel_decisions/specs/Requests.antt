@@ -1,7 +1,8 @@
--- What is decided of a request of a side, and of a 2xx that is heard again: whose ACK it is (RFC 3261 §13.2.2.4), whether a 2xx is of another dialog (§13.2.2.4), and which
--- status a request gets that no row of the step table has (§11.2, §12.2.2).
+-- What is decided of a request of a side, and of what is heard again: whose ACK it is (RFC 3261 §13.2.2.4), whether a 2xx is of another dialog (§13.2.2.4), which status a
+-- request gets that no row of the step table has (§11.2, §12.2.2), and whether a repeat has its answer (§17.2.1, §17.2.2; RFC 6026 §7.1).
 use Rattle.std.specs.Prelude.{ℕ, ◌==◌, ◌&&◌, not, Bool, true, false, if◌then◌else◌, Option, Some, None, List, codes}
 use Rattle.std.specs.Str.{bytes_eq}
+use Rattle.mmtel_types.specs.declared.numbers.Peer.{Peer}
 use Rattle.mmtel_types.specs.declared.sides.Side.{Side}
 use Rattle.mmtel_types.specs.declared.sides.Side.TheVariants.{Caller, Callee}
 
@@ -30,3 +31,7 @@ is_other_dialog within own tag = not within && not (bytes_eq tag own)
 -- OPTIONS, REFER, which only a room takes, and what is asked at the wrong time
 abbrev pub status_out_of_place : (method : List ℕ) → ℕ
 status_out_of_place method = if bytes_eq method (codes "OPTIONS") then 200 else if bytes_eq method (codes "REFER") then 403 else 481
+
+-- a repeat has what was sent last, where it comes from the opener; nothing after the ACK, nor after the 2xx of an INVITE
+abbrev pub is_given_again : (opener asker : Peer) → (acked succeeded : Bool) → Bool
+is_given_again opener asker acked succeeded = asker.0 == opener.0 && not acked && not succeeded

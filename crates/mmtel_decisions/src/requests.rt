@@ -1,8 +1,8 @@
 //! What is decided of a request of a side, and of a 2xx that is heard again.
 ghost use Rattle.std.specs.Prelude.{◌≡◌};
-ghost use Rattle.mmtel_decisions.specs.Requests.{is_ack_of, is_other_dialog, is_same_number, is_same_side, status_out_of_place};
+ghost use Rattle.mmtel_decisions.specs.Requests.{is_ack_of, is_given_again, is_other_dialog, is_same_number, is_same_side, status_out_of_place};
 
-use mmtel_types::Side;
+use mmtel_types::{Peer, Side};
 
 /// Whether two sides are one.
 pub fn is_same_side(one: Side, other: Side) -> bool
@@ -59,4 +59,12 @@ pub fn status_out_of_place(method: &[u8]) -> u16
         return 403;
     }
     481
+}
+
+/// Whether what a transaction sent last is given again to a request that is heard again: to the peer that opened it alone, until the ACK came, and no 2xx of an INVITE
+/// (RFC 3261 §17.2.1, §17.2.2; RFC 6026 §7.1).
+pub fn is_given_again(opener: Peer, asker: Peer, acked: bool, succeeded: bool) -> bool
+    ensures exact { result ≡ is_given_again opener asker acked succeeded }
+{
+    asker.0 == opener.0 && !acked && !succeeded
 }

@@ -1,6 +1,6 @@
 //! Whom the server trusts, and whose identity is shown (RFC 3325, RFC 3323).
 ghost use Rattle.std.specs.Prelude.{◌≡◌};
-ghost use Rattle.mmtel_decisions.specs.Trusting.{is_trusted, restricted_in, shows_identity, unless_restricted};
+ghost use Rattle.mmtel_decisions.specs.Trusting.{if_trusted, is_history_masked, is_trusted, restricted_in, shows_identity, unless_restricted};
 
 use mmtel_types::{Peer, Side};
 
@@ -37,4 +37,22 @@ pub fn restricted_in(side: Side, caller: bool, callee: bool) -> bool
         Side::Caller => caller,
         Side::Callee => callee,
     }
+}
+
+/// What a peer says of somebody, which is believed of a trusted one alone (RFC 3325 §2.3, RFC 5502 §7.2).
+pub fn if_trusted<T: Drop>(trusted: bool, said: Option<T>) -> Option<T>
+    ensures exact { result ≡ if_trusted trusted said }
+{
+    if !trusted {
+        return None;
+    }
+    said
+}
+
+/// Whether a call's History-Info, of so many entries, is masked where it is shown to a peer: to an untrusted one, however many attempts the call had (RFC 7044 §10.1); an
+/// empty list has nothing to be masked.
+pub fn is_history_masked(to_trusted: bool, entries: usize) -> bool
+    ensures exact { result ≡ is_history_masked to_trusted entries }
+{
+    !to_trusted && entries > 0
 }

@@ -4,10 +4,9 @@ ghost use Rattle.mmtel_focus.specs.Joining.{bidden, told_failure};
 
 use crate::rooms::Room;
 use crate::texts::own_status;
-use mmtel_bids::bring;
 use mmtel_lex::Uri;
 use mmtel_scan::NoMemory;
-use mmtel_seats::{Bid, Effects, Setting};
+use mmtel_seats::{Bid, Effects, Setting, bring};
 use mmtel_types::Moment;
 use std::alloc::Global;
 

@@ -10,6 +10,7 @@ ghost use Rattle.mmtel_parties.specs.Parties.{account_by, account_in, origin_ser
 
 use crate::reading::{name_addr_in, uri_of};
 use crate::served::ServedSides;
+use mmtel_decisions::if_trusted;
 use mmtel_lex::{NameAddr, NoMemory, Param, Uri, param_value};
 use mmtel_message::{Msg, Start};
 use mmtel_targets::{RegistrationState, Served, is_registered};
@@ -34,11 +35,7 @@ pub struct Parties {
 fn named_user(alloc: Global, m: &Msg, trusted: bool) -> Result<Option<NameAddr>, NoMemory>
     ensures { IfOk result (λ user. user ≡ named_user trusted m.now.lines) }
 {
-    if trusted {
-        name_addr_in(alloc, m.first(b"P-Served-User"))
-    } else {
-        Ok(None)
-    }
+    name_addr_in(alloc, if_trusted(trusted, m.first(b"P-Served-User")))
 }
 
 /// Whether the first parameter `sescase` is this word.

@@ -1,4 +1,4 @@
--- A message without its private places, by the words of Privacy alone (RFC 3323 §4.1, RFC 3325 §7). What two runs are compared by is said in `mmtel_run_secret`.
+-- A message without its private places, by the words of Privacy alone (RFC 3323 §4.1, RFC 3325 §7). What two runs are compared by is said in `mmtel_run_laws`.
 use Rattle.std.specs.Prelude.{Bool, ◌||◌, [], None, if◌then◌else◌}
 use Rattle.mmtel_trust.specs.Digest.{HeardMessage}
 use Rattle.mmtel_trust.specs.MaskedMessages as trust

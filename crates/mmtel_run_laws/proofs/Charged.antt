@@ -5,7 +5,7 @@ use Rattle.mmtel_b2bua.specs.Histories.{Deed, Drops, Finishes, Hears, Releases, 
 use Rattle.mmtel_b2bua_laws.specs.Deeds.{ArePutBack, HasNumbers, rows_after, rows_by, rows_of}
 use Rattle.mmtel_b2bua_laws.specs.Laws.{CallsOfTablesAreExact, CallsTakeTheirSteps, RowsAreOfTheirCalls, is_row_of}
 use Rattle.mmtel_call_decisions.specs.Site.{Site}
-use Rattle.mmtel_call_heads.specs.Emits.{Each}
+use Rattle.mmtel_call_laws.specs.Heads.Emits.{Each}
 use Rattle.mmtel_charging.specs.declared.rows.Row.{Row}
 use Rattle.mmtel_directory.specs.declared.directories.Directory.{Directory}
 use Rattle.mmtel_focus_laws.specs.Charging.{DeedsAreCharged, running}

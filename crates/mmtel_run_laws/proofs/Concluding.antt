@@ -9,17 +9,17 @@ use Rattle.mmtel_b2bua_laws.specs.Legs.{LegsGoBack}
 use Rattle.mmtel_b2bua_laws.specs.Lives.{Life}
 use Rattle.mmtel_call_decisions.specs.Opening.{received_list}
 use Rattle.mmtel_call_decisions.specs.Site.{Site}
-use Rattle.mmtel_call_heads.specs.Clean.{HasOwnLines, IsCleanMessage}
-use Rattle.mmtel_call_heads.specs.Read.{IsReadClean}
+use Rattle.mmtel_call_laws.specs.Heads.Clean.{HasOwnLines, IsCleanMessage}
+use Rattle.mmtel_call_laws.specs.Heads.Read.{IsReadClean}
 use Rattle.mmtel_call_laws.specs.GoingOn.{CallsGoOn}
 use Rattle.mmtel_call_laws.specs.Known.{received_in}
 use Rattle.mmtel_call_laws.specs.Laws.{ChargingIsExact}
 use Rattle.mmtel_call_laws.specs.Shown.{sign_of_result, signs_of_targets}
 use Rattle.mmtel_call_laws.specs.Story.{opening_in}
-use Rattle.mmtel_call_notices.specs.Laws.{EndsInSilence, TellsNothingLater, TellsOfItsDiversions}
-use Rattle.mmtel_call_notices.specs.Notices.{notices_due}
+use Rattle.mmtel_call_laws.specs.Notices.Laws.{EndsInSilence, TellsNothingLater, TellsOfItsDiversions}
+use Rattle.mmtel_call_laws.specs.Notices.Due.{notices_due}
 use Rattle.mmtel_directory.specs.declared.directories.Directory.{Directory}
-use Rattle.mmtel_focus_heads.specs.Heads.{EmitsAreClean}
+use Rattle.mmtel_focus_laws.specs.Heads.{EmitsAreClean}
 use Rattle.mmtel_focus_laws.specs.Charging.{DeedsAreCharged}
 use Rattle.mmtel_in_force.specs.Texts.{Texts}
 use Rattle.mmtel_message.specs.Message.{Message}

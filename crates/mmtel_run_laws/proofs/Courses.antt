@@ -4,14 +4,14 @@ use Rattle.std.specs.Prelude.{◌+◌, codes, decimal, if◌then◌else◌, is_s
 use Rattle.std.specs.List.{list_all}
 use Rattle.std.proofs.lemmas.Option.{none-some}
 use Rattle.mmtel_answers.specs.Said.{Said, phrase_in, said}
-use Rattle.mmtel_call_heads.specs.Clean.{AreClean, AreCleanLines, IsClean, IsCleanMessage, IsCleanStart, is_clean_line}
-use Rattle.mmtel_call_heads.specs.Emits.{Each}
-use Rattle.mmtel_call_heads.specs.Heard.{IsOfClean}
-use Rattle.mmtel_call_heads.specs.Read.{IsReadClean}
-use Rattle.mmtel_call_heads.proofs.Building.{contact_clean, response_clean}
-use Rattle.mmtel_call_heads.proofs.Bytes.{all_cons, all_filter, all_map, decimal_clean, joined, line_clean}
-use Rattle.mmtel_call_heads.proofs.Reading.{texts_clean}
-use Rattle.mmtel_call_heads.proofs.Sending.{phrase_clean}
+use Rattle.mmtel_call_laws.specs.Heads.Clean.{AreClean, AreCleanLines, IsClean, IsCleanMessage, IsCleanStart, is_clean_line}
+use Rattle.mmtel_call_laws.specs.Heads.Emits.{Each}
+use Rattle.mmtel_call_laws.specs.Heads.Heard.{IsOfClean}
+use Rattle.mmtel_call_laws.specs.Heads.Read.{IsReadClean}
+use Rattle.mmtel_call_laws.proofs.Heads.Building.{contact_clean, response_clean}
+use Rattle.mmtel_call_laws.proofs.Heads.Bytes.{all_cons, all_filter, all_map, decimal_clean, joined, line_clean}
+use Rattle.mmtel_call_laws.proofs.Heads.Reading.{texts_clean}
+use Rattle.mmtel_call_laws.proofs.Heads.Sending.{phrase_clean}
 use Rattle.mmtel_directory.specs.declared.directories.Directory.{Directory}
 use Rattle.mmtel_leg.specs.Dialogues.{request_uri}
 use Rattle.mmtel_lex.specs.Reading.{Refusal, foreign, malformed, uri_of}

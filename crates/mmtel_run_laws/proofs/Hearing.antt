@@ -13,7 +13,7 @@ use Rattle.mmtel_b2bua.specs.declared.signals.Signal.TheVariants as signal
 use Rattle.mmtel_b2bua_laws.specs.Legs.{LegsGoBack}
 use Rattle.mmtel_call_decisions.specs.Invites.{invite_answered, invite_silent}
 use Rattle.mmtel_call_decisions.specs.Site.{Site}
-use Rattle.mmtel_call_heads.specs.Emits.{Each}
+use Rattle.mmtel_call_laws.specs.Heads.Emits.{Each}
 use Rattle.mmtel_charging.specs.declared.rows.Row.{Row}
 use Rattle.mmtel_desk.specs.declared.desks.Desk.{Desk}
 use Rattle.mmtel_directory.specs.declared.directories.Directory.{Directory}

@@ -4,10 +4,10 @@ use Rattle.std.specs.Prelude.{codes, flat_map, if◌then◌else◌, nat_le}
 use Rattle.std.specs.List.{list_all}
 use Rattle.std.specs.Str.{bytes_eq}
 use Rattle.std.proofs.lemmas.Bool.Decides.{nat_tests}
-use Rattle.mmtel_call_heads.specs.Clean.{AreClean, IsClean}
-use Rattle.mmtel_call_heads.specs.Emits.{Each}
-use Rattle.mmtel_call_heads.proofs.Bytes.{all_append, all_cons, both}
-use Rattle.mmtel_call_heads.proofs.Sending.{each_append}
+use Rattle.mmtel_call_laws.specs.Heads.Clean.{AreClean, IsClean}
+use Rattle.mmtel_call_laws.specs.Heads.Emits.{Each}
+use Rattle.mmtel_call_laws.proofs.Heads.Bytes.{all_append, all_cons, both}
+use Rattle.mmtel_call_laws.proofs.Heads.Sending.{each_append}
 use Rattle.mmtel_directory.specs.Directory.{account_words, addr_of, directory_by, directory_from, directory_of, first_of, first_said, home_in, identities_of, is_host, is_store_name, kind_and_rest, kind_of, line_of, line_of_kind, line_of_words, next_said, peer_of, readable, route_words, sip_in, stands, trust_of, ip_of}
 use Rattle.mmtel_directory.specs.Lines.{and_then, is_remark, lines_of, number_from, said_by}
 use Rattle.mmtel_directory.specs.declared.directories.Directory.{Directory}

@@ -1,3 +1,4 @@
+-- What a run comes to:
 mod Keyed
 mod Hearing
 mod Telling
@@ -15,3 +16,29 @@ mod Courses
 mod Sending
 mod Concluding
 mod Homes
+-- What it offers:
+mod Adding
+mod Apart
+mod Seeing
+mod PeersApart
+-- What nobody may learn from it:
+mod Acts
+mod Adopting
+mod Branches
+mod Callers
+mod CourseKinds
+mod Deeds
+mod Emitting
+mod Fits
+mod Growing
+mod Inviting
+mod Keys
+mod Looking
+mod Offers
+mod Secret
+mod SentOnce
+mod Sides
+mod Sources
+mod Speaking
+mod TellingAlike
+mod Tied

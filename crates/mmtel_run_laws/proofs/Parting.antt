@@ -18,7 +18,7 @@ use Rattle.mmtel_call_decisions.specs.Site.{Site}
 use Rattle.mmtel_call_decisions.specs.declared.rows.Ending.{Ending}
 use Rattle.mmtel_call.specs.declared.calls.Phase.{Phase}
 use Rattle.mmtel_call.specs.declared.calls.Phase.TheVariants.{Lent, Offered, Over, Stood}
-use Rattle.mmtel_call_heads.specs.Emits.{Each}
+use Rattle.mmtel_call_laws.specs.Heads.Emits.{Each}
 use Rattle.mmtel_call_laws.specs.Charged.{diverting_part, last_part, origin_part, part_of, past_parts, rows_of_parts, served_part}
 use Rattle.mmtel_call_laws.specs.Story.{Start, is_over}
 use Rattle.mmtel_charging.specs.Meters.{Noted}

@@ -6,10 +6,10 @@ use Rattle.std.specs.Str.{bytes_eq}
 use Rattle.std.proofs.lemmas.Bool.Decides.{nat_tests}
 use Rattle.std.proofs.lemmas.Option.{none-some}
 use Rattle.mmtel_answers.specs.Said.{phrase_in}
-use Rattle.mmtel_call_heads.specs.Clean.{AreClean, AreCleanLines, IsClean, IsCleanMessage, is_clean_line}
-use Rattle.mmtel_call_heads.proofs.Building.{if_lines, lines_joined, response_clean}
-use Rattle.mmtel_call_heads.proofs.Bytes.{all_cons, all_map, both, line_clean, line_parts}
-use Rattle.mmtel_call_heads.proofs.Reading.{joined_by_clean, texts_clean, trim_clean, values_clean}
+use Rattle.mmtel_call_laws.specs.Heads.Clean.{AreClean, AreCleanLines, IsClean, IsCleanMessage, is_clean_line}
+use Rattle.mmtel_call_laws.proofs.Heads.Building.{if_lines, lines_joined, response_clean}
+use Rattle.mmtel_call_laws.proofs.Heads.Bytes.{all_cons, all_map, both, line_clean, line_parts}
+use Rattle.mmtel_call_laws.proofs.Heads.Reading.{joined_by_clean, texts_clean, trim_clean, values_clean}
 use Rattle.mmtel_lex.specs.Reading.{token_at}
 use Rattle.mmtel_message.specs.Expansion.{allow_text, at_first, expanded, expanded_from, is_listed, lines_for, merged_text, privacy_text}
 use Rattle.mmtel_message.specs.Faults.{first_fault, or_absent, fault_from, start_fault}

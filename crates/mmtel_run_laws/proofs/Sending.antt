@@ -11,12 +11,12 @@ use Rattle.mmtel_b2bua.specs.declared.signals.Signal.{Signal}
 use Rattle.mmtel_b2bua.specs.declared.signals.Signal.TheVariants as signal
 use Rattle.mmtel_b2bua_laws.specs.Clean.{AreCleanRecords, DeedsSendCleanMessages, IsCleanHearing, IsCleanSignal, IsGivenClean, LegsGoOutClean}
 use Rattle.mmtel_call_decisions.specs.Invites.{invite_answered, invite_silent}
-use Rattle.mmtel_call_heads.specs.Clean.{HasOwnLines, IsClean, IsCleanMessage}
-use Rattle.mmtel_call_heads.specs.Emits.{Each, IsCleanEmit, IsTextOfClean}
-use Rattle.mmtel_call_heads.specs.Heard.{IsCleanSheet}
-use Rattle.mmtel_call_heads.specs.Kept.{IsCleanLeg}
-use Rattle.mmtel_call_heads.specs.Read.{IsReadClean}
-use Rattle.mmtel_call_heads.proofs.Sending.{each_append, opened_clean}
+use Rattle.mmtel_call_laws.specs.Heads.Clean.{HasOwnLines, IsClean, IsCleanMessage}
+use Rattle.mmtel_call_laws.specs.Heads.Emits.{Each, IsCleanEmit, IsTextOfClean}
+use Rattle.mmtel_call_laws.specs.Heads.Heard.{IsCleanSheet}
+use Rattle.mmtel_call_laws.specs.Heads.Kept.{IsCleanLeg}
+use Rattle.mmtel_call_laws.specs.Heads.Read.{IsReadClean}
+use Rattle.mmtel_call_laws.proofs.Heads.Sending.{each_append, opened_clean}
 use Rattle.mmtel_charging.specs.declared.rows.Row.{Row}
 use Rattle.mmtel_desk.specs.declared.desks.Desk.{Desk}
 use Rattle.mmtel_directory.specs.declared.directories.Directory.{Directory}
@@ -26,8 +26,8 @@ use Rattle.mmtel_focus.specs.declared.faults.RoomFault.{RoomFault}
 use Rattle.mmtel_focus.specs.declared.referrals.Replaces.{Replaces}
 use Rattle.mmtel_focus.specs.declared.signals.RoomSignal.{RoomSignal}
 use Rattle.mmtel_focus.specs.declared.signals.RoomSignal.TheVariants as of_room
-use Rattle.mmtel_focus_heads.specs.Heads as heads
-use Rattle.mmtel_focus_heads.specs.Heads.{EmitsAreClean}
+use Rattle.mmtel_focus_laws.specs.Heads as heads
+use Rattle.mmtel_focus_laws.specs.Heads.{EmitsAreClean}
 use Rattle.mmtel_in_force.specs.Texts.{Registrations, Texts}
 use Rattle.mmtel_leg.specs.declared.legs.Released.{Released}
 use Rattle.mmtel_leg.specs.declared.legs.Released.TheVariants as released

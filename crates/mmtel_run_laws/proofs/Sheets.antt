@@ -5,9 +5,9 @@ use Rattle.std.specs.List.{list_all}
 use Rattle.std.specs.Str.{bytes_eq, is_utf8}
 use Rattle.toml.specs.Data.{Data, Items, Members, as_array, as_table, item, member, no_items, no_members}
 use Rattle.toml.specs.Parse.{parse_document}
-use Rattle.mmtel_call_heads.specs.Heard.{AreCleanRules, IsCleanSheet, IsCleanUri, is_clean_action, is_clean_rule}
-use Rattle.mmtel_call_heads.proofs.Bytes.{all_append, all_cons}
-use Rattle.mmtel_call_heads.proofs.Hearing.{read_uri_clean}
+use Rattle.mmtel_call_laws.specs.Heads.Heard.{AreCleanRules, IsCleanSheet, IsCleanUri, is_clean_action, is_clean_rule}
+use Rattle.mmtel_call_laws.proofs.Heads.Bytes.{all_append, all_cons}
+use Rattle.mmtel_call_laws.proofs.Heads.Hearing.{read_uri_clean}
 use Rattle.mmtel_lex.specs.Reading.{Refusal, uri_of}
 use Rattle.mmtel_lex.specs.declared.values.Uri.{Uri}
 use Rattle.mmtel_sheet_grammar.specs.Answers.{Read, or_wrong, then_do}

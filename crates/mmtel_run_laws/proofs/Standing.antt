@@ -14,7 +14,7 @@ use Rattle.mmtel_b2bua_laws.specs.Lives.{Event, Life, call_after}
 use Rattle.mmtel_call_decisions.specs.Site.{Site, calls_among}
 use Rattle.mmtel_call_decisions.specs.declared.openings.Arrival.{Arrival}
 use Rattle.mmtel_call.specs.declared.signals.Signal as calls
-use Rattle.mmtel_call_heads.specs.Emits.{Each}
+use Rattle.mmtel_call_laws.specs.Heads.Emits.{Each}
 use Rattle.mmtel_call_laws.specs.Story.{Start}
 use Rattle.mmtel_desk.specs.Desks.{fresh}
 use Rattle.mmtel_directory.specs.declared.directories.Directory.{Directory}

@@ -12,8 +12,8 @@ use Rattle.mmtel_call_laws.specs.Known.{known_as}
 use Rattle.mmtel_call_laws.specs.Laws.{ChargingIsExact}
 use Rattle.mmtel_call_laws.specs.Story as story
 use Rattle.mmtel_call_laws.specs.Story.{Heard, Start, added, next_step, opening_in}
-use Rattle.mmtel_call_notices.specs.Laws.{EndsInSilence, TellsNothingLater, TellsOfItsDiversions}
-use Rattle.mmtel_call_notices.specs.Notices.{but_passed, is_notice, notices_after, notices_due, notices_in, own_notices}
+use Rattle.mmtel_call_laws.specs.Notices.Laws.{EndsInSilence, TellsNothingLater, TellsOfItsDiversions}
+use Rattle.mmtel_call_laws.specs.Notices.Due.{but_passed, is_notice, notices_after, notices_due, notices_in, own_notices}
 use Rattle.mmtel_message.specs.Message.{Message}
 use Rattle.mmtel_message.specs.declared.messages.Start.{Start as StartLine}
 use Rattle.mmtel_precedence.specs.Outcome.{outcome}

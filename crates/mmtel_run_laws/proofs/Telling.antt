@@ -2,7 +2,7 @@
 use Rattle.std.proofs.Common.{◌≡◌, ℕ, List, [], ◌∷◌, ◌++◌, ◌≤◌, None, refl, sym, ap, ◌∙◌, subst, append_assoc, append-nil, le_refl}
 use Rattle.mmtel_b2bua.specs.Histories.{Deed, Drops, Finishes, Heard, Hears, Releases, Restores}
 use Rattle.mmtel_b2bua_laws.specs.Legs.{LegsGoBack}
-use Rattle.mmtel_call_heads.specs.Emits.{Each}
+use Rattle.mmtel_call_laws.specs.Heads.Emits.{Each}
 use Rattle.mmtel_directory.specs.declared.directories.Directory.{Directory}
 use Rattle.mmtel_in_force.specs.Texts.{Texts}
 use Rattle.mmtel_run.specs.Calls.{site_of}

@@ -7,9 +7,9 @@ use Rattle.std.proofs.lemmas.Bool.Decides.{nat_tests}
 use Rattle.std.proofs.lemmas.Bool.{eqb-true}
 use Rattle.std.proofs.lemmas.List.{map-append}
 use Rattle.std.proofs.lemmas.Option.{none-some, same_Some}
-use Rattle.mmtel_call_heads.specs.Clean.{IsCleanMessage}
-use Rattle.mmtel_call_heads.specs.Emits.{Each, IsTextOfClean}
-use Rattle.mmtel_call_heads.proofs.Sending.{each_append}
+use Rattle.mmtel_call_laws.specs.Heads.Clean.{IsCleanMessage}
+use Rattle.mmtel_call_laws.specs.Heads.Emits.{Each, IsTextOfClean}
+use Rattle.mmtel_call_laws.proofs.Heads.Sending.{each_append}
 use Rattle.mmtel_message.specs.Message.{Message}
 use Rattle.mmtel_message.specs.Texts.{message_text}
 use Rattle.mmtel_message.specs.declared.messages.Start.{Start}

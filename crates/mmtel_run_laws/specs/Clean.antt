@@ -1,7 +1,7 @@
 -- What a run sends out has its own lines and nobody else's (RFC 3261 §7, §25.1).
 use Rattle.std.specs.Prelude.{◌≡◌, ℕ, List, Ok}
-use Rattle.mmtel_call_heads.specs.Clean.{HasOwnLines, IsClean}
-use Rattle.mmtel_call_heads.specs.Emits.{Each}
+use Rattle.mmtel_call_laws.specs.Heads.Clean.{HasOwnLines, IsClean}
+use Rattle.mmtel_call_laws.specs.Heads.Emits.{Each}
 use Rattle.mmtel_directory.specs.Directory.{directory_of}
 use Rattle.mmtel_directory.specs.declared.directories.Directory.{Directory}
 use Rattle.mmtel_in_force.specs.Texts.{Texts}

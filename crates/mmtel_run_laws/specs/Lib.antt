@@ -1,3 +1,4 @@
+-- What public clauses cite, which a user of the crate has to believe.
 -- What each call of a run comes to, and how things stood for it:
 pub mod Outcome
 pub mod Stood
@@ -5,3 +6,12 @@ pub mod Stood
 pub mod Rows
 -- What is sent out:
 pub mod Clean
+-- What is offered is only added to, and what of it is sent to an address:
+pub mod Added
+pub mod Seen
+-- What nobody may learn:
+pub mod Belonging
+pub mod Mask
+pub mod Alike
+pub mod Invited
+pub mod Secret

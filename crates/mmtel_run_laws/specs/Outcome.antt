@@ -7,7 +7,7 @@ use Rattle.mmtel_call_laws.specs.Charged.{running}
 use Rattle.mmtel_call_laws.specs.Known.{received_in}
 use Rattle.mmtel_call_laws.specs.Shown.{Accepted, Invited, Refused, Sign, sign_of_result, signs_of, signs_of_targets}
 use Rattle.mmtel_call_laws.specs.Story.{Start, added, first_step, is_over, opening_in}
-use Rattle.mmtel_call_notices.specs.Notices.{notices_due, notices_in, own_notices}
+use Rattle.mmtel_call_laws.specs.Notices.Due.{notices_due, notices_in, own_notices}
 use Rattle.mmtel_charging.specs.declared.rows.Row.{Row}
 use Rattle.mmtel_directory.specs.declared.directories.Directory.{Directory}
 use Rattle.mmtel_in_force.specs.Texts.{Texts}

@@ -7,11 +7,11 @@ use mmtel_b2bua_laws::{
     calls_of_tables_are_exact, calls_take_their_steps, legs_go_back, rows_are_in_order,
     tables_send_clean_messages,
 };
-use mmtel_call_heads::{clean_messages_have_their_lines, what_was_read_is_clean};
-use mmtel_call_laws::{calls_go_on, charging_is_exact};
-use mmtel_call_notices::calls_tell_of_their_diversions;
-use mmtel_focus_heads::rooms_send_clean_messages;
-use mmtel_focus_laws::participants_are_charged_once;
+use mmtel_call_laws::{
+    calls_go_on, calls_tell_of_their_diversions, charging_is_exact,
+    clean_messages_have_their_lines, what_was_read_is_clean,
+};
+use mmtel_focus_laws::{participants_are_charged_once, rooms_send_clean_messages};
 use mmtel_precedence::laws::{diversions_have_forwards, diversions_stay_within_the_bound};
 use mmtel_run::{records_are_those_kept, rows_are_filed};
 

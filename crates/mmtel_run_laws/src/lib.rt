@@ -1,9 +1,17 @@
-//! Laws of a run: what each of its calls comes to, whom it charges, and what it sends out. The crate has definitions and laws, and no code.
+//! Laws of a run: what each of its calls comes to, whom it charges, and what it sends out; that what it offers is only added to, and what of it reaches an address; and what
+//! nobody may learn from it: what an untrusted peer is offered is equal in any other run that differs in private places alone. The crate has definitions and laws, and no code.
 #![tactic(auto)]
 
 mod laws;
+mod offered;
+mod secrecy;
 
 pub use laws::{
     calls_of_runs_come_to_their_outcome, homes_of_configurations_are_clean,
     runs_send_clean_messages, seats_of_runs_are_charged_once,
+};
+pub use offered::{bytes_are_seen, offers_are_added};
+pub use secrecy::{
+    configurations_are_read, one_configuration_looks_up_alike, rooms_send_once, runs_are_tied,
+    runs_keep_the_secret,
 };

@@ -1,4 +1,3 @@
 pub mod HexLaws
-pub mod Pieces
 pub mod ReadBackLaws
 pub mod TellingLaws

@@ -1,7 +1,6 @@
 -- What public clauses cite, which a user of the crate has to believe.
 -- Of the calls:
 pub mod Script
-pub mod Listing
 -- Of the laws alone:
 pub mod ReadBack
 -- What private functions alone cite.

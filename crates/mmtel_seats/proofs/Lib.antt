@@ -1,2 +1,3 @@
+mod Bids
 mod Dropped
 mod Failures

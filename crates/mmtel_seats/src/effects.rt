@@ -35,14 +35,13 @@ impl Effects {
     {
         let Effects {
             closes: _,
-            loose: _,
+            loose,
             desk,
         } = self;
-        let Desk {
-            tokens: _,
-            out,
-            rows: _,
-        } = desk;
+        let Desk { tokens, out, rows } = desk;
+        drop(loose);
+        drop(tokens);
+        drop(rows);
         out
     }
 }

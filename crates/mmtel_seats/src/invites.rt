@@ -12,18 +12,29 @@ use mmtel_scan::{NoMemory, Text};
 use mmtel_transaction::TKey;
 use mmtel_types::{Account, Addr, Moment, RoomNo};
 use std::alloc::Global;
+use std::mem;
 
 /// An INVITE that had a 2xx with this tag, and this ACK.
 fn agreed_by(tag: Text, ack: Text, invite: Option<Invite>) -> Option<Invite>
     ensures { result ≡ agreed_by tag ack invite }
 {
     match invite {
-        None => None,
+        None => {
+            drop(tag);
+            drop(ack);
+            None
+        }
         Some(Invite::Waiting(_, invitation)) => {
-            let Invitation { branch, .. } = invitation;
+            let mut invitation = invitation;
+            let branch = mem::replace(&mut invitation.branch, Text::new());
+            drop(invitation);
             Some(Invite::Agreed(branch, tag, ack))
         }
-        Some(Invite::Agreed(branch, before, sent)) => Some(Invite::Agreed(branch, before, sent)),
+        Some(Invite::Agreed(branch, before, sent)) => {
+            drop(tag);
+            drop(ack);
+            Some(Invite::Agreed(branch, before, sent))
+        }
     }
 }
 
@@ -144,8 +155,8 @@ impl Seat {
     pub fn agree(&mut self, tag: Text, ack: Text)
         ensures agreed { self.new ≡ record self.old { invite = agreed_by tag ack self.old.invite } }
     {
-        let invite = self.invite.take();
-        self.invite = agreed_by(tag, ack, invite);
+        let agreed = agreed_by(tag, ack, self.invite.take());
+        drop(mem::replace(&mut self.invite, agreed));
     }
 
     /// Notes that the INVITE was cancelled, where that was due.

@@ -1,6 +1,36 @@
-//! What becomes of a REFER that asks for an INVITE (RFC 4579 §5.5).
+//! Somebody is invited into a room (RFC 4579 §5.5).
+ghost use Rattle.std.specs.Prelude.{◌≡◌, ◌+◌, [], IfOk, OnOk, codes};
+ghost use Rattle.mmtel_answers.specs.Attempts.{bracketed, calling};
+ghost use Rattle.mmtel_answers.specs.Requests.{bringing};
+ghost use Rattle.mmtel_desk.specs.Desks.{drew, emitted, token};
+ghost use Rattle.mmtel_leg.specs.Requests.{request_of};
+ghost use Rattle.mmtel_lex.specs.Grammar.{uri_text};
+ghost use Rattle.mmtel_sdp.specs.Mixing.{offer_text};
+ghost use Rattle.mmtel_seats.specs.Inviting.{bid_for, invitation_dialog, invite_sent, longest_ringing, seat_of};
+ghost use Rattle.mmtel_seats.specs.Targets.{target_of};
+ghost use Rattle.mmtel_seats.specs.Texts.{described};
+ghost use Rattle.mmtel_transaction.specs.declared.words.Emit.TheVariants.{ArmSeat};
+ghost use Rattle.mmtel_transaction.specs.declared.words.RoomWord.TheVariants.{Cap};
 
-use crate::seats::Seat;
+use crate::numbers::{Next, has_no_seat, place_of};
+use crate::seats::{Invite, Party, Seat};
+use crate::settings::Setting;
+use crate::targets::target_of;
+use crate::texts::{described, room_from};
+use mmtel_answers::{Aim, bringing, called};
+use mmtel_decisions::way_to;
+use mmtel_desk::{Desk, Invitation};
+use mmtel_leg::{CalleeLeg, Dialogue, numbered};
+use mmtel_lex::{NameAddr, Uri, print_name_addr, print_uri};
+use mmtel_message::Msg;
+use mmtel_scan::{List, NoMemory, Text};
+use mmtel_sdp::mixer_offer;
+use mmtel_transaction::{Emit, RoomWord};
+use mmtel_types::{Account, Moment, Peer, RoomNo, Side};
+use std::alloc::Global;
+
+/// For so long an invitation may ring, in milliseconds.
+const LONGEST_RINGING: u64 = 180_000;
 
 /// What becomes of a REFER that asks for an INVITE. It must be spent.
 pub enum Bid {
@@ -8,4 +38,225 @@ pub enum Bid {
     Begun(Seat),
     /// Nobody is, for the reason of this status.
     Refused(u16),
+}
+
+/// A URI alone, in brackets.
+fn bracketed(alloc: Global, uri: Text) -> Result<Text, NoMemory>
+    ensures { IfOk result (λ t. t ≡ bracketed uri) }
+{
+    let alone = NameAddr {
+        display: Text::new(),
+        uri,
+        params: List::new(),
+    };
+    print_name_addr(alloc, &alone)
+}
+
+/// To whom an invitation to this URI goes, by this peer.
+fn aim_at(alloc: Global, peer: Peer, uri: Uri) -> Result<Aim, NoMemory>
+    ensures { IfOk result (λ aim. aim ≡ record { peer = peer; uri = uri_text (target_of uri); to = bracketed (uri_text (target_of uri)); routes = [] }) }
+{
+    let target = target_of(alloc, uri)?;
+    let uri = print_uri(alloc, &target)?;
+    let to = bracketed(alloc, uri.copied(alloc)?)?;
+    Ok(Aim {
+        peer,
+        uri,
+        to,
+        routes: List::new(),
+    })
+}
+
+/// The URI of the side that has the seat of this number; none where it has left.
+fn uri_at(seats: &[Seat], number: u64) -> &[u8] {
+    match place_of(seats, number) {
+        None => b"",
+        Some(place) => seats[place].dialogue().target.bytes(),
+    }
+}
+
+/// The dialog of these parts, before its INVITE is sent.
+fn begun(aim: Aim, call_id: Text, tag: Text, from: Text) -> Dialogue
+    ensures { result ≡ calling aim call_id tag from }
+{
+    let Aim {
+        peer,
+        uri,
+        to,
+        routes,
+    } = aim;
+    Dialogue {
+        side: Side::Callee,
+        peer,
+        call_id,
+        local: from,
+        remote: to,
+        local_tag: tag,
+        remote_tag: Text::new(),
+        target: uri,
+        routes,
+        own: 0,
+        last: None,
+        invited: None,
+    }
+}
+
+/// The dialog of an invitation to this URI, whose Call-ID and tag are drawn, where this URI is of the seat that asks for it.
+fn begin(
+    alloc: Global,
+    setting: &Setting<'_>,
+    room: RoomNo,
+    asker: &[u8],
+    peer: Peer,
+    uri: Uri,
+    desk: &mut Desk,
+) -> Result<Dialogue, NoMemory>
+    ensures dialogue { IfOk result (λ d. d ≡ invitation_dialog setting.now room peer (uri_text (target_of uri)) desk.old) }
+    ensures desk { OnOk result (desk.new ≡ drew (drew desk.old)) }
+{
+    let aim = aim_at(alloc, peer, uri)?;
+    let call_id = desk.draw(alloc)?;
+    let tag = desk.draw(alloc)?;
+    let from = room_from(alloc, setting.sip, room, asker, tag.bytes())?;
+    Ok(begun(aim, call_id, tag, from))
+}
+
+/// The INVITE that begins this dialog, with this branch behind the cookie.
+fn invite_of(
+    alloc: Global,
+    setting: &Setting<'_>,
+    room: RoomNo,
+    dialogue: &Dialogue,
+    branch: &Text,
+) -> Result<Msg, NoMemory>
+    ensures { IfOk result (λ m. m
+        ≡ request_of dialogue.now (codes "INVITE") (bringing setting.now.sip branch.now (described setting.now.sip room) (offer_text setting.now.mixer))) }
+{
+    let named = described(alloc, setting.sip, room)?;
+    let body = mixer_offer(alloc, setting.mixer)?;
+    let first = dialogue.own.saturating_add(1);
+    let parts = bringing(setting.sip, branch, &named, body.bytes());
+    numbered(alloc, dialogue, first, b"INVITE", &parts)
+}
+
+/// Arms the deadline of its ringing.
+fn arm(alloc: Global, now: Moment, next: Next, desk: &mut Desk) -> Result<(), NoMemory>
+    ensures { OnOk result (desk.new ≡ emitted (ArmSeat next.room next.seat (Cap next.number) (now + longest_ringing)) desk.old) }
+{
+    let Next { room, seat, number } = next;
+    let at = now.ms() + LONGEST_RINGING;
+    let what = RoomWord::Cap(number);
+    desk.emit(
+        alloc,
+        Emit::ArmSeat {
+            room,
+            seat,
+            what,
+            at,
+        },
+    )
+}
+
+/// Sends the INVITE that begins this dialog, and arms the deadline of its ringing. Gives its branch behind the cookie.
+fn send(
+    alloc: Global,
+    setting: &Setting<'_>,
+    now: Moment,
+    next: Next,
+    dialogue: &Dialogue,
+    desk: &mut Desk,
+) -> Result<Text, NoMemory>
+    ensures branch { IfOk result (λ t. t ≡ token desk.old) }
+    ensures desk { OnOk result (desk.new ≡ invite_sent setting.now now next.room next.seat next.number dialogue.now desk.old) }
+{
+    let branch = desk.draw(alloc)?;
+    let msg = invite_of(alloc, setting, next.room, dialogue, &branch)?;
+    let peer = dialogue.peer;
+    desk.emit(alloc, Emit::Ask { peer, msg })?;
+    arm(alloc, now, next, desk)?;
+    Ok(branch)
+}
+
+/// The seat of somebody who is invited in this dialog by the INVITE of this branch.
+fn seat_of(
+    alloc: Global,
+    next: Next,
+    by: u64,
+    account: Option<Account>,
+    dialogue: Dialogue,
+    branch: Text,
+) -> Result<Seat, NoMemory>
+    ensures { IfOk result (λ seat. seat ≡ seat_of next by account dialogue branch) }
+{
+    let first = match dialogue.copied(alloc) {
+        Ok(first) => first,
+        Err(error) => {
+            drop(dialogue);
+            drop(branch);
+            return Err(error);
+        }
+    };
+    let invitation = Invitation::sent(first, 1, branch);
+    let leg = CalleeLeg::begun(called(dialogue), None);
+    Ok(Seat {
+        number: next.seat,
+        by: Some(by),
+        account,
+        awaited: None,
+        invite: Some(Invite::Waiting(next.number, invitation)),
+        party: Party::Invited(leg),
+    })
+}
+
+/// Sends the INVITE of this dialog, and gives the seat of whoever it goes to.
+fn invite_in(
+    alloc: Global,
+    setting: &Setting<'_>,
+    now: Moment,
+    next: Next,
+    by: u64,
+    account: Option<Account>,
+    dialogue: Dialogue,
+    desk: &mut Desk,
+) -> Result<Seat, NoMemory>
+    ensures seat { IfOk result (λ seat. seat ≡ seat_of next by account dialogue (token desk.old)) }
+    ensures desk { OnOk result (desk.new ≡ invite_sent setting.now now next.room next.seat next.number dialogue desk.old) }
+{
+    let branch = send(alloc, setting, now, next, &dialogue, desk)?;
+    seat_of(alloc, next, by, account, dialogue, branch)
+}
+
+/// Invites whoever this URI is of, by the REFER of the seat of number `by`: the INVITE goes out in a dialog of the room, and the deadline of its ringing is armed. Nobody
+/// is invited where no peer leads to the URI (404), and else where no seat is free (503).
+///
+/// # Errors
+///
+/// Want of memory alone; nothing is said of what goes out then.
+#[tactic(auto, using(crate::proofs::Bids::bid_refused, crate::proofs::Bids::bid_begun), unfolding(crate::specs::Inviting::bid_for))]
+pub fn bring(
+    alloc: Global,
+    setting: &Setting<'_>,
+    now: Moment,
+    next: Next,
+    by: u64,
+    seats: &[Seat],
+    uri: Option<Uri>,
+    desk: &mut Desk,
+) -> Result<Bid, NoMemory>
+    ensures bid { IfOk result (λ b. b ≡ (bid_for setting.now now next by seats.now uri desk.old).bid) }
+    ensures desk { OnOk result (desk.new ≡ (bid_for setting.now now next by seats.now uri desk.old).desk) }
+{
+    match uri {
+        None => Ok(Bid::Refused(404)),
+        Some(uri) => match way_to(setting.peers.route(&uri), has_no_seat(seats)) {
+            Err(code) => Ok(Bid::Refused(code)),
+            Ok(peer) => {
+                let account = setting.accounts.find(&uri);
+                let asker = uri_at(seats, by);
+                let dialogue = begin(alloc, setting, next.room, asker, peer, uri, desk)?;
+                let seat = invite_in(alloc, setting, now, next, by, account, dialogue, desk)?;
+                Ok(Bid::Begun(seat))
+            }
+        },
+    }
 }

@@ -23,12 +23,18 @@ fn ended_dialogs(
 ) -> Result<List<Dialogue>, NoMemory>
     ensures { IfOk result (λ ds. ds ≡ ended_dialogs had_bye dialogue.now) }
 {
-    let mut ended = List::new();
-    if had_bye {
-        let dialogue = dialogue.copied(alloc)?;
-        file(alloc, &mut ended, dialogue)?;
+    if !had_bye {
+        return Ok(List::new());
     }
-    Ok(ended)
+    let dialogue = dialogue.copied(alloc)?;
+    let mut ended = List::new();
+    match file(alloc, &mut ended, dialogue) {
+        Ok(()) => Ok(ended),
+        Err(error) => {
+            drop(ended);
+            Err(error)
+        }
+    }
 }
 
 /// An INVITE ends with the dialog that it was sent in.
@@ -55,11 +61,16 @@ fn loosened_within(
     ensures { IfOk result (λ l. l ≡ record { invitation = record invitation { dialogue = dialogue.now; forks = ended_dialogs had_bye dialogue.now }; within = true }) }
 {
     let mut invitation = invitation;
-    end_within(alloc, had_bye, dialogue, &mut invitation)?;
-    Ok(Loose {
-        invitation,
-        within: true,
-    })
+    match end_within(alloc, had_bye, dialogue, &mut invitation) {
+        Ok(()) => Ok(Loose {
+            invitation,
+            within: true,
+        }),
+        Err(error) => {
+            drop(invitation);
+            Err(error)
+        }
+    }
 }
 
 fn loosened(

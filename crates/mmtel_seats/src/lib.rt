@@ -14,11 +14,11 @@ mod telling;
 mod texts;
 
 pub use effects::Effects;
-pub use inviting::Bid;
+pub use inviting::{Bid, bring};
 pub use meters::{meter_of, metered};
 pub use mmtel_decisions::{drop_first, is_creator};
 pub use numbers::{Next, has_no_seat, place_of};
 pub use seats::{Awaited, Invite, Party, Seat};
 pub use settings::Setting;
-pub use targets::{is_method, target_of};
-pub use texts::{contact_value, described, room_from, sdp_lines};
+pub use targets::is_method;
+pub use texts::{contact_value, described, sdp_lines};

@@ -215,9 +215,10 @@ impl Seat {
             by: _,
             account: _,
             awaited: _,
-            invite: _,
+            invite,
             party,
         } = self;
+        drop(invite);
         party
     }
 

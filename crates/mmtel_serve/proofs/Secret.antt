@@ -7,8 +7,8 @@ use Rattle.mmtel_link.specs.Told.{Given}
 use Rattle.mmtel_outside.specs.declared.events.Offer.{Offer}
 use Rattle.mmtel_run.specs.Events.{Happened}
 use Rattle.mmtel_run.specs.Headline.{Gives, GivesAlways}
-use Rattle.mmtel_run_offers.specs.Seen.{BytesAreSeen, texts_seen}
-use Rattle.mmtel_run_secret.specs.Headline.{OffersKeepTheSecret}
+use Rattle.mmtel_run_laws.specs.Seen.{BytesAreSeen, texts_seen}
+use Rattle.mmtel_run_laws.specs.Secret.{OffersKeepTheSecret}
 use Rattle.mmtel_server.specs.declared.servers.Server.{Server}
 use Rattle.mmtel_trust.specs.declared.parties.KnownPeer.{KnownPeer}
 use Rattle.mmtel_types.specs.Addrs.{is_same_addr}

@@ -7,8 +7,8 @@ use Rattle.mmtel_link.specs.Told.{Ear, Given}
 use Rattle.mmtel_outside.specs.declared.events.Event.{Event}
 use Rattle.mmtel_run.specs.Events.{Happened, events_in}
 use Rattle.mmtel_outside.specs.declared.events.Offer.{Offer}
-use Rattle.mmtel_run_offers.specs.Seen.{BytesAreSeen}
-use Rattle.mmtel_run_secret.specs.Headline.{OffersKeepTheSecret}
+use Rattle.mmtel_run_laws.specs.Seen.{BytesAreSeen}
+use Rattle.mmtel_run_laws.specs.Secret.{OffersKeepTheSecret}
 use Rattle.mmtel_scan.specs.declared.memory.NoMemory as memory
 use Rattle.mmtel_server.specs.Driven.{AddsOne, HeardMore, IsAtEnd, ReadEach, StandsOrRose, Takes}
 use Rattle.mmtel_server.specs.Laws.{RunLaws}

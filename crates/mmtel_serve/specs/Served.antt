@@ -10,8 +10,8 @@ use Rattle.mmtel_outside.specs.declared.events.Offer.{Offer}
 use Rattle.mmtel_run.specs.Events.{Happened}
 use Rattle.mmtel_run.specs.Run.{IsEnough, gives}
 use Rattle.mmtel_run.specs.Short.{IsShortRun}
-use Rattle.mmtel_run_offers.specs.Seen.{texts_seen}
-use Rattle.mmtel_run_secret.specs.Headline.{SeesAlike}
+use Rattle.mmtel_run_laws.specs.Seen.{texts_seen}
+use Rattle.mmtel_run_laws.specs.Secret.{SeesAlike}
 use Rattle.mmtel_server.specs.Driven.{IsRead, MadeOf, ServesOn, StandsOrRose, to_come}
 use Rattle.mmtel_server.specs.Stands.{IsCut, Serves}
 use Rattle.mmtel_server.specs.declared.driving.DriveFault.{DriveFault}

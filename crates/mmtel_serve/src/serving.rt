@@ -9,8 +9,7 @@ ghost use Rattle.mmtel_server.specs.Driven.{HasDriveCause, HasFailedByNumber, St
 use mmtel_giving::{give_each, parts_are_given};
 use mmtel_keeper::Keeper;
 use mmtel_link::{Event, Link};
-use mmtel_run_offers::bytes_are_seen;
-use mmtel_run_secret::runs_keep_the_secret;
+use mmtel_run_laws::{bytes_are_seen, runs_keep_the_secret};
 use mmtel_scan::{List, NoMemory};
 use mmtel_server::{DriveFault, Server, laws_of_runs_hold, next_event};
 use std::alloc::Global;

@@ -1,8 +1,11 @@
 -- What is heard of a link, turn after turn, and how often it is called.
 use Rattle.std.proofs.Common.{◌≡◌, ◌+◌, ◌≤◌, ℕ, zero, suc, Bool, false, List, [], ◌∷◌, ◌++◌, drop, length, slice_get, take, refl, sym, ap, ◌∙◌, subst, append-nil, append_assoc, length-append, Option, Some, None, Result, Ok, Err, arith, inl, inr}
 use Rattle.std.specs.Prelude.{◌⊎◌}
+use Rattle.std.proofs.lemmas.List.{take-take}
 use Rattle.std.specs.Result.{IsErrAnd}
-use Rattle.mmtel_link.specs.Told.{Ear, IsCall, LinkCalls, NextTold, called, coming, cut, heard, heard_of, web_bytes}
+use Rattle.mmtel_http.specs.Requests.{request_of, whole_of}
+use Rattle.mmtel_http.specs.declared.wholes.Whole.TheVariants.{More}
+use Rattle.mmtel_link.specs.Told.{Ear, IsCall, LinkCalls, NextTold, coming, cut, heard, heard_of, web_bytes}
 use Rattle.mmtel_link.specs.declared.links.Arrival.TheVariants as arrival
 use Rattle.mmtel_outside.specs.Counts.{Rose}
 use Rattle.mmtel_outside.specs.declared.events.Event.{Event}
@@ -10,7 +13,7 @@ use Rattle.mmtel_outside.specs.declared.events.Event.TheVariants as event
 use Rattle.mmtel_scan.specs.declared.memory.NoMemory.{NoMemory}
 use Rattle.mmtel_types.specs.declared.addrs.Addr.{Addr}
 use Rattle.mmtel_types.specs.declared.numbers.Failed.{Failed}
-use Rattle.mmtel_server.specs.Driven.{AddsOne, CalledTimes, CalledWithin, EachRead, HasFailedByNumber, HeardMore, IsRead, IsReadOut, LastFailed, ReadButLast, ReadEach, StandsOrRose, Takes, called_times, to_come}
+use Rattle.mmtel_server.specs.Driven.{AddsOne, CalledTimes, CalledWithin, EachRead, HasFailedByNumber, HeardMore, IsNeeded, IsRead, IsReadOut, LastFailed, ReadButLast, ReadEach, StandsOrRose, Takes, called_times, to_come}
 use Rattle.mmtel_server.specs.Turns.{HasRead, IsReading, read_to}
 use Rattle.mmtel_server.specs.declared.driving.DriveFault.{DriveFault}
 use Rattle.mmtel_server.specs.declared.driving.DriveFault.TheVariants as fault
@@ -76,21 +79,29 @@ came_quiet (Some ear) later giving at h = (
   read_one ear 0 false (event.Quiet at) h.0 later giving giving h.1 refl,
 )
 
+-- what was needed of the bytes that were read was needed of all
+needed_of : (whole bytes : List ℕ) → take (length bytes) whole ≡ bytes → IsNeeded (length bytes) bytes → IsNeeded (length bytes) whole
+needed_of whole bytes these (inl none) = inl none
+needed_of whole bytes these (inr last) =
+    let same : take last.0 bytes ≡ take last.0 whole =
+    ap (λ (l : List ℕ). take last.0 l) (sym these) ∙ take-take last.0 (length bytes) whole (omega (arith, last.1)) in
+    inr (last.0, last.1, last.2, subst (λ (l : List ℕ). whole_of (request_of l) ≡ More) same last.3)
+
 -- a web connection came, of which these bytes were read
 web_read : (ear : Ear) (later : Option Ear) (giving gave at : ℕ) (whole bytes : List ℕ) → coming ear ≡ Some (event.Web at whole) → HasRead (Some ear) later giving gave (Ok bytes)
-    → HeardMore (Some ear) later (event.Web at bytes ∷ []) × ReadEach (Some ear) later giving gave
-web_read ear later giving gave at whole bytes next read =
+    → IsNeeded (length bytes) bytes → HeardMore (Some ear) later (event.Web at bytes ∷ []) × ReadEach (Some ear) later giving gave
+web_read ear later giving gave at whole bytes next read needed =
     let all : web_bytes (coming ear) ≡ whole = ap web_bytes next in
     let these : take (length bytes) whole ≡ bytes = subst (λ (l : List ℕ). take (length bytes) l ≡ bytes) all read.2 in
     let out = subst (λ (l : List ℕ). (IsReadOut (length bytes) l × (gave ≡ giving)) ⊎ Rose giving gave) all read.3 in (
       subst (λ (l : List ℕ). HeardMore (Some ear) later (event.Web at l ∷ [])) these (heard_one ear (length bytes) read.0 (event.Web at whole) next later read.1),
-      read_one ear (length bytes) read.0 (event.Web at whole) next later giving gave read.1 out,
+      read_one ear (length bytes) read.0 (event.Web at whole) next later giving gave read.1 (needed_of whole bytes these needed, out),
     )
 
 pub came_web : (ear mid later : Option Ear) (giving gave at : ℕ) (bytes : List ℕ) → NextTold ear mid (Ok (arrival.Web at)) → (IsReading ear mid [] → HasRead ear later giving gave (Ok bytes))
-    → HeardMore ear later (event.Web at bytes ∷ []) × ReadEach ear later giving gave
-came_web None mid later giving gave at bytes h read = (heard_untold later (event.Web at bytes ∷ []) (read h), tt)
-came_web (Some ear) mid later giving gave at bytes h read = web_read ear later giving gave at h.0.0 bytes h.0.1 (read (h.1, refl))
+    → IsNeeded (length bytes) bytes → HeardMore ear later (event.Web at bytes ∷ []) × ReadEach ear later giving gave
+came_web None mid later giving gave at bytes h read needed = (heard_untold later (event.Web at bytes ∷ []) (read h), tt)
+came_web (Some ear) mid later giving gave at bytes h read needed = web_read ear later giving gave at h.0.0 bytes h.0.1 (read (h.1, refl)) needed
 
 -- memory ran out in reading it
 one_lost : (ear : Ear) (later : Option Ear) (e : Event) → coming ear ≡ Some e → (over : Bool) × (count : ℕ) × (later ≡ Some (read_to ear count over))

@@ -14,8 +14,8 @@ use Rattle.mmtel_server.specs.Laws.{IsEventReadOut, ReadOutSaysAll, UnfailedAreR
 
 rose_on : (a b c n : ℕ) (e : Event) → Rose a b → IsRead b c n e → Rose a c
 rose_on a b c n (event.Datagram from at bytes) rose read = subst (λ (k : ℕ). Rose a k) (sym read) rose
-rose_on a b c n (event.Web at bytes) rose (inl read) = subst (λ (k : ℕ). Rose a k) (sym read.1) rose
-rose_on a b c n (event.Web at bytes) rose (inr more) = omega (arith, rose, more)
+rose_on a b c n (event.Web at bytes) rose (needed, inl read) = subst (λ (k : ℕ). Rose a k) (sym read.1) rose
+rose_on a b c n (event.Web at bytes) rose (needed, inr more) = omega (arith, rose, more)
 rose_on a b c n (event.Quiet at) rose read = subst (λ (k : ℕ). Rose a k) (sym read) rose
 
 -- a count that rose has risen still after more
@@ -28,8 +28,8 @@ still_rose a b c (e ∷ events) (n ∷ reads) rose each = still_rose a each.0 c 
 -- an event in whose reading the count did not rise
 stood : (a b n : ℕ) (e : Event) → IsRead a b n e → (Rose a b → ⊥) → (b ≡ a) × IsEventReadOut n e
 stood a b n (event.Datagram from at bytes) read unrisen = (read, tt)
-stood a b n (event.Web at bytes) (inl read) unrisen = (read.1, read.0)
-stood a b n (event.Web at bytes) (inr rose) unrisen = absurd (unrisen rose)
+stood a b n (event.Web at bytes) (needed, inl read) unrisen = (read.1, read.0)
+stood a b n (event.Web at bytes) (needed, inr rose) unrisen = absurd (unrisen rose)
 stood a b n (event.Quiet at) read unrisen = (read, tt)
 
 pub unfailed : UnfailedAreReadOut

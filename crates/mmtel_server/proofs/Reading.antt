@@ -2,7 +2,7 @@
 use Rattle.std.proofs.Common.{◌≡◌, ◌≢◌, ◌+◌, ◌<◌, ◌≤◌, ℕ, min, Bool, true, false, List, [], ◌∷◌, ◌++◌, length, take, drop, slice_get, refl, sym, ap, ◌∙◌, subst, length-append, Option, Some, None, Result, Ok, Err, arith, inl, inr}
 use Rattle.std.specs.Result.{IsErr}
 use Rattle.std.proofs.Math.Seq.{take-add}
-use Rattle.std.proofs.lemmas.List.{length-drop, length-take-le, take_all}
+use Rattle.std.proofs.lemmas.List.{length-drop, length-take-le, take-append-le, take_all}
 use Rattle.mmtel_http.specs.Requests.{Request, unfinished, bad, large, asked, request_of, whole_of}
 use Rattle.mmtel_http.specs.declared.wholes.Whole.TheVariants.{More}
 use Rattle.mmtel_link.specs.Told.{Ear, ReadOf, ReadTold, coming, current, last_or_none, more_of_last, unread, web_bytes}
@@ -10,8 +10,8 @@ use Rattle.mmtel_outside.specs.Counts.{Rose}
 use Rattle.mmtel_outside.specs.declared.events.Event.{Event}
 use Rattle.mmtel_scan.specs.declared.memory.NoMemory.{NoMemory}
 use Rattle.mmtel_types.specs.declared.numbers.Failed.{Failed}
-use Rattle.mmtel_server.specs.Driven.{StandsOrRose}
-use Rattle.mmtel_server.specs.Turns.{HasRead, IsReading, ReadsOn, is_unfinished, read_to}
+use Rattle.mmtel_server.specs.Driven.{IsNeeded, StandsOrRose, most_read}
+use Rattle.mmtel_server.specs.Turns.{Grows, HasRead, IsReading, ReadsOn, is_unfinished, read_to}
 
 -- ---- the connection that came last
 
@@ -128,6 +128,31 @@ read_whole None now giving gave bytes whole stands is = is
 read_whole (Some ear) now giving gave bytes whole stands is =
     let P : List ℕ → Type 0 = λ s. whole_of (request_of s) ≢ More in
     (false, is.0, is.1, inl (inl (subst P (sym is.1) (finished_whole (request_of bytes) whole)), stands))
+
+-- ---- what is needed
+
+more_of : (r : Request) → is_unfinished r ≡ true → whole_of r ≡ More
+more_of unfinished e = refl
+more_of bad e = absurd cc
+more_of large e = absurd cc
+more_of (asked a) e = absurd cc
+
+-- one more read was needed behind bytes that are no whole request
+pub read_needed : (bytes more : List ℕ) → is_unfinished (request_of bytes) ≡ true → Grows bytes more true → IsNeeded (length more) more
+read_needed bytes more unfinished_yet grows =
+    let same : whole_of (request_of (take (length bytes) more)) ≡ More = ap (λ (l : List ℕ). whole_of (request_of l)) grows.2 ∙ more_of (request_of bytes) unfinished_yet in
+    inr (length bytes, grows.0, grows.1, same)
+
+-- nor do bytes change where none came
+pub still_needed : (bytes more : List ℕ) → Grows bytes more false → IsNeeded (length bytes) bytes → IsNeeded (length more) more
+still_needed bytes more same needed = subst (λ (l : List ℕ). IsNeeded (length l) l) (sym same) needed
+
+-- what a read adds
+pub grown : (bytes filled : List ℕ) (n : ℕ) → 0 < n → n ≤ length filled → length filled ≤ most_read → Grows bytes (bytes ++ take n filled) true
+grown bytes filled n some less most =
+    let long : length (take n filled) ≡ n = length-take-le n filled less in
+    let whole : length (bytes ++ take n filled) ≡ length bytes + n = omega (arith, length-append bytes (take n filled), long) in
+    (omega (arith, whole, some), omega (arith, whole, less, most), take-append-le (length bytes) bytes (take n filled) (omega arith) ∙ take_all (length bytes) bytes (omega arith))
 
 -- ---- counts
 

@@ -11,7 +11,7 @@ use Rattle.mmtel_run.specs.Short.{IsShort, IsShortRun}
 use Rattle.mmtel_run.specs.World.{World, beginning, begun, came, ended, met}
 use Rattle.mmtel_server.specs.Follows.{AllDrawOn, Breaks, BreaksTo, Follows, FollowsTo, IsReady, IsSettledBy, going}
 use Rattle.mmtel_server_decisions.specs.Handed.{left_of, taken_of}
-use Rattle.mmtel_run_offers.specs.Added.{DeadlinesAdd, EventsAdd, behind, unsaid}
+use Rattle.mmtel_run_laws.specs.Added.{DeadlinesAdd, EventsAdd, behind, unsaid}
 use Rattle.mmtel_server.specs.Stands.{AddsFront, AddsOn, BreaksOff, Did, GoesOn, HasAdded, IsCut, Serves, Stands, Went}
 use Rattle.mmtel_server.specs.Stepped.{WaitedAfter, WaitedIn}
 use Rattle.mmtel_server.specs.declared.servers.Server.{Server}

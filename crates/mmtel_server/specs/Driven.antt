@@ -17,11 +17,11 @@ use Rattle.mmtel_run.specs.Events.{Happened, events_in}
 use Rattle.mmtel_run.specs.InForce.{uploads_of}
 use Rattle.mmtel_run.specs.Run.{IsEnough, gives, world_after}
 use Rattle.mmtel_run.specs.Short.{IsShortRun}
-use Rattle.mmtel_call_heads.specs.Clean.{IsClean}
+use Rattle.mmtel_call_laws.specs.Heads.Clean.{IsClean}
 use Rattle.mmtel_run_laws.specs.Clean.{SendsCleanMessages}
 use Rattle.mmtel_run_laws.specs.Outcome.{CallsComeToOutcome}
 use Rattle.mmtel_run_laws.specs.Rows.{SeatsAreChargedOnce}
-use Rattle.mmtel_run_secret.specs.Headline.{SeesAlike}
+use Rattle.mmtel_run_laws.specs.Secret.{SeesAlike}
 use Rattle.mmtel_serving.specs.Calls.{Answers, Counted, MayBeCalled}
 use Rattle.mmtel_server.specs.Stands.{IsCut, Serves, Went}
 use Rattle.mmtel_server.specs.Charged.{Charged}
@@ -59,10 +59,19 @@ EndsAfter turns ear count (Err NoMemory) = count ≤ turns
 abbrev pub IsReadOut : ℕ → List ℕ → Type 0
 IsReadOut count bytes = (whole_of (request_of (take count bytes)) ≢ More) ⊎ (take count bytes ≡ bytes)
 
--- how an event was read, of which so many bytes were, and what became of the count of giving out: a web connection was read out, but where a read failed, at which the count rose
+-- how many bytes one read takes at most
+abbrev pub most_read : ℕ
+most_read = 4096
+
+-- no read was made that was not needed: what was read before the last one is a request that is not whole yet
+abbrev pub IsNeeded : ℕ → List ℕ → Type 0
+IsNeeded count bytes = (count ≡ 0) ⊎ ((before : ℕ) × (before < count) × (count ≤ before + most_read) × (whole_of (request_of (take before bytes)) ≡ More))
+
+-- how an event was read, of which so many bytes were, and what became of the count of giving out: a web connection was read out and not further, but where a read failed, at
+-- which the count rose
 abbrev pub IsRead : (giving gave : ℕ) → ℕ → Event → Type 0
 IsRead giving gave count (event.Datagram from at bytes) = gave ≡ giving
-IsRead giving gave count (event.Web at bytes) = (IsReadOut count bytes × (gave ≡ giving)) ⊎ Rose giving gave
+IsRead giving gave count (event.Web at bytes) = IsNeeded count bytes × ((IsReadOut count bytes × (gave ≡ giving)) ⊎ Rose giving gave)
 IsRead giving gave count (event.Quiet at) = gave ≡ giving
 
 -- the same of each event that came of these, in order

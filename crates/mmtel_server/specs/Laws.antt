@@ -14,7 +14,7 @@ use Rattle.mmtel_run.specs.Headline.{Gives, GivesAlways}
 use Rattle.mmtel_run_laws.specs.Clean.{RunsSendCleanMessages}
 use Rattle.mmtel_run_laws.specs.Outcome.{CallsOfRunsComeToOutcome}
 use Rattle.mmtel_run_laws.specs.Rows.{SeatsOfRunsAreChargedOnce}
-use Rattle.mmtel_run_secret.specs.Headline.{SeesAlike}
+use Rattle.mmtel_run_laws.specs.Secret.{SeesAlike}
 use Rattle.mmtel_web.specs.Answers.{Kept}
 use Rattle.mmtel_server.specs.Driven.{EachRead, IsReadOut}
 use Rattle.mmtel_server.specs.Follows.{AllDrawOn}

@@ -1,5 +1,5 @@
 -- What the turns of `drive` so far took of a link and made of it.
-use Rattle.std.specs.Prelude.{◌≡◌, ◌⊎◌, ℕ, Bool, true, false, List, [], ◌∷◌, ◌++◌, length, take, Option, Some, None, Result, Ok, Err}
+use Rattle.std.specs.Prelude.{◌≡◌, ◌⊎◌, ◌+◌, ◌<◌, ◌≤◌, ℕ, Bool, true, false, List, [], ◌∷◌, ◌++◌, length, take, Option, Some, None, Result, Ok, Err}
 use Rattle.mmtel_http.specs.Requests.{Request, unfinished, bad, large, asked}
 use Rattle.mmtel_keeper.specs.Kept.{Held, KeeperCalls}
 use Rattle.mmtel_link.specs.Told.{Ear, coming, web_bytes}
@@ -7,7 +7,7 @@ use Rattle.mmtel_outside.specs.Counts.{Rose}
 use Rattle.mmtel_outside.specs.declared.events.Offer.{Offer}
 use Rattle.mmtel_run.specs.Events.{Happened, events_in}
 use Rattle.mmtel_scan.specs.declared.memory.NoMemory.{NoMemory}
-use Rattle.mmtel_server.specs.Driven.{AnswersAll, EachCounted, HeardMore, HoldsUploads, IsReadOut, ReadEach, ServesOn, WentOn}
+use Rattle.mmtel_server.specs.Driven.{AnswersAll, EachCounted, HeardMore, HoldsUploads, IsReadOut, ReadEach, ServesOn, WentOn, most_read}
 use Rattle.mmtel_server.specs.declared.servers.Server.{Server}
 
 -- ---- one connection
@@ -35,6 +35,11 @@ HasRead (Some ear) later giving gave (Ok bytes) =
     (over : Bool) × (later ≡ Some (read_to ear (length bytes) over)) × (take (length bytes) (web_bytes (coming ear)) ≡ bytes)
     × ((IsReadOut (length bytes) (web_bytes (coming ear)) × (gave ≡ giving)) ⊎ Rose giving gave)
 HasRead (Some ear) later giving gave (Err e) = (over : Bool) × (count : ℕ) × (later ≡ Some (read_to ear count over))
+
+-- what a read adds: some bytes and no more than it takes, or none
+abbrev pub Grows : List ℕ → List ℕ → Bool → Type 0
+Grows bytes more true = (length bytes < length more) × (length more ≤ length bytes + most_read) × (take (length bytes) more ≡ bytes)
+Grows bytes more false = more ≡ bytes
 
 -- after one more read
 abbrev pub ReadsOn : Option Ear → Option Ear → (giving gave : ℕ) → List ℕ → Result Bool NoMemory → Type 0

@@ -2,9 +2,9 @@
 ghost use Rattle.std.specs.Prelude.{◌≡◌, ◌<◌, ◌*◌, [], length, true, IfOk, Ok, OnErr, OnOk, Option, List};
 ghost use Rattle.mmtel_http.specs.Requests.{request_of};
 ghost use Rattle.mmtel_link.specs.Told.{Ear, NextTold};
-ghost use Rattle.mmtel_server.specs.Driven.{CalledTimes, CalledWithin, Driven, HasDriveCause, HasFailedByNumber, StandsOrRose, Takes, calls_a_turn, reads_a_turn};
+ghost use Rattle.mmtel_server.specs.Driven.{CalledTimes, CalledWithin, Driven, HasDriveCause, HasFailedByNumber, IsNeeded, StandsOrRose, Takes, calls_a_turn, reads_a_turn};
 ghost use Rattle.mmtel_server.specs.Stepped.{Stepped, Stopped};
-ghost use Rattle.mmtel_server.specs.Turns.{HasRead, IsReading, ReadsOn, is_unfinished};
+ghost use Rattle.mmtel_server.specs.Turns.{Grows, HasRead, IsReading, ReadsOn, is_unfinished};
 
 use crate::laws::{laws_of_runs_hold, servers_offer_what_runs_give};
 use crate::servers::Server;
@@ -46,7 +46,7 @@ impl From<NoMemory> for DriveFault {
 /// Reads once of the connection that came last, behind what was read of it. False at its end, and where the read fails, which ends it too.
 fn read_more<L: Link>(alloc: Global, link: &mut L, bytes: &mut Text) -> Result<bool, NoMemory>
     ensures read { (ear : Option Ear) → IsReading ear (L.ear link.old) bytes.old → ReadsOn ear (L.ear link.new) (L.giving link.old) (L.giving link.new) bytes.new result }
-    ensures more { IfOk result (λ more. more ≡ true → length bytes.old < length bytes.new) }
+    ensures grows { IfOk result (Grows bytes.old bytes.new) }
     ensures stands { IfOk result (λ more. more ≡ true → L.giving link.new ≡ L.giving link.old) }
     ensures giving { StandsOrRose (L.giving link.old) (L.giving link.new) }
     ensures given { L.given link.new ≡ L.given link.old }
@@ -71,8 +71,9 @@ fn is_unfinished(bytes: &[u8]) -> bool
     matches!(whole(bytes), Whole::More)
 }
 
-/// Reads the connection that came last: until its bytes are a request, or can be none, or it is at its end, or a read fails (RFC 9112 §6.3).
+/// Reads the connection that came last: until its bytes are a request, or can be none, or it is at its end, or a read fails (RFC 9112 §6.3); and no further.
 fn read_request<L: Link>(alloc: Global, link: &mut L) -> Result<Text, NoMemory>
+    ensures needed { IfOk result (λ bytes. IsNeeded (length bytes) bytes) }
     ensures read { (ear : Option Ear) → IsReading ear (L.ear link.old) [] → HasRead ear (L.ear link.new) (L.giving link.old) (L.giving link.new) result }
     ensures giving { StandsOrRose (L.giving link.old) (L.giving link.new) }
     ensures given { L.given link.new ≡ L.given link.old }
@@ -151,7 +152,9 @@ fn meet<K: Keeper>(
     ensures met { OnErr result (Stopped server.old out.old out.new event
         (K.held keeper.old) (K.held keeper.new) (K.calls keeper.old) (K.calls keeper.new) (K.faults keeper.old) (K.faults keeper.new)) }
 {
-    server.step(alloc, &event, keeper, out)
+    let done = server.step(alloc, &event, keeper, out);
+    drop(event);
+    done
 }
 
 /// Takes events of a link and does each of them, until the link is closed or so many turns were made; a turn is one call of the link's `next`, and of a web connection the

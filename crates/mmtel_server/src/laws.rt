@@ -5,9 +5,9 @@ ghost use Rattle.mmtel_server.specs.Laws.{ReadOutSaysAll, RunLaws, UnfailedAreRe
 use mmtel_http::laws::whole_requests_stand;
 use mmtel_run::{calls_draw_on, enough_comes, rooms_draw_on, rows_are_filed};
 use mmtel_run_laws::{
-    calls_of_runs_come_to_their_outcome, runs_send_clean_messages, seats_of_runs_are_charged_once,
+    calls_of_runs_come_to_their_outcome, runs_keep_the_secret, runs_send_clean_messages,
+    seats_of_runs_are_charged_once,
 };
-use mmtel_run_secret::runs_keep_the_secret;
 
 /// Whatever a server went through from its beginning, it offered exactly what the run gives.
 /// Of that an untrusted peer sees what it would see of any other run that is equal without its private places (RFC 3323, RFC 3325 §7).

@@ -14,6 +14,7 @@ use crate::entries::{
 use crate::heads::Head;
 use crate::parts::Part;
 use crate::words::{Due, TKey};
+use mmtel_decisions::is_given_again;
 use mmtel_scan::{NoMemory, Text};
 use mmtel_types::Peer;
 use mmtel_types::limits::SERVER_TRANSACTIONS;
@@ -379,7 +380,8 @@ fn last_sent(alloc: Global, e: &Entry) -> Result<Option<(Peer, Text)>, NoMemory>
 fn give_again(alloc: Global, e: &Entry, p: Peer) -> Result<Option<(Peer, Text)>, NoMemory>
     ensures { IfOk result (λ g. g ≡ gives_again p e.now) }
 {
-    if p.0 == e.peer.0 && !e.is_acked && !(e.asked.is_invite() && 200 <= e.done && e.done < 300) {
+    let succeeded = e.asked.is_invite() && 200 <= e.done && e.done < 300;
+    if is_given_again(e.peer, p, e.is_acked, succeeded) {
         last_sent(alloc, e)
     } else {
         Ok(None)

@@ -83,7 +83,9 @@ impl Server {
     {
         numbers_are_drawn_on();
         let emits = self.tell_calls(alloc, signal, at)?;
-        self.emit_all(alloc, emits.items(), at, out)
+        let done = self.emit_all(alloc, emits.items(), at, out);
+        drop(emits);
+        done
     }
 
     /// The calls hear a signal that opens none, and what they want done is done.
@@ -163,7 +165,9 @@ impl Server {
     {
         numbers_are_drawn_on();
         let emits = self.end_call(alloc, call, at)?;
-        self.emit_all(alloc, emits.items(), at, out)
+        let done = self.emit_all(alloc, emits.items(), at, out);
+        drop(emits);
+        done
     }
 
     /// Who has the dialog of this name: a side of a call, or else a seat of a room.
@@ -192,7 +196,11 @@ impl Server {
         let name = dialog_name(alloc, message)?;
         match name {
             None => Ok(None),
-            Some(name) => Ok(self.holder(&name)),
+            Some(name) => {
+                let holder = self.holder(&name);
+                drop(name);
+                Ok(holder)
+            }
         }
     }
 
@@ -230,10 +238,16 @@ impl Server {
         ensures err { OnErr result (Breaks self.old out.old out.new (λ d token. acknowledging d token at ack)) }
     {
         numbers_are_drawn_on();
-        let named = self.named(alloc, &ack)?;
-        match named {
-            None => Ok(()),
-            Some(holder) => self.hear_ack_of(alloc, holder, ack, at, out),
+        match self.named(alloc, &ack) {
+            Ok(Some(holder)) => self.hear_ack_of(alloc, holder, ack, at, out),
+            Ok(None) => {
+                drop(ack);
+                Ok(())
+            }
+            Err(error) => {
+                drop(ack);
+                Err(error)
+            }
         }
     }
 
@@ -250,8 +264,15 @@ impl Server {
         ensures err { OnErr result (Breaks self.old out.old out.new (λ d token. responding d token at key response)) }
     {
         numbers_are_drawn_on();
-        let branch = invite_answered(alloc, &response)?;
+        let branch = match invite_answered(alloc, &response) {
+            Ok(branch) => branch,
+            Err(error) => {
+                drop(response);
+                return Err(error);
+            }
+        };
         let is_of_calls = is_answer_of_calls(&self.calls, bytes_of(&branch));
+        drop(branch);
         if is_of_calls {
             self.signal(alloc, Signal::Answer { key, response }, at, out)
         } else {
@@ -274,7 +295,11 @@ impl Server {
     {
         numbers_are_drawn_on();
         match invite {
-            None => self.replying(alloc, key, &cancel, &plainly(481), at, out),
+            None => {
+                let done = self.replying(alloc, key, &cancel, &plainly(481), at, out);
+                drop(cancel);
+                done
+            }
             Some(invite) => self.cancel_invite(alloc, key, invite, cancel, at, out),
         }
     }
@@ -294,7 +319,11 @@ impl Server {
     {
         numbers_are_drawn_on();
         match self.calls.asked_by(invite) {
-            None => self.replying(alloc, key, &cancel, &plainly(200), at, out),
+            None => {
+                let done = self.replying(alloc, key, &cancel, &plainly(200), at, out);
+                drop(cancel);
+                done
+            }
             Some((call, _)) => {
                 let signal = Signal::Cancel {
                     call,

@@ -1,5 +1,5 @@
 //! What is offered: whatever the layers want done goes through here.
-ghost use Rattle.std.specs.Prelude.{◌≡◌, ◌<◌, ◌^◌, ◌+◌, ◌-◌, ◌++◌, ◌∷◌, [], ℕ, List, IfOk, OnErr, OnOk};
+ghost use Rattle.std.specs.Prelude.{◌≡◌, ◌<◌, ◌^◌, ◌+◌, ◌-◌, ◌++◌, ◌∷◌, [], List, IfOk, OnErr, OnOk};
 ghost use Rattle.mmtel_outside.specs.declared.events.Offer.{Offer};
 ghost use Rattle.mmtel_outside.specs.declared.events.Offer.TheVariants as offer;
 ghost use Rattle.mmtel_run.specs.Answers.{tag_for, tags_due, to_tag_in};

@@ -77,8 +77,12 @@ impl Server {
         ensures err { OnErr result (out.new ≡ out.old) }
     {
         let tag = drawn_tag(alloc, &mut self.tokens, &request.message)?;
-        let response = response_to(alloc, self.directory.sip, tag.bytes(), request, answer)?;
-        self.reply(alloc, key, &response, at, out)
+        let made = response_to(alloc, self.directory.sip, tag.bytes(), request, answer);
+        drop(tag);
+        let response = made?;
+        let done = self.reply(alloc, key, &response, at, out);
+        drop(response);
+        done
     }
 
     /// Answers a request without a transaction, with a tag of the server where To has none (RFC 3261 §8.2.7).
@@ -94,8 +98,12 @@ impl Server {
         ensures err { OnErr result (out.new ≡ out.old) }
     {
         let tag = drawn_tag(alloc, &mut self.tokens, &request.message)?;
-        let response = response_to(alloc, self.directory.sip, tag.bytes(), request, answer)?;
-        let text = response.text(alloc)?;
+        let made = response_to(alloc, self.directory.sip, tag.bytes(), request, answer);
+        drop(tag);
+        let response = made?;
+        let written = response.text(alloc);
+        drop(response);
+        let text = written?;
         self.send(alloc, request.peer, text.bytes(), at, out)
     }
 
@@ -113,8 +121,12 @@ impl Server {
         ensures err { OnErr result (out.new ≡ out.old) }
     {
         let tag = drawn_tag(alloc, &mut self.tokens, reply)?;
-        let response = completed_reply(alloc, tag.bytes(), source, reply)?;
-        let text = response.text(alloc)?;
+        let made = completed_reply(alloc, tag.bytes(), source, reply);
+        drop(tag);
+        let response = made?;
+        let written = response.text(alloc);
+        drop(response);
+        let text = written?;
         self.send(alloc, peer, text.bytes(), at, out)
     }
 }
@@ -156,7 +168,12 @@ impl Server {
     {
         numbers_are_drawn_on();
         match course {
-            Course::Refuse(answer) => self.replying(alloc, key, &request, &answer, at, out),
+            Course::Refuse(answer) => {
+                let done = self.replying(alloc, key, &request, &answer, at, out);
+                drop(answer);
+                drop(request);
+                done
+            }
             Course::Enter { call, side } => {
                 let signal = Signal::Request {
                     call,
@@ -170,10 +187,20 @@ impl Server {
                 self.enter_room(alloc, key, request, room, seat, at, out)
             }
             Course::Open => self.open(alloc, key, request, at, out),
-            Course::OpenRoom => self.open_room(alloc, key, &request, at, out),
-            Course::JoinRoom { room } => self.join_room(alloc, key, &request, room, at, out),
+            Course::OpenRoom => {
+                let done = self.open_room(alloc, key, &request, at, out);
+                drop(request);
+                done
+            }
+            Course::JoinRoom { room } => {
+                let done = self.join_room(alloc, key, &request, room, at, out);
+                drop(request);
+                done
+            }
             Course::Register { account, seconds } => {
-                self.register(alloc, key, &request, account, seconds, at, out)
+                let done = self.register(alloc, key, &request, account, seconds, at, out);
+                drop(request);
+                done
             }
         }
     }
@@ -193,13 +220,25 @@ impl Server {
         numbers_are_drawn_on();
         let merged = self.transactions.merged(key);
         let full = self.calls.is_full();
-        let named = self.named(alloc, &request)?;
+        let named = match self.named(alloc, &request) {
+            Ok(named) => named,
+            Err(error) => {
+                drop(request);
+                return Err(error);
+            }
+        };
         let standing = Standing {
             merged,
             full,
             named,
         };
-        let course = course(alloc, &self.directory, &standing, &request)?;
+        let course = match course(alloc, &self.directory, &standing, &request) {
+            Ok(course) => course,
+            Err(error) => {
+                drop(request);
+                return Err(error);
+            }
+        };
         self.take(alloc, key, request, course, at, out)
     }
 }
@@ -308,7 +347,9 @@ impl Server {
                     trusted,
                     message,
                 };
-                self.turn_away(alloc, &request, at, out)
+                let done = self.turn_away(alloc, &request, at, out);
+                drop(request);
+                done
             }
             Err(HearFault::NoMemory) => Err(NoMemory),
         }
@@ -336,7 +377,11 @@ impl Server {
                 peer,
                 source,
                 reply,
-            } => self.refusing(alloc, peer, source, &reply, at, out),
+            } => {
+                let done = self.refusing(alloc, peer, source, &reply, at, out);
+                drop(reply);
+                done
+            }
             Told::Heard(heard) => self.hear(alloc, heard, at, out),
         }
     }

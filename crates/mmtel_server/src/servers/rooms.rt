@@ -1,5 +1,5 @@
 //! What is done on the conference rooms, and what is done of it.
-ghost use Rattle.std.specs.Prelude.{◌≡◌, ◌<◌, ◌+◌, ◌++◌, ◌∷◌, ◌^◌, ℕ, List, Err, IfErr, IfOk, IfSome, IsOk, None, OnErr, OnOk, codes, if◌then◌else◌, length, false, true};
+ghost use Rattle.std.specs.Prelude.{◌≡◌, ◌<◌, ◌+◌, ◌++◌, ◌∷◌, ◌^◌, ℕ, List, Err, IfErr, IfOk, IfSome, IsOk, None, OnErr, OnOk, Some, codes, if◌then◌else◌, length, false, true};
 ghost use Rattle.mmtel_b2bua.specs.Lending.{entry_of, is_away, leg_out, takes_back};
 ghost use Rattle.mmtel_directory.specs.declared.directories.Directory.{Directory};
 ghost use Rattle.mmtel_focus.specs.Histories as histories;
@@ -49,7 +49,12 @@ fn is_accepted(emits: &[Emit]) -> bool
 fn where_accepted(asked: Option<Replaces>, emits: &[Emit]) -> Option<Replaces>
     ensures { result ≡ if is_accepted emits.now then asked else None }
 {
-    if is_accepted(emits) { asked } else { None }
+    if is_accepted(emits) {
+        asked
+    } else {
+        drop(asked);
+        None
+    }
 }
 
 /// The dialog in the place of which a request asks for another, where it is a REFER with Replaces (RFC 3891 §3).
@@ -62,7 +67,10 @@ fn replaces_asked(alloc: Global, request: &Hearing) -> Result<Option<Replaces>, 
     match referral_of(alloc, request)? {
         Referral::Missing => Ok(None),
         Referral::OtherMethod => Ok(None),
-        Referral::Invite(_) => Ok(None),
+        Referral::Invite(asked) => {
+            drop(asked);
+            Ok(None)
+        }
         Referral::Replace(replaces) => Ok(Some(replaces)),
     }
 }
@@ -301,7 +309,9 @@ impl Server {
     {
         numbers_are_drawn_on();
         let emits = self.tell_rooms(alloc, signal, at)?;
-        self.emit_all(alloc, emits.items(), at, out)
+        let done = self.emit_all(alloc, emits.items(), at, out);
+        drop(emits);
+        done
     }
 
     /// A seat is told a status, and what that brings forth is done (RFC 3515 §2.4.4).
@@ -323,7 +333,9 @@ impl Server {
     {
         numbers_are_drawn_on();
         let emits = self.tell_seat(alloc, room, seat, code)?;
-        self.emit_all(alloc, emits.items(), at, out)
+        let done = self.emit_all(alloc, emits.items(), at, out);
+        drop(emits);
+        done
     }
 
     /// A request of a seat, and what follows of it where it was accepted: a REFER with Replaces asks for a leg in the place of another (RFC 3891 §3, RFC 4579 §5.6).
@@ -346,16 +358,30 @@ impl Server {
     {
         numbers_are_drawn_on();
         let peer = request.peer;
-        let asked = replaces_asked(alloc, &request)?;
+        let asked = match replaces_asked(alloc, &request) {
+            Ok(asked) => asked,
+            Err(error) => {
+                drop(request);
+                return Err(error);
+            }
+        };
         let signal = RoomSignal::Request {
             room,
             seat,
             key,
             request,
         };
-        let emits = self.tell_rooms(alloc, signal, at)?;
+        let emits = match self.tell_rooms(alloc, signal, at) {
+            Ok(emits) => emits,
+            Err(error) => {
+                drop(asked);
+                return Err(error);
+            }
+        };
         let accepted = where_accepted(asked, emits.items());
-        self.emit_all(alloc, emits.items(), at, out)?;
+        let emitted = self.emit_all(alloc, emits.items(), at, out);
+        drop(emits);
+        emitted?;
         self.replace(alloc, peer, room, seat, accepted, at, out)
     }
 }
@@ -377,7 +403,9 @@ impl Server {
         ensures err { OnErr result (out.new ≡ out.old) }
     {
         let response = response_to(alloc, self.directory.sip, tag, invite, &plainly(code))?;
-        self.reply(alloc, key, &response, at, out)
+        let done = self.reply(alloc, key, &response, at, out);
+        drop(response);
+        done
     }
 
     /// Whoever comes to the factory, and is answered with this tag, has a room of its own, unless as many are live as may.
@@ -400,7 +428,11 @@ impl Server {
         let leg = leg_by(alloc, invite, tag.copied(alloc)?)?;
         let made = self.create_room(alloc, leg, account, key, invite, at)?;
         match made {
-            Some(emits) => self.emit_all(alloc, emits.items(), at, out),
+            Some(emits) => {
+                let done = self.emit_all(alloc, emits.items(), at, out);
+                drop(emits);
+                done
+            }
             None => self.turn_from_room(alloc, key, invite, tag.bytes(), 503, at, out),
         }
     }
@@ -450,7 +482,11 @@ impl Server {
         let how = Joining::Invited { key, invite };
         let seated = self.seat_leg(alloc, room, Released::Caller(leg), account, how, at)?;
         match seated {
-            Ok(emits) => self.emit_all(alloc, emits.items(), at, out),
+            Ok(emits) => {
+                let done = self.emit_all(alloc, emits.items(), at, out);
+                drop(emits);
+                done
+            }
             Err((leg, fault)) => {
                 let_go(leg.leave());
                 self.turn_from_room(alloc, key, invite, tag.bytes(), status_by(fault), at, out)
@@ -501,7 +537,7 @@ impl Server {
         }
     }
 
-    /// The seat is told that it is tried, and then what came of it.
+    /// The seat is told that it is tried, and then what came of it, where something was asked.
     fn replace(
         &mut self,
         alloc: Global,
@@ -515,14 +551,33 @@ impl Server {
         ensures done { OnOk result (Follows self.old out.old self.new out.new (λ d token. replacing d token at peer room seat replaces)) }
         ensures err { OnErr result (Breaks self.old out.old out.new (λ d token. replacing d token at peer room seat replaces)) }
     {
-        numbers_are_drawn_on();
         match replaces {
             None => Ok(()),
             Some(replaces) => {
-                self.notice(alloc, room, seat, 100, at, out)?;
-                self.replace_dialog(alloc, peer, room, seat, &replaces, at, out)
+                let done = self.replace_by(alloc, peer, room, seat, &replaces, at, out);
+                drop(replaces);
+                done
             }
         }
+    }
+
+    /// The seat is told that it is tried, and then what came of it.
+    fn replace_by(
+        &mut self,
+        alloc: Global,
+        peer: Peer,
+        room: RoomNo,
+        seat: u64,
+        replaces: &Replaces,
+        at: Moment,
+        out: &mut List<Offer>,
+    ) -> Result<(), NoMemory>
+        ensures done { OnOk result (Follows self.old out.old self.new out.new (λ d token. replacing d token at peer room seat (Some replaces.now))) }
+        ensures err { OnErr result (Breaks self.old out.old out.new (λ d token. replacing d token at peer room seat (Some replaces.now))) }
+    {
+        numbers_are_drawn_on();
+        self.notice(alloc, room, seat, 100, at, out)?;
+        self.replace_dialog(alloc, peer, room, seat, replaces, at, out)
     }
 
     /// The dialog has to be of a call that lives.
@@ -620,7 +675,9 @@ impl Server {
         let seated = self.seat_leg(alloc, room, leg, account, how, at)?;
         match seated {
             Ok(emits) => {
-                self.emit_all(alloc, emits.items(), at, out)?;
+                let emitted = self.emit_all(alloc, emits.items(), at, out);
+                drop(emits);
+                emitted?;
                 self.finish(alloc, call, at, out)
             }
             Err((leg, _)) => {

@@ -1,7 +1,9 @@
 //! The steps of a run: the deadlines that are due by an event fire, and then it is met.
 ghost use Rattle.std.specs.Prelude.{◌≡◌, ◌≤◌, ℕ, Bool, List, IfOk, IsErr, OnErr, OnOk, [], false, max, true};
 ghost use Rattle.mmtel_charging.specs.declared.rows.Row.{Row};
+ghost use Rattle.mmtel_b2bua.specs.Tables.{no_calls};
 ghost use Rattle.mmtel_directory.specs.declared.directories.Directory.{Directory};
+ghost use Rattle.mmtel_focus.specs.Table.{no_rooms};
 ghost use Rattle.mmtel_in_force.specs.Texts.{Texts};
 ghost use Rattle.mmtel_outside.specs.declared.events.Offer.{Offer};
 ghost use Rattle.mmtel_run.specs.Events.{Happened, digest_datagram, digest_event};
@@ -27,7 +29,7 @@ use mmtel_intake::{digest, moment};
 use mmtel_keeper::Keeper;
 use mmtel_outside::{Event, Offer};
 use mmtel_run::{enough_comes, rows_are_filed};
-use mmtel_run_offers::offers_are_added;
+use mmtel_run_laws::offers_are_added;
 use mmtel_scan::{List, NoMemory, Text};
 use mmtel_server_decisions::hand_rows;
 use mmtel_transaction::{Tokens, Transactions};
@@ -56,6 +58,24 @@ fn later(clock: Moment, moment: Moment) -> Moment
     }
 }
 
+/// No calls and no rooms yet, of a server of this configuration.
+fn none_yet(alloc: Global, directory: &Directory) -> Result<(Calls, Rooms), NoMemory>
+    requires { directory.now.bound ≤ 16 }
+    ensures calls { IfOk result (λ made. made.0
+        ≡ record { sip = directory.now.sip; home = directory.now.home; bound = directory.now.bound; table = no_calls; has_failed = false }) }
+    ensures rooms { IfOk result (λ made. made.1 ≡ record { sip = directory.now.sip; mixer = directory.now.mixer; table = no_rooms; has_failed = false }) }
+{
+    let home = directory.home.copied(alloc)?;
+    let calls = Calls::new(alloc, home, directory.sip, directory.bound)?;
+    match Rooms::new(alloc, directory.mixer, directory.sip) {
+        Ok(rooms) => Ok((calls, rooms)),
+        Err(error) => {
+            calls.give_up();
+            Err(error)
+        }
+    }
+}
+
 impl Server {
     /// A server of this configuration over these loaded texts of records, which draws identifiers that begin with the token. Of an account's texts the last one counts, and
     /// one that is no record is kept as it is and counts as the empty record.
@@ -73,14 +93,21 @@ impl Server {
         ensures begins { IfOk result (λ server. (before : List Offer) → Went directory token loaded.now [] before server before) }
         ensures whole { IfOk result (λ server. server.failed ≡ false) }
     {
-        let records = Records::load(alloc, loaded)?;
-        let home = directory.home.copied(alloc)?;
-        let calls = Calls::new(alloc, home, directory.sip, directory.bound)?;
-        let rooms = match Rooms::new(alloc, directory.mixer, directory.sip) {
-            Ok(rooms) => rooms,
-            Err(NoMemory) => {
-                calls.give_up();
-                return Err(NoMemory);
+        let records = match Records::load(alloc, loaded) {
+            Ok(records) => records,
+            Err(error) => {
+                drop(token);
+                drop(directory);
+                return Err(error);
+            }
+        };
+        let (calls, rooms) = match none_yet(alloc, &directory) {
+            Ok(made) => made,
+            Err(error) => {
+                drop(records);
+                drop(token);
+                drop(directory);
+                return Err(error);
             }
         };
         Ok(Server {
@@ -153,18 +180,24 @@ impl Server {
     /// Spends what is still live, without rows. It takes no memory.
     pub fn give_up(self) {
         let Server {
-            directory: _,
-            tokens: _,
-            transactions: _,
+            directory,
+            tokens,
+            transactions,
             calls,
             rooms,
-            armed: _,
-            waiting: _,
-            records: _,
+            armed,
+            waiting,
+            records,
             clock: _,
             steps: _,
             failed: _,
         } = self;
+        drop(directory);
+        drop(tokens);
+        drop(transactions);
+        drop(armed);
+        drop(waiting);
+        drop(records);
         calls.give_up();
         rooms.give_up();
     }

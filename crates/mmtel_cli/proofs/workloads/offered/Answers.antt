@@ -5,5 +5,5 @@ use Rattle.mmtel_cli.proofs.workloads.offered.Goals as goal
 pub returns : goal.returns
 returns c = record {
   run = c.in_ok-driven.ensures.run _ _ _
-      (went_work _ _ _ _ _ c.in_ok-token.ensures (rw c.in_ok-carol.ensures refl) c.new-out.ensures c.in_ok-server.ensures.begins);
+      (went_work _ _ _ _ _ c.in-Ok.ensures (rw c.in-Ok-of.ensures refl) c.new-out.ensures c.in_ok-server.ensures.begins);
 }

@@ -8,7 +8,7 @@ pub returns-in-Quiet-clause-heard : goal.returns-in-Quiet-clause-heard
 returns-in-Quiet-clause-heard g c = λ ear told. came_quiet ear _ _ _ (rw c.in-Quiet.is at told)
 
 pub returns-in_ok-bytes-in-Web-clause-heard : goal.returns-in_ok-bytes-in-Web-clause-heard
-returns-in_ok-bytes-in-Web-clause-heard g c = λ ear told. came_web ear _ _ _ _ _ _ (rw c.in-Web.is at told) (c.in_ok-bytes-in-Web.ensures.read ear)
+returns-in_ok-bytes-in-Web-clause-heard g c = λ ear told. came_web ear _ _ _ _ _ _ (rw c.in-Web.is at told) (c.in_ok-bytes-in-Web.ensures.read ear) c.in_ok-bytes-in-Web.ensures.needed
 
 pub returns-in_err-bytes-in-Web-clause-heard : goal.returns-in_err-bytes-in-Web-clause-heard
 returns-in_err-bytes-in-Web-clause-heard g c = λ ear told.

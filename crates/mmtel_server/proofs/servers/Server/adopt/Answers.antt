@@ -19,35 +19,35 @@ returns-in_err-seated-clause-err c = on_err c.from_residual.result _
     (stops (λ d token w. adopting d token c.args.at c.args.room c.args.seat c.args.call c.args.leg c.args.account (access c.args.room.0 (rooms_in d w).live) w) c.args.self.now c.args.out.now c.args.out.now
     (λ d token w. adopts_grows c.numbers_are_drawn_on.ensures d token c.args.at c.args.room c.args.seat c.args.call c.args.leg c.args.account (access c.args.room.0 (rooms_in d w).live) w) refl)
 
-pub returns-in_err-emit_all-in-Ok-clause-err : goal.returns-in_err-emit_all-in-Ok-clause-err
-returns-in_err-emit_all-in-Ok-clause-err c = on_err c.from_residual-in_err-emit_all-in-Ok.result _
-    (adopted_so c.args.self.now (Breaks c.args.self.now c.args.out.now c.emit_all.new.out) (breaks_reads c.args.self.now c.args.out.now c.emit_all.new.out) c.args.at c.args.room c.args.seat c.args.call c.args.leg c.args.account (ok_of (λ emits. IsOk (access c.args.room.0 c.args.self.now.rooms.table.live)) c.in_ok-seated.seated c.in-Ok.emits c.in-Ok.is c.in_ok-seated.ensures.free)
+pub returns-in_err-emitted-in-Ok-clause-err : goal.returns-in_err-emitted-in-Ok-clause-err
+returns-in_err-emitted-in-Ok-clause-err c = on_err c.from_residual-in_err-emitted-in-Ok.result _
+    (adopted_so c.args.self.now (Breaks c.args.self.now c.args.out.now c.emit_all-emitted.new.out) (breaks_reads c.args.self.now c.args.out.now c.emit_all-emitted.new.out) c.args.at c.args.room c.args.seat c.args.call c.args.leg c.args.account (ok_of (λ emits. IsOk (access c.args.room.0 c.args.self.now.rooms.table.live)) c.in_ok-seated.seated c.in-Ok.emits c.in-Ok.is c.in_ok-seated.ensures.free)
     (broke_first (λ d token w. housed d c.args.at (adoption_of token c.args.at c.args.room c.args.seat c.args.leg c.args.account w) w)
     (λ d token w. finishing d token c.args.at c.args.call (housed d c.args.at (adoption_of token c.args.at c.args.room c.args.seat c.args.leg c.args.account w) w))
-    c.args.self.now c.args.out.now c.emit_all.new.out
+    c.args.self.now c.args.out.now c.emit_all-emitted.new.out
     (λ d token w. finishes c.numbers_are_drawn_on.ensures d token c.args.at c.args.call (housed d c.args.at (adoption_of token c.args.at c.args.room c.args.seat c.args.leg c.args.account w) w))
-    (housed_breaks (λ d token w. adoption_of token c.args.at c.args.room c.args.seat c.args.leg c.args.account w) c.args.self.now c.seat_leg.new.self c.in-Ok.emits c.items.result.now c.args.at c.args.out.now c.emit_all.new.out
-    c.items.ensures (ok_of (RoomsDo c.args.self.now c.seat_leg.new.self (λ d token w. adoption_of token c.args.at c.args.room c.args.seat c.args.leg c.args.account w)) c.in_ok-seated.seated c.in-Ok.emits c.in-Ok.is c.in_ok-seated.ensures.seated) c.in_err-emit_all-in-Ok.ensures.err)))
+    (housed_breaks (λ d token w. adoption_of token c.args.at c.args.room c.args.seat c.args.leg c.args.account w) c.args.self.now c.seat_leg.new.self c.in-Ok.emits c.items.result.now c.args.at c.args.out.now c.emit_all-emitted.new.out
+    c.items.ensures (ok_of (RoomsDo c.args.self.now c.seat_leg.new.self (λ d token w. adoption_of token c.args.at c.args.room c.args.seat c.args.leg c.args.account w)) c.in_ok-seated.seated c.in-Ok.emits c.in-Ok.is c.in_ok-seated.ensures.seated) c.in_err-emitted-in-Ok.ensures.err)))
 
-pub returns-in_ok-emit_all-in-Ok-clause-done : goal.returns-in_ok-emit_all-in-Ok-clause-done
-returns-in_ok-emit_all-in-Ok-clause-done c = on_ok_weaker c.finish.result (λ follows.
+pub returns-in_ok-emitted-in-Ok-clause-done : goal.returns-in_ok-emitted-in-Ok-clause-done
+returns-in_ok-emitted-in-Ok-clause-done c = on_ok_weaker c.finish.result (λ follows.
     adopted_so c.args.self.now (Follows c.args.self.now c.args.out.now c.finish.new.self c.finish.new.out) (follows_reads c.args.self.now c.args.out.now c.finish.new.self c.finish.new.out) c.args.at c.args.room c.args.seat c.args.call c.args.leg c.args.account (ok_of (λ emits. IsOk (access c.args.room.0 c.args.self.now.rooms.table.live)) c.in_ok-seated.seated c.in-Ok.emits c.in-Ok.is c.in_ok-seated.ensures.free)
     (followed (λ d token w. housed d c.args.at (adoption_of token c.args.at c.args.room c.args.seat c.args.leg c.args.account w) w) (λ d token. finishing d token c.args.at c.args.call)
-    c.args.self.now c.emit_all.new.self c.finish.new.self c.args.out.now c.emit_all.new.out c.finish.new.out (λ d token w. finishes c.numbers_are_drawn_on.ensures d token c.args.at c.args.call w)
-    (housed_follows (λ d token w. adoption_of token c.args.at c.args.room c.args.seat c.args.leg c.args.account w) c.args.self.now c.seat_leg.new.self c.in-Ok.emits c.items.result.now c.args.at c.args.out.now c.emit_all.new.out
-    c.items.ensures (ok_of (RoomsDo c.args.self.now c.seat_leg.new.self (λ d token w. adoption_of token c.args.at c.args.room c.args.seat c.args.leg c.args.account w)) c.in_ok-seated.seated c.in-Ok.emits c.in-Ok.is c.in_ok-seated.ensures.seated) c.emit_all.new.self c.in_ok-emit_all-in-Ok.ensures.done)
+    c.args.self.now c.emit_all-emitted.new.self c.finish.new.self c.args.out.now c.emit_all-emitted.new.out c.finish.new.out (λ d token w. finishes c.numbers_are_drawn_on.ensures d token c.args.at c.args.call w)
+    (housed_follows (λ d token w. adoption_of token c.args.at c.args.room c.args.seat c.args.leg c.args.account w) c.args.self.now c.seat_leg.new.self c.in-Ok.emits c.items.result.now c.args.at c.args.out.now c.emit_all-emitted.new.out
+    c.items.ensures (ok_of (RoomsDo c.args.self.now c.seat_leg.new.self (λ d token w. adoption_of token c.args.at c.args.room c.args.seat c.args.leg c.args.account w)) c.in_ok-seated.seated c.in-Ok.emits c.in-Ok.is c.in_ok-seated.ensures.seated) c.emit_all-emitted.new.self c.in_ok-emitted-in-Ok.ensures.done)
     follows))
     c.finish.ensures.done
 
-pub returns-in_ok-emit_all-in-Ok-clause-err : goal.returns-in_ok-emit_all-in-Ok-clause-err
-returns-in_ok-emit_all-in-Ok-clause-err c = on_err_weaker c.finish.result (λ breaks.
+pub returns-in_ok-emitted-in-Ok-clause-err : goal.returns-in_ok-emitted-in-Ok-clause-err
+returns-in_ok-emitted-in-Ok-clause-err c = on_err_weaker c.finish.result (λ breaks.
     adopted_so c.args.self.now (Breaks c.args.self.now c.args.out.now c.finish.new.out) (breaks_reads c.args.self.now c.args.out.now c.finish.new.out) c.args.at c.args.room c.args.seat c.args.call c.args.leg c.args.account (ok_of (λ emits. IsOk (access c.args.room.0 c.args.self.now.rooms.table.live)) c.in_ok-seated.seated c.in-Ok.emits c.in-Ok.is c.in_ok-seated.ensures.free)
     (broken (λ d token w. housed d c.args.at (adoption_of token c.args.at c.args.room c.args.seat c.args.leg c.args.account w) w) (λ d token. finishing d token c.args.at c.args.call)
-    c.args.self.now c.emit_all.new.self c.args.out.now c.emit_all.new.out c.finish.new.out
+    c.args.self.now c.emit_all-emitted.new.self c.args.out.now c.emit_all-emitted.new.out c.finish.new.out
     (λ d token w. houses c.numbers_are_drawn_on.ensures d c.args.at (adoption_of token c.args.at c.args.room c.args.seat c.args.leg c.args.account w) w refl)
     (λ d token w. finishes c.numbers_are_drawn_on.ensures d token c.args.at c.args.call w)
-    (housed_follows (λ d token w. adoption_of token c.args.at c.args.room c.args.seat c.args.leg c.args.account w) c.args.self.now c.seat_leg.new.self c.in-Ok.emits c.items.result.now c.args.at c.args.out.now c.emit_all.new.out
-    c.items.ensures (ok_of (RoomsDo c.args.self.now c.seat_leg.new.self (λ d token w. adoption_of token c.args.at c.args.room c.args.seat c.args.leg c.args.account w)) c.in_ok-seated.seated c.in-Ok.emits c.in-Ok.is c.in_ok-seated.ensures.seated) c.emit_all.new.self c.in_ok-emit_all-in-Ok.ensures.done)
+    (housed_follows (λ d token w. adoption_of token c.args.at c.args.room c.args.seat c.args.leg c.args.account w) c.args.self.now c.seat_leg.new.self c.in-Ok.emits c.items.result.now c.args.at c.args.out.now c.emit_all-emitted.new.out
+    c.items.ensures (ok_of (RoomsDo c.args.self.now c.seat_leg.new.self (λ d token w. adoption_of token c.args.at c.args.room c.args.seat c.args.leg c.args.account w)) c.in_ok-seated.seated c.in-Ok.emits c.in-Ok.is c.in_ok-seated.ensures.seated) c.emit_all-emitted.new.self c.in_ok-emitted-in-Ok.ensures.done)
     breaks))
     c.finish.ensures.err
 

@@ -8,35 +8,33 @@ use Rattle.mmtel_types.specs.declared.numbers.Peer.{Peer}
 use Rattle.mmtel_server.proofs.servers.Server.enter_room.Goals as goal
 use Rattle.mmtel_server.specs.Follows.{Breaks, Follows}
 
-pub returns-in_err-asked-clause-err : goal.returns-in_err-asked-clause-err
-returns-in_err-asked-clause-err c = on_err c.from_residual.result _
-    (stops (λ d token. entering_room d token c.args.at c.args.key c.args.request c.args.room c.args.seat) c.args.self.now c.args.out.now c.args.out.now
-    (λ d token w. enters_room c.numbers_are_drawn_on.ensures d token c.args.at c.args.key c.args.request c.args.room c.args.seat w) refl)
+pub returns-in-Err-clause-err : goal.returns-in-Err-clause-err
+returns-in-Err-clause-err c = stops (λ d token. entering_room d token c.args.at c.args.key c.args.request c.args.room c.args.seat) c.args.self.now c.args.out.now c.args.out.now
+    (λ d token w. enters_room c.numbers_are_drawn_on.ensures d token c.args.at c.args.key c.args.request c.args.room c.args.seat w) refl
 
-pub returns-in_err-emits-clause-err : goal.returns-in_err-emits-clause-err
-returns-in_err-emits-clause-err c = on_err c.from_residual-in_err-emits.result _
-    (stops (λ d token. entering_room d token c.args.at c.args.key c.args.request c.args.room c.args.seat) c.args.self.now c.args.out.now c.args.out.now
-    (λ d token w. enters_room c.numbers_are_drawn_on.ensures d token c.args.at c.args.key c.args.request c.args.room c.args.seat w) refl)
+pub returns-in-Err-tell_rooms-clause-err : goal.returns-in-Err-tell_rooms-clause-err
+returns-in-Err-tell_rooms-clause-err c = stops (λ d token. entering_room d token c.args.at c.args.key c.args.request c.args.room c.args.seat) c.args.self.now c.args.out.now c.args.out.now
+    (λ d token w. enters_room c.numbers_are_drawn_on.ensures d token c.args.at c.args.key c.args.request c.args.room c.args.seat w) refl
 
-pub returns-in_err-emit_all-clause-err : goal.returns-in_err-emit_all-clause-err
-returns-in_err-emit_all-clause-err c = on_err c.from_residual-in_err-emit_all.result _
-    (heard_breaks c.numbers_are_drawn_on.ensures c.args.at c.args.key c.args.request c.args.room c.args.seat c.args.self.now c.tell_rooms.new.self c.in_ok-emits.emits c.items-2.result.now c.args.out.now c.emit_all.new.out
-    c.in_ok-emits.ensures c.items-2.ensures c.in_err-emit_all.ensures.err)
+pub returns-in_err-emitted-clause-err : goal.returns-in_err-emitted-clause-err
+returns-in_err-emitted-clause-err c = on_err c.from_residual.result _
+    (heard_breaks c.numbers_are_drawn_on.ensures c.args.at c.args.key c.args.request c.args.room c.args.seat c.args.self.now c.tell_rooms.new.self c.in-Ok-tell_rooms.emits c.items-2.result.now c.args.out.now c.emit_all-emitted.new.out
+    c.in-Ok-tell_rooms.ensures c.items-2.ensures c.in_err-emitted.ensures.err)
 
 pub returns-clause-done : goal.returns-clause-done
 returns-clause-done c = on_ok_weaker c.replace.result (λ follows.
-    entered_follows c.numbers_are_drawn_on.ensures c.args.at c.args.key c.args.request c.args.room c.args.seat c.args.self.now c.tell_rooms.new.self c.in_ok-emits.emits c.items-2.result.now c.args.out.now c.emit_all.new.out
-    c.in_ok-emits.ensures c.items-2.ensures c.where_accepted-accepted.result
-    (accepted_is c.args.request.heard c.in_ok-asked.asked c.where_accepted-accepted.result c.in_ok-emits.emits c.items.result.now c.in_ok-asked.ensures c.where_accepted-accepted.ensures c.items.ensures)
-    c.emit_all.new.self c.in_ok-emit_all.ensures.done c.replace.new.out c.replace.new.self
-    (subst (λ (p : Peer). Follows c.emit_all.new.self c.emit_all.new.out c.replace.new.self c.replace.new.out (λ d token. replacing d token c.args.at p c.args.room c.args.seat c.where_accepted-accepted.result))
+    entered_follows c.numbers_are_drawn_on.ensures c.args.at c.args.key c.args.request c.args.room c.args.seat c.args.self.now c.tell_rooms.new.self c.in-Ok-tell_rooms.emits c.items-2.result.now c.args.out.now c.emit_all-emitted.new.out
+    c.in-Ok-tell_rooms.ensures c.items-2.ensures c.where_accepted-accepted.result
+    (accepted_is c.args.request.heard c.in-Ok.asked c.where_accepted-accepted.result c.in-Ok-tell_rooms.emits c.items.result.now c.in-Ok.ensures c.where_accepted-accepted.ensures c.items.ensures)
+    c.emit_all-emitted.new.self c.in_ok-emitted.ensures.done c.replace.new.out c.replace.new.self
+    (subst (λ (p : Peer). Follows c.emit_all-emitted.new.self c.emit_all-emitted.new.out c.replace.new.self c.replace.new.out (λ d token. replacing d token c.args.at p c.args.room c.args.seat c.where_accepted-accepted.result))
     (ap (λ (x : Said). x.peer) c.request.view_is) follows)) c.replace.ensures.done
 
 pub returns-clause-err : goal.returns-clause-err
 returns-clause-err c = on_err_weaker c.replace.result (λ breaks.
-    entered_breaks c.numbers_are_drawn_on.ensures c.args.at c.args.key c.args.request c.args.room c.args.seat c.args.self.now c.tell_rooms.new.self c.in_ok-emits.emits c.items-2.result.now c.args.out.now c.emit_all.new.out
-    c.in_ok-emits.ensures c.items-2.ensures c.where_accepted-accepted.result
-    (accepted_is c.args.request.heard c.in_ok-asked.asked c.where_accepted-accepted.result c.in_ok-emits.emits c.items.result.now c.in_ok-asked.ensures c.where_accepted-accepted.ensures c.items.ensures)
-    c.emit_all.new.self c.in_ok-emit_all.ensures.done c.replace.new.out
-    (subst (λ (p : Peer). Breaks c.emit_all.new.self c.emit_all.new.out c.replace.new.out (λ d token. replacing d token c.args.at p c.args.room c.args.seat c.where_accepted-accepted.result))
+    entered_breaks c.numbers_are_drawn_on.ensures c.args.at c.args.key c.args.request c.args.room c.args.seat c.args.self.now c.tell_rooms.new.self c.in-Ok-tell_rooms.emits c.items-2.result.now c.args.out.now c.emit_all-emitted.new.out
+    c.in-Ok-tell_rooms.ensures c.items-2.ensures c.where_accepted-accepted.result
+    (accepted_is c.args.request.heard c.in-Ok.asked c.where_accepted-accepted.result c.in-Ok-tell_rooms.emits c.items.result.now c.in-Ok.ensures c.where_accepted-accepted.ensures c.items.ensures)
+    c.emit_all-emitted.new.self c.in_ok-emitted.ensures.done c.replace.new.out
+    (subst (λ (p : Peer). Breaks c.emit_all-emitted.new.self c.emit_all-emitted.new.out c.replace.new.out (λ d token. replacing d token c.args.at p c.args.room c.args.seat c.where_accepted-accepted.result))
     (ap (λ (x : Said). x.peer) c.request.view_is) breaks)) c.replace.ensures.err

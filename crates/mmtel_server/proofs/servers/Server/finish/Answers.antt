@@ -16,16 +16,16 @@ pub returns-clause-done : goal.returns-clause-done
 returns-clause-done c =
     let at = c.args.at in
     let call = c.args.call in
-    on_ok_weaker c.emit_all.result
+    on_ok_weaker c.emit_all-done.result
     (done_follows c.args.self.now c.end_call.new.self (λ d token. desk_at_end d token at call) (λ d token w. brought_in (Finishes call.0 at (tokens_now token w)) (desk_at_end d token at call w) w)
-    c.in_ok-emits.emits c.items.result.now at c.args.out.now c.emit_all.new.out c.in_ok-emits.ensures c.items.ensures c.emit_all.new.self)
-    c.emit_all.ensures.done
+    c.in_ok-emits.emits c.items.result.now at c.args.out.now c.emit_all-done.new.out c.in_ok-emits.ensures c.items.ensures c.emit_all-done.new.self)
+    c.emit_all-done.ensures.done
 
 pub returns-clause-err : goal.returns-clause-err
 returns-clause-err c =
     let at = c.args.at in
     let call = c.args.call in
-    on_err_weaker c.emit_all.result
+    on_err_weaker c.emit_all-done.result
     (done_breaks c.args.self.now c.end_call.new.self (λ d token. desk_at_end d token at call) (λ d token w. brought_in (Finishes call.0 at (tokens_now token w)) (desk_at_end d token at call w) w)
-    c.in_ok-emits.emits c.items.result.now at c.args.out.now c.emit_all.new.out c.in_ok-emits.ensures c.items.ensures)
-    c.emit_all.ensures.err
+    c.in_ok-emits.emits c.items.result.now at c.args.out.now c.emit_all-done.new.out c.in_ok-emits.ensures c.items.ensures)
+    c.emit_all-done.ensures.err

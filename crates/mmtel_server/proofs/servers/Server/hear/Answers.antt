@@ -22,16 +22,16 @@ returns-in-Ok-clause-err c = on_err_weaker c.answer.result (λ breaks.
     c.answer.ensures.err
 
 pub returns-in-Err-Full-clause-done : goal.returns-in-Err-Full-clause-done
-returns-in-Err-Full-clause-done c = on_ok_weaker c.turn_away.result (λ follows.
+returns-in-Err-Full-clause-done c = on_ok_weaker c.turn_away-done.result (λ follows.
     let m = c.heard.inside in
-    subst (λ (x : Said). Follows c.args.self.now c.args.out.now c.turn_away.new.self c.turn_away.new.out (λ d token. told d token c.args.at x)) c.heard.view_is
-    (full_done c.args.self.now c.hear.new.self c.turn_away.new.self c.args.out.now c.turn_away.new.out c.args.at m.peer m.source m.trusted m.message c.in-Err-Full.message c.in-Err-Full.field-0
+    subst (λ (x : Said). Follows c.args.self.now c.args.out.now c.turn_away-done.new.self c.turn_away-done.new.out (λ d token. told d token c.args.at x)) c.heard.view_is
+    (full_done c.args.self.now c.hear.new.self c.turn_away-done.new.self c.args.out.now c.turn_away-done.new.out c.args.at m.peer m.source m.trusted m.message c.in-Err-Full.message c.in-Err-Full.field-0
     c.in-Err-Full.ensures.refused c.in-Err-Full.field-0-is follows))
-    c.turn_away.ensures.done
+    c.turn_away-done.ensures.done
 
 pub returns-in-Err-Full-clause-err : goal.returns-in-Err-Full-clause-err
-returns-in-Err-Full-clause-err c = stops_on c.turn_away.result (λ d token. told d token c.args.at c.args.heard) c.args.self.now c.args.out.now c.turn_away.new.out
-    (λ d token w. told_grows c.numbers_are_drawn_on.ensures d token c.args.at c.args.heard w) c.turn_away.ensures.err
+returns-in-Err-Full-clause-err c = stops_on c.turn_away-done.result (λ d token. told d token c.args.at c.args.heard) c.args.self.now c.args.out.now c.turn_away-done.new.out
+    (λ d token w. told_grows c.numbers_are_drawn_on.ensures d token c.args.at c.args.heard w) c.turn_away-done.ensures.err
 
 pub returns-in-Err-NoMemory-clause-err : goal.returns-in-Err-NoMemory-clause-err
 returns-in-Err-NoMemory-clause-err c = stops (λ d token. told d token c.args.at c.args.heard) c.args.self.now c.args.out.now c.args.out.now

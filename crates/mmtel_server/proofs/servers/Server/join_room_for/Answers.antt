@@ -34,22 +34,22 @@ returns-in_err-seated-clause-err c = on_err c.from_residual-in_err-seated.result
     (λ d token w. room_joins_grows c.numbers_are_drawn_on.ensures d token c.args.at c.args.key c.args.invite.now c.args.room c.args.tag.now (access c.args.room.0 (rooms_in d w).live) w) refl)
 
 pub returns-in-Ok-clause-done : goal.returns-in-Ok-clause-done
-returns-in-Ok-clause-done c = on_ok_weaker c.emit_all.result (λ follows.
-    joined_so c.args.self.now (Follows c.args.self.now c.args.out.now c.emit_all.new.self c.emit_all.new.out) (follows_reads c.args.self.now c.args.out.now c.emit_all.new.self c.emit_all.new.out) c.args.at
+returns-in-Ok-clause-done c = on_ok_weaker c.emit_all-done.result (λ follows.
+    joined_so c.args.self.now (Follows c.args.self.now c.args.out.now c.emit_all-done.new.self c.emit_all-done.new.out) (follows_reads c.args.self.now c.args.out.now c.emit_all-done.new.self c.emit_all-done.new.out) c.args.at
     c.args.room c.args.key c.args.invite.now c.args.tag.now c.in_ok-leg.leg c.in_ok-account.account
     (c.in_ok-leg.ensures ∙ ap (λ (t : List ℕ). leg_by t c.args.invite.now) c.in_ok-copied.ensures.copy) c.in_ok-account.ensures.account (ok_of (λ emits. IsOk (access c.args.room.0 c.args.self.now.rooms.table.live)) c.in_ok-seated.seated c.in-Ok.emits c.in-Ok.is c.in_ok-seated.ensures.free)
     (housed_follows (λ d token w. Joins c.args.room.0 (record { at = c.args.at; tokens = tokens_now token w; leg = released.Caller c.in_ok-leg.leg; account = c.in_ok-account.account; key = c.args.key; invite = c.args.invite.now }))
-    c.args.self.now c.seat_leg.new.self c.in-Ok.emits c.items.result.now c.args.at c.args.out.now c.emit_all.new.out c.items.ensures (ok_of (RoomsDo c.args.self.now c.seat_leg.new.self (λ d token w. Joins c.args.room.0 (record { at = c.args.at; tokens = tokens_now token w; leg = released.Caller c.in_ok-leg.leg; account = c.in_ok-account.account; key = c.args.key; invite = c.args.invite.now }))) c.in_ok-seated.seated c.in-Ok.emits c.in-Ok.is c.in_ok-seated.ensures.seated) c.emit_all.new.self follows))
-    c.emit_all.ensures.done
+    c.args.self.now c.seat_leg.new.self c.in-Ok.emits c.items.result.now c.args.at c.args.out.now c.emit_all-done.new.out c.items.ensures (ok_of (RoomsDo c.args.self.now c.seat_leg.new.self (λ d token w. Joins c.args.room.0 (record { at = c.args.at; tokens = tokens_now token w; leg = released.Caller c.in_ok-leg.leg; account = c.in_ok-account.account; key = c.args.key; invite = c.args.invite.now }))) c.in_ok-seated.seated c.in-Ok.emits c.in-Ok.is c.in_ok-seated.ensures.seated) c.emit_all-done.new.self follows))
+    c.emit_all-done.ensures.done
 
 pub returns-in-Ok-clause-err : goal.returns-in-Ok-clause-err
-returns-in-Ok-clause-err c = on_err_weaker c.emit_all.result (λ breaks.
-    joined_so c.args.self.now (Breaks c.args.self.now c.args.out.now c.emit_all.new.out) (breaks_reads c.args.self.now c.args.out.now c.emit_all.new.out) c.args.at
+returns-in-Ok-clause-err c = on_err_weaker c.emit_all-done.result (λ breaks.
+    joined_so c.args.self.now (Breaks c.args.self.now c.args.out.now c.emit_all-done.new.out) (breaks_reads c.args.self.now c.args.out.now c.emit_all-done.new.out) c.args.at
     c.args.room c.args.key c.args.invite.now c.args.tag.now c.in_ok-leg.leg c.in_ok-account.account
     (c.in_ok-leg.ensures ∙ ap (λ (t : List ℕ). leg_by t c.args.invite.now) c.in_ok-copied.ensures.copy) c.in_ok-account.ensures.account (ok_of (λ emits. IsOk (access c.args.room.0 c.args.self.now.rooms.table.live)) c.in_ok-seated.seated c.in-Ok.emits c.in-Ok.is c.in_ok-seated.ensures.free)
     (housed_breaks (λ d token w. Joins c.args.room.0 (record { at = c.args.at; tokens = tokens_now token w; leg = released.Caller c.in_ok-leg.leg; account = c.in_ok-account.account; key = c.args.key; invite = c.args.invite.now }))
-    c.args.self.now c.seat_leg.new.self c.in-Ok.emits c.items.result.now c.args.at c.args.out.now c.emit_all.new.out c.items.ensures (ok_of (RoomsDo c.args.self.now c.seat_leg.new.self (λ d token w. Joins c.args.room.0 (record { at = c.args.at; tokens = tokens_now token w; leg = released.Caller c.in_ok-leg.leg; account = c.in_ok-account.account; key = c.args.key; invite = c.args.invite.now }))) c.in_ok-seated.seated c.in-Ok.emits c.in-Ok.is c.in_ok-seated.ensures.seated) breaks))
-    c.emit_all.ensures.err
+    c.args.self.now c.seat_leg.new.self c.in-Ok.emits c.items.result.now c.args.at c.args.out.now c.emit_all-done.new.out c.items.ensures (ok_of (RoomsDo c.args.self.now c.seat_leg.new.self (λ d token w. Joins c.args.room.0 (record { at = c.args.at; tokens = tokens_now token w; leg = released.Caller c.in_ok-leg.leg; account = c.in_ok-account.account; key = c.args.key; invite = c.args.invite.now }))) c.in_ok-seated.seated c.in-Ok.emits c.in-Ok.is c.in_ok-seated.ensures.seated) breaks))
+    c.emit_all-done.ensures.err
 
 pub returns-in-Err-clause-done : goal.returns-in-Err-clause-done
 returns-in-Err-clause-done c = on_ok_weaker c.turn_from_room.result (λ follows.

@@ -8,4 +8,4 @@ returns-in-None c = named_none c.args.self.now c.args.message.now.heard c.in_ok-
 
 pub returns-in-Some : goal.returns-in-Some
 returns-in-Some c =
-    named c.args.self.now c.args.message.now.heard c.in_ok-name.name c.in-Some.name (option_map holder_of c.holder.result) c.in_ok-name.ensures.name c.in-Some.is c.holder.ensures
+    named c.args.self.now c.args.message.now.heard c.in_ok-name.name c.in-Some.name (option_map holder_of c.holder-holder.result) c.in_ok-name.ensures.name c.in-Some.is c.holder-holder.ensures

@@ -1,6 +1,4 @@
-use Rattle.std.proofs.Common.{List, ℕ, false, ap, refl, sym, ◌∙◌, append-nil}
-use Rattle.mmtel_b2bua.specs.Histories.{CallsView}
-use Rattle.mmtel_b2bua.specs.Tables.{no_calls}
+use Rattle.std.proofs.Common.{refl, sym, ap, append-nil}
 use Rattle.mmtel_server_decisions.specs.Arming.{queue_of}
 use Rattle.mmtel_server.proofs.servers.Server.new.Goals as goal
 
@@ -11,19 +9,18 @@ returns-clause-begins c before = record {
   did = record {
     stands = record {
       directory_same = refl;
-      tokens = c.new-3.ensures;
-      transactions = c.new-4.ensures.stands;
+      tokens = c.new.ensures;
+      transactions = c.new-2.ensures.stands;
       clock = c.first_moment.ensures;
       steps = refl;
-      texts = c.in_ok-records.ensures.texts;
-      registered = c.in_ok-records.ensures.registered;
-      calls = c.in_ok-calls.ensures
-          ∙ ap (λ (home : List ℕ). let calls : CallsView = record { sip = c.args.directory.sip; home = home; bound = c.args.directory.bound; table = no_calls; has_failed = false } in calls) c.in_ok-home.ensures.copy;
-      rooms = c.in-Ok.ensures.rooms;
-      waiting = c.new-6.ensures;
+      texts = c.in-Ok.ensures.texts;
+      registered = c.in-Ok.ensures.registered;
+      calls = c.in-Ok-none_yet.ensures.calls;
+      rooms = c.in-Ok-none_yet.ensures.rooms;
+      waiting = c.new-4.ensures;
       drained = refl;
       cleared = refl;
-      armed = ap queue_of c.new-5.ensures;
+      armed = ap queue_of c.new-3.ensures;
       whole = refl;
     };
     offered = sym (append-nil before);

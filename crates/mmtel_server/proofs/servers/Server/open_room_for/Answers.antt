@@ -32,22 +32,22 @@ returns-in_err-made-clause-err c = on_err c.from_residual-in_err-made.result _
     (λ d token w. room_opens_grows c.numbers_are_drawn_on.ensures d token c.args.at c.args.key c.args.invite.now c.args.tag.now (has_no_room (rooms_in d w).live) w) refl)
 
 pub returns-in-Some-clause-done : goal.returns-in-Some-clause-done
-returns-in-Some-clause-done c = on_ok_weaker c.emit_all.result (λ follows.
-    opened_so c.args.self.now (Follows c.args.self.now c.args.out.now c.emit_all.new.self c.emit_all.new.out) (follows_reads c.args.self.now c.args.out.now c.emit_all.new.self c.emit_all.new.out) c.args.at
+returns-in-Some-clause-done c = on_ok_weaker c.emit_all-done.result (λ follows.
+    opened_so c.args.self.now (Follows c.args.self.now c.args.out.now c.emit_all-done.new.self c.emit_all-done.new.out) (follows_reads c.args.self.now c.args.out.now c.emit_all-done.new.self c.emit_all-done.new.out) c.args.at
     c.args.key c.args.invite.now c.args.tag.now c.in_ok-leg.leg c.in_ok-account.account
     (c.in_ok-leg.ensures ∙ ap (λ (t : List ℕ). leg_by t c.args.invite.now) c.in_ok-copied.ensures.copy) c.in_ok-account.ensures.account (some_of (λ emits. has_no_room c.args.self.now.rooms.table.live ≡ false) c.in_ok-made.made c.in-Some.emits c.in-Some.is c.in_ok-made.ensures.free)
     (lodged_follows (λ d token w. Opens (coming c.args.at c.in_ok-leg.leg c.in_ok-account.account c.args.key c.args.invite.now)) c.args.self.now c.create_room.new.self c.in-Some.emits c.items.result.now c.args.at
-    c.args.out.now c.emit_all.new.out c.items.ensures (some_of (RoomsOpen c.args.self.now c.create_room.new.self (λ d token w. Opens (coming c.args.at c.in_ok-leg.leg c.in_ok-account.account c.args.key c.args.invite.now))) c.in_ok-made.made c.in-Some.emits c.in-Some.is c.in_ok-made.ensures.opened) c.emit_all.new.self follows))
-    c.emit_all.ensures.done
+    c.args.out.now c.emit_all-done.new.out c.items.ensures (some_of (RoomsOpen c.args.self.now c.create_room.new.self (λ d token w. Opens (coming c.args.at c.in_ok-leg.leg c.in_ok-account.account c.args.key c.args.invite.now))) c.in_ok-made.made c.in-Some.emits c.in-Some.is c.in_ok-made.ensures.opened) c.emit_all-done.new.self follows))
+    c.emit_all-done.ensures.done
 
 pub returns-in-Some-clause-err : goal.returns-in-Some-clause-err
-returns-in-Some-clause-err c = on_err_weaker c.emit_all.result (λ breaks.
-    opened_so c.args.self.now (Breaks c.args.self.now c.args.out.now c.emit_all.new.out) (breaks_reads c.args.self.now c.args.out.now c.emit_all.new.out) c.args.at
+returns-in-Some-clause-err c = on_err_weaker c.emit_all-done.result (λ breaks.
+    opened_so c.args.self.now (Breaks c.args.self.now c.args.out.now c.emit_all-done.new.out) (breaks_reads c.args.self.now c.args.out.now c.emit_all-done.new.out) c.args.at
     c.args.key c.args.invite.now c.args.tag.now c.in_ok-leg.leg c.in_ok-account.account
     (c.in_ok-leg.ensures ∙ ap (λ (t : List ℕ). leg_by t c.args.invite.now) c.in_ok-copied.ensures.copy) c.in_ok-account.ensures.account (some_of (λ emits. has_no_room c.args.self.now.rooms.table.live ≡ false) c.in_ok-made.made c.in-Some.emits c.in-Some.is c.in_ok-made.ensures.free)
     (lodged_breaks (λ d token w. Opens (coming c.args.at c.in_ok-leg.leg c.in_ok-account.account c.args.key c.args.invite.now)) c.args.self.now c.create_room.new.self c.in-Some.emits c.items.result.now c.args.at
-    c.args.out.now c.emit_all.new.out c.items.ensures (some_of (RoomsOpen c.args.self.now c.create_room.new.self (λ d token w. Opens (coming c.args.at c.in_ok-leg.leg c.in_ok-account.account c.args.key c.args.invite.now))) c.in_ok-made.made c.in-Some.emits c.in-Some.is c.in_ok-made.ensures.opened) breaks))
-    c.emit_all.ensures.err
+    c.args.out.now c.emit_all-done.new.out c.items.ensures (some_of (RoomsOpen c.args.self.now c.create_room.new.self (λ d token w. Opens (coming c.args.at c.in_ok-leg.leg c.in_ok-account.account c.args.key c.args.invite.now))) c.in_ok-made.made c.in-Some.emits c.in-Some.is c.in_ok-made.ensures.opened) breaks))
+    c.emit_all-done.ensures.err
 
 pub returns-in-None-clause-done : goal.returns-in-None-clause-done
 returns-in-None-clause-done c = on_ok_weaker c.turn_from_room.result (λ follows.

@@ -11,11 +11,11 @@ returns-in_err-emits-clause-err c = on_err c.from_residual.result _
     (λ d token w. seats c.numbers_are_drawn_on.ensures d token c.args.at c.args.signal w) refl)
 
 pub returns-clause-done : goal.returns-clause-done
-returns-clause-done c = on_ok_weaker c.emit_all.result (λ follows.
-    housed_follows (λ d token w. heard_in_rooms token c.args.at c.args.signal w) c.args.self.now c.tell_rooms.new.self c.in_ok-emits.emits c.items.result.now c.args.at c.args.out.now c.emit_all.new.out
-    c.items.ensures c.in_ok-emits.ensures c.emit_all.new.self follows) c.emit_all.ensures.done
+returns-clause-done c = on_ok_weaker c.emit_all-done.result (λ follows.
+    housed_follows (λ d token w. heard_in_rooms token c.args.at c.args.signal w) c.args.self.now c.tell_rooms.new.self c.in_ok-emits.emits c.items.result.now c.args.at c.args.out.now c.emit_all-done.new.out
+    c.items.ensures c.in_ok-emits.ensures c.emit_all-done.new.self follows) c.emit_all-done.ensures.done
 
 pub returns-clause-err : goal.returns-clause-err
-returns-clause-err c = on_err_weaker c.emit_all.result (λ breaks.
-    housed_breaks (λ d token w. heard_in_rooms token c.args.at c.args.signal w) c.args.self.now c.tell_rooms.new.self c.in_ok-emits.emits c.items.result.now c.args.at c.args.out.now c.emit_all.new.out
-    c.items.ensures c.in_ok-emits.ensures breaks) c.emit_all.ensures.err
+returns-clause-err c = on_err_weaker c.emit_all-done.result (λ breaks.
+    housed_breaks (λ d token w. heard_in_rooms token c.args.at c.args.signal w) c.args.self.now c.tell_rooms.new.self c.in_ok-emits.emits c.items.result.now c.args.at c.args.out.now c.emit_all-done.new.out
+    c.items.ensures c.in_ok-emits.ensures breaks) c.emit_all-done.ensures.err

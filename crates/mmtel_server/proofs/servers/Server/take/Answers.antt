@@ -9,14 +9,14 @@ use Rattle.mmtel_server.proofs.servers.Server.take.Goals as goal
 use Rattle.mmtel_server.specs.Follows.{Breaks, Follows}
 
 pub returns-in-Refuse-clause-done : goal.returns-in-Refuse-clause-done
-returns-in-Refuse-clause-done c = subst (λ (x : Course). OnOk c.replying.result
-    (Follows c.args.self.now c.args.out.now c.replying.new.self c.replying.new.out (λ d token. taking d token c.args.at c.args.key c.args.request (course_in x))))
-    (sym c.in-Refuse.is) c.replying.ensures.done
+returns-in-Refuse-clause-done c = subst (λ (x : Course). OnOk c.replying-done.result
+    (Follows c.args.self.now c.args.out.now c.replying-done.new.self c.replying-done.new.out (λ d token. taking d token c.args.at c.args.key c.args.request (course_in x))))
+    (sym c.in-Refuse.is) c.replying-done.ensures.done
 
 pub returns-in-Refuse-clause-err : goal.returns-in-Refuse-clause-err
-returns-in-Refuse-clause-err c = stops_on c.replying.result
-    (λ d token. taking d token c.args.at c.args.key c.args.request (course_in c.args.course)) c.args.self.now c.args.out.now c.replying.new.out
-    (λ d token w. takes c.numbers_are_drawn_on.ensures d token c.args.at c.args.key c.args.request (course_in c.args.course) w) c.replying.ensures.err
+returns-in-Refuse-clause-err c = stops_on c.replying-done.result
+    (λ d token. taking d token c.args.at c.args.key c.args.request (course_in c.args.course)) c.args.self.now c.args.out.now c.replying-done.new.out
+    (λ d token w. takes c.numbers_are_drawn_on.ensures d token c.args.at c.args.key c.args.request (course_in c.args.course) w) c.replying-done.ensures.err
 
 pub returns-in-Enter-clause-done : goal.returns-in-Enter-clause-done
 returns-in-Enter-clause-done c = subst (λ (x : Course). OnOk c.signal.result
@@ -40,14 +40,14 @@ returns-in-Open-clause-err c = subst (λ (x : Course). OnErr c.open.result
     (Breaks c.args.self.now c.args.out.now c.open.new.out (λ d token. taking d token c.args.at c.args.key c.args.request (course_in x)))) (sym c.in-Open.is) c.open.ensures.err
 
 pub returns-in-Register-clause-done : goal.returns-in-Register-clause-done
-returns-in-Register-clause-done c = subst (λ (x : Course). OnOk c.register.result
-    (Follows c.args.self.now c.args.out.now c.register.new.self c.register.new.out (λ d token. taking d token c.args.at c.args.key c.args.request (course_in x))))
-    (sym c.in-Register.is) c.register.ensures.done
+returns-in-Register-clause-done c = subst (λ (x : Course). OnOk c.register-done.result
+    (Follows c.args.self.now c.args.out.now c.register-done.new.self c.register-done.new.out (λ d token. taking d token c.args.at c.args.key c.args.request (course_in x))))
+    (sym c.in-Register.is) c.register-done.ensures.done
 
 pub returns-in-Register-clause-err : goal.returns-in-Register-clause-err
-returns-in-Register-clause-err c = stops_on c.register.result
-    (λ d token. taking d token c.args.at c.args.key c.args.request (course_in c.args.course)) c.args.self.now c.args.out.now c.register.new.out
-    (λ d token w. takes c.numbers_are_drawn_on.ensures d token c.args.at c.args.key c.args.request (course_in c.args.course) w) c.register.ensures.err
+returns-in-Register-clause-err c = stops_on c.register-done.result
+    (λ d token. taking d token c.args.at c.args.key c.args.request (course_in c.args.course)) c.args.self.now c.args.out.now c.register-done.new.out
+    (λ d token w. takes c.numbers_are_drawn_on.ensures d token c.args.at c.args.key c.args.request (course_in c.args.course) w) c.register-done.ensures.err
 
 pub returns-in-EnterRoom-clause-done : goal.returns-in-EnterRoom-clause-done
 returns-in-EnterRoom-clause-done c = subst (λ (x : Course). OnOk c.enter_room.result
@@ -58,26 +58,26 @@ pub returns-in-EnterRoom-clause-err : goal.returns-in-EnterRoom-clause-err
 returns-in-EnterRoom-clause-err c = subst (λ (x : Course). OnErr c.enter_room.result
     (Breaks c.args.self.now c.args.out.now c.enter_room.new.out (λ d token. taking d token c.args.at c.args.key c.args.request (course_in x)))) (sym c.in-EnterRoom.is) c.enter_room.ensures.err
 
-pub open_room-requires : goal.open_room-requires
-open_room-requires c = c.requires.audio (ap (λ (x : Course). is_for_room (course_in x)) c.in-OpenRoom.is)
+pub open_room-done-requires : goal.open_room-done-requires
+open_room-done-requires c = c.requires.audio (ap (λ (x : Course). is_for_room (course_in x)) c.in-OpenRoom.is)
 
 pub returns-in-OpenRoom-clause-done : goal.returns-in-OpenRoom-clause-done
-returns-in-OpenRoom-clause-done c = subst (λ (x : Course). OnOk c.open_room.result
-    (Follows c.args.self.now c.args.out.now c.open_room.new.self c.open_room.new.out (λ d token. taking d token c.args.at c.args.key c.args.request (course_in x))))
-    (sym c.in-OpenRoom.is) c.open_room.ensures.done
+returns-in-OpenRoom-clause-done c = subst (λ (x : Course). OnOk c.open_room-done.result
+    (Follows c.args.self.now c.args.out.now c.open_room-done.new.self c.open_room-done.new.out (λ d token. taking d token c.args.at c.args.key c.args.request (course_in x))))
+    (sym c.in-OpenRoom.is) c.open_room-done.ensures.done
 
 pub returns-in-OpenRoom-clause-err : goal.returns-in-OpenRoom-clause-err
-returns-in-OpenRoom-clause-err c = subst (λ (x : Course). OnErr c.open_room.result
-    (Breaks c.args.self.now c.args.out.now c.open_room.new.out (λ d token. taking d token c.args.at c.args.key c.args.request (course_in x)))) (sym c.in-OpenRoom.is) c.open_room.ensures.err
+returns-in-OpenRoom-clause-err c = subst (λ (x : Course). OnErr c.open_room-done.result
+    (Breaks c.args.self.now c.args.out.now c.open_room-done.new.out (λ d token. taking d token c.args.at c.args.key c.args.request (course_in x)))) (sym c.in-OpenRoom.is) c.open_room-done.ensures.err
 
-pub join_room-requires : goal.join_room-requires
-join_room-requires c = c.requires.audio (ap (λ (x : Course). is_for_room (course_in x)) c.in-JoinRoom.is)
+pub join_room-done-requires : goal.join_room-done-requires
+join_room-done-requires c = c.requires.audio (ap (λ (x : Course). is_for_room (course_in x)) c.in-JoinRoom.is)
 
 pub returns-in-JoinRoom-clause-done : goal.returns-in-JoinRoom-clause-done
-returns-in-JoinRoom-clause-done c = subst (λ (x : Course). OnOk c.join_room.result
-    (Follows c.args.self.now c.args.out.now c.join_room.new.self c.join_room.new.out (λ d token. taking d token c.args.at c.args.key c.args.request (course_in x))))
-    (sym c.in-JoinRoom.is) c.join_room.ensures.done
+returns-in-JoinRoom-clause-done c = subst (λ (x : Course). OnOk c.join_room-done.result
+    (Follows c.args.self.now c.args.out.now c.join_room-done.new.self c.join_room-done.new.out (λ d token. taking d token c.args.at c.args.key c.args.request (course_in x))))
+    (sym c.in-JoinRoom.is) c.join_room-done.ensures.done
 
 pub returns-in-JoinRoom-clause-err : goal.returns-in-JoinRoom-clause-err
-returns-in-JoinRoom-clause-err c = subst (λ (x : Course). OnErr c.join_room.result
-    (Breaks c.args.self.now c.args.out.now c.join_room.new.out (λ d token. taking d token c.args.at c.args.key c.args.request (course_in x)))) (sym c.in-JoinRoom.is) c.join_room.ensures.err
+returns-in-JoinRoom-clause-err c = subst (λ (x : Course). OnErr c.join_room-done.result
+    (Breaks c.args.self.now c.args.out.now c.join_room-done.new.out (λ d token. taking d token c.args.at c.args.key c.args.request (course_in x)))) (sym c.in-JoinRoom.is) c.join_room-done.ensures.err

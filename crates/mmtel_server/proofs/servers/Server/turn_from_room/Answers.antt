@@ -10,7 +10,7 @@ use Rattle.mmtel_server.proofs.Asked.{follows_so}
 use Rattle.mmtel_server.proofs.servers.Server.turn_from_room.Goals as goal
 
 pub returns-clause-done : goal.returns-clause-done
-returns-clause-done c = on_ok_weaker c.reply.result (λ follows.
+returns-clause-done c = on_ok_weaker c.reply-done.result (λ follows.
     let s = c.args.self.now in
     let said = c.args.invite.now in
     follows_so c.in_ok-response.response (λ d w. response_to d.sip c.args.tag.now said (plainly c.args.code)) (λ (m : Message Start) d token. emit_one c.args.at (emit.Reply c.args.key m)) s c.args.out.now
@@ -18,5 +18,5 @@ returns-clause-done c = on_ok_weaker c.reply.result (λ follows.
     c.in_ok-response.ensures.message
     ∙ (ap (λ (a : Answer). response_to s.directory.sip c.args.tag.now said a) c.plainly.ensures.answer
     ∙ ap (λ (x : Directory). response_to x.sip c.args.tag.now said (plainly c.args.code)) have.directory_same))
-    c.reply.new.self c.reply.new.out follows)
-    c.reply.ensures.done
+    c.reply-done.new.self c.reply-done.new.out follows)
+    c.reply-done.ensures.done

@@ -1,0 +1,136 @@
+-- What stands at the places of two alike lists of calls.
+use Rattle.std.proofs.Common.{◌≡◌, ℕ, zero, suc, ◌+◌, Bool, not, List, [], ◌∷◌, ◌++◌, refl, ap, ◌∙◌, cond, length, subst, take, drop, Option, Some, None}
+use Rattle.std.specs.Prelude.{count_by, flat_map, fold, nat_lt, position, remove, slice_get, slice_set}
+use Rattle.std.specs.List.{prefix_len}
+use Rattle.mmtel_sheet_values.specs.declared.values.Sheet.{Sheet}
+use Rattle.mmtel_types.specs.declared.numbers.Account.{Account}
+use Rattle.mmtel_types.specs.declared.numbers.Peer.{Peer}
+use Rattle.mmtel_b2bua.specs.declared.entries.Entry.{Entry}
+use Rattle.mmtel_call_laws.specs.Secret.Kept.{IsKept}
+use Rattle.mmtel_call_laws.specs.Secret.Seen.{Trust}
+use Rattle.mmtel_b2bua_laws.specs.Alike.{AlikeEntries, AlikeEntry, AreKept}
+
+-- where one is found, if so many are tried of so many
+abbrev found_at : (tried long : ℕ) → Option ℕ
+found_at tried long = cond (nat_lt tried long) (Some tried) None
+
+same_entry : (x e : Entry) → Some x ≡ Some e → x ≡ e
+same_entry x e is = cc
+
+module _ (records : List Sheet) (known : Peer → Bool) where
+  abbrev pub Alike : (es fs : List Entry) → Type 0
+  Alike = λ es fs. AlikeEntries records known es fs
+
+  -- both or neither stands there, and they are alike
+  abbrev pub AlikeAt : (one other : Option Entry) → Type 0
+  AlikeAt None None = Unit {0}
+  AlikeAt None (Some f) = ⊥
+  AlikeAt (Some e) None = ⊥
+  AlikeAt (Some e) (Some f) = AlikeEntry records known e f
+
+  pub get-alike : (es fs : List Entry) → Alike es fs → (at : ℕ) → AlikeAt (slice_get es at) (slice_get fs at)
+  get-alike [] [] a at = tt
+  get-alike [] (f ∷ fs) a at = absurd a
+  get-alike (e ∷ es) [] a at = absurd a
+  get-alike (e ∷ es) (f ∷ fs) a zero = a.0
+  get-alike (e ∷ es) (f ∷ fs) a (suc at) = get-alike es fs a.1 at
+
+  pub set-alike : (es fs : List Entry) → Alike es fs → (at : ℕ) (x y : Entry) → AlikeEntry records known x y → Alike (slice_set es at x) (slice_set fs at y)
+  set-alike [] [] a at x y b = tt
+  set-alike [] (f ∷ fs) a at x y b = absurd a
+  set-alike (e ∷ es) [] a at x y b = absurd a
+  set-alike (e ∷ es) (f ∷ fs) a zero x y b = (b, a.1)
+  set-alike (e ∷ es) (f ∷ fs) a (suc at) x y b = (a.0, set-alike es fs a.1 at x y b)
+
+  pub append-alike : (es fs gs hs : List Entry) → Alike es fs → Alike gs hs → Alike (es ++ gs) (fs ++ hs)
+  append-alike [] [] gs hs a b = b
+  append-alike [] (f ∷ fs) gs hs a b = absurd a
+  append-alike (e ∷ es) [] gs hs a b = absurd a
+  append-alike (e ∷ es) (f ∷ fs) gs hs a b = (a.0, append-alike es fs gs hs a.1 b)
+
+  take-alike : (n : ℕ) (es fs : List Entry) → Alike es fs → Alike (take n es) (take n fs)
+  take-alike zero es fs a = tt
+  take-alike (suc n) [] [] a = tt
+  take-alike (suc n) [] (f ∷ fs) a = absurd a
+  take-alike (suc n) (e ∷ es) [] a = absurd a
+  take-alike (suc n) (e ∷ es) (f ∷ fs) a = (a.0, take-alike n es fs a.1)
+
+  drop-alike : (n : ℕ) (es fs : List Entry) → Alike es fs → Alike (drop n es) (drop n fs)
+  drop-alike zero es fs a = a
+  drop-alike (suc n) [] [] a = tt
+  drop-alike (suc n) [] (f ∷ fs) a = absurd a
+  drop-alike (suc n) (e ∷ es) [] a = absurd a
+  drop-alike (suc n) (e ∷ es) (f ∷ fs) a = drop-alike n es fs a.1
+
+  pub remove-alike : (es fs : List Entry) → Alike es fs → (at : ℕ) → Alike (remove es at) (remove fs at)
+  remove-alike es fs a at = append-alike (take at es) (take at fs) (drop (suc at) es) (drop (suc at) fs) (take-alike at es fs a) (drop-alike (suc at) es fs a)
+
+  -- ---- a test that alike calls pass alike
+
+  abbrev pub TestsAlike : {A : Type 0} → (p q : Entry → A) → Type 0
+  TestsAlike p q = (e f : Entry) → AlikeEntry records known e f → p e ≡ q f
+
+  long : (es fs : List Entry) → Alike es fs → length es ≡ length fs
+  long [] [] a = refl
+  long [] (f ∷ fs) a = absurd a
+  long (e ∷ es) [] a = absurd a
+  long (e ∷ es) (f ∷ fs) a = ap suc (long es fs a.1)
+
+  tried : (p q : Entry → Bool) → TestsAlike p q → (es fs : List Entry) → Alike es fs → prefix_len (λ x. not (p x)) es ≡ prefix_len (λ x. not (q x)) fs
+  tried p q same [] [] a = refl
+  tried p q same [] (f ∷ fs) a = absurd a
+  tried p q same (e ∷ es) [] a = absurd a
+  tried p q same (e ∷ es) (f ∷ fs) a =
+      ap (λ (b : Bool). cond (not b) (1 + prefix_len (λ x. not (p x)) es) 0) (same e f a.0)
+      ∙ ap (λ (n : ℕ). cond (not (q f)) (1 + n) 0) (tried p q same es fs a.1)
+
+  pub position-same : (p q : Entry → Bool) → TestsAlike p q → (es fs : List Entry) → Alike es fs → position p es ≡ position q fs
+  position-same p q same es fs a =
+      ap (λ (n : ℕ). found_at n (length es)) (tried p q same es fs a)
+      ∙ ap (λ (n : ℕ). found_at (prefix_len (λ x. not (q x)) fs) n) (long es fs a)
+
+  pub gathered-same : (p q : Entry → List Account) → TestsAlike p q → (es fs : List Entry) → Alike es fs → flat_map p es ≡ flat_map q fs
+  gathered-same p q same [] [] a = refl
+  gathered-same p q same [] (f ∷ fs) a = absurd a
+  gathered-same p q same (e ∷ es) [] a = absurd a
+  gathered-same p q same (e ∷ es) (f ∷ fs) a = ap (λ (l : List Account). l ++ flat_map p es) (same e f a.0) ∙ ap (λ (l : List Account). q f ++ l) (gathered-same p q same es fs a.1)
+
+  counted : (p q : Entry → Bool) → TestsAlike p q → (n : ℕ) (es fs : List Entry) → Alike es fs → fold (λ a x. a + cond (p x) 1 0) n es ≡ fold (λ a x. a + cond (q x) 1 0) n fs
+  counted p q same n [] [] a = refl
+  counted p q same n [] (f ∷ fs) a = absurd a
+  counted p q same n (e ∷ es) [] a = absurd a
+  counted p q same n (e ∷ es) (f ∷ fs) a =
+      ap (λ (b : Bool). fold (λ a x. a + cond (p x) 1 0) (n + cond b 1 0) es) (same e f a.0) ∙ counted p q same (n + cond (q f) 1 0) es fs a.1
+
+  pub count-same : (p q : Entry → Bool) → TestsAlike p q → (es fs : List Entry) → Alike es fs → count_by p es ≡ count_by q fs
+  count-same p q same es fs a = counted p q same 0 es fs a
+
+-- ---- of one list, whose calls all keep what holds of them
+
+module _ (records : List Sheet) (t : Trust) where
+  pub get-kept : (es : List Entry) → AreKept records t es → (at : ℕ) (e : Entry) → slice_get es at ≡ Some e → IsKept records t e.call
+  get-kept [] k at e is = absurd cc
+  get-kept (x ∷ es) k zero e is = subst (λ (y : Entry). IsKept records t y.call) (same_entry x e is) k.0
+  get-kept (x ∷ es) k (suc at) e is = get-kept es k.1 at e is
+
+  pub set-kept : (es : List Entry) → AreKept records t es → (at : ℕ) (e : Entry) → IsKept records t e.call → AreKept records t (slice_set es at e)
+  set-kept [] k at e h = tt
+  set-kept (x ∷ es) k zero e h = (h, k.1)
+  set-kept (x ∷ es) k (suc at) e h = (k.0, set-kept es k.1 at e h)
+
+  pub append-kept : (es fs : List Entry) → AreKept records t es → AreKept records t fs → AreKept records t (es ++ fs)
+  append-kept [] fs k l = l
+  append-kept (e ∷ es) fs k l = (k.0, append-kept es fs k.1 l)
+
+  take-kept : (n : ℕ) (es : List Entry) → AreKept records t es → AreKept records t (take n es)
+  take-kept zero es k = tt
+  take-kept (suc n) [] k = tt
+  take-kept (suc n) (e ∷ es) k = (k.0, take-kept n es k.1)
+
+  drop-kept : (n : ℕ) (es : List Entry) → AreKept records t es → AreKept records t (drop n es)
+  drop-kept zero es k = k
+  drop-kept (suc n) [] k = tt
+  drop-kept (suc n) (e ∷ es) k = drop-kept n es k.1
+
+  pub remove-kept : (es : List Entry) → AreKept records t es → (at : ℕ) → AreKept records t (remove es at)
+  remove-kept es k at = append-kept (take at es) (drop (suc at) es) (take-kept at es k) (drop-kept (suc at) es k)

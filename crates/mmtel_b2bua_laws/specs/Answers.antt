@@ -1,0 +1,42 @@
+-- What is asked of alike tables of calls has the same answers: whose a dialog, an INVITE or a signal is, who a side is, how many calls an account has, and whether there is
+-- room for one more (RFC 3261 §9.2, §12.2.2).
+use Rattle.std.specs.Prelude.{◌≡◌, ℕ, Bool, Option, List, position}
+use Rattle.mmtel_sheet_values.specs.declared.values.Sheet.{Sheet}
+use Rattle.mmtel_transaction.specs.declared.words.TKey.{TKey}
+use Rattle.mmtel_types.specs.declared.numbers.Peer.{Peer}
+use Rattle.mmtel_types.specs.declared.sides.Side.{Side}
+use Rattle.mmtel_leg.specs.declared.legs.Released.{Released}
+use Rattle.mmtel_b2bua.specs.Entries.{heard_by, sent_it}
+use Rattle.mmtel_b2bua.specs.Lending.{entry_of, is_away, takes_back}
+use Rattle.mmtel_b2bua.specs.Names.{first_side, live, party, side_asking, side_named}
+use Rattle.mmtel_b2bua.specs.Tables.{Table, is_full}
+use Rattle.mmtel_b2bua.specs.declared.signals.Signal.{Signal}
+use Rattle.mmtel_call_laws.specs.Secret.Parts.{public_released}
+use Rattle.mmtel_call_laws.specs.Secret.Roles.{Role}
+use Rattle.mmtel_b2bua_laws.specs.Alike.{AlikeTables}
+use Rattle.mmtel_b2bua_laws.specs.Signals.{public_signal}
+
+pub record AlikeTablesAnswerAlike : Type 0 where
+  -- whose dialog this is, and whose INVITE opened this server transaction
+  pub named : (records : List Sheet) (known : Peer → Bool) (call_id local remote : List ℕ) (t u : Table) → AlikeTables records known t u →
+      first_side (side_named call_id local remote) t.entries ≡ first_side (side_named call_id local remote) u.entries
+  pub asked : (records : List Sheet) (known : Peer → Bool) (key : TKey) (t u : Table) → AlikeTables records known t u →
+      first_side (side_asking key) t.entries ≡ first_side (side_asking key) u.entries
+  -- the place of the call that sent this INVITE, and of that which heard this client transaction
+  pub sent : (records : List Sheet) (known : Peer → Bool) (branch : Option (List ℕ)) (t u : Table) → AlikeTables records known t u →
+      position (sent_it branch) t.entries ≡ position (sent_it branch) u.entries
+  pub heard : (records : List Sheet) (known : Peer → Bool) (key : TKey) (t u : Table) → AlikeTables records known t u →
+      position (heard_by key) t.entries ≡ position (heard_by key) u.entries
+  -- the peer of a side, and the account that is served there; how many calls an account has
+  pub sides : (records : List Sheet) (known : Peer → Bool) (number : ℕ) (side : Side) (t u : Table) → AlikeTables records known t u →
+      party number side t.entries ≡ party number side u.entries
+  pub lives : (records : List Sheet) (known : Peer → Bool) (account : ℕ) (t u : Table) → AlikeTables records known t u → live account t.entries ≡ live account u.entries
+  -- whether so many calls live that one more is refused
+  pub full : (records : List Sheet) (known : Peer → Bool) (role second : Role) (x y : Signal) (t u : Table) → AlikeTables records known t u →
+      public_signal role x ≡ public_signal second y → is_full x t.entries ≡ is_full y u.entries
+  -- whether a leg of the call of this number is away, and whether this one is of the side that is
+  pub away : (records : List Sheet) (known : Peer → Bool) (number : ℕ) (t u : Table) → AlikeTables records known t u →
+      is_away (entry_of number t.entries) ≡ is_away (entry_of number u.entries)
+  pub fits : (records : List Sheet) (known : Peer → Bool) (number : ℕ) (one other : Released) (t u : Table) → AlikeTables records known t u →
+      public_released known one ≡ public_released known other →
+      takes_back one (entry_of number t.entries) ≡ takes_back other (entry_of number u.entries)

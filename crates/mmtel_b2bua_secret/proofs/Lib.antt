@@ -1,7 +1,0 @@
-mod Places
-mod Told
-mod Keeping
-mod Moving
-mod Lent
-mod Staying
-mod Asked

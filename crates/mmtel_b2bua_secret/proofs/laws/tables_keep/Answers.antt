@@ -1,5 +1,0 @@
-use Rattle.mmtel_b2bua_secret.proofs.Keeping.{tables_keep}
-use Rattle.mmtel_b2bua_secret.proofs.laws.tables_keep.Goals as goal
-
-pub returns : goal.returns
-returns c = record { law = tables_keep c.what_calls_keep.ensures.law }

@@ -1,3 +1,0 @@
--- What the laws cite.
-pub mod Sent
-pub mod Laws

@@ -1,0 +1,867 @@
+-- Each row of the step table sends at most one INVITE, with a number that is drawn for it, and the INVITEs of the call were sent to their peers.
+use Rattle.std.proofs.Common.{◌≡◌, ◌<◌, ◌≤◌, ◌^◌, ◌+◌, ◌==◌, ◌&&◌, Bool, true, false, not, ℕ, zero, suc, List, [], ◌∷◌, ◌++◌, take, drop, map, Option, Some, None, refl, subst, inl, inr, arith, nat_lt, Result, Ok, Err, codes}
+use Rattle.std.specs.Prelude.{IfSome, if◌then◌else◌, option_to_list, position, slice_get}
+use Rattle.std.specs.Str.{bytes_eq}
+use Rattle.mmtel_answers.specs.Attempts.{alert_lines, invite_of}
+use Rattle.mmtel_answers.specs.Requests.{bare, bringing, cancel_of, relaying}
+use Rattle.mmtel_answers.specs.Said.{Said, status_of}
+use Rattle.mmtel_answers.specs.declared.attempts.Aim.{Aim}
+use Rattle.mmtel_charging.specs.Meters.{Noted}
+use Rattle.mmtel_call_decisions.specs.Decisions.{aim_at, decided_after, decided_at, handed_on, is_barred, is_status, its_sheet, peer_for, redirect_of, service_at, target_of, time_of}
+use Rattle.mmtel_call_decisions.specs.Invites.{invite_answered, invite_silent}
+use Rattle.mmtel_call_decisions.specs.Opening.{first_of, opening_of, refusal_of}
+use Rattle.mmtel_call_decisions.specs.Requests.{is_same_side}
+use Rattle.mmtel_call_decisions.specs.Showing.{shown_to}
+use Rattle.mmtel_call_decisions.specs.Site.{Site}
+use Rattle.mmtel_call_decisions.specs.declared.openings.Arrival.{Arrival}
+use Rattle.mmtel_call_decisions.specs.declared.openings.Service.{Service}
+use Rattle.mmtel_call.specs.Answered.{acked_across, acked_and_left, acknowledges, at_stage, bye_before_ack, bye_to, leg_of, parted, shown_across, unacknowledged, with_ack, with_leg}
+use Rattle.mmtel_call.specs.Closing.{Step, onward, over, over_stood, with_past}
+use Rattle.mmtel_call.specs.Diverting.{at_target, divert, diverted, goes_on, made, offer_where, on_end, on_turn, passed_by, reach, refused, refused_by, told_of, too_many, unless_barred}
+use Rattle.mmtel_call.specs.Leaving.{acked_again, answered_at, answered_loose, answered_other, answered_taken, answered_taken_at, as_loose, forked, is_fork, is_loose_key, is_success, is_taken, is_taken_key, is_talking, repeated, taken_again, with_rest, without, without_at, without_key, without_silent}
+use Rattle.mmtel_call.specs.Lending.{finished, finished_in}
+use Rattle.mmtel_call.specs.Offering.{dialog_of, longest_time, next_attempt, offer}
+use Rattle.mmtel_call.specs.Opening.{caller_of, new_call, opened, unless_refused}
+use Rattle.mmtel_call.specs.Reinvites.{agreed, asked_across, bye_to_both, bye_while_asking, cancelled_across, cancelled_if_due, cancelling, ends_dialog, having_invited, invited, loose_across, on_response_across, proceeding, proceeding_across, refused_back, relayed_back, silenced_across}
+use Rattle.mmtel_call.specs.Requests.{having_heard, is_bye, is_invite, says, unheard, unlisted}
+use Rattle.mmtel_call.specs.Ringing as ringing
+use Rattle.mmtel_call.specs.Ringing.{answered, armed, armed_in, callee_after, cancelled_attempt, early_said, failed, given_up, heard_by, left, loose, met_by, on_cancel, on_due, on_heard, on_request, on_request_if, on_response, says_offered, silenced, taken_by, timed_out, tried, with_loose}
+use Rattle.mmtel_call.specs.Sending.{relayed_to_caller, replied_to, told_caller, told_diversion}
+use Rattle.mmtel_call.specs.Stages.{busy_in, has_left, is_due_at, left_by, on_ack_at, on_bye, on_cancel_at, on_due_at, on_heard_at, on_invite, on_request_at, on_request_at_if, on_response_at, on_silence_at, rung_out}
+use Rattle.mmtel_call.specs.Table.{ack_in, answer_to, cancel_in, due_in, is_current, request_in, response_in, silence_in, silence_of, step}
+use Rattle.mmtel_call.specs.Tried.{TriedView}
+use Rattle.mmtel_call.specs.declared.calls.Attempt.{Attempt}
+use Rattle.mmtel_call.specs.declared.calls.Call.{Call}
+use Rattle.mmtel_call.specs.declared.calls.Pair.{Pair}
+use Rattle.mmtel_call.specs.declared.calls.Phase.{Phase}
+use Rattle.mmtel_call.specs.declared.calls.Phase.TheVariants.{Lent, Offered, Over, Stood}
+use Rattle.mmtel_call.specs.declared.calls.Reinvite.{Reinvite}
+use Rattle.mmtel_call.specs.declared.calls.Stage.{Stage}
+use Rattle.mmtel_call.specs.declared.calls.Stage.TheVariants.{Answered, Asking, Parting, Talking}
+use Rattle.mmtel_call.specs.declared.calls.Success.{Success}
+use Rattle.mmtel_call.specs.declared.calls.Taken.{Taken}
+use Rattle.mmtel_call.specs.declared.calls.Trial.{Trial}
+use Rattle.mmtel_call.specs.declared.signals.Signal.{Signal}
+use Rattle.mmtel_call.specs.declared.signals.Signal.TheVariants as signal
+use Rattle.mmtel_desk.specs.Desks.{drew, emitted, token}
+use Rattle.mmtel_desk.specs.Invitations.{has_said, is_cancellable, knows, once_cancelled}
+use Rattle.mmtel_desk.specs.Loose as left_ones
+use Rattle.mmtel_desk.specs.Loose.{Rest, ended_before, is_of, late_cancelled, on_success, on_success_in, told_late, with_invitation}
+use Rattle.mmtel_desk.specs.Sending.{acked, acked_for, ack_text, asked_for, bye, cancel_sent, cancelled, final_acked, relayed_ack_text}
+use Rattle.mmtel_desk.specs.declared.desks.Desk.{Desk}
+use Rattle.mmtel_desk.specs.declared.invitations.Invitation.{Invitation}
+use Rattle.mmtel_desk.specs.declared.invitations.Loose.{Loose}
+use Rattle.mmtel_leg.specs.Legs.{Leg}
+use Rattle.mmtel_leg.specs.Releases.{released_leg}
+use Rattle.mmtel_leg.specs.Remotes.{remote_of}
+use Rattle.mmtel_leg.specs.Requests.{Given, numbered, request_of}
+use Rattle.mmtel_leg.specs.declared.dialogues.Dialogue.{Dialogue}
+use Rattle.mmtel_leg.specs.declared.dialogues.DialogueFault.{DialogueFault}
+use Rattle.mmtel_leg.specs.declared.dialogues.DialogueFault.TheVariants.{OldCSeq, Pending, Unfinished}
+use Rattle.mmtel_leg.specs.declared.remotes.Remote.{Remote}
+use Rattle.mmtel_message.specs.Faults.{is_method}
+use Rattle.mmtel_message.specs.Message.{Line, Message}
+use Rattle.mmtel_message.specs.declared.messages.Start.{Start}
+use Rattle.mmtel_precedence.specs.Attempts.{end_by_final, end_by_time, rings}
+use Rattle.mmtel_precedence.specs.Calls.{End, NoReply, NotReachable, Standing}
+use Rattle.mmtel_precedence.specs.Services.{DueDiversion}
+use Rattle.mmtel_precedence.specs.Turns.{AfterEnd, EndAnswered, EndDivert, EndRefuse, Turn, TurnDivert, TurnOffer, TurnRefuse}
+use Rattle.mmtel_scan.specs.Numbers.{next_number, token_text}
+use Rattle.mmtel_targets.specs.declared.targets.Target.{Target}
+use Rattle.mmtel_transaction.specs.declared.words.DueWord.{DueWord}
+use Rattle.mmtel_transaction.specs.declared.words.DueWord.TheVariants as due
+use Rattle.mmtel_transaction.specs.declared.words.Emit.{Emit}
+use Rattle.mmtel_transaction.specs.declared.words.Emit.TheVariants as emit
+use Rattle.mmtel_transaction.specs.declared.words.TKey.{TKey}
+use Rattle.mmtel_trust.specs.Digest.{HeardMessage}
+use Rattle.mmtel_types.specs.Causes as of_causes
+use Rattle.mmtel_types.specs.Sides.{other_of}
+use Rattle.mmtel_types.specs.declared.causes.Cause.{Cause}
+use Rattle.mmtel_types.specs.declared.causes.Cause.TheVariants as causes
+use Rattle.mmtel_types.specs.declared.numbers.Peer.{Peer}
+use Rattle.mmtel_types.specs.declared.sides.Side.{Side}
+use Rattle.mmtel_types.specs.declared.sides.Side.TheVariants.{Caller, Callee}
+use Rattle.mmtel_call_laws.specs.Branches.Sent.{AreNumbered, CallWasSent, Each, InvitationWasSent, IsInvite, IsNoInvite, IsNumbered, LooseWasSent, OthersWereSent, PhaseWasSent, StageWasSent, TakenWasSent}
+
+-- ---- each of a list
+
+pub each_append : {A : Type 0} (P : A → Type 0) (xs ys : List A) → Each P xs → Each P ys → Each P (xs ++ ys)
+each_append P [] ys e f = f
+each_append P (x ∷ xs) ys e f = (e.0, each_append P xs ys e.1 f)
+
+each_first : {A : Type 0} (P : A → Type 0) (xs ys : List A) → Each P (xs ++ ys) → Each P xs
+each_first P [] ys e = tt
+each_first P (x ∷ xs) ys e = (e.0, each_first P xs ys e.1)
+
+each_last : {A : Type 0} (P : A → Type 0) (xs : List A) (y : A) → Each P (xs ++ y ∷ []) → P y
+each_last P [] y e = e.0
+each_last P (x ∷ xs) y e = each_last P xs y e.1
+
+each_take : {A : Type 0} (P : A → Type 0) (n : ℕ) (xs : List A) → Each P xs → Each P (take n xs)
+each_take P zero xs e = tt
+each_take P (suc n) [] e = tt
+each_take P (suc n) (x ∷ xs) e = (e.0, each_take P n xs e.1)
+
+each_drop : {A : Type 0} (P : A → Type 0) (n : ℕ) (xs : List A) → Each P xs → Each P (drop n xs)
+each_drop P zero xs e = e
+each_drop P (suc n) [] e = tt
+each_drop P (suc n) (x ∷ xs) e = each_drop P n xs e.1
+
+each_get : {A : Type 0} (P : A → Type 0) (xs : List A) (n : ℕ) → Each P xs → IfSome (slice_get xs n) P
+each_get P [] n e = tt
+each_get P (x ∷ xs) zero e = e.0
+each_get P (x ∷ xs) (suc n) e = each_get P xs n e.1
+
+each_map : {A : Type 0} (P : A → Type 0) (f : A → A) → ((x : A) → P x → P (f x)) → (xs : List A) → Each P xs → Each P (map f xs)
+each_map P f go [] e = tt
+each_map P f go (x ∷ xs) e = (go x e.0, each_map P f go xs e.1)
+
+each_option : {A : Type 0} (P : A → Type 0) (o : Option A) → IfSome o P → Each P (option_to_list o)
+each_option P None e = tt
+each_option P (Some x) e = (e, tt)
+
+without_at_each : {A : Type 0} (P : A → Type 0) (at : ℕ) (items : List A) → Each P items → Each P (without_at at items)
+without_at_each P at items e = each_append P (take at items) (drop (at + 1) items) (each_take P at items e) (each_drop P (at + 1) items e)
+
+without_each : {A : Type 0} (P : A → Type 0) (o : Option ℕ) (items : List A) → Each P items → Each P (without o items)
+without_each P None items e = e
+without_each P (Some at) items e = without_at_each P at items e
+
+module _ (sent : List ℕ → Peer → Type 0) (site : Site) (text : List ℕ) (low : ℕ) where
+  -- ---- what goes out
+
+  -- what is asked is among what was sent, if it is an INVITE
+  abbrev pub AskWasSent : Emit → Type 0
+  AskWasSent (emit.Ask peer m) = (branch : List ℕ) → IsInvite site.sip branch m → sent branch peer
+  AskWasSent (emit.Reply key m) = Unit {0}
+  AskWasSent (emit.Plain peer sample) = Unit {0}
+  AskWasSent (emit.Ack key m) = Unit {0}
+  AskWasSent (emit.Arm call what at) = Unit {0}
+  AskWasSent (emit.ArmSeat room seat what at) = Unit {0}
+
+  pub record Counted (desk : Desk) : Type 0 where
+    pub same : desk.tokens.token ≡ text
+    pub out_in : desk.tokens.drawn < 2 ^ 60 → AreNumbered site.sip text low desk.tokens.drawn desk.out
+
+  -- a step leaves a call whose INVITEs were sent, where those were that go out in it
+  pub record Good (s : Step) : Type 0 where
+    pub call_in : Each AskWasSent s.desk.out → CallWasSent sent s.call
+    pub desk_in : Counted s.desk
+
+  -- it draws nothing
+  abbrev IsQuiet : Emit → Type 0
+  IsQuiet e = (n : ℕ) → IsNumbered site.sip text n n e
+
+  raised : (from high higher : ℕ) (out : List Emit) → high ≤ higher → AreNumbered site.sip text from high out → AreNumbered site.sip text from higher out
+  raised from high higher [] le are = omega (arith, le, are)
+  raised from high higher (e ∷ out) le are = (are.0, are.1, raised are.0 high higher out le are.2)
+
+  quiet_last : (from high : ℕ) (e : Emit) (out : List Emit) → IsQuiet e → AreNumbered site.sip text from high out → AreNumbered site.sip text from high (out ++ e ∷ [])
+  quiet_last from high e [] quiet are = (from, quiet from, are)
+  quiet_last from high e (x ∷ out) quiet are = (are.0, are.1, quiet_last are.0 high e out quiet are.2)
+
+  invite_last : (from high next : ℕ) (peer : Peer) (m : Message Start) (out : List Emit) → high < next → IsInvite site.sip (token_text text next) m → AreNumbered site.sip text from high out →
+      AreNumbered site.sip text from next (out ++ emit.Ask peer m ∷ [])
+  invite_last from high next peer m [] lt is are = (next, inr (omega (arith, lt, are), is), omega arith)
+  invite_last from high next peer m (x ∷ out) lt is are = (are.0, are.1, invite_last are.0 high next peer m out lt is are.2)
+
+  emit_in : (e : Emit) (desk : Desk) → IsQuiet e → Counted desk → Counted (emitted e desk)
+  emit_in e desk quiet had = record { same = had.same; out_in = λ less. quiet_last low desk.tokens.drawn e desk.out quiet (had.out_in less) }
+
+  next_above : (n : ℕ) → next_number n < 2 ^ 60 → n < next_number n
+  next_above n less = omega (arith, less)
+
+  drew_in : (desk : Desk) → Counted desk → Counted (drew desk)
+  drew_in desk had = record {
+    same = had.same;
+    out_in = λ less.
+        let lt : desk.tokens.drawn < next_number desk.tokens.drawn = next_above desk.tokens.drawn less in
+        raised low desk.tokens.drawn (next_number desk.tokens.drawn) desk.out (omega (arith, lt)) (had.out_in (omega (arith, lt, less)));
+  }
+
+  invite_in : (peer : Peer) (m : Message Start) (desk : Desk) → IsInvite site.sip (token desk) m → Counted desk → Counted (emitted (emit.Ask peer m) (drew desk))
+  invite_in peer m desk is had = record {
+    same = had.same;
+    out_in = λ less.
+        let lt : desk.tokens.drawn < next_number desk.tokens.drawn = next_above desk.tokens.drawn less in
+        invite_last low desk.tokens.drawn (next_number desk.tokens.drawn) peer m desk.out lt
+        (subst (λ (t : List ℕ). IsInvite site.sip (token_text t (next_number desk.tokens.drawn)) m) had.same is) (had.out_in (omega (arith, lt, less)));
+  }
+
+  if_desk : (b : Bool) (one two : Desk) → Counted one → Counted two → Counted (if b then one else two)
+  if_desk true one two e f = e
+  if_desk false one two e f = f
+
+  -- ---- what is asked and is no INVITE
+
+  no_bye : (d : Dialogue) (number : ℕ) (given : Given) → IsNoInvite (numbered d number (codes "BYE") given)
+  no_bye d number given None = refl
+  no_bye d number given (Some five) = refl
+
+  no_cancel : (d : Dialogue) (number : ℕ) (given : Given) → IsNoInvite (numbered d number (codes "CANCEL") given)
+  no_cancel d number given None = refl
+  no_cancel d number given (Some five) = refl
+
+  bye_in : (d : Dialogue) (desk : Desk) → Counted desk → Counted (bye site.sip d desk)
+  bye_in d desk had =
+      let given : Given = bringing site.sip (token desk) [] [] in
+      emit_in (emit.Ask d.peer (request_of d (codes "BYE") given)) (drew desk) (λ n. inl (refl, no_bye d (next_number d.own) given)) (drew_in desk had)
+
+  bye_for : (d : Dialogue) (passed : List Line) (m : HeardMessage) (desk : Desk) → Counted desk → Counted (asked_for site.sip (codes "BYE") d passed m desk)
+  bye_for d passed m desk had =
+      let given : Given = relaying site.sip (token desk) passed m in
+      emit_in (emit.Ask d.peer (request_of d (codes "BYE") given)) (drew desk) (λ n. inl (refl, no_bye d (next_number d.own) given)) (drew_in desk had)
+
+  acked_in : (d : Dialogue) (desk : Desk) → Counted desk → Counted (acked site.sip d desk)
+  acked_in d desk had = emit_in (emit.Plain d.peer (ack_text site.sip d (token desk))) (drew desk) (λ n. refl) (drew_in desk had)
+
+  acked_for_in : (d : Dialogue) (passed : List Line) (m : HeardMessage) (desk : Desk) → Counted desk → Counted (acked_for site.sip d passed m desk)
+  acked_for_in d passed m desk had = emit_in (emit.Plain d.peer (relayed_ack_text site.sip d (token desk) passed m)) (drew desk) (λ n. refl) (drew_in desk had)
+
+  cancel_sent_in : (i : Invitation) (desk : Desk) → Counted desk → Counted (cancel_sent site.sip i desk)
+  cancel_sent_in i desk had = emit_in (emit.Ask i.dialogue.peer (cancel_of i.dialogue i.number site.sip i.branch)) desk (λ n. inl (refl, no_cancel i.dialogue i.number (bare site.sip i.branch))) had
+
+  cancelled_in : (i : Invitation) (desk : Desk) → Counted desk → Counted (cancelled site.sip i desk)
+  cancelled_in i desk had = if_desk (is_cancellable i) (cancel_sent site.sip i desk) desk (cancel_sent_in i desk had) had
+
+  final_acked_in : (key : TKey) (i : Invitation) (m : HeardMessage) (desk : Desk) → Counted desk → Counted (final_acked site.sip key i m desk)
+  final_acked_in key i m desk had = emit_in _ desk (λ n. refl) had
+
+  replied_in : (c : Call) (key : TKey) (m : Said) (code : ℕ) (desk : Desk) → Counted desk → Counted (replied_to site c key m code desk)
+  replied_in c key m code desk had = emit_in _ desk (λ n. refl) had
+
+  told_in : (c : Call) (code : ℕ) (desk : Desk) → Counted desk → Counted (told_caller site c code desk)
+  told_in c code desk had = emit_in _ desk (λ n. refl) had
+
+  told_diversion_in : (c : Call) (desk : Desk) → Counted desk → Counted (told_diversion site c desk)
+  told_diversion_in c desk had = emit_in _ desk (λ n. refl) had
+
+  relayed_in : (c : Call) (service : Option Service) (m : Said) (desk : Desk) → Counted desk → Counted (relayed_to_caller site c service m desk)
+  relayed_in c service m desk had = emit_in _ desk (λ n. refl) had
+
+  unheard_in : (c : Call) (key : TKey) (m : Said) (fault : DialogueFault) (desk : Desk) → Counted desk → Counted (unheard site c key m fault desk)
+  unheard_in c key m (OldCSeq last) desk had = emit_in _ desk (λ n. refl) had
+  unheard_in c key m Pending desk had = emit_in _ desk (λ n. refl) had
+  unheard_in c key m Unfinished desk had = emit_in _ desk (λ n. refl) had
+
+  unlisted_by : (b d : Bool) (one two three : Desk) → Counted one → Counted two → Counted three → Counted (if b then one else if d then two else three)
+  unlisted_by true d one two three x y z = x
+  unlisted_by false true one two three x y z = y
+  unlisted_by false false one two three x y z = z
+
+  unlisted_in : (c : Call) (key : TKey) (m : Said) (desk : Desk) → Counted desk → Counted (unlisted site c key m desk)
+  unlisted_in c key m desk had =
+      unlisted_by (is_method (codes "OPTIONS") m.heard.start) (is_method (codes "REFER") m.heard.start) _ _ _
+      (emit_in _ desk (λ n. refl) had) (emit_in _ desk (λ n. refl) had) (emit_in _ desk (λ n. refl) had)
+
+  -- ---- steps
+
+  abbrev Others : Call → Type 0
+  Others c = OthersWereSent sent c.loose c.taken
+
+  abbrev At : Phase → Type 0
+  At p = PhaseWasSent sent p
+
+  abbrev AtStage : Pair → Stage → Type 0
+  AtStage x stage = StageWasSent sent x stage
+
+  good : (s : Step) → At s.call.phase → Others s.call → Counted s.desk → Good s
+  good s p k had = record { call_in = λ each. record { phase_in = p; others_in = k }; desk_in = had }
+
+  pub onward_good : (c : Call) (desk : Desk) → At c.phase → Others c → Counted desk → Good (onward c desk)
+  onward_good c desk p k had = good (onward c desk) p k had
+
+  over_good : (at : ℕ) (cause : Cause) (first last : Option Noted) (c : Call) (desk : Desk) → Others c → Counted desk → Good (over at cause first last c desk)
+  over_good at cause first last c desk k had = good (over at cause first last c desk) tt k (record { same = had.same; out_in = had.out_in })
+
+  if_good : (b : Bool) (one two : Step) → Good one → Good two → Good (if b then one else two)
+  if_good true one two e f = e
+  if_good false one two e f = f
+
+  once_sent : (i : Invitation) → InvitationWasSent sent i → InvitationWasSent sent (once_cancelled i)
+  once_sent i is = by (is_cancellable i)
+    where
+      by : (t : Bool) → InvitationWasSent sent (if t then record i { cancelled = true } else i)
+      by true = is
+      by false = is
+
+  -- ---- the way on
+
+  refused_good : (at : ℕ) (caller : Leg) (cause : Cause) (c : Call) (desk : Desk) → Others c → Counted desk → Good (refused site at caller cause c desk)
+  refused_good at caller cause c desk k had = over_good at cause caller.meter None c (told_caller site c (of_causes.status_of cause) desk) k (told_in c (of_causes.status_of cause) desk had)
+
+  refused_by_good : (at : ℕ) (caller : Leg) (service : Option Service) (m : Option Said) (cause : Cause) (c : Call) (desk : Desk) → Others c → Counted desk → Good (refused_by site at caller service m cause c desk)
+  refused_by_good at caller service None cause c desk k had = refused_good at caller cause c desk k had
+  refused_by_good at caller service (Some m) cause c desk k had =
+      if_good (is_status (status_of m.heard.start) (handed_on cause)) (over at cause caller.meter None c (relayed_to_caller site c service m desk)) (refused site at caller cause c desk)
+      (over_good at cause caller.meter None c (relayed_to_caller site c service m desk) k (relayed_in c service m desk had)) (refused_good at caller cause c desk k had)
+
+  offer_good : (at : ℕ) (caller : Leg) (service : Option Service) (waiting : Bool) (aim : Aim) (c : Call) (desk : Desk) → Others c → Counted desk → Good (offer site at caller service waiting aim c desk)
+  offer_good at caller service waiting aim c desk k had =
+      let o = c.opening in
+      let shown : List Line = shown_to site o c.diversions service Caller aim.peer o.invite in
+      let d : Dialogue = dialog_of o aim desk in
+      let third : Desk = drew (drew desk) in
+      let m : Message Start = invite_of d site.sip (token third) shown waiting o.invite.heard in
+      let is : IsInvite site.sip (token third) m = record { dialogue = d; number = 1; given = relaying site.sip (token third) (shown ++ alert_lines waiting) o.invite.heard; is = refl; from_there = refl; has_it = refl } in
+      let asked : Desk = emitted (emit.Ask aim.peer m) (drew third) in
+      let arm : Emit = emit.Arm o.number (due.Cap (next_attempt c)) (at + longest_time) in
+      record {
+        call_in = λ each.
+            let was : sent (token third) aim.peer = each_last AskWasSent desk.out (emit.Ask aim.peer m) (each_first AskWasSent asked.out (arm ∷ []) each) (token third) is in
+            record { phase_in = (was, was); others_in = k };
+        desk_in = emit_in arm asked (λ n. refl) (invite_in aim.peer m third is (drew_in (drew desk) (drew_in desk had)));
+      }
+
+  abbrev Diverts : ℕ → Standing → Leg → Type 0
+  Diverts left now caller = (service : Option Service) (due : DueDiversion) (c : Call) (desk : Desk) → Others c → Counted desk → Good (divert left site now caller service due c desk)
+
+  offer_where_good : (peer : Option Peer) (at : ℕ) (caller : Leg) (service : Option Service) (waiting : Bool) (cause : Option ℕ) (target : Target) (c : Call) (desk : Desk) →
+      Others c → Counted desk → Good (offer_where peer site at caller service waiting cause target c desk)
+  offer_where_good None at caller service waiting cause target c desk k had = refused_good at caller causes.NoRoute (passed_by at service c) desk k had
+  offer_where_good (Some peer) at caller service waiting cause target c desk k had = offer_good at caller service waiting (aim_at c.opening peer cause target) c desk k had
+
+  turn_good : (left : ℕ) (now : Standing) (caller : Leg) → Diverts left now caller → (service : Option Service) (peer : Option Peer) (cause : Option ℕ) (target : Target) (turn : Turn) (c : Call) (desk : Desk) →
+      Others c → Counted desk → Good (on_turn (divert left site now caller) site now.at caller service peer cause target turn c desk)
+  turn_good left now caller later service peer cause target (TurnOffer waiting) c desk k had = offer_where_good peer now.at caller service waiting cause target c desk k had
+  turn_good left now caller later service peer cause target (TurnDivert due) c desk k had = later service due (passed_by now.at service c) desk k had
+  turn_good left now caller later service peer cause target (TurnRefuse why) c desk k had = refused_good now.at caller why (passed_by now.at service c) desk k had
+
+  target_good : (left : ℕ) (now : Standing) (caller : Leg) → Diverts left now caller → (cause : Option ℕ) (target : Target) (c : Call) (desk : Desk) →
+      Others c → Counted desk → Good (at_target (divert left site now caller) site now caller cause target c desk)
+  target_good left now caller later cause target c desk k had =
+      turn_good left now caller later (service_at site now c.opening cause target) (peer_for site c.opening target) cause target
+      (decided_at site now c.opening cause target (service_at site now c.opening cause target) (peer_for site c.opening target)) c desk k had
+
+  told_of_in : (due : DueDiversion) (c : Call) (desk : Desk) → Counted desk → Counted (told_of site due c desk)
+  told_of_in due c desk had = if_desk due.forward.notify_caller (told_diversion site c desk) desk (told_diversion_in c desk had) had
+
+  unless_good : (barred : Bool) (go : Call → Desk → Step) (at : ℕ) (caller : Leg) (c : Call) (desk : Desk) → Others c → Counted desk → Good (go c desk) → Good (unless_barred barred go site at caller c desk)
+  unless_good true go at caller c desk k had is = refused_good at caller causes.OutgoingBarred c desk k had
+  unless_good false go at caller c desk k had is = is
+
+  divert_good : (left : ℕ) (now : Standing) (caller : Leg) → Diverts left now caller
+  unfolding divert
+  divert_good zero now caller service due c desk k had =
+      unless_good (is_barred site c.opening now.at service due) (refused site now.at caller (too_many due)) now.at caller c desk k had (refused_good now.at caller (too_many due) c desk k had)
+  divert_good (suc left) now caller service due c desk k had =
+      let target : Target = target_of site due in
+      let next : Call = diverted target now.at left service due c in
+      unless_good (is_barred site c.opening now.at service due) (made (at_target (divert left site now caller) site now caller (Some due.cause) target) site target now.at left service due) now.at caller c desk k had
+      (target_good left now caller (divert_good left now caller) (Some due.cause) target next (told_of site due next desk) k (told_of_in due next desk had))
+
+  reach_good : (now : Standing) (caller : Leg) (cause : Option ℕ) (target : Target) (c : Call) (desk : Desk) → Others c → Counted desk → Good (reach site now caller cause target c desk)
+  reach_good now caller cause target c desk k had = target_good c.diversions.left now caller (divert_good c.diversions.left now caller) cause target c desk k had
+
+  end_good : (now : Standing) (caller : Leg) (service : Option Service) (m : Option Said) (after : AfterEnd) (c : Call) (desk : Desk) → Others c → Counted desk → Good (on_end site now caller service m after c desk)
+  end_good now caller service m EndAnswered c desk k had = over_good now.at causes.Ended caller.meter None c desk k had
+  end_good now caller service m (EndDivert due) c desk k had = divert_good c.diversions.left now caller service due c desk k had
+  end_good now caller service m (EndRefuse cause) c desk k had = refused_by_good now.at caller service m cause c desk k had
+
+  goes_on_good : (now : Standing) (x : Trial) (how : End) (m : Option Said) (c : Call) (desk : Desk) → Others c → Counted desk → Good (goes_on site now x how m c desk)
+  goes_on_good now x how m c desk k had =
+      end_good now x.caller x.attempt.service m (decided_after c.opening now.at x.attempt.service how) (with_past x.callee.leg.meter c) desk k had
+
+  -- ---- while it is offered
+
+  abbrev AtTrial : Trial → Type 0
+  AtTrial x = PhaseWasSent sent (Offered x)
+
+  with_loose_sent : (l : Loose) (c : Call) → LooseWasSent sent l → Others c → Others (with_loose l c)
+  with_loose_sent l c is k = record { loose_in = each_append (LooseWasSent sent) c.loose (l ∷ []) k.loose_in (is, tt); taken_in = k.taken_in }
+
+  left_sent : (x : Trial) (c : Call) → AtTrial x → Others c → Others (left x c)
+  left_sent x c t k = with_loose_sent (loose (once_cancelled x.attempt.invitation)) c (once_sent x.attempt.invitation t.0) k
+
+  tried_good : (key : TKey) (x : Trial) (c : Call) (desk : Desk) → AtTrial x → Others c → Counted desk → Good (tried key x c desk)
+  tried_good key x c desk t k had = good (tried key x c desk) t k had
+
+  met_leg : (branch : List ℕ) (o : Option Remote) (callee : TriedView) → sent branch callee.leg.dialogue.peer → sent branch (met_by o callee).leg.dialogue.peer
+  met_leg branch None callee is = is
+  met_leg branch (Some remote) callee is = is
+
+  armed_in_good : (time : Option ℕ) (at : ℕ) (attempt : Attempt) (c : Call) (desk : Desk) → Counted desk → Counted (armed_in time at attempt c desk)
+  armed_in_good None at attempt c desk had = had
+  armed_in_good (Some time) at attempt c desk had = emit_in _ desk (λ n. refl) had
+
+  armed_good : (code at : ℕ) (attempt : Attempt) (c : Call) (desk : Desk) → Counted desk → Counted (armed code at attempt c desk)
+  armed_good code at attempt c desk had =
+      if_desk (rings code && not attempt.rang) (armed_in (time_of (its_sheet attempt.service)) at attempt c desk) desk (armed_in_good (time_of (its_sheet attempt.service)) at attempt c desk had) had
+
+  proceeding_good : (at : ℕ) (x : Trial) (key : TKey) (m : Said) (code : ℕ) (c : Call) (desk : Desk) → AtTrial x → Others c → Counted desk → Good (ringing.proceeding site at x key m code c desk)
+  proceeding_good at x key m code c desk t k had =
+      good (ringing.proceeding site at x key m code c desk) (t.0, met_leg x.attempt.invitation.branch (early_said x.callee m) x.callee t.1) k
+      (armed_good code at x.attempt c (relayed_to_caller site c x.attempt.service m desk) (relayed_in c x.attempt.service m desk had))
+
+  answered_good : (at : ℕ) (x : Trial) (key : TKey) (m : Said) (c : Call) (desk : Desk) → AtTrial x → Others c → Counted desk → Good (answered site at x key m c desk)
+  answered_good at x key m c desk t k had =
+      good (answered site at x key m c desk) t.1
+      (record { loose_in = k.loose_in; taken_in = each_append (TakenWasSent sent) c.taken (taken_by key m false x.attempt.invitation ∷ []) k.taken_in (t.0, tt) })
+      (emit_in _ (relayed_to_caller site c x.attempt.service m desk) (λ n. refl) (relayed_in c x.attempt.service m desk had))
+
+  failed_good : (now : Standing) (x : Trial) (key : TKey) (m : Said) (code : ℕ) (c : Call) (desk : Desk) → Others c → Counted desk → Good (failed site now x key m code c desk)
+  failed_good now x key m code c desk k had =
+      goes_on_good now x (end_by_final code (redirect_of m) x.attempt.rang) (Some m) c (final_acked site.sip key x.attempt.invitation m.heard desk) k (final_acked_in key x.attempt.invitation m.heard desk had)
+
+  response_row : (now : Standing) (x : Trial) (key : TKey) (m : Said) (code : ℕ) (c : Call) (desk : Desk) → AtTrial x → Others c → Counted desk → Good (on_response site now x key m code c desk)
+  response_row now x key m code c desk t k had =
+      if_good (nat_lt code 101) (tried key x c desk) (if nat_lt code 200 then ringing.proceeding site now.at x key m code c desk else if nat_lt code 300 then answered site now.at x key m c desk else failed site now x key m code c desk)
+      (tried_good key x c desk t k had)
+      (if_good (nat_lt code 200) (ringing.proceeding site now.at x key m code c desk) (if nat_lt code 300 then answered site now.at x key m c desk else failed site now x key m code c desk)
+      (proceeding_good now.at x key m code c desk t k had)
+      (if_good (nat_lt code 300) (answered site now.at x key m c desk) (failed site now x key m code c desk) (answered_good now.at x key m c desk t k had) (failed_good now x key m code c desk k had)))
+
+  abbrev offered_call : Trial → Call → Call
+  offered_call x c = record c { phase = Offered x }
+
+  silence_row : (now : Standing) (x : Trial) (c : Call) (desk : Desk) → AtTrial x → Others c → Counted desk → Good (silenced site now x (offered_call x c) desk)
+  silence_row now x c desk t k had =
+      if_good x.attempt.rang (onward (offered_call x c) desk) (goes_on site now x (NotReachable 408) None (offered_call x c) desk)
+      (onward_good (offered_call x c) desk t k had) (goes_on_good now x (NotReachable 408) None (offered_call x c) desk k had)
+
+  timed_out_good : (now : Standing) (x : Trial) (how : End) (c : Call) (desk : Desk) → AtTrial x → Others c → Counted desk → Good (timed_out site now x how c desk)
+  timed_out_good now x how c desk t k had = goes_on_good now x how None (left x c) (cancelled_attempt site x desk) (left_sent x c t k) (cancelled_in x.attempt.invitation desk had)
+
+  due_row : (now : Standing) (x : Trial) (what : DueWord) (c : Call) (desk : Desk) → AtTrial x → Others c → Counted desk → Good (on_due site now x what (offered_call x c) desk)
+  due_row now x (due.NoReply number) c desk t k had =
+      if_good (number == x.attempt.number) (timed_out site now x NoReply (offered_call x c) desk) (onward (offered_call x c) desk)
+      (timed_out_good now x NoReply (offered_call x c) desk t k had) (onward_good (offered_call x c) desk t k had)
+  due_row now x (due.Cap number) c desk t k had =
+      if_good (number == x.attempt.number) (timed_out site now x (end_by_time x.attempt.rang) (offered_call x c) desk) (onward (offered_call x c) desk)
+      (timed_out_good now x (end_by_time x.attempt.rang) (offered_call x c) desk t k had) (onward_good (offered_call x c) desk t k had)
+  due_row now x (due.NoAck number) c desk t k had = onward_good (offered_call x c) desk t k had
+
+  given_up_good : (at : ℕ) (x : Trial) (c : Call) (desk : Desk) → AtTrial x → Others c → Counted desk → Good (given_up site at x c desk)
+  given_up_good at x c desk t k had =
+      over_good at causes.Cancelled x.caller.meter x.callee.leg.meter (left x c) (cancelled_attempt site x (told_caller site c 487 desk)) (left_sent x c t k)
+      (cancelled_in x.attempt.invitation (told_caller site c 487 desk) (told_in c 487 desk had))
+
+  cancel_row : (at : ℕ) (x : Trial) (key : TKey) (m : Said) (invite : TKey) (c : Call) (desk : Desk) → AtTrial x → Others c → Counted desk → Good (on_cancel site at x key m invite (offered_call x c) desk)
+  cancel_row at x key m invite c desk t k had =
+      let told : Counted (replied_to site (offered_call x c) key m 200 desk) = replied_in (offered_call x c) key m 200 desk had in
+      if_good (invite.0 == c.opening.key.0) (given_up site at x (offered_call x c) (replied_to site (offered_call x c) key m 200 desk)) (onward (offered_call x c) (replied_to site (offered_call x c) key m 200 desk))
+      (given_up_good at x (offered_call x c) (replied_to site (offered_call x c) key m 200 desk) t k told)
+      (onward_good (offered_call x c) (replied_to site (offered_call x c) key m 200 desk) t k told)
+
+  heard_row : (at : ℕ) (x : Trial) (side : Side) (key : TKey) (m : Said) (c : Call) (desk : Desk) → AtTrial x → Others c → Counted desk → Good (on_heard site at x side key m (offered_call x c) desk)
+  heard_row at x Caller key m c desk t k had =
+      if_good (is_bye m) (given_up site at x (offered_call x c) (replied_to site (offered_call x c) key m 200 desk)) (onward (offered_call x c) (unlisted site (offered_call x c) key m desk))
+      (given_up_good at x (offered_call x c) (replied_to site (offered_call x c) key m 200 desk) t k (replied_in (offered_call x c) key m 200 desk had))
+      (onward_good (offered_call x c) (unlisted site (offered_call x c) key m desk) t k (unlisted_in (offered_call x c) key m desk had))
+  heard_row at x Callee key m c desk t k had = onward_good (offered_call x c) (unlisted site (offered_call x c) key m desk) t k (unlisted_in (offered_call x c) key m desk had)
+
+  heard_by_sent : (side : Side) (m : Said) (x : Trial) → AtTrial x → AtTrial (heard_by side m x)
+  heard_by_sent Caller m x t = t
+  heard_by_sent Callee m x t = t
+
+  request_if_row : (r : Result (Unit {0}) DialogueFault) (at : ℕ) (x : Trial) (side : Side) (key : TKey) (m : Said) (c : Call) (desk : Desk) →
+      AtTrial x → Others c → Counted desk → Good (on_request_if r site at x side key m (offered_call x c) desk)
+  request_if_row (Ok heard) at x side key m c desk t k had = heard_row at (heard_by side m x) side key m c desk (heard_by_sent side m x t) k had
+  request_if_row (Err fault) at x side key m c desk t k had = onward_good (offered_call x c) (unheard site (offered_call x c) key m fault desk) t k (unheard_in (offered_call x c) key m fault desk had)
+
+  request_row : (at : ℕ) (x : Trial) (side : Side) (key : TKey) (m : Said) (c : Call) (desk : Desk) → AtTrial x → Others c → Counted desk → Good (on_request site at x side key m (offered_call x c) desk)
+  request_row at x side key m c desk t k had = request_if_row (says_offered x side m) at x side key m c desk t k had
+
+  -- ---- once it is answered
+
+  bye_to_in : (x : Pair) (side : Side) (desk : Desk) → Counted desk → Counted (bye_to site x side desk)
+  bye_to_in x side desk had = bye_in (leg_of side x).dialogue desk had
+
+  acked_left_in : (x : Pair) (side : Side) (desk : Desk) → Counted desk → Counted (acked_and_left site x side desk)
+  acked_left_in x side desk had = bye_to_in x side (acked site.sip (leg_of side x).dialogue desk) (acked_in (leg_of side x).dialogue desk had)
+
+  over_stood_good : (at : ℕ) (x : Pair) (c : Call) (desk : Desk) → Others c → Counted desk → Good (over_stood at x c desk)
+  over_stood_good at x c desk k had = over_good at causes.Ended x.caller.meter x.callee.meter c desk k had
+
+  abbrev stood : Pair → Stage → Call → Call
+  stood x stage c = record c { phase = Stood x stage }
+
+  staged_good : (x : Pair) (stage : Stage) (c : Call) (desk : Desk) → AtStage x stage → Others c → Counted desk → Good (onward (stood x stage c) desk)
+  staged_good x stage c desk e k had = onward_good (stood x stage c) desk e k had
+
+  with_ack_sent : (branch sample : List ℕ) (t : Taken) → TakenWasSent sent t → TakenWasSent sent (with_ack branch sample t)
+  with_ack_sent branch sample t is = by (bytes_eq t.invitation.branch branch)
+    where
+      by : (b : Bool) → TakenWasSent sent (if b then record t { invitation = record t.invitation { ack = Some sample } } else t)
+      by true = is
+      by false = is
+
+  acked_across_good : (x : Pair) (side : Side) (success : Success) (m : Said) (c : Call) (desk : Desk) → Others c → Counted desk → Good (acked_across site x side success m c desk)
+  acked_across_good x side success m c desk k had =
+      let d : Dialogue = (leg_of (other_of side) x).dialogue in
+      let sample : List ℕ = relayed_ack_text site.sip d (token desk) (shown_across site c x side m) m.heard in
+      good (acked_across site x side success m c desk) tt
+      (record { loose_in = k.loose_in; taken_in = each_map (TakenWasSent sent) (with_ack success.branch sample) (with_ack_sent success.branch sample) c.taken k.taken_in })
+      (acked_for_in d (shown_across site c x side m) m.heard desk had)
+
+  parted_good : (at : ℕ) (x : Pair) (side : Side) (c : Call) (desk : Desk) → Others c → Counted desk → Good (parted site at x side c desk)
+  parted_good at x side c desk k had = over_stood_good at x c (bye_to site x side desk) k (bye_to_in x side desk had)
+
+  unacknowledged_good : (at : ℕ) (x : Pair) (side : Side) (c : Call) (desk : Desk) → Others c → Counted desk → Good (unacknowledged site at x side c desk)
+  unacknowledged_good at x side c desk k had =
+      over_stood_good at x c (bye_to site x side (acked_and_left site x (other_of side) desk)) k (bye_to_in x side (acked_and_left site x (other_of side) desk) (acked_left_in x (other_of side) desk had))
+
+  bye_before_good : (at : ℕ) (x : Pair) (waiting : Side) (success : Success) (side : Side) (c : Call) (desk : Desk) → Others c → Counted desk → Good (bye_before_ack site at x waiting success side c desk)
+  bye_before_good at x waiting success side c desk k had =
+      if_good (is_same_side waiting side) (over_stood at x c (acked_and_left site x (other_of side) desk)) (onward (at_stage x (Parting waiting success) c) desk)
+      (over_stood_good at x c (acked_and_left site x (other_of side) desk) k (acked_left_in x (other_of side) desk had))
+      (staged_good x (Parting waiting success) c desk tt k had)
+
+  -- an INVITE goes across
+
+  with_leg_sent : (branch : List ℕ) (side : Side) (leg : Leg) (x : Pair) → sent branch leg.dialogue.peer → sent branch (leg_of side (with_leg side leg x)).dialogue.peer
+  with_leg_sent branch Caller leg x is = is
+  with_leg_sent branch Callee leg x is = is
+
+  asked_across_good : (x : Pair) (side : Side) (key : TKey) (m : Said) (c : Call) (desk : Desk) → Others c → Counted desk → Good (asked_across site x side key m c desk)
+  asked_across_good x side key m c desk k had =
+      let leg : Leg = leg_of (other_of side) x in
+      let d : Dialogue = leg.dialogue in
+      let given : Given = relaying site.sip (token desk) (shown_across site c x side m) m.heard in
+      let n : Message Start = request_of d (codes "INVITE") given in
+      let is : IsInvite site.sip (token desk) n = record { dialogue = d; number = next_number d.own; given = given; is = refl; from_there = refl; has_it = refl } in
+      record {
+        call_in = λ each.
+            let was : sent (token desk) d.peer = each_last AskWasSent desk.out (emit.Ask d.peer n) each (token desk) is in
+            record { phase_in = (was, with_leg_sent (token desk) (other_of side) (having_invited leg) x was); others_in = k };
+        desk_in = invite_in d.peer n desk is had;
+      }
+
+  invited_good : (x : Pair) (side : Side) (key : TKey) (m : Said) (c : Call) (desk : Desk) → Others c → Counted desk → Good (invited site x side key m c desk)
+  invited_good x side key m c desk k had = asked_across_good x side key m c (replied_to site c key m 100 desk) k (replied_in c key m 100 desk had)
+
+  -- and its answers come back
+
+  relayed_back_in : (x : Pair) (side : Side) (q : Reinvite) (m : Said) (c : Call) (desk : Desk) → Counted desk → Counted (relayed_back site x side q m c desk)
+  relayed_back_in x side q m c desk had = emit_in _ desk (λ n. refl) had
+
+  proceeding_sent : (key : TKey) (q : Reinvite) (peer : Peer) → InvitationWasSent sent q.invitation × sent q.invitation.branch peer →
+      InvitationWasSent sent (proceeding key q).invitation × sent (proceeding key q).invitation.branch peer
+  proceeding_sent key q peer is = by q.cancel_due (is_cancellable (has_said key q.invitation))
+    where
+      by : (t u : Bool) →
+          InvitationWasSent sent (if t then (if u then record (has_said key q.invitation) { cancelled = true } else has_said key q.invitation) else has_said key q.invitation) ×
+          sent (if t then (if u then record (has_said key q.invitation) { cancelled = true } else has_said key q.invitation) else has_said key q.invitation).branch peer
+      by true true = is
+      by true false = is
+      by false u = is
+
+  proceeding_across_good : (x : Pair) (side : Side) (q : Reinvite) (key : TKey) (c : Call) (desk : Desk) → AtStage x (Asking side q) → Others c → Counted desk → Good (proceeding_across site x side q key c desk)
+  proceeding_across_good x side q key c desk e k had =
+      staged_good x (Asking side (proceeding key q)) c (cancelled_if_due site key q desk) (proceeding_sent key q (leg_of (other_of side) x).dialogue.peer e) k
+      (if_desk q.cancel_due (cancelled site.sip (has_said key q.invitation) desk) desk (cancelled_in (has_said key q.invitation) desk had) had)
+
+  agreed_good : (at : ℕ) (x : Pair) (side : Side) (q : Reinvite) (key : TKey) (m : Said) (c : Call) (desk : Desk) → AtStage x (Asking side q) → Others c → Counted desk → Good (agreed site at x side q key m c desk)
+  agreed_good at x side q key m c desk e k had =
+      good (agreed site at x side q key m c desk) e.1
+      (record { loose_in = k.loose_in; taken_in = each_append (TakenWasSent sent) c.taken (taken_by key m true q.invitation ∷ []) k.taken_in (e.0, tt) })
+      (emit_in _ (relayed_back site x side q m c desk) (λ n. refl) (relayed_back_in x side q m c desk had))
+
+  refused_back_in : (x : Pair) (side : Side) (q : Reinvite) (key : TKey) (m : Said) (c : Call) (desk : Desk) → Counted desk → Counted (refused_back site x side q key m c desk)
+  refused_back_in x side q key m c desk had = relayed_back_in x side q m c (final_acked site.sip key q.invitation m.heard desk) (final_acked_in key q.invitation m.heard desk had)
+
+  bye_both_in : (x : Pair) (desk : Desk) → Counted desk → Counted (bye_to_both site x desk)
+  bye_both_in x desk had = bye_to_in x Callee (bye_to site x Caller desk) (bye_to_in x Caller desk had)
+
+  across_good : (at : ℕ) (x : Pair) (side : Side) (q : Reinvite) (key : TKey) (m : Said) (code : ℕ) (c : Call) (desk : Desk) →
+      AtStage x (Asking side q) → Others c → Counted desk → Good (on_response_across site at x side q key m code c desk)
+  across_good at x side q key m code c desk e k had =
+      let back : Desk = refused_back site x side q key m c desk in
+      let told : Counted back = refused_back_in x side q key m c desk had in
+      if_good (nat_lt code 200) (proceeding_across site x side q key c desk) (if nat_lt code 300 then agreed site at x side q key m c desk else if ends_dialog code then over_stood at x c (bye_to_both site x back) else onward (at_stage x Talking c) back)
+      (proceeding_across_good x side q key c desk e k had)
+      (if_good (nat_lt code 300) (agreed site at x side q key m c desk) (if ends_dialog code then over_stood at x c (bye_to_both site x back) else onward (at_stage x Talking c) back)
+      (agreed_good at x side q key m c desk e k had)
+      (if_good (ends_dialog code) (over_stood at x c (bye_to_both site x back)) (onward (at_stage x Talking c) back)
+      (over_stood_good at x c (bye_to_both site x back) k (bye_both_in x back told))
+      (staged_good x Talking c back tt k told)))
+
+  silenced_across_good : (at : ℕ) (x : Pair) (q : Reinvite) (c : Call) (desk : Desk) → Others c → Counted desk → Good (silenced_across site at x q c desk)
+  silenced_across_good at x q c desk k had =
+      over_stood_good at x c (bye_to_both site x (replied_to site c q.key q.request 408 desk)) k (bye_both_in x (replied_to site c q.key q.request 408 desk) (replied_in c q.key q.request 408 desk had))
+
+  cancelling_sent : (q : Reinvite) (peer : Peer) → InvitationWasSent sent q.invitation × sent q.invitation.branch peer → InvitationWasSent sent (cancelling q).invitation × sent (cancelling q).invitation.branch peer
+  cancelling_sent q peer is = by (is_cancellable q.invitation)
+    where
+      by : (t : Bool) → InvitationWasSent sent (if t then record q.invitation { cancelled = true } else q.invitation) × sent (if t then record q.invitation { cancelled = true } else q.invitation).branch peer
+      by true = is
+      by false = is
+
+  cancelled_across_good : (x : Pair) (side : Side) (q : Reinvite) (c : Call) (desk : Desk) → AtStage x (Asking side q) → Others c → Counted desk → Good (cancelled_across site x side q c desk)
+  cancelled_across_good x side q c desk e k had =
+      staged_good x (Asking side (cancelling q)) c (cancelled site.sip q.invitation desk) (cancelling_sent q (leg_of (other_of side) x).dialogue.peer e) k (cancelled_in q.invitation desk had)
+
+  bye_while_good : (at : ℕ) (x : Pair) (asking : Side) (q : Reinvite) (leaving : Side) (c : Call) (desk : Desk) → AtStage x (Asking asking q) → Others c → Counted desk → Good (bye_while_asking site at x asking q leaving c desk)
+  bye_while_good at x asking q leaving c desk e k had =
+      over_stood_good at x (with_loose (loose_across x asking leaving q) c) (bye_to site x (other_of leaving) (replied_to site c q.key q.request 487 desk))
+      (with_loose_sent (loose_across x asking leaving q) c e.0 k)
+      (bye_to_in x (other_of leaving) (replied_to site c q.key q.request 487 desk) (replied_in c q.key q.request 487 desk had))
+
+  -- by stage
+
+  invite_row : (stage : Stage) (x : Pair) (side : Side) (key : TKey) (m : Said) (c : Call) (desk : Desk) → AtStage x stage → Others c → Counted desk → Good (on_invite stage site x side key m (stood x stage c) desk)
+  invite_row (Answered waiting success) x side key m c desk e k had = staged_good x (Answered waiting success) c desk e k had
+  invite_row (Parting waiting success) x side key m c desk e k had = staged_good x (Parting waiting success) c desk e k had
+  invite_row Talking x side key m c desk e k had = invited_good x side key m (stood x Talking c) desk k had
+  invite_row (Asking asking q) x side key m c desk e k had = staged_good x (Asking asking q) c desk e k had
+
+  left_row : (stage : Stage) (at : ℕ) (x : Pair) (side : Side) (m : Said) (c : Call) (desk : Desk) → AtStage x stage → Others c → Counted desk → Good (left_by stage site at x side m c desk)
+  left_row (Answered waiting success) at x side m c desk e k had = bye_before_good at x waiting success side c desk k had
+  left_row (Parting waiting success) at x side m c desk e k had = over_stood_good at x c desk k had
+  left_row Talking at x side m c desk e k had =
+      over_stood_good at x c (asked_for site.sip (codes "BYE") (leg_of (other_of side) x).dialogue (shown_across site c x side m) m.heard desk) k
+      (bye_for (leg_of (other_of side) x).dialogue (shown_across site c x side m) m.heard desk had)
+  left_row (Asking asking q) at x side m c desk e k had = bye_while_good at x asking q side c desk e k had
+
+  bye_row : (stage : Stage) (at : ℕ) (x : Pair) (side : Side) (key : TKey) (m : Said) (c : Call) (desk : Desk) → AtStage x stage → Others c → Counted desk → Good (on_bye stage site at x side key m (stood x stage c) desk)
+  bye_row stage at x side key m c desk e k had =
+      if_good (has_left stage side) (onward (stood x stage c) (replied_to site (stood x stage c) key m 481 desk)) (left_by stage site at x side m (stood x stage c) (replied_to site (stood x stage c) key m 200 desk))
+      (staged_good x stage c (replied_to site (stood x stage c) key m 481 desk) e k (replied_in (stood x stage c) key m 481 desk had))
+      (left_row stage at x side m (stood x stage c) (replied_to site (stood x stage c) key m 200 desk) e k (replied_in (stood x stage c) key m 200 desk had))
+
+  heard_at_row : (stage : Stage) (at : ℕ) (x : Pair) (side : Side) (key : TKey) (m : Said) (c : Call) (desk : Desk) → AtStage x stage → Others c → Counted desk → Good (on_heard_at stage site at x side key m (stood x stage c) desk)
+  heard_at_row stage at x side key m c desk e k had =
+      if_good (is_invite m) (on_invite stage site x side key m (stood x stage c) desk) (if is_bye m then on_bye stage site at x side key m (stood x stage c) desk else onward (stood x stage c) (unlisted site (stood x stage c) key m desk))
+      (invite_row stage x side key m c desk e k had)
+      (if_good (is_bye m) (on_bye stage site at x side key m (stood x stage c) desk) (onward (stood x stage c) (unlisted site (stood x stage c) key m desk))
+      (bye_row stage at x side key m c desk e k had)
+      (staged_good x stage c (unlisted site (stood x stage c) key m desk) e k (unlisted_in (stood x stage c) key m desk had)))
+
+  -- a request leaves the peers of both legs
+  leg_heard : (branch : List ℕ) (of side : Side) (m : Said) (x : Pair) → sent branch (leg_of of x).dialogue.peer → sent branch (leg_of of (with_leg side (having_heard (leg_of side x) m) x)).dialogue.peer
+  leg_heard branch Caller Caller m x is = is
+  leg_heard branch Caller Callee m x is = is
+  leg_heard branch Callee Caller m x is = is
+  leg_heard branch Callee Callee m x is = is
+
+  stage_heard : (stage : Stage) (side : Side) (m : Said) (x : Pair) → AtStage x stage → AtStage (with_leg side (having_heard (leg_of side x) m) x) stage
+  stage_heard (Answered waiting success) side m x e = leg_heard success.branch (other_of waiting) side m x e
+  stage_heard (Parting waiting success) side m x e = tt
+  stage_heard Talking side m x e = tt
+  stage_heard (Asking asking q) side m x e = (e.0, leg_heard q.invitation.branch (other_of asking) side m x e.1)
+
+  request_at_if_row : (r : Result (Unit {0}) DialogueFault) (stage : Stage) (at : ℕ) (x : Pair) (side : Side) (key : TKey) (m : Said) (c : Call) (desk : Desk) →
+      AtStage x stage → Others c → Counted desk → Good (on_request_at_if r stage site at x side key m (stood x stage c) desk)
+  request_at_if_row (Ok heard) stage at x side key m c desk e k had = heard_at_row stage at (with_leg side (having_heard (leg_of side x) m) x) side key m c desk (stage_heard stage side m x e) k had
+  request_at_if_row (Err fault) stage at x side key m c desk e k had = staged_good x stage c (unheard site (stood x stage c) key m fault desk) e k (unheard_in (stood x stage c) key m fault desk had)
+
+  request_at_row : (stage : Stage) (at : ℕ) (x : Pair) (side : Side) (key : TKey) (m : Said) (c : Call) (desk : Desk) → AtStage x stage → Others c → Counted desk → Good (on_request_at stage site at x side key m (stood x stage c) desk)
+  request_at_row stage at x side key m c desk e k had = request_at_if_row (says (leg_of side x) m (busy_in stage side)) stage at x side key m c desk e k had
+
+  ack_at_row : (stage : Stage) (at : ℕ) (x : Pair) (side : Side) (m : Said) (c : Call) (desk : Desk) → AtStage x stage → Others c → Counted desk → Good (on_ack_at stage site at x side m (stood x stage c) desk)
+  ack_at_row (Answered waiting success) at x side m c desk e k had =
+      if_good (acknowledges waiting success side m) (acked_across site x side success m (stood x (Answered waiting success) c) desk) (onward (stood x (Answered waiting success) c) desk)
+      (acked_across_good x side success m (stood x (Answered waiting success) c) desk k had) (staged_good x (Answered waiting success) c desk e k had)
+  ack_at_row (Parting waiting success) at x side m c desk e k had =
+      if_good (acknowledges waiting success side m) (parted site at x side (stood x (Parting waiting success) c) desk) (onward (stood x (Parting waiting success) c) desk)
+      (parted_good at x side (stood x (Parting waiting success) c) desk k had) (staged_good x (Parting waiting success) c desk e k had)
+  ack_at_row Talking at x side m c desk e k had = staged_good x Talking c desk e k had
+  ack_at_row (Asking asking q) at x side m c desk e k had = staged_good x (Asking asking q) c desk e k had
+
+  cancel_at_row : (stage : Stage) (x : Pair) (invite : TKey) (c : Call) (desk : Desk) → AtStage x stage → Others c → Counted desk → Good (on_cancel_at stage site x invite (stood x stage c) desk)
+  cancel_at_row (Answered waiting success) x invite c desk e k had = staged_good x (Answered waiting success) c desk e k had
+  cancel_at_row (Parting waiting success) x invite c desk e k had = staged_good x (Parting waiting success) c desk e k had
+  cancel_at_row Talking x invite c desk e k had = staged_good x Talking c desk e k had
+  cancel_at_row (Asking asking q) x invite c desk e k had =
+      if_good (invite.0 == q.key.0) (cancelled_across site x asking q (stood x (Asking asking q) c) desk) (onward (stood x (Asking asking q) c) desk)
+      (cancelled_across_good x asking q (stood x (Asking asking q) c) desk e k had) (staged_good x (Asking asking q) c desk e k had)
+
+  response_at_row : (stage : Stage) (at : ℕ) (x : Pair) (key : TKey) (m : Said) (c : Call) (desk : Desk) → AtStage x stage → Others c → Counted desk → Good (on_response_at stage site at x key m (stood x stage c) desk)
+  response_at_row (Answered waiting success) at x key m c desk e k had = staged_good x (Answered waiting success) c desk e k had
+  response_at_row (Parting waiting success) at x key m c desk e k had = staged_good x (Parting waiting success) c desk e k had
+  response_at_row Talking at x key m c desk e k had = staged_good x Talking c desk e k had
+  response_at_row (Asking asking q) at x key m c desk e k had = across_good at x asking q key m (status_of m.heard.start) (stood x (Asking asking q) c) desk e k had
+
+  silence_at_row : (stage : Stage) (at : ℕ) (x : Pair) (c : Call) (desk : Desk) → AtStage x stage → Others c → Counted desk → Good (on_silence_at stage site at x (stood x stage c) desk)
+  silence_at_row (Answered waiting success) at x c desk e k had = staged_good x (Answered waiting success) c desk e k had
+  silence_at_row (Parting waiting success) at x c desk e k had = staged_good x (Parting waiting success) c desk e k had
+  silence_at_row Talking at x c desk e k had = staged_good x Talking c desk e k had
+  silence_at_row (Asking asking q) at x c desk e k had = silenced_across_good at x q (stood x (Asking asking q) c) desk k had
+
+  rung_row : (stage : Stage) (at : ℕ) (x : Pair) (c : Call) (desk : Desk) → AtStage x stage → Others c → Counted desk → Good (rung_out stage site at x (stood x stage c) desk)
+  rung_row (Answered waiting success) at x c desk e k had = unacknowledged_good at x waiting (stood x (Answered waiting success) c) desk k had
+  rung_row (Parting waiting success) at x c desk e k had = parted_good at x waiting (stood x (Parting waiting success) c) desk k had
+  rung_row Talking at x c desk e k had = staged_good x Talking c desk e k had
+  rung_row (Asking asking q) at x c desk e k had = staged_good x (Asking asking q) c desk e k had
+
+  due_at_row : (stage : Stage) (at : ℕ) (x : Pair) (what : DueWord) (c : Call) (desk : Desk) → AtStage x stage → Others c → Counted desk → Good (on_due_at stage site at x what (stood x stage c) desk)
+  due_at_row stage at x what c desk e k had =
+      if_good (is_due_at stage what) (rung_out stage site at x (stood x stage c) desk) (onward (stood x stage c) desk) (rung_row stage at x c desk e k had) (staged_good x stage c desk e k had)
+
+  -- ---- INVITEs that the call does not wait on
+
+  record GoodRest (rest : Rest) : Type 0 where
+    left_in : IfSome rest.left (LooseWasSent sent)
+    desk_in : Counted rest.desk
+
+  if_rest : (b : Bool) (one two : Rest) → GoodRest one → GoodRest two → GoodRest (if b then one else two)
+  if_rest true one two e f = e
+  if_rest false one two e f = f
+
+  late_rest : (l : Loose) (desk : Desk) → LooseWasSent sent l → Counted desk → GoodRest (late_cancelled site.sip l desk)
+  late_rest l desk is had =
+      if_rest l.invitation.cancelled (record { left = Some l; desk = desk }) (record { left = Some (with_invitation l (record l.invitation { cancelled = true })); desk = cancel_sent site.sip l.invitation desk })
+      (record { left_in = is; desk_in = had }) (record { left_in = is; desk_in = cancel_sent_in l.invitation desk had })
+
+  success_rest : (l : Loose) (remote : Remote) (o : Option Dialogue) (desk : Desk) → LooseWasSent sent l → Counted desk → GoodRest (on_success_in site.sip l remote o desk)
+  success_rest l remote (Some d) desk is had = record { left_in = is; desk_in = acked_in d desk had }
+  success_rest l remote None desk is had =
+      let d : Dialogue = left_ones.made_from l.within l.invitation.early l.invitation.dialogue remote in
+      record { left_in = is; desk_in = bye_in d (acked site.sip d desk) (acked_in d desk had) }
+
+  late_response : (key : TKey) (m : HeardMessage) (l : Loose) (desk : Desk) → LooseWasSent sent l → Counted desk → GoodRest (left_ones.on_response site.sip key m l desk)
+  late_response key m l desk is had =
+      let said : Loose = told_late key m l in
+      let known : Loose = with_invitation l (knows key l.invitation) in
+      if_rest (nat_lt (status_of m.start) 200) (late_cancelled site.sip said desk) (if nat_lt (status_of m.start) 300 then on_success site.sip known (remote_of Callee m.lines) desk else record { left = None; desk = final_acked site.sip key l.invitation m desk })
+      (late_rest said desk is had)
+      (if_rest (nat_lt (status_of m.start) 300) (on_success site.sip known (remote_of Callee m.lines) desk) (record { left = None; desk = final_acked site.sip key l.invitation m desk })
+      (success_rest known (remote_of Callee m.lines) (ended_before known (remote_of Callee m.lines).tag) desk is had)
+      (record { left_in = tt; desk_in = final_acked_in key l.invitation m desk had }))
+
+  loose_row : (key : TKey) (m : Said) (at : ℕ) (o : Option Loose) (c : Call) (desk : Desk) → IfSome o (LooseWasSent sent) → At c.phase → Others c → Counted desk → Good (answered_loose site key m at o c desk)
+  loose_row key m at None c desk e p k had = onward_good c desk p k had
+  loose_row key m at (Some l) c desk e p k had =
+      let rest : Rest = left_ones.on_response site.sip key m.heard l desk in
+      let is : GoodRest rest = late_response key m.heard l desk e had in
+      good (with_rest at rest c) p
+      (record { loose_in = each_append (LooseWasSent sent) (without_at at c.loose) (option_to_list rest.left) (without_at_each (LooseWasSent sent) at c.loose k.loose_in) (each_option (LooseWasSent sent) rest.left is.left_in); taken_in = k.taken_in })
+      is.desk_in
+
+  again_sent : (t : Taken) (o : Option Loose) → IfSome o (LooseWasSent sent) → IfSome (taken_again t o) (TakenWasSent sent)
+  again_sent t None e = tt
+  again_sent t (Some l) e = e
+
+  forked_row : (key : TKey) (m : Said) (at : ℕ) (t : Taken) (c : Call) (desk : Desk) → TakenWasSent sent t → At c.phase → Others c → Counted desk → Good (forked site key m at t c desk)
+  forked_row key m at t c desk e p k had =
+      let rest : Rest = left_ones.on_response site.sip key m.heard (as_loose t) desk in
+      let is : GoodRest rest = late_response key m.heard (as_loose t) desk e had in
+      good (forked site key m at t c desk) p
+      (record { loose_in = k.loose_in; taken_in = each_append (TakenWasSent sent) (without_at at c.taken) (option_to_list (taken_again t rest.left)) (without_at_each (TakenWasSent sent) at c.taken k.taken_in) (each_option (TakenWasSent sent) (taken_again t rest.left) (again_sent t rest.left is.left_in)) })
+      is.desk_in
+
+  acked_again_in : (t : Taken) (o : Option (List ℕ)) (desk : Desk) → Counted desk → Counted (acked_again t o desk)
+  acked_again_in t None desk had = had
+  acked_again_in t (Some sample) desk had = emit_in (emit.Plain t.invitation.dialogue.peer sample) desk (λ n. refl) had
+
+  taken_row : (key : TKey) (m : Said) (at : ℕ) (o : Option Taken) (c : Call) (desk : Desk) → IfSome o (TakenWasSent sent) → At c.phase → Others c → Counted desk → Good (answered_taken site key m at o c desk)
+  taken_row key m at None c desk e p k had = onward_good c desk p k had
+  taken_row key m at (Some t) c desk e p k had =
+      if_good (not (is_success (status_of m.heard.start))) (onward c desk) (if is_fork t m then forked site key m at t c desk else repeated t c desk)
+      (onward_good c desk p k had)
+      (if_good (is_fork t m) (forked site key m at t c desk) (repeated t c desk) (forked_row key m at t c desk e p k had)
+      (onward_good c (if is_talking c.phase then acked_again t t.invitation.ack desk else desk) p k
+      (if_desk (is_talking c.phase) (acked_again t t.invitation.ack desk) desk (acked_again_in t t.invitation.ack desk had) had)))
+
+  taken_at_row : (key : TKey) (m : Said) (o : Option ℕ) (c : Call) (desk : Desk) → At c.phase → Others c → Counted desk → Good (answered_taken_at site key m o c desk)
+  taken_at_row key m None c desk p k had = onward_good c desk p k had
+  taken_at_row key m (Some at) c desk p k had = taken_row key m at (slice_get c.taken at) c desk (each_get (TakenWasSent sent) c.taken at k.taken_in) p k had
+
+  at_row : (key : TKey) (m : Said) (branch : List ℕ) (o : Option ℕ) (c : Call) (desk : Desk) → At c.phase → Others c → Counted desk → Good (answered_at site key m branch o c desk)
+  at_row key m branch None c desk p k had = taken_at_row key m (position (is_taken branch) c.taken) c desk p k had
+  at_row key m branch (Some at) c desk p k had = loose_row key m at (slice_get c.loose at) c desk (each_get (LooseWasSent sent) c.loose at k.loose_in) p k had
+
+  other_row : (key : TKey) (m : Said) (branch : List ℕ) (c : Call) (desk : Desk) → At c.phase → Others c → Counted desk → Good (answered_other site key m branch c desk)
+  unfolding answered_other
+  other_row key m branch c desk p k had = at_row key m branch (position (is_of branch) c.loose) c desk p k had
+
+  silent_row : (branch : List ℕ) (c : Call) (desk : Desk) → At c.phase → Others c → Counted desk → Good (onward (without_silent branch c) desk)
+  silent_row branch c desk p k had =
+      good (onward (without_silent branch c) desk) p (record { loose_in = without_each (LooseWasSent sent) (position (is_of branch) c.loose) c.loose k.loose_in; taken_in = k.taken_in }) had
+
+  key_row : (key : TKey) (c : Call) (desk : Desk) → At c.phase → Others c → Counted desk → Good (onward (without_key key c) desk)
+  key_row key c desk p k had =
+      good (onward (without_key key c) desk) p
+      (record {
+        loose_in = without_each (LooseWasSent sent) (position (is_loose_key key) c.loose) c.loose k.loose_in;
+        taken_in = without_each (TakenWasSent sent) (position (is_taken_key key) c.taken) c.taken k.taken_in;
+      }) had
+
+  -- ---- the table, by phase
+
+  abbrev at_phase : Phase → Call → Call
+  at_phase phase c = record c { phase = phase }
+
+  response_good : (phase : Phase) (now : Standing) (key : TKey) (m : Said) (c : Call) (desk : Desk) → At phase → Others c → Counted desk → Good (response_in phase site now key m (at_phase phase c) desk)
+  response_good (Offered x) now key m c desk p k had = response_row now x key m (status_of m.heard.start) (at_phase (Offered x) c) desk p k had
+  response_good (Stood x stage) now key m c desk p k had = response_at_row stage now.at x key m c desk p k had
+  response_good (Lent loan) now key m c desk p k had = onward_good (at_phase (Lent loan) c) desk p k had
+  response_good (Over cause) now key m c desk p k had = onward_good (at_phase (Over cause) c) desk p k had
+
+  silence_good : (phase : Phase) (now : Standing) (c : Call) (desk : Desk) → At phase → Others c → Counted desk → Good (silence_in phase site now (at_phase phase c) desk)
+  silence_good (Offered x) now c desk p k had = silence_row now x c desk p k had
+  silence_good (Stood x stage) now c desk p k had = silence_at_row stage now.at x c desk p k had
+  silence_good (Lent loan) now c desk p k had = onward_good (at_phase (Lent loan) c) desk p k had
+  silence_good (Over cause) now c desk p k had = onward_good (at_phase (Over cause) c) desk p k had
+
+  request_good : (phase : Phase) (at : ℕ) (side : Side) (key : TKey) (m : Said) (c : Call) (desk : Desk) → At phase → Others c → Counted desk → Good (request_in phase site at side key m (at_phase phase c) desk)
+  request_good (Offered x) at side key m c desk p k had = request_row at x side key m c desk p k had
+  request_good (Stood x stage) at side key m c desk p k had = request_at_row stage at x side key m c desk p k had
+  request_good (Lent loan) at side key m c desk p k had = onward_good (at_phase (Lent loan) c) desk p k had
+  request_good (Over cause) at side key m c desk p k had = onward_good (at_phase (Over cause) c) desk p k had
+
+  ack_good : (phase : Phase) (at : ℕ) (side : Side) (m : Said) (c : Call) (desk : Desk) → At phase → Others c → Counted desk → Good (ack_in phase site at side m (at_phase phase c) desk)
+  ack_good (Offered x) at side m c desk p k had = onward_good (at_phase (Offered x) c) desk p k had
+  ack_good (Stood x stage) at side m c desk p k had = ack_at_row stage at x side m c desk p k had
+  ack_good (Lent loan) at side m c desk p k had = onward_good (at_phase (Lent loan) c) desk p k had
+  ack_good (Over cause) at side m c desk p k had = onward_good (at_phase (Over cause) c) desk p k had
+
+  cancel_good : (phase : Phase) (at : ℕ) (key : TKey) (m : Said) (invite : TKey) (c : Call) (desk : Desk) → At phase → Others c → Counted desk → Good (cancel_in phase site at key m invite (at_phase phase c) desk)
+  cancel_good (Offered x) at key m invite c desk p k had = cancel_row at x key m invite c desk p k had
+  cancel_good (Stood x stage) at key m invite c desk p k had =
+      cancel_at_row stage x invite c (replied_to site (at_phase (Stood x stage) c) key m 200 desk) p k (replied_in (at_phase (Stood x stage) c) key m 200 desk had)
+  cancel_good (Lent loan) at key m invite c desk p k had = onward_good (at_phase (Lent loan) c) desk p k had
+  cancel_good (Over cause) at key m invite c desk p k had = onward_good (at_phase (Over cause) c) desk p k had
+
+  due_good : (phase : Phase) (now : Standing) (what : DueWord) (c : Call) (desk : Desk) → At phase → Others c → Counted desk → Good (due_in phase site now what (at_phase phase c) desk)
+  due_good (Offered x) now what c desk p k had = due_row now x what c desk p k had
+  due_good (Stood x stage) now what c desk p k had = due_at_row stage now.at x what c desk p k had
+  due_good (Lent loan) now what c desk p k had = onward_good (at_phase (Lent loan) c) desk p k had
+  due_good (Over cause) now what c desk p k had = onward_good (at_phase (Over cause) c) desk p k had
+
+  answer_good : (branch : Option (List ℕ)) (now : Standing) (key : TKey) (m : Said) (c : Call) (desk : Desk) → At c.phase → Others c → Counted desk → Good (answer_to branch site now key m c desk)
+  answer_good None now key m c desk p k had = onward_good c desk p k had
+  answer_good (Some branch) now key m c desk p k had =
+      if_good (is_current branch c) (response_in c.phase site now key m c desk) (answered_other site key m branch c desk)
+      (response_good c.phase now key m c desk p k had) (other_row key m branch c desk p k had)
+
+  silence_of_good : (branch : Option (List ℕ)) (now : Standing) (c : Call) (desk : Desk) → At c.phase → Others c → Counted desk → Good (silence_of branch site now c desk)
+  silence_of_good None now c desk p k had = onward_good c desk p k had
+  silence_of_good (Some branch) now c desk p k had =
+      if_good (is_current branch c) (silence_in c.phase site now c desk) (onward (without_silent branch c) desk)
+      (silence_good c.phase now c desk p k had) (silent_row branch c desk p k had)
+
+  pub step_good : (now : Standing) (heard : Signal) (c : Call) (desk : Desk) → At c.phase → Others c → Counted desk → Good (step site now heard c desk)
+  unfolding step
+  step_good now (signal.Request side key request) c desk p k had = request_good c.phase now.at side key request c desk p k had
+  step_good now (signal.Ack side ack) c desk p k had = ack_good c.phase now.at side ack c desk p k had
+  step_good now (signal.Cancel key cancel invite) c desk p k had = cancel_good c.phase now.at key cancel invite c desk p k had
+  step_good now (signal.Answer key response) c desk p k had = answer_good (invite_answered response) now key response c desk p k had
+  step_good now (signal.Silent branch method) c desk p k had = silence_of_good (invite_silent branch method) now c desk p k had
+  step_good now (signal.Due what) c desk p k had = due_good c.phase now what c desk p k had
+  step_good now (signal.Ended key) c desk p k had = key_row key c desk p k had
+
+  -- ---- as it opens
+
+  unless_refused_good : (cause : Option Cause) (now : Standing) (caller : Leg) (c : Call) (desk : Desk) → Others c → Counted desk → Good (unless_refused cause site now caller c desk)
+  unless_refused_good None now caller c desk k had = reach_good now caller None (first_of c.opening) c desk k had
+  unless_refused_good (Some cause) now caller c desk k had = refused_good now.at caller cause c desk k had
+
+  pub opened_good : (now : Standing) (a : Arrival) (desk : Desk) → Counted desk → Good (opened site now a desk)
+  unfolding opened
+  opened_good now a desk had =
+      let c : Call = new_call site (opening_of site now (token desk) a) in
+      unless_refused_good (refusal_of now.at c.opening) now (caller_of now.at c) c (told_caller site c 100 (drew desk)) (record { loose_in = tt; taken_in = tt }) (told_in c 100 (drew desk) (drew_in desk had))
+
+  -- ---- without a leg
+
+  finished_in_good : (phase : Phase) (at : ℕ) (c : Call) (desk : Desk) → At phase → Others c → Counted desk → Good (finished_in phase site at (at_phase phase c) desk)
+  finished_in_good (Offered x) at c desk p k had = onward_good (at_phase (Offered x) c) desk p k had
+  finished_in_good (Stood x stage) at c desk p k had = onward_good (at_phase (Stood x stage) c) desk p k had
+  finished_in_good (Lent loan) at c desk p k had =
+      over_good at causes.Ended _ _ (at_phase (Lent loan) c) (bye site.sip (released_leg loan.left).dialogue desk) k (bye_in (released_leg loan.left).dialogue desk had)
+  finished_in_good (Over cause) at c desk p k had = onward_good (at_phase (Over cause) c) desk p k had
+
+  pub finished_good : (at : ℕ) (c : Call) (desk : Desk) → At c.phase → Others c → Counted desk → Good (finished site at c desk)
+  unfolding finished
+  finished_good at c desk p k had = finished_in_good c.phase at c desk p k had

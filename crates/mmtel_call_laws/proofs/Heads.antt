@@ -1,0 +1,14 @@
+pub mod Bytes
+pub mod Splitting
+pub mod Reading
+pub mod Building
+pub mod Hearing
+pub mod Sending
+pub mod Keeping
+pub mod Deciding
+pub mod Going
+pub mod Ringing
+pub mod Leaving
+pub mod Talking
+pub mod Stories
+pub mod Canonical

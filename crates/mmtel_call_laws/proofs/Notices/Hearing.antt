@@ -1,0 +1,226 @@
+-- What a call that is offered tells its caller on each signal, but of diversions: nothing of its own.
+use Rattle.std.proofs.Common.{[], ◌≡◌, ℕ, ◌==◌, Bool, true, false, List, refl, ap, sym, subst, ◌∙◌}
+use Rattle.std.specs.Prelude.{Option, Some, None, if◌then◌else◌, nat_lt, not, ◌&&◌, is_ok, Result, Ok, Err}
+use Rattle.mmtel_answers.specs.Said.{Said, status_of}
+use Rattle.mmtel_desk.specs.Sending.{final_acked}
+use Rattle.mmtel_desk.specs.declared.desks.Desk.{Desk}
+use Rattle.mmtel_leg.specs.declared.dialogues.DialogueFault.{DialogueFault}
+use Rattle.mmtel_leg.specs.declared.dialogues.InFlight.TheVariants as in_flight
+use Rattle.mmtel_precedence.specs.Attempts as attempts
+use Rattle.mmtel_precedence.specs.Attempts.{end_by_final, end_by_response, end_by_time, rings}
+use Rattle.mmtel_precedence.specs.Calls.{Answer, Cancel, End, NoReply, NotReachable, Standing}
+use Rattle.mmtel_sheet_values.specs.declared.values.Sheet.{Sheet}
+use Rattle.mmtel_transaction.specs.declared.words.DueWord.{DueWord}
+use Rattle.mmtel_transaction.specs.declared.words.DueWord.TheVariants as due
+use Rattle.mmtel_transaction.specs.declared.words.TKey.{TKey}
+use Rattle.mmtel_types.specs.declared.sides.Side.{Side}
+use Rattle.mmtel_types.specs.declared.sides.Side.TheVariants.{Caller, Callee}
+use Rattle.mmtel_call_decisions.specs.Decisions.{its_sheet, redirect_of, time_of}
+use Rattle.mmtel_call_decisions.specs.Invites.{invite_answered, invite_silent}
+use Rattle.mmtel_call_decisions.specs.Site.{Site}
+use Rattle.mmtel_call.specs.Closing.{Step, onward}
+use Rattle.mmtel_call.specs.Diverting.{goes_on}
+use Rattle.mmtel_call.specs.Leaving.{without_silent}
+use Rattle.mmtel_call.specs.Requests.{is_bye, says, unheard, unlisted}
+use Rattle.mmtel_call.specs.Ringing.{answered, armed_in, cancelled_attempt, failed, given_up, heard_by, left, on_due, on_request, on_request_if, on_response, proceeding, timed_out, tried}
+use Rattle.mmtel_call.specs.Sending.{relayed_to_caller, replied_to, told_caller}
+use Rattle.mmtel_call.specs.Table.{answer_to, silence_of, step}
+use Rattle.mmtel_call.specs.declared.calls.Call.{Call}
+use Rattle.mmtel_call.specs.declared.calls.Trial.{Trial}
+use Rattle.mmtel_call.specs.declared.signals.Signal.{Signal}
+use Rattle.mmtel_call.specs.declared.signals.Signal.TheVariants as signal
+use Rattle.mmtel_call_laws.specs.Endings.{end_by_answer, end_by_deadline, end_by_request, end_by_silence, end_of_attempt, is_its}
+use Rattle.mmtel_call_laws.proofs.Faring.{final-answered, offered, success-yes, trying-provisional}
+use Rattle.mmtel_call_laws.proofs.Untouched.{Alike, alike, other-untouched}
+use Rattle.mmtel_call_laws.specs.Notices.Due.{is_notice}
+use Rattle.mmtel_call_laws.proofs.Notices.Adding.{IsQuiet, IsSilent, adds-emit, adds-if, adds-reply, adds-then, one-passed, other-silent, quiet, quiet-then, silent, silent-cancelled, silent-final-acked, silent-reply, silent-unheard, silent-unlisted}
+use Rattle.mmtel_call_laws.proofs.Notices.Owning.{IsFinal, high-notice, its-final, time-final}
+
+-- its attempt goes on, was answered or was given up
+abbrev pub EndsAlone : Option End → Type 0
+EndsAlone None = Unit {0}
+EndsAlone (Some Answer) = Unit {0}
+EndsAlone (Some Cancel) = Unit {0}
+EndsAlone (Some how) = ⊥
+
+pub record IsAlone (passed : Bool) (c : Call) (before : Desk) (end : Option End) (s : Step) : Type 0 where
+  pub ends : EndsAlone end
+  pub diversions : s.call.diversions ≡ c.diversions
+  pub none : IsQuiet passed c.opening.key before s.desk
+
+-- the attempt failed
+pub record GoesOn (passed : Bool) (site : Site) (now : Standing) (x : Trial) (c : Call) (before : Desk) (s : Step) (how : End) (m : Option Said) (d : Call) (desk : Desk) : Type 0 where
+  pub is : s ≡ goes_on site now x how m d desk
+  pub same : Alike c d
+  pub final : IsFinal how
+  pub none : IsSilent c.opening.key before desk
+  pub own : passed ≡ false
+
+pub data Hears (passed : Bool) (site : Site) (now : Standing) (x : Trial) (c : Call) (before : Desk) (end : Option End) (s : Step) : Type 0 where
+  Stays : IsAlone passed c before end s → Hears passed site now x c before end s
+  Goes : (how : End) → end ≡ Some how → (m : Option Said) → (d : Call) → (desk : Desk) → GoesOn passed site now x c before s how m d desk → Hears passed site now x c before end s
+
+stays : (passed : Bool) (site : Site) (now : Standing) (x : Trial) (c : Call) (before : Desk) (end : Option End) (s : Step) → EndsAlone end → s.call.diversions ≡ c.diversions → IsSilent c.opening.key before s.desk → Hears passed site now x c before end s
+stays passed site now x c before end s e f g = Stays (record { ends = e; diversions = f; none = quiet passed c.opening.key before s.desk g })
+
+hears-if : (passed : Bool) (site : Site) (now : Standing) (x : Trial) (c : Call) (before : Desk) (b : Bool) (end end2 : Option End) (s s2 : Step) → Hears passed site now x c before end s → Hears passed site now x c before end2 s2 →
+    Hears passed site now x c before (if b then end else end2) (if b then s else s2)
+hears-if passed site now x c before true end end2 s s2 f g = f
+hears-if passed site now x c before false end end2 s s2 f g = g
+
+-- ---- the caller gives up
+
+gives-up : (passed : Bool) (site : Site) (now : Standing) (x y : Trial) (c : Call) (before desk : Desk) → IsSilent c.opening.key before desk → Hears passed site now x (offered x c) before (Some Cancel) (given_up site now.at y (offered y c) desk)
+gives-up passed site now x y c before desk q =
+    let key = c.opening.key in
+    let told = told_caller site (offered y c) 487 desk in
+    let gone = cancelled_attempt site y told in
+    let added = adds-then key before told gone [] [] (adds-then key before desk told [] [] q (silent-reply key key _ _ _ desk refl)) (silent-cancelled key site.sip y.attempt.invitation told) in
+    stays passed site now x (offered x c) before (Some Cancel) (given_up site now.at y (offered y c) desk) tt refl (record { new = added.new; out = added.out; seen = added.seen })
+
+-- ---- requests
+
+caller-heard : (site : Site) (now : Standing) (x : Trial) (key : TKey) (m : Said) (c : Call) (desk : Desk) (said : Result (Unit {0}) DialogueFault) →
+    Hears false site now x (offered x c) desk (if is_ok said && is_bye m then Some Cancel else None) (on_request_if said site now.at x Caller key m (offered x c) desk)
+caller-heard site now x key m c desk (Ok heard) =
+    let y = heard_by Caller m x in
+    go (is_bye m) y (gives-up false site now x y c desk (replied_to site (offered y c) key m 200 desk) (silent-reply c.opening.key key _ _ _ desk refl))
+    (stays false site now x (offered x c) desk None (onward (offered y c) (unlisted site (offered y c) key m desk)) tt refl (silent-unlisted c.opening.key site (offered y c) key m desk))
+  where
+    go : (b : Bool) (y : Trial) → Hears false site now x (offered x c) desk (Some Cancel) (given_up site now.at y (offered y c) (replied_to site (offered y c) key m 200 desk)) →
+        Hears false site now x (offered x c) desk None (onward (offered y c) (unlisted site (offered y c) key m desk)) →
+        Hears false site now x (offered x c) desk (if true && b then Some Cancel else None)
+        (if b then given_up site now.at y (offered y c) (replied_to site (offered y c) key m 200 desk) else onward (offered y c) (unlisted site (offered y c) key m desk))
+    go true y f g = f
+    go false y f g = g
+caller-heard site now x key m c desk (Err fault) =
+    stays false site now x (offered x c) desk None (onward (offered x c) (unheard site (offered x c) key m fault desk)) tt refl (silent-unheard c.opening.key site (offered x c) key m fault desk)
+
+callee-heard : (site : Site) (now : Standing) (x : Trial) (key : TKey) (m : Said) (c : Call) (desk : Desk) (said : Result (Unit {0}) DialogueFault) →
+    Hears false site now x (offered x c) desk None (on_request_if said site now.at x Callee key m (offered x c) desk)
+callee-heard site now x key m c desk (Ok heard) =
+    let y = heard_by Callee m x in
+    stays false site now x (offered x c) desk None (onward (offered y c) (unlisted site (offered y c) key m desk)) tt refl (silent-unlisted c.opening.key site (offered y c) key m desk)
+callee-heard site now x key m c desk (Err fault) =
+    stays false site now x (offered x c) desk None (onward (offered x c) (unheard site (offered x c) key m fault desk)) tt refl (silent-unheard c.opening.key site (offered x c) key m fault desk)
+
+request-hears : (site : Site) (now : Standing) (x : Trial) (side : Side) (key : TKey) (m : Said) (c : Call) (desk : Desk) →
+    Hears false site now x (offered x c) desk (end_by_request x side m) (on_request site now.at x side key m (offered x c) desk)
+request-hears site now x Caller key m c desk = caller-heard site now x key m c desk (says x.caller m in_flight.Theirs)
+request-hears site now x Callee key m c desk = callee-heard site now x key m c desk (says x.callee.leg m in_flight.Own)
+
+-- ---- deadlines and silence
+
+waits : (passed : Bool) (site : Site) (now : Standing) (x : Trial) (c : Call) (desk : Desk) → Hears passed site now x (offered x c) desk None (onward (offered x c) desk)
+waits passed site now x c desk = stays passed site now x (offered x c) desk None (onward (offered x c) desk) tt refl (silent c.opening.key desk)
+
+timed : (site : Site) (now : Standing) (x : Trial) (how : End) (c : Call) (desk : Desk) → IsFinal how → Hears false site now x (offered x c) desk (Some how) (timed_out site now x how (offered x c) desk)
+timed site now x how c desk final = Goes how refl None (left x (offered x c)) (cancelled_attempt site x desk) (record {
+  is = refl;
+  same = record { opening = refl; diversions = refl; answered = refl; past = refl };
+  final = final;
+  none = silent-cancelled c.opening.key site.sip x.attempt.invitation desk;
+  own = refl;
+})
+
+due-hears : (site : Site) (now : Standing) (x : Trial) (what : DueWord) (c : Call) (desk : Desk) → Hears false site now x (offered x c) desk (end_by_deadline x what) (on_due site now x what (offered x c) desk)
+due-hears site now x (due.NoReply number) c desk = hears-if false site now x (offered x c) desk (number == x.attempt.number) _ _ _ _ (timed site now x NoReply c desk tt) (waits false site now x c desk)
+due-hears site now x (due.Cap number) c desk =
+    hears-if false site now x (offered x c) desk (number == x.attempt.number) _ _ _ _ (timed site now x (end_by_time x.attempt.rang) c desk (time-final x.attempt.rang)) (waits false site now x c desk)
+due-hears site now x (due.NoAck number) c desk = waits false site now x c desk
+
+gone-quiet : (site : Site) (now : Standing) (x : Trial) (c : Call) (desk : Desk) (its rang : Bool) (branch : List ℕ) →
+    Hears false site now x (offered x c) desk (if its && not rang then Some (NotReachable 408) else None)
+    (if its then (if rang then onward (offered x c) desk else goes_on site now x (NotReachable 408) None (offered x c) desk) else onward (without_silent branch (offered x c)) desk)
+gone-quiet site now x c desk true true branch = waits false site now x c desk
+gone-quiet site now x c desk true false branch = Goes (NotReachable 408) refl None (offered x c) desk (record { is = refl; same = alike (offered x c); final = refl; none = silent c.opening.key desk; own = refl })
+gone-quiet site now x c desk false rang branch = stays false site now x (offered x c) desk None (onward (without_silent branch (offered x c)) desk) tt refl (silent c.opening.key desk)
+
+silence-hears : (site : Site) (now : Standing) (x : Trial) (branch : Option (List ℕ)) (c : Call) (desk : Desk) → Hears false site now x (offered x c) desk (end_by_silence x branch) (silence_of branch site now (offered x c) desk)
+silence-hears site now x None c desk = waits false site now x c desk
+silence-hears site now x (Some branch) c desk = gone-quiet site now x c desk (is_its x branch) x.attempt.rang branch
+
+-- ---- responses
+
+-- one that is passed on to the caller
+relayed-quiet : (site : Site) (x : Trial) (m : Said) (c : Call) (desk : Desk) → IsQuiet (status_of m.heard.start == 181) c.opening.key desk (relayed_to_caller site (offered x c) x.attempt.service m desk)
+relayed-quiet site x m c desk = record {
+  notices = _;
+  adds = adds-reply c.opening.key c.opening.key _ _ _ desk (status_of m.heard.start == 181) refl;
+  none = one-passed (c.opening.key.0 == c.opening.key.0) (status_of m.heard.start == 181) _;
+}
+
+armed-silent : (sheet : Option Sheet) (code at : ℕ) (x : Trial) (c : Call) (desk : Desk) → IsSilent c.opening.key desk (if rings code && not x.attempt.rang then armed_in (time_of sheet) at x.attempt c desk else desk)
+armed-silent sheet code at x c desk = adds-if c.opening.key desk (rings code && not x.attempt.rang) (armed_in (time_of sheet) at x.attempt c desk) desk [] (go (time_of sheet)) (silent c.opening.key desk)
+  where
+    go : (time : Option ℕ) → IsSilent c.opening.key desk (armed_in time at x.attempt c desk)
+    go None = silent c.opening.key desk
+    go (Some time) = adds-emit c.opening.key desk _ [] refl
+
+proceeds : (site : Site) (now : Standing) (x : Trial) (key : TKey) (m : Said) (code : ℕ) (c : Call) (desk : Desk) → Hears (status_of m.heard.start == 181) site now x (offered x c) desk None (proceeding site now.at x key m code (offered x c) desk)
+proceeds site now x key m code c desk =
+    let given = relayed_to_caller site (offered x c) x.attempt.service m desk in
+    Stays (record {
+      ends = tt;
+      diversions = refl;
+      none = quiet-then (status_of m.heard.start == 181) c.opening.key desk given _ (relayed-quiet site x m c desk) (armed-silent (its_sheet x.attempt.service) code now.at x (offered x c) given);
+    })
+
+answers : (passed : Bool) (site : Site) (now : Standing) (x : Trial) (key : TKey) (m : Said) (c : Call) (desk : Desk) (end : End) → passed ≡ (status_of m.heard.start == 181) → end ≡ Answer →
+    Hears passed site now x (offered x c) desk (Some end) (answered site now.at x key m (offered x c) desk)
+answers passed site now x key m c desk end p e =
+    let given = relayed_to_caller site (offered x c) x.attempt.service m desk in
+    subst (λ (end : End). Hears passed site now x (offered x c) desk (Some end) (answered site now.at x key m (offered x c) desk)) (sym e)
+    (subst (λ passed. Hears passed site now x (offered x c) desk (Some Answer) (answered site now.at x key m (offered x c) desk)) (sym p)
+    (Stays (record {
+      ends = tt;
+      diversions = refl;
+      none = quiet-then (status_of m.heard.start == 181) c.opening.key desk given _ (relayed-quiet site x m c desk) (adds-emit c.opening.key given _ [] refl);
+    })))
+
+-- by the class of its status
+class-hears : (site : Site) (now : Standing) (x : Trial) (key : TKey) (m : Said) (code : ℕ) (c : Call) (desk : Desk) (trying provisional success : Bool) →
+    code ≡ status_of m.heard.start → success ≡ nat_lt code 300 → (trying ≡ true → provisional ≡ true) → (provisional ≡ false → success ≡ true → end_by_final code (redirect_of m) x.attempt.rang ≡ Answer) →
+    Hears (status_of m.heard.start == 181) site now x (offered x c) desk (if provisional then None else Some (end_by_final code (redirect_of m) x.attempt.rang))
+    (if trying then tried key x (offered x c) desk else if provisional then proceeding site now.at x key m code (offered x c) desk else if success then answered site now.at x key m (offered x c) desk else failed site now x key m code (offered x c) desk)
+class-hears site now x key m code c desk true true success s v e f = stays (status_of m.heard.start == 181) site now x (offered x c) desk None (tried key x (offered x c) desk) tt refl (silent c.opening.key desk)
+class-hears site now x key m code c desk true false success s v e f = absurd (let h : false ≡ true = e refl in cc)
+class-hears site now x key m code c desk false true success s v e f = proceeds site now x key m code c desk
+class-hears site now x key m code c desk false false true s v e f = answers (status_of m.heard.start == 181) site now x key m c desk (end_by_final code (redirect_of m) x.attempt.rang) refl (f refl refl)
+class-hears site now x key m code c desk false false false s v e f =
+    Goes (end_by_final code (redirect_of m) x.attempt.rang) refl (Some m) (offered x c) (final_acked site.sip key x.attempt.invitation m.heard desk) (record {
+      is = refl;
+      same = alike (offered x c);
+      final = its-final code (redirect_of m) x.attempt.rang (high-notice code (sym v));
+      none = silent-final-acked c.opening.key key site.sip x.attempt.invitation m.heard desk;
+      own = ap (λ n. n == 181) (sym s) ∙ high-notice code (sym v);
+    })
+
+response-hears : (site : Site) (now : Standing) (x : Trial) (key : TKey) (m : Said) (code : ℕ) (c : Call) (desk : Desk) → code ≡ status_of m.heard.start →
+    Hears (status_of m.heard.start == 181) site now x (offered x c) desk (end_by_response code (redirect_of m) x.attempt.rang) (on_response site now x key m code (offered x c) desk)
+response-hears site now x key m code c desk s =
+    class-hears site now x key m code c desk (nat_lt code 101) (nat_lt code 200) (nat_lt code 300) s refl (trying-provisional code)
+    (λ e f. final-answered (attempts.is_success code) _ _ _ code (redirect_of m) x.attempt.rang (success-yes code e f))
+
+answer-hears : (site : Site) (now : Standing) (x : Trial) (key : TKey) (m : Said) (branch : Option (List ℕ)) (c : Call) (desk : Desk) →
+    Hears (status_of m.heard.start == 181) site now x (offered x c) desk (end_by_answer x m branch) (answer_to branch site now key m (offered x c) desk)
+answer-hears site now x key m None c desk = waits (status_of m.heard.start == 181) site now x c desk
+answer-hears site now x key m (Some branch) c desk =
+    hears-if (status_of m.heard.start == 181) site now x (offered x c) desk (is_its x branch) _ _ _ _ (response-hears site now x key m (status_of m.heard.start) c desk refl)
+    (stays (status_of m.heard.start == 181) site now x (offered x c) desk None _ tt (other-untouched site key m branch (offered x c) desk).alike.diversions (other-silent c.opening.key site key m branch (offered x c) desk))
+
+-- ---- any signal
+
+pub hears : (site : Site) (now : Standing) (x : Trial) (heard : Signal) (c : Call) (desk : Desk) →
+    Hears (is_notice heard) site now x (offered x c) desk (end_of_attempt x (offered x c) heard) (step site now heard (offered x c) desk)
+unfolding step
+hears site now x (signal.Request side key request) c desk = request-hears site now x side key request c desk
+hears site now x (signal.Ack side ack) c desk = waits false site now x c desk
+hears site now x (signal.Cancel key cancel invite) c desk =
+    let replied = replied_to site (offered x c) key cancel 200 desk in
+    let added = silent-reply c.opening.key key _ _ _ desk refl in
+    hears-if false site now x (offered x c) desk (invite.0 == c.opening.key.0) _ _ _ _ (gives-up false site now x x c desk replied added) (stays false site now x (offered x c) desk None (onward (offered x c) replied) tt refl added)
+hears site now x (signal.Answer key response) c desk = answer-hears site now x key response (invite_answered response) c desk
+hears site now x (signal.Silent branch method) c desk = silence-hears site now x (invite_silent branch method) c desk
+hears site now x (signal.Due what) c desk = due-hears site now x what c desk
+hears site now x (signal.Ended key) c desk = stays false site now x (offered x c) desk None _ tt refl (silent c.opening.key desk)

@@ -1,0 +1,125 @@
+-- A request that is kept to be answered is public in one way, whatever was hidden of it before.
+use Rattle.std.proofs.Common.{◌≡◌, ℕ, Bool, true, false, ◌&&◌, List, [], ◌∷◌, Option, Some, None, refl, ap, ◌∙◌, cond}
+use Rattle.std.proofs.lemmas.List.{append-nil}
+use Rattle.std.specs.List.{flat_map}
+use Rattle.mmtel_answers.specs.Said.{Said}
+use Rattle.mmtel_history.proofs.ListLaws.{masked_once}
+use Rattle.mmtel_history.proofs.MaskedValueLaws.{masked_value_once}
+use Rattle.mmtel_history.specs.HistoryInfo.{masked_entry, masked_list, masked_uri}
+use Rattle.mmtel_history.specs.MaskedValues.{is_marked_value, masked_value_text}
+use Rattle.mmtel_history.specs.declared.entries.Entry.{Entry}
+use Rattle.mmtel_message.specs.Faults.{is_request}
+use Rattle.mmtel_message.specs.Message.{Line}
+use Rattle.mmtel_message.specs.declared.messages.Start.{Start}
+use Rattle.mmtel_trust.proofs.Absorbed.{absorbed}
+use Rattle.mmtel_trust.proofs.Masked.{hidden_once, served_once, then_by}
+use Rattle.mmtel_trust.specs.Digest.{HeardMessage}
+use Rattle.mmtel_trust.specs.Kinds.{kind_of}
+use Rattle.mmtel_trust.specs.Mask.{AllEntries, Entries, MarkedEntries, NoEntries, Places, hidden_entries, hidden_uri, hide_if, masked_entries, masked_line, masked_lines, masked_value, places_in, redirects, serve_if, unless_gone, with_name}
+use Rattle.mmtel_trust.specs.declared.kinds.HeaderKind.{HeaderKind}
+use Rattle.mmtel_trust.specs.declared.kinds.HeaderKind.TheVariants.{From, To, Contact, Asserted, Served, Privacy, History, Options, Passed, Personal, Trusted, Other}
+use Rattle.mmtel_call_laws.specs.Secret.Parts.{everything, public_request}
+use Rattle.mmtel_call_laws.specs.Secret.Roles.{Role, hidden_by, private_places, without_private}
+
+-- ---- places: all of them after some
+
+pub hide_absorbs : (b : Bool) (v : List ℕ) → hide_if true (hide_if b v) ≡ hide_if true v
+hide_absorbs true v = hidden_once v
+hide_absorbs false v = refl
+
+hide_to : (c b : Bool) (v : List ℕ) → hide_if (cond c false true) (hide_if (cond c false b) v) ≡ hide_if (cond c false true) v
+hide_to true b v = refl
+hide_to false b v = hide_absorbs b v
+
+serve_absorbs : (b : Bool) (v : List ℕ) → serve_if true (serve_if b v) ≡ serve_if true v
+serve_absorbs true v = served_once v
+serve_absorbs false v = refl
+
+gone_absorbs : (b : Bool) (v : List ℕ) → then_by (unless_gone true) (unless_gone b v) ≡ unless_gone true v
+gone_absorbs true v = refl
+gone_absorbs false v = refl
+
+marked_absorbs : (b : Bool) (v : List ℕ) → masked_value_text (cond b (masked_value_text v) v) ≡ masked_value_text v
+marked_absorbs true v = masked_value_once v
+marked_absorbs false v = refl
+
+entries_absorb : (es : Entries) (v : List ℕ) → masked_entries AllEntries (masked_entries es v) ≡ masked_entries AllEntries v
+entries_absorb NoEntries v = refl
+entries_absorb MarkedEntries v = marked_absorbs (is_marked_value v) v
+entries_absorb AllEntries v = masked_value_once v
+
+hide_contact : (c : Bool) (b : Bool) (v : List ℕ) → hide_if (cond c true true) (hide_if b v) ≡ hide_if (cond c true true) v
+hide_contact true b v = hide_absorbs b v
+hide_contact false b v = hide_absorbs b v
+
+kind_absorbs : (start : Start) (p : Places) (k : HeaderKind) (v : List ℕ) → then_by (masked_value (places_in start everything) k) (masked_value (places_in start p) k v) ≡ masked_value (places_in start everything) k v
+kind_absorbs start p From v = ap (λ (w : List ℕ). Some w) (hide_absorbs p.from v)
+kind_absorbs start p To v = ap (λ (w : List ℕ). Some w) (hide_to (is_request start) p.to v)
+kind_absorbs start p Contact v = ap (λ (w : List ℕ). Some w) (hide_contact (redirects start) (places_in start p).contact v)
+kind_absorbs start p Asserted v = gone_absorbs p.asserted v
+kind_absorbs start p Served v = ap (λ (w : List ℕ). Some w) (serve_absorbs p.served v)
+kind_absorbs start p Privacy v = refl
+kind_absorbs start p History v = ap (λ (w : List ℕ). Some w) (entries_absorb p.history v)
+kind_absorbs start p Options v = refl
+kind_absorbs start p Passed v = refl
+kind_absorbs start p Personal v = gone_absorbs p.personal v
+kind_absorbs start p Trusted v = refl
+kind_absorbs start p Other v = refl
+
+-- ---- lines
+
+name_absorbs : (p : Places) (n : List ℕ) (o : Option (List ℕ)) → flat_map (masked_line p) (with_name n o) ≡ with_name n (then_by (masked_value p (kind_of n)) o)
+unfolding masked_line
+name_absorbs p n None = refl
+name_absorbs p n (Some v) = append-nil (with_name n (masked_value p (kind_of n) v))
+
+line_absorbs : (start : Start) (p : Places) (l : Line) → flat_map (masked_line (places_in start everything)) (masked_line (places_in start p) l) ≡ masked_line (places_in start everything) l
+unfolding masked_line
+line_absorbs start p l = name_absorbs (places_in start everything) l.0 (masked_value (places_in start p) (kind_of l.0) l.1) ∙ ap (with_name l.0) (kind_absorbs start p (kind_of l.0) l.1)
+
+lines_absorb : (start : Start) (p : Places) (ls : List Line) → masked_lines (places_in start everything) (masked_lines (places_in start p) ls) ≡ masked_lines (places_in start everything) ls
+lines_absorb start p ls = absorbed (masked_line (places_in start p)) (masked_line (places_in start everything)) (line_absorbs start p) ls
+
+lines_by : (b : Bool) (start : Start) (p : Places) (ls : List Line) → cond b (masked_lines (places_in start everything) (cond b (masked_lines (places_in start p) ls) ls)) (cond b (masked_lines (places_in start p) ls) ls) ≡ cond b (masked_lines (places_in start everything) ls) ls
+lines_by true start p ls = lines_absorb start p ls
+lines_by false start p ls = refl
+
+-- ---- what else is read
+
+entry_twice : (b : Bool) (e : Entry) → masked_entry true (cond b (record e { uri = masked_uri e.cause; hidden = false }) e) ≡ masked_entry true e
+entry_twice true e = refl
+entry_twice false e = refl
+
+list_twice : (h : List Entry) → masked_list true (masked_list false h) ≡ masked_list true h
+list_twice [] = refl
+list_twice (e ∷ h) = ap (λ (x : Entry). x ∷ masked_list true (masked_list false h)) (entry_twice e.hidden e) ∙ ap (λ (l : List Entry). masked_entry true e ∷ l) (list_twice h)
+
+list_by : (b : Bool) (es : Entries) (h : List Entry) → cond b (masked_list true (cond b (hidden_entries es h) h)) (cond b (hidden_entries es h) h) ≡ cond b (masked_list true h) h
+list_by false es h = refl
+list_by true NoEntries h = refl
+list_by true MarkedEntries h = list_twice h
+list_by true AllEntries h = masked_once true h
+
+uri_by : (b c : Bool) (u : Option (List ℕ)) → hidden_uri (b && true) (hidden_uri (b && c) u) ≡ hidden_uri (b && true) u
+uri_by false c u = refl
+uri_by true false u = refl
+uri_by true true None = refl
+uri_by true true (Some v) = refl
+
+-- ---- the request
+
+abbrev with_places : HeardMessage → List Entry → Option (List ℕ) → List Line → HeardMessage
+with_places m h u ls = record m { history = h; redirect = u; lines = ls }
+
+hidden_absorbs : (b : Bool) (p : Places) (m : HeardMessage) → hidden_by b everything (hidden_by b p m) ≡ hidden_by b everything m
+hidden_absorbs b p m =
+    let all : List Entry = cond b (masked_list true m.history) m.history in
+    let u : Option (List ℕ) = hidden_uri (b && true) (hidden_uri (b && p.redirect) m.redirect) in
+    let ls : List Line = cond b (masked_lines (places_in m.start p) m.lines) m.lines in
+    let again : List Line = cond b (masked_lines (places_in m.start everything) ls) ls in
+    ap (λ (x : List Entry). with_places m x u again) (list_by b p.history m.history)
+    ∙ (ap (λ (x : Option (List ℕ)). with_places m all x again) (uri_by b p.redirect m.redirect)
+    ∙ ap (λ (x : List Line). with_places m all (hidden_uri (b && true) m.redirect) x) (lines_by b m.start p m.lines))
+
+pub request_absorbs : (role : Role) (m : Said) → public_request (without_private role m) ≡ public_request m
+request_absorbs role m = ap (λ (x : HeardMessage). record m { heard = x }) (hidden_absorbs m.heard.trusted (private_places role m.heard) m.heard)

@@ -1,0 +1,141 @@
+-- To where a decision diverts a call: a rule of the record says so, or the response that redirects.
+use Rattle.std.proofs.Common.{◌≡◌, ℕ, Bool, true, false, not, List, [], ◌∷◌, refl, ap, cond, Option, Some, None}
+use Rattle.std.specs.Prelude.{slice_get, option_and_then}
+use Rattle.std.specs.Option.{option_map}
+use Rattle.mmtel_diversion.specs.Diversion.{Chosen, cause_of, diversion_among, diversion_by, forward_of}
+use Rattle.mmtel_precedence.specs.Calls.{Reach}
+use Rattle.mmtel_precedence.specs.Laws.{diversion_rules}
+use Rattle.mmtel_precedence.specs.Moves.{account_at}
+use Rattle.mmtel_precedence.specs.Services.{AccountState, Diverts, DueDiversion, Nothing, Refuses, Says, bars_incoming, diverts_by, due_of, due_on, first_said, refuses_if, rejects_anonymous, services_on_arrival}
+use Rattle.mmtel_precedence.specs.Turns.{Turn, TurnDivert, TurnOffer, TurnRefuse, offer_turn, turn_at, turn_by}
+use Rattle.mmtel_precedence.specs.Verdicts.{Decision, Ends, Forwards as Diverted, Offers, decision_by, verdict_of}
+use Rattle.mmtel_precedence.specs.declared.endings.Ending.TheVariants as ending
+use Rattle.mmtel_rules.specs.Circumstances.{Circumstances}
+use Rattle.mmtel_rules.specs.Rules.{first_that_holds}
+use Rattle.mmtel_rules.specs.declared.values.When.{When}
+use Rattle.mmtel_rules.specs.declared.values.When.TheVariants as event
+use Rattle.mmtel_sheet_values.specs.declared.values.Action.{Action}
+use Rattle.mmtel_sheet_values.specs.declared.values.Action.TheVariants as act
+use Rattle.mmtel_sheet_values.specs.declared.values.DiversionPart.{DiversionPart}
+use Rattle.mmtel_sheet_values.specs.declared.values.Forward.{Forward}
+use Rattle.mmtel_sheet_values.specs.declared.values.Rule.{Rule}
+use Rattle.mmtel_sheet_values.specs.declared.values.Sheet.{Sheet}
+use Rattle.mmtel_types.specs.declared.causes.Cause.{Cause}
+use Rattle.mmtel_waiting.specs.Waiting.{is_busy}
+use Rattle.mmtel_call_laws.specs.Secret.Directories.{Forwards}
+
+module _ (sheet : Sheet) where
+  -- ---- what the record's rules divert to
+
+  -- a diversion, if one is due, is one of the record
+  abbrev pub DueLeads : Option DueDiversion → Type 0
+  DueLeads None = Unit {0}
+  DueLeads (Some due) = Forwards sheet due.forward
+
+  abbrev chosen_by : ℕ → Rule → Forward → Chosen
+  chosen_by place rule forward = record { rule = place; forward = forward; cause = cause_of rule.condition.event }
+
+  action-leads : (place : ℕ) (rule : Rule) → slice_get (diversion_rules sheet.diversion) place ≡ Some rule → (action : Action) → rule.action ≡ action →
+      DueLeads (option_map due_of (option_map (chosen_by place rule) (forward_of action)))
+  action-leads place rule stands (act.Forward forward) e = record { place = place; rule = rule; stands = stands; does = ap forward_of e }
+  action-leads place rule stands (act.Allow allowed) e = tt
+
+  rule-leads : (place : ℕ) (r : Option Rule) → slice_get (diversion_rules sheet.diversion) place ≡ r → DueLeads (option_map due_of (option_and_then (diversion_by place) r))
+  rule-leads place None e = tt
+  rule-leads place (Some rule) e = action-leads place rule e rule.action refl
+
+  place-leads : (rules : List Rule) → diversion_rules sheet.diversion ≡ rules → (place : Option ℕ) →
+      DueLeads (option_map due_of (option_and_then (λ (at : ℕ). option_and_then (diversion_by at) (slice_get rules at)) place))
+  place-leads rules e None = tt
+  place-leads rules e (Some at) = rule-leads at (slice_get rules at) (ap (λ (l : List Rule). slice_get l at) e)
+
+  part-leads : (k : Circumstances) (when : When) (part : Option DiversionPart) → sheet.diversion ≡ part →
+      DueLeads (option_map due_of (option_and_then (λ (p : DiversionPart). diversion_among k when p.rules) part))
+  part-leads k when None e = tt
+  part-leads k when (Some part) e = place-leads part.rules (ap diversion_rules e) (first_that_holds k when part.rules)
+
+  pub due-leads : (k : Circumstances) (when : When) → DueLeads (due_on k when sheet)
+  due-leads k when = part-leads k when sheet.diversion refl
+
+  -- ---- at a target
+
+  abbrev SaysLead : Says → Type 0
+  SaysLead Nothing = Unit {0}
+  SaysLead (Refuses cause) = Unit {0}
+  SaysLead (Diverts due) = Forwards sheet due.forward
+
+  abbrev AllLead : List Says → Type 0
+  AllLead [] = Unit {0}
+  AllLead (says ∷ later) = SaysLead says × AllLead later
+
+  first-leads : (all : List Says) → AllLead all → SaysLead (first_said all)
+  first-leads [] a = tt
+  first-leads (Nothing ∷ later) a = first-leads later a.1
+  first-leads (Refuses cause ∷ later) a = tt
+  first-leads (Diverts due ∷ later) a = a.0
+
+  refusal-leads : (applies : Bool) (cause : Cause) → SaysLead (refuses_if applies cause)
+  refusal-leads true cause = tt
+  refusal-leads false cause = tt
+
+  diversion-leads : (due : Option DueDiversion) → DueLeads due → SaysLead (diverts_by due)
+  diversion-leads None a = tt
+  diversion-leads (Some due) a = a
+
+  if-leads : (b : Bool) (due : Option DueDiversion) → DueLeads due → DueLeads (cond b due None)
+  if-leads true due a = a
+  if-leads false due a = tt
+
+  abbrev DecisionLeads : Decision → Type 0
+  DecisionLeads (Offers waiting) = Unit {0}
+  DecisionLeads (Diverted None cause) = Unit {0}
+  DecisionLeads (Diverted (Some forward) cause) = Forwards sheet forward
+  DecisionLeads (Ends cause) = Unit {0}
+
+  decision-leads : (says : Says) (live : ℕ) → SaysLead says → DecisionLeads (decision_by says live)
+  decision-leads Nothing live a = tt
+  decision-leads (Refuses cause) live a = tt
+  decision-leads (Diverts due) live a = a
+
+  -- a turn that diverts leads to where a rule of the record does
+  abbrev pub TurnLeads : Turn → Type 0
+  TurnLeads (TurnOffer waiting) = Unit {0}
+  TurnLeads (TurnDivert due) = Forwards sheet due.forward
+  TurnLeads (TurnRefuse cause) = Unit {0}
+
+  offer-leads : (unknown no_peer waiting : Bool) → TurnLeads (offer_turn unknown no_peer waiting)
+  offer-leads true no_peer waiting = tt
+  offer-leads false true waiting = tt
+  offer-leads false false waiting = tt
+
+  by-leads : (d : Decision) (unknown no_peer : Bool) → DecisionLeads d → TurnLeads (turn_by d unknown no_peer)
+  by-leads (Offers waiting) unknown no_peer a = offer-leads unknown no_peer waiting
+  by-leads (Diverted None cause) unknown no_peer a = tt
+  by-leads (Diverted (Some forward) cause) unknown no_peer a = a
+  by-leads (Ends cause) unknown no_peer a = tt
+
+  arrival-leads : (k : Circumstances) (registered : Bool) (live : ℕ) → DecisionLeads (verdict_of k (record { sheet = sheet; registered = registered; live = live }) ending.Arrived)
+  arrival-leads k registered live =
+      let account : AccountState = record { sheet = sheet; registered = registered; live = live } in
+      decision-leads (first_said (services_on_arrival k account)) live
+      (first-leads (services_on_arrival k account) (
+        refusal-leads (rejects_anonymous k sheet) _,
+        (
+          refusal-leads (bars_incoming k sheet) _,
+          (
+            diversion-leads (due_on k (event.Arrival registered) sheet) (due-leads k (event.Arrival registered)),
+            (
+              refusal-leads (not registered) _,
+              (
+                diversion-leads (cond (is_busy live sheet) (due_on k event.Busy sheet) None) (if-leads (is_busy live sheet) (due_on k event.Busy sheet) (due-leads k event.Busy)),
+                (refusal-leads (is_busy live sheet) _, tt),
+              ),
+            ),
+          ),
+        ),
+      ))
+
+pub turn-leads : (k : Circumstances) (reach : Reach) → TurnLeads (account_at reach).sheet (turn_at k reach)
+turn-leads k reach =
+    by-leads (account_at reach).sheet (verdict_of k (account_at reach) ending.Arrived) reach.is_unknown reach.has_no_peer
+    (arrival-leads (account_at reach).sheet k (account_at reach).registered (account_at reach).live)

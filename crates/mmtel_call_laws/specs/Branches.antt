@@ -1,0 +1,3 @@
+-- What the laws cite of this: the INVITEs of a call were sent, each once.
+pub mod Sent
+pub mod Laws

@@ -1,0 +1,36 @@
+-- What goes out of a step, clean: each message, and each text that is that of a message.
+use Rattle.std.specs.Prelude.{◌≡◌, ℕ, List, [], ◌∷◌}
+use Rattle.mmtel_desk.specs.declared.desks.Desk.{Desk}
+use Rattle.mmtel_message.specs.Message.{Message}
+use Rattle.mmtel_message.specs.Texts.{message_text}
+use Rattle.mmtel_message.specs.declared.messages.Start.{Start}
+use Rattle.mmtel_transaction.specs.declared.words.Emit.{Emit}
+use Rattle.mmtel_transaction.specs.declared.words.Emit.TheVariants as emit
+use Rattle.mmtel_call_laws.specs.Heads.Clean.{IsClean, IsCleanMessage}
+
+-- it holds of each
+abbrev pub Each : {A : Type 0} → (A → Type 0) → List A → Type 0
+Each P [] = Unit {0}
+Each P (x ∷ xs) = P x × Each P xs
+
+-- the text of a clean message
+pub record IsTextOfClean (text : List ℕ) : Type 0 where
+  pub message : Message Start
+  pub clean : IsCleanMessage message
+  pub is : text ≡ message_text message
+
+abbrev pub IsCleanEmit : Emit → Type 0
+IsCleanEmit (emit.Ask peer m) = IsCleanMessage m
+IsCleanEmit (emit.Reply key m) = IsCleanMessage m
+IsCleanEmit (emit.Plain peer text) = IsTextOfClean text
+IsCleanEmit (emit.Ack key m) = IsCleanMessage m
+IsCleanEmit (emit.Arm call what at) = Unit {0}
+IsCleanEmit (emit.ArmSeat room seat what at) = Unit {0}
+
+-- what tokens are drawn of, and what goes out
+pub record AreCleanDone (drawn_of : List ℕ) (out : List Emit) : Type 0 where
+  pub token_in : IsClean drawn_of
+  pub out_in : Each IsCleanEmit out
+
+abbrev pub IsCleanDesk : Desk → Type 0
+IsCleanDesk desk = AreCleanDone desk.tokens.token desk.out

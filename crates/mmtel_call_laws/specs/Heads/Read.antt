@@ -1,0 +1,18 @@
+-- What is clean of a message that was read: each that `read` gives is canonical.
+use Rattle.std.specs.Prelude.{◌≡◌, ℕ, List, Ok}
+use Rattle.mmtel_answers.specs.Said.{phrase_in}
+use Rattle.mmtel_lex.specs.Reading.{uri_of}
+use Rattle.mmtel_lex.specs.declared.values.Uri.{Uri}
+use Rattle.mmtel_message.specs.Canonical.{IsCanonical}
+use Rattle.mmtel_message.specs.Message.{Message}
+use Rattle.mmtel_message.specs.declared.messages.Start.{Start}
+use Rattle.mmtel_call_laws.specs.Heads.Clean.{AreCleanLines, IsClean}
+use Rattle.mmtel_call_laws.specs.Heads.Heard.{IsCleanUri}
+
+pub record IsReadClean : Type 0 where
+  -- its lines, and its phrase where it has one
+  pub lines : (m : Message Start) → IsCanonical m → AreCleanLines m.lines
+  pub phrase : (m : Message Start) → IsCanonical m → IsClean (phrase_in m.start)
+  -- a Request-URI of the grammar, and each URI that was read, as it is printed
+  pub uri : (text : List ℕ) (u : Uri) → uri_of text ≡ Ok u → IsClean text
+  pub printed : (text : List ℕ) (u : Uri) → uri_of text ≡ Ok u → IsCleanUri u

@@ -1,0 +1,129 @@
+-- What holds of messages and of a call, so that their public parts tell all that others may see: whose a transaction is, and that a message hides its sender only where the
+-- call knows that side as restricted.
+use Rattle.std.specs.Prelude.{ℕ, position, slice_get, ◌≡◌, true, false, Option, Some, List}
+use Rattle.mmtel_answers.specs.Said.{Said}
+use Rattle.mmtel_desk.specs.Loose.{is_of}
+use Rattle.mmtel_desk.specs.declared.invitations.Loose.{Loose}
+use Rattle.mmtel_message.specs.Faults.{is_request}
+use Rattle.mmtel_precedence.specs.Calls.{Standing, sheet_at}
+use Rattle.mmtel_precedence.specs.Laws.{AnswerAlikeTo}
+use Rattle.mmtel_rules.specs.Identities.{has_identity, identity_holds}
+use Rattle.mmtel_rules.specs.declared.values.Identities2.{Identities2}
+use Rattle.mmtel_sheet_values.specs.Sheets.{empty_sheet}
+use Rattle.mmtel_sheet_values.specs.declared.values.Sheet.{Sheet}
+use Rattle.mmtel_transaction.specs.declared.words.TKey.{TKey}
+use Rattle.mmtel_trust.specs.Members.{IsIn}
+use Rattle.mmtel_types.specs.declared.numbers.Account.{Account}
+use Rattle.mmtel_types.specs.declared.numbers.Peer.{Peer}
+use Rattle.mmtel_types.specs.declared.sides.Side.{Side}
+use Rattle.mmtel_types.specs.declared.sides.Side.TheVariants.{Callee}
+use Rattle.mmtel_call_decisions.specs.Decisions.{its_sheet}
+use Rattle.mmtel_call_decisions.specs.Showing.{facing}
+use Rattle.mmtel_call_decisions.specs.declared.openings.Opening.{Opening}
+use Rattle.mmtel_call_decisions.specs.declared.openings.Service.{Service}
+use Rattle.mmtel_call.specs.declared.calls.Trial.{Trial}
+use Rattle.mmtel_call.specs.declared.calls.Call.{Call}
+use Rattle.mmtel_call.specs.declared.calls.Phase.{Phase}
+use Rattle.mmtel_call.specs.declared.calls.Stage.{Stage}
+use Rattle.mmtel_call.specs.declared.calls.Phase.TheVariants.{Lent, Offered, Over, Stood}
+use Rattle.mmtel_call.specs.declared.calls.Stage.TheVariants.{Answered, Asking, Parting, Talking}
+use Rattle.mmtel_types.specs.Sides.{other_of}
+use Rattle.mmtel_call.specs.Answered.{acknowledges, leg_of}
+use Rattle.mmtel_call.specs.declared.calls.Pair.{Pair}
+use Rattle.mmtel_call.specs.declared.calls.Success.{Success}
+use Rattle.mmtel_call.specs.Leaving.{is_taken}
+use Rattle.mmtel_call.specs.declared.calls.Taken.{Taken}
+use Rattle.mmtel_call_laws.specs.Secret.Roles.{Role, hides, private_places, without_private}
+use Rattle.mmtel_call_laws.specs.Secret.Seen.{Trust}
+
+-- the request of a server transaction: its peer is the one who said it
+pub record IsAsked (t : Trust) (key : TKey) (m : Said) : Type 0 where
+  pub request : is_request m.heard.start ≡ true
+  pub told : m.heard.trusted ≡ t.peer m.peer
+  pub known : t.key key ≡ t.peer m.peer
+
+-- it hides who says it only on a restricted side
+abbrev pub Fits : Opening → Option Service → Side → Said → Role → Type 0
+Fits o service side m role = hides role ≡ true → (facing o service side m).restricted ≡ true
+
+-- ---- the requests that a call keeps
+
+abbrev pub stage_is_asked : Trust → Stage → Type 0
+stage_is_asked t (Answered side success) = Unit {0}
+stage_is_asked t (Parting side success) = Unit {0}
+stage_is_asked t Talking = Unit {0}
+stage_is_asked t (Asking side q) = IsAsked t q.key q.request
+
+abbrev pub phase_is_asked : Trust → Phase → Type 0
+phase_is_asked t (Offered x) = Unit {0}
+phase_is_asked t (Stood x stage) = stage_is_asked t stage
+phase_is_asked t (Lent loan) = Unit {0}
+phase_is_asked t (Over cause) = Unit {0}
+
+pub record CallIsAsked (t : Trust) (c : Call) : Type 0 where
+  pub opening : IsAsked t c.opening.key c.opening.invite
+  pub phase : phase_is_asked t c.phase
+
+-- ---- answers
+
+-- nothing of it is private
+abbrev pub IsWhole : Role → Said → Type 0
+IsWhole role m = without_private role m ≡ m
+
+-- the response that a client transaction heard, which is known by the peer that was asked. Where that one is not trusted nothing of it is private: what that peer says is
+-- not, nor what another one says that is of no side of the call
+pub record IsAnswer (t : Trust) (key : TKey) (asked : Peer) (role : Role) (m : Said) : Type 0 where
+  pub whole : t.peer asked ≡ false → IsWhole role m
+  pub known : t.key key ≡ t.peer asked
+
+-- ---- who the caller is
+
+-- one of these records
+abbrev pub IsAmong : (records : List Sheet) → Sheet → Type 0
+IsAmong records sheet = IsIn sheet records
+
+-- two callers of whom the same is decided: both or neither have an identity, and they answer alike to what the accounts of these records ask of their callers
+pub record DecideAlike (records : List Sheet) (one other : Identities2) : Type 0 where
+  pub somebody : has_identity one ≡ has_identity other
+  pub answers : (sheet : Sheet) → IsAmong records sheet → AnswerAlikeTo sheet (identity_holds one) (identity_holds other)
+
+-- all records are such ones: each that stands, and the one of nobody
+pub record AreAsked (records : List Sheet) (now : Standing) : Type 0 where
+  pub each : (account : Account) → IsAmong records (sheet_at now account)
+  pub none : IsAmong records empty_sheet
+
+-- and that of the account that is served at a target, if one is
+abbrev pub ServiceIsAsked : (records : List Sheet) → Option Service → Type 0
+ServiceIsAsked records service = (sheet : Sheet) → its_sheet service ≡ Some sheet → IsAmong records sheet
+
+-- a call may go on so: its opening is asked by its own peer, and of who is put in the caller's place the same is decided
+pub record CanGoOn (records : List Sheet) (t : Trust) (now : Standing) (who : Identities2) (c : Call) : Type 0 where
+  pub opening : IsAsked t c.opening.key c.opening.invite
+  pub caller : DecideAlike records who c.opening.identities
+  pub stand : AreAsked records now
+
+-- the target's response to an attempt: it hides the target only where it is restricted and trusted, and never where it redirects to
+pub record IsTargets (t : Trust) (key : TKey) (x : Trial) (role : Role) (m : Said) (o : Opening) : Type 0 where
+  pub answer : IsAnswer t key x.attempt.invitation.dialogue.peer role m
+  pub leg : t.peer x.callee.leg.dialogue.peer ≡ false → IsWhole role m
+  pub fits : Fits o x.attempt.service Callee m role
+  pub redirect : (private_places role m.heard).redirect ≡ false
+
+-- ---- an INVITE that the call does not wait on
+
+-- a response to one
+pub record HearsOther (t : Trust) (key : TKey) (branch : List ℕ) (role : Role) (m : Said) (c : Call) : Type 0 where
+  pub loose : (at : ℕ) (l : Loose) → position (is_of branch) c.loose ≡ Some at → slice_get c.loose at ≡ Some l → IsAnswer t key l.invitation.dialogue.peer role m
+  pub taken : (at : ℕ) (x : Taken) → position (is_taken branch) c.taken ≡ Some at → slice_get c.taken at ≡ Some x → IsAnswer t key x.invitation.dialogue.peer role m
+
+-- the INVITE whose 2xx waits for its ACK went to a peer who is trusted as that of the other leg is
+abbrev pub SentAcross : Trust → Call → Pair → Side → Success → Type 0
+SentAcross t c x side success = (taken : Taken) → IsIn taken c.taken → is_taken success.branch taken ≡ true →
+    t.peer taken.invitation.dialogue.peer ≡ t.peer (leg_of (other_of side) x).dialogue.peer
+
+-- so it is at this stage, where this ACK of the side is the one that is waited for
+abbrev pub stage_is_sent : Trust → Call → Pair → Side → Said → Stage → Type 0
+stage_is_sent t c x side m (Answered waiting success) = acknowledges waiting success side m ≡ true → SentAcross t c x side success
+stage_is_sent t c x side m (Parting waiting success) = Unit {0}
+stage_is_sent t c x side m Talking = Unit {0}
+stage_is_sent t c x side m (Asking asking q) = Unit {0}

@@ -1,0 +1,87 @@
+-- What is said of every story of a call, in the subject's words: what it keeps of its attempt is what went out and was heard.
+use Rattle.std.specs.Prelude.{◌≡◌, ◌<◌, ◌≤◌, ◌^◌, ◌+◌, ◌-◌, ℕ, List, [], ◌∷◌, ◌++◌, Option, Some, None}
+use Rattle.mmtel_transaction.specs.declared.words.DueWord.{DueWord}
+use Rattle.mmtel_transaction.specs.declared.words.DueWord.TheVariants as due
+use Rattle.mmtel_call.specs.declared.calls.Phase.{Phase}
+use Rattle.mmtel_call.specs.declared.calls.Phase.TheVariants.{Lent, Offered, Over, Stood}
+use Rattle.mmtel_call.specs.declared.calls.Trial.{Trial}
+use Rattle.mmtel_call_laws.specs.Endings.{endings_after}
+use Rattle.mmtel_call_laws.specs.Known.{outcome_after}
+use Rattle.mmtel_call_laws.specs.Shown.{Accepted, AreOwn, Invited, Refused, Sign, signs_of_targets}
+use Rattle.mmtel_call_laws.specs.Story.{Heard, Start, call_after, opening_in}
+use Rattle.mmtel_call_laws.specs.Trace.Seen.{Going, Watch, endings_seen, watch_after}
+
+-- it holds of each
+abbrev pub Each : {A : Type 0} → (A → Type 0) → List A → Type 0
+Each P [] = Unit {0}
+Each P (x ∷ xs) = P x × Each P xs
+
+-- the number of a deadline
+abbrev pub number_of_deadline : DueWord → ℕ
+number_of_deadline (due.NoReply number) = number
+number_of_deadline (due.Cap number) = number
+number_of_deadline (due.NoAck number) = number
+
+-- the attempt is the one that is on its way, where the configuration has this bound on diversions
+pub record IsOnItsWay (bound : ℕ) (x : Trial) (w : Watch) : Type 0 where
+  pub seen : Going
+  pub going : w.going ≡ Some seen
+  -- its INVITE is the one that went out: to that peer, which is the peer of the target's leg, with that Request-URI and that branch
+  pub peer : x.attempt.invitation.dialogue.peer ≡ seen.peer
+  pub leg : x.callee.leg.dialogue.peer ≡ seen.peer
+  pub uri : x.attempt.invitation.dialogue.target ≡ seen.uri
+  pub branch : x.attempt.invitation.branch ≡ seen.branch
+  -- its number is that of the longest time that went out behind it, and of the no-reply time where that went out since,
+  pub others : List DueWord
+  pub armed : seen.armed ≡ due.Cap x.attempt.number ∷ others
+  pub same : Each (λ what. what ≡ due.NoReply x.attempt.number) others
+  -- and each deadline that went out before has a lower one: of a bound that is configured there are numbers enough
+  pub few : x.attempt.number ≤ bound + 1
+  pub lower : bound < 2 ^ 64 - 2 → Each (λ what. number_of_deadline what < x.attempt.number) w.earlier
+  -- it rang where a response to that INVITE said so
+  pub rang : x.attempt.rang ≡ seen.rang
+
+-- none is on its way but while the call is offered
+abbrev pub IsSeen : (bound : ℕ) → Phase → Watch → Type 0
+IsSeen bound (Offered x) w = IsOnItsWay bound x w
+IsSeen bound (Stood x stage) w = w.going ≡ None
+IsSeen bound (Lent loan) w = w.going ≡ None
+IsSeen bound (Over cause) w = w.going ≡ None
+
+abbrev pub AttemptsAreSeen : Type 0
+AttemptsAreSeen = (s : Start) (heard : List Heard) → IsSeen s.site.bound (call_after s heard).phase (watch_after s heard)
+
+-- so how attempts ended is told by what went out and was heard alone
+abbrev pub EndingsAreSeen : Type 0
+EndingsAreSeen = (s : Start) (heard : List Heard) → endings_after s heard ≡ endings_seen s heard
+
+-- ---- and the target is that of Outcome
+
+-- the Request-URIs of the INVITEs that are shown, and the last of them
+abbrev pub uri_in : Sign → List (List ℕ)
+uri_in (Invited uri) = uri ∷ []
+uri_in Accepted = []
+uri_in (Refused code) = []
+
+abbrev pub uris_in : List Sign → List (List ℕ)
+uris_in [] = []
+uris_in (sign ∷ later) = uri_in sign ++ uris_in later
+
+abbrev pub or_before : (before found : Option (List ℕ)) → Option (List ℕ)
+or_before before None = before
+or_before before (Some uri) = Some uri
+
+abbrev pub last_in : List (List ℕ) → Option (List ℕ)
+last_in [] = None
+last_in (uri ∷ later) = or_before (Some uri) (last_in later)
+
+-- while the call is offered, the Request-URI of its attempt is that of the last of these
+abbrev pub IsLastOf : Phase → List Sign → Type 0
+IsLastOf (Offered x) signs = last_in (uris_in signs) ≡ Some x.attempt.invitation.dialogue.target
+IsLastOf (Stood x stage) signs = Unit {0}
+IsLastOf (Lent loan) signs = Unit {0}
+IsLastOf (Over cause) signs = Unit {0}
+
+-- of the INVITEs to the targets to which Outcome says that it is offered
+abbrev pub TargetsAreSeen : Type 0
+TargetsAreSeen = (s : Start) (heard : List Heard) → AreOwn s heard → IsLastOf (call_after s heard).phase (signs_of_targets (opening_in s) (outcome_after s heard).targets)

@@ -1,0 +1,13 @@
+//! Of which INVITEs a call waits for responses. These are laws, and no code.
+ghost use Rattle.mmtel_call_laws.specs.Branches.Laws.{EndsSendOnce, LentCallsWereSent, OpeningsSendOnce, ReturnedCallsWereSent, StepsSendOnce};
+
+/// Each INVITE of a call, and each whose 2xx waits for an ACK, was sent to its peer: it is one from before, or it goes out in the same step (RFC 3261 §13.2.1).
+/// Each INVITE that goes out has a branch of its own, of a number that is drawn for it alone (§8.1.1.7), as long as fewer than 2^60 numbers are drawn.
+pub fn calls_send_once()
+    ensures step { StepsSendOnce }
+    ensures opening { OpeningsSendOnce }
+    ensures end { EndsSendOnce }
+    // A leg that is taken out, or put back, sends nothing.
+    ensures lent { LentCallsWereSent }
+    ensures returned { ReturnedCallsWereSent }
+{}

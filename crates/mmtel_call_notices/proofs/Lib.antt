@@ -1,7 +1,0 @@
-mod Adding
-mod Owning
-mod Coming
-mod Hearing
-mod Standing
-mod Later
-mod Telling

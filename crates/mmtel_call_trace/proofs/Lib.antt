@@ -1,6 +1,0 @@
-mod Reading
-mod Sending
-mod Going
-mod Hearing
-mod Stories
-mod Targets

@@ -1,4 +1,0 @@
-mod Texts
-mod Steps
-mod Rows
-mod Tables

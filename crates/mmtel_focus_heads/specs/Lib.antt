@@ -1,2 +1,0 @@
--- What the laws cite.
-pub mod Heads

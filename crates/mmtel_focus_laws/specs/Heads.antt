@@ -1,0 +1,56 @@
+-- What is said of all that is done on a table of conference rooms: where it is given clean messages and legs, each message that goes out is clean (RFC 3261 §7, §25.1).
+use Rattle.std.specs.Prelude.{List, ◌∷◌}
+use Rattle.mmtel_call_laws.specs.Heads.Clean.{IsClean}
+use Rattle.mmtel_call_laws.specs.Heads.Emits.{Each, IsCleanEmit}
+use Rattle.mmtel_call_laws.specs.Heads.Heard.{IsOfClean}
+use Rattle.mmtel_call_laws.specs.Heads.Kept.{IsCleanLeg}
+use Rattle.mmtel_call_laws.specs.Heads.Stories.{SendsOwnLines}
+use Rattle.mmtel_focus.specs.Histories.{Adoption, Coming, Deed, Heard, Opens, Joins, Adopts, Notifies, Hears, Leaves, Closes, Drops, brought_after}
+use Rattle.mmtel_focus.specs.Site.{Site}
+use Rattle.mmtel_focus.specs.declared.signals.RoomSignal.{RoomSignal}
+use Rattle.mmtel_focus.specs.declared.signals.RoomSignal.TheVariants as signal
+
+-- ---- what a deed is given
+
+-- each message that is heard is of a clean one
+abbrev pub IsCleanSignal : RoomSignal → Type 0
+IsCleanSignal (signal.Request room seat key request) = IsOfClean request.heard
+IsCleanSignal (signal.Ack room seat ack) = IsOfClean ack.heard
+IsCleanSignal (signal.Answer key response) = IsOfClean response.heard
+IsCleanSignal (signal.Silent branch method) = Unit {0}
+IsCleanSignal (signal.Due room seat what) = Unit {0}
+IsCleanSignal (signal.Over key) = Unit {0}
+
+-- the leg that comes, and its INVITE, and what tokens are drawn of
+pub record IsCleanComing (c : Coming) : Type 0 where
+  pub leg : IsCleanLeg c.leg
+  pub invite : IsOfClean c.invite.heard
+  pub token : IsClean c.tokens.token
+
+-- the leg that comes out of a call, and what tokens are drawn of
+pub record IsCleanAdoption (a : Adoption) : Type 0 where
+  pub leg : IsCleanLeg a.leg
+  pub token : IsClean a.tokens.token
+
+pub record IsCleanHearing (x : Heard) : Type 0 where
+  pub token : IsClean x.tokens.token
+  pub signal : IsCleanSignal x.signal
+
+abbrev pub IsCleanDeed : Deed → Type 0
+IsCleanDeed (Opens coming) = IsCleanComing coming
+IsCleanDeed (Joins room coming) = IsCleanComing coming
+IsCleanDeed (Adopts room adoption) = IsCleanAdoption adoption
+IsCleanDeed (Notifies room seat code tokens) = IsClean tokens.token
+IsCleanDeed (Hears heard) = IsCleanHearing heard
+IsCleanDeed (Leaves room seat) = Unit {0}
+IsCleanDeed (Closes room) = Unit {0}
+IsCleanDeed (Drops count) = Unit {0}
+
+-- ---- each message that goes out of it is clean, whatever was done before
+
+abbrev pub EmitsAreClean : Type 0
+EmitsAreClean = (site : Site) (deeds : List Deed) (deed : Deed) → Each IsCleanDeed (deed ∷ deeds) → Each IsCleanEmit (brought_after site deeds deed).desk.out
+
+-- and its text has its own lines
+abbrev pub EmitsHaveTheirLines : Type 0
+EmitsHaveTheirLines = (site : Site) (deeds : List Deed) (deed : Deed) → Each IsCleanDeed (deed ∷ deeds) → Each SendsOwnLines (brought_after site deeds deed).desk.out

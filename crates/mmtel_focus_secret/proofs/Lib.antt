@@ -1,9 +1,0 @@
-mod Lists
-mod Likes
-mod Alike
-mod Asked
-mod Steps
-mod Rows
-mod Tables
-mod LookingUp
-mod Both

@@ -1,0 +1,110 @@
+//! What a run is due to write, and how it writes it.
+ghost use Rattle.std.specs.Prelude.{◌≡◌, OnOk, OnErr, decimal};
+ghost use Rattle.std.specs.Io.KnownBytes.{Appends};
+ghost use Rattle.mmtel_outside.specs.Counts.{HasCause};
+ghost use Rattle.mmtel_reports.specs.Ends.{Ends, Wrote, WroteListing, line_text};
+ghost use Rattle.mmtel_outside.specs.Written.{AppendsPart};
+
+use itoa::Buffer;
+use mmtel_outside::{Sink, write_all};
+use mmtel_scan::Text;
+use mmtel_types::Failed;
+
+/// What a run is due to write, each with its status.
+#[derive(Drop)]
+pub enum Report {
+    /// `usage`, status 1: the words are not of the grammar.
+    Usage,
+    /// `line N`, status 2: that line is the first that breaks the grammar of its file.
+    Line(u64),
+    /// `link`, status 4: the link could not be bound, or not take in what comes next.
+    Link,
+    /// `file`, status 5: a file could not be read.
+    File,
+    /// `keeper`, status 6: the keeper could not be bound, or not be loaded or not give its rows.
+    Keeper,
+    /// `memory`, status 8: memory ran out.
+    Memory,
+    /// The listing of what was offered, the charging rows that the keeper holds or the numbers of a workload, status 0; 7 where it is not written whole.
+    Listing(Text),
+    /// `ok`, status 0, and 7 where it is not written whole: the file is a service record.
+    Sound,
+    /// Nothing, status 0: the turns were made, or the link is closed.
+    Served,
+    /// The line that tells its first fault, status 3: the file is no service record.
+    Unsound(Text),
+}
+
+/// Writes a number in decimal.
+fn write_number<S: Sink>(out: &mut S, number: u64) -> Result<(), Failed>
+    ensures whole { OnOk result (Appends (S.written out.old) (S.written out.new) (decimal number)) }
+    ensures part { OnErr result (AppendsPart (S.written out.old) (S.written out.new) (decimal number)) }
+    ensures cause { HasCause (S.faults out.old) (S.faults out.new) result }
+{
+    let mut buffer = Buffer::new();
+    write_all(out, buffer.format(number).as_bytes())
+}
+
+/// Writes `line` and the number, with LF.
+fn write_line<S: Sink>(out: &mut S, line: u64) -> Result<(), Failed>
+    ensures whole { OnOk result (Appends (S.written out.old) (S.written out.new) (line_text line)) }
+    ensures part { OnErr result (AppendsPart (S.written out.old) (S.written out.new) (line_text line)) }
+    ensures cause { HasCause (S.faults out.old) (S.faults out.new) result }
+{
+    write_all(out, b"line ")?;
+    write_number(out, line)?;
+    write_all(out, b"\n")
+}
+
+/// Writes a text, and answers its status, which stays where the writing fails.
+fn say<S: Sink>(out: &mut S, text: &[u8], status: u8) -> u8
+    ensures wrote { Wrote text.now (S.written out.old) (S.written out.new) (S.faults out.old) (S.faults out.new) }
+    ensures status { result ≡ status }
+{
+    let _ = write_all(out, text);
+    status
+}
+
+/// The same of a line's number.
+fn say_line<S: Sink>(out: &mut S, line: u64, status: u8) -> u8
+    ensures wrote { Wrote (line_text line) (S.written out.old) (S.written out.new) (S.faults out.old) (S.faults out.new) }
+    ensures status { result ≡ status }
+{
+    let _ = write_line(out, line);
+    status
+}
+
+/// Writes the text of a command that is done, and answers the status.
+fn write_whole<S: Sink>(out: &mut S, text: &[u8]) -> u8
+    ensures wrote { WroteListing text.now result (S.written out.old) (S.written out.new) (S.faults out.old) (S.faults out.new) }
+{
+    match write_all(out, text) {
+        Ok(()) => 0,
+        Err(Failed) => 7,
+    }
+}
+
+/// Writes what is due, and answers the status. It takes no memory.
+pub fn write_report<S: Sink>(due: &Report, out: &mut S) -> u8
+    ensures ends { Ends due.now result (S.written out.old) (S.written out.new) (S.faults out.old) (S.faults out.new) }
+{
+    match due {
+        Report::Usage => say(out, b"usage\n", 1),
+        Report::Line(line) => say_line(out, *line, 2),
+        Report::Unsound(line) => say(out, line.bytes(), 3),
+        Report::Link => say(out, b"link\n", 4),
+        Report::File => say(out, b"file\n", 5),
+        Report::Keeper => say(out, b"keeper\n", 6),
+        Report::Memory => say(out, b"memory\n", 8),
+        Report::Listing(text) => write_whole(out, text.bytes()),
+        Report::Sound => write_whole(out, b"ok\n"),
+        Report::Served => 0,
+    }
+}
+
+/// Says that memory ran out before the words could be kept, and answers the status of that.
+pub fn out_of_memory<S: Sink>(out: &mut S) -> u8
+    ensures ends { Ends Report.Memory result (S.written out.old) (S.written out.new) (S.faults out.old) (S.faults out.new) }
+{
+    write_report(&Report::Memory, out)
+}

@@ -1,0 +1,271 @@
+-- The branch of an INVITE that the server sent is read back as it was written, and a response names the branch of the INVITE that it answers (RFC 3261 §8.1.1.7, §17.1.3).
+use Rattle.std.proofs.Common.{◌≡◌, ◌∙◌, ◌^◌, ◌<◌, ◌≤◌, ◌+◌, ◌-◌, Bool, true, false, inl, inr, ℕ, List, [], ◌∷◌, ◌++◌, Ok, Option, Some, None, append-nil, ap, arith, codes, decimal, drop, get_or, length, refl, subst, sym, take, nat_lt}
+use Rattle.std.specs.Prelude.{◌⊎◌, if◌then◌else◌}
+use Rattle.std.specs.Option.{unwrap_or}
+use Rattle.std.specs.Str.{bytes_eq}
+use Rattle.std.proofs.lemmas.Bool.{cases_Bool}
+use Rattle.std.proofs.lemmas.Bool.Decides.{nat_tests}
+use Rattle.std.proofs.lemmas.Fmt.{length-decimal-le}
+use Rattle.std.proofs.lemmas.List.{append_cancel_left, length-append, take-append-drop}
+use Rattle.std.proofs.lemmas.Slice.Eq.{bytes_eq-Decides}
+use Rattle.mmtel_answers.specs.Said.{Said}
+use Rattle.mmtel_call_decisions.specs.Invites.{answers_invite, behind, branch_in, first_via, invite_answered, is_invite_method, of_invite, via_branch}
+use Rattle.mmtel_call_laws.specs.Branches.Sent.{IsInvite, IsNoInvite}
+use Rattle.mmtel_leg.specs.Readings.{via_of}
+use Rattle.mmtel_leg.specs.Requests.{Given, numbered}
+use Rattle.mmtel_leg.specs.declared.dialogues.Dialogue.{Dialogue}
+use Rattle.mmtel_lex.specs.Grammar.{AreParams, IsToken}
+use Rattle.mmtel_lex.specs.declared.values.NameAddr.{NameAddr}
+use Rattle.mmtel_lex.specs.declared.values.Param.{Param}
+use Rattle.mmtel_message.specs.Addresses.{addr_text, ip_text, via_text}
+use Rattle.mmtel_message.specs.Faults.{is_request}
+use Rattle.mmtel_message.specs.Fields.{call_in, cseq_at, five_at, parties_in, via_at, via_in}
+use Rattle.mmtel_message.specs.Message.{Line, Message, first_value, is_line, line, line_texts}
+use Rattle.mmtel_message.specs.Promises.{IsOnly}
+use Rattle.mmtel_message.specs.Reads.{reads}
+use Rattle.mmtel_message.specs.Vias.{IsSource, via_value}
+use Rattle.mmtel_message.specs.declared.fields.CSeq.{CSeq}
+use Rattle.mmtel_message.specs.declared.fields.Five.{Five}
+use Rattle.mmtel_message.specs.declared.fields.Via.{Via}
+use Rattle.mmtel_message.specs.declared.messages.Start.{Start}
+use Rattle.mmtel_message.specs.declared.messages.Start.TheVariants.{Request, Status}
+use Rattle.mmtel_message.proofs.ViaLaws.{ip_in, via_is_one, written_reads}
+use Rattle.mmtel_scan.specs.Chain.{◌>>=◌}
+use Rattle.mmtel_scan.specs.Classes.{IsAll, IsOneOrMore, in_class}
+use Rattle.mmtel_scan.specs.Numbers.{next_number, token_text}
+use Rattle.mmtel_scan.specs.Scanning.{after_text}
+use Rattle.mmtel_scan.specs.declared.classes.Class.TheVariants.{Digit, Host, Token}
+use Rattle.mmtel_scan.proofs.Numerals.{decimal_writes}
+use Rattle.mmtel_scan.proofs.Runs.{wider}
+use Rattle.mmtel_scan.proofs.Trims.{all_append}
+use Rattle.mmtel_transaction.specs.Heads.{head_of, head_with, is_invite, param_text}
+use Rattle.mmtel_transaction.specs.Laws.{TokensDiffer}
+use Rattle.mmtel_trust.specs.Digest.{HeardMessage, heard}
+use Rattle.mmtel_types.specs.declared.addrs.Addr.{Addr}
+use Rattle.mmtel_run_laws.proofs.Fits.{true_false}
+
+pub text_same : (s t : List ℕ) → bytes_eq s t ≡ true → s ≡ t
+text_same s t e = (bytes_eq-Decides s t).0 e
+
+text_self : (s : List ℕ) → bytes_eq s s ≡ true
+text_self s = (bytes_eq-Decides s s).1 refl
+
+-- ---- tokens
+
+digit_token : (b : ℕ) → in_class Digit b ≡ true → in_class Token b ≡ true
+unfolding in_class
+digit_token b e = grind (arith, nat_tests)
+
+dash_token : IsAll Token (45 ∷ [])
+unfolding in_class
+dash_token = refl
+
+-- each token that is drawn of one is one
+pub drawn_token : (text : List ℕ) (n : ℕ) → n < 2 ^ 60 → IsToken text → IsToken (token_text text n)
+drawn_token text n less is =
+    let digits : IsAll Token (decimal n) = wider Digit Token digit_token (decimal n) (decimal_writes n (omega (arith, less))).digits.each in
+    record {
+      filled = omega (arith, is.filled, length-append text (45 ∷ decimal n));
+      each = all_append Token text (45 ∷ decimal n) is.each (all_append Token (45 ∷ []) (decimal n) dash_token digits);
+    }
+
+next_of : (n : ℕ) → 0 < n → n < 2 ^ 60 → next_number (n - 1) ≡ n
+next_of n filled less = omega (arith, filled, less)
+
+-- tokens are drawn once
+pub numbers_same : TokensDiffer → (text : List ℕ) (m n : ℕ) → 0 < m → 0 < n → m < 2 ^ 60 → n < 2 ^ 60 → token_text text m ≡ token_text text n → m ≡ n
+numbers_same differ text m n up high less small same =
+    let before : m - 1 ≡ n - 1 = differ text (m - 1) (n - 1) (omega (arith, less)) (omega (arith, small))
+    (ap (token_text text) (next_of m up less) ∙ (same ∙ ap (token_text text) (sym (next_of n high small)))) in
+    omega (arith, before, up, high)
+
+-- ---- an address is a host
+
+digit_host : (b : ℕ) → in_class Digit b ≡ true → in_class Host b ≡ true
+unfolding in_class
+digit_host b e = grind (arith, nat_tests)
+
+dot_host : in_class Host 46 ≡ true
+unfolding in_class
+dot_host = refl
+
+-- two parts of an address, a dot between them
+dotted_length : (a b : List ℕ) (n m : ℕ) → length a ≤ n → length b ≤ m → length (a ++ 46 ∷ b) ≤ n + m + 1
+dotted_length a b n m x y = omega (arith, length-append a (46 ∷ b))
+
+byte_length : (ip : List ℕ) → ((i : ℕ) → get_or ip i 0 < 2 ^ 8) → (i : ℕ) → length (decimal (get_or ip i 0)) ≤ 3
+byte_length ip small i = let lt = small i in length-decimal-le 3 (get_or ip i 0) (omega arith) (omega (arith, lt)) (omega (arith, lt))
+
+ip_length : (ip : List ℕ) → ((i : ℕ) → get_or ip i 0 < 2 ^ 8) → length (ip_text ip) < 256
+ip_length ip small =
+    let d : ℕ → List ℕ = λ i. decimal (get_or ip i 0) in
+    let last : length (d 2 ++ 46 ∷ d 3) ≤ 7 = dotted_length (d 2) (d 3) 3 3 (byte_length ip small 2) (byte_length ip small 3) in
+    let three : length (d 1 ++ 46 ∷ (d 2 ++ 46 ∷ d 3)) ≤ 11 = dotted_length (d 1) (d 2 ++ 46 ∷ d 3) 3 7 (byte_length ip small 1) last in
+    let four : length (ip_text ip) ≤ 15 = dotted_length (d 0) (d 1 ++ 46 ∷ (d 2 ++ 46 ∷ d 3)) 3 11 (byte_length ip small 0) three in
+    omega (arith, four)
+
+-- ---- Via is read
+
+abbrev branch_of : List ℕ → Param
+branch_of branch = record { name = codes "branch"; value = Some (codes "z9hG4bK" ++ branch) }
+
+cookie_token : IsAll Token (codes "z9hG4bK")
+unfolding in_class
+cookie_token = refl
+
+name_token : IsToken (codes "branch")
+unfolding in_class
+name_token = record { filled = omega arith; each = refl }
+
+udp_token : IsToken (codes "UDP")
+unfolding in_class
+udp_token = record { filled = omega arith; each = refl }
+
+branch_token : (branch : List ℕ) → IsToken branch → IsToken (codes "z9hG4bK" ++ branch)
+branch_token branch is = record { filled = omega (arith, is.filled, length-append (codes "z9hG4bK") branch); each = all_append Token (codes "z9hG4bK") branch cookie_token is.each }
+
+via_whole : (sip : Addr) (branch : List ℕ) → via_text sip branch ≡ via_value (via_of sip branch)
+via_whole sip branch = ap (λ (l : List ℕ). codes "SIP/2.0/UDP " ++ (addr_text sip ++ l)) (sym (append-nil (codes ";branch=z9hG4bK" ++ branch)))
+
+via_again : (sip : Addr) (branch : List ℕ) → IsSource sip → 0 < sip.port → IsToken branch → via_at (via_text sip branch) ≡ Some (via_of sip branch)
+via_again sip branch is low token =
+    let are : AreParams (branch_of branch ∷ []) = (record { name = name_token; value = inl (branch_token branch token) }, tt) in
+    let host : IsOneOrMore Host (ip_text sip.ip) = ip_in Host digit_host dot_host sip is in
+    ap via_at (via_whole sip branch) ∙ written_reads (codes "UDP") (ip_text sip.ip) sip.port (branch_of branch ∷ []) udp_token host (ip_length sip.ip is.bytes) low is.port are
+
+via_read : (d : Dialogue) (number : ℕ) (method : List ℕ) (given : Given) → IsSource given.sip → 0 < given.sip.port → IsToken given.branch → via_in (numbered d number method given).lines ≡ Some (via_of given.sip given.branch)
+unfolding line
+via_read d number method given is low token =
+    let again = via_again given.sip given.branch is low token in
+    ap via_at (via_is_one (via_text given.sip given.branch) (via_of given.sip given.branch) again) ∙ again
+
+-- the Via of the five fields is that
+five_by : (v : Option Via) (p : Option (NameAddr × NameAddr)) (c : Option (List ℕ × CSeq)) (five : Five) →
+    (v >>= λ (via : Via). p >>= λ (x : NameAddr × NameAddr). c >>= λ (y : List ℕ × CSeq). Some (record { via = via; from = x.0; to = x.1; call_id = y.0; cseq = y.1 })) ≡ Some five → v ≡ Some five.via
+five_by None p c five e = let n : None ≡ Some five = e in absurd cc
+five_by (Some v) None c five e = let n : None ≡ Some five = e in absurd cc
+five_by (Some v) (Some x) None five e = let n : None ≡ Some five = e in absurd cc
+five_by (Some v) (Some x) (Some y) five e = ap (λ (o : Option Five). via_of_five o) e
+  where
+    via_of_five : Option Five → Option Via
+    via_of_five None = None
+    via_of_five (Some f) = Some f.via
+
+five_via : (ls : List Line) (five : Five) → five_at ls ≡ Some five → via_in ls ≡ Some five.via
+unfolding five_at
+five_via ls five e = five_by (via_in ls) (parties_in ls) (call_in ls) five e
+
+-- ---- the branch of a message in its head
+
+abbrev pub cookie : List ℕ
+cookie = codes "z9hG4bK"
+
+some_same : (A : Type 0) (x y : A) → Some x ≡ Some y → x ≡ y
+some_same A x y e = cc
+
+-- of an INVITE that the server sent it is that, or nothing is read of it
+branch_by : (o : Option Five) (m : Message Start) (sip : Addr) (branch : List ℕ) → five_at m.lines ≡ o → via_in m.lines ≡ Some (via_of sip branch) → ((head_with m.start o).branch ≡ []) ⊎ ((head_with m.start o).branch ≡ cookie ++ branch)
+branch_by None m sip branch e via = inl refl
+branch_by (Some five) m sip branch e via =
+    let same : five.via ≡ via_of sip branch = some_same Via five.via (via_of sip branch) (sym (five_via m.lines five e) ∙ via) in
+    inr (ap (λ (v : Via). param_text (codes "branch") v.params) same ∙ refl)
+
+pub invite_branch : (m : Message Start) (sip : Addr) (branch : List ℕ) → IsSource sip → 0 < sip.port → IsToken branch → IsInvite sip branch m → ((head_of m).branch ≡ []) ⊎ ((head_of m).branch ≡ cookie ++ branch)
+unfolding head_of
+invite_branch m sip branch is low token invite =
+    let g : Given = invite.given in
+    let read : via_in m.lines ≡ Some (via_of sip branch) =
+    ap (λ (n : Message Start). via_in n.lines) invite.is
+    ∙ (via_read invite.dialogue invite.number (codes "INVITE") g (subst IsSource (sym invite.from_there) is) (subst (λ (a : Addr). 0 < a.port) (sym invite.from_there) low) (subst IsToken (sym invite.has_it) token)
+    ∙ (ap (λ (a : Addr). Some (via_of a g.branch)) invite.from_there ∙ ap (λ (b : List ℕ). Some (via_of sip b)) invite.has_it)) in
+    branch_by (five_at m.lines) m sip branch refl read
+
+-- one INVITE has one branch
+abbrev first_text : List Line → List ℕ
+first_text [] = []
+first_text (l ∷ ls) = l.1
+
+text_of : (sip : Addr) (branch : List ℕ) (m : Message Start) → IsInvite sip branch m → first_text m.lines ≡ via_text sip branch
+unfolding line
+text_of sip branch m is =
+    ap (λ (n : Message Start). first_text n.lines) is.is ∙ (ap (λ (a : Addr). via_text a is.given.branch) is.from_there ∙ ap (via_text sip) is.has_it)
+
+pub branch_once : (sip : Addr) (one other : List ℕ) (m : Message Start) → IsInvite sip one m → IsInvite sip other m → one ≡ other
+branch_once sip one other m is too =
+    let same : via_text sip one ≡ via_text sip other = sym (text_of sip one m is) ∙ text_of sip other m too in
+    append_cancel_left (codes ";branch=z9hG4bK") one other
+    (append_cancel_left (addr_text sip) (codes ";branch=z9hG4bK" ++ one) (codes ";branch=z9hG4bK" ++ other)
+    (append_cancel_left (codes "SIP/2.0/UDP ") (addr_text sip ++ (codes ";branch=z9hG4bK" ++ one)) (addr_text sip ++ (codes ";branch=z9hG4bK" ++ other)) same))
+
+pub no_invite : (sip : Addr) (branch : List ℕ) (m : Message Start) → IsNoInvite m → IsInvite sip branch m → ⊥
+no_invite sip branch m none is =
+    let yes : is_invite (head_with m.start None) ≡ true = ap (λ (n : Message Start). is_invite (head_with n.start None)) is.is in
+    true_false (sym yes ∙ none None)
+
+-- ---- which INVITE a response answers
+
+-- of a message that was read
+pub record WasRead (m : Said) : Type 0 where
+  pub bytes : List ℕ
+  pub trusted : Bool
+  pub message : Message Start
+  pub read : reads bytes ≡ Ok message
+  pub is : m.heard ≡ heard trusted message
+
+first_of_texts : (name : List ℕ) (ls : List Line) → first_via (line_texts name ls) ≡ (first_value name ls >>= λ v. via_at v)
+first_of_texts name [] = refl
+first_of_texts name (l ∷ ls) = elim (cases_Bool (is_line name l)) [
+  | inl y ↦ rw y refl
+  | inr n ↦ rw n (first_of_texts name ls)
+]
+
+text_takes : (front s rest : List ℕ) → after_text front s ≡ Some rest → s ≡ front ++ rest
+text_takes front s rest e = elim (cases_Bool (nat_lt (length s) (length front))) [
+  | inl y ↦ let none : None ≡ Some rest = sym (ap (λ (b : Bool). if b then None else if bytes_eq (take (length front) s) front then Some (drop (length front) s) else None) y) ∙ e in absurd cc
+  | inr n ↦
+      let then_is = sym (ap (λ (b : Bool). if b then None else if bytes_eq (take (length front) s) front then Some (drop (length front) s) else None) n) ∙ e in
+      elim (cases_Bool (bytes_eq (take (length front) s) front)) [
+        | inl z ↦
+            let rest_is : drop (length front) s ≡ rest = some_same (List ℕ) (drop (length front) s) rest (sym (ap (λ (b : Bool). if b then Some (drop (length front) s) else None) z) ∙ then_is) in
+            sym (take-append-drop (length front) s) ∙ (ap (λ (x : List ℕ). x ++ drop (length front) s) (text_same (take (length front) s) front z) ∙ ap (λ (x : List ℕ). front ++ x) rest_is)
+        | inr z ↦ let none : None ≡ Some rest = sym (ap (λ (b : Bool). if b then Some (drop (length front) s) else None) z) ∙ then_is in absurd cc
+      ]
+]
+
+behind_is : (o : Option (List ℕ)) (branch : List ℕ) → behind o ≡ Some branch → unwrap_or o [] ≡ cookie ++ branch
+behind_is None branch e = let n : None ≡ Some branch = e in absurd cc
+behind_is (Some b) branch e = text_takes cookie b branch e
+
+module _ (fives : (b : List ℕ) (m : Message Start) → reads b ≡ Ok m → (five : Five) × (five_at m.lines ≡ Some five))
+    (vias : (b : List ℕ) (m : Message Start) (five : Five) → reads b ≡ Ok m → five_at m.lines ≡ Some five → (v : List ℕ) × (first_value (codes "Via") m.lines ≡ Some v) × (via_at v ≡ Some five.via))
+    (cseqs : (ls : List Line) (five : Five) → five_at ls ≡ Some five → (v : List ℕ) × IsOnly (codes "CSeq") ls v × (cseq_at v ≡ Some five.cseq)) where
+  answered_by : (trusted : Bool) (n : Message Start) (five : Five) (v c : List ℕ) → five_at n.lines ≡ Some five → first_value (codes "Via") n.lines ≡ Some v → via_at v ≡ Some five.via
+      → first_value (codes "CSeq") n.lines ≡ Some c → cseq_at c ≡ Some five.cseq → (branch : List ℕ) → (if answers_invite (heard trusted n).cseq then branch_in (heard trusted n).vias else None) ≡ Some branch
+      → (param_text (codes "branch") five.via.params ≡ cookie ++ branch) × (is_invite_method five.cseq.method ≡ true)
+  answered_by trusted n five v c is value via number cseq branch e =
+      let invites : answers_invite (first_value (codes "CSeq") n.lines) ≡ is_invite_method five.cseq.method = ap answers_invite number ∙ ap of_invite cseq in
+      let first : first_via (line_texts (codes "Via") n.lines) ≡ Some five.via = first_of_texts (codes "Via") n.lines ∙ (ap (λ (o : Option (List ℕ)). o >>= λ x. via_at x) value ∙ via) in
+      elim (cases_Bool (is_invite_method five.cseq.method)) [
+        | inl y ↦
+            let taken : branch_in (line_texts (codes "Via") n.lines) ≡ Some branch = sym (ap (λ (b : Bool). if b then branch_in (line_texts (codes "Via") n.lines) else None) (invites ∙ y)) ∙ e in
+            (behind_is (via_branch five.via) branch (sym (ap (λ (o : Option Via). behind (o >>= via_branch)) first) ∙ taken), y)
+        | inr n2 ↦ let none : None ≡ Some branch = sym (ap (λ (b : Bool). if b then branch_in (line_texts (codes "Via") n.lines) else None) (invites ∙ n2)) ∙ e in absurd cc
+      ]
+
+  pub answers : (m : Said) (branch : List ℕ) → (is : WasRead m) → invite_answered m ≡ Some branch → is_request is.message.start ≡ false
+      → ((head_of is.message).branch ≡ cookie ++ branch) × (is_invite (head_of is.message) ≡ true)
+  unfolding invite_answered head_of
+  answers m branch is answered response =
+      let n : Message Start = is.message in
+      let five = fives is.bytes n is.read in
+      let via = vias is.bytes n five.0 is.read five.1 in
+      let cseq = cseqs n.lines five.0 five.1 in
+      let both = answered_by is.trusted n five.0 via.0 cseq.0 five.1 via.1 via.2 cseq.1.first cseq.2 branch
+      (sym (ap (λ (h : HeardMessage). if answers_invite h.cseq then branch_in h.vias else None) is.is) ∙ answered) in (
+        ap (λ (o : Option Five). (head_with n.start o).branch) five.1 ∙ both.0,
+        ap (λ (o : Option Five). is_invite (head_with n.start o)) five.1 ∙ by_start n.start five.0 response both.1,
+      )
+    where
+      by_start : (start : Start) (five : Five) → is_request start ≡ false → is_invite_method five.cseq.method ≡ true → is_invite (head_with start (Some five)) ≡ true
+      by_start (Request method uri) five r e = absurd (true_false r)
+      by_start (Status code phrase) five r e = e

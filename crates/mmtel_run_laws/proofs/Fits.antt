@@ -1,0 +1,162 @@
+-- The role of a message hides no more than the call knows that hears it.
+use Rattle.std.proofs.Common.{◌≡◌, ℕ, Bool, true, false, ◌&&◌, List, refl, ap, sym, ◌∙◌, Option, Some, None, subst, inl, inr, arith}
+use Rattle.std.specs.Prelude.{if◌then◌else◌, position, slice_get}
+use Rattle.std.proofs.lemmas.Bool.{cases_Bool}
+use Rattle.std.proofs.lemmas.Bool.Decides.{nat_tests}
+use Rattle.mmtel_answers.specs.Said.{Said}
+use Rattle.mmtel_b2bua.specs.Entries.{is_numbered}
+use Rattle.mmtel_b2bua.specs.Lending.{entry_at, entry_of}
+use Rattle.mmtel_b2bua.specs.declared.entries.Entry.{Entry}
+use Rattle.mmtel_call_decisions.specs.Showing.{facing}
+use Rattle.mmtel_call_decisions.specs.Site.{Site, trusts}
+use Rattle.mmtel_call.specs.Leaving.{is_taken}
+use Rattle.mmtel_call.specs.Table.{current, is_current}
+use Rattle.mmtel_call.specs.declared.calls.Call.{Call}
+use Rattle.mmtel_call.specs.declared.calls.Phase.{Phase}
+use Rattle.mmtel_call.specs.declared.calls.Phase.TheVariants.{Lent, Offered, Over, Stood}
+use Rattle.mmtel_call.specs.declared.calls.Stage.TheVariants.{Answered, Asking, Parting, Talking}
+use Rattle.mmtel_call.specs.declared.calls.Taken.{Taken}
+use Rattle.mmtel_call_laws.specs.Secret.Common.{MessagesAreWhole}
+use Rattle.mmtel_call_laws.specs.Secret.Premises.{HearsOther, IsAnswer, IsWhole}
+use Rattle.mmtel_call_laws.specs.Secret.Roles.{Opens, Plain, Role, Says, hides, private_places}
+use Rattle.mmtel_call_laws.specs.Secret.Seen.{Trust, trust_of}
+use Rattle.mmtel_call_laws.specs.Secret.Table.{AnswersIn, AnswersOne, FitsIn}
+use Rattle.mmtel_desk.specs.Loose.{is_of}
+use Rattle.mmtel_desk.specs.declared.invitations.Invitation.{Invitation}
+use Rattle.mmtel_desk.specs.declared.invitations.Loose.{Loose}
+use Rattle.mmtel_message.specs.Faults.{is_request}
+use Rattle.mmtel_transaction.specs.declared.words.TKey.{TKey}
+use Rattle.mmtel_trust.specs.Peers.{is_trusted}
+use Rattle.mmtel_types.specs.Sides.{other_of}
+use Rattle.mmtel_types.specs.declared.numbers.Peer.{Peer}
+use Rattle.mmtel_types.specs.declared.sides.Side.{Side}
+use Rattle.mmtel_types.specs.declared.sides.Side.TheVariants.{Callee, Caller}
+use Rattle.mmtel_run_laws.specs.Belonging.{awaited_role, comes_from, loose_at, of_loose, of_taken, other_role, request_role_in, request_role_of, response_role_of, said_by, side_asked, side_role, taken_at}
+
+-- ---- a side that is restricted, and its own peer
+
+pub true_false : true ≡ false → ⊥
+true_false e = cc
+
+said_restricted : (restricted : Bool) (own : Peer) (side : Side) (m : Said) → hides (said_by restricted own side m) ≡ true → restricted ≡ true
+said_restricted true own side m e = refl
+said_restricted false own side m e = absurd (true_false (sym e))
+
+said_own : (restricted : Bool) (own : Peer) (side : Side) (m : Said) → hides (said_by restricted own side m) ≡ true → comes_from own m ≡ true
+said_own false own side m e = absurd (true_false (sym e))
+said_own true own side m e = elim (cases_Bool (comes_from own m)) [
+  | inl y ↦ y
+  | inr n ↦ absurd (true_false (sym e ∙ ap (λ (b : Bool). hides (if b then Says side else Plain)) n))
+]
+
+-- ---- requests
+
+pub fits_in : (p : Phase) (c : Call) (side : Side) (m : Said) → FitsIn p c side m (request_role_in p c.opening side m)
+fits_in (Offered x) c side m = tt
+fits_in (Stood x stage) c Caller m = λ e. said_restricted (facing c.opening x.service Caller m).restricted x.caller.dialogue.peer Caller m e
+fits_in (Stood x stage) c Callee m = λ e. said_restricted (facing c.opening x.service Callee m).restricted x.callee.dialogue.peer Callee m e
+fits_in (Lent loan) c side m = tt
+fits_in (Over cause) c side m = tt
+
+pub entry_found : (number place : ℕ) (e : Entry) (es : List Entry) → position (is_numbered number) es ≡ Some place → slice_get es place ≡ Some e → entry_of number es ≡ Some e
+entry_found number place e es p g = ap (λ (o : Option ℕ). entry_at o es) p ∙ g
+
+pub request_fits : (number place : ℕ) (side : Side) (m : Said) (e : Entry) (es : List Entry) → position (is_numbered number) es ≡ Some place → slice_get es place ≡ Some e
+    → FitsIn e.call.phase e.call side m (request_role_of side m (entry_of number es))
+request_fits number place side m e es p g =
+    subst (λ (o : Option Entry). FitsIn e.call.phase e.call side m (request_role_of side m o)) (sym (entry_found number place e es p g)) (fits_in e.call.phase e.call side m)
+
+-- ---- responses
+
+module _ (wholes : MessagesAreWhole) (site : Site) (keys : TKey → Bool) where
+  abbrev T : Trust
+  T = trust_of site keys
+
+  module _ (m : Said) (told : m.heard.trusted ≡ trusts site m.peer) (response : is_request m.heard.start ≡ false) where
+    from_own : (own : Peer) → comes_from own m ≡ true → trusts site own ≡ false → m.heard.trusted ≡ false
+    from_own own is strange =
+        let same : m.peer.0 ≡ own.0 = grind (arith, nat_tests, is) in
+        told ∙ (ap (λ (n : ℕ). is_trusted (record { 0 = n }) site.peers.known) same ∙ strange)
+
+    pub whole_from : (role : Role) (own : Peer) → (hides role ≡ true → comes_from own m ≡ true) → trusts site own ≡ false → IsWhole role m
+    whole_from Plain own is strange = wholes.responses m response
+    whole_from Opens own is strange = wholes.untrusted Opens m (from_own own (is refl) strange)
+    whole_from (Says side) own is strange = wholes.untrusted (Says side) m (from_own own (is refl) strange)
+
+    pub is_answer : (key : TKey) (role : Role) (asked : Peer) → (hides role ≡ true → comes_from asked m ≡ true) → keys key ≡ trusts site asked → IsAnswer T key asked role m
+    is_answer key role asked is tie = record { whole = whole_from role asked is; known = tie }
+
+    -- where a target redirects to is for everybody
+    redirect_shown : (restricted leg own : Bool) → (private_places (if leg then (if restricted && own then Says Callee else Plain) else Plain) m.heard).redirect ≡ false
+    redirect_shown restricted false own = refl
+    redirect_shown false true own = refl
+    redirect_shown true true false = refl
+    redirect_shown true true true = rw response refl
+
+    on_leg : (leg : Bool) (role : Role) → hides (if leg then role else Plain) ≡ true → (leg ≡ true) × (hides role ≡ true)
+    on_leg true role e = (refl, e)
+    on_leg false role e = absurd (true_false (sym e))
+
+    awaited : (p : Phase) (key : TKey) (c : Call) → ((i : Invitation) → current p ≡ Some i → keys key ≡ trusts site i.dialogue.peer) → AnswersIn p T key (awaited_role p c.opening m) m c
+    awaited (Offered x) key c tie =
+        let role : Role = side_role c.opening x.attempt.service x.attempt.invitation.dialogue.peer Callee m in
+        let restricted : Bool = (facing c.opening x.attempt.service Callee m).restricted in
+        let leg : Bool = comes_from x.callee.leg.dialogue.peer m in
+        record {
+          answer = is_answer key (if leg then role else Plain) x.attempt.invitation.dialogue.peer (λ e. said_own restricted x.attempt.invitation.dialogue.peer Callee m (on_leg leg role e).1) (tie x.attempt.invitation refl);
+          leg = whole_from (if leg then role else Plain) x.callee.leg.dialogue.peer (λ e. (on_leg leg role e).0);
+          fits = λ e. said_restricted restricted x.attempt.invitation.dialogue.peer Callee m (on_leg leg role e).1;
+          redirect = redirect_shown restricted leg (comes_from x.attempt.invitation.dialogue.peer m);
+        }
+    awaited (Stood x (Answered side success)) key c tie = tt
+    awaited (Stood x (Parting side success)) key c tie = tt
+    awaited (Stood x Talking) key c tie = tt
+    awaited (Stood x (Asking side q)) key c tie =
+        let restricted : Bool = (facing c.opening x.service (other_of side) m).restricted in (
+          is_answer key (side_role c.opening x.service q.invitation.dialogue.peer (other_of side) m) q.invitation.dialogue.peer (λ e. said_own restricted q.invitation.dialogue.peer (other_of side) m e) (tie q.invitation refl),
+          λ e. said_restricted restricted q.invitation.dialogue.peer (other_of side) m e,
+        )
+    awaited (Lent loan) key c tie = tt
+    awaited (Over cause) key c tie = tt
+
+    -- of the peers of both it comes, where it hides anything
+    pub both_own : (one other : Bool) (side : Side) → hides (if one && other then Says side else Plain) ≡ true → (one ≡ true) × (other ≡ true)
+    both_own true true side e = (refl, refl)
+    both_own true false side e = absurd (true_false (sym e))
+    both_own false other side e = absurd (true_false (sym e))
+
+    others : (key : TKey) (branch : List ℕ) (c : Call)
+        → ((at : ℕ) (l : Loose) → position (is_of branch) c.loose ≡ Some at → slice_get c.loose at ≡ Some l → keys key ≡ trusts site l.invitation.dialogue.peer)
+        → ((at : ℕ) (x : Taken) → position (is_taken branch) c.taken ≡ Some at → slice_get c.taken at ≡ Some x → keys key ≡ trusts site x.invitation.dialogue.peer)
+        → HearsOther T key branch (other_role m (loose_at (position (is_of branch) c.loose) c.loose) (taken_at (position (is_taken branch) c.taken) c.taken)) m c
+    others key branch c loose taken =
+        let l : Option Loose = loose_at (position (is_of branch) c.loose) c.loose in
+        let x : Option Taken = taken_at (position (is_taken branch) c.taken) c.taken in
+        record {
+          loose = λ at y p g. is_answer key (other_role m l x) y.invitation.dialogue.peer
+              (λ e. sym (ap (of_loose m) (ap (λ (o : Option ℕ). loose_at o c.loose) p ∙ g)) ∙ (both_own (of_loose m l) (of_taken m x) (side_asked l x) e).0) (loose at y p g);
+          taken = λ at y p g. is_answer key (other_role m l x) y.invitation.dialogue.peer
+              (λ e. sym (ap (of_taken m) (ap (λ (o : Option ℕ). taken_at o c.taken) p ∙ g)) ∙ (both_own (of_loose m l) (of_taken m x) (side_asked l x) e).1) (taken at y p g);
+        }
+
+    -- what ties the client transaction, where it is known whom the server trusts of it
+    pub record KeyIsTied (key : TKey) (branch : List ℕ) (c : Call) : Type 0 where
+      pub awaited : (i : Invitation) → is_current branch c ≡ true → current c.phase ≡ Some i → keys key ≡ trusts site i.dialogue.peer
+      pub loose : (at : ℕ) (l : Loose) → position (is_of branch) c.loose ≡ Some at → slice_get c.loose at ≡ Some l → keys key ≡ trusts site l.invitation.dialogue.peer
+      pub taken : (at : ℕ) (x : Taken) → position (is_taken branch) c.taken ≡ Some at → slice_get c.taken at ≡ Some x → keys key ≡ trusts site x.invitation.dialogue.peer
+
+    one_fits : (key : TKey) (branch : List ℕ) (c : Call) → KeyIsTied key branch c → AnswersOne (Some branch) T key (response_role_of branch m c) m c
+    one_fits key branch c tie = (
+      λ is. subst (λ (b : Bool). AnswersIn c.phase T key
+          (if b then awaited_role c.phase c.opening m else other_role m (loose_at (position (is_of branch) c.loose) c.loose) (taken_at (position (is_taken branch) c.taken) c.taken)) m c) (sym is)
+          (awaited c.phase key c (λ i e. tie.awaited i is e)),
+      λ is. subst (λ (b : Bool). HearsOther T key branch
+          (if b then awaited_role c.phase c.opening m else other_role m (loose_at (position (is_of branch) c.loose) c.loose) (taken_at (position (is_taken branch) c.taken) c.taken)) m c) (sym is)
+          (others key branch c tie.loose tie.taken),
+    )
+
+    -- by the INVITE that it answers
+    pub answer_by : (o : Option (List ℕ)) (key : TKey) (role : Role) (e : Entry) → ((branch : List ℕ) → o ≡ Some branch → role ≡ response_role_of branch m e.call) → ((branch : List ℕ) → o ≡ Some branch → KeyIsTied key branch e.call)
+        → AnswersOne o T key role m e.call
+    answer_by None key role e is tie = tt
+    answer_by (Some branch) key role e is tie = subst (λ (r : Role). AnswersOne (Some branch) T key r m e.call) (sym (is branch refl)) (one_fits key branch e.call (tie branch refl))

@@ -1,0 +1,172 @@
+-- In what two runs with calls and rooms are alike, each under its configuration: in all but the texts that are due to trusted peers, and what these are offered.
+use Rattle.std.specs.Prelude.{◌≡◌, ◌<◌, ◌^◌, ℕ, true, false, Option, Some, None, List, [], ◌∷◌, position, slice_get, option_map}
+use Rattle.mmtel_answers.specs.Said.{Said}
+use Rattle.mmtel_b2bua.specs.Entries.{sent_it}
+use Rattle.mmtel_b2bua.specs.declared.entries.Entry.{Entry}
+use Rattle.mmtel_b2bua_laws.specs.Alike.{AlikeEntries}
+use Rattle.mmtel_b2bua_laws.specs.AlikeDeeds.{Configured}
+use Rattle.mmtel_call_decisions.specs.Invites.{invite_answered}
+use Rattle.mmtel_call.specs.Leaving.{is_taken}
+use Rattle.mmtel_call.specs.Table.{current, is_current}
+use Rattle.mmtel_call.specs.declared.calls.Call.{Call}
+use Rattle.mmtel_call.specs.declared.calls.Taken.{Taken}
+use Rattle.mmtel_call_laws.specs.Secret.Directories.{LooksUpAlike, RedirectsAlike, requested}
+use Rattle.mmtel_call_laws.specs.Secret.Premises.{IsAmong}
+use Rattle.mmtel_call_laws.specs.Secret.Seen.{trust_of}
+use Rattle.mmtel_call_laws.specs.Secret.Table.{SentIn}
+use Rattle.mmtel_desk.specs.Loose.{is_of}
+use Rattle.mmtel_desk.specs.declared.invitations.Invitation.{Invitation}
+use Rattle.mmtel_desk.specs.declared.invitations.Loose.{Loose}
+use Rattle.mmtel_directory.specs.declared.directories.Directory.{Directory}
+use Rattle.mmtel_focus.specs.Rooms.{Room}
+use Rattle.mmtel_seats.specs.declared.seats.Invite.{Invite}
+use Rattle.mmtel_seats.specs.declared.seats.Invite.TheVariants.{Agreed, Waiting}
+use Rattle.mmtel_seats.specs.declared.seats.Seat.{Seat}
+use Rattle.mmtel_focus.specs.Seats.{dialogue_of}
+use Rattle.mmtel_focus.specs.Table as rooms
+use Rattle.mmtel_focus.specs.Table.{Table, asks, is_asked}
+use Rattle.mmtel_focus_laws.specs.Directories.{RefersAlike}
+use Rattle.mmtel_focus_laws.specs.Histories.{AlikeRooms}
+use Rattle.mmtel_in_force.specs.Texts.{Texts}
+use Rattle.mmtel_parties.specs.Parties.{believed_user, target_from}
+use Rattle.mmtel_sheet_grammar.specs.Texts.{kept_sheet}
+use Rattle.mmtel_sheet_texts.specs.Texts.{text_at}
+use Rattle.mmtel_sheet_values.specs.Sheets.{empty_sheet}
+use Rattle.mmtel_sheet_values.specs.declared.values.Sheet.{Sheet}
+use Rattle.mmtel_transaction.specs.Alike.{Alike}
+use Rattle.mmtel_transaction.specs.Answers.{part_of, peer_of}
+use Rattle.mmtel_transaction.specs.Calls.{live}
+use Rattle.mmtel_transaction.specs.Heads.{head_of}
+use Rattle.mmtel_transaction.specs.declared.parts.Part.TheVariants as part
+use Rattle.mmtel_transaction.specs.declared.words.TKey.{TKey}
+use Rattle.mmtel_types.specs.declared.numbers.Account.{Account}
+use Rattle.mmtel_types.specs.declared.numbers.Peer.{Peer}
+use Rattle.mmtel_types.specs.declared.sides.Side.{Side}
+use Rattle.mmtel_b2bua.specs.Lending.{entry_of}
+use Rattle.mmtel_run.specs.Alike.{EqualButForAccounts, trusts}
+use Rattle.mmtel_run.specs.Calls.{named_by, site_of}
+use Rattle.mmtel_run.specs.Events as Events
+use Rattle.mmtel_run.specs.Events.{Digest, Notice, message_in}
+use Rattle.mmtel_run.specs.Rooms.{rooms_site}
+use Rattle.mmtel_run.specs.Run.{one_more}
+use Rattle.mmtel_run.specs.View.{view}
+use Rattle.mmtel_run.specs.World.{World, calls_in, rooms_in}
+use Rattle.mmtel_run_laws.specs.Mask.{coming}
+
+-- ---- two configurations
+
+-- they are equal but for the URIs of accounts, and accounts to which these records divert calls are looked up alike
+pub record SiteAlike (records : List Sheet) (one other : Directory) : Type 0 where
+  pub equal : EqualButForAccounts one other
+  pub configured : Configured records (site_of one) (site_of other)
+
+-- a message names the same accounts in both, where that is no matter of who the caller is: the target of an INVITE, where a response redirects to,
+-- and whom a REFER asks a room to invite
+pub record LooksUp (one other : Directory) (m : Said) : Type 0 where
+  pub target : target_from one.names.accounts m.heard.start (believed_user m.heard).user ≡ target_from other.names.accounts m.heard.start (believed_user m.heard).user
+  pub requested : LooksUpAlike (site_of one) (site_of other) (requested m).uri
+  pub redirect : RedirectsAlike (site_of one) (site_of other) m
+  pub refer : RefersAlike (rooms_site one) (rooms_site other) m
+
+abbrev pub DigestLooksUp : (one other : Directory) → Digest → Type 0
+DigestLooksUp one other Events.Nothing = Unit {0}
+DigestLooksUp one other (Events.Refused peer source reply) = Unit {0}
+DigestLooksUp one other (Events.Heard said) = LooksUp one other said
+DigestLooksUp one other (Events.Asked request kept rows) = Unit {0}
+
+abbrev pub AllLookUp : (one other : Directory) → List Notice → Type 0
+AllLookUp one other [] = Unit {0}
+AllLookUp one other (notice ∷ others) = DigestLooksUp one other notice.digest × AllLookUp one other others
+
+-- ---- worlds
+
+-- each record that is in force is among these, and that of an account which never said anything
+pub record AreAmong (records : List Sheet) (texts : Texts) : Type 0 where
+  pub each : (account : Account) (text : List ℕ) → text_at texts account ≡ Some text → IsAmong records (kept_sheet text)
+  pub none : IsAmong records empty_sheet
+
+-- of the rows that wait nothing is said
+pub record AlikeWorlds (records : List Sheet) (directory far : Directory) (one other : World) : Type 0 where
+  pub clock : one.clock ≡ other.clock
+  pub steps : one.steps ≡ other.steps
+  pub acts : Alike (trusts directory) one.acts other.acts
+  pub drawn : one.drawn ≡ other.drawn
+  pub calls : AlikeEntries records (trusts directory) (calls_in directory one).entries (calls_in far other).entries
+  pub opened : (calls_in directory one).opened ≡ (calls_in far other).opened
+  pub rooms : AlikeRooms (trusts directory) (rooms_in directory one) (rooms_in far other)
+  pub armed : one.armed ≡ other.armed
+  pub texts : one.texts ≡ other.texts
+  pub registrations : one.registrations ≡ other.registrations
+  pub seen : (seer : Peer) → trusts directory seer ≡ false → view seer one.offers ≡ view seer other.offers
+
+-- ---- what ties calls and rooms to transactions
+
+-- this transaction is of a peer who is trusted as this one is
+abbrev pub IsOfOne : Directory → World → TKey → Peer → Type 0
+IsOfOne directory world key peer = option_map (trusts directory) (peer_of key.0 (live world.acts)) ≡ Some (trusts directory peer)
+
+-- a client transaction that hears a response is of the peer that was asked: that of the INVITE of this branch
+pub record AnswerIsTied (directory : Directory) (world : World) (key : TKey) (branch : List ℕ) (c : Call) : Type 0 where
+  pub awaited : (i : Invitation) → is_current branch c ≡ true → current c.phase ≡ Some i → IsOfOne directory world key i.dialogue.peer
+  pub loose : (at : ℕ) (l : Loose) → position (is_of branch) c.loose ≡ Some at → slice_get c.loose at ≡ Some l → IsOfOne directory world key l.invitation.dialogue.peer
+  pub taken : (at : ℕ) (x : Taken) → position (is_taken branch) c.taken ≡ Some at → slice_get c.taken at ≡ Some x → IsOfOne directory world key x.invitation.dialogue.peer
+
+abbrev pub ResponseIsTied : Directory → World → Said → Type 0
+ResponseIsTied directory world m = (key : ℕ) (branch : List ℕ) (at : ℕ) (e : Entry) → part_of (head_of (message_in m.heard)) (live world.acts) ≡ part.Answer key →
+    invite_answered m ≡ Some branch → position (sent_it (Some branch)) (calls_in directory world).entries ≡ Some at → slice_get (calls_in directory world).entries at ≡ Some e →
+    AnswerIsTied directory world (record { 0 = key }) branch e.call
+
+-- so it is of the INVITE to a seat that has this branch, and of one that a room left
+abbrev pub InviteIsTied : Directory → World → TKey → Option Invite → Type 0
+InviteIsTied directory world key None = Unit {0}
+InviteIsTied directory world key (Some (Waiting number i)) = IsOfOne directory world key i.dialogue.peer
+InviteIsTied directory world key (Some (Agreed branch tag ack)) = Unit {0}
+
+pub record SeatIsTied (directory : Directory) (world : World) (key : TKey) (seat : Seat) : Type 0 where
+  pub invite : InviteIsTied directory world key seat.invite
+  pub leg : IsOfOne directory world key (dialogue_of seat).peer
+
+pub record SeatAnswerIsTied (directory : Directory) (world : World) (key : TKey) (branch : List ℕ) (table : Table) : Type 0 where
+  pub loose : (at : ℕ) (l : Loose) → position (is_of branch) table.loose ≡ Some at → slice_get table.loose at ≡ Some l →
+      IsOfOne directory world key l.invitation.dialogue.peer
+  pub seat : (at place : ℕ) (room : Room) (seat : Seat) → position (asks branch) table.live ≡ Some at → slice_get table.live at ≡ Some room →
+      position (is_asked branch) room.seats ≡ Some place → slice_get room.seats place ≡ Some seat → SeatIsTied directory world key seat
+
+abbrev pub SeatResponseIsTied : Directory → World → Said → Type 0
+SeatResponseIsTied directory world m = (key : ℕ) (branch : List ℕ) → part_of (head_of (message_in m.heard)) (live world.acts) ≡ part.Answer key →
+    rooms.invite_answered m ≡ Some branch → SeatAnswerIsTied directory world (record { 0 = key }) branch (rooms_in directory world)
+
+-- the INVITE whose 2xx waits for this ACK went to a peer who is trusted as that of the other leg is
+abbrev pub AckIsTied : Directory → World → Said → Type 0
+AckIsTied directory world m = (call : ℕ) (side : Side) (e : Entry) → named_by m.heard (calls_in directory world).entries ≡ Some (record { 0 = call }, side) →
+    entry_of call (calls_in directory world).entries ≡ Some e → SentIn e.call.phase (trust_of (site_of directory) (λ key. false)) e.call side m
+
+pub record MessageIsTied (directory : Directory) (world : World) (m : Said) : Type 0 where
+  pub response : ResponseIsTied directory world m
+  pub seat : SeatResponseIsTied directory world m
+  pub ack : AckIsTied directory world m
+
+abbrev pub DigestIsTied : Directory → World → Digest → Type 0
+DigestIsTied directory world Events.Nothing = Unit {0}
+DigestIsTied directory world (Events.Refused peer source reply) = Unit {0}
+DigestIsTied directory world (Events.Heard said) = MessageIsTied directory world said
+DigestIsTied directory world (Events.Asked request kept rows) = Unit {0}
+
+-- ---- runs in which no token is drawn twice
+
+-- fewer than 2^60 numbers were drawn
+abbrev pub IsEarly : World → Type 0
+IsEarly world = world.drawn < 2 ^ 60
+
+-- so it is whenever an event comes
+abbrev pub AllEarly : Directory → (token : List ℕ) → (fuel : ℕ) → List Notice → World → Type 0
+AllEarly directory token fuel [] world = Unit {0}
+AllEarly directory token fuel (notice ∷ others) world =
+    IsEarly (coming directory token fuel notice world) × AllEarly directory token fuel others (one_more directory token fuel notice world)
+
+-- each message of a run is tied, in the world in which it comes, where no token was drawn twice by then
+abbrev pub AllTied : Directory → (token : List ℕ) → (fuel : ℕ) → List Notice → World → Type 0
+AllTied directory token fuel [] world = Unit {0}
+AllTied directory token fuel (notice ∷ others) world =
+    (IsEarly (coming directory token fuel notice world) → DigestIsTied directory (coming directory token fuel notice world) notice.digest) ×
+    AllTied directory token fuel others (one_more directory token fuel notice world)

@@ -1,0 +1,105 @@
+-- What is claimed of whole runs with calls and conference rooms: what an untrusted peer is offered is equal in any other run that differs in private places alone and
+-- answers every test alike
+-- (RFC 3323, RFC 3325 §7, RFC 7044 §10.1).
+use Rattle.std.specs.Prelude.{◌≡◌, ◌<◌, ◌&&◌, ◌||◌, ℕ, Bool, true, false, List, Ok, length, nat_le}
+use Rattle.std.specs.List.{list_all}
+use Rattle.mmtel_directory.specs.Directory.{directory_of}
+use Rattle.mmtel_directory.specs.declared.directories.Directory.{Directory}
+use Rattle.mmtel_in_force.specs.Texts.{Texts}
+use Rattle.mmtel_lex.specs.Grammar.{IsToken}
+use Rattle.mmtel_message.specs.Vias.{IsSource}
+use Rattle.mmtel_outside.specs.declared.events.Offer.{Offer}
+use Rattle.mmtel_types.specs.declared.numbers.Peer.{Peer}
+use Rattle.mmtel_run.specs.Alike.{trusts}
+use Rattle.mmtel_run.specs.Events.{Happened, notices}
+use Rattle.mmtel_run.specs.Headline.{Gives}
+use Rattle.mmtel_run.specs.InForce.{uploads_of}
+use Rattle.mmtel_run.specs.Run.{IsEnough, gives}
+use Rattle.mmtel_run.specs.Short.{IsShortRun}
+use Rattle.mmtel_run.specs.View.{view}
+use Rattle.mmtel_run.specs.World.{beginning}
+use Rattle.mmtel_run_laws.specs.Alike.{AllEarly, AllLookUp, AllTied, SiteAlike}
+use Rattle.mmtel_run_laws.specs.Mask.{Mask, mask, records_in}
+
+-- the branches that the server draws are read as they are written: the text of its tokens is a token, and its address is one that messages come from (RFC 3261 §25.1, §20.42)
+pub record BranchesAreRead (directory : Directory) (token : List ℕ) : Type 0 where
+  pub text : IsToken token
+  pub source : IsSource directory.sip
+  pub port : 0 < directory.sip.port
+
+-- a lower-case hexadecimal digit
+abbrev pub is_hex_digit : ℕ → Bool
+is_hex_digit byte = (nat_le 48 byte && nat_le byte 57) || (nat_le 97 byte && nat_le byte 102)
+
+-- so it is of each configuration that was read, and of each token of such digits
+abbrev pub ConfigurationsAreRead : Type 0
+ConfigurationsAreRead = (text : List ℕ) (directory : Directory) (token : List ℕ) → directory_of text ≡ Ok directory → 0 < length token → list_all is_hex_digit token ≡ true →
+    BranchesAreRead directory token
+
+-- ---- by so many firings
+
+-- of runs in which fewer than 2^60 numbers are drawn: under two configurations that are equal but for the URIs of accounts, where accounts are looked up alike
+abbrev pub KeepsTheSecretInBoth : Type 0
+KeepsTheSecretInBoth = (directory far : Directory) (token : List ℕ) (loaded : Texts) (fuel : ℕ) (happened run : List Happened) (seer : Peer) →
+    BranchesAreRead directory token → SiteAlike (records_in directory loaded happened) directory far → AllLookUp directory far (notices far run) →
+    AllEarly directory token fuel (notices directory happened) (beginning loaded) → trusts directory seer ≡ false →
+    mask directory token loaded fuel happened ≡ mask far token loaded fuel run →
+    view seer (gives directory token loaded fuel happened) ≡ view seer (gives far token loaded fuel run)
+
+-- under one configuration they are
+abbrev pub KeepsTheSecret : Type 0
+KeepsTheSecret = (directory : Directory) (token : List ℕ) (loaded : Texts) (fuel : ℕ) (happened run : List Happened) (seer : Peer) →
+    BranchesAreRead directory token → AllEarly directory token fuel (notices directory happened) (beginning loaded) → trusts directory seer ≡ false →
+    mask directory token loaded fuel happened ≡ mask directory token loaded fuel run →
+    view seer (gives directory token loaded fuel happened) ≡ view seer (gives directory token loaded fuel run)
+
+-- each client transaction of a run, by which a call or a seat of a room is answered, and each INVITE of a call that is acknowledged, is tied to the peer that was asked
+abbrev pub RunsAreTied : Type 0
+RunsAreTied = (directory : Directory) (token : List ℕ) (loaded : Texts) (fuel : ℕ) (happened : List Happened) → BranchesAreRead directory token →
+    AllTied directory token fuel (notices directory happened) (beginning loaded)
+
+-- ---- of what is offered exactly, however many deadlines fire
+
+-- without its private places the run in which this happened is this
+pub record Masks (directory : Directory) (token : List ℕ) (loaded : Texts) (happened : List Happened) (masked : Mask) : Type 0 where
+  pub fuel : ℕ
+  pub enough : IsEnough directory token loaded fuel happened
+  pub exact : masked ≡ mask directory token loaded fuel happened
+
+-- and nothing else: more firings than are enough change nothing of it
+abbrev pub MasksOnce : Type 0
+MasksOnce = (directory : Directory) (token : List ℕ) (loaded : Texts) (happened : List Happened) (masked other : Mask) →
+    Masks directory token loaded happened masked → Masks directory token loaded happened other → masked ≡ other
+
+-- of these offers an untrusted peer sees what it would see of any other run that is the same without its private places, also under a configuration that is equal but for
+-- the URIs of accounts, where accounts are looked up alike
+abbrev pub SeesAlike : Directory → (token : List ℕ) → (loaded : Texts) → List Happened → List Offer → Type 0
+SeesAlike directory token loaded happened offers =
+    (other : Directory) (run : List Happened) (others : List Offer) (masked : Mask) (seer : Peer) →
+    BranchesAreRead directory token → IsShortRun directory token loaded happened →
+    SiteAlike (records_in directory loaded happened) directory other → AllLookUp directory other (notices other run) → trusts directory seer ≡ false →
+    Masks directory token loaded happened masked → Masks other token loaded run masked →
+    Gives other token loaded run others → view seer offers ≡ view seer others
+
+-- so it is of whatever is offered exactly
+abbrev pub OffersKeepTheSecret : Type 0
+OffersKeepTheSecret = (directory : Directory) (token : List ℕ) (loaded : Texts) (happened : List Happened) (offers : List Offer) →
+    Gives directory token loaded happened offers → SeesAlike directory token loaded happened offers
+
+-- and under one configuration, where nothing is left to be asked of it
+abbrev pub SeesAlikeInOne : Directory → (token : List ℕ) → (loaded : Texts) → List Happened → List Offer → Type 0
+SeesAlikeInOne directory token loaded happened offers =
+    (run : List Happened) (others : List Offer) (masked : Mask) (seer : Peer) →
+    BranchesAreRead directory token → IsShortRun directory token loaded happened → trusts directory seer ≡ false →
+    Masks directory token loaded happened masked → Masks directory token loaded run masked →
+    Gives directory token loaded run others → view seer offers ≡ view seer others
+
+abbrev pub OffersKeepItInOne : Type 0
+OffersKeepItInOne = (directory : Directory) (token : List ℕ) (loaded : Texts) (happened : List Happened) (offers : List Offer) →
+    Gives directory token loaded happened offers → SeesAlikeInOne directory token loaded happened offers
+
+-- runs of which the same is noticed and in which the same is kept are seen alike, whatever else was asked of them
+abbrev pub SeenByNotices : Type 0
+SeenByNotices = (directory : Directory) (token : List ℕ) (loaded : Texts) (happened whole : List Happened) (offers : List Offer) →
+    notices directory happened ≡ notices directory whole → uploads_of directory.names happened ≡ uploads_of directory.names whole →
+    SeesAlike directory token loaded happened offers → SeesAlike directory token loaded whole offers

@@ -1,0 +1,78 @@
+//! What nobody may learn from a run with calls and conference rooms. These are laws, and no code.
+ghost use Rattle.std.specs.Prelude.{ℕ, List};
+ghost use Rattle.mmtel_directory.specs.declared.directories.Directory.{Directory};
+ghost use Rattle.mmtel_run.specs.Events.{Notice};
+ghost use Rattle.mmtel_run_laws.specs.Alike.{AllLookUp};
+ghost use Rattle.mmtel_run_laws.specs.Invited.{RoomsSendOnce};
+ghost use Rattle.mmtel_run_laws.specs.Secret.{ConfigurationsAreRead, KeepsTheSecret, KeepsTheSecretInBoth, MasksOnce, OffersKeepItInOne, OffersKeepTheSecret};
+ghost use Rattle.mmtel_run_laws.specs.Secret.{RunsAreTied, SeenByNotices};
+
+use mmtel_b2bua_laws::{alike_tables_answer_alike, tables_stay_alike};
+use mmtel_call_laws::{calls_send_once, messages_are_whole};
+use mmtel_focus_laws::{alike_rooms_answer_alike, rooms_stay_alike};
+use mmtel_masks::{heads_see_no_private_place, responses_are_masked};
+use mmtel_message::laws::{fields_are_read, fields_stand_on_lines};
+use mmtel_run::{equal_masks_are_kin, records_are_those_kept};
+use mmtel_sheet_texts::laws::puts_change_one_account;
+use mmtel_transaction::laws::{
+    messages_belong_to_one_transaction, texts_decide_nothing, tokens_differ,
+    transactions_are_of_one_peer,
+};
+
+/// Under one configuration each account is looked up as it is.
+pub fn one_configuration_looks_up_alike()
+    ensures each { (directory : Directory) (notices : List Notice) → AllLookUp directory directory notices }
+{}
+
+/// Of each configuration that was read, with a token of hexadecimal digits, branches are read as they are written.
+pub fn configurations_are_read()
+    ensures read { ConfigurationsAreRead }
+{}
+
+/// Whatever is done on conference rooms, each INVITE to a seat was sent to its peer, and so was each that a room left: before, or by the same deed. Each that goes out has
+/// a branch of its own, of a number that is drawn for it alone (RFC 3261 §8.1.1.7, §13.2.1), as long as fewer than 2^60 numbers are drawn.
+pub fn rooms_send_once()
+    ensures once { RoomsSendOnce }
+{}
+
+/// A response is of the peer to whom the INVITE that it answers went, to a call or to a seat of a room, and an INVITE whose 2xx is acknowledged went to the peer of the
+/// other leg (RFC 3261 §8.1.1.7, §13.2.2.4, §17.1.3): each branch is drawn once.
+pub fn runs_are_tied()
+    ensures tied { RunsAreTied }
+{
+    calls_send_once();
+    fields_are_read();
+    fields_stand_on_lines();
+    messages_belong_to_one_transaction();
+    rooms_send_once();
+    tokens_differ();
+}
+
+/// What an untrusted peer is offered, moments included, is equal in two runs that are the same without their private places and answer every test of their callers alike
+/// (RFC 3323, RFC 3325 §7, RFC 7044 §10.1): of the definitions, with as many firings in both, and of whatever is offered exactly by them.
+pub fn runs_keep_the_secret()
+    ensures both { KeepsTheSecretInBoth }
+    ensures one { KeepsTheSecret }
+    // However many deadlines fire, a run without its private places is one.
+    ensures masked { MasksOnce }
+    ensures offers { OffersKeepTheSecret }
+    ensures offers_in_one { OffersKeepItInOne }
+    // It rests on what is noticed of a run and kept in it alone.
+    ensures seen { SeenByNotices }
+{
+    alike_rooms_answer_alike();
+    alike_tables_answer_alike();
+    calls_send_once();
+    equal_masks_are_kin();
+    heads_see_no_private_place();
+    messages_are_whole();
+    puts_change_one_account();
+    records_are_those_kept();
+    responses_are_masked();
+    rooms_send_once();
+    rooms_stay_alike();
+    runs_are_tied();
+    tables_stay_alike();
+    texts_decide_nothing();
+    transactions_are_of_one_peer();
+}

@@ -1,4 +1,0 @@
-mod Adding
-mod Apart
-mod Seeing
-mod Parting

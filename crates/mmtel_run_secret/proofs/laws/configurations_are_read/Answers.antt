@@ -1,5 +1,0 @@
-use Rattle.mmtel_run_secret.proofs.Sources.{configurations_are_read}
-use Rattle.mmtel_run_secret.proofs.laws.configurations_are_read.Goals as goal
-
-pub returns : goal.returns
-returns c = record { read = configurations_are_read }

@@ -2,6 +2,7 @@
 //!
 //! Each is a script and the listing that is due, in the form of `cases`. Records stand as comments before the bytes in which they are put.
 
+use crate::asserting::assert_right;
 use crate::cases::wrong_run;
 
 /// The runs; the first is cut short in `faults`.
@@ -373,5 +374,5 @@ pub fn call_runs() -> &'static [u8] {
 
 #[test]
 fn calls(rt: HostRuntime) {
-    assert!(rt; wrong_run(rt.alloc(), call_runs()) == 0);
+    assert_right(&rt, "CALL", wrong_run(rt.alloc(), call_runs()));
 }

@@ -10,12 +10,13 @@ use crate::runs::tell;
 use crate::serving::tell_served;
 use crate::settings::setting;
 use mmtel_scan::part;
+use mmtel_told::cut;
 use std::alloc::Global;
 
 /// What follows a line that begins with `~`, up to the next such line, and what stands behind that one's `~`; None where there is no line.
 pub fn piece(text: &[u8]) -> Option<(&[u8], &[u8])> {
     let (_, text) = part(b'\n', text)?;
-    Some(part(b'~', text).unwrap_or((text, b"")))
+    Some(cut(b'~', text))
 }
 
 /// Two pieces, and what stands behind them.

@@ -1,5 +1,6 @@
 //! Files that are checked: whether each is a service record, and else its first fault; and files that are not there or cannot be read, and sinks that fail.
 
+use crate::asserting::assert_right;
 use crate::cases::wrong_run;
 
 /// The file is the script of a case.
@@ -113,5 +114,5 @@ ok
 
 #[test]
 fn checks(rt: HostRuntime) {
-    assert!(rt; wrong_run(rt.alloc(), CHECKS) == 0);
+    assert_right(&rt, "CHECKS", wrong_run(rt.alloc(), CHECKS));
 }

@@ -1,10 +1,11 @@
 //! What is done with requests.
 
+use crate::asserting::assert_right;
 use crate::pages::{Page, next_line, wrong_line};
 use crate::requests::{add_request, add_request_to, add_request_with, directory, hearing};
 use mmtel_directory::Directory;
 use mmtel_intake::{Answer, Course, Holder, Standing, course};
-use mmtel_scan::part;
+use mmtel_told::cut;
 use mmtel_types::{CallNo, RoomNo, Side};
 use std::alloc::Global;
 
@@ -222,7 +223,7 @@ fn standing(whence: u8, to: u8) -> Standing {
 
 /// Tells what is done with the request of a row.
 fn tell_row(page: &mut Page, directory: &Directory, whence: u8, to: u8, row: &[u8]) {
-    let (start, further) = part(b'|', row).unwrap_or((row, b""));
+    let (start, further) = cut(b'|', row);
     let mut text = Page::new(page.alloc);
     if to == b'x' {
         add_request_to(&mut text, b"<sip:eve@home.example>", start, further);
@@ -285,5 +286,5 @@ fn wrong_course(alloc: Global, table: &[u8]) -> usize {
 /// Each refusal and the order between them, each method, what enters a dialog, and which INVITEs open a call.
 #[test]
 fn decides(rt: HostRuntime) {
-    assert_eq!(rt; wrong_course(rt.alloc(), TABLE), 0);
+    assert_right(&rt, "TABLE", wrong_course(rt.alloc(), TABLE));
 }

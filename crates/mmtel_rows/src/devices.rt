@@ -1,5 +1,6 @@
 //! Files, keepers and sinks that fail, and files that break their grammars.
 
+use crate::asserting::assert_right;
 use crate::cases::wrong_run;
 
 const DEVICES: &[u8] = br#"~ The third line of the configuration is bad.
@@ -339,5 +340,5 @@ keepe
 
 #[test]
 fn devices(rt: HostRuntime) {
-    assert!(rt; wrong_run(rt.alloc(), DEVICES) == 0);
+    assert_right(&rt, "DEVICES", wrong_run(rt.alloc(), DEVICES));
 }

@@ -1,11 +1,12 @@
 //! What is read of events.
 
+use crate::asserting::assert_right;
 use crate::pages::{Page, wrong_line};
 use crate::requests::{add_request, address, directory};
 use mmtel_cli::Event;
 use mmtel_directory::Directory;
 use mmtel_intake::{Told, digest, moment};
-use mmtel_scan::part;
+use mmtel_told::cut;
 use mmtel_types::{Addr, Moment, Peer};
 use std::alloc::Global;
 
@@ -143,7 +144,7 @@ fn misspelled(page: &Page, start: &[u8]) -> Page {
     text.add(
         b" SIP/2.0\r\nVia: SIP/2.0/UDP 127.0.0.1:5071;branch=abc\r\nFrom: <sip:alice@home.example>;tag=a\r\nTo: \"Bob\" <sip:bob@home.example>\r\nCall-ID: c1\r\nCSeq: 7 ",
     );
-    let (method, _) = part(b' ', start).unwrap_or((start, b""));
+    let (method, _) = cut(b' ', start);
     text.add(method);
     text.add(b"\r\nContent-Length: 0\r\n\r\n");
     text
@@ -224,5 +225,5 @@ fn wrong_reading(alloc: Global) -> usize {
 /// A message of a trusted peer and of another one, a datagram of nobody, each fault of reading, and the moments of all events.
 #[test]
 fn reads(rt: HostRuntime) {
-    assert_eq!(rt; wrong_reading(rt.alloc()), 0);
+    assert_right(&rt, "reading", wrong_reading(rt.alloc()));
 }

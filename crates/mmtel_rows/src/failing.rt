@@ -4,10 +4,12 @@
 //! script; the status that is due; and what comes of it then: lines, in which `+N` stands for the first N lines of what comes of the script by itself. Settings and lines are
 //! each ended by `;`.
 
+use crate::asserting::assert_right;
 use crate::calls::call_runs;
 use crate::cases::{piece, two, writes};
 use crate::pages::{Page, add_lines, add_short, is_well, next_line};
 use mmtel_scan::{part, plain_number, skip_text};
+use mmtel_told::cut;
 use std::alloc::Global;
 
 /// The keeper is bound by its first call, and loaded, or asked for its rows, by its second. The link is bound by its first call; each event takes one call, reading a web
@@ -287,8 +289,8 @@ fn add_due(page: &mut Page, whole: &[u8], due: &[u8]) {
 
 /// Whether the script with the settings of a row comes to what the row says.
 fn is_right(alloc: Global, script: &[u8], whole: &[u8], row: &[u8]) -> bool {
-    let (settings, rest) = part(b'/', row).unwrap_or((row, b""));
-    let (status, due) = part(b'/', rest).unwrap_or((rest, b""));
+    let (settings, rest) = cut(b'/', row);
+    let (status, due) = cut(b'/', rest);
     let mut case = Page::new(alloc);
     case.add(b"=status:");
     case.add(status);
@@ -347,7 +349,7 @@ fn wrong_failure(alloc: Global, table: &[u8]) -> usize {
 /// Every device of every command fails.
 #[test]
 fn failing_devices(rt: HostRuntime) {
-    assert_eq!(rt; wrong_failure(rt.alloc(), FAILING), 0);
+    assert_right(&rt, "FAILING", wrong_failure(rt.alloc(), FAILING));
 }
 
 /// The number of the first row of a call to one who is busy that is not right, where it is served.
@@ -363,5 +365,5 @@ fn wrong_busy(alloc: Global) -> usize {
 /// A link of which a `next` fails is status 4, wherever it is, and it was given what was due before.
 #[test]
 fn failing_links(rt: HostRuntime) {
-    assert_eq!(rt; wrong_busy(rt.alloc()), 0);
+    assert_right(&rt, "busy", wrong_busy(rt.alloc()));
 }

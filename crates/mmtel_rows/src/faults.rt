@@ -1,9 +1,11 @@
 //! Calls over keepers and sinks that fail, and datagrams that are cut short.
 
+use crate::asserting::assert_right;
 use crate::calls::call_runs;
 use crate::cases::{two, writes, wrong_run};
 use crate::pages::{Page, add_lines, add_short, is_well};
 use mmtel_scan::part;
+use mmtel_told::cut;
 use std::alloc::Global;
 
 /// The bytes of a datagram, an INVITE of Erin to bob.
@@ -141,7 +143,7 @@ fn failing_runs() -> &'static [u8] {
 
 #[test]
 fn failing_rows(rt: HostRuntime) {
-    assert!(rt; wrong_run(rt.alloc(), failing_runs()) == 0);
+    assert_right(&rt, "FAILING", wrong_run(rt.alloc(), failing_runs()));
 }
 
 /// What `charges` answers and writes over the keeper that the first run of these left: the numbers of the keeper's calls that fail, the status and the lines. The run makes
@@ -157,8 +159,8 @@ const CHARGES: &[u8] =
 
 /// Whether it is as a row says, behind a run of this script.
 fn is_charged(alloc: Global, script: &[u8], row: &[u8]) -> bool {
-    let (keeps, rest) = part(b'|', row).unwrap_or((row, b""));
-    let (status, lines) = part(b'|', rest).unwrap_or((rest, b""));
+    let (keeps, rest) = cut(b'|', row);
+    let (status, lines) = cut(b'|', rest);
     let mut case = Page::new(alloc);
     case.add(b"=then:charges|server.cfg\n=keeps:");
     case.add(keeps);
@@ -196,7 +198,7 @@ fn charged_rows(rt: HostRuntime) {
         Some((script, _, _)) => wrong_charge(rt.alloc(), script, CHARGES),
         None => 1,
     };
-    assert!(rt; wrong == 0);
+    assert_right(&rt, "CHARGES", wrong);
 }
 
 /// Whether a run of the script over a sink that takes seven bytes a write, of which the one behind so many bytes fails, writes these bytes of the listing alone.

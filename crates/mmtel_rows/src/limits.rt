@@ -1,6 +1,7 @@
 //! Limits and refusals of a datagram (RFC 3261 §7.3, §8.1.1.7, §8.2, §16.3 and §18.3): what is read of a datagram, what is refused and with which status, and what is
 //! dropped. A datagram has 16,384 bytes and 128 header lines at most.
 
+use crate::asserting::assert_right;
 use crate::cases::wrong_run;
 
 const LIMITS: &[u8] = br#"~ A branch without the cookie.
@@ -112,5 +113,5 @@ at 0 to 2|INVITE sip:bob@far.example SIP/2.0|Via: SIP/2.0/UDP 127.0.0.1:5060;bra
 
 #[test]
 fn limits(rt: HostRuntime) {
-    assert!(rt; wrong_run(rt.alloc(), LIMITS) == 0);
+    assert_right(&rt, "LIMITS", wrong_run(rt.alloc(), LIMITS));
 }

@@ -4,7 +4,8 @@ use crate::pages::{Page, add_script, add_short};
 use crate::settings::{behind_settings, config, numbers, setting, value};
 use mmtel_cli::{Directory, Event, ScriptLink, read_directory};
 use mmtel_link::MemoryLink;
-use mmtel_scan::{List, part};
+use mmtel_scan::List;
+use mmtel_told::cut;
 
 /// What is heard of the peers of a configuration.
 fn heard_of(page: &mut Page, script: &[u8], directory: &Directory) -> Option<ScriptLink> {
@@ -90,7 +91,7 @@ pub fn link(page: &mut Page, script: &[u8]) -> MemoryLink {
 
 /// Tells the first line of a text that was given.
 fn tell_first(page: &mut Page, text: &[u8]) {
-    let (line, _) = part(b'\r', text).unwrap_or((text, b""));
+    let (line, _) = cut(b'\r', text);
     page.add(line);
     page.add(b"\n");
 }

@@ -1,5 +1,6 @@
 //! Openings: the INVITE of a caller who asks for privacy, from a trusted peer to one that is not.
 
+use crate::asserting::assert_right;
 use crate::cases::{two, wrong_run};
 use crate::links::heard;
 use crate::pages::{Page, add_lines, are_alike};
@@ -71,7 +72,7 @@ fn opening_runs() -> &'static [u8] {
 
 #[test]
 fn restricted_openings(rt: HostRuntime) {
-    assert!(rt; wrong_run(rt.alloc(), opening_runs()) == 0);
+    assert_right(&rt, "OPENING", wrong_run(rt.alloc(), opening_runs()));
 }
 
 /// Adds what a server offers in so many turns, by the calls right below the top call; the link has ended after the second.

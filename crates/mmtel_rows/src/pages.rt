@@ -1,6 +1,7 @@
 //! Texts in the making: short lines, scripts, and whether two of them are alike.
 
 use mmtel_scan::{part, plain_number, skip_text};
+use mmtel_told::cut;
 pub use mmtel_told::{Told as Page, next_line};
 
 /// Adds short lines: `;` ends one by LF, and `^;` by CR LF.
@@ -81,7 +82,7 @@ pub fn add_script(page: &mut Page, script: &[u8], first: bool) {
         match part(b'{', rest) {
             None => break,
             Some((plain, later)) => {
-                let (both, later) = part(b'}', later).unwrap_or((later, b""));
+                let (both, later) = cut(b'}', later);
                 add_lines(page, plain);
                 choose(page, both, first);
                 rest = later;

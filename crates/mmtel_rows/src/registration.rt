@@ -1,5 +1,6 @@
 //! Registrations (3GPP TS 24.229 §5.7.1.1; RFC 3261 §10.3): a trusted peer tells that an account registered, or that its registration ended.
 
+use crate::asserting::assert_right;
 use crate::cases::wrong_run;
 
 const REGISTRATIONS: &[u8] =
@@ -33,5 +34,5 @@ at 5000 to 2|SIP/2.0 403 Forbidden|Via: SIP/2.0/UDP 127.0.0.1:5072;branch=z9hG4b
 
 #[test]
 fn registrations(rt: HostRuntime) {
-    assert!(rt; wrong_run(rt.alloc(), REGISTRATIONS) == 0);
+    assert_right(&rt, "REGISTRATIONS", wrong_run(rt.alloc(), REGISTRATIONS));
 }

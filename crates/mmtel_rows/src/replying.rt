@@ -1,5 +1,6 @@
 //! What is built of requests.
 
+use crate::asserting::assert_right;
 use crate::pages::{Page, wrong_line};
 use crate::requests::{SIP, address, hearing};
 use mmtel_answers::Hearing;
@@ -177,5 +178,5 @@ fn wrong_reply(alloc: Global) -> usize {
 /// A refusal with its line and the server's tag, a reply that is completed, an answer within a dialog, and the dialogs that both requests name.
 #[test]
 fn builds(rt: HostRuntime) {
-    assert_eq!(rt; wrong_reply(rt.alloc()), 0);
+    assert_right(&rt, "reply", wrong_reply(rt.alloc()));
 }

@@ -4,7 +4,7 @@ use crate::pages::Page;
 use mmtel_answers::Hearing;
 use mmtel_directory::{Directory, read_directory};
 use mmtel_message::read;
-use mmtel_scan::part;
+use mmtel_told::cut;
 use mmtel_types::{Addr, Peer};
 
 /// The server's address.
@@ -67,7 +67,7 @@ pub fn add_request_to(page: &mut Page, to: &[u8], start: &[u8], further: &[u8]) 
 
 /// The same with a body.
 pub fn add_request_with(page: &mut Page, to: &[u8], start: &[u8], further: &[u8], body: &[u8]) {
-    let (method, _) = part(b' ', start).unwrap_or((start, b""));
+    let (method, _) = cut(b' ', start);
     page.add(start);
     page.add(
         b" SIP/2.0\r\nVia: SIP/2.0/UDP 127.0.0.1:5071;branch=z9hG4bKa1\r\nFrom: <sip:alice@home.example>;tag=a\r\nTo: ",

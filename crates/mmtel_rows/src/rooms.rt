@@ -1,5 +1,6 @@
 //! Rooms: INVITEs to the factory and to rooms, referrals, legs that are taken over out of their calls, and full rooms (RFC 4579 §5, RFC 3515 §2.4, RFC 3891 §3).
 
+use crate::asserting::assert_right;
 use crate::cases::wrong_run;
 
 /// A room from its opening to its end, and INVITEs that are refused.
@@ -99,7 +100,7 @@ at 0 to 1|SIP/2.0 404 Not Found|Via: SIP/2.0/UDP 127.0.0.1:5071;branch=z9hG4bKc1
 
 #[test]
 fn rooms(rt: HostRuntime) {
-    assert!(rt; wrong_run(rt.alloc(), ROOMS) == 0);
+    assert_right(&rt, "ROOMS", wrong_run(rt.alloc(), ROOMS));
 }
 
 /// A room of which all 32 seats are taken.
@@ -439,5 +440,5 @@ at 2100 to 1|BYE sip:bob1@127.0.0.1:5071 SIP/2.0|Via: SIP/2.0/UDP 127.0.0.1:5060
 
 #[test]
 fn full_rooms(rt: HostRuntime) {
-    assert!(rt; wrong_run(rt.alloc(), FULL) == 0);
+    assert_right(&rt, "FULL", wrong_run(rt.alloc(), FULL));
 }

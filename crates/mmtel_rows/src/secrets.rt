@@ -1,5 +1,6 @@
 //! Pairs of runs of calls and rooms that differ in who asks for privacy, and what the peer that is not trusted is offered in both, moments included (RFC 3323 §4, RFC 3325 §7).
 
+use crate::asserting::assert_right;
 use crate::pairs::wrong_pair;
 
 /// They differ in private places alone, and whoever is asked for answers alike; with rooms, also of whoever opens one, and of whoever is taken over into one.
@@ -411,10 +412,10 @@ at 200 peer 1|REFER sip:room-1@127.0.0.1:5060 SIP/2.0|Via: SIP/2.0/UDP 127.0.0.1
 
 #[test]
 fn secrets(rt: HostRuntime) {
-    assert!(rt; wrong_pair(rt.alloc(), ALIKE, true) == 0);
+    assert_right(&rt, "ALIKE", wrong_pair(rt.alloc(), ALIKE, true));
 }
 
 #[test]
 fn what_is_no_secret(rt: HostRuntime) {
-    assert!(rt; wrong_pair(rt.alloc(), APART, false) == 0);
+    assert_right(&rt, "APART", wrong_pair(rt.alloc(), APART, false));
 }

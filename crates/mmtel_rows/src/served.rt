@@ -1,8 +1,10 @@
 //! Steps of a server, driving it over a link in memory, and which record is in force, and what the keeper holds, where some of its calls fail.
 
+use crate::asserting::assert_right;
 use crate::cases::{two, writes, wrong_run};
 use crate::pages::{Page, add_lines, add_short, is_well};
 use mmtel_scan::part;
+use mmtel_told::cut;
 use std::alloc::Global;
 
 /// Of the first run parts are driven below.
@@ -214,7 +216,7 @@ fn served_runs() -> &'static [u8] {
 
 #[test]
 fn served(rt: HostRuntime) {
-    assert!(rt; wrong_run(rt.alloc(), served_runs()) == 0);
+    assert_right(&rt, "SERVED", wrong_run(rt.alloc(), served_runs()));
 }
 
 /// The numbers of the link's calls that fail, for how many turns the server is driven each time, and how each ends: with how many offers.
@@ -242,8 +244,8 @@ const GIVEN: &[u8] =
 
 /// Whether it ends as a row says where that is set in front of the script, and then all of this is told.
 fn is_right(alloc: Global, set: &[u8], script: &[u8], listing: &[u8], row: &[u8]) -> bool {
-    let (link, rest) = part(b'|', row).unwrap_or((row, b""));
-    let (turns, ends) = part(b'|', rest).unwrap_or((rest, b""));
+    let (link, rest) = cut(b'|', row);
+    let (turns, ends) = cut(b'|', rest);
     let mut case = Page::new(alloc);
     case.add(b"=link:");
     case.add(link);
@@ -282,12 +284,20 @@ fn wrong_part(alloc: Global, set: &[u8], script: &[u8], listing: &[u8], table: &
 #[test]
 fn parts_of_a_run(rt: HostRuntime) {
     let (script, listing, _) = two(served_runs()).unwrap_or((b"", b"", b""));
-    assert!(rt; wrong_part(rt.alloc(), b"=turns:", script, listing, PARTS) == 0);
+    assert_right(
+        &rt,
+        "PARTS",
+        wrong_part(rt.alloc(), b"=turns:", script, listing, PARTS),
+    );
 }
 
 /// A link that is closed; turns that end before that; a link whose first call fails, or the one after an event; one that loses a datagram and a reply.
 #[test]
 fn what_a_link_is_given(rt: HostRuntime) {
     let (script, _, _) = two(served_runs()).unwrap_or((b"", b"", b""));
-    assert!(rt; wrong_part(rt.alloc(), b"=serve:", script, b"", GIVEN) == 0);
+    assert_right(
+        &rt,
+        "GIVEN",
+        wrong_part(rt.alloc(), b"=serve:", script, b"", GIVEN),
+    );
 }

@@ -1,5 +1,6 @@
 //! Serving by the top call: a link in memory, over which a script comes, and what it was given; and what the keeper holds behind a run.
 
+use crate::asserting::assert_right;
 use crate::cases::wrong_run;
 
 /// The link is bound by its first call; each event takes one call, reading a web connection one more, and each datagram or reply that it is given one.
@@ -130,5 +131,5 @@ HTTP/1.1 400 Bad Request
 
 #[test]
 fn serves(rt: HostRuntime) {
-    assert!(rt; wrong_run(rt.alloc(), SERVES) == 0);
+    assert_right(&rt, "SERVES", wrong_run(rt.alloc(), SERVES));
 }

@@ -2,6 +2,7 @@
 //!
 //! Each is a script and the listing that is due, in the form of `cases`. Records stand as comments before the bytes in which they are put.
 
+use crate::asserting::assert_right;
 use crate::cases::wrong_run;
 
 /// Presentation, restriction and barring; and no diversion where the configuration allows none.
@@ -149,7 +150,7 @@ at 0 to 1|SIP/2.0 480 Temporarily Unavailable|Via: SIP/2.0/UDP 127.0.0.1:5071;br
 
 #[test]
 fn presented_or_barred(rt: HostRuntime) {
-    assert!(rt; wrong_run(rt.alloc(), PRESENTED) == 0);
+    assert_right(&rt, "PRESENTED", wrong_run(rt.alloc(), PRESENTED));
 }
 
 /// Diversion and waiting.
@@ -627,5 +628,5 @@ at 1 to 2|INVITE sip:vm@far.example;x=y;cause=302 SIP/2.0|Via: SIP/2.0/UDP 127.0
 
 #[test]
 fn diverted_or_waiting(rt: HostRuntime) {
-    assert!(rt; wrong_run(rt.alloc(), DIVERTED) == 0);
+    assert_right(&rt, "DIVERTED", wrong_run(rt.alloc(), DIVERTED));
 }

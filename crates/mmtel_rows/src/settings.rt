@@ -10,6 +10,7 @@
 
 use crate::pages::{Page, add_short};
 use mmtel_scan::{List, part, plain_number, skip_text};
+use mmtel_told::cut;
 
 /// A server with a trusted peer and one that is not.
 const CONFIG: &[u8] = b"sip 127.0.0.1:5060
@@ -66,7 +67,7 @@ pub fn behind_settings(script: &[u8]) -> &[u8] {
 
 /// The word, and what stands behind the blank that follows it.
 fn word(words: &[u8]) -> (&[u8], &[u8]) {
-    part(b' ', words).unwrap_or((words, b""))
+    cut(b' ', words)
 }
 
 /// The numbers that stand in a setting.

@@ -2,6 +2,7 @@
 //!
 //! Each is a script and the listing that is due, in the form of `cases`. Records stand as comments before the bytes in which they are put.
 
+use crate::asserting::assert_right;
 use crate::cases::wrong_run;
 
 /// Until the call is answered.
@@ -271,7 +272,7 @@ at 120 to 1|SIP/2.0 500 Server Internal Error|Via: SIP/2.0/UDP 127.0.0.1:5071;br
 
 #[test]
 fn ringing(rt: HostRuntime) {
-    assert!(rt; wrong_run(rt.alloc(), RINGING) == 0);
+    assert_right(&rt, "RINGING", wrong_run(rt.alloc(), RINGING));
 }
 
 /// From the answer on, and how a call ends.
@@ -541,7 +542,7 @@ at 400 to 1|BYE sip:alice@127.0.0.1:5071 SIP/2.0|Via: SIP/2.0/UDP 127.0.0.1:5060
 
 #[test]
 fn answered(rt: HostRuntime) {
-    assert!(rt; wrong_run(rt.alloc(), ANSWERED) == 0);
+    assert_right(&rt, "ANSWERED", wrong_run(rt.alloc(), ANSWERED));
 }
 
 /// One side asks for another session.
@@ -985,7 +986,7 @@ at 1020 to 1|SIP/2.0 200 OK|Via: SIP/2.0/UDP 127.0.0.1:5071;branch=z9hG4bKc1|Fro
 
 #[test]
 fn asking(rt: HostRuntime) {
-    assert!(rt; wrong_run(rt.alloc(), ASKING) == 0);
+    assert_right(&rt, "ASKING", wrong_run(rt.alloc(), ASKING));
 }
 
 /// What comes late, and what is shown to whom.
@@ -1460,5 +1461,5 @@ at 200 to 2|SIP/2.0 200 OK|Via: SIP/2.0/UDP 127.0.0.1:5072;branch=z9hG4bKc1|From
 
 #[test]
 fn late(rt: HostRuntime) {
-    assert!(rt; wrong_run(rt.alloc(), LATE) == 0);
+    assert_right(&rt, "LATE", wrong_run(rt.alloc(), LATE));
 }

@@ -1,6 +1,7 @@
 //! Records over HTTP (3GPP TS 24.623 §5; RFC 9110 §9.3 and §15): who may read, put and delete one, what is refused and with which status, and that one is in force exactly
 //! where the keeper stored it.
 
+use crate::asserting::assert_right;
 use crate::cases::wrong_run;
 
 const UPLOADS: &[u8] =
@@ -121,5 +122,5 @@ x5b636f6d6d756e69636174696f6e2d77616974696e675d0a616374697665203d20747275650a
 
 #[test]
 fn uploads(rt: HostRuntime) {
-    assert!(rt; wrong_run(rt.alloc(), UPLOADS) == 0);
+    assert_right(&rt, "UPLOADS", wrong_run(rt.alloc(), UPLOADS));
 }

@@ -1,8 +1,9 @@
 //! The words of the command line.
 
+use crate::asserting::assert_right;
 use crate::cases::writes;
 use crate::pages::{Page, is_well};
-use mmtel_scan::part;
+use mmtel_told::cut;
 use std::alloc::Global;
 
 /// What each list of words, parted here by `|`, makes a run write. The name of the configuration is that of a file whose first line is bad, so that a run ends with its
@@ -181,7 +182,7 @@ fn status_of(due: &[u8]) -> u64 {
 
 /// Whether the words of a row make a run write what it says, over three files.
 fn is_right(alloc: Global, row: &[u8]) -> bool {
-    let (due, words) = part(b'|', row).unwrap_or((row, b""));
+    let (due, words) = cut(b'|', row);
     let mut case = Page::new(alloc);
     case.add(b"=file:c bad;\n=file:- ;bad;\n=file:-c ;;bad;\n=status:");
     case.add_number(status_of(due));
@@ -203,7 +204,7 @@ fn wrong_row(alloc: Global, table: &[u8]) -> usize {
         if rest.is_empty() {
             return 0;
         }
-        let (row, later) = part(b'\n', rest).unwrap_or((rest, b""));
+        let (row, later) = cut(b'\n', rest);
         if !is_right(alloc, row) {
             return number + 1;
         }
@@ -214,5 +215,5 @@ fn wrong_row(alloc: Global, table: &[u8]) -> usize {
 
 #[test]
 fn lists_of_words(rt: HostRuntime) {
-    assert!(rt; wrong_row(rt.alloc(), WORDS) == 0);
+    assert_right(&rt, "WORDS", wrong_row(rt.alloc(), WORDS));
 }

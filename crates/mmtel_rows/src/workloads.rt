@@ -3,6 +3,7 @@
 //! Of a salt x the next is (1103515245 x + 12345) mod 2^31, and the kind of a call the fourth of its upper half: to bob, who answers (7 offers and 2 rows); to carol, who
 //! diverts to a mailbox that answers (8 and 3); to bob, who is busy (4 and 2); to bob, who rings until the caller gives up (7 and 2).
 
+use crate::asserting::assert_right;
 use crate::cases::wrong_run;
 
 const WORKLOADS: &[u8] =
@@ -62,5 +63,5 @@ o
 
 #[test]
 fn workloads(rt: HostRuntime) {
-    assert!(rt; wrong_run(rt.alloc(), WORKLOADS) == 0);
+    assert_right(&rt, "WORKLOADS", wrong_run(rt.alloc(), WORKLOADS));
 }

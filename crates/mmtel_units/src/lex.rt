@@ -8,7 +8,7 @@ use mmtel_lex::{
     first_part, is_named, percent_decoded, print_name_addr, print_uri, read_name_addr, read_params,
     read_uri, same_identity, split_user, uri_header, uri_param,
 };
-use mmtel_scan::{part, token_text};
+use mmtel_scan::token_text;
 use mmtel_told::{Rows, Told, wrong_line};
 
 fn add_param_parts(told: &mut Told, params: &Params) {
@@ -446,7 +446,7 @@ fn add_pair(told: &mut Told, a: &Uri, second: &[u8]) {
 
 impl Rows for Pairs {
     fn tell(&mut self, told: &mut Told, asked: &[u8]) {
-        let (first, second) = part(b' ', asked).unwrap_or((asked, b""));
+        let (first, second) = cut(b' ', asked);
         match read_uri(told.alloc, first) {
             Ok(a) => add_pair(told, &a, second),
             Err(_) => told.fail(),

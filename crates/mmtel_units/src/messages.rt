@@ -1,7 +1,7 @@
 //! Messages, History-Info, trust and parties.
 
 mod building;
-mod drafts;
+pub mod drafts;
 mod history;
 mod message;
 mod parties;

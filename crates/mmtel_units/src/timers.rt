@@ -1,9 +1,9 @@
 //! Deadlines, and the moments at which messages are sent again.
 
 use crate::asserting::assert_right;
-use mmtel_scan::{number_up_to, part};
+use mmtel_scan::number_up_to;
 use mmtel_timers::{Deadlines, Key, Schedule};
-use mmtel_told::{Rows, Told, wrong_line};
+use mmtel_told::{Rows, Told, cut, wrong_line};
 use mmtel_types::Moment;
 
 /// The deadlines that the rows so far have left.
@@ -18,7 +18,7 @@ fn number(digits: &[u8]) -> u64 {
 
 impl Steps {
     fn arm(&mut self, told: &mut Told, deadline: &[u8]) {
-        let (at, key) = part(b' ', deadline).unwrap_or((deadline, b""));
+        let (at, key) = cut(b' ', deadline);
         if self
             .deadlines
             .arm(told.alloc, number(at), Key(number(key)))

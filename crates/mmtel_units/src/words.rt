@@ -62,8 +62,13 @@ struct Lines;
 impl Rows for Lines {
     fn tell(&mut self, told: &mut Told, asked: &[u8]) {
         let words = words_of(told, asked);
-        match command(told.alloc, words.items()) {
-            Ok(Some(wanted)) => add_wanted(told, &wanted),
+        let wanted = command(told.alloc, words.items());
+        drop(words);
+        match wanted {
+            Ok(Some(wanted)) => {
+                add_wanted(told, &wanted);
+                drop(wanted);
+            }
             Ok(None) => told.add(b"none"),
             Err(_) => told.fail(),
         }

@@ -1,5 +1,6 @@
 //! A leg comes out of a call.
 
+use crate::asserting::assert_right;
 use crate::seating::wrong_seat;
 
 /// NOTIFY goes to a seat alone that is there. Legs of a callee and of a caller are asked in, and have their seat, dialog and row from then on (RFC 4579 §5.6): their own
@@ -142,5 +143,5 @@ seats 0 0 0
 
 #[test]
 fn adopting(rt: HostRuntime) {
-    assert!(rt; wrong_seat(rt.alloc(), ADOPTING) == 0);
+    assert_right(&rt, "ADOPTING", wrong_seat(rt.alloc(), ADOPTING));
 }

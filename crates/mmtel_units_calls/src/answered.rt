@@ -4,6 +4,7 @@
 //! A side leaves while the ACK of the other one is due (RFC 3261 §15).
 //! A side of a talking call leaves, or asks for something else (RFC 3261 §11.2, §12.2.2, §15.1).
 
+use crate::asserting::assert_right;
 use crate::stepping::wrong_step;
 
 const ANSWERED: &[u8] = br#"# what comes before the ACK, and an ACK of another number or side
@@ -230,5 +231,5 @@ reply 6: 500 Server Internal Error, 3 INVITE
 
 #[test]
 fn answered(rt: HostRuntime) {
-    assert!(rt; wrong_step(rt.alloc(), ANSWERED) == 0);
+    assert_right(&rt, "ANSWERED", wrong_step(rt.alloc(), ANSWERED));
 }

@@ -5,6 +5,7 @@
 //! An INVITE that is cancelled (RFC 3261 §9.1), and INVITEs that cross (§14.2).
 //! A side leaves while an INVITE has no answer.
 
+use crate::asserting::assert_right;
 use crate::stepping::wrong_step;
 
 const ASKING: &[u8] = br#"# the caller holds the call, and takes it up again
@@ -445,5 +446,5 @@ plain to 1: ACK sip:b@127.0.0.1:5071, 2 ACK
 
 #[test]
 fn asking(rt: HostRuntime) {
-    assert!(rt; wrong_step(rt.alloc(), ASKING) == 0);
+    assert_right(&rt, "ASKING", wrong_step(rt.alloc(), ASKING));
 }

@@ -1,10 +1,11 @@
 //! Which INVITE a response answers, or was given up.
 
+use crate::asserting::assert_right;
 use crate::messages::success;
 use crate::worlds::word;
 use mmtel_call_decisions::{invite_answered, invite_silent};
 use mmtel_scan::part;
-use mmtel_told::Told;
+use mmtel_told::{Told, cut};
 use std::alloc::Global;
 
 /// A method and a branch; the branch behind its cookie of the INVITE that a response to it answers, and of the INVITE where it was given up (RFC 3261 §8.1.1.7, §17.1.3).
@@ -34,7 +35,7 @@ fn tell_answered(told: &mut Told, method: &[u8], branch: &[u8]) {
 
 /// Tells a row again, as it is answered.
 fn tell_row(told: &mut Told, row: &[u8]) {
-    let (asked, _) = part(b':', row).unwrap_or((row, b""));
+    let (asked, _) = cut(b':', row);
     let (method, branch) = word(asked);
     told.add(asked);
     told.add(b": ");
@@ -66,5 +67,5 @@ fn wrong_branch(alloc: Global, table: &[u8]) -> usize {
 
 #[test]
 fn branches(rt: HostRuntime) {
-    assert_eq!(rt; wrong_branch(rt.alloc(), BRANCHES), 0);
+    assert_right(&rt, "BRANCHES", wrong_branch(rt.alloc(), BRANCHES));
 }

@@ -1,5 +1,6 @@
 //! Seats that are left, and rooms that are closed, without a signal.
 
+use crate::asserting::assert_right;
 use crate::seating::wrong_seat;
 
 /// Leaving gives a row where the seat has an account; nobody leaves an empty seat or an invitation, and no seat of a room that is not live. A room goes on without its
@@ -97,5 +98,5 @@ seats 0 0 0
 
 #[test]
 fn closing(rt: HostRuntime) {
-    assert!(rt; wrong_seat(rt.alloc(), CLOSING) == 0);
+    assert_right(&rt, "CLOSING", wrong_seat(rt.alloc(), CLOSING));
 }

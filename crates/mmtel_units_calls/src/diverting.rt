@@ -4,6 +4,7 @@
 //! The bound on diversions counts those that a call came with.
 //! What History-Info tells whom (RFC 7044 §10.1): marks for the caller stand in a 181 alone, and those for targets in all that goes on.
 
+use crate::asserting::assert_right;
 use crate::stepping::wrong_step;
 
 const DIVERTING: &[u8] = b"# to a busy target, and on from there
@@ -265,5 +266,5 @@ ask 5 to 2: INVITE sip:v@127.0.0.1:5072, 2 INVITE
 
 #[test]
 fn diverting(rt: HostRuntime) {
-    assert!(rt; wrong_step(rt.alloc(), DIVERTING) == 0);
+    assert_right(&rt, "DIVERTING", wrong_step(rt.alloc(), DIVERTING));
 }

@@ -1,5 +1,6 @@
 //! Calls that are given up.
 
+use crate::asserting::assert_right;
 use crate::calling::wrong_call;
 
 /// A call of each kind: offered, ringing, answered, left by its target before the ACK, talking, asked for something else, without a leg that does not come back, and over
@@ -118,5 +119,5 @@ live 0 0 7 0
 
 #[test]
 fn given_up(rt: HostRuntime) {
-    assert!(rt; wrong_call(rt.alloc(), KINDS) == 0);
+    assert_right(&rt, "KINDS", wrong_call(rt.alloc(), KINDS));
 }

@@ -1,5 +1,6 @@
 //! Somebody is invited by REFER.
 
+use crate::asserting::assert_right;
 use crate::seating::wrong_seat;
 
 /// A REFER without Refer-To, of another method, to nobody's peer and of another scheme (RFC 3515 §2.4.2). Bob is invited, and has no dialog before his 2xx; then he is
@@ -202,5 +203,5 @@ seats 0 0 0
 
 #[test]
 fn inviting(rt: HostRuntime) {
-    assert!(rt; wrong_seat(rt.alloc(), INVITING) == 0);
+    assert_right(&rt, "INVITING", wrong_seat(rt.alloc(), INVITING));
 }

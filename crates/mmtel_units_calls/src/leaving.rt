@@ -6,6 +6,7 @@
 //! goes to that of the INVITE (RFC 3261 §12.1.2, §13.2.2.4).
 //! A further dialog of an INVITE that was answered has ACK and BYE at once (RFC 3261 §13.2.2.4).
 
+use crate::asserting::assert_right;
 use crate::stepping::wrong_step;
 
 const LEAVING: &[u8] =
@@ -247,5 +248,5 @@ ask 6 to 1: BYE sip:e@127.0.0.1:5071, 2 BYE
 
 #[test]
 fn leaving(rt: HostRuntime) {
-    assert!(rt; wrong_step(rt.alloc(), LEAVING) == 0);
+    assert_right(&rt, "LEAVING", wrong_step(rt.alloc(), LEAVING));
 }

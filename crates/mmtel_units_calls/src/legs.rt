@@ -1,5 +1,6 @@
 //! Legs that are taken out of calls.
 
+use crate::asserting::assert_right;
 use crate::calling::wrong_call;
 
 /// A leg is taken out of a talking call alone; while it is away, neither its dialog is found nor its side, and both accounts are in the call still. Put back, the call goes
@@ -113,5 +114,5 @@ origin,3,3,2000,2200,2400,0,ended,0
 
 #[test]
 fn legs(rt: HostRuntime) {
-    assert!(rt; wrong_call(rt.alloc(), LEGS) == 0);
+    assert_right(&rt, "LEGS", wrong_call(rt.alloc(), LEGS));
 }

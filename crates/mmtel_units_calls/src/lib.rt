@@ -9,6 +9,8 @@ mod answered;
 #[cfg(test)]
 mod asking;
 #[cfg(test)]
+mod asserting;
+#[cfg(test)]
 mod branches;
 #[cfg(test)]
 mod calling;

@@ -1,5 +1,6 @@
 //! As many calls as may live.
 
+use crate::asserting::assert_right;
 use crate::calling::wrong_call;
 
 /// Once 4,096 calls live, the next INVITE opens none, and is handed back: no number is given and no token drawn. A call that is over makes room, though something of it may
@@ -46,5 +47,5 @@ live 0 0 0 0
 
 #[test]
 fn limits(rt: HostRuntime) {
-    assert!(rt; wrong_call(rt.alloc(), LIMITS) == 0);
+    assert_right(&rt, "LIMITS", wrong_call(rt.alloc(), LIMITS));
 }

@@ -3,8 +3,8 @@
 use crate::worlds::{is, source, word};
 use mmtel_answers::Hearing;
 use mmtel_message::{Msg, Start, read};
-use mmtel_scan::{Text, part, skip_text};
-use mmtel_told::Told;
+use mmtel_scan::{Text, skip_text};
+use mmtel_told::{Told, cut};
 use mmtel_types::Peer;
 
 /// A message without lines.
@@ -52,7 +52,7 @@ fn add_further(text: &mut Told, further: &[u8]) {
         if rest.is_empty() {
             break;
         }
-        let (line, later) = part(b'|', rest).unwrap_or((rest, b""));
+        let (line, later) = cut(b'|', rest);
         match skip_text(b"=", line) {
             None => text.add(line),
             Some(line) => {
@@ -165,7 +165,7 @@ fn add_to(text: &mut Told, asked: &Msg, tag: &[u8]) {
     if is(tag, b"-") {
         text.add(to);
     } else {
-        let (front, _) = part(b'>', to).unwrap_or((to, b""));
+        let (front, _) = cut(b'>', to);
         text.add(front);
         text.add(b">;tag=");
         text.add(tag);

@@ -6,6 +6,7 @@
 //! The caller gives up (RFC 3261 §9.2, §15.1.2).
 //! Requests in dialogs that are not confirmed (RFC 3261 §12.2.2, §14.2).
 
+use crate::asserting::assert_right;
 use crate::stepping::wrong_step;
 
 const OFFERED: &[u8] = br#"# the target tries, rings and answers
@@ -440,5 +441,5 @@ reply 9: 500 Server Internal Error, 4 BYE
 
 #[test]
 fn offered(rt: HostRuntime) {
-    assert!(rt; wrong_step(rt.alloc(), OFFERED) == 0);
+    assert_right(&rt, "OFFERED", wrong_step(rt.alloc(), OFFERED));
 }

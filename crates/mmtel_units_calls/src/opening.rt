@@ -4,6 +4,7 @@
 //! What refuses a call before it is offered (TS 24.611 §4.5.2, TS 24.615 §4.5.5), with its rows.
 //! Waiting calls (TS 24.615 §4.5.5), the session cases (RFC 5502 §6), and routes (RFC 3261 §16.12).
 
+use crate::asserting::assert_right;
 use crate::stepping::wrong_step;
 
 const OPENING: &[u8] = br#"# a caller who hides nothing
@@ -268,5 +269,5 @@ due cap 1 at 180000
 
 #[test]
 fn opening(rt: HostRuntime) {
-    assert!(rt; wrong_step(rt.alloc(), OPENING) == 0);
+    assert_right(&rt, "OPENING", wrong_step(rt.alloc(), OPENING));
 }

@@ -3,11 +3,11 @@
 
 use crate::worlds::{World, is, put, uri, word};
 use mmtel_lex::Uri;
-use mmtel_scan::{List, part};
+use mmtel_scan::List;
 use mmtel_sheet_values::{
     Action, BarPart, Condition, DiversionPart, EventWord, Forward, Restriction, Rule, Sheet, Who,
 };
-use mmtel_told::Told;
+use mmtel_told::{Told, cut};
 use std::mem;
 
 /// The event of a rule; None for each call.
@@ -206,7 +206,7 @@ fn change_all(told: &mut Told, sheet: &mut Sheet, words: &[u8]) {
         if rest.is_empty() {
             break;
         }
-        let (clause, later) = part(b'|', rest).unwrap_or((rest, b""));
+        let (clause, later) = cut(b'|', rest);
         change(told, sheet, clause);
         rest = later;
     }

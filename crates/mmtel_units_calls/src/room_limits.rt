@@ -1,5 +1,6 @@
 //! As many rooms as may be live, and as many seats.
 
+use crate::asserting::assert_right;
 use crate::seating::wrong_seat;
 
 /// Once 1,024 rooms are live, the next INVITE opens none, and its leg comes back: no number is given. A room that is closed makes room. There is no room 2000, and no
@@ -68,5 +69,5 @@ seats 32 1 1
 
 #[test]
 fn room_limits(rt: HostRuntime) {
-    assert!(rt; wrong_seat(rt.alloc(), ROOM_LIMITS) == 0);
+    assert_right(&rt, "ROOM_LIMITS", wrong_seat(rt.alloc(), ROOM_LIMITS));
 }

@@ -1,5 +1,6 @@
 //! The messages of rooms, whole.
 
+use crate::asserting::assert_right;
 use crate::seating::wrong_seat;
 
 /// The mixer answers the first audio medium, with its map, and refuses the others (RFC 3264 §6); 202, NOTIFY and INVITE name the room and its focus (RFC 4579 §5.1), and
@@ -222,5 +223,5 @@ seats 0 0 0
 
 #[test]
 fn room_messages(rt: HostRuntime) {
-    assert!(rt; wrong_seat(rt.alloc(), ROOM_MESSAGES) == 0);
+    assert_right(&rt, "ROOM_MESSAGES", wrong_seat(rt.alloc(), ROOM_MESSAGES));
 }

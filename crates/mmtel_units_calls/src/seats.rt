@@ -1,5 +1,6 @@
 //! Seats that are taken, asked in, and left.
 
+use crate::asserting::assert_right;
 use crate::seating::wrong_seat;
 
 /// Alice opens a room and has its first seat (RFC 4579 §5.4). While her ACK is due her INVITE crosses (RFC 3261 §14.2); an ACK of another number is none. Erin comes, is
@@ -137,5 +138,5 @@ participant,2,2,35100,35100,67000,0,ended,0
 
 #[test]
 fn seats(rt: HostRuntime) {
-    assert!(rt; wrong_seat(rt.alloc(), SEATS) == 0);
+    assert_right(&rt, "SEATS", wrong_seat(rt.alloc(), SEATS));
 }

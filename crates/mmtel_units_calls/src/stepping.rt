@@ -18,7 +18,7 @@ use mmtel_answers::Hearing;
 use mmtel_call::{Call, Phase, Signal, Stage};
 use mmtel_call_decisions::{Arrival, Present, Setting};
 use mmtel_scan::{List, NoMemory, part, skip_text};
-use mmtel_told::Told;
+use mmtel_told::{Told, cut};
 use mmtel_transaction::{DueWord, TKey};
 use mmtel_types::{CallNo, Moment, Side};
 use std::alloc::Global;
@@ -398,7 +398,7 @@ fn act(
     call: Option<Call>,
     line: &[u8],
 ) -> Option<Call> {
-    let (words, further) = part(b'|', line).unwrap_or((line, b""));
+    let (words, further) = cut(b'|', line);
     let (digits, words) = word(words);
     let at = moment(told, digits);
     match skip_text(b"invite ", words) {

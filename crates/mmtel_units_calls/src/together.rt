@@ -1,5 +1,6 @@
 //! Several calls at once.
 
+use crate::asserting::assert_right;
 use crate::calling::wrong_call;
 
 /// Bob has waiting with two calls: Alice and Erin call him, Carol is told that he is busy (TS 24.615 §4.5.5). Each account has so many calls as it makes, as are offered to
@@ -176,5 +177,5 @@ live 0 0 0 0
 
 #[test]
 fn together(rt: HostRuntime) {
-    assert!(rt; wrong_call(rt.alloc(), TOGETHER) == 0);
+    assert_right(&rt, "TOGETHER", wrong_call(rt.alloc(), TOGETHER));
 }

@@ -5,6 +5,7 @@
 //! A caller whose record restricts always calls home and talks: its target is of the trust domain and learns that nobody else may know (RFC 3325 §7); each side's messages
 //! reach the other one by the table of lines, an early answer fixes the dialog, and BYE ends it.
 
+use crate::asserting::assert_right;
 use crate::stepping::wrong_step;
 
 const WHOLE: &[u8] = br#"# a caller who asks for privacy calls far away, and gives up
@@ -251,5 +252,5 @@ terminating,2,1,0,200,2000,0,ended,0
 
 #[test]
 fn whole(rt: HostRuntime) {
-    assert!(rt; wrong_step(rt.alloc(), WHOLE) == 0);
+    assert_right(&rt, "WHOLE", wrong_step(rt.alloc(), WHOLE));
 }

@@ -4,9 +4,9 @@ use mmtel_answers::Hearing;
 use mmtel_lex::{Uri, read_uri};
 use mmtel_parties::Parties;
 use mmtel_rules::Identities2;
-use mmtel_scan::{List, part, plain_number};
+use mmtel_scan::{List, plain_number};
 use mmtel_sheet_values::{Sheet, SheetView};
-use mmtel_told::Told;
+use mmtel_told::{Told, cut};
 use mmtel_trust::{Accounts, Identities, PeerTable, asserted};
 use mmtel_types::{Account, Addr, Moment, Peer};
 
@@ -33,7 +33,7 @@ pub fn is(word: &[u8], this: &[u8]) -> bool {
 
 /// The first word, and what follows it.
 pub fn word(words: &[u8]) -> (&[u8], &[u8]) {
-    part(b' ', words).unwrap_or((words, b""))
+    cut(b' ', words)
 }
 
 /// The number of these digits.

@@ -1,4 +1,5 @@
-//! Tests of service records, of the services' public calls and of their precedence: one module a crate or two, a table a test.
+//! Tests of service records, of the services' public calls and of their precedence, and of the outside, which keeps records and is asked for them (`web`): one module a
+//! crate or two, a table a test.
 //!
 //! What the contracts say needs no test. Here stand rows whose answers come from the standards (RFC 4745, TS 24.604, 24.607, 24.608, 24.610, 24.611 and 24.615, RFC 4458),
 //! which show that the definitions mean what is wanted. Rules are written as records write them.
@@ -31,5 +32,7 @@ mod rules;
 mod views;
 #[cfg(test)]
 mod waiting;
+#[cfg(test)]
+mod web;
 
 pub use outcomes::rows_have_these_outcomes;

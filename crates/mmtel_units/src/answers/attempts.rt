@@ -211,9 +211,9 @@ fn wrong_gives_up(alloc: Global) -> usize {
             invitation,
             within: false,
         };
-        if late_all(&mut told, &mut desk, loose).is_some() {
-            told.fail();
-        }
+        let left = late_all(&mut told, &mut desk, loose);
+        told.keep(left.is_none());
+        drop(left);
     }
     drop(opening);
     tell_desk(&mut told, &desk);
@@ -362,7 +362,9 @@ fn refuse(told: &mut Told, desk: &mut Desk, open: &Hearing) {
     let named = retry_after(told.alloc);
     if let Some(named) = told.noted(named) {
         refuse_by(told, desk, open, tag.bytes(), &named);
+        drop(named);
     }
+    drop(tag);
 }
 
 /// Tells the place of the loose INVITE of a branch.

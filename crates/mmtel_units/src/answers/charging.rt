@@ -100,9 +100,11 @@ fn tell_records(told: &mut Told, text: &[u8]) {
         if let Some(record) = records.next() {
             if let Some(record) = told.noted(record) {
                 tell_record(told, &record);
+                drop(record);
             }
         }
     }
+    drop(records);
 }
 
 /// Tells the text of no rows, that of the rows, and what a CSV reader gives of it.
@@ -110,9 +112,12 @@ fn tell_texts(told: &mut Told) {
     let rows = rows(told);
     let none = text_of(told, &[]);
     told.add(none.bytes());
+    drop(none);
     let text = text_of(told, rows.items());
+    drop(rows);
     told.add(text.bytes());
     tell_records(told, text.bytes());
+    drop(text);
 }
 
 /// For what each meter runs; the text of no rows, which is the header line alone; the text of the rows, a line for each, in order; and what a CSV reader gives of that: a

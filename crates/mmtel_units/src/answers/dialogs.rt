@@ -1,21 +1,21 @@
 //! What legs know of their dialogs: what they take of the other side, what they hear, and their meters.
 
 use crate::answers::legs::{
-    ANSWER, CAME, OFFERED, SIP, Tells, message, moment, next_line, tell_answered, tell_leg,
-    tell_meter,
+    ANSWER, CAME, OFFERED, SIP, Tells, moment, tell_answered, tell_leg, tell_meter,
 };
 use crate::asserting::assert_right;
+use crate::messages::drafts::message_of_lines;
 use mmtel_charging::{Kind, Meter};
 use mmtel_leg::{DialogueFault, InFlight, LegOf, Remote, Standing};
 use mmtel_message::{Msg, Start};
-use mmtel_scan::{List, Text, part};
-use mmtel_told::Told;
+use mmtel_scan::{List, Text};
+use mmtel_told::{Told, cut, next_line};
 use mmtel_types::{Account, CallNo, Side};
 use std::alloc::Global;
 
 /// What stands before the first `|` of a row, and what follows it; tells the former again.
 fn cell<'a>(told: &mut Told, row: &'a [u8]) -> (&'a [u8], &'a [u8]) {
-    let (cell, rest) = part(b'|', row).unwrap_or((row, b""));
+    let (cell, rest) = cut(b'|', row);
     told.add(cell);
     told.add(b"|");
     (cell, rest)
@@ -157,17 +157,18 @@ fn tell_answer(told: &mut Told, answer: Result<(), DialogueFault>) {
 
 /// Tells a row again, as a leg answers it.
 fn tell_heard<P>(told: &mut Told, leg: &mut LegOf<P, Standing>, row: &[u8]) {
-    let (asked, _) = part(b':', row).unwrap_or((row, b""));
-    let (number, rest) = part(b' ', asked).unwrap_or((asked, b""));
-    let (method, busy) = part(b' ', rest).unwrap_or((rest, b""));
+    let (asked, _) = cut(b':', row);
+    let (number, rest) = cut(b' ', asked);
+    let (method, busy) = cut(b' ', rest);
     told.add(asked);
     told.add(b":");
     let lines = lines_of(told, number, method);
-    if let Some(request) = message(told, lines.bytes()) {
+    if let Some(request) = message_of_lines(told, lines.bytes()) {
         let answer = leg.heard(&request, in_flight(busy));
         drop(request);
         tell_answer(told, answer);
     }
+    drop(lines);
 }
 
 /// Tells a table again, as a leg answers it.

@@ -1,8 +1,9 @@
 //! Messages as they are heard, and what is told of a desk.
 
+use crate::messages::drafts::{message_of_lines, tell_message};
 use mmtel_answers::Hearing;
 use mmtel_desk::Desk;
-use mmtel_message::{Msg, Start, read};
+use mmtel_message::{Msg, Start};
 use mmtel_scan::Text;
 use mmtel_told::Told;
 use mmtel_transaction::{Emit, Tokens};
@@ -42,10 +43,10 @@ fn nothing() -> Msg {
 
 /// The message of these lines, from a peer at 127.0.0.1 with this port.
 pub fn hearing(told: &mut Told, lines: &[u8], peer: u16, port: u16, trusted: bool) -> Hearing {
-    let mut text = Told::new(told.alloc);
-    text.add_with_cr(lines);
-    let message = read(told.alloc, text.whole());
-    let message = told.noted(message).unwrap_or(nothing());
+    let message = match message_of_lines(told, lines) {
+        Some(message) => message,
+        None => nothing(),
+    };
     Hearing {
         peer: Peer(peer),
         source: Addr {
@@ -61,13 +62,6 @@ pub fn hearing(told: &mut Told, lines: &[u8], peer: u16, port: u16, trusted: boo
 pub fn desk(told: &mut Told) -> Desk {
     let token = told.copy(b"0123456789abcdef");
     Desk::new(Tokens::new(token))
-}
-
-fn tell_message(told: &mut Told, message: &Msg) {
-    let text = message.text(told.alloc);
-    if let Some(text) = told.noted(text) {
-        told.add_without_cr(text.bytes());
-    }
 }
 
 fn tell_head(told: &mut Told, word: &[u8], number: u64) {

@@ -2,10 +2,10 @@
 ghost use Rattle.std.specs.Prelude.{◌≤◌};
 ghost use Rattle.mmtel_types.specs.Moments.{last_moment};
 
+use crate::messages::drafts::message_of_lines;
 use mmtel_charging::Meter;
 use mmtel_leg::{Asked, CalleeLeg, CallerLeg, Ended, LegOf, Released, Remote, Standing};
-use mmtel_message::{Msg, read};
-use mmtel_scan::{Text, part};
+use mmtel_message::Msg;
 use mmtel_told::Told;
 use mmtel_types::{Addr, Cause, Moment, Peer, Side};
 
@@ -61,22 +61,9 @@ pub trait Tells {
     fn tell<P>(told: &mut Told, leg: &mut LegOf<P, Standing>);
 }
 
-/// The first line of a table, and what follows it.
-pub fn next_line(table: &[u8]) -> (&[u8], &[u8]) {
-    part(b'\n', table).unwrap_or((table, b""))
-}
-
-/// The message of these lines, each ended by LF.
-pub fn message(told: &mut Told, lines: &[u8]) -> Option<Msg> {
-    let mut text = Told::new(told.alloc);
-    text.add_with_cr(lines);
-    let message = read(told.alloc, text.bytes());
-    told.noted(message)
-}
-
 /// What the side that sent the message says of itself.
 pub fn remote_in(told: &mut Told, lines: &[u8], side: Side) -> Option<Remote> {
-    let message = message(told, lines)?;
+    let message = message_of_lines(told, lines)?;
     let remote = Remote::read(told.alloc, &message, side);
     drop(message);
     told.noted(remote)
@@ -179,7 +166,7 @@ pub fn tell_leg<T: Tells>(
     early: Option<Remote>,
     said: Remote,
 ) {
-    match message(told, invite) {
+    match message_of_lines(told, invite) {
         Some(invite) => {
             tell_side::<T>(told, side, &invite, early, said);
             drop(invite);

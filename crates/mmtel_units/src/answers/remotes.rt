@@ -1,9 +1,8 @@
 //! What messages say of the side that sent them.
 
-use crate::answers::legs::{next_line, remote_in};
+use crate::answers::legs::remote_in;
 use crate::asserting::assert_right;
-use mmtel_scan::part;
-use mmtel_told::Told;
+use mmtel_told::{Told, cut, next_line};
 use mmtel_types::Side;
 use std::alloc::Global;
 
@@ -127,7 +126,7 @@ fn tell_remote(told: &mut Told, lines: &[u8], side: Side) {
 
 /// What stands before the first `#` of a table, and what follows it.
 fn block(table: &[u8]) -> (&[u8], &[u8]) {
-    part(b'#', table).unwrap_or((table, b""))
+    cut(b'#', table)
 }
 
 /// Tells the first row of a table again, with what its message says; gives the rows behind it.

@@ -1,9 +1,10 @@
 //! Requests and ACKs of legs, byte for byte.
 
 use crate::answers::legs::{
-    ANSWER, CAME, OFFERED, SIP, Tells, message, remote_in, tell_answered, tell_leg, tell_meter,
+    ANSWER, CAME, OFFERED, SIP, Tells, remote_in, tell_answered, tell_leg, tell_meter,
 };
 use crate::asserting::assert_right;
+use crate::messages::drafts::{message_of_lines, tell_message};
 use mmtel_leg::{Asked, CalleeLeg, Dialogue, Ended, LegOf, Parts, Standing, numbered};
 use mmtel_message::{Line, Msg, add_bytes};
 use mmtel_scan::{List, NoMemory, Text};
@@ -17,20 +18,12 @@ fn show(told: &mut Told, lines: &mut List<Line>, name: &[u8], value: &[u8]) {
     told.noted(added);
 }
 
-/// Tells a message, its lines ended by LF, and a line `#`.
-fn tell_message(told: &mut Told, message: &Msg) {
-    let text = message.text(told.alloc);
-    if let Some(text) = told.noted(text) {
-        told.add_without_cr(text.bytes());
-        told.add(b"#\n");
-    }
-}
-
-/// Tells the message that was built.
+/// Tells the message that was built, its lines ended by LF, and a line `#`.
 fn tell_built(told: &mut Told, built: Result<Msg, NoMemory>) {
     if let Some(message) = told.noted(built) {
         tell_message(told, &message);
         drop(message);
+        told.add(b"#\n");
     }
 }
 
@@ -431,7 +424,7 @@ fn tell_canceled(told: &mut Told, invite: &Msg) {
 
 /// Tells the CANCEL of the INVITE that is offered.
 fn tell_cancel_of_offered(told: &mut Told) {
-    if let Some(invite) = message(told, OFFERED) {
+    if let Some(invite) = message_of_lines(told, OFFERED) {
         tell_canceled(told, &invite);
         drop(invite);
     }

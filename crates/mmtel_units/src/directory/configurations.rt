@@ -10,7 +10,7 @@ use mmtel_types::{Account, Addr, Peer};
 use std::alloc::Global;
 
 /// A server of two peers, with lines of each kind.
-pub const HOME: &[u8] = b"# Two peers.
+const HOME: &[u8] = b"# Two peers.
 
 sip 127.0.0.1:5060
 web 10.0.0.1:80
@@ -36,6 +36,12 @@ pub fn peer_addr(port: u16) -> Addr {
         ip: [127, 0, 0, 1],
         port,
     }
+}
+
+/// The server of two peers.
+pub fn home(told: &mut Told) -> Option<Directory> {
+    let directory = read_directory(told.alloc, HOME);
+    told.noted(directory)
 }
 
 /// Tells an address.
@@ -93,6 +99,7 @@ fn tell_route(told: &mut Told, directory: &Directory, uri: &[u8]) {
         Err(_) => told.fail(),
         Ok(uri) => {
             let peer = directory.peers.route(&uri).unwrap_or(Peer(0));
+            drop(uri);
             tell_number(told, b"", u64::from(peer.0));
         }
     }
@@ -104,6 +111,7 @@ fn tell_name(told: &mut Told, directory: &Directory, uri: &[u8]) {
         Err(_) => told.fail(),
         Ok(uri) => {
             let account = directory.names.accounts.find(&uri).unwrap_or(Account(0));
+            drop(uri);
             tell_number(told, b"", u64::from(account.0));
         }
     }
@@ -203,7 +211,9 @@ fn wrong_known(alloc: Global, text: &[u8], table: &[u8]) -> usize {
             let mut known = Known {
                 directory: &directory,
             };
-            wrong_line(alloc, &mut known, table)
+            let wrong = wrong_line(alloc, &mut known, table);
+            drop(directory);
+            wrong
         }
     }
 }
@@ -218,7 +228,10 @@ fn reads_lines_of_each_kind(rt: HostRuntime) {
 /// The number of the line that a configuration breaks its grammar in; 0 where it is read.
 pub fn broken_config(alloc: Global, text: &[u8]) -> u64 {
     match read_directory(alloc, text) {
-        Ok(_) => 0,
+        Ok(directory) => {
+            drop(directory);
+            0
+        }
         Err(DirectoryFault::BadLine { line }) => line,
         Err(DirectoryFault::NoMemory) => u64::MAX,
     }

@@ -110,6 +110,9 @@ fn wrong_given(alloc: Global) -> usize {
     let done = give_each(alloc, &peers, &mut link, offers.items());
     told.keep(done.is_ok());
     tell_link(&mut told, &link);
+    drop(link);
+    drop(offers);
+    drop(peers);
     told.wrong_line(GIVEN)
 }
 

@@ -34,6 +34,7 @@ fn tell_sent(told: &mut Told, bytes: &[u8]) {
     };
     push(told, &mut offers, offer);
     tell_listed(told, &offers);
+    drop(offers);
 }
 
 /// Tells the listing of a reply at 10, and of one without bytes at the last moment.
@@ -45,6 +46,7 @@ fn tell_replies(told: &mut Told) {
     let at = u64::MAX;
     push(told, &mut offers, Offer::Web { at, text });
     tell_listed(told, &offers);
+    drop(offers);
 }
 
 /// The listings of datagrams, and of two replies in their order.

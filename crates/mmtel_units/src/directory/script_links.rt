@@ -1,21 +1,32 @@
 //! Scripts as links.
 
 use crate::asserting::assert_right;
-use crate::directory::configurations::{HOME, peer_addr};
-use mmtel_directory::{Directory, read_directory};
+use crate::directory::configurations::{home, peer_addr};
+use mmtel_directory::Directory;
 use mmtel_link::{Arrival, Link};
 use mmtel_script::ScriptLink;
 use mmtel_told::Told;
 use std::alloc::Global;
 
+/// Adds what came.
+fn add_arrival(told: &mut Told, arrival: &Arrival) {
+    match arrival {
+        Arrival::Datagram { bytes, .. } => told.add(bytes.bytes()),
+        Arrival::Web { .. } => told.add(b"web "),
+        Arrival::Quiet { .. } => told.add(b"quiet"),
+        Arrival::Closed => told.add(b"closed"),
+        Arrival::NoMemory => told.fail(),
+    }
+}
+
 /// Adds what comes next.
 fn add_next<L: Link>(told: &mut Told, link: &mut L) {
     match link.next(told.alloc) {
-        Ok(Arrival::Datagram { bytes, .. }) => told.add(bytes.bytes()),
-        Ok(Arrival::Web { .. }) => told.add(b"web "),
-        Ok(Arrival::Quiet { .. }) => told.add(b"quiet"),
-        Ok(Arrival::Closed) => told.add(b"closed"),
-        Ok(Arrival::NoMemory) | Err(_) => told.fail(),
+        Ok(arrival) => {
+            add_arrival(told, &arrival);
+            drop(arrival);
+        }
+        Err(_) => told.fail(),
     }
 }
 
@@ -58,15 +69,16 @@ fn add_script(told: &mut Told, directory: &Directory) {
         Ok(mut script) => {
             add_heard(told, &mut script);
             told.add_number(script.len() as u64);
+            drop(script);
         }
     }
 }
 
 fn wrong_heard(alloc: Global) -> usize {
     let mut told = Told::new(alloc);
-    match read_directory(alloc, HOME) {
-        Err(_) => told.fail(),
-        Ok(directory) => add_script(&mut told, &directory),
+    if let Some(directory) = home(&mut told) {
+        add_script(&mut told, &directory);
+        drop(directory);
     }
     told.wrong_line(b"one\nweb GET abc\nquiet\nclosed\nclosed\n3")
 }

@@ -1,9 +1,9 @@
 //! Scripts.
 
 use crate::asserting::assert_right;
-use crate::directory::configurations::{HOME, peer_addr};
+use crate::directory::configurations::{home, peer_addr};
 use crate::directory::tables::{Grammar, wrong_row};
-use mmtel_directory::{Directory, read_directory};
+use mmtel_directory::Directory;
 use mmtel_outside::Event;
 use mmtel_script::{ScriptFault, ScriptLink};
 use mmtel_told::Told;
@@ -53,6 +53,7 @@ fn tell_script(told: &mut Told, directory: &Directory) {
                 tell_event(told, event);
             }
             told.add_number(script.len() as u64);
+            drop(script);
         }
     }
 }
@@ -66,9 +67,9 @@ datagram 5072 250000000000000 |\xf0
 
 fn wrong_script(alloc: Global) -> usize {
     let mut told = Told::new(alloc);
-    match read_directory(alloc, HOME) {
-        Err(_) => told.fail(),
-        Ok(directory) => tell_script(&mut told, &directory),
+    if let Some(directory) = home(&mut told) {
+        tell_script(&mut told, &directory);
+        drop(directory);
     }
     told.wrong_line(SCRIPT_TOLD)
 }
@@ -76,7 +77,10 @@ fn wrong_script(alloc: Global) -> usize {
 /// The number of the line that a script breaks its grammar in; 0 where it is read.
 fn broken_script(alloc: Global, text: &[u8], directory: &Directory) -> u64 {
     match ScriptLink::read(alloc, text, &directory.peers) {
-        Ok(_) => 0,
+        Ok(script) => {
+            drop(script);
+            0
+        }
         Err(ScriptFault::BadLine { line }) => line,
         Err(ScriptFault::NoMemory) => u64::MAX,
     }
@@ -145,13 +149,18 @@ impl Grammar for Scripts<'_> {
 
 /// The number of the first row that is not right; 0 where each is.
 fn wrong_rows(alloc: Global, table: &[u8]) -> usize {
-    match read_directory(alloc, HOME) {
-        Err(_) => 1,
-        Ok(directory) => {
+    let mut told = Told::new(alloc);
+    let directory = home(&mut told);
+    drop(told);
+    match directory {
+        None => 1,
+        Some(directory) => {
             let scripts = Scripts {
                 directory: &directory,
             };
-            wrong_row(alloc, &scripts, b"", table)
+            let wrong = wrong_row(alloc, &scripts, b"", table);
+            drop(directory);
+            wrong
         }
     }
 }

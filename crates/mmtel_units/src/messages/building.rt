@@ -59,6 +59,7 @@ fn pass(told: &mut Told, lines: &mut List<Line>) {
     let done = add_passed(told.alloc, lines, received.items());
     told.keep(done.is_ok());
     let done = add_named(told.alloc, lines, b"SUPPORTED", received.items());
+    drop(received);
     told.keep(done.is_ok());
 }
 
@@ -86,6 +87,7 @@ fn wrong_built(alloc: Global) -> usize {
     build(&mut told, &mut lines);
     pass(&mut told, &mut lines);
     tell_lines(&mut told, lines.items());
+    drop(lines);
     told.wrong_line(BUILT)
 }
 

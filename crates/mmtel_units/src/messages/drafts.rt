@@ -1,8 +1,31 @@
 //! Messages that tests make of the lines of a table, and lines as a table has them.
 
 use mmtel_lex::Text;
-use mmtel_message::{Line, Msg, Start};
+use mmtel_message::{Line, Msg, Start, read};
 use mmtel_told::{Told, cut, next_line};
+
+/// What these bytes are read as; none where they cannot be read, which is remembered.
+pub fn message_of(told: &mut Told, bytes: &[u8]) -> Option<Msg> {
+    let message = read(told.alloc, bytes);
+    told.noted(message)
+}
+
+/// The message of these lines, each ended by LF.
+pub fn message_of_lines(told: &mut Told, lines: &[u8]) -> Option<Msg> {
+    let mut text = Told::new(told.alloc);
+    text.add_with_cr(lines);
+    let message = message_of(told, text.whole());
+    drop(text);
+    message
+}
+
+/// Tells the text of a message, its lines ended by LF.
+pub fn tell_message(told: &mut Told, message: &Msg) {
+    let text = message.text(told.alloc);
+    let text = told.made(text);
+    told.add_without_cr(text.bytes());
+    drop(text);
+}
 
 /// Adds a line at the end of a message.
 pub fn add(told: &mut Told, message: &mut Msg, name: &[u8], value: &[u8]) {

@@ -8,6 +8,7 @@ use mmtel_lex::{List, Text};
 use mmtel_scan::number_up_to;
 use mmtel_told::{Rows, Told, cut, wrong_line};
 use std::alloc::Global;
+use std::mem;
 
 /// A number of five digits at most.
 fn number(digits: &[u8]) -> u16 {
@@ -25,6 +26,17 @@ fn tell_parts(told: &mut Told, entry: &Entry) {
     }
     told.add_if(entry.hidden, b"|hidden|", b"|shown|");
     told.add_line(entry.rest.bytes());
+}
+
+/// Tells a copy of an entry in the same way.
+fn tell_copy(told: &mut Told, entry: &Entry) {
+    match entry.copied(told.alloc) {
+        Ok(copy) => {
+            tell_parts(told, &copy);
+            drop(copy);
+        }
+        Err(_) => told.fail(),
+    }
 }
 
 /// Tells the values of a history, one a line.
@@ -65,7 +77,7 @@ impl Histories {
     /// Reads the values; else tells the place of the first that cannot be read.
     fn read(&mut self, told: &mut Told) {
         match read_values(told.alloc, &self.values) {
-            Ok(history) => self.history = history,
+            Ok(history) => drop(mem::replace(&mut self.history, history)),
             Err(HistoryFault::Malformed { at }) => {
                 told.add(b"malformed ");
                 told.add_number(at as u64);
@@ -80,9 +92,14 @@ impl Histories {
         told.add(b"\n");
     }
 
+    /// Has no values any more.
+    fn forget(&mut self) {
+        drop(mem::replace(&mut self.values, List::new()));
+    }
+
     /// Reads this value alone, and tells the parts of its entry.
     fn tell_entry(&mut self, told: &mut Told, value: &[u8]) {
-        self.values = List::new();
+        self.forget();
         self.push(told, value);
         self.read(told);
         for entry in self.history.entries() {
@@ -115,7 +132,10 @@ impl Histories {
             .history
             .told_to_caller(told.alloc, hide_diverting, hide_target)
         {
-            Ok(list) => tell_history(told, &list),
+            Ok(list) => {
+                tell_history(told, &list);
+                drop(list);
+            }
             Err(_) => told.fail(),
         }
     }
@@ -123,7 +143,10 @@ impl Histories {
     /// The list masked: each hidden entry, or each.
     fn tell_masked(&self, told: &mut Told, all: bool) {
         match self.history.masked(told.alloc, all) {
-            Ok(masked) => tell_history(told, &masked),
+            Ok(masked) => {
+                tell_history(told, &masked);
+                drop(masked);
+            }
             Err(_) => told.fail(),
         }
     }
@@ -131,14 +154,14 @@ impl Histories {
     /// A copy of the list, and one of each entry.
     fn tell_copies(&self, told: &mut Told) {
         match self.history.copied(told.alloc) {
-            Ok(copy) => tell_history(told, &copy),
+            Ok(copy) => {
+                tell_history(told, &copy);
+                drop(copy);
+            }
             Err(_) => told.fail(),
         }
         for entry in self.history.entries() {
-            match entry.copied(told.alloc) {
-                Ok(copy) => tell_parts(told, &copy),
-                Err(_) => told.fail(),
-            }
+            tell_copy(told, entry);
         }
     }
 
@@ -146,8 +169,8 @@ impl Histories {
     fn tell_values(&mut self, told: &mut Told, word: &[u8], rest: &[u8]) {
         match word {
             b"new" => {
-                self.values = List::new();
-                self.history = History::new(told.alloc);
+                self.forget();
+                drop(mem::replace(&mut self.history, History::new(told.alloc)));
             }
             b"value" => self.push(told, rest),
             b"many" => {
@@ -156,7 +179,7 @@ impl Histories {
                 }
             }
             b"second" => {
-                self.values = List::new();
+                self.forget();
                 self.push(told, b"<sip:a@b>;index=1");
                 self.push(told, rest);
                 self.read(told);

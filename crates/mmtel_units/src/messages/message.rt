@@ -51,8 +51,14 @@ fn tell_fault(told: &mut Told, fault: &ReadFault) {
 /// Tells what comes of the bytes: `read`, or the refusal and the code of its reply.
 fn tell_outcome(told: &mut Told, bytes: &[u8]) {
     match read(told.alloc, bytes) {
-        Ok(_message) => told.add(b"read"),
-        Err(fault) => tell_fault(told, &fault),
+        Ok(message) => {
+            drop(message);
+            told.add(b"read");
+        }
+        Err(fault) => {
+            tell_fault(told, &fault);
+            drop(fault);
+        }
     }
 }
 
@@ -83,7 +89,10 @@ fn tell_answer(told: &mut Told, bytes: &[u8]) {
             tell_message(told, &message);
             drop(message);
         }
-        Err(fault) => tell_refusal(told, &fault),
+        Err(fault) => {
+            tell_refusal(told, &fault);
+            drop(fault);
+        }
     }
 }
 
@@ -731,6 +740,7 @@ fn tell_via(told: &mut Told, value: &[u8]) {
             told.add(b"|");
             let branch = param_value(via.params.items(), b"Branch");
             told.add_line(branch.unwrap_or(b""));
+            drop(via);
         }
         Err(_) => told.fail(),
     }
@@ -743,6 +753,7 @@ fn tell_cseq(told: &mut Told, value: &[u8]) {
             told.add_number(u64::from(cseq.number));
             told.add(b"|");
             told.add_line(cseq.method.bytes());
+            drop(cseq);
         }
         Err(_) => told.fail(),
     }
@@ -761,6 +772,7 @@ fn tell_joined(told: &mut Told, texts: Result<List<Text>, NoMemory>) {
     match texts {
         Ok(texts) => {
             let joined = joined_by(told.alloc, b"|", texts.items());
+            drop(texts);
             told.add_made(joined);
         }
         Err(_) => told.fail(),
@@ -795,6 +807,7 @@ fn tell_five(told: &mut Told, message: &Msg) {
             told.add(five.call_id.bytes());
             told.add(b"|");
             told.add_line(five.to.uri.bytes());
+            drop(five);
         }
         Err(_) => told.fail(),
     }

@@ -1,9 +1,9 @@
 //! The parties of a call, and the way of its attempts.
 
 use crate::asserting::assert_right;
-use crate::messages::drafts::add;
+use crate::messages::drafts::{add, message_of};
 use mmtel_lex::{List, NoMemory, Text, read_uri};
-use mmtel_message::{Msg, Start, read};
+use mmtel_message::{Msg, Start};
 use mmtel_parties::{Parties, RegistrationState, ServedSides, kept_routes, next_hop};
 use mmtel_told::{Told, cut, next_line};
 use mmtel_trust::{Accounts, PeerTable};
@@ -76,9 +76,11 @@ fn state_word(state: Option<RegistrationState>) -> &'static [u8] {
 /// The account that is served where a call of these parties is diverted to carol.
 fn carol_served(told: &mut Told, accounts: &Accounts, parties: &Parties) -> Option<Account> {
     match read_uri(told.alloc, b"sip:carol@home.example") {
-        Ok(carol) => parties
-            .served_accounts()
-            .diverted_served(accounts.find(&carol)),
+        Ok(carol) => {
+            let found = accounts.find(&carol);
+            drop(carol);
+            parties.served_accounts().diverted_served(found)
+        }
         Err(_) => {
             told.fail();
             None
@@ -161,6 +163,7 @@ fn wrong_call(alloc: Global) -> usize {
             told.add_line(asked);
         }
     }
+    drop(accounts);
     told.wrong_line(CALLS)
 }
 
@@ -191,10 +194,14 @@ fn table(told: &mut Told) -> PeerTable {
 /// The peer to which an attempt goes, 0 for none.
 fn hop(told: &mut Told, table: &PeerTable, routes: &[Text], target: &[u8]) -> u16 {
     match read_uri(told.alloc, target) {
-        Ok(target) => match next_hop(told.alloc, table, routes, &target) {
-            Ok(peer) => peer.unwrap_or(Peer(0)).0,
-            Err(_) => 99,
-        },
+        Ok(target) => {
+            let peer = next_hop(told.alloc, table, routes, &target);
+            drop(target);
+            match peer {
+                Ok(peer) => peer.unwrap_or(Peer(0)).0,
+                Err(_) => 99,
+            }
+        }
         Err(_) => 99,
     }
 }
@@ -215,6 +222,7 @@ fn tell_way(told: &mut Told, table: &PeerTable, message: &Msg, target: &[u8]) {
                 told.add(b" ");
                 told.add(route.bytes());
             }
+            drop(routes);
         }
         Err(_) => told.fail(),
     }
@@ -260,6 +268,7 @@ fn wrong_way(alloc: Global) -> usize {
             told.add_line(asked);
         }
     }
+    drop(table);
     told.wrong_line(WAYS)
 }
 
@@ -283,20 +292,19 @@ Content-Length: 0\r
 fn tell_read(told: &mut Told, message: &Msg) {
     let accounts = accounts(told);
     tell_said(told, &accounts, message, true);
+    drop(accounts);
     told.add(b"\n");
     let table = table(told);
     tell_way(told, &table, message, b"sip:bob@home.example");
+    drop(table);
 }
 
 /// Bob alone is served, and is registered whatever the table says; the server's own Route value goes, and the other one leads on.
 fn wrong_terminating(alloc: Global) -> usize {
     let mut told = Told::new(alloc);
-    match read(alloc, TERMINATING) {
-        Ok(message) => {
-            tell_read(&mut told, &message);
-            drop(message);
-        }
-        Err(_) => told.fail(),
+    if let Some(message) = message_of(&mut told, TERMINATING) {
+        tell_read(&mut told, &message);
+        drop(message);
     }
     told.wrong_line(b"1 2 term reg 0 2 0 - yy\n1 <sip:odi-7@home.example;lr>")
 }

@@ -1,11 +1,10 @@
 //! Responses: the first Via with where a request came from, phrases, and what of a request's lines an answer has.
 
 use crate::asserting::assert_right;
-use crate::messages::drafts::{of_lines, request};
-use mmtel_lex::Text;
-use mmtel_message::{Msg, ReadFault, Reply, Start, completed, phrase_of, read, response};
+use crate::messages::drafts::{of_lines, request, tell_message};
+use mmtel_message::{Msg, ReadFault, Reply, completed, phrase_of, read, response};
 use mmtel_scan::number_up_to;
-use mmtel_told::{Rows, Told, cut, next_line, wrong_line};
+use mmtel_told::{Rows, Told, wrong_line};
 use mmtel_types::Addr;
 use std::alloc::Global;
 
@@ -128,13 +127,6 @@ CSeq: 2 REFER
 fn asked(told: &mut Told, method: &[u8], table: &[u8]) -> Msg {
     let start = request(told, method);
     of_lines(told, start, table)
-}
-
-/// Tells the text of a message, its line ends written as they stand in a table.
-fn tell_message(told: &mut Told, message: &Msg) {
-    let text = message.text(told.alloc);
-    let text = told.made(text);
-    told.add_without_cr(text.bytes());
 }
 
 /// Tells the text of the response of this code, with the tag `T-1`, to a request that came from `SOURCE`. It passes on these lines and has others named for it.
@@ -276,8 +268,14 @@ fn tell_fault(told: &mut Told, fault: &ReadFault) {
 /// Tells the reply to the INVITE without Contact, completed.
 fn tell_bad(told: &mut Told) {
     match read(told.alloc, BAD) {
-        Ok(_message) => told.fail(),
-        Err(fault) => tell_fault(told, &fault),
+        Ok(message) => {
+            drop(message);
+            told.fail();
+        }
+        Err(fault) => {
+            tell_fault(told, &fault);
+            drop(fault);
+        }
     }
 }
 

@@ -42,7 +42,10 @@ fn tell_message(
     let lines = shown(told.alloc, &message, history, &facing, to_trusted);
     drop(message);
     match lines {
-        Ok(lines) => tell_lines(told, lines.items()),
+        Ok(lines) => {
+            tell_lines(told, lines.items());
+            drop(lines);
+        }
         Err(_) => told.fail(),
     }
 }
@@ -73,6 +76,7 @@ fn tell_list(told: &mut Told) {
     tell_request(told, b"INVITE", &history, false, false);
     tell_request(told, b"INVITE", &history, true, false);
     tell_request(told, b"INVITE", &history, true, true);
+    drop(history);
 }
 
 const LIST: &[u8] = br#"History-Info: <sip:bob@home.example>;index=1
@@ -106,7 +110,10 @@ fn tell_hidden(told: &mut Told, hidden: &History) {
     tell_response(told, 181, hidden, true);
     tell_response(told, 181, hidden, false);
     match history_lines(told.alloc, hidden, false, false) {
-        Ok(lines) => tell_lines(told, lines.items()),
+        Ok(lines) => {
+            tell_lines(told, lines.items());
+            drop(lines);
+        }
         Err(_) => told.fail(),
     }
 }
@@ -116,7 +123,10 @@ fn tell_hidden(told: &mut Told, hidden: &History) {
 fn tell_elsewhere(told: &mut Told) {
     let history = diverted(told, false);
     match history.told_to_caller(told.alloc, true, true) {
-        Ok(hidden) => tell_hidden(told, &hidden),
+        Ok(hidden) => {
+            tell_hidden(told, &hidden);
+            drop(hidden);
+        }
         Err(_) => told.fail(),
     }
     tell_request(told, b"INVITE", &history, false, false);
@@ -125,6 +135,7 @@ fn tell_elsewhere(told: &mut Told) {
     tell_request(told, b"Invite", &history, false, true);
     tell_response(told, 180, &history, true);
     tell_response(told, 200, &history, true);
+    drop(history);
 }
 
 const ELSEWHERE: &[u8] = br#"History-Info: <sip:bob@home.example>;index=1

@@ -67,7 +67,11 @@ const ROUTES: &[u8] = b"1 sip:bob@home.example
 /// Tells the number of the peer that a URI leads to, 0 where it leads to none.
 fn tell_route(told: &mut Told, table: &PeerTable, text: &[u8]) {
     match read_uri(told.alloc, text) {
-        Ok(uri) => told.add_number(u64::from(table.route(&uri).unwrap_or(Peer(0)).0)),
+        Ok(uri) => {
+            let peer = table.route(&uri);
+            drop(uri);
+            told.add_number(u64::from(peer.unwrap_or(Peer(0)).0));
+        }
         Err(_) => told.fail(),
     }
 }
@@ -87,6 +91,7 @@ fn wrong_route(alloc: Global) -> usize {
             told.add_line(text);
         }
     }
+    drop(table);
     told.wrong_line(ROUTES)
 }
 
@@ -137,6 +142,7 @@ fn wrong_peer(alloc: Global) -> usize {
     add_peer(&mut told, &mut table, 1, 4, true);
     add_route(&mut told, &mut table, 4, b"HOME.EXAMPLE");
     add_route(&mut told, &mut table, 4, b"far.example");
+    drop(table);
     told.wrong_line(PEERS)
 }
 
@@ -171,7 +177,11 @@ fn tell_owner(told: &mut Told, accounts: &mut Accounts, added: &[u8], text: &[u8
                 told.add(b"+");
                 told.add(added);
             }
-            None => told.add_number(u64::from(accounts.find(&uri).unwrap_or(Account(0)).0)),
+            None => {
+                let account = accounts.find(&uri);
+                drop(uri);
+                told.add_number(u64::from(account.unwrap_or(Account(0)).0));
+            }
         },
     }
 }
@@ -192,6 +202,7 @@ fn wrong_owner(alloc: Global) -> usize {
             told.add_line(text);
         }
     }
+    drop(accounts);
     told.wrong_line(OWNERS)
 }
 
@@ -234,6 +245,7 @@ fn tell_identities(told: &mut Told, m: &Msg, trusted: bool) {
         Ok(believed) => {
             tell_identity(told, &believed.sip);
             tell_identity(told, &believed.tel);
+            drop(believed);
         }
         Err(_) => told.fail(),
     }
@@ -248,7 +260,10 @@ fn tell_shown(told: &mut Told, m: &Msg, history: &History, restricted: bool, to_
         mask_all: false,
     };
     match shown(told.alloc, m, history, &facing, to_trusted) {
-        Ok(lines) => tell_lines(told, lines.items()),
+        Ok(lines) => {
+            tell_lines(told, lines.items());
+            drop(lines);
+        }
         Err(_) => told.fail(),
     }
 }
@@ -260,6 +275,7 @@ fn tell_passed(told: &mut Told, m: &Msg) {
     tell_shown(told, m, &history, false, false);
     tell_shown(told, m, &history, true, true);
     tell_shown(told, m, &history, false, true);
+    drop(history);
 }
 
 /// Tells the From of an attempt for a sender that is restricted or not.

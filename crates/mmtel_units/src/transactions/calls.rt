@@ -116,8 +116,14 @@ fn write_done(told: &mut Told, done: Result<(), NoMemory>) {
 /// `hear PEER MOMENT MESSAGE`.
 fn hear(told: &mut Told, transactions: &mut Transactions, peer: Peer, m: Msg, now: Moment) {
     match transactions.hear(told.alloc, peer, m, now) {
-        Ok(said) => write_heard(told, &said),
-        Err(fault) => write_refused(told, &fault),
+        Ok(said) => {
+            write_heard(told, &said);
+            drop(said);
+        }
+        Err(fault) => {
+            write_refused(told, &fault);
+            drop(fault);
+        }
     }
 }
 
@@ -140,13 +146,18 @@ fn with_message(told: &mut Told, transactions: &mut Transactions, name: &[u8], w
     };
     match name {
         b"hear" => hear(told, transactions, peer, m, now),
-        b"ask" => ask(told, transactions, peer, &m, now),
+        b"ask" => {
+            ask(told, transactions, peer, &m, now);
+            drop(m);
+        }
         b"reply" => {
             let done = transactions.reply(told.alloc, TKey(peer.0 as u64), &m, now);
+            drop(m);
             write_done(told, done);
         }
         _ => {
             let done = transactions.ack(told.alloc, TKey(peer.0 as u64), &m);
+            drop(m);
             write_done(told, done);
         }
     }
@@ -155,7 +166,10 @@ fn with_message(told: &mut Told, transactions: &mut Transactions, name: &[u8], w
 /// `due MOMENT`.
 fn due(told: &mut Told, transactions: &mut Transactions, now: Moment) {
     match transactions.due(told.alloc, now) {
-        Ok(said) => write_due(told, &said),
+        Ok(said) => {
+            write_due(told, &said);
+            drop(said);
+        }
         Err(NoMemory) => told.fail(),
     }
 }
@@ -225,8 +239,15 @@ fn opens(told: &mut Told, transactions: &mut Transactions, branch: u64, now: Mom
         return false;
     };
     match transactions.hear(told.alloc, Peer(1), m, now) {
-        Ok(said) => is_fresh(&said, branch),
-        Err(_) => false,
+        Ok(said) => {
+            let opened = is_fresh(&said, branch);
+            drop(said);
+            opened
+        }
+        Err(fault) => {
+            drop(fault);
+            false
+        }
     }
 }
 
@@ -308,5 +329,6 @@ pub fn wrong_call(alloc: Global, table: &[u8]) -> usize {
             play_line(&mut told, &mut transactions, line);
         }
     }
+    drop(transactions);
     told.wrong_line(table)
 }

@@ -1,6 +1,7 @@
 //! Messages that are written as one word.
 
-use mmtel_message::{Msg, read};
+use crate::messages::drafts::message_of;
+use mmtel_message::Msg;
 use mmtel_told::{Told, cut};
 
 /// Writes a value behind what stands before it, and what is usual where none is given.
@@ -63,6 +64,7 @@ pub fn message(told: &mut Told, word: &[u8]) -> Option<Msg> {
     let mut text = Told::new(told.alloc);
     write_start(&mut text, status, method);
     write_lines(&mut text, method, rest);
-    let message = read(told.alloc, text.whole());
-    told.noted(message)
+    let message = message_of(told, text.whole());
+    drop(text);
+    message
 }

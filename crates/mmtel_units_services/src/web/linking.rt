@@ -1,6 +1,7 @@
 //! The link in memory.
 
-use crate::pages::{numbers, unless_failed};
+use crate::asserting::assert_right;
+use crate::web::pages::{numbers, unless_failed};
 use mmtel_link::{Arrival, Event, Link, MemoryLink, SendFault};
 use mmtel_scan::{List, Text};
 use mmtel_told::{Rows, Told, wrong_line};
@@ -168,5 +169,5 @@ fn wrong_link(alloc: Global) -> usize {
 
 #[test]
 fn linking_in_memory(rt: HostRuntime) {
-    assert_eq!(rt; wrong_link(rt.alloc()), 0);
+    assert_right(&rt, "link", wrong_link(rt.alloc()));
 }

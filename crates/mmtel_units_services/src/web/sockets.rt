@@ -1,6 +1,7 @@
 //! The link over the network, on loopback.
 
-use crate::pages::add_shown;
+use crate::asserting::assert_right;
+use crate::web::pages::add_shown;
 use mmtel_link::{Arrival, Link};
 use mmtel_net::NetLink;
 use mmtel_told::Told;
@@ -263,5 +264,5 @@ fn wrong_sent(rt: &HostRuntime) -> usize {
 
 #[test]
 fn over_the_network(rt: HostRuntime) {
-    assert_eq!(rt; wrong_sent(&rt), 0);
+    assert_right(&rt, "sent", wrong_sent(&rt));
 }

@@ -2,7 +2,8 @@
 
 ghost use Rattle.http.specs.StatusCode.{IsStatusCode};
 
-use crate::pages::{add_shown, meant, numbers, unless_failed};
+use crate::asserting::assert_right;
+use crate::web::pages::{add_shown, meant, numbers, unless_failed};
 use mmtel_in_force::Records;
 use mmtel_keeper::MemoryKeeper;
 use mmtel_lex::{Uri, read_uri};
@@ -505,8 +506,8 @@ fn wrong_early(alloc: Global) -> usize {
 
 #[test]
 fn requests_and_replies(rt: HostRuntime) {
-    assert_eq!(rt; wrong_asked(rt.alloc(), REQUESTS), 0);
-    assert_eq!(rt; wrong_served(rt.alloc(), UPLOADS), 0);
-    assert_eq!(rt; wrong_reply(rt.alloc()), 0);
-    assert_eq!(rt; wrong_early(rt.alloc()), 0);
+    assert_right(&rt, "REQUESTS", wrong_asked(rt.alloc(), REQUESTS));
+    assert_right(&rt, "UPLOADS", wrong_served(rt.alloc(), UPLOADS));
+    assert_right(&rt, "reply", wrong_reply(rt.alloc()));
+    assert_right(&rt, "early", wrong_early(rt.alloc()));
 }

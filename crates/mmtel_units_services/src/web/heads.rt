@@ -1,6 +1,7 @@
 //! Whether bytes are a whole request (RFC 9112 §2 and §6).
 
-use crate::pages::{add_many, add_shown, meant};
+use crate::asserting::assert_right;
+use crate::web::pages::{add_many, add_shown, meant};
 use mmtel_http::{Whole, whole};
 use mmtel_told::{Rows, Told, wrong_line};
 use std::alloc::Global;
@@ -150,6 +151,6 @@ fn wrong_limit(alloc: Global) -> usize {
 
 #[test]
 fn whole_requests(rt: HostRuntime) {
-    assert_eq!(rt; wrong_line(rt.alloc(), &mut Wholes, WHOLES), 0);
-    assert_eq!(rt; wrong_limit(rt.alloc()), 0);
+    assert_right(&rt, "WHOLES", wrong_line(rt.alloc(), &mut Wholes, WHOLES));
+    assert_right(&rt, "limit", wrong_limit(rt.alloc()));
 }

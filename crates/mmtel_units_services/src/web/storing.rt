@@ -2,6 +2,7 @@
 
 ghost use Rattle.std.specs.Prelude.{◌≤◌};
 
+use crate::asserting::assert_right;
 use mmtel_charging::{Kind, Row, rows_text};
 use mmtel_keeper::{KeepFault, Keeper};
 use mmtel_scan::{List, Text};
@@ -143,7 +144,7 @@ fn wrong_over_a_file(rt: &HostRuntime) -> usize {
     keep(&mut told, &mut keeper, b"keeper.db");
     bind_and_tell(&mut told, &mut keeper, b"keeper.db");
     bind_and_tell(&mut told, &mut keeper, b"no/folder/keeper.db");
-    drop(keeper);
+    keeper.close();
     let wrong = told.wrong_line(OVER_A_FILE);
     drop(told);
     wrong
@@ -151,5 +152,5 @@ fn wrong_over_a_file(rt: &HostRuntime) -> usize {
 
 #[test]
 fn bound_again_to_a_file(rt: HostRuntime) {
-    assert_eq!(rt; wrong_over_a_file(&rt), 0);
+    assert_right(&rt, "over a file", wrong_over_a_file(&rt));
 }

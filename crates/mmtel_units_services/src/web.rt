@@ -1,20 +1,12 @@
-//! Tests of the public calls of the crates of the outside: keepers in memory and over a database, the texts of records, links, HTTP, and requests with their replies.
+//! The outside: keepers in memory and over a database, the texts of records, links, HTTP, and requests with their replies.
 //!
 //! A table is one text: a line that begins with `> ` has what is asked, and the line below it the answer. In both `%` stands for CR and `~` for LF. A test writes the lines
 //! of the questions and the answers that it is given, and compares the whole.
-#![tactic(auto)]
 
-#[cfg(test)]
 mod heads;
-#[cfg(test)]
 mod keeping;
-#[cfg(test)]
 mod linking;
-#[cfg(test)]
 mod pages;
-#[cfg(test)]
 mod requests;
-#[cfg(test)]
 mod sockets;
-#[cfg(test)]
 mod storing;

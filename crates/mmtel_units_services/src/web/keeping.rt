@@ -1,6 +1,7 @@
 //! The keeper in memory, and the texts of records.
 
-use crate::pages::{numbers, unless_failed};
+use crate::asserting::assert_right;
+use crate::web::pages::{numbers, unless_failed};
 use mmtel_charging::{Kind, Row};
 use mmtel_keeper::{KeepFault, Keeper, MemoryKeeper};
 use mmtel_scan::Text;
@@ -259,6 +260,6 @@ fn wrong_kept(alloc: Global) -> usize {
 
 #[test]
 fn keeping_in_memory(rt: HostRuntime) {
-    assert_eq!(rt; wrong_kept(rt.alloc()), 0);
-    assert_eq!(rt; wrong_text(rt.alloc()), 0);
+    assert_right(&rt, "kept", wrong_kept(rt.alloc()));
+    assert_right(&rt, "text", wrong_text(rt.alloc()));
 }

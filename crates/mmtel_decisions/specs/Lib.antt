@@ -1,6 +1,4 @@
 -- What public clauses cite.
-pub mod Arriving
-pub mod Inviting
 pub mod Late
 pub mod Requests
 pub mod Seating

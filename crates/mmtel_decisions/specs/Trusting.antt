@@ -1,5 +1,5 @@
--- Whom the server trusts and believes (RFC 3325 §2.3, RFC 5502 §7.2), whose identity is shown (RFC 3325 §5 and §7, RFC 3323 §4.1), and to whom History-Info (RFC 7044 §10.1).
-use Rattle.std.specs.Prelude.{ℕ, nat_lt, ◌==◌, ◌&&◌, ◌||◌, not, Bool, if◌then◌else◌, Option, None}
+-- Whom the server trusts and believes (RFC 3325 §2.3, RFC 5502 §7.2), and whose identity is shown (RFC 3325 §5 and §7, RFC 3323 §4.1).
+use Rattle.std.specs.Prelude.{◌==◌, ◌&&◌, ◌||◌, not, Bool, if◌then◌else◌, Option, None}
 use Rattle.mmtel_types.specs.declared.numbers.Peer.{Peer}
 use Rattle.mmtel_types.specs.declared.sides.Side.{Side}
 use Rattle.mmtel_types.specs.declared.sides.Side.TheVariants.{Caller, Callee}
@@ -24,7 +24,3 @@ restricted_in Callee caller callee = callee
 -- what a peer says of somebody is believed of a trusted one alone
 abbrev pub if_trusted : {A : Type 0} → (trusted : Bool) → Option A → Option A
 if_trusted trusted said = if trusted then said else None
-
--- History-Info of so many entries is masked towards untrusted peers, where it has any
-abbrev pub is_history_masked : (to_trusted : Bool) → (entries : ℕ) → Bool
-is_history_masked to_trusted entries = not to_trusted && nat_lt 0 entries

@@ -1,6 +1,6 @@
 //! Whom the server trusts, and whose identity is shown (RFC 3325, RFC 3323).
 ghost use Rattle.std.specs.Prelude.{◌≡◌};
-ghost use Rattle.mmtel_decisions.specs.Trusting.{if_trusted, is_history_masked, is_trusted, restricted_in, shows_identity, unless_restricted};
+ghost use Rattle.mmtel_decisions.specs.Trusting.{if_trusted, is_trusted, restricted_in, shows_identity, unless_restricted};
 
 use mmtel_types::{Peer, Side};
 
@@ -47,12 +47,4 @@ pub fn if_trusted<T: Drop>(trusted: bool, said: Option<T>) -> Option<T>
         return None;
     }
     said
-}
-
-/// Whether a call's History-Info, of so many entries, is masked where it is shown to a peer: to an untrusted one, however many attempts the call had (RFC 7044 §10.1); an
-/// empty list has nothing to be masked.
-pub fn is_history_masked(to_trusted: bool, entries: usize) -> bool
-    ensures exact { result ≡ is_history_masked to_trusted entries }
-{
-    !to_trusted && entries > 0
 }

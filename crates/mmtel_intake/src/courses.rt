@@ -18,7 +18,6 @@ use crate::refusals::{
 use crate::registrations::registration;
 use crate::replies::is_untagged;
 use mmtel_answers::Hearing;
-use mmtel_decisions::{Invited, invited_as};
 use mmtel_directory::Directory;
 use mmtel_focus::room_named;
 use mmtel_lex::{Uri, same_identity};
@@ -122,16 +121,14 @@ fn invited_to(
 ) -> Result<Course, NoMemory>
     ensures { IfOk result (λ c. course_in c ≡ invited_to directory.now full (public_part request.now.heard) target.now) }
 {
-    let factory = is_factory(&directory.factory, target);
-    let room = is_room(alloc, directory.sip, target)?;
-    match invited_as(factory, room) {
-        Invited::Room => with_audio(alloc, request, Course::OpenRoom),
-        Invited::Seat => {
-            let room = room_number(alloc, directory.sip, target)?;
-            with_audio(alloc, request, Course::JoinRoom { room })
-        }
-        Invited::Call => Ok(opening(full)),
+    if is_factory(&directory.factory, target) {
+        return with_audio(alloc, request, Course::OpenRoom);
     }
+    if is_room(alloc, directory.sip, target)? {
+        let room = room_number(alloc, directory.sip, target)?;
+        return with_audio(alloc, request, Course::JoinRoom { room });
+    }
+    Ok(opening(full))
 }
 
 /// What is done with an INVITE that is not refused; one whose Request-URI cannot be read is to nobody of a conference.

@@ -1,15 +1,13 @@
 //! What is done with a REGISTER, by which the core tells of a registration (RFC 3261 §10.3; 3GPP TS 24.229 §5.4.1.7, §5.7.1.1).
-ghost use Rattle.std.specs.Prelude.{◌≡◌, IfOk, if◌then◌else◌};
+ghost use Rattle.std.specs.Prelude.{◌≡◌, IfOk};
 ghost use Rattle.std.specs.Option.{option_copied};
 ghost use Rattle.mmtel_trust.specs.MaskedMessages.{public_part};
-ghost use Rattle.mmtel_run.specs.Answers.{plainly};
-ghost use Rattle.mmtel_run.specs.Refusals.{Refuse, account_in, registration, registration_of, seconds_of, to_account};
+ghost use Rattle.mmtel_run.specs.Refusals.{account_in, registration, registration_of, seconds_of, to_account};
 ghost use Rattle.mmtel_intake.specs.Accounts.{account_by, account_of_uri};
 ghost use Rattle.mmtel_intake.specs.Courses.{course_in};
 
 use crate::answers::{Course, plainly};
 use mmtel_answers::Hearing;
-use mmtel_decisions::registrant;
 use mmtel_directory::Directory;
 use mmtel_lex::{LexFault, UriFault, read_name_addr, read_uri};
 use mmtel_message::{first_of, is_request};
@@ -93,13 +91,13 @@ fn seconds(request: &Hearing) -> u64
     }
 }
 
-/// What is done with a REGISTER for this account, if there is one, where a trusted peer sent it.
+/// What is done with a REGISTER of a trusted peer for this account, if there is one.
 fn registration_of(account: Option<Account>, request: &Hearing) -> Course
-    ensures { course_in result ≡ (if request.now.heard.trusted then registration_of account (public_part request.now.heard) else Refuse (plainly 403)) }
+    ensures { course_in result ≡ registration_of account (public_part request.now.heard) }
 {
-    match registrant(request.trusted, account) {
-        Err(status) => Course::Refuse(plainly(status)),
-        Ok(account) => Course::Register {
+    match account {
+        None => Course::Refuse(plainly(404)),
+        Some(account) => Course::Register {
             account,
             seconds: seconds(request),
         },
@@ -114,6 +112,9 @@ pub fn registration(
 ) -> Result<Course, NoMemory>
     ensures { IfOk result (λ c. course_in c ≡ registration directory.now.names.accounts (public_part request.now.heard)) }
 {
+    if !request.trusted {
+        return Ok(Course::Refuse(plainly(403)));
+    }
     let account = to_account(alloc, &directory.names.accounts, request)?;
     Ok(registration_of(account, request))
 }

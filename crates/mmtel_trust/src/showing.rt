@@ -9,7 +9,7 @@ ghost use Rattle.mmtel_trust.specs.Passed.{shown_lines, nobody, named_text, atte
 
 use crate::kinds::{HeaderKind, kind_of};
 use crate::privacy::restricted_text;
-use mmtel_decisions::{is_history_masked, shows_identity, unless_restricted};
+use mmtel_decisions::{shows_identity, unless_restricted};
 use mmtel_history::{ANONYMOUS, Entry, History, write_entry};
 use mmtel_lex::{LexFault, List, NameAddr, NoMemory, Text, print_name_addr, read_name_addr};
 use mmtel_message::{Line, Msg, Start, add_bytes, add_line, add_named, first_of};
@@ -136,9 +136,8 @@ fn add_history(
 ) -> Result<(), NoMemory>
     ensures { OnOk result (out.new ≡ out.old ++ history_lines mask_all to_trusted h.now) }
 {
-    let entries = h.entries();
-    if !is_history_masked(to_trusted, entries.len()) {
-        return add_entries(alloc, out, entries);
+    if to_trusted {
+        return add_entries(alloc, out, h.entries());
     }
     let masked = h.masked(alloc, mask_all)?;
     add_entries(alloc, out, masked.entries())

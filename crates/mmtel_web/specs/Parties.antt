@@ -1,15 +1,23 @@
 -- Who asks, and who may ask what: the identities of accounts, and the operator (3GPP TS 24.109 §6, TS 24.623 §5).
-use Rattle.std.specs.Prelude.{ℕ, ◌==◌, ◌&&◌, Bool, false, List, Some, None}
+use Rattle.std.specs.Prelude.{ℕ, ◌==◌, ◌&&◌, Bool, false, List, length, Some, None, if◌then◌else◌}
 use Rattle.std.specs.declared.option.Option.{Option}
 use Rattle.std.specs.List.{list_any}
 use Rattle.mmtel_types.specs.declared.numbers.Account.{Account}
 use Rattle.mmtel_lex.specs.declared.values.Uri.{Uri}
-use Rattle.mmtel_decisions.specs.Arriving.{quoted}
 use Rattle.mmtel_directory.specs.Directory.{readable}
 use Rattle.mmtel_lex.specs.Reading.{uri_of}
 use Rattle.mmtel_lex.specs.SameIdentity.{is_same_identity}
 use Rattle.mmtel_scan.specs.Chain.{◌>>=◌}
+use Rattle.mmtel_scan.specs.Scanning.{after_byte, parted}
 use Rattle.mmtel_trust.specs.declared.accounts.AccountIdentity.{AccountIdentity}
+
+-- what stands before the quote, where nothing stands behind it
+abbrev pub closed : List ℕ × List ℕ → Option (List ℕ)
+closed x = if length x.1 == 0 then Some x.0 else None
+
+-- what stands in the quotes
+abbrev pub quoted : List ℕ → Option (List ℕ)
+quoted value = after_byte 34 value >>= λ rest. parted 34 rest >>= closed
 
 -- the identity that the one value of the field of the asserted identity names: one URI in quotes, and nothing else
 abbrev pub identity_of : Option (List ℕ) → Option Uri

@@ -1,15 +1,23 @@
 //! Who asks.
 ghost use Rattle.std.specs.Prelude.{◌≡◌, IfOk};
 ghost use Rattle.std.specs.Option.{option_copied};
-ghost use Rattle.mmtel_web.specs.Parties.{identity_of, is_own, may_ask, is_operator};
+ghost use Rattle.mmtel_web.specs.Parties.{identity_of, quoted, is_own, may_ask, is_operator};
 
-use mmtel_decisions::{is_of_account, quoted};
 use mmtel_directory::readable_uri;
 use mmtel_lex::{Uri, same_identity};
-use mmtel_scan::NoMemory;
+use mmtel_scan::{NoMemory, part, skip_byte};
 use mmtel_trust::AccountIdentity;
 use mmtel_types::Account;
 use std::alloc::Global;
+
+/// What stands in the quotes.
+fn quoted(value: &[u8]) -> Option<&[u8]>
+    ensures { option_copied result ≡ quoted value.now }
+{
+    let rest = skip_byte(b'"', value)?;
+    let (inner, behind) = part(b'"', rest)?;
+    if behind.is_empty() { Some(inner) } else { None }
+}
 
 /// The identity that the value of the header line of the asserted identity names.
 pub fn identity_of(alloc: Global, value: Option<&[u8]>) -> Result<Option<Uri>, NoMemory>
@@ -28,9 +36,8 @@ pub fn identity_of(alloc: Global, value: Option<&[u8]>) -> Result<Option<Uri>, N
 fn is_own(identities: &[AccountIdentity], account: Account, uri: &Uri) -> bool
     ensures { result ≡ is_own identities.now account uri.now }
 {
-    identities.iter().any(|identity| {
-        is_of_account(identity.account, account, same_identity(&identity.uri, uri))
-    })
+    identities.iter().any(|identity| identity.account.0 == account.0
+        && same_identity(&identity.uri, uri))
 }
 
 /// Whether the identity was asserted, and is one of the account's own.

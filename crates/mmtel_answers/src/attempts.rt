@@ -89,8 +89,12 @@ pub fn first_aim(
 }
 
 /// A URI alone, in brackets.
-fn bracketed(alloc: Global, uri: Text) -> Result<Text, NoMemory>
-    ensures { IfOk result (λ t. t ≡ bracketed uri) }
+///
+/// # Errors
+///
+/// Want of memory alone.
+pub fn bracketed(alloc: Global, uri: Text) -> Result<Text, NoMemory>
+    ensures text { IfOk result (λ t. t ≡ bracketed uri) }
 {
     let alone = NameAddr {
         display: Text::new(),
@@ -126,9 +130,9 @@ pub fn diverted_aim(
     })
 }
 
-/// The dialog of these parts, before its INVITE is sent.
-fn begun(aim: Aim, call_id: Text, tag: Text, from: Text) -> Dialogue
-    ensures { result ≡ calling aim call_id tag from }
+/// The dialog of the callee's side with these parts, before its INVITE is sent (RFC 3261 §12.1.2).
+pub fn dialogue_to(aim: Aim, call_id: Text, tag: Text, from: Text) -> Dialogue
+    ensures exact { result ≡ calling aim call_id tag from }
 {
     let Aim {
         peer,
@@ -169,7 +173,7 @@ pub fn calling(
     ensures dialogue { IfOk result (λ d. d ≡ calling aim call_id tag (attempt_from restricted tag opening.now.heard.lines)) }
 {
     let from = attempt_from(alloc, &opening.message, restricted, tag.bytes())?;
-    Ok(begun(aim, call_id, tag, from))
+    Ok(dialogue_to(aim, call_id, tag, from))
 }
 
 /// The dialog as the leg knows it, once the INVITE was sent (RFC 3261 §12.1.2).

@@ -9,7 +9,7 @@ mod laws;
 mod requests;
 
 pub use answers::{allowed, own_answer, own_answer_at, relayed_answer, retry_after};
-pub use attempts::{Aim, called, calling, diverted_aim, first_aim, invite};
+pub use attempts::{Aim, bracketed, called, calling, dialogue_to, diverted_aim, first_aim, invite};
 pub use hearing::{Hearing, status_of};
 pub use laws::{
     attempts_hide_their_caller, legs_begin_with_their_invite, masked_requests_are_answered_alike,

@@ -9,7 +9,7 @@ ghost use Rattle.mmtel_b2bua.specs.Tables.{entry_after};
 
 use crate::asked::place_of;
 use crate::entries::Entry;
-use crate::moves::give_up_entry;
+use crate::moves::leave_if_settled;
 use mmtel_call::NotTalking;
 use mmtel_call_decisions::Setting;
 use mmtel_desk::Desk;
@@ -97,9 +97,8 @@ fn finish_at(
     ensures entries { OnOk result (entries.new.items ≡ (ended_at setting.now at place (slice_get entries.old.items place) entries.old.items desk.old).entries) }
     ensures desk { OnOk result (desk.new ≡ (ended_at setting.now at place (slice_get entries.old.items place) entries.old.items desk.old).desk) }
 {
-    if entries[place].finish(alloc, setting, at, desk)? {
-        give_up_entry(entries.remove(place), at);
-    }
+    let settled = entries[place].finish(alloc, setting, at, desk)?;
+    leave_if_settled(entries, place, settled, at);
     Ok(())
 }
 

@@ -1,7 +1,7 @@
 //! A signal moves the calls: the one that it is of takes its step, or one is opened.
-ghost use Rattle.std.specs.Prelude.{◌≡◌, ◌<◌, ◌++◌, ◌∷◌, [], ℕ, IfOk, OnOk, Some, length, option_to_list, position, slice_get};
+ghost use Rattle.std.specs.Prelude.{◌≡◌, ◌<◌, ◌++◌, ◌∷◌, [], ℕ, IfOk, OnOk, Some, if◌then◌else◌, length, option_to_list, position, remove, slice_get};
 ghost use Rattle.std.specs.Option.{option_copied};
-ghost use Rattle.mmtel_call_decisions.specs.Invites.{invite_answered, invite_silent};
+ghost use Rattle.mmtel_desk.specs.Invites.{invite_answered, invite_silent};
 ghost use Rattle.mmtel_call.specs.Settled.{is_settled};
 ghost use Rattle.mmtel_types.specs.declared.sides.Side.TheVariants.{Caller};
 ghost use Rattle.mmtel_b2bua.specs.Entries.{busy_beside, heard_by, is_numbered, kept, sent_it};
@@ -14,8 +14,8 @@ use crate::entries::{Entry, InviteKey};
 use crate::signals::Signal;
 use mmtel_answers::Hearing;
 use mmtel_call::{Call, Signal as CallSignal};
-use mmtel_call_decisions::{Arrival, Present, Setting, invite_answered, invite_silent};
-use mmtel_desk::{Desk, file};
+use mmtel_call_decisions::{Arrival, Present, Setting};
+use mmtel_desk::{Desk, file, invite_answered, invite_silent};
 use mmtel_message::is_method;
 use mmtel_scan::{List, NoMemory, Text};
 use mmtel_sheet_values::SheetView;
@@ -28,6 +28,16 @@ pub fn give_up_entry(entry: Entry, at: Moment) {
     let Entry { call, invites } = entry;
     drop(invites);
     call.give_up(at);
+}
+
+/// The call at this place leaves the table where nothing may be heard of it any more.
+pub fn leave_if_settled(entries: &mut Vec<Entry>, place: usize, settled: bool, at: Moment)
+    requires { place < length entries.old.items }
+    ensures { entries.new.items ≡ (if settled then remove entries.old.items place else entries.old.items) }
+{
+    if settled {
+        give_up_entry(entries.remove(place), at);
+    }
 }
 
 impl Entry {
@@ -97,9 +107,7 @@ fn step_at(
     };
     let settled = entries[place].hear(alloc, setting, &present, signal, invite, desk);
     drop(busy);
-    if settled? {
-        give_up_entry(entries.remove(place), at);
-    }
+    leave_if_settled(entries, place, settled?, at);
     Ok(())
 }
 
@@ -130,6 +138,28 @@ fn hear(
             )
         }
     }
+}
+
+/// The call of this number takes its step, if there is one.
+fn hear_numbered(
+    entries: &mut Vec<Entry>,
+    alloc: Global,
+    setting: &Setting<'_>,
+    sheets: &SheetView,
+    at: Moment,
+    number: CallNo,
+    signal: CallSignal,
+    invite: Option<InviteKey>,
+    desk: &mut Desk,
+) -> Result<(), NoMemory>
+    ensures entries { OnOk result (entries.new.items
+        ≡ (heard setting.now at sheets.now (is_numbered number.0) signal (option_to_list invite) entries.old.items desk.old).entries) }
+    ensures desk { OnOk result (desk.new ≡ (heard setting.now at sheets.now (is_numbered number.0) signal (option_to_list invite) entries.old.items desk.old).desk) }
+{
+    let place = place_of(entries, number);
+    hear(
+        entries, alloc, setting, sheets, at, place, signal, invite, desk,
+    )
 }
 
 /// The call that an INVITE opens beside these.
@@ -319,18 +349,16 @@ pub fn take(
             key,
             request,
         } => {
-            let place = place_of(entries, call);
             let invite = invite_by(side, key, &request);
             let signal = CallSignal::Request { side, key, request };
-            hear(
-                entries, alloc, setting, sheets, at, place, signal, invite, desk,
+            hear_numbered(
+                entries, alloc, setting, sheets, at, call, signal, invite, desk,
             )
         }
         Signal::Ack { call, side, ack } => {
-            let place = place_of(entries, call);
             let signal = CallSignal::Ack { side, ack };
-            hear(
-                entries, alloc, setting, sheets, at, place, signal, None, desk,
+            hear_numbered(
+                entries, alloc, setting, sheets, at, call, signal, None, desk,
             )
         }
         Signal::Cancel {
@@ -339,14 +367,13 @@ pub fn take(
             cancel,
             invite,
         } => {
-            let place = place_of(entries, call);
             let signal = CallSignal::Cancel {
                 key,
                 cancel,
                 invite,
             };
-            hear(
-                entries, alloc, setting, sheets, at, place, signal, None, desk,
+            hear_numbered(
+                entries, alloc, setting, sheets, at, call, signal, None, desk,
             )
         }
         Signal::Answer { key, response } => {
@@ -370,10 +397,9 @@ pub fn take(
             )
         }
         Signal::Due { call, what } => {
-            let place = place_of(entries, call);
             let signal = CallSignal::Due { what };
-            hear(
-                entries, alloc, setting, sheets, at, place, signal, None, desk,
+            hear_numbered(
+                entries, alloc, setting, sheets, at, call, signal, None, desk,
             )
         }
         Signal::Over { key } => {

@@ -179,7 +179,23 @@ impl Calls {
         }
     }
 
-    /// The calls hear a signal and keep the rows that it closed; a desk of these tokens is given back by its parts.
+    /// Keeps the rows that a step closed, and gives what goes out.
+    fn settle(&mut self, alloc: Global, desk: Desk) -> Result<Emits, NoMemory>
+        ensures kept { OnOk result (self.new ≡ record self.old { table = record self.old.table { rows = self.old.table.rows ++ desk.rows } }) }
+        ensures emits { IfOk result (λ out. out ≡ desk.out) }
+    {
+        let Desk { tokens, out, rows } = desk;
+        drop(tokens);
+        match self.keep_rows(alloc, rows) {
+            Ok(()) => Ok(out),
+            Err(error) => {
+                drop(out);
+                Err(error)
+            }
+        }
+    }
+
+    /// The calls hear a signal, and keep the rows that it closed; these tokens are drawn from.
     fn hear_with(
         &mut self,
         alloc: Global,
@@ -198,23 +214,11 @@ impl Calls {
     {
         let mut desk = Desk::new(mem::replace(tokens, Tokens::new(Text::new())));
         let heard = self.hear(alloc, signal, sheets, peers, accounts, now, &mut desk);
-        let Desk {
-            tokens: drawn,
-            out,
-            rows,
-        } = desk;
-        drop(mem::replace(tokens, drawn));
+        mem::swap(tokens, &mut desk.tokens);
         match heard {
-            Ok(()) => match self.keep_rows(alloc, rows) {
-                Ok(()) => Ok(out),
-                Err(error) => {
-                    drop(out);
-                    Err(error)
-                }
-            },
+            Ok(()) => self.settle(alloc, desk),
             Err(error) => {
-                drop(rows);
-                drop(out);
+                drop(desk);
                 Err(error)
             }
         }
@@ -395,23 +399,11 @@ impl Calls {
         };
         let mut desk = Desk::new(mem::replace(tokens, Tokens::new(Text::new())));
         let finished = lending::finish(&mut self.entries, alloc, &setting, now, call, &mut desk);
-        let Desk {
-            tokens: drawn,
-            out,
-            rows,
-        } = desk;
-        drop(mem::replace(tokens, drawn));
+        mem::swap(tokens, &mut desk.tokens);
         match finished {
-            Ok(()) => match self.keep_rows(alloc, rows) {
-                Ok(()) => Ok(out),
-                Err(error) => {
-                    drop(out);
-                    Err(error)
-                }
-            },
+            Ok(()) => self.settle(alloc, desk),
             Err(error) => {
-                drop(rows);
-                drop(out);
+                drop(desk);
                 Err(error)
             }
         }

@@ -8,7 +8,7 @@ use Rattle.mmtel_leg.specs.declared.legs.Released.{Released}
 use Rattle.mmtel_sheet_values.specs.View.{InForce}
 use Rattle.mmtel_transaction.specs.Tokens.{Drawn}
 use Rattle.mmtel_types.specs.declared.sides.Side.{Side}
-use Rattle.mmtel_call_decisions.specs.Invites.{invite_answered, invite_silent}
+use Rattle.mmtel_desk.specs.Invites.{invite_answered, invite_silent}
 use Rattle.mmtel_call_decisions.specs.Site.{Site}
 use Rattle.mmtel_call_decisions.specs.declared.openings.Arrival.{Arrival}
 use Rattle.mmtel_call.specs.Closing.{Step}

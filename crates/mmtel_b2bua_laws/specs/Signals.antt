@@ -4,7 +4,7 @@ use Rattle.mmtel_identity.specs.Restriction.{is_caller_restricted}
 use Rattle.mmtel_precedence.specs.Calls.{Standing}
 use Rattle.mmtel_rules.specs.declared.values.Identities2.{Identities2}
 use Rattle.mmtel_sheet_values.specs.declared.values.Sheet.{Sheet}
-use Rattle.mmtel_call_decisions.specs.Invites.{invite_answered, invite_silent}
+use Rattle.mmtel_desk.specs.Invites.{invite_answered, invite_silent}
 use Rattle.mmtel_call_decisions.specs.Opening.{origin_sheet}
 use Rattle.mmtel_call_decisions.specs.Site.{Site}
 use Rattle.mmtel_call.specs.declared.signals.Signal as calls

@@ -5,7 +5,6 @@ pub mod Decisions
 pub mod Opening
 pub mod Showing
 pub mod Requests
-pub mod Invites
 pub mod Rows
 
 -- What private functions alone cite: nothing.

@@ -5,7 +5,6 @@
 mod deciding;
 mod diversions;
 mod ends;
-mod invites;
 mod openings;
 mod requests;
 mod rows;
@@ -16,7 +15,6 @@ mod uris;
 pub use deciding::redirect_of;
 pub use diversions::Diversions;
 pub use ends::{end_of, end_of_time, is_handed_on, time_of};
-pub use invites::{invite_answered, invite_silent};
 pub use mmtel_decisions::{is_ack_of, is_other_dialog, is_same_side};
 pub use openings::{Arrival, Opening, Service, opening_of};
 pub use requests::{number_of, unlisted_status};

@@ -1,2 +1,3 @@
+mod FirstVia
 pub mod HeadLaws
 pub mod MaskedHeads

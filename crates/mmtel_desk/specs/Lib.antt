@@ -2,6 +2,7 @@
 -- Of the calls:
 pub mod Desks
 pub mod Invitations
+pub mod Invites
 pub mod Sending
 pub mod Loose
 -- Of the laws alone:

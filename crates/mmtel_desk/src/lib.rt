@@ -4,6 +4,7 @@
 
 mod desks;
 mod invitations;
+mod invites;
 mod laws;
 mod loose;
 mod offering;
@@ -12,6 +13,7 @@ mod sending;
 
 pub use desks::{Desk, file};
 pub use invitations::{Invitation, Loose, once_cancelled, with_early};
+pub use invites::{invite_answered, invite_silent};
 pub use laws::{
     answers_have_heads, masked_requests_have_one_head, repeats_have_heads, requests_have_heads,
 };

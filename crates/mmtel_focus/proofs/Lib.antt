@@ -1,3 +1,2 @@
-mod FirstVia
 mod Places
 mod Bids

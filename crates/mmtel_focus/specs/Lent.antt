@@ -1,8 +1,8 @@
 -- What a seat hears, where its messages are lent: what private functions alone cite.
+use Rattle.mmtel_focus.specs.SeatSignals as of_seat
+use Rattle.mmtel_focus.specs.SeatSignals.{SeatSignal}
 use Rattle.mmtel_focus.specs.declared.signals.LentSignal.{LentSignal}
 use Rattle.mmtel_focus.specs.declared.signals.LentSignal.TheVariants as lent_signal
-use Rattle.mmtel_focus.specs.declared.signals.SeatSignal.{SeatSignal}
-use Rattle.mmtel_focus.specs.declared.signals.SeatSignal.TheVariants as of_seat
 
 abbrev pub lent : LentSignal → SeatSignal
 lent (lent_signal.Request key request) = of_seat.Request key request.now

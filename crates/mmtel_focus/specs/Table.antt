@@ -2,20 +2,14 @@
 use Rattle.std.specs.Prelude.{ℕ, ◌+◌, ◌==◌, nat_le, nat_lt, Bool, false, if◌then◌else◌, Option, Some, None, List, [], ◌∷◌, ◌++◌, codes, drop, length, option_to_list}
 use Rattle.std.specs.Prelude.{position, remove, slice_get, slice_set, take, Result, Ok, Err}
 use Rattle.std.specs.List.{list_any}
-use Rattle.std.specs.Str.{bytes_eq}
-use Rattle.mmtel_scan.specs.Chain.{◌>>=◌}
 use Rattle.mmtel_scan.specs.Numbers.{next_number}
-use Rattle.mmtel_scan.specs.Scanning.{after_text}
 use Rattle.mmtel_answers.specs.Said.{Said}
 use Rattle.mmtel_charging.specs.Meters.{Noted, row_of}
 use Rattle.mmtel_charging.specs.declared.rows.Row.{Row}
+use Rattle.mmtel_desk.specs.Invites.{invite_answered, invite_silent}
 use Rattle.mmtel_desk.specs.Loose.{Rest, is_of, on_response}
 use Rattle.mmtel_desk.specs.declared.invitations.Loose.{Loose}
 use Rattle.mmtel_leg.specs.declared.legs.Released.{Released}
-use Rattle.mmtel_lex.specs.Params.{param_value}
-use Rattle.mmtel_message.specs.Fields.{cseq_at, via_at}
-use Rattle.mmtel_message.specs.declared.fields.CSeq.{CSeq}
-use Rattle.mmtel_message.specs.declared.fields.Via.{Via}
 use Rattle.mmtel_transaction.specs.declared.words.TKey.{TKey}
 use Rattle.mmtel_types.specs.declared.addrs.Addr.{Addr}
 use Rattle.mmtel_types.specs.declared.causes.Cause.TheVariants.{Ended}
@@ -25,6 +19,8 @@ use Rattle.mmtel_focus.specs.Answers.{on_answer, on_due, on_silence}
 use Rattle.mmtel_focus.specs.Joining.{adopted, come, new_room}
 use Rattle.mmtel_focus.specs.Requests.{on_ack, on_request}
 use Rattle.mmtel_focus.specs.Rooms.{Effects, Room, Seat, Step}
+use Rattle.mmtel_focus.specs.SeatSignals as of_seat
+use Rattle.mmtel_focus.specs.SeatSignals.{SeatSignal}
 use Rattle.mmtel_focus.specs.Seats as seats
 use Rattle.mmtel_focus.specs.Seats.{at_place, is_full, is_seat, is_seated, leg_of, told_to}
 use Rattle.mmtel_focus.specs.Site.{Site}
@@ -33,8 +29,6 @@ use Rattle.mmtel_focus.specs.declared.faults.RoomFault.{RoomFault}
 use Rattle.mmtel_focus.specs.declared.faults.RoomFault.TheVariants.{Gone, RoomFull}
 use Rattle.mmtel_focus.specs.declared.signals.RoomSignal.{RoomSignal}
 use Rattle.mmtel_focus.specs.declared.signals.RoomSignal.TheVariants as signal
-use Rattle.mmtel_focus.specs.declared.signals.SeatSignal.{SeatSignal}
-use Rattle.mmtel_focus.specs.declared.signals.SeatSignal.TheVariants as of_seat
 use Rattle.mmtel_seats.specs.Invites.{is_asked}
 pub use Rattle.mmtel_seats.specs.Invites.{is_asked, is_sent}
 
@@ -111,44 +105,6 @@ stays_at row place (Some room) live effects = stays_by place (row (record { room
 abbrev pub stays_in : (row : Step → Step) → (place : Option ℕ) → List Room → Effects → Stepped
 stays_in row None live effects = unmoved live effects
 stays_in row (Some place) live effects = stays_at row place (slice_get live place) live effects
-
--- ---- which INVITE a response answers (RFC 3261 §17.1.3)
-
--- what stands behind the cookie of a branch (§8.1.1.7)
-abbrev pub behind_cookie : List ℕ → Option (List ℕ)
-behind_cookie branch = after_text (codes "z9hG4bK") branch
-
-abbrev pub first_via : List (List ℕ) → Option Via
-first_via [] = None
-first_via (value ∷ values) = via_at value
-
-abbrev pub via_branch : Via → Option (List ℕ)
-via_branch via = param_value (codes "branch") via.params
-
-abbrev pub is_invite_method : List ℕ → Bool
-is_invite_method method = bytes_eq method (codes "INVITE")
-
-abbrev pub of_invite : Option CSeq → Bool
-of_invite None = false
-of_invite (Some cseq) = is_invite_method cseq.method
-
-abbrev pub behind : Option (List ℕ) → Option (List ℕ)
-behind branch = branch >>= behind_cookie
-
--- of the first Via, and of a CSeq
-abbrev pub branch_in : List (List ℕ) → Option (List ℕ)
-branch_in vias = behind (first_via vias >>= via_branch)
-
-abbrev pub answers_invite : Option (List ℕ) → Bool
-answers_invite cseq = of_invite (cseq >>= cseq_at)
-
--- the branch of the INVITE that it answers; none where it answers another request
-unfoldable pub invite_answered : Said → Option (List ℕ)
-invite_answered m = if answers_invite m.heard.cseq then branch_in m.heard.vias else None
-
--- that of the INVITE that was given up
-abbrev pub invite_silent : (branch method : List ℕ) → Option (List ℕ)
-invite_silent branch method = if is_invite_method method then behind_cookie branch else None
 
 -- ---- whose it is
 

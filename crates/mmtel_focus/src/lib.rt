@@ -3,7 +3,6 @@
 #![tactic(auto)]
 
 mod answers;
-mod branches;
 mod entering;
 mod faults;
 mod finding;
@@ -24,6 +23,6 @@ pub use faults::RoomFault;
 pub use mmtel_seats::{Awaited, Effects, Invite, Party, Seat, Setting};
 pub use referrals::{Referral, Replaces, referral_of};
 pub use rooms::Room;
-pub use signals::{Joining, RoomSignal, SeatSignal};
+pub use signals::{Joining, RoomSignal};
 pub use tables::Rooms;
 pub use texts::room_named;

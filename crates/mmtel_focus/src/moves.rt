@@ -4,14 +4,14 @@ ghost use Rattle.mmtel_desk.specs.Loose.{is_of};
 ghost use Rattle.mmtel_focus.specs.Lent.{lent};
 ghost use Rattle.mmtel_focus.specs.Rooms.{Room};
 ghost use Rattle.mmtel_focus.specs.Seats.{at_place, at_seat};
-ghost use Rattle.mmtel_focus.specs.Table.{answered_at, answered_by, answered_loose, asks, heard_by, heard_in, heard_of, hears, invite_answered, invite_silent};
+ghost use Rattle.mmtel_desk.specs.Invites.{invite_answered, invite_silent};
+ghost use Rattle.mmtel_focus.specs.Table.{answered_at, answered_by, answered_loose, asks, heard_by, heard_in, heard_of, hears};
 ghost use Rattle.mmtel_focus.specs.Table.{is_asked, is_key, is_loose_key, place_of, silenced_at, silenced_by, stepped_at, stepped_in, taken, without};
 
-use crate::branches::{invite_answered, invite_silent};
 use crate::rooms::Room;
 use crate::signals::{LentSignal, RoomSignal};
 use mmtel_answers::Hearing;
-use mmtel_desk::{Loose, file, loose_at};
+use mmtel_desk::{Loose, file, invite_answered, invite_silent, loose_at};
 use mmtel_scan::{List, NoMemory};
 use mmtel_seats::{self as seats, Effects, Seat, Setting};
 use mmtel_transaction::TKey;

@@ -43,21 +43,6 @@ pub enum RoomSignal {
     },
 }
 
-/// What a seat hears, as its definitions say it; what is heard is lent to it (`LentSignal`).
-#[derive(Drop)]
-pub enum SeatSignal {
-    /// A request of it, which opened this server transaction.
-    Request { key: TKey, request: Hearing },
-    /// An ACK of it.
-    Ack { ack: Hearing },
-    /// A response to the server's INVITE to it, by its client transaction.
-    Answer { key: TKey, response: Hearing },
-    /// The server's INVITE to it had no response at all.
-    Silent,
-    /// A deadline of it came.
-    Due { what: RoomWord },
-}
-
 /// What a seat hears, its messages lent by the signal that the rooms hear.
 #[derive(Clone, Copy)]
 pub enum LentSignal<'a> {

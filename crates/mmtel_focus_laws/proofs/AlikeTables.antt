@@ -19,16 +19,17 @@ use Rattle.mmtel_types.specs.declared.numbers.Peer.{Peer}
 use Rattle.mmtel_focus.specs.Histories.{did, effects_of, no_tokens, with_moved, with_opened}
 use Rattle.mmtel_focus.specs.Joining.{adopted, come, new_room}
 use Rattle.mmtel_focus.specs.Rooms.{Room, Step, nothing}
+use Rattle.mmtel_focus.specs.SeatSignals as of_seat
+use Rattle.mmtel_focus.specs.SeatSignals.{SeatSignal}
 use Rattle.mmtel_focus.specs.Seats.{is_seat, is_seated, told_to}
 use Rattle.mmtel_focus.specs.Seats as seats
 use Rattle.mmtel_focus.specs.Site.{Site}
-use Rattle.mmtel_focus.specs.Table.{Moved, Stepped, Table, access, answered_at, answered_by, answered_loose, answers_invite, asks, beside, branch_in, closed, closed_at, heard_by, heard_in, heard_of, hears, invite_answered, invite_silent, is_asked, is_loose_key, is_provisional, is_room, joined, left, left_at, left_in, next_room, notified, place_of, put_at, referred, room_left, room_left_at, seat_left, silenced_at, silenced_by, stays_at, stays_in, stepped_at, stepped_in, taken, through, unmoved, without, without_at, without_seat}
+use Rattle.mmtel_focus.specs.Table.{Moved, Stepped, Table, access, answered_at, answered_by, answered_loose, asks, beside, closed, closed_at, heard_by, heard_in, heard_of, hears, is_asked, is_loose_key, is_provisional, is_room, joined, left, left_at, left_in, next_room, notified, place_of, put_at, referred, room_left, room_left_at, seat_left, silenced_at, silenced_by, stays_at, stays_in, stepped_at, stepped_in, taken, through, unmoved, without, without_at, without_seat}
+use Rattle.mmtel_desk.specs.Invites.{answers_invite, branch_in, invite_answered, invite_silent}
 use Rattle.mmtel_focus.specs.Texts.{own_status}
 use Rattle.mmtel_focus.specs.declared.faults.RoomFault.{RoomFault}
 use Rattle.mmtel_seats.specs.declared.effects.Effects.{Effects}
 use Rattle.mmtel_seats.specs.declared.seats.Seat.{Seat}
-use Rattle.mmtel_focus.specs.declared.signals.SeatSignal.{SeatSignal}
-use Rattle.mmtel_focus.specs.declared.signals.SeatSignal.TheVariants as of_seat
 use Rattle.mmtel_focus_laws.specs.Heard as heard
 use Rattle.mmtel_focus_laws.specs.Heard.{Adoptions, AreAlike, AreAlikeLegs, AreDone, AreHeard, AreRequests, Answers, Comings, ComeAlike, Deeds, IsAnswerBy, IsAnswerIn, IsOfSeat, Message, Pair, Signals, coming_of, one_deed, one_signal, other_deed, other_signal}
 use Rattle.mmtel_focus_laws.specs.Parts.{AlikeEffects, public_room, public_seat, public_table, trust_of, trusts}

@@ -28,19 +28,20 @@ use Rattle.mmtel_focus.specs.Histories.{Adoption, Coming, Deed, Opens, Joins, Ad
 use Rattle.mmtel_focus.specs.Joining.{adopted, adopted_seat, come, having_invited_by, new_room, new_seat, party_of}
 use Rattle.mmtel_focus.specs.Names.{all_ended, ended, seats_in}
 use Rattle.mmtel_focus.specs.Rooms.{Room, Step, nothing}
+use Rattle.mmtel_focus.specs.SeatSignals as of_seat
+use Rattle.mmtel_focus.specs.SeatSignals.{SeatSignal}
 use Rattle.mmtel_seats.specs.declared.effects.Effects.{Effects}
 use Rattle.mmtel_focus.specs.Seats as seats
 use Rattle.mmtel_focus.specs.Seats.{is_seat, is_seated, leg_of, meter_of, told_to}
 use Rattle.mmtel_focus.specs.Site.{Site}
 use Rattle.mmtel_focus.specs.Table as table
-use Rattle.mmtel_focus.specs.Table.{Moved, Stepped, Table, access, answered_at, answered_by, answered_loose, asks, beside as beside_loose, closed, closed_at, heard_in, heard_of, hears, invite_answered, invite_silent, is_asked, is_loose_key, is_provisional, joined, left, left_at, left_in, next_room, notified, opened, place_of, put_at, referred, room_at, room_left, room_left_at, room_of, row_by, row_in, row_in_room, row_left, row_of_seat, seat_left, silenced_at, silenced_by, stays_at, stays_by, stays_in, stepped_at, stepped_by, stepped_in, taken, through, unmoved, with_rest, without, without_at}
+use Rattle.mmtel_focus.specs.Table.{Moved, Stepped, Table, access, answered_at, answered_by, answered_loose, asks, beside as beside_loose, closed, closed_at, heard_in, heard_of, hears, is_asked, is_loose_key, is_provisional, joined, left, left_at, left_in, next_room, notified, opened, place_of, put_at, referred, room_at, room_left, room_left_at, room_of, row_by, row_in, row_in_room, row_left, row_of_seat, seat_left, silenced_at, silenced_by, stays_at, stays_by, stays_in, stepped_at, stepped_by, stepped_in, taken, through, unmoved, with_rest, without, without_at}
+use Rattle.mmtel_desk.specs.Invites.{invite_answered, invite_silent}
 use Rattle.mmtel_focus.specs.Texts.{own_status}
 use Rattle.mmtel_focus.specs.declared.faults.RoomFault.{RoomFault}
 use Rattle.mmtel_seats.specs.declared.seats.Seat.{Seat}
 use Rattle.mmtel_focus.specs.declared.signals.RoomSignal.{RoomSignal}
 use Rattle.mmtel_focus.specs.declared.signals.RoomSignal.TheVariants as signal
-use Rattle.mmtel_focus.specs.declared.signals.SeatSignal.{SeatSignal}
-use Rattle.mmtel_focus.specs.declared.signals.SeatSignal.TheVariants as of_seat
 use Rattle.mmtel_focus_laws.specs.Charging.{DeedsAreCharged, IsBooked, IsBookedDeed, IsCharged, among, meters_in, meters_of, row_at, running, runs, runs_in}
 use Rattle.mmtel_focus_laws.proofs.Books.{beside, booked_same, booked_within, flat_among, flat_without, stands}
 use Rattle.mmtel_focus_laws.proofs.ChargedRows.{ack_books, answer_books, due_books, request_books, silence_books}

@@ -13,19 +13,20 @@ use Rattle.mmtel_types.specs.declared.addrs.Addr.{Addr}
 use Rattle.mmtel_focus.specs.Histories.{Adoption, Coming, Deed, Opens, Joins, Adopts, Notifies, Hears, Leaves, Closes, Drops, adopted_by, brought_after, did, effects_of, heard_by, joined_by, notified_by, opened_by, table_after, with_stepped}
 use Rattle.mmtel_focus.specs.Joining.{adopted, come, new_room}
 use Rattle.mmtel_focus.specs.Rooms.{Room, Step, nothing}
+use Rattle.mmtel_focus.specs.SeatSignals as of_seat
+use Rattle.mmtel_focus.specs.SeatSignals.{SeatSignal}
 use Rattle.mmtel_focus.specs.Seats as seats
 use Rattle.mmtel_focus.specs.Seats.{is_seat, is_seated, told_to}
 use Rattle.mmtel_focus.specs.Site.{Site}
 use Rattle.mmtel_focus.specs.Table as table
-use Rattle.mmtel_focus.specs.Table.{Moved, Stepped, Table, access, answered_at, answered_by, answered_loose, asks, closed, closed_at, heard_in, heard_of, hears, invite_answered, invite_silent, is_asked, is_loose_key, is_provisional, joined, left, left_at, left_in, next_room, notified, opened, place_of, put_at, referred, room_left, room_left_at, seat_left, silenced_at, silenced_by, stays_at, stays_by, stays_in, stepped_at, stepped_by, stepped_in, taken, through, unmoved, without, without_at}
+use Rattle.mmtel_focus.specs.Table.{Moved, Stepped, Table, access, answered_at, answered_by, answered_loose, asks, closed, closed_at, heard_in, heard_of, hears, is_asked, is_loose_key, is_provisional, joined, left, left_at, left_in, next_room, notified, opened, place_of, put_at, referred, room_left, room_left_at, seat_left, silenced_at, silenced_by, stays_at, stays_by, stays_in, stepped_at, stepped_by, stepped_in, taken, through, unmoved, without, without_at}
+use Rattle.mmtel_desk.specs.Invites.{invite_answered, invite_silent}
 use Rattle.mmtel_focus.specs.Texts.{own_status}
 use Rattle.mmtel_focus.specs.declared.faults.RoomFault.{RoomFault}
 use Rattle.mmtel_seats.specs.declared.effects.Effects.{Effects}
 use Rattle.mmtel_seats.specs.declared.seats.Seat.{Seat}
 use Rattle.mmtel_focus.specs.declared.signals.RoomSignal.{RoomSignal}
 use Rattle.mmtel_focus.specs.declared.signals.RoomSignal.TheVariants as signal
-use Rattle.mmtel_focus.specs.declared.signals.SeatSignal.{SeatSignal}
-use Rattle.mmtel_focus.specs.declared.signals.SeatSignal.TheVariants as of_seat
 use Rattle.mmtel_call_laws.specs.Heads.Clean.{IsClean}
 use Rattle.mmtel_call_laws.specs.Heads.Emits.{Each, IsCleanEmit}
 use Rattle.mmtel_call_laws.specs.Heads.Heard.{IsOfClean}

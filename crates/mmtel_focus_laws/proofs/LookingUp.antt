@@ -31,11 +31,14 @@ use Rattle.mmtel_focus.specs.Joining.{adopted, bidden, come, invitation_dialog, 
 use Rattle.mmtel_focus.specs.Referrals.{referral_in, target_of}
 use Rattle.mmtel_focus.specs.Requests.{accepted, answered_with, busy, heard_seat, is_waiting, on_bye, on_heard, on_hearing, on_invite, on_referral, on_request, refused, says, trying}
 use Rattle.mmtel_focus.specs.Rooms.{Room, Step, nothing, with_desk}
+use Rattle.mmtel_focus.specs.SeatSignals as of_seat
+use Rattle.mmtel_focus.specs.SeatSignals.{SeatSignal}
 use Rattle.mmtel_focus.specs.Seats as seats
 use Rattle.mmtel_focus.specs.Seats.{at_place, at_seat, by_seat, closed, closed_with, dismissed, is_creator, is_full, is_seat, is_seated, left, leg_of, put, told, told_by, told_seat, told_to}
 use Rattle.mmtel_focus.specs.Site.{Site}
 use Rattle.mmtel_focus.specs.Table as tables
-use Rattle.mmtel_focus.specs.Table.{Moved, Stepped, Table, access, answered_at, answered_by, asks, beside, heard_in, heard_of, hears, invite_answered, invite_silent, is_asked, is_provisional, joined, next_room, notified, place_of, referred, silenced_at, silenced_by, stays_at, stays_by, stays_in, stepped_at, stepped_by, stepped_in, taken, through}
+use Rattle.mmtel_focus.specs.Table.{Moved, Stepped, Table, access, answered_at, answered_by, asks, beside, heard_in, heard_of, hears, is_asked, is_provisional, joined, next_room, notified, place_of, referred, silenced_at, silenced_by, stays_at, stays_by, stays_in, stepped_at, stepped_by, stepped_in, taken, through}
+use Rattle.mmtel_desk.specs.Invites.{invite_answered, invite_silent}
 use Rattle.mmtel_focus.specs.Texts.{own_status, status_line}
 use Rattle.mmtel_focus.specs.declared.faults.RoomFault.{RoomFault}
 use Rattle.mmtel_focus.specs.declared.referrals.Referral.{Referral}
@@ -48,8 +51,6 @@ use Rattle.mmtel_seats.specs.declared.seats.Party.TheVariants.{Brought, Came, In
 use Rattle.mmtel_seats.specs.declared.seats.Seat.{Seat}
 use Rattle.mmtel_focus.specs.declared.signals.RoomSignal.{RoomSignal}
 use Rattle.mmtel_focus.specs.declared.signals.RoomSignal.TheVariants as signal
-use Rattle.mmtel_focus.specs.declared.signals.SeatSignal.{SeatSignal}
-use Rattle.mmtel_focus.specs.declared.signals.SeatSignal.TheVariants as of_seat
 use Rattle.mmtel_focus_laws.specs.Directories.{DeedLooksAlike, DeedsSeeLookUpsAlone, EqualButForAccounts, LooksUpAlike, OneIsAlike, RefersAlike, SignalLooksAlike}
 
 -- ---- where the steps at each place are the same

@@ -20,7 +20,8 @@ use Rattle.mmtel_seats.specs.declared.seats.Invite.{Invite}
 use Rattle.mmtel_seats.specs.declared.seats.Invite.TheVariants.{Agreed, Waiting}
 use Rattle.mmtel_seats.specs.declared.seats.Seat.{Seat}
 use Rattle.mmtel_focus.specs.Seats.{dialogue_of}
-use Rattle.mmtel_focus.specs.Table.{Table, asks, invite_answered, is_asked}
+use Rattle.mmtel_focus.specs.Table.{Table, asks, is_asked}
+use Rattle.mmtel_desk.specs.Invites.{invite_answered}
 use Rattle.mmtel_focus.specs.declared.signals.RoomSignal.{RoomSignal}
 use Rattle.mmtel_focus.specs.declared.signals.RoomSignal.TheVariants as signal
 

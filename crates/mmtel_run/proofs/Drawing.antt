@@ -11,7 +11,7 @@ use Rattle.mmtel_b2bua.specs.declared.entries.InviteKey.{InviteKey}
 use Rattle.mmtel_b2bua.specs.declared.signals.Signal as table
 use Rattle.mmtel_b2bua.specs.declared.signals.Signal.TheVariants as of_table
 use Rattle.mmtel_call_decisions.specs.Decisions.{decided_after, decided_at, handed_on, is_barred, is_status, its_sheet, peer_for, service_at, target_of, time_of}
-use Rattle.mmtel_call_decisions.specs.Invites.{invite_answered, invite_silent}
+use Rattle.mmtel_desk.specs.Invites.{invite_answered, invite_silent}
 use Rattle.mmtel_call_decisions.specs.Opening.{first_of, opening_of, refusal_of}
 use Rattle.mmtel_call_decisions.specs.Requests.{is_same_side}
 use Rattle.mmtel_call_decisions.specs.Site.{Site}

@@ -16,10 +16,13 @@ use Rattle.mmtel_focus.specs.Joining.{adopted, bidden, come, invited, invited_at
 use Rattle.mmtel_focus.specs.Referrals.{referral_in}
 use Rattle.mmtel_focus.specs.Requests.{accepted, acknowledges, agreed_again, answered_with, heard_seat, is_waiting, on_ack, on_bye, on_heard, on_hearing, on_invite, on_referral, on_request, refused, says, busy, trying, unheard}
 use Rattle.mmtel_focus.specs.Rooms.{Room, Step, nothing, with_desk}
+use Rattle.mmtel_focus.specs.SeatSignals as of_seat
+use Rattle.mmtel_focus.specs.SeatSignals.{SeatSignal}
 use Rattle.mmtel_focus.specs.Seats.{at_place, at_seat, by_seat, closed, closed_with, dialogue_of, dismissed, dismissed_with, filed_by, having_had_bye, is_creator, is_full, is_seat, is_seated, left, left_with, leg_of, notified_by, place_of, put, told, told_by, told_to}
 use Rattle.mmtel_focus.specs.Site.{Site}
 use Rattle.mmtel_focus.specs.Table as table
-use Rattle.mmtel_focus.specs.Table.{Moved, Stepped, Table, access, answered_at, answered_by, answered_loose, asks, beside, heard_in, heard_of, hears, invite_answered, invite_silent, is_asked, is_provisional, joined, next_room, notified, referred, silenced_at, silenced_by, stays_at, stays_in, stepped_at, stepped_in, taken, through}
+use Rattle.mmtel_focus.specs.Table.{Moved, Stepped, Table, access, answered_at, answered_by, answered_loose, asks, beside, heard_in, heard_of, hears, is_asked, is_provisional, joined, next_room, notified, referred, silenced_at, silenced_by, stays_at, stays_in, stepped_at, stepped_in, taken, through}
+use Rattle.mmtel_desk.specs.Invites.{invite_answered, invite_silent}
 use Rattle.mmtel_focus.specs.Texts.{own_status, status_line}
 use Rattle.mmtel_focus.specs.declared.faults.RoomFault.{RoomFault}
 use Rattle.mmtel_focus.specs.declared.referrals.Referral.{Referral}
@@ -32,8 +35,6 @@ use Rattle.mmtel_seats.specs.declared.effects.Effects.{Effects}
 use Rattle.mmtel_seats.specs.declared.seats.Seat.{Seat}
 use Rattle.mmtel_focus.specs.declared.signals.RoomSignal.{RoomSignal}
 use Rattle.mmtel_focus.specs.declared.signals.RoomSignal.TheVariants as signal
-use Rattle.mmtel_focus.specs.declared.signals.SeatSignal.{SeatSignal}
-use Rattle.mmtel_focus.specs.declared.signals.SeatSignal.TheVariants as of_seat
 use Rattle.mmtel_leg.specs.Remotes.{remote_of}
 use Rattle.mmtel_leg.specs.declared.dialogues.DialogueFault.{DialogueFault}
 use Rattle.mmtel_leg.specs.declared.dialogues.DialogueFault.TheVariants.{OldCSeq, Pending, Unfinished}

@@ -9,17 +9,18 @@ use Rattle.mmtel_desk.specs.declared.invitations.Loose.{Loose}
 use Rattle.mmtel_focus.specs.Answers.{cancelled_in, ended_unasked, ended_without, is_awaited, on_due, on_silence, once_cancelled_in, too_long, unacknowledged, waits}
 use Rattle.mmtel_focus.specs.Requests.{is_waiting}
 use Rattle.mmtel_focus.specs.Rooms.{Room, Step, with_desk}
+use Rattle.mmtel_focus.specs.SeatSignals as of_seat
+use Rattle.mmtel_focus.specs.SeatSignals.{SeatSignal}
 use Rattle.mmtel_focus.specs.Seats.{at_place, at_seat, by_seat, closed, dismissed, is_creator, is_seat, is_seated, place_of, put, told, told_by, told_seat}
 use Rattle.mmtel_focus.specs.Site.{Site}
 use Rattle.mmtel_focus.specs.Table as table
-use Rattle.mmtel_focus.specs.Table.{Moved, Stepped, asks, heard_in, heard_of, hears, invite_silent, is_asked, silenced_at, silenced_by, stepped_at, stepped_by, stepped_in, taken}
+use Rattle.mmtel_focus.specs.Table.{Moved, Stepped, asks, heard_in, heard_of, hears, is_asked, silenced_at, silenced_by, stepped_at, stepped_by, stepped_in, taken}
+use Rattle.mmtel_desk.specs.Invites.{invite_silent}
 use Rattle.mmtel_focus.specs.Texts.{own_status}
 use Rattle.mmtel_seats.specs.declared.effects.Effects.{Effects}
 use Rattle.mmtel_seats.specs.declared.seats.Seat.{Seat}
 use Rattle.mmtel_focus.specs.declared.signals.RoomSignal.{RoomSignal}
 use Rattle.mmtel_focus.specs.declared.signals.RoomSignal.TheVariants as signal
-use Rattle.mmtel_focus.specs.declared.signals.SeatSignal.{SeatSignal}
-use Rattle.mmtel_focus.specs.declared.signals.SeatSignal.TheVariants as of_seat
 use Rattle.mmtel_transaction.specs.declared.words.RoomWord.{RoomWord}
 use Rattle.mmtel_transaction.specs.declared.words.RoomWord.TheVariants as due
 use Rattle.mmtel_run.proofs.Lasting.{put_sum}

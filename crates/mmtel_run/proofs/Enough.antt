@@ -5,7 +5,7 @@ use Rattle.mmtel_b2bua.specs.Histories.{Deed, Drops, Hears, hears_after}
 use Rattle.mmtel_b2bua.specs.Tables.{Moved}
 use Rattle.mmtel_b2bua.specs.declared.signals.Signal.{Signal}
 use Rattle.mmtel_b2bua.specs.declared.signals.Signal.TheVariants as signal
-use Rattle.mmtel_call_decisions.specs.Invites.{invite_silent}
+use Rattle.mmtel_desk.specs.Invites.{invite_silent}
 use Rattle.mmtel_desk.specs.Desks.{fresh}
 use Rattle.mmtel_directory.specs.declared.directories.Directory.{Directory}
 use Rattle.mmtel_focus.specs.Histories as rooms

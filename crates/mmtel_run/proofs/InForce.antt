@@ -17,7 +17,7 @@ use Rattle.mmtel_b2bua.specs.Lending.{leg_out}
 use Rattle.mmtel_b2bua.specs.Names.{party}
 use Rattle.mmtel_b2bua.specs.declared.signals.Signal.{Signal}
 use Rattle.mmtel_b2bua.specs.declared.signals.Signal.TheVariants as signal
-use Rattle.mmtel_call_decisions.specs.Invites.{invite_answered, invite_silent}
+use Rattle.mmtel_desk.specs.Invites.{invite_answered, invite_silent}
 use Rattle.mmtel_desk.specs.declared.desks.Desk.{Desk}
 use Rattle.mmtel_focus.specs.Histories as rooms
 use Rattle.mmtel_focus.specs.Table.{access, has_no_room}

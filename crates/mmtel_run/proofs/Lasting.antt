@@ -9,7 +9,7 @@ use Rattle.mmtel_b2bua.specs.Tables.{Moved, entry_after, heard, moved_at, moved_
 use Rattle.mmtel_b2bua.specs.declared.entries.Entry.{Entry}
 use Rattle.mmtel_b2bua.specs.declared.signals.Signal as table
 use Rattle.mmtel_b2bua.specs.declared.signals.Signal.TheVariants as signal
-use Rattle.mmtel_call_decisions.specs.Invites.{invite_silent}
+use Rattle.mmtel_desk.specs.Invites.{invite_silent}
 use Rattle.mmtel_call_decisions.specs.Site.{Site}
 use Rattle.mmtel_call.specs.Closing.{Step}
 use Rattle.mmtel_call.specs.Settled.{is_settled}

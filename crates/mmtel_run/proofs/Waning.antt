@@ -3,7 +3,7 @@ use Rattle.std.proofs.Common.{◌≡◌, ℕ, zero, suc, ◌+◌, ◌≤◌, Lis
 use Rattle.std.specs.Prelude.{◌⊎◌, ◌==◌, if◌then◌else◌}
 use Rattle.mmtel_answers.specs.Said.{Said}
 use Rattle.mmtel_call_decisions.specs.Decisions.{decided_after, decided_at, handed_on, is_barred, is_status, peer_for, service_at, target_of}
-use Rattle.mmtel_call_decisions.specs.Invites.{invite_silent}
+use Rattle.mmtel_desk.specs.Invites.{invite_silent}
 use Rattle.mmtel_call_decisions.specs.Site.{Site}
 use Rattle.mmtel_call_decisions.specs.declared.openings.Service.{Service}
 use Rattle.mmtel_call.specs.declared.calls.Call.{Call}

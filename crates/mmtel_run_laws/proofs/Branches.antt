@@ -9,7 +9,7 @@ use Rattle.std.proofs.lemmas.Fmt.{length-decimal-le}
 use Rattle.std.proofs.lemmas.List.{append_cancel_left, length-append, take-append-drop}
 use Rattle.std.proofs.lemmas.Slice.Eq.{bytes_eq-Decides}
 use Rattle.mmtel_answers.specs.Said.{Said}
-use Rattle.mmtel_call_decisions.specs.Invites.{answers_invite, behind, branch_in, first_via, invite_answered, is_invite_method, of_invite, via_branch}
+use Rattle.mmtel_desk.specs.Invites.{answers_invite, behind, branch_in, first_via, invite_answered, is_invite_method, of_invite, via_branch}
 use Rattle.mmtel_call_laws.specs.Branches.Sent.{IsInvite, IsNoInvite}
 use Rattle.mmtel_leg.specs.Readings.{via_of}
 use Rattle.mmtel_leg.specs.Requests.{Given, numbered}

@@ -10,7 +10,7 @@ use Rattle.mmtel_b2bua_laws.specs.Alike.{AlikeEntries, AlikeTables, AreKept}
 use Rattle.mmtel_b2bua_laws.specs.Answers.{AlikeTablesAnswerAlike}
 use Rattle.mmtel_b2bua_laws.specs.AlikeDeeds.{BothFinish, BothHear, BothRelease, BothRestore, HearAlike, StandAlike, TablesStayAlike}
 use Rattle.mmtel_b2bua_laws.specs.Signals.{AsksWell, CallersAlike, LooksAlike, TableHears, public_signal}
-use Rattle.mmtel_call_decisions.specs.Invites.{invite_silent}
+use Rattle.mmtel_desk.specs.Invites.{invite_silent}
 use Rattle.mmtel_call_laws.specs.Secret.Parts.{public_released}
 use Rattle.mmtel_call_laws.specs.Secret.Premises.{AreAsked, IsAmong}
 use Rattle.mmtel_call_laws.specs.Secret.Roles.{Plain, Role}

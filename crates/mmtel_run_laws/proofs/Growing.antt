@@ -16,7 +16,7 @@ use Rattle.mmtel_focus.specs.declared.referrals.Replaces.{Replaces}
 use Rattle.mmtel_focus.specs.declared.signals.RoomSignal.{RoomSignal}
 use Rattle.mmtel_focus.specs.declared.signals.RoomSignal.TheVariants as of_room
 use Rattle.mmtel_leg.specs.declared.legs.Released.{Released}
-use Rattle.mmtel_call_decisions.specs.Invites.{invite_answered, invite_silent}
+use Rattle.mmtel_desk.specs.Invites.{invite_answered, invite_silent}
 use Rattle.mmtel_transaction.specs.Answers.{Next, fires, hear_says, is_merged, next_due, part_of, says_due}
 use Rattle.mmtel_transaction.specs.Calls.{DidAck, DidAsk, DidBegin, DidFire, DidHear, DidReply, Done, live}
 use Rattle.mmtel_transaction.specs.Heads.{head_of}

@@ -15,6 +15,7 @@ use Rattle.mmtel_desk.specs.Sending.{ack_text, acked, asked_with, bye, cancel_se
 use Rattle.mmtel_desk.specs.declared.desks.Desk.{Desk}
 use Rattle.mmtel_desk.specs.declared.invitations.Invitation.{Invitation}
 use Rattle.mmtel_desk.specs.declared.invitations.Loose.{Loose}
+use Rattle.mmtel_desk.specs.Invites.{invite_answered, invite_silent}
 use Rattle.mmtel_focus.specs.Answers as answers
 use Rattle.mmtel_focus.specs.Histories as histories
 use Rattle.mmtel_focus.specs.Histories.{Adopts, Closes, Deed, Drops, Hears, Joins, Leaves, Notifies, Opens, brought_after, no_tokens, table_after}
@@ -22,6 +23,8 @@ use Rattle.mmtel_focus.specs.Joining as joining
 use Rattle.mmtel_focus.specs.Referrals.{referral_in}
 use Rattle.mmtel_focus.specs.Requests as requests
 use Rattle.mmtel_focus.specs.Rooms.{Room, Step, nothing, with_desk}
+use Rattle.mmtel_focus.specs.SeatSignals as of_seat
+use Rattle.mmtel_focus.specs.SeatSignals.{SeatSignal}
 use Rattle.mmtel_seats.specs.declared.effects.Effects.{Effects}
 use Rattle.mmtel_seats.specs.declared.seats.Invite.{Invite}
 use Rattle.mmtel_seats.specs.declared.seats.Invite.TheVariants.{Agreed, Waiting}
@@ -39,8 +42,6 @@ use Rattle.mmtel_focus.specs.declared.referrals.Referral.{Referral}
 use Rattle.mmtel_focus.specs.declared.referrals.Referral.TheVariants as referral
 use Rattle.mmtel_focus.specs.declared.signals.RoomSignal.{RoomSignal}
 use Rattle.mmtel_focus.specs.declared.signals.RoomSignal.TheVariants as signal
-use Rattle.mmtel_focus.specs.declared.signals.SeatSignal.{SeatSignal}
-use Rattle.mmtel_focus.specs.declared.signals.SeatSignal.TheVariants as of_seat
 use Rattle.mmtel_leg.specs.Releases.{released_leg}
 use Rattle.mmtel_leg.specs.Remotes.{remote_of}
 use Rattle.mmtel_leg.specs.Requests.{Given, numbered, request_of}
@@ -815,8 +816,8 @@ module _ (was : List ℕ → Peer → Type 0) (site : Site) (text : List ℕ) (l
   unfolding tables.taken
   taken_moves now (signal.Request room seat key request) live loose e = heard_in now room.0 seat (of_seat.Request key request) live loose e
   taken_moves now (signal.Ack room seat ack) live loose e = heard_in now room.0 seat (of_seat.Ack ack) live loose e
-  taken_moves now (signal.Answer key response) live loose e = answered_by now key response (tables.invite_answered response) live loose e
-  taken_moves now (signal.Silent branch method) live loose e = silenced_by now (tables.invite_silent branch method) live loose e
+  taken_moves now (signal.Answer key response) live loose e = answered_by now key response (invite_answered response) live loose e
+  taken_moves now (signal.Silent branch method) live loose e = silenced_by now (invite_silent branch method) live loose e
   taken_moves now (signal.Due room seat what) live loose e = heard_in now room.0 seat (of_seat.Due what) live loose e
   taken_moves now (signal.Over key) live loose e = record {
     desk_in = stays e.desk;

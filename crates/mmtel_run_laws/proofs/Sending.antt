@@ -10,7 +10,7 @@ use Rattle.mmtel_b2bua.specs.Names.{party}
 use Rattle.mmtel_b2bua.specs.declared.signals.Signal.{Signal}
 use Rattle.mmtel_b2bua.specs.declared.signals.Signal.TheVariants as signal
 use Rattle.mmtel_b2bua_laws.specs.Clean.{AreCleanRecords, DeedsSendCleanMessages, IsCleanHearing, IsCleanSignal, IsGivenClean, LegsGoOutClean}
-use Rattle.mmtel_call_decisions.specs.Invites.{invite_answered, invite_silent}
+use Rattle.mmtel_desk.specs.Invites.{invite_answered, invite_silent}
 use Rattle.mmtel_call_laws.specs.Heads.Clean.{HasOwnLines, IsClean, IsCleanMessage}
 use Rattle.mmtel_call_laws.specs.Heads.Emits.{Each, IsCleanEmit, IsTextOfClean}
 use Rattle.mmtel_call_laws.specs.Heads.Heard.{IsCleanSheet}

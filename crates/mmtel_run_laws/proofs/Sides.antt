@@ -7,7 +7,7 @@ use Rattle.mmtel_b2bua.specs.Entries.{is_numbered, sent_it}
 use Rattle.mmtel_b2bua.specs.Lending.{entry_at, entry_of}
 use Rattle.mmtel_b2bua.specs.declared.entries.Entry.{Entry}
 use Rattle.mmtel_b2bua_laws.specs.Signals.{CallHears}
-use Rattle.mmtel_call_decisions.specs.Invites.{invite_answered}
+use Rattle.mmtel_desk.specs.Invites.{invite_answered}
 use Rattle.mmtel_call.specs.declared.calls.Call.{Call}
 use Rattle.mmtel_call.specs.declared.calls.Phase.{Phase}
 use Rattle.mmtel_call.specs.declared.calls.Phase.TheVariants.{Lent, Offered, Over, Stood}
@@ -28,7 +28,6 @@ use Rattle.mmtel_seats.specs.declared.seats.Invite.{Invite}
 use Rattle.mmtel_seats.specs.declared.seats.Invite.TheVariants.{Agreed, Waiting}
 use Rattle.mmtel_seats.specs.declared.seats.Seat.{Seat}
 use Rattle.mmtel_focus.specs.Seats.{dialogue_of}
-use Rattle.mmtel_focus.specs.Table as rooms_table
 use Rattle.mmtel_focus.specs.Table.{Table, asks, is_asked, no_rooms, room_at}
 use Rattle.mmtel_focus_laws.specs.Heard.{Answers, IsAnswerBy, IsOfInvite, IsOfSeat, Message}
 use Rattle.mmtel_message.specs.Faults.{is_request}
@@ -173,7 +172,7 @@ module _ (wholes : MessagesAreWhole) (d : Directory) (keys : TKey → Bool) (x :
   newest_room role [] r none e = let n : None ≡ Some r = sym none ∙ e in absurd cc
   newest_room role (deed ∷ deeds) r none e = ap (λ (o : Option Role). option_or o (newest_in_rooms (rooms_site x) role deeds)) e
 
-  module _ (key : ℕ) (p : part_of (head_of (message_in m.heard)) (live u.acts) ≡ part.Answer key) (none : is_of_calls (invite_answered m) entries ≡ false) (branch : List ℕ) (is : rooms_table.invite_answered m ≡ Some branch) where
+  module _ (key : ℕ) (p : part_of (head_of (message_in m.heard)) (live u.acts) ≡ part.Answer key) (none : is_of_calls (invite_answered m) entries ≡ false) (branch : List ℕ) (is : invite_answered m ≡ Some branch) where
     abbrev asked : Option Seat
     asked = seat_asked branch table.live
 
@@ -185,7 +184,7 @@ module _ (wholes : MessagesAreWhole) (d : Directory) (keys : TKey → Bool) (x :
         role_is (part.Answer key) p
         ∙ (ap (λ (o : Option Role). unwrap_or o else_in_answer) (no_call none)
         ∙ ap (λ (o : Option Role). unwrap_or o (newest (site_of x) (role_in_answer m) u.deeds))
-        (newest_room (role_in_seat_answer m) u.rooms r (no_seat m (rooms_table.invite_answered m)) (ap (λ (o : Option (List ℕ)). role_in_seat_answer_by o m table) is ∙ e)))
+        (newest_room (role_in_seat_answer m) u.rooms r (no_seat m (invite_answered m)) (ap (λ (o : Option (List ℕ)). role_in_seat_answer_by o m table) is ∙ e)))
 
     -- the two peers of whom it has to come, where it hides anything
     abbrev by_both : Option Loose → Option Seat → Role
@@ -237,8 +236,8 @@ module _ (wholes : MessagesAreWhole) (d : Directory) (keys : TKey → Bool) (x :
         record { invite = invite_by seat.invite (λ hidden. (its hidden).1) t.invite; leg = answer_of (dialogue_of seat).peer (λ hidden. (its hidden).0) t.leg }
 
   pub seat_hears : (key : ℕ) → part_of (head_of (message_in m.heard)) (live u.acts) ≡ part.Answer key → is_of_calls (invite_answered m) entries ≡ false → Answers S (tkey key) (record { said = m; role = role_of x u m }) table
-  seat_hears key p none = by (rooms_table.invite_answered m) refl
+  seat_hears key p none = by (invite_answered m) refl
     where
-      by : (o : Option (List ℕ)) → rooms_table.invite_answered m ≡ o → IsAnswerBy S (tkey key) (record { said = m; role = role_of x u m }) o table
+      by : (o : Option (List ℕ)) → invite_answered m ≡ o → IsAnswerBy S (tkey key) (record { said = m; role = role_of x u m }) o table
       by None is = tt
       by (Some branch) is = record { loose = of_left key p none branch is; seat = of_asked key p none branch is }

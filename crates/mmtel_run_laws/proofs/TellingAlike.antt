@@ -8,7 +8,7 @@ use Rattle.mmtel_b2bua.specs.declared.signals.Signal.TheVariants as signal
 use Rattle.mmtel_b2bua_laws.specs.Alike.{AlikeTables}
 use Rattle.mmtel_b2bua_laws.specs.AlikeDeeds.{TablesStayAlike}
 use Rattle.mmtel_b2bua_laws.specs.Signals.{public_signal}
-use Rattle.mmtel_call_decisions.specs.Invites.{answers_invite, branch_in, invite_answered}
+use Rattle.mmtel_desk.specs.Invites.{answers_invite, branch_in, invite_answered}
 use Rattle.mmtel_call_laws.specs.Secret.Common.{MessagesAreWhole}
 use Rattle.mmtel_call_laws.specs.Secret.Parts.{nobody}
 use Rattle.mmtel_call_laws.specs.Secret.Premises.{DecideAlike, IsAsked}

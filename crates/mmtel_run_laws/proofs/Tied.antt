@@ -8,7 +8,7 @@ use Rattle.std.proofs.lemmas.Option.{get_or_from_slice_get}
 use Rattle.mmtel_answers.specs.Said.{Said}
 use Rattle.mmtel_b2bua.specs.Lending.{entry_at, place_of}
 use Rattle.mmtel_b2bua.specs.declared.entries.Entry.{Entry}
-use Rattle.mmtel_call_decisions.specs.Invites.{invite_answered}
+use Rattle.mmtel_desk.specs.Invites.{invite_answered}
 use Rattle.mmtel_call_decisions.specs.Requests.{is_same_number, is_same_side, number_of}
 use Rattle.mmtel_call.specs.Answered.{leg_of}
 use Rattle.mmtel_call.specs.Leaving.{is_taken}
@@ -40,7 +40,6 @@ use Rattle.mmtel_scan.proofs.Runs.{and_true}
 use Rattle.mmtel_seats.specs.declared.seats.Invite.{Invite}
 use Rattle.mmtel_seats.specs.declared.seats.Invite.TheVariants.{Agreed, Waiting}
 use Rattle.mmtel_focus.specs.Seats.{dialogue_of}
-use Rattle.mmtel_focus.specs.Table as rooms
 use Rattle.mmtel_focus.specs.Table.{Table, is_asked, is_sent}
 use Rattle.mmtel_transaction.specs.Answers.{part_of, peer_of}
 use Rattle.mmtel_transaction.specs.Belonging.{OwnersAreLive}
@@ -161,16 +160,12 @@ module _ (differ : TokensDiffer) (owners : OwnersAreLive)
 
     -- a response of a seat
     module _ (m : Said) (is : WasRead m) where
-      branch_is : rooms.invite_answered m ≡ invite_answered m
-      unfolding invite_answered rooms.invite_answered
-      branch_is = refl
-
       seat_tied : SeatResponseIsTied d w m
       seat_tied key branch part_is answered =
           let n : Message Start = is.message in
           let of_n : part_of (head_of n) (live w.acts) ≡ part.Answer key = subst (λ (x : Message Start). part_of (head_of x) (live w.acts) ≡ part.Answer key) (same_message m is) part_is in
           let response : is_request n.start ≡ false = answer_response n (live w.acts) key of_n in
-          let says = answers fives vias cseqs m branch is (sym branch_is ∙ answered) response in
+          let says = answers fives vias cseqs m branch is answered response in
           let was = answer_sent d.sip token read.source read.port read.text owners (suc w.drawn) w.acts n branch key (omega (arith, early)) (had.numbered early) of_n (head_request n ∙ response) says.0 says.1 in
           let table : Table = rooms_in d w in
           let tied : (peer : Peer) → Was branch peer → IsOfOne d w (record { 0 = key }) peer = λ peer too. tie key was.0 was.1 branch was.2 peer too in

@@ -5,7 +5,7 @@ use Rattle.mmtel_b2bua.specs.Entries.{sent_it}
 use Rattle.mmtel_b2bua.specs.declared.entries.Entry.{Entry}
 use Rattle.mmtel_b2bua_laws.specs.Alike.{AlikeEntries}
 use Rattle.mmtel_b2bua_laws.specs.AlikeDeeds.{Configured}
-use Rattle.mmtel_call_decisions.specs.Invites.{invite_answered}
+use Rattle.mmtel_desk.specs.Invites.{invite_answered}
 use Rattle.mmtel_call.specs.Leaving.{is_taken}
 use Rattle.mmtel_call.specs.Table.{current, is_current}
 use Rattle.mmtel_call.specs.declared.calls.Call.{Call}
@@ -23,7 +23,6 @@ use Rattle.mmtel_seats.specs.declared.seats.Invite.{Invite}
 use Rattle.mmtel_seats.specs.declared.seats.Invite.TheVariants.{Agreed, Waiting}
 use Rattle.mmtel_seats.specs.declared.seats.Seat.{Seat}
 use Rattle.mmtel_focus.specs.Seats.{dialogue_of}
-use Rattle.mmtel_focus.specs.Table as rooms
 use Rattle.mmtel_focus.specs.Table.{Table, asks, is_asked}
 use Rattle.mmtel_focus_laws.specs.Directories.{RefersAlike}
 use Rattle.mmtel_focus_laws.specs.Histories.{AlikeRooms}
@@ -134,7 +133,7 @@ pub record SeatAnswerIsTied (directory : Directory) (world : World) (key : TKey)
 
 abbrev pub SeatResponseIsTied : Directory → World → Said → Type 0
 SeatResponseIsTied directory world m = (key : ℕ) (branch : List ℕ) → part_of (head_of (message_in m.heard)) (live world.acts) ≡ part.Answer key →
-    rooms.invite_answered m ≡ Some branch → SeatAnswerIsTied directory world (record { 0 = key }) branch (rooms_in directory world)
+    invite_answered m ≡ Some branch → SeatAnswerIsTied directory world (record { 0 = key }) branch (rooms_in directory world)
 
 -- the INVITE whose 2xx waits for this ACK went to a peer who is trusted as that of the other leg is
 abbrev pub AckIsTied : Directory → World → Said → Type 0

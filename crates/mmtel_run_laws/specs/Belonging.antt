@@ -12,7 +12,7 @@ use Rattle.mmtel_b2bua.specs.Tables.{Table, standing}
 use Rattle.mmtel_b2bua.specs.declared.entries.Entry.{Entry}
 use Rattle.mmtel_b2bua.specs.declared.signals.Signal.{Signal}
 use Rattle.mmtel_b2bua.specs.declared.signals.Signal.TheVariants as signal
-use Rattle.mmtel_call_decisions.specs.Invites.{invite_answered}
+use Rattle.mmtel_desk.specs.Invites.{invite_answered}
 use Rattle.mmtel_call_decisions.specs.Opening.{origin_sheet}
 use Rattle.mmtel_call_decisions.specs.Showing.{facing}
 use Rattle.mmtel_call_decisions.specs.Site.{Site}
@@ -213,7 +213,7 @@ role_in_seat_answer_by None m rooms = None
 role_in_seat_answer_by (Some branch) m rooms = seat_answer_role m (loose_at (position (is_of branch) rooms.loose) rooms.loose) (seat_asked branch rooms.live)
 
 abbrev pub role_in_seat_answer : Said → table.Table → Option Role
-role_in_seat_answer m rooms = role_in_seat_answer_by (table.invite_answered m) m rooms
+role_in_seat_answer m rooms = role_in_seat_answer_by (invite_answered m) m rooms
 
 -- in the newest table of rooms that knows whose it is, of all that stood
 abbrev pub newest_in_rooms : focus.Site → (table.Table → Option Role) → List rooms.Deed → Option Role

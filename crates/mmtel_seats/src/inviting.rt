@@ -1,6 +1,6 @@
 //! Somebody is invited into a room (RFC 4579 §5.5).
 ghost use Rattle.std.specs.Prelude.{◌≡◌, ◌+◌, [], IfOk, OnOk, codes};
-ghost use Rattle.mmtel_answers.specs.Attempts.{bracketed, calling};
+ghost use Rattle.mmtel_answers.specs.Attempts.{bracketed};
 ghost use Rattle.mmtel_answers.specs.Requests.{bringing};
 ghost use Rattle.mmtel_desk.specs.Desks.{drew, emitted, token};
 ghost use Rattle.mmtel_leg.specs.Requests.{request_of};
@@ -12,21 +12,21 @@ ghost use Rattle.mmtel_seats.specs.Texts.{described};
 ghost use Rattle.mmtel_transaction.specs.declared.words.Emit.TheVariants.{ArmSeat};
 ghost use Rattle.mmtel_transaction.specs.declared.words.RoomWord.TheVariants.{Cap};
 
-use crate::numbers::{Next, has_no_seat, place_of};
+use crate::numbers::{Next, has_no_seat};
 use crate::seats::{Invite, Party, Seat};
 use crate::settings::Setting;
 use crate::targets::target_of;
 use crate::texts::{described, room_from};
-use mmtel_answers::{Aim, bringing, called};
+use mmtel_answers::{Aim, bracketed, bringing, called, dialogue_to};
 use mmtel_decisions::way_to;
 use mmtel_desk::{Desk, Invitation};
 use mmtel_leg::{CalleeLeg, Dialogue, numbered};
-use mmtel_lex::{NameAddr, Uri, print_name_addr, print_uri};
+use mmtel_lex::{Uri, print_uri};
 use mmtel_message::Msg;
 use mmtel_scan::{List, NoMemory, Text};
 use mmtel_sdp::mixer_offer;
 use mmtel_transaction::{Emit, RoomWord};
-use mmtel_types::{Account, Moment, Peer, RoomNo, Side};
+use mmtel_types::{Account, Moment, Peer, RoomNo};
 use std::alloc::Global;
 
 /// For so long an invitation may ring, in milliseconds.
@@ -38,18 +38,6 @@ pub enum Bid {
     Begun(Seat),
     /// Nobody is, for the reason of this status.
     Refused(u16),
-}
-
-/// A URI alone, in brackets.
-fn bracketed(alloc: Global, uri: Text) -> Result<Text, NoMemory>
-    ensures { IfOk result (λ t. t ≡ bracketed uri) }
-{
-    let alone = NameAddr {
-        display: Text::new(),
-        uri,
-        params: List::new(),
-    };
-    print_name_addr(alloc, &alone)
 }
 
 /// To whom an invitation to this URI goes, by this peer.
@@ -67,46 +55,11 @@ fn aim_at(alloc: Global, peer: Peer, uri: Uri) -> Result<Aim, NoMemory>
     })
 }
 
-/// The URI of the side that has the seat of this number; none where it has left.
-fn uri_at(seats: &[Seat], number: u64) -> &[u8] {
-    match place_of(seats, number) {
-        None => b"",
-        Some(place) => seats[place].dialogue().target.bytes(),
-    }
-}
-
-/// The dialog of these parts, before its INVITE is sent.
-fn begun(aim: Aim, call_id: Text, tag: Text, from: Text) -> Dialogue
-    ensures { result ≡ calling aim call_id tag from }
-{
-    let Aim {
-        peer,
-        uri,
-        to,
-        routes,
-    } = aim;
-    Dialogue {
-        side: Side::Callee,
-        peer,
-        call_id,
-        local: from,
-        remote: to,
-        local_tag: tag,
-        remote_tag: Text::new(),
-        target: uri,
-        routes,
-        own: 0,
-        last: None,
-        invited: None,
-    }
-}
-
-/// The dialog of an invitation to this URI, whose Call-ID and tag are drawn, where this URI is of the seat that asks for it.
+/// The dialog of an invitation to this URI, whose Call-ID and tag are drawn.
 fn begin(
     alloc: Global,
     setting: &Setting<'_>,
     room: RoomNo,
-    asker: &[u8],
     peer: Peer,
     uri: Uri,
     desk: &mut Desk,
@@ -117,8 +70,8 @@ fn begin(
     let aim = aim_at(alloc, peer, uri)?;
     let call_id = desk.draw(alloc)?;
     let tag = desk.draw(alloc)?;
-    let from = room_from(alloc, setting.sip, room, asker, tag.bytes())?;
-    Ok(begun(aim, call_id, tag, from))
+    let from = room_from(alloc, setting.sip, room, tag.bytes())?;
+    Ok(dialogue_to(aim, call_id, tag, from))
 }
 
 /// The INVITE that begins this dialog, with this branch behind the cookie.
@@ -252,8 +205,7 @@ pub fn bring(
             Err(code) => Ok(Bid::Refused(code)),
             Ok(peer) => {
                 let account = setting.accounts.find(&uri);
-                let asker = uri_at(seats, by);
-                let dialogue = begin(alloc, setting, next.room, asker, peer, uri, desk)?;
+                let dialogue = begin(alloc, setting, next.room, peer, uri, desk)?;
                 let seat = invite_in(alloc, setting, now, next, by, account, dialogue, desk)?;
                 Ok(Bid::Begun(seat))
             }

@@ -2,7 +2,6 @@
 ghost use Rattle.std.specs.Prelude.{◌≡◌, IfOk};
 ghost use Rattle.mmtel_seats.specs.Texts.{contact_value, described, fragment, notify_lines, room_from, room_uri, sdp_lines, subscription};
 
-use mmtel_decisions::{Inviter, sender_of};
 use mmtel_message::{Line, add_bytes, add_line, addr_text};
 use mmtel_scan::{List, NoMemory, Text, add_number};
 use mmtel_types::{Addr, RoomNo};
@@ -21,21 +20,14 @@ fn room_uri(alloc: Global, sip: Addr, room: RoomNo) -> Result<Text, NoMemory>
     Ok(out)
 }
 
-/// The room as From of an INVITE, with this tag; the seat that asks for it has this URI.
+/// The room as From of an INVITE, with this tag.
 #[tactic(auto, unfolding(crate::specs::Texts::room_from))]
-pub fn room_from(
-    alloc: Global,
-    sip: Addr,
-    room: RoomNo,
-    seat: &[u8],
-    tag: &[u8],
-) -> Result<Text, NoMemory>
+pub fn room_from(alloc: Global, sip: Addr, room: RoomNo, tag: &[u8]) -> Result<Text, NoMemory>
     ensures { IfOk result (λ t. t ≡ room_from sip room tag.now) }
 {
     let uri = room_uri(alloc, sip, room)?;
-    let room = uri.bytes();
     let mut out = Text::of(alloc, b"<")?;
-    out.push(alloc, sender_of(Inviter { room, seat }))?;
+    out.push(alloc, uri.bytes())?;
     out.push(alloc, b">;tag=")?;
     out.push(alloc, tag)?;
     Ok(out)

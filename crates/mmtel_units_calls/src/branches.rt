@@ -3,7 +3,7 @@
 use crate::asserting::assert_right;
 use crate::messages::success;
 use crate::worlds::word;
-use mmtel_call_decisions::{invite_answered, invite_silent};
+use mmtel_desk::{invite_answered, invite_silent};
 use mmtel_scan::part;
 use mmtel_told::{Told, cut};
 use std::alloc::Global;

@@ -8,7 +8,7 @@ use Rattle.mmtel_answers.specs.Said.{Said, status_of}
 use Rattle.mmtel_answers.specs.declared.attempts.Aim.{Aim}
 use Rattle.mmtel_charging.specs.Meters.{Noted}
 use Rattle.mmtel_call_decisions.specs.Decisions.{aim_at, decided_after, decided_at, handed_on, is_barred, is_status, its_sheet, peer_for, redirect_of, service_at, target_of, time_of}
-use Rattle.mmtel_call_decisions.specs.Invites.{invite_answered, invite_silent}
+use Rattle.mmtel_desk.specs.Invites.{invite_answered, invite_silent}
 use Rattle.mmtel_call_decisions.specs.Opening.{first_of, opening_of, refusal_of}
 use Rattle.mmtel_call_decisions.specs.Requests.{is_same_side}
 use Rattle.mmtel_call_decisions.specs.Showing.{shown_to}

@@ -7,7 +7,7 @@ use Rattle.mmtel_leg.specs.Releases.{released_leg}
 use Rattle.mmtel_precedence.specs.Calls.{Standing}
 use Rattle.mmtel_transaction.specs.declared.words.Emit.{Emit}
 use Rattle.mmtel_transaction.specs.declared.words.TKey.{TKey}
-use Rattle.mmtel_call_decisions.specs.Invites.{invite_answered, invite_silent}
+use Rattle.mmtel_desk.specs.Invites.{invite_answered, invite_silent}
 use Rattle.mmtel_call_decisions.specs.Site.{Site}
 use Rattle.mmtel_call.specs.Lending.{finished, finished_in}
 use Rattle.mmtel_call.specs.Table.{answer_to, silence_of, step}

@@ -38,7 +38,7 @@ use Rattle.mmtel_types.specs.declared.numbers.Peer.{Peer}
 use Rattle.mmtel_types.specs.declared.sides.Side.{Side}
 use Rattle.mmtel_types.specs.declared.sides.Side.TheVariants.{Caller, Callee}
 use Rattle.mmtel_call_decisions.specs.Decisions.{account_by, decided_after, is_barred, its_sheet, of_caller, peer_for, redirect_of, service_of, target_of, told_at}
-use Rattle.mmtel_call_decisions.specs.Invites.{invite_answered, invite_silent}
+use Rattle.mmtel_desk.specs.Invites.{invite_answered, invite_silent}
 use Rattle.mmtel_call_decisions.specs.Opening.{first_of, opening_of, refusal_of}
 use Rattle.mmtel_call_decisions.specs.Showing.{shown_to}
 use Rattle.mmtel_call_decisions.specs.Site.{Site}

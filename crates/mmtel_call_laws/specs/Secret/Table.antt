@@ -8,7 +8,7 @@ use Rattle.mmtel_sheet_values.specs.declared.values.Sheet.{Sheet}
 use Rattle.mmtel_transaction.specs.declared.words.TKey.{TKey}
 use Rattle.mmtel_types.specs.Sides.{other_of}
 use Rattle.mmtel_types.specs.declared.sides.Side.{Side}
-use Rattle.mmtel_call_decisions.specs.Invites.{invite_answered}
+use Rattle.mmtel_desk.specs.Invites.{invite_answered}
 use Rattle.mmtel_call_decisions.specs.Site.{Site, trusts}
 use Rattle.mmtel_call.specs.declared.calls.Call.{Call}
 use Rattle.mmtel_call.specs.declared.calls.Phase.{Phase}

@@ -18,7 +18,7 @@ use super::rows::take_rows_of_calls;
 use crate::laws::numbers_are_drawn_on;
 use mmtel_answers::Hearing;
 use mmtel_b2bua::{CallFault, Signal};
-use mmtel_call_decisions::invite_answered;
+use mmtel_desk::invite_answered;
 use mmtel_focus::RoomSignal;
 use mmtel_intake::{DialogName, Holder, arrived, dialog_name, plainly};
 use mmtel_outside::Offer;

@@ -3,7 +3,7 @@ ghost use Rattle.std.specs.Prelude.{◌≡◌, ◌<◌, ◌≤◌, ℕ, List, If
 ghost use Rattle.mmtel_outside.specs.declared.events.Offer.{Offer};
 ghost use Rattle.mmtel_run.specs.Deadlines as deadlines;
 ghost use Rattle.mmtel_run.specs.Deadlines.{Chosen, first_armed, first_of};
-ghost use Rattle.mmtel_call_decisions.specs.Invites.{invite_silent};
+ghost use Rattle.mmtel_desk.specs.Invites.{invite_silent};
 ghost use Rattle.mmtel_run.specs.Rooms.{is_key_of_calls, is_of_calls};
 ghost use Rattle.mmtel_run.specs.Run.{settled};
 ghost use Rattle.mmtel_run.specs.World.{alarmed, begun, calls_in, ended_of, fired, fired_in, rung, silenced, struck};
@@ -17,7 +17,7 @@ use super::Server;
 use super::deeds::offer_to;
 use crate::laws::numbers_are_drawn_on;
 use mmtel_b2bua::Signal;
-use mmtel_call_decisions::invite_silent;
+use mmtel_desk::invite_silent;
 use mmtel_focus::RoomSignal;
 use mmtel_outside::Offer;
 use mmtel_scan::{List, NoMemory, Text};

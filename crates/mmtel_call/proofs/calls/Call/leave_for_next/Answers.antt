@@ -1,8 +1,9 @@
 -- the call goes on as it stands once its INVITE is loose, with the desk once that was cancelled
-use Rattle.std.proofs.Common.{◌≡◌, ◌∙◌, None, OnOk, ap, option_copied, subst}
+use Rattle.std.proofs.Common.{◌≡◌, ◌∙◌, None, Result, Ok, Err, OnErr, OnOk, ap, option_copied, subst}
 use Rattle.mmtel_desk.specs.Invitations.{once_cancelled}
 use Rattle.mmtel_desk.specs.Sending.{cancelled}
 use Rattle.mmtel_desk.specs.declared.desks.Desk.{Desk}
+use Rattle.mmtel_desk.specs.declared.invitations.Loose.{Loose}
 use Rattle.mmtel_precedence.specs.Told.{told_end}
 use Rattle.mmtel_call_decisions.specs.Decisions.{decided_after}
 use Rattle.mmtel_call_decisions.specs.Site.{Site, standing}
@@ -14,6 +15,16 @@ use Rattle.mmtel_call.proofs.calls.Call.leave_for_next.Goals as goal
 
 both : (f : Call → Desk → Step) (a b : Call) (d e : Desk) → a ≡ b → d ≡ e → f a d ≡ f b e
 both f a b d e p q = ap (λ (x : Call). f x d) p ∙ ap (λ (y : Desk). f b y) q
+
+-- whether the INVITE could be kept or not, the call stands where it stood
+kept : {T E : Type 0} (r : Result T E) (l : Loose) (a b : Call) → OnOk r (a ≡ with_loose l b) → OnErr r (a ≡ b) → a.phase ≡ b.phase
+kept (Ok x) l a b done refused = ap (λ (c : Call). c.phase) done
+kept (Err e) l a b done refused = ap (λ (c : Call). c.phase) refused
+
+pub go_on_from-gone-requires : goal.go_on_from-gone-requires
+go_on_from-gone-requires c =
+    kept c.leave_attempt-left.result (loose (once_cancelled c.args.invitation)) c.leave_attempt-left.new.self c.args.self.now c.leave_attempt-left.ensures.done c.leave_attempt-left.ensures.refused
+    ∙ c.requires
 
 pub returns-clause-call : goal.returns-clause-call
 returns-clause-call c =

@@ -1,6 +1,6 @@
 use Rattle.std.proofs.Common.{[], ◌∷◌, ℕ, sym, subst}
 use Rattle.std.proofs.lemmas.Result.{on_err_weaker, on_ok_weaker}
-use Rattle.mmtel_call_decisions.specs.Invites.{invite_silent}
+use Rattle.mmtel_desk.specs.Invites.{invite_silent}
 use Rattle.mmtel_outside.specs.declared.events.Offer.TheVariants as offer
 use Rattle.mmtel_run.specs.Rooms.{is_key_of_calls, is_of_calls}
 use Rattle.mmtel_run.specs.World.{calls_in, ended_of, rung, silenced}

@@ -1,6 +1,6 @@
 use Rattle.std.proofs.Common.{Bool, List, ℕ, ap, ◌∙◌, sym, subst}
 use Rattle.std.proofs.lemmas.Result.{on_err_weaker, on_ok_weaker}
-use Rattle.mmtel_call_decisions.specs.Invites.{invite_silent}
+use Rattle.mmtel_desk.specs.Invites.{invite_silent}
 use Rattle.mmtel_run.specs.Rooms.{is_of_calls}
 use Rattle.mmtel_run.specs.World.{calls_in, silenced}
 use Rattle.mmtel_server.proofs.Asked.{breaks_so, follows_so, sent_of}

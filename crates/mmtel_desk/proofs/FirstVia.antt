@@ -3,7 +3,7 @@ use Rattle.std.proofs.Common.{◌≡◌, ℕ, Bool, true, false, List, [], ◌�
 use Rattle.mmtel_scan.specs.Chain.{◌>>=◌}
 use Rattle.mmtel_message.specs.Fields.{via_at}
 use Rattle.mmtel_message.specs.Message.{Line, first_value, is_line, line_texts}
-use Rattle.mmtel_call_decisions.specs.Invites.{first_via}
+use Rattle.mmtel_desk.specs.Invites.{first_via}
 
 via_if : (b : Bool) (name : List ℕ) (l : Line) (ls : List Line) → is_line name l ≡ b → first_via (line_texts name ls) ≡ (first_value name ls >>= via_at) → first_via (line_texts name (l ∷ ls)) ≡ (first_value name (l ∷ ls) >>= via_at)
 via_if true name l ls e ih = rw e refl

@@ -1,7 +1,7 @@
-//! Which INVITE of the server a response answers (RFC 3261 §17.1.3).
+//! Which INVITE a response answers.
 ghost use Rattle.std.specs.Prelude.{◌≡◌, IfOk};
 ghost use Rattle.std.specs.Option.{option_copied};
-ghost use Rattle.mmtel_focus.specs.Table.{answers_invite, behind, branch_in, first_via, invite_answered, invite_silent, via_branch};
+ghost use Rattle.mmtel_desk.specs.Invites.{answers_invite, behind, branch_in, first_via, invite_answered, invite_silent};
 
 use mmtel_answers::Hearing;
 use mmtel_lex::LexFault;
@@ -34,23 +34,23 @@ fn first_via(alloc: Global, m: &Hearing) -> Result<Option<Via>, NoMemory>
     }
 }
 
-/// The branch of a Via, behind its cookie.
-fn branch_by(alloc: Global, via: &Via) -> Result<Option<Text>, NoMemory>
-    ensures { IfOk result (λ branch. branch ≡ behind (via_branch via.now)) }
-{
-    match behind_cookie(param_value(via.params.items(), b"branch")) {
-        None => Ok(None),
-        Some(branch) => Ok(Some(Text::of(alloc, branch)?)),
-    }
-}
-
 /// The branch, behind its cookie, of the first Via of a response.
 fn branch_of(alloc: Global, m: &Hearing) -> Result<Option<Text>, NoMemory>
     ensures { IfOk result (λ branch. branch ≡ branch_in m.now.heard.vias) }
 {
     match first_via(alloc, m)? {
         None => Ok(None),
-        Some(via) => branch_by(alloc, &via),
+        Some(via) => match behind_cookie(param_value(via.params.items(), b"branch")) {
+            None => {
+                drop(via);
+                Ok(None)
+            }
+            Some(branch) => {
+                let branch = Text::of(alloc, branch);
+                drop(via);
+                Ok(Some(branch?))
+            }
+        },
     }
 }
 
@@ -61,15 +61,23 @@ fn is_of_invite(alloc: Global, m: &Hearing) -> Result<bool, NoMemory>
     match first_of(m.message.lines(), b"CSeq") {
         None => Ok(false),
         Some(value) => match read_cseq(alloc, value) {
-            Ok(cseq) => Ok(cseq.method.bytes() == b"INVITE".as_slice()),
+            Ok(cseq) => {
+                let yes = cseq.method.bytes() == b"INVITE".as_slice();
+                drop(cseq);
+                Ok(yes)
+            }
             Err(LexFault::Malformed { at: _ }) => Ok(false),
             Err(LexFault::NoMemory) => Err(NoMemory),
         },
     }
 }
 
-/// The branch, behind its cookie, of the INVITE that a response answers; None where it answers another request.
-#[tactic(auto, unfolding(crate::specs::Table::invite_answered))]
+/// The branch, behind its cookie, of the INVITE that a response answers (RFC 3261 §17.1.3); None where it answers another request.
+///
+/// # Errors
+///
+/// Want of memory alone.
+#[tactic(auto, unfolding(crate::specs::Invites::invite_answered))]
 pub fn invite_answered(alloc: Global, m: &Hearing) -> Result<Option<Text>, NoMemory>
     ensures { IfOk result (λ branch. branch ≡ invite_answered m.now) }
 {

@@ -1,0 +1,16 @@
+-- What a seat of a room hears.
+use Rattle.mmtel_answers.specs.Said.{Said}
+use Rattle.mmtel_transaction.specs.declared.words.RoomWord.{RoomWord}
+use Rattle.mmtel_transaction.specs.declared.words.TKey.{TKey}
+
+pub data SeatSignal : Type 0 where
+  -- a request of it, which opened this server transaction
+  Request : (key : TKey) → (request : Said) → SeatSignal
+  -- an ACK of it
+  Ack : (ack : Said) → SeatSignal
+  -- a response to the server's INVITE to it, by its client transaction
+  Answer : (key : TKey) → (response : Said) → SeatSignal
+  -- the server's INVITE to it had no response at all
+  Silent : SeatSignal
+  -- a deadline of it came
+  Due : (what : RoomWord) → SeatSignal

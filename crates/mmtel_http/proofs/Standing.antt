@@ -1,6 +1,6 @@
 -- What follows a whole request changes nothing of it.
 use Rattle.std.proofs.Common.{◌≡◌, ◌≤◌, ◌<◌, ◌-◌, ◌+◌, ◌==◌, ◌∙◌, Bool, true, false, ℕ, zero, suc, List, [], ◌∷◌, ◌++◌, length, take, drop, Option, Some, None, refl, sym, ap, subst, nat_lt, arith, inl, inr, append-nil, codes, map}
-use Rattle.std.proofs.lemmas.Bool.{cases_Bool, lt-ltb, le-ltb}
+use Rattle.std.proofs.lemmas.Bool.{cases_Bool, lt-ltb}
 use Rattle.std.proofs.lemmas.Bool.Decides.{nat_tests}
 use Rattle.std.proofs.lemmas.List.{take-append-drop, take-append-le, take_all, drop-append-le, length-append, length-take}
 use Rattle.std.specs.Prelude.{nat_le}
@@ -8,7 +8,7 @@ use Rattle.std.specs.Option.{option_map, option_map_or}
 use Rattle.httparse.specs.Grammar.{RequestHead}
 use Rattle.httparse.specs.Spans.{name_and_value}
 use Rattle.mmtel_http.specs.Heads.{head_of}
-use Rattle.mmtel_http.specs.Requests.{Asking, Request, unfinished, bad, large, asked, greatest, by_codings, by_end, by_fields, by_head, by_lengths, head_end, head_size, is_number, lines_of, request_of, sole, seen_after, values_named, window, with_body, with_first, with_size}
+use Rattle.mmtel_http.specs.Requests.{Asking, unfinished, bad, greatest, by_codings, by_end, by_head, by_lengths, head_end, head_size, is_number, lines_of, request_of, sole, seen_after, values_named, window, with_body, with_first, with_size}
 use Rattle.mmtel_http.specs.Standing.{UnfinishedIsShort, WholeRequestsStand}
 use Rattle.mmtel_scan.proofs.NumberLaws.{number_takes}
 use Rattle.mmtel_scan.specs.Numbers.{number_of}

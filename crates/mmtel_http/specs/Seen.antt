@@ -1,6 +1,11 @@
 -- What the program holds of a request, as the definitions have it.
-use Rattle.std.specs.Prelude.{◌≡◌, List, ℕ, [], ◌∷◌}
+use Rattle.std.specs.Prelude.{◌≡◌, List, ℕ, [], ◌∷◌, Some}
 use Rattle.std.specs.Option.{option_copied}
+use Rattle.httparse.specs.Grammar.{RequestHead}
+use Rattle.httparse.specs.Spans.{IsRequestAt}
+use Rattle.httparse.specs.declared.spans.HeaderSpan.{HeaderSpan}
+use Rattle.httparse.specs.declared.spans.RequestSpans.{RequestSpans}
+use Rattle.mmtel_http.specs.Heads.{head_of}
 use Rattle.mmtel_http.specs.Requests as spec
 use Rattle.mmtel_http.specs.declared.requests.Asked.{Asked}
 use Rattle.mmtel_http.specs.declared.requests.Request.{Request}
@@ -32,3 +37,7 @@ Reads all rest Many = (v : List ℕ) × (w : List ℕ) × (more : List (List ℕ
 
 abbrev pub IsFound : List (List ℕ) → Found → Type 0
 IsFound all found = Reads all [] found
+
+-- the bytes are a head, and its pieces are there
+abbrev pub IsHeadAt : List ℕ → List HeaderSpan → RequestSpans → Type 0
+IsHeadAt head spans parts = (h : RequestHead) × (head_of head ≡ Some h) × IsRequestAt head spans parts h

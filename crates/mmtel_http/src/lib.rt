@@ -2,7 +2,9 @@
 #![tactic(auto)]
 
 mod ends;
+mod expectations;
 mod fields;
+mod heads;
 pub mod laws;
 mod places;
 mod replies;
@@ -10,6 +12,7 @@ mod requests;
 mod routes;
 mod wholes;
 
+pub use expectations::waits_to_go_on;
 pub use places::{Method, Place, method_of, place_of};
 pub use replies::reply_text;
 pub use requests::{Asked, Request, look, whole};

@@ -1,8 +1,9 @@
 //! Web connections that are read side by side.
-ghost use Rattle.std.specs.Prelude.{◌≤◌, length, IfOk};
+ghost use Rattle.std.specs.Prelude.{◌≡◌, ◌≤◌, length, IfOk};
+ghost use Rattle.mmtel_net.specs.Reading.{WaitsByNeed};
 
-use mmtel_http::{Whole, whole};
-use mmtel_scan::{Class, List, Text, part, trim};
+use mmtel_http::{Whole, waits_to_go_on, whole};
+use mmtel_scan::{List, Text};
 use std::alloc::Global;
 use std::io;
 use std::io::{ErrorKind, Read, Write};
@@ -14,9 +15,6 @@ const DEADLINE: u64 = 500;
 
 /// How long each write of a reply may take, in milliseconds.
 const REPLY: u64 = 50;
-
-/// The lines of a head that are looked at, at most: more than a request may have.
-const LINES: usize = 80;
 
 /// What a client that waits with its body is told (RFC 9110 §15.2.1).
 const GO_ON: &[u8] = b"HTTP/1.1 100 Continue\r\n\r\n";
@@ -62,51 +60,6 @@ fn behind(bytes: &[u8], count: usize) -> &[u8] {
     }
 }
 
-/// Whether a line of a head says that the body comes once the client is told to go on.
-fn is_expecting(line: &[u8]) -> bool {
-    match part(b':', line) {
-        Some((name, value)) => {
-            name.eq_ignore_ascii_case(b"expect")
-                && trim(Class::Blank, value).eq_ignore_ascii_case(b"100-continue")
-        }
-        None => false,
-    }
-}
-
-/// A line without the CR that may end it.
-fn without_cr(line: &[u8]) -> &[u8] {
-    let len = line.len();
-    if len > 0 && line[len - 1] == b'\r' {
-        &line[..len - 1]
-    } else {
-        line
-    }
-}
-
-/// Whether the bytes hold a head whose client waits until it is told to go on: one of HTTP/1.1 alone may (RFC 9110 §10.1.1).
-fn waits_to_go_on(bytes: &[u8]) -> bool {
-    let mut waiting = false;
-    let mut expecting = false;
-    let mut begun = false;
-    let mut rest = bytes;
-    for _ in 0..LINES {
-        let Some((line, after)) = part(b'\n', rest) else {
-            return false;
-        };
-        let line = without_cr(line);
-        if line.is_empty() && begun {
-            return waiting && expecting && after.is_empty();
-        }
-        if !begun {
-            begun = !line.is_empty();
-            waiting = line.ends_with(b" HTTP/1.1");
-        }
-        expecting = expecting || is_expecting(line);
-        rest = after;
-    }
-    false
-}
-
 impl Connection {
     /// A connection of which nothing was read. Its stream never waits.
     pub fn new(stream: TcpStream, came: Instant) -> Connection {
@@ -129,7 +82,9 @@ impl Connection {
     }
 
     /// Tells a client that waits with its body to go on, once. A client that cannot be told may send it all the same.
-    fn tell_to_go_on(&mut self) {
+    fn tell_to_go_on(&mut self)
+        ensures { self.new.bytes ≡ self.old.bytes }
+    {
         if !self.told && waits_to_go_on(self.bytes.bytes()) {
             self.told = true;
             let mut by = &self.stream;
@@ -138,7 +93,9 @@ impl Connection {
     }
 
     /// Keeps bytes that were read.
-    fn keep(&mut self, rt: &HostRuntime, alloc: Global, bytes: &[u8]) -> Step {
+    fn keep(&mut self, rt: &HostRuntime, alloc: Global, bytes: &[u8]) -> Step
+        ensures { WaitsByNeed self.old.bytes self.new.bytes result }
+    {
         if self.bytes.push(alloc, bytes).is_err() {
             return Step::NoMemory;
         }
@@ -152,7 +109,9 @@ impl Connection {
     }
 
     /// Reads what is there.
-    fn step(&mut self, rt: &HostRuntime, alloc: Global, buf: &mut [u8]) -> Step {
+    fn step(&mut self, rt: &HostRuntime, alloc: Global, buf: &mut [u8]) -> Step
+        ensures { WaitsByNeed self.old.bytes self.new.bytes result }
+    {
         let mut by = &self.stream;
         match by.read(buf) {
             Ok(0) => Step::Due,

@@ -123,6 +123,11 @@ two a = 1
 kind,account,call,began,answered,ended,holds,cause,status
 terminating,4294967295,18446744073709551615,0,200,250000000000000,4294967295,ended,0
 diversion,2,1,5,,7,0,too-many-diversions,486
+ok
+two a = 1
+kind,account,call,began,answered,ended,holds,cause,status
+terminating,4294967295,18446744073709551615,0,200,250000000000000,4294967295,ended,0
+diversion,2,1,5,,7,0,too-many-diversions,486
 failed
 failed
 failed
@@ -135,7 +140,15 @@ fn bind_and_tell(told: &mut Told, keeper: &mut SqliteKeeper<'_>, path: &[u8]) {
     tell(told, keeper);
 }
 
-/// A call before any bind; a file, bound again; a path that cannot be opened; and a call after that.
+/// What another keeper tells of the file; and of a path that cannot be opened, by the calls after it.
+fn tell_anew(told: &mut Told, rt: &HostRuntime) {
+    let mut keeper = SqliteKeeper::new(rt);
+    bind_and_tell(told, &mut keeper, b"keeper.db");
+    bind_and_tell(told, &mut keeper, b"no/folder/keeper.db");
+    keeper.close();
+}
+
+/// A call before any bind; a file, bound again; the same in another keeper, once this one is closed; a path that cannot be opened; and calls after that.
 fn wrong_over_a_file(rt: &HostRuntime) -> usize {
     let mut told = Told::new(rt.alloc());
     let mut keeper = SqliteKeeper::new(rt);
@@ -143,8 +156,8 @@ fn wrong_over_a_file(rt: &HostRuntime) -> usize {
     add_done(&mut told, done);
     keep(&mut told, &mut keeper, b"keeper.db");
     bind_and_tell(&mut told, &mut keeper, b"keeper.db");
-    bind_and_tell(&mut told, &mut keeper, b"no/folder/keeper.db");
     keeper.close();
+    tell_anew(&mut told, rt);
     let wrong = told.wrong_line(OVER_A_FILE);
     drop(told);
     wrong

@@ -1,6 +1,6 @@
 use Rattle.std.proofs.Common.{◌≤◌, arith, sym, length, length-take}
 use Rattle.std.proofs.lemmas.List.{length-take-le, take_all}
-use Rattle.mmtel_http.proofs.requests.window.Goals as goal
+use Rattle.mmtel_http.proofs.heads.window.Goals as goal
 
 pub slice_bounds-result-end : goal.slice_bounds-result-end
 slice_bounds-result-end c = let h : 8192 ≤ length c.args.bytes.now = omega arith in sym (length-take-le 8192 c.args.bytes.now h)

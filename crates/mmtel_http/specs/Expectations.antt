@@ -1,0 +1,27 @@
+-- Whether a client waits with its body until it is told to go on (RFC 9110 §10.1.1).
+use Rattle.std.specs.Prelude.{ℕ, ◌==◌, ◌&&◌, Bool, false, List, length, take, map, Some, None, codes}
+use Rattle.std.specs.declared.option.Option.{Option}
+use Rattle.std.specs.List.{list_any}
+use Rattle.std.specs.Str.{str_eq_ignore_ascii_case}
+use Rattle.httparse.specs.Grammar.{RequestHead}
+use Rattle.httparse.specs.Spans.{name_and_value}
+use Rattle.mmtel_http.specs.Heads.{head_of}
+use Rattle.mmtel_http.specs.Requests.{head_end, window}
+
+-- a field that says so, without case
+abbrev pub is_expectation : List ℕ × List ℕ → Bool
+is_expectation field = str_eq_ignore_ascii_case field.0 (codes "expect") && str_eq_ignore_ascii_case field.1 (codes "100-continue")
+
+-- a head of HTTP/1.1 that has such a field
+abbrev pub expects : Option RequestHead → Bool
+expects None = false
+expects (Some h) = h.minor == 1 && list_any is_expectation (map name_and_value h.fields)
+
+-- the head ends with the last of the bytes
+abbrev pub expects_at : List ℕ → Option ℕ → Bool
+expects_at bytes None = false
+expects_at bytes (Some n) = n == length bytes && expects (head_of bytes)
+
+-- the bytes are such a head, and nothing of the body has come
+unfoldable pub waits_to_go_on : List ℕ → Bool
+waits_to_go_on bytes = expects_at bytes (head_end (take window bytes))

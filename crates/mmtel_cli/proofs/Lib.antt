@@ -6,4 +6,5 @@ pub mod Running
 pub mod Saying
 pub mod Scripted
 pub mod ServedRuns
+pub mod WorkRuns
 pub mod Working

@@ -154,18 +154,18 @@ module _ (outcomes : CallsOfRunsComeToOutcome) (charged : SeatsOfRunsAreChargedO
   written_rows store Served is ends = absurd is
   written_rows store (Unsound other) is ends = absurd (let wrong : due.Rows store ≡ due.Unsound other = is in cc)
 
-  written_work : (calls : ℕ) (directory : Directory) (outcome : Report) → IsDue keeper later outcome (due.Work calls directory) → EndsSo outcome
-      → Counted directory calls status before after faults now ⊎ OutOfMemory
-  written_work calls directory Usage is ends = absurd (let wrong : due.Work calls directory ≡ due.Usage = is in cc)
-  written_work calls directory (Line n) is ends = absurd (let wrong : due.Work calls directory ≡ due.Line n = is in cc)
-  written_work calls directory File is ends = absurd (let wrong : due.Work calls directory ≡ due.File = is in cc)
-  written_work calls directory Link is ends = absurd is
-  written_work calls directory Keeper is ends = absurd is
-  written_work calls directory Memory is ends = inr ends
-  written_work calls directory (Listing text) is ends = inl (record { text = text; counts = is; written = ends })
-  written_work calls directory Sound is ends = absurd (let wrong : due.Work calls directory ≡ due.Sound = is in cc)
-  written_work calls directory Served is ends = absurd is
-  written_work calls directory (Unsound other) is ends = absurd (let wrong : due.Work calls directory ≡ due.Unsound other = is in cc)
+  written_work : (calls salt : ℕ) (directory : Directory) (outcome : Report) → IsDue keeper later outcome (due.Work calls salt directory) → EndsSo outcome
+      → Counted directory calls salt status before after faults now ⊎ OutOfMemory
+  written_work calls salt directory Usage is ends = absurd (let wrong : due.Work calls salt directory ≡ due.Usage = is in cc)
+  written_work calls salt directory (Line n) is ends = absurd (let wrong : due.Work calls salt directory ≡ due.Line n = is in cc)
+  written_work calls salt directory File is ends = absurd (let wrong : due.Work calls salt directory ≡ due.File = is in cc)
+  written_work calls salt directory Link is ends = absurd is
+  written_work calls salt directory Keeper is ends = absurd is
+  written_work calls salt directory Memory is ends = inr ends
+  written_work calls salt directory (Listing text) is ends = inl (record { text = text; counts = is; written = ends })
+  written_work calls salt directory Sound is ends = absurd (let wrong : due.Work calls salt directory ≡ due.Sound = is in cc)
+  written_work calls salt directory Served is ends = absurd is
+  written_work calls salt directory (Unsound other) is ends = absurd (let wrong : due.Work calls salt directory ≡ due.Unsound other = is in cc)
 
   -- ---- stage by stage
 
@@ -243,10 +243,10 @@ module _ (outcomes : CallsOfRunsComeToOutcome) (charged : SeatsOfRunsAreChargedO
 
   -- ---- a workload
 
-  ends_of_work : (calls : ℕ) (directory : Result Directory ℕ) (outcome : Report) → IsDue keeper later outcome (due_of_work calls directory) → EndsSo outcome
-      → EndsOfWork calls directory status before after faults now ⊎ OutOfMemory
-  ends_of_work calls (Ok directory) outcome due ends = written_work calls directory outcome due ends
-  ends_of_work calls (Err line) outcome due ends = written_line outcome line due ends
+  ends_of_work : (calls salt : ℕ) (directory : Result Directory ℕ) (outcome : Report) → IsDue keeper later outcome (due_of_work calls salt directory) → EndsSo outcome
+      → EndsOfWork calls salt directory status before after faults now ⊎ OutOfMemory
+  ends_of_work calls salt (Ok directory) outcome due ends = written_work calls salt directory outcome due ends
+  ends_of_work calls salt (Err line) outcome due ends = written_line outcome line due ends
 
   -- ---- serving
 
@@ -317,7 +317,7 @@ module _ (outcomes : CallsOfRunsComeToOutcome) (charged : SeatsOfRunsAreChargedO
   ran_command told words (Some (Check records)) outcome asks gives ends = RanCheck (checked told words records outcome asks gives ends)
   ran_command told words (Some (Charges config)) outcome asks gives ends = RanCharges (charged_by told words config outcome asks gives ends)
   ran_command told words (Some (Workload calls salt)) outcome asks gives ends =
-      RanWork (record { calls = calls; salt = salt; spelled = asks; ends = ends_of_work calls (directory_of work_config) outcome gives ends })
+      RanWork (record { calls = calls; salt = salt; spelled = asks; ends = ends_of_work calls salt (directory_of work_config) outcome gives ends })
 
   pub ran : {L K : Type 0} (told called_then : Option Shelf) (near away : L) (kept held : K) (words : List (List ℕ)) (outcome : Report)
       → Prepares words told called_then link far keeper later near away kept held outcome → EndsSo outcome → Ran told link far keeper later words status before after faults now

@@ -540,12 +540,12 @@ module _ (words : List (List ℕ)) (calls salt : ℕ) (spelled : IsWorkload call
   abbrev EndsWork : Type 0
   EndsWork = Ending (WorksOne words 0 before after faults now) ⊥ ⊥ ⊥ status faults now
 
-  ending_counted : (directory : Directory) → Counted directory calls status before after faults now → EndsWork
+  ending_counted : (directory : Directory) → Counted directory calls salt status before after faults now → EndsWork
   ending_counted directory l =
       ending_written (WorksOne words 0 before after faults now) ⊥ ⊥ ⊥ status faults now l.text before after
       (λ w. record { calls = calls; salt = salt; spelled = spelled; directory = directory; counted = record { text = l.text; counts = l.counts; written = w } }) l.written
 
-  ending_work : (directory : Result Directory ℕ) → EndsOfWork calls directory status before after faults now ⊎ WroteMemory status before after faults now → EndsWork
+  ending_work : (directory : Result Directory ℕ) → EndsOfWork calls salt directory status before after faults now ⊎ WroteMemory status before after faults now → EndsWork
   ending_work (Ok directory) (inl e) = ending_counted directory e
   ending_work (Err line) (inl e) = ending_line (WorksOne words 0 before after faults now) ⊥ ⊥ ⊥ status faults now e.0
   ending_work directory (inr memory) = ending_memory (WorksOne words 0 before after faults now) ⊥ ⊥ ⊥ status faults now memory.0

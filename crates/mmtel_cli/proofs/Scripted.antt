@@ -33,6 +33,7 @@ use Rattle.mmtel_serving.specs.Calls.{Answers, Call, Counted, MayBeCalled, WasCa
 use Rattle.mmtel_types.specs.declared.numbers.Account.{Account}
 use Rattle.mmtel_web.specs.Answers.{Kept, failed, made, no_memory}
 use Rattle.mmtel_cli.specs.Keeping.{IsBoundStill, seen}
+use Rattle.mmtel_cli.specs.KnownEvents.{IsUnheard, OffersAllOf}
 use Rattle.mmtel_cli.specs.Listings.{OffersRun}
 
 -- ---- events of which only so much was read
@@ -345,3 +346,14 @@ module _ (unfailed : UnfailedAreReadOut) (all : ReadOutSaysAll) (keeps : OffersK
             (driven.made.charged d token loaded [] fuel serves (few short) (enough_same d token loaded driven.happened w.whole (sym w.read) fuel enough)) in
             record { rows = charged; taken = none_waits d token loaded fuel w.whole faults count count_whole charged };
       }
+
+  -- the same of a link of which it is known that it has two counts of 0 and so many events
+  pub offers_all_of : (ear later : Option Ear) (giving gave : ℕ) (held left : Option Held) (calls since : Option KeeperCalls) (faults count turns events : ℕ)
+      (old : Server) (out : List Offer) (new : Server) (now : List Offer) (closed : Bool)
+      → Driven ear later giving gave held left calls since faults count turns old out new now (Ok closed)
+      → giving ≡ 0 → gave ≡ 0 → IsUnheard events ear → events ≤ turns → Went d token loaded [] [] old out
+      → OffersAllOf ear d token loaded (seen held calls faults) (seen left since count) now
+  offers_all_of None later giving gave held left calls since faults count turns events old out new now closed driven stood stands fresh enough went = absurd fresh
+  offers_all_of (Some ear) later giving gave held left calls since faults count turns events old out new now closed driven stood stands fresh enough went =
+      let few = fresh.1 in
+      offers_run ear later held left calls since faults count turns old out new now closed (rw (stood, stands) at driven) fresh.0 (omega (arith, few, enough)) went

@@ -25,8 +25,8 @@ pub data Due : Type 0 where
   Run : (directory : Directory) → (token : List ℕ) → (events : List Event) → Due
   -- the rows that the keeper of this store holds
   Rows : (store : List ℕ) → Due
-  -- what a server of this configuration makes of so many calls
-  Work : (calls : ℕ) → (directory : Directory) → Due
+  -- what a server of this configuration makes of so many calls by the salt
+  Work : (calls salt : ℕ) → (directory : Directory) → Due
   -- the file is a service record
   Sound : Due
   -- the file is none, and this line tells its first fault
@@ -73,9 +73,9 @@ due_of_charges None = File
 due_of_charges (Some config) = due_of_store (directory_of config)
 
 -- what is due of `workload`, by its configuration
-abbrev pub due_of_work : (calls : ℕ) → Result Directory ℕ → Due
-due_of_work calls (Ok directory) = Work calls directory
-due_of_work calls (Err line) = Line line
+abbrev pub due_of_work : (calls salt : ℕ) → Result Directory ℕ → Due
+due_of_work calls salt (Ok directory) = Work calls salt directory
+due_of_work calls salt (Err line) = Line line
 
 -- the files after the calls that are due: of `replay` the first call is for CONFIG, and the second for SCRIPT, where CONFIG is there and good; of `serve`, `check` and `charges`
 -- there is one call, and of `workload` and without a command none

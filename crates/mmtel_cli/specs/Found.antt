@@ -24,7 +24,7 @@ IsListing keeper later text (due.Line number) = ⊥
 IsListing keeper later text due.File = ⊥
 IsListing keeper later text (due.Run directory token events) = Lists directory token events keeper later text
 IsListing keeper later text (due.Rows store) = ListsRows store keeper later text
-IsListing keeper later text (due.Work calls directory) = Counts directory calls text
+IsListing keeper later text (due.Work calls salt directory) = Counts directory calls salt text
 IsListing keeper later text due.Sound = ⊥
 IsListing keeper later text (due.Unsound line) = ⊥
 
@@ -35,7 +35,7 @@ IsUnkept keeper later (due.Line number) = ⊥
 IsUnkept keeper later due.File = ⊥
 IsUnkept keeper later (due.Run directory token events) = IsNotLoaded directory.store keeper later
 IsUnkept keeper later (due.Rows store) = IsNotLoaded store keeper later
-IsUnkept keeper later (due.Work calls directory) = ⊥
+IsUnkept keeper later (due.Work calls salt directory) = ⊥
 IsUnkept keeper later due.Sound = ⊥
 IsUnkept keeper later (due.Unsound line) = ⊥
 

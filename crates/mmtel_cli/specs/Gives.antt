@@ -64,7 +64,7 @@ GivesCommand told link far keeper later (Serve config token turns) outcome = Giv
 GivesCommand told link far keeper later (Replay asked) outcome = GivesBoth told keeper later asked outcome
 GivesCommand told link far keeper later (Check records) outcome = GivesRecords told records outcome
 GivesCommand told link far keeper later (Charges config) outcome = GivesCharges told keeper later config outcome
-GivesCommand told link far keeper later (Workload calls salt) outcome = IsDue keeper later outcome (due_of_work calls (directory_of work_config))
+GivesCommand told link far keeper later (Workload calls salt) outcome = IsDue keeper later outcome (due_of_work calls salt (directory_of work_config))
 
 abbrev pub GivesRun : Option Shelf → (link far : LinkSeen) → (keeper later : KeeperSeen) → Option Command → Report → Type 0
 GivesRun told link far keeper later None outcome = outcome ≡ Usage

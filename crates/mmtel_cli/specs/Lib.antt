@@ -11,5 +11,6 @@ pub mod Sayings
 -- The reports that are due, and how each is written (of calls below the top call):
 pub mod Due
 -- What private functions alone cite.
+pub mod KnownEvents
 pub mod Found
 pub mod Gives

@@ -148,15 +148,15 @@ EndsOfCharges (Some config) keeper later status before after faults now = EndsOf
 
 -- ---- how a workload ends
 
--- the text counts what a server of its configuration makes of so many calls, and was written: whole with status 0, and else a front of it with status 7
-pub record Counted (directory : Directory) (calls : ℕ) (status : ℕ) (before after : Option (List ℕ)) (faults now : ℕ) : Type 0 where
+-- the text counts what a server of its configuration makes of so many calls by the salt, and was written: whole with status 0, and else a front of it with status 7
+pub record Counted (directory : Directory) (calls salt : ℕ) (status : ℕ) (before after : Option (List ℕ)) (faults now : ℕ) : Type 0 where
   pub text : List ℕ
-  pub counts : Counts directory calls text
+  pub counts : Counts directory calls salt text
   pub written : WroteListing text status before after faults now
 
-abbrev pub EndsOfWork : (calls : ℕ) → Result Directory ℕ → ℕ → Option (List ℕ) → Option (List ℕ) → ℕ → ℕ → Type 0
-EndsOfWork calls (Ok directory) status before after faults now = Counted directory calls status before after faults now
-EndsOfWork calls (Err line) status before after faults now = WroteLine line status before after faults now
+abbrev pub EndsOfWork : (calls salt : ℕ) → Result Directory ℕ → ℕ → Option (List ℕ) → Option (List ℕ) → ℕ → ℕ → Type 0
+EndsOfWork calls salt (Ok directory) status before after faults now = Counted directory calls salt status before after faults now
+EndsOfWork calls salt (Err line) status before after faults now = WroteLine line status before after faults now
 
 -- ---- how serving ends
 
@@ -228,7 +228,7 @@ pub record Worked (words : List (List ℕ)) (status : ℕ) (before after : Optio
   pub calls : ℕ
   pub salt : ℕ
   pub spelled : IsOnly (Workload calls salt) words
-  pub ends : EndsOfWork calls (directory_of work_config) status before after faults now ⊎ WroteMemory status before after faults now
+  pub ends : EndsOfWork calls salt (directory_of work_config) status before after faults now ⊎ WroteMemory status before after faults now
 
 -- the words spell a `serve`, and it ended as the files' answer for CONFIG, which is that of the first call where the files tell, and the keeper's and the link's say; or memory
 -- ran out

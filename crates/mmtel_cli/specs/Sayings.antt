@@ -165,7 +165,7 @@ pub record WorksOne (words : List (List ℕ)) (status : ℕ) (before after : Opt
   pub salt : ℕ
   pub spelled : IsWorkload calls salt words
   pub directory : Directory
-  pub counted : Counted directory calls status before after faults now
+  pub counted : Counted directory calls salt status before after faults now
 
 -- a link that was served, whatever the files tell
 pub record ServesOne (link far : LinkSeen) (keeper later : KeeperSeen) (words : List (List ℕ)) (status : ℕ) (before after : Option (List ℕ)) (faults now : ℕ) : Type 0 where

@@ -1,5 +1,6 @@
--- What a workload comes to: a server hears the calls that a link makes by a rule, over a keeper in memory, and what it offered and what was charged is counted.
-use Rattle.std.specs.Prelude.{◌≡◌, ℕ, ◌+◌, List, [], ◌∷◌, ◌++◌, length, Some, codes, decimal}
+-- What a workload comes to: a server hears the calls of a rule, which are known by their number and a salt, over a keeper in memory, and what it offered and what was charged is
+-- counted.
+use Rattle.std.specs.Prelude.{◌≡◌, ℕ, ◌+◌, true, List, [], ◌∷◌, ◌++◌, length, map, Some, None, codes, decimal}
 use Rattle.mmtel_charging.specs.declared.rows.Kind.{Kind}
 use Rattle.mmtel_charging.specs.declared.rows.Kind.TheVariants.{Origin, Terminating, Diversion, Participant}
 use Rattle.mmtel_charging.specs.declared.rows.Row.{Row}
@@ -8,7 +9,13 @@ use Rattle.mmtel_in_force.specs.Texts.{Texts}
 use Rattle.mmtel_keeper.specs.Kept.{Held}
 use Rattle.mmtel_outside.specs.declared.events.Event.{Event}
 use Rattle.mmtel_outside.specs.declared.events.Offer.{Offer}
-use Rattle.mmtel_cli.specs.Keeping.{KeeperSeen}
+use Rattle.mmtel_run.specs.Events.{Happened}
+use Rattle.mmtel_run.specs.Headline.{Gives}
+use Rattle.mmtel_run.specs.Run.{IsEnough, world_after}
+use Rattle.mmtel_run.specs.Short.{IsShortRun}
+use Rattle.mmtel_web.specs.Answers.{made}
+use Rattle.mmtel_workload.specs.Events.{work_events}
+use Rattle.mmtel_cli.specs.Keeping.{KeeperSeen, seen}
 use Rattle.mmtel_cli.specs.Listings.{OffersRun}
 
 -- its configuration
@@ -51,14 +58,30 @@ abbrev pub work_text : (calls offers rows diverted : ℕ) → List ℕ
 work_text calls offers rows diverted =
     with_line (with_line (with_line (with_line [] (codes "calls ") calls) (codes "offers ") offers) (codes "rows ") rows) (codes "diverted ") diverted
 
--- the text counts what a server offered in the run of events, and what the keeper holds then of the rows of its calls
-pub record Counts (directory : Directory) (calls : ℕ) (text : List ℕ) : Type 0 where
-  pub events : List Event
-  pub opening : KeeperSeen
-  pub later : KeeperSeen
+-- its keeper: it holds this, and none of its calls failed
+abbrev pub keeper_of : Held → KeeperSeen
+keeper_of held = seen (Some held) None 0
+
+-- an event happened in which nothing was asked of the keeper, and it took the charging rows that waited at its end
+abbrev pub taken : Event → Happened
+taken event = record { event = event; kept = made; rows = []; took = true }
+
+-- what happens in the run of so many calls by the salt
+abbrev pub work_happened : (calls salt : ℕ) → List Happened
+work_happened calls salt = map taken (work_events calls salt)
+
+-- the text counts what a server offered in that run, and what the keeper holds then of the rows of its calls. Where the run is short this is what the definitions of the run
+-- give, so the numbers are known from the configuration, the number of calls and the salt
+pub record Counts (directory : Directory) (calls salt : ℕ) (text : List ℕ) : Type 0 where
   pub held : Held
-  pub opened : opening.held ≡ Some nothing_held
-  pub left : later.held ≡ Some held
   pub offers : List Offer
-  pub run : OffersRun directory work_token work_loaded events opening later offers
+  -- the offers are exactly those of the run,
+  pub exact : IsShortRun directory work_token work_loaded (work_happened calls salt) → Gives directory work_token work_loaded (work_happened calls salt) offers
+  -- the rows are exactly those that it files,
+  pub rows : IsShortRun directory work_token work_loaded (work_happened calls salt) → (fuel : ℕ) →
+      IsEnough directory work_token work_loaded fuel (work_happened calls salt) →
+      held.rows ≡ (world_after directory work_token work_loaded fuel (work_happened calls salt)).filed
+  -- what is so of each run is so of this one: the secret of restricted callers, the keeper and the charging rows,
+  pub run : OffersRun directory work_token work_loaded (work_events calls salt) (keeper_of nothing_held) (keeper_of held) offers
+  -- and they are counted
   pub counted : text ≡ work_text calls (length offers) (length held.rows) (diversions_in held.rows)

@@ -1,7 +1,8 @@
-//! A run over a script and a keeper, to its end.
+//! A run over a keeper and the events of a link, or of a script, to its end.
 ghost use Rattle.std.specs.Prelude.{◌≡◌, ◌≤◌, ℕ, List, [], IfOk, IsErrOf, OnOk};
 ghost use Rattle.mmtel_cli.specs.Keeping.{IsLoaded, IsNotLoaded, seen};
-ghost use Rattle.mmtel_cli.specs.Listings.{Lists, ListsOver, OffersRun};
+ghost use Rattle.mmtel_cli.specs.KnownEvents.{IsUnheard, NeverFails, OffersAllOf};
+ghost use Rattle.mmtel_cli.specs.Listings.{Lists, ListsOver};
 ghost use Rattle.mmtel_directory.specs.declared.directories.Directory.{Directory};
 ghost use Rattle.mmtel_in_force.specs.Texts.{Texts};
 ghost use Rattle.mmtel_keeper.specs.declared.keepers.KeepFault.TheVariants as fault;
@@ -10,6 +11,7 @@ ghost use Rattle.mmtel_server.specs.Stands.{Went};
 
 use mmtel_directory::Directory;
 use mmtel_keeper::{KeepFault, Keeper};
+use mmtel_link::Link;
 use mmtel_outside::Offer;
 use mmtel_run_laws::runs_keep_the_secret;
 use mmtel_scan::{List, NoMemory, Text};
@@ -33,41 +35,45 @@ pub fn open<K: Keeper>(
     keeper.load(alloc)
 }
 
-/// Drives the server over the script, with a turn for each of its events and one for its end.
-fn drive_over<K: Keeper>(
+/// Drives the server over a link of so many events, none of whose calls fails, with a turn for each of them and one for the end.
+fn drive_over<L: Link, K: Keeper>(
     alloc: Global,
     server: &mut Server,
-    script: &mut ScriptLink,
+    link: &mut L,
+    events: u64,
     keeper: &mut K,
     out: &mut List<Offer>,
 ) -> Result<(), NoMemory>
-    requires unheard { script.old ≡ unheard script.old.events }
+    requires unfailing { NeverFails L.taking L.giving }
+    requires unheard { IsUnheard events (L.ear link.old) }
     ensures run { OnOk result ((directory : Directory) (token : List ℕ) (loaded : Texts) → Went directory token loaded [] [] server.old out.old →
-        OffersRun directory token loaded script.old.events (seen (K.held keeper.old) (K.calls keeper.old) (K.faults keeper.old))
+        OffersAllOf (L.ear link.old) directory token loaded (seen (K.held keeper.old) (K.calls keeper.old) (K.faults keeper.old))
         (seen (K.held keeper.new) (K.calls keeper.new) (K.faults keeper.new)) out.new) }
 {
     connections_are_read_out();
     runs_keep_the_secret();
-    let turns = script.len().saturating_add(1);
-    match drive(alloc, server, script, keeper, turns, out) {
+    let turns = events.saturating_add(1);
+    match drive(alloc, server, link, keeper, turns, out) {
         Ok(_) => Ok(()),
         Err(DriveFault::NoMemory) => Err(NoMemory),
         Err(DriveFault::LinkFault) => unreachable!(),
     }
 }
 
-/// What a server of this configuration offers over these texts in the run of a script's events.
-fn offered<K: Keeper>(
+/// What a server of this configuration offers over these texts in the run of the events of a link, of which there are so many. No call of the link fails.
+pub fn offered<L: Link, K: Keeper>(
     alloc: Global,
     directory: Directory,
     token: &[u8],
     loaded: &[(Account, Text)],
-    script: &mut ScriptLink,
+    link: &mut L,
+    events: u64,
     keeper: &mut K,
 ) -> Result<List<Offer>, NoMemory>
     requires bounded { directory.bound ≤ 16 }
-    requires unheard { script.old ≡ unheard script.old.events }
-    ensures run { IfOk result (OffersRun directory token.now loaded.now script.old.events (seen (K.held keeper.old) (K.calls keeper.old) (K.faults keeper.old))
+    requires unfailing { NeverFails L.taking L.giving }
+    requires unheard { IsUnheard events (L.ear link.old) }
+    ensures run { IfOk result (OffersAllOf (L.ear link.old) directory token.now loaded.now (seen (K.held keeper.old) (K.calls keeper.old) (K.faults keeper.old))
         (seen (K.held keeper.new) (K.calls keeper.new) (K.faults keeper.new))) }
 {
     let token = match Text::of(alloc, token) {
@@ -79,7 +85,7 @@ fn offered<K: Keeper>(
     };
     let mut server = Server::new(alloc, directory, token, loaded)?;
     let mut out = List::new();
-    let driven = drive_over(alloc, &mut server, script, keeper, &mut out);
+    let driven = drive_over(alloc, &mut server, link, events, keeper, &mut out);
     server.give_up();
     driven?;
     Ok(out)
@@ -99,7 +105,8 @@ fn listed_over<K: Keeper>(
     ensures lists { IfOk result (ListsOver directory token.now loaded.now script.old.events (seen (K.held keeper.old) (K.calls keeper.old) (K.faults keeper.old))
         (seen (K.held keeper.new) (K.calls keeper.new) (K.faults keeper.new))) }
 {
-    let offers = offered(alloc, directory, token, loaded, script, keeper)?;
+    let events = script.len();
+    let offers = offered(alloc, directory, token, loaded, script, events, keeper)?;
     listing(alloc, &offers)
 }
 

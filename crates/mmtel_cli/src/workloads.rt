@@ -1,24 +1,20 @@
 //! A workload: what a server makes of the calls of a rule, counted.
-ghost use Rattle.std.specs.Prelude.{◌≡◌, ◌≤◌, ℕ, List, [], IfOk, None, OnOk, Some, length};
+ghost use Rattle.std.specs.Prelude.{◌≡◌, ◌≤◌, IfOk, None, OnOk, Some, length};
 ghost use Rattle.mmtel_cli.specs.Due.{due_of_work};
 ghost use Rattle.mmtel_cli.specs.Found.{IsDue, IsRead};
 ghost use Rattle.mmtel_cli.specs.Keeping.{KeeperSeen, seen};
 ghost use Rattle.mmtel_cli.specs.Listings.{OffersRun};
 ghost use Rattle.mmtel_cli.specs.Workloads.{Counts, diversions_in, with_line, work_config, work_loaded, work_text, work_token};
 ghost use Rattle.mmtel_directory.specs.Directory.{directory_of};
-ghost use Rattle.mmtel_directory.specs.declared.directories.Directory.{Directory};
-ghost use Rattle.mmtel_in_force.specs.Texts.{Texts};
 ghost use Rattle.mmtel_script.specs.Script.{unheard};
-ghost use Rattle.mmtel_server.specs.Stands.{Went};
 
+use crate::runs::offered;
 use mmtel_charging::{Kind, Row};
 use mmtel_directory::{Directory, DirectoryFault, read_directory};
 use mmtel_keeper::{KeepFault, Keeper};
 use mmtel_outside::Offer;
 use mmtel_reports::Report;
-use mmtel_run_laws::runs_keep_the_secret;
 use mmtel_scan::{List, NoMemory, Text, add_number};
-use mmtel_server::{DriveFault, Server, connections_are_read_out, drive};
 use mmtel_types::Account;
 use mmtel_workload::{WorkKeeper, WorkLink};
 use std::alloc::Global;
@@ -39,34 +35,15 @@ mixer 127.0.0.1 40000
 factory sip:conf@home.example
 ";
 
+/// Its token.
+const TOKEN: &[u8] = b"0123456789abcdef";
+
 /// Carol's record: she diverts each call.
 const CAROL: &[u8] =
     b"[communication-diversion]\nactive = true\n\n[[communication-diversion.rule]]\ntarget = \"sip:vm@far.example\"\n";
 
-/// Drives the server over the calls, with a turn for each event and one for the end.
-fn drive_work(
-    alloc: Global,
-    server: &mut Server,
-    work: &mut WorkLink,
-    keeper: &mut WorkKeeper,
-    out: &mut List<Offer>,
-) -> Result<(), NoMemory>
-    requires unheard { work.old ≡ unheard work.old.events }
-    ensures run { OnOk result ((directory : Directory) (token : List ℕ) (loaded : Texts) → Went directory token loaded [] [] server.old out.old →
-        OffersRun directory token loaded work.old.events (seen (Some keeper.old) None 0) (seen (Some keeper.new) None 0) out.new) }
-{
-    connections_are_read_out();
-    runs_keep_the_secret();
-    let turns = work.len().saturating_add(1);
-    match drive(alloc, server, work, keeper, turns, out) {
-        Ok(_) => Ok(()),
-        Err(DriveFault::NoMemory) => Err(NoMemory),
-        Err(DriveFault::LinkFault) => unreachable!(),
-    }
-}
-
 /// What a server of this configuration, which has carol's record in force, offers in the run of the calls.
-fn offered(
+fn offered_for_calls(
     alloc: Global,
     directory: Directory,
     work: &mut WorkLink,
@@ -76,28 +53,16 @@ fn offered(
     requires unheard { work.old ≡ unheard work.old.events }
     ensures run { IfOk result (OffersRun directory work_token work_loaded work.old.events (seen (Some keeper.old) None 0) (seen (Some keeper.new) None 0)) }
 {
-    let token = match Text::of(alloc, b"0123456789abcdef") {
-        Ok(token) => token,
-        Err(error) => {
-            drop(directory);
-            return Err(error);
-        }
-    };
     let carol = match Text::of(alloc, CAROL) {
         Ok(carol) => carol,
         Err(error) => {
-            drop(token);
             drop(directory);
             return Err(error);
         }
     };
     let loaded = [(Account(3), carol)];
-    let mut server = Server::new(alloc, directory, token, &loaded)?;
-    let mut out = List::new();
-    let driven = drive_work(alloc, &mut server, work, keeper, &mut out);
-    server.give_up();
-    driven?;
-    Ok(out)
+    let events = work.len();
+    offered(alloc, directory, TOKEN, &loaded, work, events, keeper)
 }
 
 /// How many rows are of a diversion.
@@ -150,7 +115,7 @@ fn rows_of(alloc: Global, keeper: &mut WorkKeeper) -> Result<List<Row>, NoMemory
 /// Makes so many calls by this salt, and tells what they came to.
 fn worked(alloc: Global, directory: Directory, calls: u32, salt: u32) -> Result<Text, NoMemory>
     requires bounded { directory.bound ≤ 16 }
-    ensures counts { IfOk result (λ text. Counts directory calls text) }
+    ensures counts { IfOk result (λ text. Counts directory calls salt text) }
 {
     let mut work = match WorkLink::new(alloc, calls, salt) {
         Ok(work) => work,
@@ -160,7 +125,7 @@ fn worked(alloc: Global, directory: Directory, calls: u32, salt: u32) -> Result<
         }
     };
     let mut keeper = WorkKeeper::new();
-    let offers = offered(alloc, directory, &mut work, &mut keeper)?;
+    let offers = offered_for_calls(alloc, directory, &mut work, &mut keeper)?;
     let rows = rows_of(alloc, &mut keeper)?;
     told(
         alloc,
@@ -172,7 +137,7 @@ fn worked(alloc: Global, directory: Directory, calls: u32, salt: u32) -> Result<
 
 /// What is due of `workload`.
 pub fn over_workload(alloc: Global, calls: u32, salt: u32) -> Report
-    ensures due { (keeper later : KeeperSeen) → IsDue keeper later result (due_of_work calls (directory_of work_config)) }
+    ensures due { (keeper later : KeeperSeen) → IsDue keeper later result (due_of_work calls salt (directory_of work_config)) }
     ensures read { IsRead result }
 {
     match read_directory(alloc, CONFIG) {

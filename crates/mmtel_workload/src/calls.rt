@@ -1,4 +1,7 @@
 //! The messages of a call, as the parties send them.
+ghost use Rattle.std.specs.Prelude.{◌≡◌, ◌<◌, ◌^◌, ◌++◌, decimal, IfOk, OnOk};
+ghost use Rattle.mmtel_workload.specs.Messages.{asked_lines, call_lines, callee, drawn_text, from_lines, heard_text, reached, reached_lines};
+ghost use Rattle.mmtel_workload.specs.Messages.{request_text, request_uri, response_text, to_line};
 
 use crate::kinds::{Act, Kind};
 use mmtel_scan::{NoMemory, Text, add_number};
@@ -8,7 +11,7 @@ use std::alloc::Global;
 #[derive(Clone, Copy)]
 pub struct Call {
     /// Its number, from 1.
-    pub number: u64,
+    pub number: u32,
     /// What becomes of it.
     pub kind: Kind,
     /// How many numbers for identifiers the server drew before it.
@@ -17,7 +20,7 @@ pub struct Call {
 
 /// Where a request goes: in the call's dialog (RFC 3261 §12) or outside it, and there with or without the tag of the other side.
 #[derive(Clone, Copy, Debug, PartialEq, Eq)]
-enum Way {
+pub enum Way {
     /// To the callee, outside a dialog.
     Opening,
     /// To the callee, with the tag of the answer.
@@ -26,45 +29,42 @@ enum Way {
     Dialog,
 }
 
-/// What makes a request.
-#[derive(Clone, Copy)]
-struct Asks<'a> {
-    method: &'a [u8],
-    /// The front of the number in its branch.
-    branch: &'a [u8],
-    sequence: u64,
-    way: Way,
-}
-
-/// What makes a response.
-#[derive(Clone, Copy)]
-struct Says<'a> {
-    status: &'a [u8],
-    /// Which identifier of the call is the branch of the request.
-    branch: u64,
-    sequence: &'a [u8],
-}
-
 /// Adds a text and a number behind it.
-fn add_numbered(alloc: Global, text: &mut Text, front: &[u8], number: u64) -> Result<(), NoMemory> {
+fn add_numbered(alloc: Global, text: &mut Text, front: &[u8], number: u64) -> Result<(), NoMemory>
+    ensures added { OnOk result (text.new ≡ text.old ++ front.now ++ decimal number) }
+{
     text.push(alloc, front)?;
     add_number(alloc, text, number)
 }
 
 impl Call {
     /// Whom alice calls.
-    fn callee(self) -> &'static [u8] {
+    fn callee(self) -> &'static [u8]
+        ensures callee { result.now ≡ callee self.kind }
+    {
         match self.kind {
-            Kind::Diverted => b"carol",
-            _ => b"bob",
+            Kind::Diverted => b"sip:carol@home.example",
+            Kind::Answered | Kind::Busy | Kind::GivenUp => b"sip:bob@home.example",
         }
     }
 
     /// Whom she reaches.
-    fn target(self) -> &'static [u8] {
+    fn reached(self) -> &'static [u8]
+        ensures reached { result.now ≡ reached self.kind }
+    {
         match self.kind {
             Kind::Diverted => b"sip:vm@far.example",
-            _ => b"sip:bob@home.example",
+            Kind::Answered | Kind::Busy | Kind::GivenUp => b"sip:bob@home.example",
+        }
+    }
+
+    /// Where a request goes.
+    fn request_uri(self, way: Way) -> &'static [u8]
+        ensures uri { result.now ≡ request_uri self way }
+    {
+        match way {
+            Way::Dialog => b"sip:127.0.0.1:5060",
+            Way::Opening | Way::Tagged => self.callee(),
         }
     }
 
@@ -74,80 +74,127 @@ impl Call {
         alloc: Global,
         text: &mut Text,
         front: &[u8],
-        number: u64,
-    ) -> Result<(), NoMemory> {
+        number: u8,
+    ) -> Result<(), NoMemory>
+        requires few { self.drawn < 2 ^ 63 }
+        ensures added { OnOk result (text.new ≡ text.old ++ front.now ++ drawn_text self number) }
+    {
         text.push(alloc, front)?;
-        let number = self.drawn.saturating_add(number);
+        let number = self.drawn + u64::from(number);
         add_numbered(alloc, text, b"0123456789abcdef-", number)
     }
 
-    /// Adds the start line of a request.
-    fn add_start(self, alloc: Global, text: &mut Text, asks: Asks<'_>) -> Result<(), NoMemory> {
-        text.push(alloc, asks.method)?;
-        match asks.way {
-            Way::Dialog => text.push(alloc, b" sip:127.0.0.1:5060 SIP/2.0"),
-            _ => {
-                text.push(alloc, b" sip:")?;
-                text.push(alloc, self.callee())?;
-                text.push(alloc, b"@home.example SIP/2.0")
+    /// Adds Via, Max-Forwards and From of a request.
+    fn add_from(self, alloc: Global, text: &mut Text, letter: &[u8]) -> Result<(), NoMemory>
+        ensures added { OnOk result (text.new ≡ text.old ++ from_lines self letter.now) }
+    {
+        let number = u64::from(self.number);
+        text.push(alloc, b"Via: SIP/2.0/UDP 127.0.0.1:5071;branch=z9hG4bK")?;
+        add_numbered(alloc, text, letter, number)?;
+        let from = b"\r\nMax-Forwards: 70\r\nFrom: <sip:alice@home.example>;tag=a";
+        add_numbered(alloc, text, from, number)?;
+        text.push(alloc, b"\r\n")
+    }
+
+    /// Adds To of a request.
+    fn add_to(self, alloc: Global, text: &mut Text, way: Way) -> Result<(), NoMemory>
+        requires few { self.drawn < 2 ^ 63 }
+        ensures added { OnOk result (text.new ≡ text.old ++ to_line self way) }
+    {
+        text.push(alloc, b"To: <")?;
+        text.push(alloc, self.callee())?;
+        match way {
+            Way::Opening => text.push(alloc, b">\r\n"),
+            Way::Tagged | Way::Dialog => {
+                self.add_drawn(alloc, text, b">;tag=", 1)?;
+                text.push(alloc, b"\r\n")
             }
         }
     }
 
-    /// Adds Via, Max-Forwards and From of a request.
-    fn add_from(self, alloc: Global, text: &mut Text, asks: Asks<'_>) -> Result<(), NoMemory> {
-        text.push(alloc, b"\r\nVia: SIP/2.0/UDP 127.0.0.1:5071;branch=z9hG4bK")?;
-        add_numbered(alloc, text, asks.branch, self.number)?;
-        add_numbered(
-            alloc,
-            text,
-            b"\r\nMax-Forwards: 70\r\nFrom: <sip:alice@home.example>;tag=a",
-            self.number,
-        )
-    }
-
-    /// Adds To of a request.
-    fn add_to(self, alloc: Global, text: &mut Text, way: Way) -> Result<(), NoMemory> {
-        text.push(alloc, b"\r\nTo: <sip:")?;
-        text.push(alloc, self.callee())?;
-        text.push(alloc, b"@home.example>")?;
-        match way {
-            Way::Opening => Ok(()),
-            _ => self.add_drawn(alloc, text, b";tag=", 1),
-        }
-    }
-
-    /// A request of alice.
-    fn request(self, alloc: Global, asks: Asks<'_>, more: &[u8]) -> Result<Text, NoMemory> {
-        let mut text = Text::new();
-        self.add_start(alloc, &mut text, asks)?;
-        self.add_from(alloc, &mut text, asks)?;
-        self.add_to(alloc, &mut text, asks.way)?;
-        add_numbered(alloc, &mut text, b"\r\nCall-ID: w", self.number)?;
-        add_numbered(alloc, &mut text, b"\r\nCSeq: ", asks.sequence)?;
+    /// Adds Call-ID and CSeq of a request.
+    fn add_call(
+        self,
+        alloc: Global,
+        text: &mut Text,
+        method: &[u8],
+        sequence: u8,
+    ) -> Result<(), NoMemory>
+        ensures added { OnOk result (text.new ≡ text.old ++ call_lines self method.now sequence) }
+    {
+        add_numbered(alloc, text, b"Call-ID: w", u64::from(self.number))?;
+        add_numbered(alloc, text, b"\r\nCSeq: ", u64::from(sequence))?;
         text.push(alloc, b" ")?;
-        text.push(alloc, asks.method)?;
-        text.push(alloc, b"\r\n")?;
+        text.push(alloc, method)?;
+        text.push(alloc, b"\r\n")
+    }
+
+    /// A request of alice, with lines of its own.
+    fn request(
+        self,
+        alloc: Global,
+        method: &[u8],
+        letter: &[u8],
+        sequence: u8,
+        way: Way,
+        more: &[u8],
+    ) -> Result<Text, NoMemory>
+        requires few { self.drawn < 2 ^ 63 }
+        ensures text { IfOk result (λ text. text ≡ request_text self method.now letter.now sequence way more.now) }
+    {
+        let mut text = Text::of(alloc, method)?;
+        text.push(alloc, b" ")?;
+        text.push(alloc, self.request_uri(way))?;
+        text.push(alloc, b" SIP/2.0\r\n")?;
+        self.add_from(alloc, &mut text, letter)?;
+        self.add_to(alloc, &mut text, way)?;
+        self.add_call(alloc, &mut text, method, sequence)?;
         text.push(alloc, more)?;
         text.push(alloc, b"Content-Length: 0\r\n\r\n")?;
         Ok(text)
     }
 
-    /// A response of whom she reaches, with the lines of the request that the server sends there.
-    fn response(self, alloc: Global, says: Says<'_>) -> Result<Text, NoMemory> {
-        let mut text = Text::new();
-        text.push(alloc, b"SIP/2.0 ")?;
-        text.push(alloc, says.status)?;
-        let via = b"\r\nVia: SIP/2.0/UDP 127.0.0.1:5060;branch=z9hG4bK";
-        self.add_drawn(alloc, &mut text, via, says.branch)?;
-        let from = b"\r\nFrom: <sip:alice@home.example>;tag=";
-        self.add_drawn(alloc, &mut text, from, 3)?;
-        text.push(alloc, b"\r\nTo: <")?;
-        text.push(alloc, self.target())?;
-        add_numbered(alloc, &mut text, b">;tag=b", self.number)?;
-        self.add_drawn(alloc, &mut text, b"\r\nCall-ID: ", 2)?;
-        text.push(alloc, b"\r\nCSeq: ")?;
-        text.push(alloc, says.sequence)?;
+    /// Adds Via and From of a response: those of the request that the server sends.
+    fn add_asked(self, alloc: Global, text: &mut Text, branch: u8) -> Result<(), NoMemory>
+        requires few { self.drawn < 2 ^ 63 }
+        ensures added { OnOk result (text.new ≡ text.old ++ asked_lines self branch) }
+    {
+        let via = b"Via: SIP/2.0/UDP 127.0.0.1:5060;branch=z9hG4bK";
+        self.add_drawn(alloc, text, via, branch)?;
+        self.add_drawn(alloc, text, b"\r\nFrom: <sip:alice@home.example>;tag=", 3)?;
+        text.push(alloc, b"\r\n")
+    }
+
+    /// Adds To and Call-ID of a response.
+    fn add_reached(self, alloc: Global, text: &mut Text) -> Result<(), NoMemory>
+        requires few { self.drawn < 2 ^ 63 }
+        ensures added { OnOk result (text.new ≡ text.old ++ reached_lines self) }
+    {
+        text.push(alloc, b"To: <")?;
+        text.push(alloc, self.reached())?;
+        add_numbered(alloc, text, b">;tag=b", u64::from(self.number))?;
+        self.add_drawn(alloc, text, b"\r\nCall-ID: ", 2)?;
+        text.push(alloc, b"\r\n")
+    }
+
+    /// A response of whom she reaches.
+    fn response(
+        self,
+        alloc: Global,
+        status: &[u8],
+        branch: u8,
+        sequence: &[u8],
+    ) -> Result<Text, NoMemory>
+        requires few { self.drawn < 2 ^ 63 }
+        ensures text { IfOk result (λ text. text ≡ response_text self status.now branch sequence.now) }
+    {
+        let mut text = Text::of(alloc, b"SIP/2.0 ")?;
+        text.push(alloc, status)?;
+        text.push(alloc, b"\r\n")?;
+        self.add_asked(alloc, &mut text, branch)?;
+        self.add_reached(alloc, &mut text)?;
+        text.push(alloc, b"CSeq: ")?;
+        text.push(alloc, sequence)?;
         text.push(
             alloc,
             b"\r\nContact: <sip:target@127.0.0.1:5071>\r\nContent-Length: 0\r\n\r\n",
@@ -155,71 +202,27 @@ impl Call {
         Ok(text)
     }
 
-    /// Whether alice does it.
-    fn is_asked(act: Act) -> bool {
-        matches!(
-            act,
-            Act::Invite | Act::Confirm | Act::Bye | Act::Accept | Act::Cancel
-        )
-    }
-
-    /// The number of the peer from which it is heard.
-    pub fn peer(self, act: Act) -> u16 {
-        if self.kind == Kind::Diverted && !Call::is_asked(act) {
-            2
-        } else {
-            1
-        }
-    }
-
-    /// What the server hears of it.
-    pub fn heard(self, alloc: Global, act: Act) -> Result<Text, NoMemory> {
-        if Call::is_asked(act) {
-            self.asked(alloc, act)
-        } else {
-            self.said(alloc, act)
-        }
-    }
-
-    /// The request of alice that it is.
-    fn asked(self, alloc: Global, act: Act) -> Result<Text, NoMemory> {
-        let (method, branch, sequence, way): (&[u8], &[u8], u64, Way) = match act {
-            Act::Confirm => (b"ACK", b"k", 1, Way::Dialog),
-            Act::Bye => (b"BYE", b"y", 2, Way::Dialog),
-            Act::Accept => (b"ACK", b"i", 1, Way::Tagged),
-            Act::Cancel => (b"CANCEL", b"i", 1, Way::Opening),
-            _ => (b"INVITE", b"i", 1, Way::Opening),
-        };
-        let asks = Asks {
-            method,
-            branch,
-            sequence,
-            way,
-        };
-        let more: &[u8] = match act {
+    /// What the server hears of an act.
+    pub fn heard(self, alloc: Global, act: Act) -> Result<Text, NoMemory>
+        requires few { self.drawn < 2 ^ 63 }
+        ensures text { IfOk result (λ text. text ≡ heard_text self act) }
+    {
+        match act {
             Act::Invite => {
-                b"Contact: <sip:alice@127.0.0.1:5071>\r\nP-Asserted-Identity: <sip:alice@home.example>\r\n"
+                let more =
+                    b"Contact: <sip:alice@127.0.0.1:5071>\r\nP-Asserted-Identity: <sip:alice@home.example>\r\n";
+                self.request(alloc, b"INVITE", b"i", 1, Way::Opening, more)
             }
-            _ => b"",
-        };
-        self.request(alloc, asks, more)
-    }
-
-    /// The response that it is.
-    fn said(self, alloc: Global, act: Act) -> Result<Text, NoMemory> {
-        let (status, branch, sequence): (&[u8], u64, &[u8]) = match act {
-            Act::Ring => (b"180 Ringing", 4, b"1 INVITE"),
-            Act::Busy => (b"486 Busy Here", 4, b"1 INVITE"),
-            Act::Terminated => (b"487 Request Terminated", 4, b"1 INVITE"),
-            Act::Stopped => (b"200 OK", 4, b"1 CANCEL"),
-            Act::Ended => (b"200 OK", 6, b"2 BYE"),
-            _ => (b"200 OK", 4, b"1 INVITE"),
-        };
-        let says = Says {
-            status,
-            branch,
-            sequence,
-        };
-        self.response(alloc, says)
+            Act::Confirm => self.request(alloc, b"ACK", b"k", 1, Way::Dialog, b""),
+            Act::Bye => self.request(alloc, b"BYE", b"y", 2, Way::Dialog, b""),
+            Act::Accept => self.request(alloc, b"ACK", b"i", 1, Way::Tagged, b""),
+            Act::Cancel => self.request(alloc, b"CANCEL", b"i", 1, Way::Opening, b""),
+            Act::Ring => self.response(alloc, b"180 Ringing", 4, b"1 INVITE"),
+            Act::Answer => self.response(alloc, b"200 OK", 4, b"1 INVITE"),
+            Act::Busy => self.response(alloc, b"486 Busy Here", 4, b"1 INVITE"),
+            Act::Terminated => self.response(alloc, b"487 Request Terminated", 4, b"1 INVITE"),
+            Act::Stopped => self.response(alloc, b"200 OK", 4, b"1 CANCEL"),
+            Act::Ended => self.response(alloc, b"200 OK", 6, b"2 BYE"),
+        }
     }
 }

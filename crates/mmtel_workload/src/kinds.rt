@@ -1,4 +1,6 @@
 //! Which calls are made, and what is done in each of them.
+ghost use Rattle.std.specs.Prelude.{◌≡◌, ◌≤◌};
+ghost use Rattle.mmtel_workload.specs.Kinds.{acts_of, drawn_in, kind_by, next_value};
 
 /// What becomes of a call.
 #[derive(Clone, Copy, Debug, PartialEq, Eq)]
@@ -41,7 +43,7 @@ pub enum Act {
 }
 
 /// A call that is answered.
-const ANSWERED: &[(u64, Act)] = &[
+const ANSWERED: &[(u16, Act)] = &[
     (0, Act::Invite),
     (100, Act::Ring),
     (200, Act::Answer),
@@ -51,10 +53,10 @@ const ANSWERED: &[(u64, Act)] = &[
 ];
 
 /// A call to one who is busy.
-const BUSY: &[(u64, Act)] = &[(0, Act::Invite), (100, Act::Busy), (200, Act::Accept)];
+const BUSY: &[(u16, Act)] = &[(0, Act::Invite), (100, Act::Busy), (200, Act::Accept)];
 
 /// A call that is given up.
-const GIVEN_UP: &[(u64, Act)] = &[
+const GIVEN_UP: &[(u16, Act)] = &[
     (0, Act::Invite),
     (100, Act::Ring),
     (200, Act::Cancel),
@@ -65,7 +67,9 @@ const GIVEN_UP: &[(u64, Act)] = &[
 
 impl Kind {
     /// The kind of a call by its number of the rule.
-    pub fn of(value: u32) -> Kind {
+    pub fn of(value: u32) -> Kind
+        ensures kind { result ≡ kind_by value }
+    {
         match (value / 65_536) % 4 {
             0 => Kind::Answered,
             1 => Kind::Diverted,
@@ -75,7 +79,9 @@ impl Kind {
     }
 
     /// What is done in such a call, each so many milliseconds behind its begin.
-    pub fn acts(self) -> &'static [(u64, Act)] {
+    pub fn acts(self) -> &'static [(u16, Act)]
+        ensures acts { result.now ≡ acts_of self }
+    {
         match self {
             Kind::Answered | Kind::Diverted => ANSWERED,
             Kind::Busy => BUSY,
@@ -84,7 +90,10 @@ impl Kind {
     }
 
     /// How many numbers for identifiers the server draws in such a call: for its own tag, and the Call-ID, tag and branch of the INVITE; and for the branches of an ACK and a BYE.
-    pub fn drawn(self) -> u64 {
+    pub fn drawn(self) -> u64
+        ensures drawn { result ≡ drawn_in self }
+        ensures few { result ≤ 6 }
+    {
         match self {
             Kind::Answered | Kind::Diverted => 6,
             Kind::Busy | Kind::GivenUp => 4,
@@ -93,7 +102,9 @@ impl Kind {
 }
 
 /// The number of the rule for the next call: 1,103,515,245 times the one before it and 12,345, by 2^31.
-pub fn next_value(value: u32) -> u32 {
+pub fn next_value(value: u32) -> u32
+    ensures next { result ≡ next_value value }
+{
     let product = 1_103_515_245 * u64::from(value) + 12_345;
     (product % 2_147_483_648) as u32
 }

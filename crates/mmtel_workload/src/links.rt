@@ -1,9 +1,10 @@
 //! The calls of a workload as a link.
-ghost use Rattle.std.specs.Prelude.{◌≡◌, None, Some, IfOk, length};
+ghost use Rattle.std.specs.Prelude.{◌≡◌, ◌<◌, ◌^◌, ◌++◌, None, Some, IfOk, OnOk, length};
 ghost use Rattle.mmtel_script.specs.Script.{unheard};
+ghost use Rattle.mmtel_workload.specs.Events.{answers_from, event_of, events_of, heard_from, work_events};
 
 use crate::calls::Call;
-use crate::kinds::{Kind, next_value};
+use crate::kinds::{Act, Kind, next_value};
 use mmtel_link::{Arrival, Link, MemoryLink, SendFault};
 use mmtel_outside::Event;
 use mmtel_scan::{List, NoMemory};
@@ -14,43 +15,83 @@ use std::marker::Model;
 /// How long it takes from the begin of a call to that of the next, in milliseconds.
 const APART: u64 = 10_000;
 
-/// The address of a peer: the core is the first, and the other network the second.
-fn peer_addr(peer: u16) -> Addr {
-    Addr {
-        ip: [127, 0, 0, 1],
-        port: 5070u16.saturating_add(peer),
+/// The address of the core, from which alice's requests come.
+const CORE: Addr = Addr {
+    ip: [127, 0, 0, 1],
+    port: 5071,
+};
+
+/// The address of the other network.
+const FAR: Addr = Addr {
+    ip: [127, 0, 0, 1],
+    port: 5072,
+};
+
+/// Where the answers in a call of this kind come from.
+fn answers_from(kind: Kind) -> Addr
+    ensures addr { result ≡ answers_from kind }
+{
+    match kind {
+        Kind::Diverted => FAR,
+        Kind::Answered | Kind::Busy | Kind::GivenUp => CORE,
+    }
+}
+
+/// Where an act is heard from.
+fn heard_from(kind: Kind, act: Act) -> Addr
+    ensures addr { result ≡ heard_from kind act }
+{
+    match act {
+        Act::Invite | Act::Confirm | Act::Bye | Act::Accept | Act::Cancel => CORE,
+        Act::Ring | Act::Answer | Act::Ended | Act::Busy | Act::Stopped | Act::Terminated =>
+            answers_from(kind),
+    }
+}
+
+/// What the server hears of an act, so many milliseconds behind the begin of its call.
+fn event_of(alloc: Global, call: Call, after: u16, act: Act) -> Result<Event, NoMemory>
+    requires few { call.drawn < 2 ^ 63 }
+    ensures event { IfOk result (λ event. event ≡ event_of call (after, act)) }
+{
+    match Moment::new(u64::from(call.number) * APART + u64::from(after)) {
+        Some(at) => {
+            let bytes = call.heard(alloc, act)?;
+            let from = heard_from(call.kind, act);
+            Ok(Event::Datagram { from, at, bytes })
+        }
+        None => unreachable!(),
     }
 }
 
 /// Adds what the server hears of a call.
-fn add_call(alloc: Global, events: &mut List<Event>, call: Call) -> Result<(), NoMemory> {
-    let begin = call.number.saturating_mul(APART);
+fn add_call(alloc: Global, events: &mut List<Event>, call: Call) -> Result<(), NoMemory>
+    requires few { call.drawn < 2 ^ 63 }
+    ensures added { OnOk result (events.new ≡ events.old ++ events_of call) }
+{
     for (after, act) in call.kind.acts() {
-        if let Some(at) = Moment::new(begin.saturating_add(*after)) {
-            let bytes = call.heard(alloc, *act)?;
-            let from = peer_addr(call.peer(*act));
-            events.push(alloc, Event::Datagram { from, at, bytes })?;
-        }
+        let event = event_of(alloc, call, *after, *act)?;
+        events.push(alloc, event)?;
     }
     Ok(())
 }
 
 /// What the server hears of so many calls by this salt.
-fn events_by(alloc: Global, calls: u32, salt: u32) -> Result<List<Event>, NoMemory> {
+fn events_by(alloc: Global, calls: u32, salt: u32) -> Result<List<Event>, NoMemory>
+    ensures events { IfOk result (λ events. events ≡ work_events calls salt) }
+{
     let mut events = List::new();
     let mut value = salt;
     let mut drawn: u64 = 0;
     for before in 0..calls {
         value = next_value(value);
         let kind = Kind::of(value);
-        let number = u64::from(before) + 1;
         let call = Call {
-            number,
+            number: before + 1,
             kind,
             drawn,
         };
         add_call(alloc, &mut events, call)?;
-        drawn = drawn.saturating_add(kind.drawn());
+        drawn += kind.drawn();
     }
     Ok(events)
 }
@@ -82,7 +123,7 @@ impl WorkLink {
     ///
     /// Want of memory alone.
     pub fn new(alloc: Global, calls: u32, salt: u32) -> Result<WorkLink, NoMemory>
-        ensures unheard { IfOk result (λ work. work ≡ unheard work.events) }
+        ensures unheard { IfOk result (λ work. work ≡ unheard (work_events calls salt)) }
     {
         let events = events_by(alloc, calls, salt)?;
         Ok(WorkLink {

@@ -2,6 +2,7 @@ pub mod ActionLaws
 pub mod Ascii
 pub mod Documents
 pub mod Granted
+pub mod Items
 pub mod KeyNames
 pub mod Members
 pub mod Order
@@ -10,6 +11,8 @@ pub mod ReadKeys
 pub mod ReadMoments
 pub mod ReadRules
 pub mod ReadTables
+pub mod RuleItems
 pub mod Sounds
 pub mod Told
 pub mod UriTexts
+pub mod Walks

@@ -1,26 +1,16 @@
 -- A document is sound: its texts by their type, its tables by the order of their maps, and the rest by the walks that read it.
-use Rattle.std.proofs.Common.{◌≡◌, ℕ, ◌+◌, ◌<◌, ◌≤◌, List, [], ◌∷◌, length, get_or, drop, String, Global, subst}
-use Rattle.std.proofs.lemmas.List.{drop_all}
+use Rattle.std.proofs.Common.{◌≡◌, List, [], ◌∷◌, String, Global, subst}
 use Rattle.std.proofs.lemmas.Str.{IsUtf8-string_bytes}
 use Rattle.std.specs.List.Sorted.{IsStrictlySortedBy}
 use Rattle.std.specs.Map.{keys_of}
 use Rattle.std.specs.String.{string_cmp}
 use Rattle.toml.specs.declared.value.Value.{Value, String as StringValue}
-use Rattle.toml.specs.View.{view, items_view, members_view}
-use Rattle.toml.proofs.Views.{Entry, view-String, items_view-drop, is_before-sorted}
-use Rattle.mmtel_sheet_grammar.specs.Sound.{IsSound, IsSoundArray, IsSoundTable}
+use Rattle.toml.specs.View.{view, members_view}
+use Rattle.toml.proofs.Views.{Entry, view-String, is_before-sorted}
+use Rattle.mmtel_sheet_grammar.specs.Sound.{IsSound, IsSoundTable}
 
 pub text_sound : (v : Value) (s : String Global) → v ≡ StringValue s → IsSound (view v)
 text_sound v s e = rw (e, view-String s) (IsUtf8-string_bytes s)
-
--- ---- over the items of an array: the array is sound where the items from the index on are
-
-pub item_step : (vs : List Value) (i : ℕ) (v : Value) → i < length vs → get_or vs i v ≡ v → IsSound (view v) → (IsSoundArray (items_view (drop i vs)) → IsSoundArray (items_view vs))
-    → IsSoundArray (items_view (drop (i + 1) vs)) → IsSoundArray (items_view vs)
-item_step vs i v within at here all rest = all (rw (items_view-drop vs i v within, at) (here, rest))
-
-pub items_end : (vs : List Value) (i : ℕ) → length vs ≤ i → (IsSoundArray (items_view (drop i vs)) → IsSoundArray (items_view vs)) → IsSoundArray (items_view vs)
-items_end vs i past all = all (rw (drop_all i vs past) tt)
 
 -- ---- over the members of a table: their keys ascend, and the table is sound where the members that are left are
 

@@ -168,7 +168,6 @@ pub fn time(alloc: Global, at: &[u8], value: &Value) -> Result<i128, SheetFault>
     }
 }
 
-#[tactic(auto, using(crate::proofs::Sounds::item_step, crate::proofs::Sounds::items_end))]
 fn each_uri(alloc: Global, at: &[u8], items: &Array) -> Result<List<Uri>, SheetFault>
     ensures exact { Answers (items_from (uri_at at.now) [] (array_view items.now)) result }
     ensures sound { IfOk result (λ _. IsSoundArray (array_view items.now)) }
@@ -191,7 +190,6 @@ pub fn uris(alloc: Global, at: &[u8], value: &Value) -> Result<List<Uri>, SheetF
     }
 }
 
-#[tactic(auto, using(crate::proofs::Sounds::item_step, crate::proofs::Sounds::items_end))]
 fn each_token(alloc: Global, at: &[u8], items: &Array) -> Result<List<Text>, SheetFault>
     ensures exact { Answers (items_from (token_at at.now) [] (array_view items.now)) result }
     ensures sound { IfOk result (λ _. IsSoundArray (array_view items.now)) }

@@ -1,7 +1,8 @@
 //! The rules of a service.
-ghost use Rattle.std.specs.Prelude.{◌≡◌, [], codes, nat_lt, ◌&&◌, not, Ok, IfOk};
+ghost use Rattle.std.specs.Prelude.{◌≡◌, [], codes, length, nat_lt, ◌&&◌, not, Ok, IfOk};
+ghost use Rattle.toml.specs.Data.{as_table};
 ghost use Rattle.toml.specs.View.{view, table_view, array_view};
-ghost use Rattle.mmtel_sheet_grammar.specs.Answers.{Answers, then_do};
+ghost use Rattle.mmtel_sheet_grammar.specs.Answers.{Answers, then_do, or_wrong};
 ghost use Rattle.mmtel_sheet_grammar.specs.Keys.{dotted, rule_key_of, rule_path};
 ghost use Rattle.mmtel_sheet_grammar.specs.Rules.{has_key, no_keys, with_notice, event_read, except_read, one_read, from_read, until_read, key_read, listed, rule_key_read};
 ghost use Rattle.mmtel_sheet_grammar.specs.Rules.{who_of, condition_of, forward_read, allow_read, action_of, keys_of_rule, rule_of, are_tables, items_count, rules_from};
@@ -208,11 +209,11 @@ fn read_key(
         RuleKey::From => read_from(alloc, at, draft, table, time(alloc, at, value)?),
         RuleKey::Id => text(alloc, at, value),
         RuleKey::Many => {
-            draft.many = Some(domain(alloc, at, value)?);
+            drop(draft.many.replace(domain(alloc, at, value)?));
             Ok(())
         }
         RuleKey::Media => {
-            draft.media = Some(tokens(alloc, at, value)?);
+            drop(draft.media.replace(tokens(alloc, at, value)?));
             Ok(())
         }
         RuleKey::Notice(notice) => {
@@ -221,7 +222,7 @@ fn read_key(
         }
         RuleKey::One => read_one(alloc, at, draft, uris(alloc, at, value)?),
         RuleKey::Target => {
-            draft.target = Some(target(alloc, at, value)?);
+            drop(draft.target.replace(target(alloc, at, value)?));
             Ok(())
         }
         RuleKey::Until => read_until(alloc, at, draft, time(alloc, at, value)?),
@@ -257,7 +258,6 @@ fn read_name(
     }
 }
 
-#[tactic(auto, using(crate::proofs::Sounds::members_begin, crate::proofs::Sounds::members_step, crate::proofs::Sounds::members_end))]
 fn keys_of_rule(
     alloc: Global,
     service: Service,
@@ -269,7 +269,13 @@ fn keys_of_rule(
 {
     let mut draft = no_keys();
     'members: for (key, value) in table.iter() {
-        read_name(alloc, service, table, path, &mut draft, key.as_str(), value)?;
+        match read_name(alloc, service, table, path, &mut draft, key.as_str(), value) {
+            Ok(()) => {}
+            Err(fault) => {
+                drop(draft);
+                return Err(fault);
+            }
+        }
     }
     Ok(draft)
 }
@@ -385,14 +391,30 @@ fn are_tables(items: &Array) -> bool
     ensures { result ≡ are_tables (array_view items.now) }
 {
     'items: for item in items {
-        let Value::Table(_) = item else {
+        if !item.is_table() {
             return false;
-        };
+        }
     }
     true
 }
 
-#[tactic(auto, using(crate::proofs::Sounds::item_step, crate::proofs::Sounds::items_end))]
+/// The rule of one more item, behind those before it.
+fn next_rule(
+    alloc: Global,
+    service: Service,
+    path: &[u8],
+    before: &List<Rule>,
+    item: &Value,
+) -> Result<Rule, SheetFault>
+    ensures exact { Answers (then_do (or_wrong path.now (as_table (view item.now))) (λ ms. rule_of service (rule_path path.now (length before.now)) ms)) result }
+    ensures sound { IfOk result (λ _. IsSound (view item.now)) }
+{
+    let Value::Table(table) = item else {
+        return wrong(alloc, path);
+    };
+    numbered_rule(alloc, service, path, before.items().len(), table)
+}
+
 fn each_rule(
     alloc: Global,
     service: Service,
@@ -404,11 +426,7 @@ fn each_rule(
 {
     let mut rules = List::new();
     'items: for item in items {
-        let Value::Table(table) = item else {
-            return wrong(alloc, path);
-        };
-        let rule = numbered_rule(alloc, service, path, rules.items().len(), table)?;
-        rules.push(alloc, rule)?;
+        rules.push(alloc, next_rule(alloc, service, path, &rules, item)?)?;
     }
     Ok(rules)
 }

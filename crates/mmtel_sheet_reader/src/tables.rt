@@ -17,6 +17,7 @@ use mmtel_sheet_grammar::drafts::{BarDraft, DiversionDraft, WaitingDraft};
 use mmtel_sheet_grammar::keys::{Service, TableKey};
 use mmtel_sheet_values::{BarPart, DiversionPart, Restriction, Sheet};
 use std::alloc::Global;
+use std::mem;
 use toml::{Table, Value};
 
 /// The table of this name, if a record has one.
@@ -61,7 +62,8 @@ fn read_diversion_key(
             Ok(())
         }
         "rule" => {
-            draft.rules = rules(alloc, Service::Diversion, at, value)?;
+            let rules = rules(alloc, Service::Diversion, at, value)?;
+            drop(mem::replace(&mut draft.rules, rules));
             Ok(())
         }
         _ => unknown(alloc, at),
@@ -82,7 +84,6 @@ fn diversion_part(draft: DiversionDraft) -> Option<DiversionPart>
     }
 }
 
-#[tactic(auto, using(crate::proofs::Sounds::members_begin, crate::proofs::Sounds::members_step, crate::proofs::Sounds::members_end))]
 fn diversion(alloc: Global, path: &[u8], table: &Table) -> Result<Option<DiversionPart>, SheetFault>
     ensures exact { Answers (diversion_of path.now (table_view table.now)) result }
     ensures sound { IfOk result (λ _. IsSoundTable (table_view table.now)) }
@@ -127,7 +128,8 @@ fn read_bar_key(
         draft.reject_anonymous = truth(alloc, at, value)?;
         Ok(())
     } else if name == "rule" {
-        draft.rules = rules(alloc, service, at, value)?;
+        let rules = rules(alloc, service, at, value)?;
+        drop(mem::replace(&mut draft.rules, rules));
         Ok(())
     } else {
         unknown(alloc, at)
@@ -147,7 +149,6 @@ fn bar_part(draft: BarDraft) -> Option<BarPart>
     }
 }
 
-#[tactic(auto, using(crate::proofs::Sounds::members_begin, crate::proofs::Sounds::members_step, crate::proofs::Sounds::members_end))]
 fn bar(
     alloc: Global,
     service: Service,
@@ -186,7 +187,6 @@ fn with_presentation_key(
     }
 }
 
-#[tactic(auto, using(crate::proofs::Sounds::members_begin, crate::proofs::Sounds::members_step, crate::proofs::Sounds::members_end))]
 fn presentation(alloc: Global, path: &[u8], table: &Table) -> Result<bool, SheetFault>
     ensures exact { Answers (presentation_of path.now (table_view table.now)) result }
     ensures sound { IfOk result (λ _. IsSoundTable (table_view table.now)) }
@@ -263,7 +263,6 @@ fn with_restriction_key(
     }
 }
 
-#[tactic(auto, using(crate::proofs::Sounds::members_begin, crate::proofs::Sounds::members_step, crate::proofs::Sounds::members_end))]
 fn restriction(alloc: Global, path: &[u8], table: &Table) -> Result<Restriction, SheetFault>
     ensures exact { Answers (restriction_of path.now (table_view table.now)) result }
     ensures sound { IfOk result (λ _. IsSoundTable (table_view table.now)) }
@@ -313,7 +312,6 @@ fn waiting_part(draft: WaitingDraft) -> Option<u8>
     }
 }
 
-#[tactic(auto, using(crate::proofs::Sounds::members_begin, crate::proofs::Sounds::members_step, crate::proofs::Sounds::members_end))]
 fn waiting(alloc: Global, path: &[u8], table: &Table) -> Result<Option<u8>, SheetFault>
     ensures exact { Answers (waiting_of path.now (table_view table.now)) result }
     ensures sound { IfOk result (λ _. IsSoundTable (table_view table.now)) }
@@ -391,7 +389,6 @@ fn read_name(alloc: Global, sheet: &mut Sheet, name: &str, value: &Value) -> Res
 }
 
 /// The sheet of a document.
-#[tactic(auto, using(crate::proofs::Sounds::members_begin, crate::proofs::Sounds::members_step, crate::proofs::Sounds::members_end))]
 pub fn sheet(alloc: Global, table: &Table) -> Result<Sheet, SheetFault>
     ensures exact { Answers (sheet_of (table_view table.now)) result }
     ensures sound { IfOk result (λ _. IsSoundTable (table_view table.now)) }

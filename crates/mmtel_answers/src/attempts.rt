@@ -58,7 +58,7 @@ fn without_params(alloc: Global, value: Option<&[u8]>) -> Result<Text, NoMemory>
                 };
                 print_name_addr(alloc, &alone)
             }
-            Err(LexFault::Malformed { at: _ }) => Ok(Text::new()),
+            Err(LexFault::Malformed) => Ok(Text::new()),
             Err(LexFault::NoMemory) => Err(NoMemory),
         },
     }

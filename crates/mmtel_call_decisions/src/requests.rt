@@ -26,7 +26,7 @@ pub fn number_of(alloc: Global, request: &Hearing) -> Result<Option<u32>, NoMemo
                 drop(cseq);
                 Ok(Some(number))
             }
-            Err(LexFault::Malformed { at: _ }) => Ok(None),
+            Err(LexFault::Malformed) => Ok(None),
             Err(LexFault::NoMemory) => Err(NoMemory),
         },
     }

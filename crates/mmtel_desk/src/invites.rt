@@ -28,7 +28,7 @@ fn first_via(alloc: Global, m: &Hearing) -> Result<Option<Via>, NoMemory>
         None => Ok(None),
         Some(value) => match read_via(alloc, value) {
             Ok(via) => Ok(Some(via)),
-            Err(LexFault::Malformed { at: _ }) => Ok(None),
+            Err(LexFault::Malformed) => Ok(None),
             Err(LexFault::NoMemory) => Err(NoMemory),
         },
     }
@@ -66,7 +66,7 @@ fn is_of_invite(alloc: Global, m: &Hearing) -> Result<bool, NoMemory>
                 drop(cseq);
                 Ok(yes)
             }
-            Err(LexFault::Malformed { at: _ }) => Ok(false),
+            Err(LexFault::Malformed) => Ok(false),
             Err(LexFault::NoMemory) => Err(NoMemory),
         },
     }

@@ -248,7 +248,7 @@ pub fn readable_uri(alloc: Global, bytes: &[u8]) -> Result<Option<Uri>, NoMemory
     match read_uri(alloc, bytes) {
         Ok(uri) => Ok(Some(uri)),
         Err(UriFault::NoMemory) => Err(NoMemory),
-        Err(UriFault::Malformed { .. } | UriFault::Scheme) => Ok(None),
+        Err(UriFault::Malformed | UriFault::Scheme) => Ok(None),
     }
 }
 

@@ -139,7 +139,7 @@ fn uri_of(alloc: Global, bytes: &[u8]) -> Result<Option<Uri>, NoMemory>
 {
     match read_uri(alloc, bytes) {
         Ok(uri) => Ok(Some(uri)),
-        Err(UriFault::Malformed { at: _ }) => Ok(None),
+        Err(UriFault::Malformed) => Ok(None),
         Err(UriFault::Scheme) => Ok(None),
         Err(UriFault::NoMemory) => Err(NoMemory),
     }
@@ -151,7 +151,7 @@ fn uri_in(alloc: Global, value: &[u8]) -> Result<Option<Uri>, NoMemory>
 {
     match read_name_addr(alloc, value) {
         Ok(name) => uri_of(alloc, name.uri.bytes()),
-        Err(LexFault::Malformed { at: _ }) => Ok(None),
+        Err(LexFault::Malformed) => Ok(None),
         Err(LexFault::NoMemory) => Err(NoMemory),
     }
 }

@@ -45,7 +45,7 @@ fn number_of(alloc: Global, m: &Hearing) -> Result<Option<u32>, NoMemory>
         None => Ok(None),
         Some(value) => match read_cseq(alloc, value) {
             Ok(cseq) => Ok(Some(cseq.number)),
-            Err(LexFault::Malformed { at: _ }) => Ok(None),
+            Err(LexFault::Malformed) => Ok(None),
             Err(LexFault::NoMemory) => Err(NoMemory),
         },
     }

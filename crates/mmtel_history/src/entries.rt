@@ -125,7 +125,7 @@ fn entry_in(alloc: Global, name_addr: NameAddr) -> Result<Entry, LexFault>
     let params = params.items();
     let index = param_value(params, b"index");
     if !is_place(index) {
-        return Err(LexFault::Malformed { at: 0 });
+        return Err(LexFault::Malformed);
     }
     let index = Text::of(alloc, index.unwrap_or(&[]))?;
     let rest = other_params(alloc, params)?;

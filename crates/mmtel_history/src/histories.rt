@@ -51,7 +51,7 @@ pub fn read_values(alloc: Global, values: &List<Text>) -> Result<History, Histor
         }
         match read_entry(alloc, value.bytes()) {
             Ok(entry) => entries.push(entry)?,
-            Err(LexFault::Malformed { at: _ }) => return Err(HistoryFault::Malformed { at: i }),
+            Err(LexFault::Malformed) => return Err(HistoryFault::Malformed { at: i }),
             Err(LexFault::NoMemory) => return Err(HistoryFault::NoMemory),
         }
     }

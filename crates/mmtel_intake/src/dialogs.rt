@@ -41,7 +41,7 @@ fn tag_of(alloc: Global, value: Option<&[u8]>) -> Result<Option<Text>, NoMemory>
         None => Ok(None),
         Some(value) => match read_name_addr(alloc, value) {
             Ok(name) => copied(alloc, param_value(name.params.items(), b"tag")),
-            Err(LexFault::Malformed { at: _ }) => Ok(None),
+            Err(LexFault::Malformed) => Ok(None),
             Err(LexFault::NoMemory) => Err(NoMemory),
         },
     }

@@ -30,7 +30,7 @@ pub fn read_target(alloc: Global, start: &Start) -> Result<Target, NoMemory>
 {
     match read_uri(alloc, request_uri(start)) {
         Ok(uri) => Ok(Target::Known(uri)),
-        Err(UriFault::Malformed { at: _ }) => Ok(Target::Malformed),
+        Err(UriFault::Malformed) => Ok(Target::Malformed),
         Err(UriFault::Scheme) => Ok(Target::Foreign),
         Err(UriFault::NoMemory) => Err(NoMemory),
     }

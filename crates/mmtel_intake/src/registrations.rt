@@ -32,7 +32,7 @@ fn account_of_uri(
 {
     match read_uri(alloc, bytes) {
         Ok(uri) => Ok(accounts.find(&uri)),
-        Err(UriFault::Malformed { at: _ }) => Ok(None),
+        Err(UriFault::Malformed) => Ok(None),
         Err(UriFault::Scheme) => Ok(None),
         Err(UriFault::NoMemory) => Err(NoMemory),
     }
@@ -44,7 +44,7 @@ fn account_in(alloc: Global, accounts: &Accounts, value: &[u8]) -> Result<Option
 {
     match read_name_addr(alloc, value) {
         Ok(name) => account_of_uri(alloc, accounts, name.uri.bytes()),
-        Err(LexFault::Malformed { at: _ }) => Ok(None),
+        Err(LexFault::Malformed) => Ok(None),
         Err(LexFault::NoMemory) => Err(NoMemory),
     }
 }

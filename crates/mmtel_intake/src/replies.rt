@@ -22,7 +22,7 @@ fn has_no_tag(alloc: Global, value: Option<&[u8]>) -> Result<bool, NoMemory>
         None => Ok(true),
         Some(value) => match read_name_addr(alloc, value) {
             Ok(name) => Ok(param_value(name.params.items(), b"tag").is_none()),
-            Err(LexFault::Malformed { at: _ }) => Ok(true),
+            Err(LexFault::Malformed) => Ok(true),
             Err(LexFault::NoMemory) => Err(NoMemory),
         },
     }

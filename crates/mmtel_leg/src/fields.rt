@@ -33,7 +33,7 @@ fn tag_of(alloc: Global, value: Option<&[u8]>) -> Result<Text, NoMemory>
         None => Ok(Text::new()),
         Some(value) => match read_name_addr(alloc, value) {
             Ok(name) => copied(alloc, param_value(name.params.items(), b"tag")),
-            Err(LexFault::Malformed { at: _ }) => Ok(Text::new()),
+            Err(LexFault::Malformed) => Ok(Text::new()),
             Err(LexFault::NoMemory) => Err(NoMemory),
         },
     }

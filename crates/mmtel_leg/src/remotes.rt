@@ -44,7 +44,7 @@ fn uri_named(alloc: Global, value: &[u8]) -> Result<Text, NoMemory>
             } = name;
             Ok(uri)
         }
-        Err(LexFault::Malformed { at: _ }) => Ok(Text::new()),
+        Err(LexFault::Malformed) => Ok(Text::new()),
         Err(LexFault::NoMemory) => Err(NoMemory),
     }
 }

@@ -13,17 +13,17 @@ found_of P read takes (Err e) h = tt
 
 pub only_of : {V : Type 0} (read : Option V) (v : V) → read ≡ Some v → (r : Result V LexFault) → Gives (λ x. x) r read → IsReadUnlessMemory r v
 only_of read v again (Ok w) h = inl cc
-only_of read v again (Err (lex.Malformed at)) h = absurd cc
+only_of read v again (Err lex.Malformed) h = absurd cc
 only_of read v again (Err lex.NoMemory) h = inr refl
 
 pub malformed_of : {V : Type 0} (P : V → Type 0) (read : Option V) (again : (v : V) → P v → read ≡ Some v) (r : Result V LexFault) → Gives (λ x. x) r read → IsMalformed r → (v : V) → P v → ⊥
-malformed_of P read again (Ok w) h e v p = absurd (let bad = e.1 in cc)
-malformed_of P read again (Err (lex.Malformed at)) h e v p = some_none v read h (again v p)
-malformed_of P read again (Err lex.NoMemory) h e v p = absurd (let bad = e.1 in cc)
+malformed_of P read again (Ok w) h e v p = absurd (cc)
+malformed_of P read again (Err lex.Malformed) h e v p = some_none v read h (again v p)
+malformed_of P read again (Err lex.NoMemory) h e v p = absurd (cc)
 
 pub refused_of : {V : Type 0} (P : V → Type 0) (read : Option V) (takes : (v : V) → read ≡ Some v → P v) (r : Result V LexFault) → Gives (λ x. x) r read → ((v : V) → P v → ⊥) → IsMalformed r ⊎ (r ≡ Err lex.NoMemory)
 refused_of P read takes (Ok v) h none = absurd (none v (takes v h))
-refused_of P read takes (Err (lex.Malformed at)) h none = inl (at, refl)
+refused_of P read takes (Err lex.Malformed) h none = inl refl
 refused_of P read takes (Err lex.NoMemory) h none = inr refl
 
 -- two values that one list of bytes spells are one

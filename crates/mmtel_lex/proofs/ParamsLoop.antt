@@ -51,7 +51,7 @@ fails_at front zero rest tail whole le so_far e h = absurd (omega (arith, tail_o
 fails_at front (suc n) rest tail whole le so_far e h = sym so_far ∙ (at_suc front n rest tail e ∙ rw h refl)
 
 pub ends : (f : LexFault) (front : List Param) (rest tail whole : List ℕ) → ReadsOn front rest whole → after_byte 59 rest ≡ Some tail → Fails f (param_at tail) → Fails f (all_params_at whole)
-ends (lex.Malformed at) front rest tail whole so_far e h = fails_at front so_far.count rest tail whole so_far.enough so_far.same e h
+ends lex.Malformed front rest tail whole so_far e h = fails_at front so_far.count rest tail whole so_far.enough so_far.same e h
 ends lex.NoMemory front rest tail whole so_far e h = tt
 
 done_at : (front : List Param) (n : ℕ) (rest whole : List ℕ) → with_front front (params_at n rest) ≡ all_params_at whole → after_byte 59 rest ≡ None → all_params_at whole ≡ Some (front, rest)

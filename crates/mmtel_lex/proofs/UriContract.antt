@@ -15,34 +15,34 @@ found_by s (Err e) h = tt
 
 pub only_by : (s : List ℕ) (r : Result Uri UriFault) (u : Uri) → Answers r (uri_of s) → IsUri s u → IsUnlessMemory r (Ok u)
 only_by s (Ok v) u h is = inl (let again = uri_again s u is in cc)
-only_by s (Err (Malformed at)) u h is = absurd (let again = uri_again s u is in cc)
+only_by s (Err Malformed) u h is = absurd (let again = uri_again s u is in cc)
 only_by s (Err Scheme) u h is = absurd (let again = uri_again s u is in cc)
 only_by s (Err NoMemory) u h is = inr refl
 
 pub scheme_by : (s : List ℕ) (r : Result Uri UriFault) → Answers r (uri_of s) → r ≡ Err Scheme → IsForeign s
 scheme_by s (Ok v) h e = absurd cc
-scheme_by s (Err (Malformed at)) h e = absurd cc
+scheme_by s (Err Malformed) h e = absurd cc
 scheme_by s (Err Scheme) h e = foreign_takes s h
 scheme_by s (Err NoMemory) h e = absurd cc
 
 pub foreign_by : (s : List ℕ) (r : Result Uri UriFault) → Answers r (uri_of s) → IsForeign s → IsUnlessMemory r (Err Scheme)
 foreign_by s (Ok v) h is = absurd (let again = foreign_again s is in cc)
-foreign_by s (Err (Malformed at)) h is = absurd (let again = foreign_again s is in cc)
+foreign_by s (Err Malformed) h is = absurd (let again = foreign_again s is in cc)
 foreign_by s (Err Scheme) h is = inl refl
 foreign_by s (Err NoMemory) h is = inr refl
 
 pub malformed_by : (s : List ℕ) (r : Result Uri UriFault) → Answers r (uri_of s) → IsMalformedUri r → IsNoUri s
-malformed_by s (Ok v) h e = absurd (let bad = e.1 in cc)
-malformed_by s (Err (Malformed at)) h e = record {
+malformed_by s (Ok v) h e = absurd (cc)
+malformed_by s (Err Malformed) h e = record {
   of_none = λ u is. absurd (let again = uri_again s u is in cc);
   not_foreign = λ is. absurd (let again = foreign_again s is in cc);
 }
-malformed_by s (Err Scheme) h e = absurd (let bad = e.1 in cc)
-malformed_by s (Err NoMemory) h e = absurd (let bad = e.1 in cc)
+malformed_by s (Err Scheme) h e = absurd (cc)
+malformed_by s (Err NoMemory) h e = absurd (cc)
 
 pub refused_by : (s : List ℕ) (r : Result Uri UriFault) → Answers r (uri_of s) → IsNoUri s → IsMalformedUri r ⊎ (r ≡ Err NoMemory)
 refused_by s (Ok v) h none = absurd (none.of_none v (uri_takes s v h))
-refused_by s (Err (Malformed at)) h none = inl (at, refl)
+refused_by s (Err Malformed) h none = inl refl
 refused_by s (Err Scheme) h none = absurd (none.not_foreign (foreign_takes s h))
 refused_by s (Err NoMemory) h none = inr refl
 

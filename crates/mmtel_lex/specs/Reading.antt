@@ -21,7 +21,7 @@ use Rattle.std.specs.Str.{str_eq_ignore_ascii_case}
 
 -- What a function returned, seen by view, is what reading gives, unless memory ran out.
 abbrev pub Fails : {Y : Type 0} → LexFault → Option Y → Type 0
-Fails (lex.Malformed at) read = read ≡ None
+Fails lex.Malformed read = read ≡ None
 Fails lex.NoMemory read = Unit {0}
 
 abbrev pub Gives : {X Y : Type 0} → (X → Y) → Result X LexFault → Option Y → Type 0
@@ -187,7 +187,7 @@ uri_of s = uri_from (scheme_of s)
 
 -- what read_uri returned is what uri_of gives
 abbrev pub Refuses : UriFault → Result Uri Refusal → Type 0
-Refuses (faults.Malformed at) read = read ≡ Err malformed
+Refuses faults.Malformed read = read ≡ Err malformed
 Refuses faults.Scheme read = read ≡ Err foreign
 Refuses faults.NoMemory read = Unit {0}
 
@@ -196,9 +196,9 @@ Answers (Ok u) read = read ≡ Ok u
 Answers (Err e) read = Refuses e read
 
 -- the fault of a URI for that of its parts
-abbrev pub Places : LexFault → Result Uri UriFault → Type 0
-Places (lex.Malformed at) r = (n : ℕ) × (r ≡ Err (faults.Malformed n))
-Places lex.NoMemory r = r ≡ Err faults.NoMemory
+abbrev pub uri_fault : LexFault → UriFault
+uri_fault lex.Malformed = faults.Malformed
+uri_fault lex.NoMemory = faults.NoMemory
 
 -- ---- name-addrs
 

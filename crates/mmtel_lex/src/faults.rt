@@ -8,11 +8,7 @@ use mmtel_scan::NoMemory;
 #[derive(Clone, Copy, Debug, PartialEq, Eq)]
 pub enum LexFault {
     /// The bytes are not of the grammar.
-    Malformed {
-        /// Of a reader of the whole list the place where reading stopped, at most the number of bytes; of a reader of a front how many bytes it left. Nothing more is
-        /// promised of it.
-        at: usize,
-    },
+    Malformed,
     /// Memory ran out.
     NoMemory,
 }
@@ -38,10 +34,7 @@ impl<T: Drop> From<(T, NoMemory)> for LexFault {
 #[derive(Clone, Copy, Debug, PartialEq, Eq)]
 pub enum UriFault {
     /// The bytes are not of the grammar.
-    Malformed {
-        /// The place where reading stopped, at most the number of bytes. Nothing more is promised of it.
-        at: usize,
-    },
+    Malformed,
     /// The bytes begin with another scheme than `sip` and `tel`.
     Scheme,
     /// Memory ran out.

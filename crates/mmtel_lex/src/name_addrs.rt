@@ -1,7 +1,7 @@
 //! Name-addrs: a display and a URI (RFC 3261 §20.10).
-ghost use Rattle.std.specs.Prelude.{IfOk, IfErr, Err, ◌≡◌, ◌⊎◌, length};
+ghost use Rattle.std.specs.Prelude.{IfOk, Err, ◌≡◌, ◌⊎◌};
 ghost use Rattle.mmtel_lex.specs.Grammar.{IsNameAddr};
-ghost use Rattle.mmtel_lex.specs.Outcome.{IsReadUnlessMemory, IsMalformed, IsPlaceIn};
+ghost use Rattle.mmtel_lex.specs.Outcome.{IsReadUnlessMemory, IsMalformed};
 ghost use Rattle.mmtel_lex.specs.Reading.{Gives, angle_of, bare_of, words_of, quoted_of, name_addr_of};
 
 use crate::faults::LexFault;
@@ -17,10 +17,10 @@ fn angled(alloc: Global, display: Text, bytes: &[u8]) -> Result<NameAddr, LexFau
 {
     let (front, rest) = split_run(Class::UriByte, bytes);
     if front.is_empty() {
-        return Err(LexFault::Malformed { at: bytes.len() });
+        return Err(LexFault::Malformed);
     }
     match skip_byte(b'>', rest) {
-        None => Err(LexFault::Malformed { at: rest.len() }),
+        None => Err(LexFault::Malformed),
         Some(tail) => {
             let uri = Text::of(alloc, front)?;
             let (params, rest) = params_front(alloc, tail)?;
@@ -31,7 +31,7 @@ fn angled(alloc: Global, display: Text, bytes: &[u8]) -> Result<NameAddr, LexFau
                     params,
                 })
             } else {
-                Err(LexFault::Malformed { at: rest.len() })
+                Err(LexFault::Malformed)
             }
         }
     }
@@ -44,7 +44,7 @@ fn bare(alloc: Global, bytes: &[u8]) -> Result<NameAddr, LexFault>
 {
     let (front, rest) = split_run(Class::BareByte, bytes);
     if front.is_empty() {
-        return Err(LexFault::Malformed { at: bytes.len() });
+        return Err(LexFault::Malformed);
     }
     let uri = Text::of(alloc, front)?;
     let (params, rest) = params_front(alloc, rest)?;
@@ -55,7 +55,7 @@ fn bare(alloc: Global, bytes: &[u8]) -> Result<NameAddr, LexFault>
             params,
         })
     } else {
-        Err(LexFault::Malformed { at: rest.len() })
+        Err(LexFault::Malformed)
     }
 }
 
@@ -70,7 +70,7 @@ fn in_words(alloc: Global, bytes: &[u8]) -> Result<NameAddr, LexFault>
         Some(tail) => {
             let (blanks, _) = split_run(Class::Blank, bytes);
             if !blanks.is_empty() {
-                return Err(LexFault::Malformed { at: bytes.len() });
+                return Err(LexFault::Malformed);
             }
             let display = Text::of(alloc, trim_end(Class::Blank, front))?;
             angled(alloc, display, tail)
@@ -86,7 +86,7 @@ fn in_quotes(alloc: Global, bytes: &[u8]) -> Result<NameAddr, LexFault>
     let (display, rest) = text(alloc, bytes)?;
     let (_, rest) = split_run(Class::Blank, rest);
     match skip_byte(b'<', rest) {
-        None => Err(LexFault::Malformed { at: rest.len() }),
+        None => Err(LexFault::Malformed),
         Some(tail) => angled(alloc, display, tail),
     }
 }
@@ -101,19 +101,6 @@ fn name_addr(alloc: Global, bytes: &[u8]) -> Result<NameAddr, LexFault>
     }
 }
 
-/// The fault of a reader of the whole list of bytes, for one of a reader of its front.
-fn whole(alloc: Global, bytes: &[u8]) -> Result<NameAddr, LexFault>
-    ensures exact { Gives (λ x. x) result (name_addr_of bytes.now) }
-    ensures at { IfErr result (λ e. IsPlaceIn (length bytes.now) e) }
-{
-    match name_addr(alloc, bytes) {
-        Err(LexFault::Malformed { at }) => Err(LexFault::Malformed {
-            at: bytes.len().saturating_sub(at),
-        }),
-        read => read,
-    }
-}
-
 /// Reads a name-addr (RFC 3261 §20.10): a display or none, `<`, a URI of any scheme, `>` and parameters, or a bare URI without `,`, `;` and `?` and parameters; all of the
 /// bytes are read.
 ///
@@ -121,7 +108,7 @@ fn whole(alloc: Global, bytes: &[u8]) -> Result<NameAddr, LexFault>
 ///
 /// # Errors
 ///
-/// `Malformed` exactly where the bytes are not of the grammar; `at` is at most their number, and nothing more is promised of it. `NoMemory` where memory ran out.
+/// `Malformed` exactly where the bytes are not of the grammar. `NoMemory` where memory ran out.
 pub fn read_name_addr(alloc: Global, bytes: &[u8]) -> Result<NameAddr, LexFault>
     // The answer is that of the total reading function.
     ensures exact { Gives (λ x. x) result (name_addr_of bytes.now) }
@@ -132,7 +119,6 @@ pub fn read_name_addr(alloc: Global, bytes: &[u8]) -> Result<NameAddr, LexFault>
     // The bytes are malformed exactly where they spell none.
     ensures malformed { IsMalformed result → (n : NameAddr) → IsNameAddr bytes.now n → ⊥ }
     ensures refused { ((n : NameAddr) → IsNameAddr bytes.now n → ⊥) → IsMalformed result ⊎ (result ≡ Err LexFault.NoMemory) }
-    ensures at { IfErr result (λ e. IsPlaceIn (length bytes.now) e) }
 {
-    whole(alloc, bytes)
+    name_addr(alloc, bytes)
 }

@@ -1,11 +1,11 @@
 //! Parameters and their parts (RFC 3261 §25.1).
-ghost use Rattle.std.specs.Prelude.{◌≡◌, ◌≤◌, ◌⊎◌, ℕ, List, length, IfOk, IfErr, Err};
+ghost use Rattle.std.specs.Prelude.{◌≡◌, ◌≤◌, ◌⊎◌, ℕ, List, length, IfOk, Err};
 ghost use Rattle.std.specs.Option.{option_copied, option_map};
 ghost use Rattle.std.specs.Str.{str_eq_ignore_ascii_case};
 ghost use Rattle.mmtel_lex.specs.Reading.{Gives, token_at, text_at, value_at, param_at, all_params_at, params_of};
 ghost use Rattle.mmtel_lex.specs.Grammar.{IsParams};
 ghost use Rattle.mmtel_lex.specs.Params.{param_value};
-ghost use Rattle.mmtel_lex.specs.Outcome.{IsReadUnlessMemory, IsMalformed, IsPlaceIn};
+ghost use Rattle.mmtel_lex.specs.Outcome.{IsReadUnlessMemory, IsMalformed};
 
 use crate::faults::LexFault;
 use crate::values::{Param, Params};
@@ -24,7 +24,7 @@ pub fn token(alloc: Global, bytes: &[u8]) -> Result<(Text, &[u8]), LexFault>
 {
     let (front, rest) = split_run(Class::Token, bytes);
     if front.is_empty() {
-        return Err(LexFault::Malformed { at: bytes.len() });
+        return Err(LexFault::Malformed);
     }
     Ok((Text::of(alloc, front)?, rest))
 }
@@ -42,7 +42,7 @@ pub fn text(alloc: Global, bytes: &[u8]) -> Result<(Text, &[u8]), LexFault>
     match skip_byte(b'"', bytes) {
         None => token(alloc, bytes),
         Some(tail) => match closing(tail) {
-            None => Err(LexFault::Malformed { at: bytes.len() }),
+            None => Err(LexFault::Malformed),
             Some(at) => {
                 let mut text = Text::of(alloc, b"\"")?;
                 text.push(alloc, &tail[..at])?;
@@ -134,20 +134,7 @@ fn all_params(alloc: Global, bytes: &[u8]) -> Result<Params, LexFault>
     if rest.is_empty() {
         Ok(params)
     } else {
-        Err(LexFault::Malformed { at: rest.len() })
-    }
-}
-
-/// The fault of a reader of the whole list of bytes, for one of a reader of its front.
-fn whole(alloc: Global, bytes: &[u8]) -> Result<Params, LexFault>
-    ensures exact { Gives (λ x. x) result (params_of bytes.now) }
-    ensures at { IfErr result (λ e. IsPlaceIn (length bytes.now) e) }
-{
-    match all_params(alloc, bytes) {
-        Err(LexFault::Malformed { at }) => Err(LexFault::Malformed {
-            at: bytes.len().saturating_sub(at),
-        }),
-        read => read,
+        Err(LexFault::Malformed)
     }
 }
 
@@ -155,7 +142,7 @@ fn whole(alloc: Global, bytes: &[u8]) -> Result<Params, LexFault>
 ///
 /// # Errors
 ///
-/// `Malformed` exactly where the bytes are not of the grammar; `at` is at most their number, and nothing more is promised of it. `NoMemory` where memory ran out.
+/// `Malformed` exactly where the bytes are not of the grammar. `NoMemory` where memory ran out.
 pub fn read_params(alloc: Global, bytes: &[u8]) -> Result<Params, LexFault>
     // The answer is that of the total reading function.
     ensures exact { Gives (λ x. x) result (params_of bytes.now) }
@@ -166,7 +153,6 @@ pub fn read_params(alloc: Global, bytes: &[u8]) -> Result<Params, LexFault>
     // The bytes are malformed exactly where they spell none.
     ensures malformed { IsMalformed result → (ps : List Param) → IsParams bytes.now ps → ⊥ }
     ensures refused { ((ps : List Param) → IsParams bytes.now ps → ⊥) → IsMalformed result ⊎ (result ≡ Err LexFault.NoMemory) }
-    ensures at { IfErr result (λ e. IsPlaceIn (length bytes.now) e) }
 {
-    whole(alloc, bytes)
+    all_params(alloc, bytes)
 }

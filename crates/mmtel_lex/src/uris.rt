@@ -6,9 +6,9 @@ ghost use Rattle.mmtel_scan.specs.Classes.{in_class};
 ghost use Rattle.std.specs.Str.Parse.{digits_value};
 ghost use Rattle.mmtel_scan.specs.Classes.{IsAll};
 ghost use Rattle.mmtel_lex.specs.Grammar.{IsUri, IsForeign, IsNoUri};
-ghost use Rattle.mmtel_lex.specs.Outcome.{IsUnlessMemory, IsMalformedUri, IsOfBytes, IsUriPlaceIn};
+ghost use Rattle.mmtel_lex.specs.Outcome.{IsUnlessMemory, IsMalformedUri, IsOfBytes};
 ghost use Rattle.mmtel_lex.specs.Reading.{Gives, user_at, host_at, port_number, port_at, headers_at, headers_of, sip_parts, sip_of, scheme_of, sign_of, number_at};
-ghost use Rattle.mmtel_lex.specs.Reading.{tel_parts, tel_of, uri_of, Answers, Places};
+ghost use Rattle.mmtel_lex.specs.Reading.{tel_parts, tel_of, uri_of, Answers, uri_fault};
 ghost use Rattle.std.specs.Str.{str_eq_ignore_ascii_case};
 ghost use Rattle.std.specs.Option.{option_map};
 ghost use Rattle.mmtel_scan.specs.declared.classes.Class.TheVariants.{Digit};
@@ -28,12 +28,12 @@ fn user(bytes: &[u8]) -> Result<(Option<&[u8]>, &[u8]), LexFault>
         None => Ok((None, bytes)),
         Some((front, rest)) => {
             if front.is_empty() {
-                return Err(LexFault::Malformed { at: bytes.len() });
+                return Err(LexFault::Malformed);
             }
             if is_all(Class::User, front) && part(b'@', rest).is_none() {
                 Ok((Some(front), rest))
             } else {
-                Err(LexFault::Malformed { at: bytes.len() })
+                Err(LexFault::Malformed)
             }
         }
     }
@@ -50,7 +50,7 @@ pub fn host(alloc: Global, bytes: &[u8]) -> Result<(Text, &[u8]), LexFault>
 {
     let (front, rest) = split_run(Class::Host, bytes);
     if front.is_empty() || front.len() > 255 {
-        return Err(LexFault::Malformed { at: bytes.len() });
+        return Err(LexFault::Malformed);
     }
     Ok((Text::of(alloc, front)?, rest))
 }
@@ -82,7 +82,7 @@ pub fn port(bytes: &[u8]) -> Result<(Option<u16>, &[u8]), LexFault>
         Some(tail) => {
             let (digits, rest) = split_run(Class::Digit, tail);
             match port_number(digits) {
-                None => Err(LexFault::Malformed { at: tail.len() }),
+                None => Err(LexFault::Malformed),
                 Some(port) => Ok((Some(port), rest)),
             }
         }
@@ -96,10 +96,10 @@ fn header_bytes(alloc: Global, bytes: &[u8]) -> Result<Text, LexFault>
 {
     let (front, rest) = split_run(Class::User, bytes);
     if front.is_empty() {
-        return Err(LexFault::Malformed { at: bytes.len() });
+        return Err(LexFault::Malformed);
     }
     if !rest.is_empty() {
-        return Err(LexFault::Malformed { at: rest.len() });
+        return Err(LexFault::Malformed);
     }
     Ok(Text::of(alloc, front)?)
 }
@@ -114,7 +114,7 @@ fn headers(alloc: Global, bytes: &[u8]) -> Result<Text, LexFault>
             if bytes.is_empty() {
                 Ok(Text::new())
             } else {
-                Err(LexFault::Malformed { at: bytes.len() })
+                Err(LexFault::Malformed)
             }
         }
         Some(tail) => header_bytes(alloc, tail),
@@ -158,7 +158,7 @@ fn sip(alloc: Global, bytes: &[u8]) -> Result<Uri, LexFault>
     if is_all(Class::UriByte, bytes) {
         sip_parts(alloc, bytes)
     } else {
-        Err(LexFault::Malformed { at: bytes.len() })
+        Err(LexFault::Malformed)
     }
 }
 
@@ -206,7 +206,7 @@ fn phone(alloc: Global, bytes: &[u8]) -> Result<(Text, &[u8]), LexFault>
     let (sign, tail) = sign(bytes);
     let (marks, rest) = split_run(Class::Phone, tail);
     if !has_digit(marks) {
-        return Err(LexFault::Malformed { at: tail.len() });
+        return Err(LexFault::Malformed);
     }
     let mut number = Text::of(alloc, sign)?;
     number.push(alloc, marks)?;
@@ -222,7 +222,7 @@ fn tel_parts(alloc: Global, bytes: &[u8]) -> Result<Uri, LexFault>
     if rest.is_empty() {
         Ok(Uri::Tel { number, params })
     } else {
-        Err(LexFault::Malformed { at: rest.len() })
+        Err(LexFault::Malformed)
     }
 }
 
@@ -234,36 +234,32 @@ fn tel(alloc: Global, bytes: &[u8]) -> Result<Uri, LexFault>
     if is_all(Class::UriByte, bytes) {
         tel_parts(alloc, bytes)
     } else {
-        Err(LexFault::Malformed { at: bytes.len() })
+        Err(LexFault::Malformed)
     }
 }
 
-/// The URI, or why the bytes of this length gave none.
-fn placed(read: Result<Uri, LexFault>, len: usize) -> Result<Uri, UriFault>
-    ensures same { MatchResult read (λ u. result ≡ Ok u) (λ e. Places e result) }
-    ensures at { IfErr result (λ e. IsUriPlaceIn len e) }
+/// The URI, or why its bytes gave none.
+fn of_uri(read: Result<Uri, LexFault>) -> Result<Uri, UriFault>
+    ensures { MatchResult read (λ u. result ≡ Ok u) (λ e. result ≡ Err (uri_fault e)) }
 {
     match read {
         Ok(uri) => Ok(uri),
         Err(LexFault::NoMemory) => Err(UriFault::NoMemory),
-        Err(LexFault::Malformed { at }) => Err(UriFault::Malformed {
-            at: len.saturating_sub(at),
-        }),
+        Err(LexFault::Malformed) => Err(UriFault::Malformed),
     }
 }
 
 #[tactic(auto, unfolding(crate::specs::Reading::uri_of))]
 fn uri(alloc: Global, bytes: &[u8]) -> Result<Uri, UriFault>
-    ensures exact { Answers result (uri_of bytes.now) }
-    ensures at { IfErr result (λ e. IsUriPlaceIn (length bytes.now) e) }
+    ensures { Answers result (uri_of bytes.now) }
 {
     match scheme(bytes) {
-        None => Err(UriFault::Malformed { at: 0 }),
+        None => Err(UriFault::Malformed),
         Some((name, rest)) => {
             if is_named(name, b"sip") {
-                placed(sip(alloc, rest), bytes.len())
+                of_uri(sip(alloc, rest))
             } else if is_named(name, b"tel") {
-                placed(tel(alloc, rest), bytes.len())
+                of_uri(tel(alloc, rest))
             } else {
                 Err(UriFault::Scheme)
             }
@@ -275,8 +271,8 @@ fn uri(alloc: Global, bytes: &[u8]) -> Result<Uri, UriFault>
 ///
 /// # Errors
 ///
-/// `Malformed` exactly where the bytes are neither of the grammar nor of another scheme; `at` is at most their number, and nothing more is promised of it. `Scheme` exactly
-/// where they begin with another scheme. `NoMemory` where memory ran out.
+/// `Malformed` exactly where the bytes are neither of the grammar nor of another scheme. `Scheme` exactly where they begin with another scheme. `NoMemory` where memory ran
+/// out.
 pub fn read_uri(alloc: Global, bytes: &[u8]) -> Result<Uri, UriFault>
     // The answer is that of the total reading function.
     ensures exact { Answers result (uri_of bytes.now) }
@@ -290,7 +286,6 @@ pub fn read_uri(alloc: Global, bytes: &[u8]) -> Result<Uri, UriFault>
     // The bytes are malformed exactly where they are of neither.
     ensures malformed { IsMalformedUri result → IsNoUri bytes.now }
     ensures refused { IsNoUri bytes.now → IsMalformedUri result ⊎ (result ≡ Err UriFault.NoMemory) }
-    ensures at { IfErr result (λ e. IsUriPlaceIn (length bytes.now) e) }
 {
     uri(alloc, bytes)
 }

@@ -47,7 +47,7 @@ fn is_entry(alloc: Global, value: &[u8]) -> Result<bool, NoMemory>
 {
     match read_name_addr(alloc, value) {
         Ok(read) => Ok(is_place(param_value(read.params.items(), b"index"))),
-        Err(LexFault::Malformed { at: _ }) => Ok(false),
+        Err(LexFault::Malformed) => Ok(false),
         Err(LexFault::NoMemory) => Err(NoMemory),
     }
 }

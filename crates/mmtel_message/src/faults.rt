@@ -46,7 +46,7 @@ fn start_fault(alloc: Global, start: &Start) -> Result<bool, NoMemory>
         Start::Request { method: _, uri } => match read_uri(alloc, uri.bytes()) {
             Ok(_) => Ok(false),
             Err(UriFault::Scheme) => Ok(false),
-            Err(UriFault::Malformed { at: _ }) => Ok(true),
+            Err(UriFault::Malformed) => Ok(true),
             Err(UriFault::NoMemory) => Err(NoMemory),
         },
         Start::Status { code: _, phrase: _ } => Ok(false),
@@ -59,7 +59,7 @@ pub fn is_readable(alloc: Global, value: &[u8]) -> Result<bool, NoMemory>
 {
     match read_name_addr(alloc, value) {
         Ok(_) => Ok(true),
-        Err(LexFault::Malformed { at: _ }) => Ok(false),
+        Err(LexFault::Malformed) => Ok(false),
         Err(LexFault::NoMemory) => Err(NoMemory),
     }
 }
@@ -150,7 +150,7 @@ fn has_case(alloc: Global, value: &[u8]) -> Result<bool, NoMemory>
 {
     match read_name_addr(alloc, value) {
         Ok(read) => Ok(is_case(param_value(read.params.items(), b"sescase"))),
-        Err(LexFault::Malformed { at: _ }) => Ok(false),
+        Err(LexFault::Malformed) => Ok(false),
         Err(LexFault::NoMemory) => Err(NoMemory),
     }
 }

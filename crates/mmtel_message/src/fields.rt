@@ -56,11 +56,11 @@ fn only<'a>(lines: &'a [Line], name: &[u8]) -> Result<&'a [u8], LexFault>
     ensures { Gives (λ x. x.now) result (only_value name.now lines.now) }
 {
     if count(lines, name) != 1 {
-        return Err(LexFault::Malformed { at: 0 });
+        return Err(LexFault::Malformed);
     }
     match first_of(lines, name) {
         Some(value) => Ok(value),
-        None => Err(LexFault::Malformed { at: 0 }),
+        None => Err(LexFault::Malformed),
     }
 }
 
@@ -77,7 +77,7 @@ fn skip_blanks(bytes: &[u8]) -> Result<&[u8], LexFault>
 {
     let (blanks, rest) = split_run(Class::Blank, bytes);
     if blanks.is_empty() {
-        return Err(LexFault::Malformed { at: 0 });
+        return Err(LexFault::Malformed);
     }
     Ok(rest)
 }
@@ -94,7 +94,7 @@ fn not_empty(alloc: Global, bytes: &[u8]) -> Result<Text, LexFault>
     ensures { Gives (λ x. x) result (filled bytes.now) }
 {
     if bytes.is_empty() {
-        return Err(LexFault::Malformed { at: 0 });
+        return Err(LexFault::Malformed);
     }
     let text = Text::of(alloc, bytes)?;
     Ok(text)
@@ -105,7 +105,7 @@ fn ended(via: Via, rest: &[u8]) -> Result<Via, LexFault>
 {
     match rest {
         [] => Ok(via),
-        _ => Err(LexFault::Malformed { at: 0 }),
+        _ => Err(LexFault::Malformed),
     }
 }
 
@@ -139,7 +139,7 @@ pub fn read_via(alloc: Global, bytes: &[u8]) -> Result<Via, LexFault>
     ensures exact { Gives (λ x. x) result (via_at bytes.now) }
 {
     match skip_text(b"SIP/2.0/", bytes) {
-        None => Err(LexFault::Malformed { at: 0 }),
+        None => Err(LexFault::Malformed),
         Some(rest) => {
             let (transport, rest) = token(alloc, rest)?;
             let by = skip_blanks(rest)?;
@@ -159,7 +159,7 @@ pub fn read_cseq(alloc: Global, bytes: &[u8]) -> Result<CSeq, LexFault>
 {
     let (digits, rest) = split_run(Class::Digit, bytes);
     match number_up_to(2147483647, digits) {
-        None => Err(LexFault::Malformed { at: 0 }),
+        None => Err(LexFault::Malformed),
         Some(number) => {
             let rest = skip_blanks(rest)?;
             let (method, rest) = token(alloc, rest)?;
@@ -168,7 +168,7 @@ pub fn read_cseq(alloc: Global, bytes: &[u8]) -> Result<CSeq, LexFault>
                     number: number as u32,
                     method,
                 }),
-                _ => Err(LexFault::Malformed { at: 0 }),
+                _ => Err(LexFault::Malformed),
             }
         }
     }
@@ -180,7 +180,7 @@ fn via_in(alloc: Global, lines: &[Line]) -> Result<Via, LexFault>
 {
     match first_of(lines, b"Via") {
         Some(value) => read_via(alloc, first_value_part(value)),
-        None => Err(LexFault::Malformed { at: 0 }),
+        None => Err(LexFault::Malformed),
     }
 }
 

@@ -102,7 +102,7 @@ fn read_lines(alloc: Global, start: Start, lines: &[Line], rest: &[u8]) -> Resul
     ensures { Reads result (after_head (message_head (Some start) lines.now) rest.now) }
 {
     match read_five(alloc, lines) {
-        Err(LexFault::Malformed { at: _ }) => Err(ReadFault::NotSip),
+        Err(LexFault::Malformed) => Err(ReadFault::NotSip),
         Err(LexFault::NoMemory) => Err(ReadFault::NoMemory),
         Ok(five) => of_five(alloc, start, lines, rest, &five),
     }
@@ -115,7 +115,7 @@ fn read_head(alloc: Global, head: &[u8], rest: &[u8]) -> Result<Msg, ReadFault>
     match lines.items() {
         [] => Err(ReadFault::NotSip),
         [first, others @ ..] => match start(alloc, first.bytes()) {
-            Err(LexFault::Malformed { at: _ }) => Err(ReadFault::NotSip),
+            Err(LexFault::Malformed) => Err(ReadFault::NotSip),
             Err(LexFault::NoMemory) => Err(ReadFault::NoMemory),
             Ok(start) => {
                 let headers = headers(alloc, others)?;
@@ -131,7 +131,7 @@ fn has_five(alloc: Global, lines: &[Line]) -> Result<bool, NoMemory>
 {
     match read_five(alloc, lines) {
         Ok(_) => Ok(true),
-        Err(LexFault::Malformed { at: _ }) => Ok(false),
+        Err(LexFault::Malformed) => Ok(false),
         Err(LexFault::NoMemory) => Err(NoMemory),
     }
 }
@@ -153,7 +153,7 @@ fn large_of_lines(alloc: Global, lines: &[Text]) -> Result<Option<Msg>, NoMemory
     match lines {
         [] => Ok(None),
         [first, others @ ..] => match start(alloc, first.bytes()) {
-            Err(LexFault::Malformed { at: _ }) => Ok(None),
+            Err(LexFault::Malformed) => Ok(None),
             Err(LexFault::NoMemory) => Err(NoMemory),
             Ok(start) => {
                 let headers = headers(alloc, others)?;

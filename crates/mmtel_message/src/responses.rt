@@ -97,7 +97,7 @@ fn has_tag(alloc: Global, value: &[u8]) -> Result<bool, NoMemory>
 {
     match read_name_addr(alloc, value) {
         Ok(name) => Ok(param_value(name.params.items(), b"tag").is_some()),
-        Err(LexFault::Malformed { at: _ }) => Ok(false),
+        Err(LexFault::Malformed) => Ok(false),
         Err(LexFault::NoMemory) => Err(NoMemory),
     }
 }

@@ -16,19 +16,19 @@ fn status(alloc: Global, bytes: &[u8]) -> Result<Start, LexFault>
     ensures { Gives (λ x. x) result (status_at bytes.now) }
 {
     match part(b' ', bytes) {
-        None => Err(LexFault::Malformed { at: 0 }),
+        None => Err(LexFault::Malformed),
         Some((digits, phrase)) => {
             if digits.len() != 3 {
-                return Err(LexFault::Malformed { at: 0 });
+                return Err(LexFault::Malformed);
             }
             match number_up_to(699, digits) {
-                None => Err(LexFault::Malformed { at: 0 }),
+                None => Err(LexFault::Malformed),
                 Some(code) => {
                     if code < 100 {
-                        return Err(LexFault::Malformed { at: 0 });
+                        return Err(LexFault::Malformed);
                     }
                     if !is_value(phrase) {
-                        return Err(LexFault::Malformed { at: 0 });
+                        return Err(LexFault::Malformed);
                     }
                     let phrase = Text::of(alloc, phrase)?;
                     Ok(Start::Status {
@@ -57,18 +57,18 @@ fn request(alloc: Global, bytes: &[u8]) -> Result<Start, LexFault>
 {
     let (method, rest) = split_run(Class::Token, bytes);
     if method.is_empty() {
-        return Err(LexFault::Malformed { at: 0 });
+        return Err(LexFault::Malformed);
     }
     match skip_byte(b' ', rest) {
-        None => Err(LexFault::Malformed { at: 0 }),
+        None => Err(LexFault::Malformed),
         Some(rest) => match part(b' ', rest) {
-            None => Err(LexFault::Malformed { at: 0 }),
+            None => Err(LexFault::Malformed),
             Some((uri, version)) => {
                 if uri.is_empty() {
-                    return Err(LexFault::Malformed { at: 0 });
+                    return Err(LexFault::Malformed);
                 }
                 if version != b"SIP/2.0".as_slice() {
-                    return Err(LexFault::Malformed { at: 0 });
+                    return Err(LexFault::Malformed);
                 }
                 request_of(alloc, method, uri)
             }

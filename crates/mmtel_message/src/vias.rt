@@ -115,7 +115,7 @@ pub fn completed(alloc: Global, source: Addr, value: &[u8]) -> Result<Text, NoMe
                 sourced(alloc, source, &via)
             }
         }
-        Err(LexFault::Malformed { at: _ }) => Text::of(alloc, value),
+        Err(LexFault::Malformed) => Text::of(alloc, value),
         Err(LexFault::NoMemory) => Err(NoMemory),
     }
 }

@@ -8,8 +8,8 @@ use mmtel_scan::NoMemory;
 /// Why a body is no session description.
 #[derive(Clone, Copy, Debug, PartialEq, Eq)]
 pub enum SdpFault {
-    /// The body is not of the grammar. The reading stopped at this byte: at the first line that is none, or at the end of the body where each line is one.
-    NotSdp { at: usize },
+    /// The body is not of the grammar.
+    NotSdp,
     NoMemory,
 }
 

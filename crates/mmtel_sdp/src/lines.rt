@@ -1,9 +1,9 @@
 //! A text as lines `x=value` (RFC 4566 §5).
-ghost use Rattle.std.specs.Prelude.{◌≡◌, ◌≤◌, IfOk, length};
+ghost use Rattle.std.specs.Prelude.{◌≡◌, IfOk};
 ghost use Rattle.std.specs.Option.{option_copied};
 ghost use Rattle.mmtel_scan.specs.Scanning.{parted};
 ghost use Rattle.mmtel_sdp.specs.Lines.{text_from, line_of, line_at, lines_of};
-ghost use Rattle.mmtel_sdp.specs.Outcome.{Gives, StopsWithin};
+ghost use Rattle.mmtel_sdp.specs.Outcome.{Gives};
 
 use crate::faults::SdpFault;
 use mmtel_scan::{List, NoMemory, Text, part};
@@ -51,27 +51,20 @@ fn read_line(alloc: Global, raw: &[u8]) -> Result<Option<Line>, NoMemory>
 
 /// The lines of a body, each of which LF or CRLF ends.
 pub fn read_lines(alloc: Global, bytes: &[u8]) -> Result<List<Line>, SdpFault>
-    ensures exact { Gives result (lines_of bytes.now) }
-    ensures at { StopsWithin (length bytes.now) result }
+    ensures { Gives result (lines_of bytes.now) }
 {
     let mut lines = List::new();
     let mut rest = bytes;
     'lines: while let Some((raw, after)) = part(b'\n', rest) {
         match read_line(alloc, raw)? {
             Some(line) => lines.push(alloc, line)?,
-            None => {
-                return Err(SdpFault::NotSdp {
-                    at: bytes.len().saturating_sub(rest.len()),
-                });
-            }
+            None => return Err(SdpFault::NotSdp),
         }
         rest = after;
     }
     if rest.is_empty() {
         Ok(lines)
     } else {
-        Err(SdpFault::NotSdp {
-            at: bytes.len().saturating_sub(rest.len()),
-        })
+        Err(SdpFault::NotSdp)
     }
 }

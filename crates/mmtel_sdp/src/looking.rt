@@ -1,6 +1,6 @@
 //! Looking into a body.
-ghost use Rattle.std.specs.Prelude.{◌≡◌, IfOk, length};
-ghost use Rattle.mmtel_sdp.specs.Outcome.{Gives, StopsWithin};
+ghost use Rattle.std.specs.Prelude.{◌≡◌, IfOk};
+ghost use Rattle.mmtel_sdp.specs.Outcome.{Gives};
 ghost use Rattle.mmtel_sdp.specs.Sdp.{begins, session_of, sdp_of};
 
 use crate::faults::SdpFault;
@@ -50,15 +50,14 @@ fn session(alloc: Global, lines: &[Line]) -> Result<Option<SdpView>, NoMemory>
 ///
 /// # Errors
 ///
-/// `NotSdp` exactly where the body is not of the grammar; `at` is at most the number of its bytes. Want of memory.
+/// `NotSdp` exactly where the body is not of the grammar. Want of memory.
 #[tactic(auto, unfolding(crate::specs::Sdp::sdp_of))]
 pub fn look(alloc: Global, body: &[u8]) -> Result<SdpView, SdpFault>
     ensures exact { Gives result (sdp_of body.now) }
-    ensures at { StopsWithin (length body.now) result }
 {
     let lines = read_lines(alloc, body)?;
     match session(alloc, lines.items())? {
         Some(view) => Ok(view),
-        None => Err(SdpFault::NotSdp { at: body.len() }),
+        None => Err(SdpFault::NotSdp),
     }
 }

@@ -49,7 +49,7 @@ pub fn view_of(alloc: Global, body: &[u8]) -> Result<Option<SdpView>, NoMemory>
 {
     match look(alloc, body) {
         Ok(view) => Ok(Some(view)),
-        Err(SdpFault::NotSdp { .. }) => Ok(None),
+        Err(SdpFault::NotSdp) => Ok(None),
         Err(SdpFault::NoMemory) => Err(NoMemory),
     }
 }

@@ -20,7 +20,7 @@ module _ {A : Type 0} where
   or_wrong at (Some a) = Ok a
 
   abbrev pub Refuses : Read A → SheetFault → Type 0
-  Refuses wanted (NotToml at) = ⊥
+  Refuses wanted NotToml = ⊥
   Refuses wanted (Unknown key) = wanted ≡ Err (Unknown key)
   Refuses wanted (Wrong key) = wanted ≡ Err (Wrong key)
   Refuses wanted (Many key limit) = wanted ≡ Err (Many key limit)

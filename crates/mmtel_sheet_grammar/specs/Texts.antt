@@ -11,21 +11,21 @@ use Rattle.mmtel_sheet_values.specs.declared.values.Sheet.{Sheet}
 use Rattle.mmtel_sheet_values.specs.Sheets.{empty_sheet}
 
 abbrev pub document_read : Option Members → Read Sheet
-document_read None = Err (NotToml 0)
+document_read None = Err NotToml
 document_read (Some ms) = sheet_of ms
 
--- the sheet of the document that the bytes are, or the first fault; what is no TOML has no place here
+-- the sheet of the document that the bytes are, or the first fault
 unfoldable pub sheet_read : List ℕ → Read Sheet
-sheet_read bytes = if is_utf8 bytes then document_read (parse_document bytes) else Err (NotToml 0)
+sheet_read bytes = if is_utf8 bytes then document_read (parse_document bytes) else Err NotToml
 
 abbrev pub TellsFault : Read Sheet → SheetFault → Type 0
-TellsFault wanted (NotToml at) = wanted ≡ Err (NotToml 0)
+TellsFault wanted NotToml = wanted ≡ Err NotToml
 TellsFault wanted (Unknown key) = wanted ≡ Err (Unknown key)
 TellsFault wanted (Wrong key) = wanted ≡ Err (Wrong key)
 TellsFault wanted (Many key limit) = wanted ≡ Err (Many key limit)
 TellsFault wanted NoMemory = Unit {0}
 
--- this is answered, but for the place of what is no TOML and for want of memory
+-- this is answered, but for want of memory
 abbrev pub TellsRead : Read Sheet → Read Sheet → Type 0
 TellsRead wanted (Ok s) = wanted ≡ Ok s
 TellsRead wanted (Err e) = TellsFault wanted e

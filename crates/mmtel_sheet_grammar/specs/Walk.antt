@@ -1,6 +1,6 @@
 -- A service record as a sheet (3GPP TS 24.623; TS 24.604, 24.607, 24.608, 24.611, 24.615): what is read of the tables of a TOML document, in byte order of their names, and
 -- which fault is the first.
-use Rattle.std.specs.Prelude.{◌≡◌, ◌≤◌, ℕ, List, [], Bool, true, false, ◌&&◌, Option, Some, None, Result, Ok, Err, if◌then◌else◌, codes, length, IsUtf8}
+use Rattle.std.specs.Prelude.{◌≡◌, ℕ, List, [], Bool, true, false, ◌&&◌, Option, Some, None, Result, Ok, Err, if◌then◌else◌, codes, IsUtf8}
 use Rattle.std.specs.Str.{bytes_eq}
 use Rattle.toml.specs.Parse.{parse_document}
 use Rattle.toml.specs.Data.{Data, Members, no_members, member, as_table}
@@ -156,7 +156,7 @@ abbrev pub Documents : List ℕ → Read Sheet → Type 0
 Documents bytes read = (IsUtf8 bytes) × (ms : Members) × (parse_document bytes ≡ Some ms) × (sheet_of ms ≡ read)
 
 abbrev pub IsRefused : List ℕ → SheetFault → Type 0
-IsRefused bytes (NotToml at) = (at ≤ length bytes) × (IsUtf8 bytes → parse_document bytes ≡ None)
+IsRefused bytes NotToml = IsUtf8 bytes → parse_document bytes ≡ None
 IsRefused bytes (Unknown k) = Documents bytes (Err (Unknown k))
 IsRefused bytes (Wrong k) = Documents bytes (Err (Wrong k))
 IsRefused bytes (Many k limit) = Documents bytes (Err (Many k limit))

@@ -10,10 +10,7 @@ use std::alloc::AllocError;
 #[derive(Debug, Drop)]
 pub enum SheetFault {
     /// The bytes are not UTF-8, or no TOML.
-    NotToml {
-        /// A place at most the number of bytes; nothing more is promised of it.
-        at: usize,
-    },
+    NotToml,
     /// The key is nowhere listed.
     Unknown {
         /// `table`, `table.key` or `table.rule.N.key`.

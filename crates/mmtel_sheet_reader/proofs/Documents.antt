@@ -10,7 +10,7 @@ use Rattle.mmtel_sheet_values.specs.declared.values.Sheet.{Sheet}
 
 pub documented : (bytes : List ℕ) (ms : Members) (r : Read Sheet) → IsUtf8 bytes → parse_document bytes ≡ Some ms → Answers (sheet_of ms) r → IsRead bytes r
 documented bytes ms (Ok s) u p a = (u, ms, p, a)
-documented bytes ms (Err (NotToml at)) u p a = elim a [ ]
+documented bytes ms (Err NotToml) u p a = elim a [ ]
 documented bytes ms (Err (Unknown k)) u p a = (u, ms, p, a)
 documented bytes ms (Err (Wrong k)) u p a = (u, ms, p, a)
 documented bytes ms (Err (Many k n)) u p a = (u, ms, p, a)

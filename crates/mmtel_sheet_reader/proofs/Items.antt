@@ -14,7 +14,7 @@ use Rattle.mmtel_sheet_grammar.specs.declared.faults.SheetFault.TheVariants.{Not
 module _ {A B : Type 0} where
   -- what refuses the first refuses both
   pub refuses_both : (r : Read A) (next : A → Read B) (e : SheetFault) → Answers r (Err e) → Answers (then_do r next) (Err e)
-  refuses_both r next (NotToml at) a = a
+  refuses_both r next NotToml a = a
   refuses_both r next (Unknown k) a = rw a
   refuses_both r next (Wrong k) a = rw a
   refuses_both r next (Many k n) a = rw a
@@ -23,7 +23,7 @@ module _ {A B : Type 0} where
   -- what is refused as wrong stays so
   pub refused_still : (at : List ℕ) (r : Read A) (next : A → Read B) → IsErr r → Answers (Err (Wrong at)) r → Answers (Err (Wrong at)) (then_do r next)
   refused_still at (Ok a) next refused answered = absurd cc
-  refused_still at (Err (NotToml n)) next refused answered = answered
+  refused_still at (Err NotToml) next refused answered = answered
   refused_still at (Err (Unknown k)) next refused answered = absurd cc
   refused_still at (Err (Wrong k)) next refused answered = cc
   refused_still at (Err (Many k n)) next refused answered = absurd cc

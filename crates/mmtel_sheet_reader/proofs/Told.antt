@@ -17,7 +17,7 @@ whole bytes ms text parsed = rw (is_utf8-from_IsUtf8 bytes text, parsed) refl
 
 answered_alike : (wanted : Read Sheet) (r : Read Sheet) → Answers wanted r → TellsRead wanted r
 answered_alike wanted (Ok s) a = a
-answered_alike wanted (Err (NotToml at)) a = elim a [ ]
+answered_alike wanted (Err NotToml) a = elim a [ ]
 answered_alike wanted (Err (Unknown k)) a = a
 answered_alike wanted (Err (Wrong k)) a = a
 answered_alike wanted (Err (Many k n)) a = a
@@ -26,7 +26,7 @@ answered_alike wanted (Err NoMemory) a = tt
 pub told : (bytes : List ℕ) (ms : Members) (r : Read Sheet) → IsUtf8 bytes → parse_document bytes ≡ Some ms → Answers (sheet_of ms) r → TellsRead (sheet_read bytes) r
 told bytes ms r text parsed a = rw (whole bytes ms text parsed) (answered_alike (sheet_of ms) r a)
 
-pub told_nothing : (bytes : List ℕ) → (IsUtf8 bytes → parse_document bytes ≡ None) → sheet_read bytes ≡ Err (NotToml 0)
+pub told_nothing : (bytes : List ℕ) → (IsUtf8 bytes → parse_document bytes ≡ None) → sheet_read bytes ≡ Err NotToml
 unfolding sheet_read
 told_nothing bytes none =
     elim (cases_Bool (is_utf8 bytes)) [

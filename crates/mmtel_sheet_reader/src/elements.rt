@@ -71,7 +71,7 @@ pub fn uri(alloc: Global, at: &[u8], value: &Value) -> Result<Uri, SheetFault>
     match read_uri(alloc, text.as_bytes()) {
         Ok(uri) => Ok(uri),
         Err(UriFault::NoMemory) => Err(SheetFault::NoMemory),
-        Err(UriFault::Malformed { .. }) => wrong(alloc, at),
+        Err(UriFault::Malformed) => wrong(alloc, at),
         Err(UriFault::Scheme) => wrong(alloc, at),
     }
 }

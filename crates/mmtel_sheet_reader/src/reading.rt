@@ -19,7 +19,7 @@ use std::alloc::Global;
 #[tactic(auto, using(crate::proofs::Documents::documented, crate::proofs::Told::told, crate::proofs::Told::told_nothing, crate::proofs::ReadTables::answered))]
 pub fn read_sheet(alloc: Global, bytes: &[u8]) -> Result<Sheet, SheetFault>
     ensures exact { IsRead bytes.now result }
-    // The same as one function of the bytes, but for the place of what is no TOML.
+    // The same as one function of the bytes.
     ensures total { TellsRead (sheet_read bytes.now) result }
     // The sheet can be printed.
     ensures printable { IfOk result IsPrintable }
@@ -27,7 +27,7 @@ pub fn read_sheet(alloc: Global, bytes: &[u8]) -> Result<Sheet, SheetFault>
     match toml::table_from_slice(alloc, bytes) {
         Ok(table) => sheet(alloc, &table),
         Err(error) => match error.span() {
-            Some(range) => Err(SheetFault::NotToml { at: range.start }),
+            Some(_) => Err(SheetFault::NotToml),
             None => Err(SheetFault::NoMemory),
         },
     }

@@ -29,7 +29,7 @@ pub fn first_target(alloc: Global, uri: &[u8]) -> Result<Option<Target>, NoMemor
             uri,
             of_number: false,
         })),
-        Err(UriFault::Malformed { at: _ }) => Ok(None),
+        Err(UriFault::Malformed) => Ok(None),
         Err(UriFault::Scheme) => Ok(None),
         Err(UriFault::NoMemory) => Err(NoMemory),
     }

@@ -148,7 +148,7 @@ impl Head {
     {
         match read_five(alloc, m.lines()) {
             Ok(five) => head_from(alloc, m.start(), five),
-            Err(LexFault::Malformed { .. }) => head_without(alloc, m.start()),
+            Err(LexFault::Malformed) => head_without(alloc, m.start()),
             Err(LexFault::NoMemory) => Err(NoMemory),
         }
     }

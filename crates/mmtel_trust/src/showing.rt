@@ -276,7 +276,7 @@ fn read_by(alloc: Global, value: Option<&[u8]>) -> Result<Option<NameAddr>, NoMe
         None => Ok(None),
         Some(value) => match read_name_addr(alloc, value) {
             Ok(name) => Ok(Some(name)),
-            Err(LexFault::Malformed { at: _ }) => Ok(None),
+            Err(LexFault::Malformed) => Ok(None),
             Err(LexFault::NoMemory) => Err(NoMemory),
         },
     }

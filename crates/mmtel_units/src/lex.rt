@@ -78,7 +78,7 @@ impl Rows for Uris {
                 told.add(b"\n");
                 told.add_made(print_uri(told.alloc, &uri));
             }
-            Err(UriFault::Malformed { .. }) => told.add_line(b"malformed"),
+            Err(UriFault::Malformed) => told.add_line(b"malformed"),
             Err(UriFault::Scheme) => told.add_line(b"another scheme"),
             Err(UriFault::NoMemory) => told.fail(),
         }
@@ -287,7 +287,7 @@ impl Rows for NameAddrs {
                 add_name_addr(told, &name_addr);
                 told.add_made(print_name_addr(told.alloc, &name_addr));
             }
-            Err(LexFault::Malformed { .. }) => told.add_line(b"malformed"),
+            Err(LexFault::Malformed) => told.add_line(b"malformed"),
             Err(LexFault::NoMemory) => told.fail(),
         }
     }
@@ -385,7 +385,7 @@ impl Rows for ParamsRows {
                 told.add(b"\n");
                 add_written(told, &params);
             }
-            Err(LexFault::Malformed { .. }) => told.add_line(b"malformed"),
+            Err(LexFault::Malformed) => told.add_line(b"malformed"),
             Err(LexFault::NoMemory) => told.fail(),
         }
     }

@@ -52,7 +52,7 @@ impl Rows for Views {
         body.add_ended(b'|', asked, self.end);
         match look(told.alloc, body.bytes()) {
             Ok(view) => add_view(told, &view),
-            Err(SdpFault::NotSdp { .. }) => told.add_line(b"no session description"),
+            Err(SdpFault::NotSdp) => told.add_line(b"no session description"),
             Err(SdpFault::NoMemory) => told.fail(),
         }
     }
@@ -185,7 +185,7 @@ impl Rows for Answers {
         offer.add_ended(b'|', asked, b"\n");
         match look(told.alloc, offer.bytes()) {
             Ok(view) => add_answer(told, &view),
-            Err(SdpFault::NotSdp { .. }) => add_offer(told),
+            Err(SdpFault::NotSdp) => add_offer(told),
             Err(SdpFault::NoMemory) => told.fail(),
         }
     }

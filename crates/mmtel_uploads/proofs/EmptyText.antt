@@ -21,7 +21,7 @@ parsed = refl
 
 pub empty_text : sheet_read [] ≡ Ok empty_sheet
 unfolding sheet_read
-empty_text = ap (λ b. if b then document_read (parse_document []) else Err (NotToml 0)) text ∙ ap document_read parsed
+empty_text = ap (λ b. if b then document_read (parse_document []) else Err NotToml) text ∙ ap document_read parsed
 
 pub empty_upload : upload_of [] ≡ Accepted empty_sheet
 unfolding upload_of

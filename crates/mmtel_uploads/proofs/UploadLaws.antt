@@ -14,14 +14,14 @@ is_accepted bytes s e = sym (ap by_read e)
 
 pub is_refused : (bytes : List ℕ) (e : SheetFault) → TellsFault (sheet_read bytes) e → (e ≡ NoMemory → ⊥) → Refused (fault_text e) ≡ upload_of bytes
 unfolding upload_of
-is_refused bytes (NotToml at) told other = sym (ap by_read told)
+is_refused bytes NotToml told other = sym (ap by_read told)
 is_refused bytes (Unknown key) told other = sym (ap by_read told)
 is_refused bytes (Wrong key) told other = sym (ap by_read told)
 is_refused bytes (Many key limit) told other = sym (ap by_read told)
 is_refused bytes NoMemory told other = absurd (other refl)
 
 pub nothing_kept : (bytes : List ℕ) (e : SheetFault) → TellsFault (sheet_read bytes) e → (e ≡ NoMemory → ⊥) → empty_sheet ≡ kept_sheet bytes
-nothing_kept bytes (NotToml at) told other = sym (ap sheet_or_empty told)
+nothing_kept bytes NotToml told other = sym (ap sheet_or_empty told)
 nothing_kept bytes (Unknown key) told other = sym (ap sheet_or_empty told)
 nothing_kept bytes (Wrong key) told other = sym (ap sheet_or_empty told)
 nothing_kept bytes (Many key limit) told other = sym (ap sheet_or_empty told)

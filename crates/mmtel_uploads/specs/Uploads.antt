@@ -10,7 +10,7 @@ use Rattle.mmtel_uploads.specs.declared.uploads.Upload.TheVariants.{Accepted, Re
 
 -- the line that tells the fault
 abbrev pub fault_text : SheetFault → List ℕ
-fault_text (NotToml at) = codes "not toml\n"
+fault_text NotToml = codes "not toml\n"
 fault_text (Unknown key) = codes "unknown " ++ (key ++ codes "\n")
 fault_text (Wrong key) = codes "wrong " ++ (key ++ codes "\n")
 fault_text (Many key limit) = codes "many " ++ (key ++ (codes " " ++ (decimal limit ++ codes "\n")))

@@ -54,7 +54,7 @@ pub fn fault_text(alloc: Global, fault: &SheetFault) -> Result<Text, NoMemory>
     ensures other { IfOk result (λ _. fault.now ≢ kinds.NoMemory) }
 {
     match fault {
-        SheetFault::NotToml { .. } => Text::of(alloc, b"not toml\n"),
+        SheetFault::NotToml => Text::of(alloc, b"not toml\n"),
         SheetFault::Unknown { key } => key_line(alloc, b"unknown ", key),
         SheetFault::Wrong { key } => key_line(alloc, b"wrong ", key),
         SheetFault::Many { key, limit } => many_line(alloc, key, *limit),
@@ -85,7 +85,7 @@ fn without_record(fault: &SheetFault) -> Result<Sheet, NoMemory>
     ensures other { IfOk result (λ _. fault.now ≢ kinds.NoMemory) }
 {
     match fault {
-        SheetFault::NotToml { .. } => Ok(Sheet::empty()),
+        SheetFault::NotToml => Ok(Sheet::empty()),
         SheetFault::Unknown { .. } => Ok(Sheet::empty()),
         SheetFault::Wrong { .. } => Ok(Sheet::empty()),
         SheetFault::Many { .. } => Ok(Sheet::empty()),

@@ -7,10 +7,9 @@ use Rattle.mmtel_lex.proofs.name_addrs.read_name_addr.Goals as goal
 
 pub returns : goal.returns
 returns c = record {
-  exact = c.whole.ensures.exact;
-  found = found_of (λ (n : NameAddr). IsNameAddr c.args.bytes.now n) (name_addr_of c.args.bytes.now) (λ n e. name_addr_takes c.args.bytes.now n e) c.whole.result c.whole.ensures.exact;
-  only = λ n is. only_of (name_addr_of c.args.bytes.now) n (name_addr_again c.args.bytes.now n is) c.whole.result c.whole.ensures.exact;
-  malformed = λ e. malformed_of (λ (n : NameAddr). IsNameAddr c.args.bytes.now n) (name_addr_of c.args.bytes.now) (λ n is. name_addr_again c.args.bytes.now n is) c.whole.result c.whole.ensures.exact e;
-  refused = λ none. refused_of (λ (n : NameAddr). IsNameAddr c.args.bytes.now n) (name_addr_of c.args.bytes.now) (λ n e. name_addr_takes c.args.bytes.now n e) c.whole.result c.whole.ensures.exact none;
-  at = c.whole.ensures.at;
+  exact = c.name_addr.ensures;
+  found = found_of (λ (n : NameAddr). IsNameAddr c.args.bytes.now n) (name_addr_of c.args.bytes.now) (λ n e. name_addr_takes c.args.bytes.now n e) c.name_addr.result c.name_addr.ensures;
+  only = λ n is. only_of (name_addr_of c.args.bytes.now) n (name_addr_again c.args.bytes.now n is) c.name_addr.result c.name_addr.ensures;
+  malformed = λ e. malformed_of (λ (n : NameAddr). IsNameAddr c.args.bytes.now n) (name_addr_of c.args.bytes.now) (λ n is. name_addr_again c.args.bytes.now n is) c.name_addr.result c.name_addr.ensures e;
+  refused = λ none. refused_of (λ (n : NameAddr). IsNameAddr c.args.bytes.now n) (name_addr_of c.args.bytes.now) (λ n e. name_addr_takes c.args.bytes.now n e) c.name_addr.result c.name_addr.ensures none;
 }

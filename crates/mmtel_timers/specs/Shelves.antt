@@ -1,0 +1,40 @@
+-- Shelves that are kept in an order, and that have the items of the elements of a list.
+use Rattle.std.specs.Prelude.{◌≡◌, ◌⊎◌, ◌<◌, ℕ, Bool, Box, Option, Some, None, if◌then◌else◌, List, [], ◌∷◌, map}
+use Rattle.std.specs.List.{AllByRecursion}
+use Rattle.std.specs.Ordering.{is_lt}
+use Rattle.std.specs.declared.cmp.Ordering.{Ordering}
+use Rattle.std.specs.declared.cmp.Ordering.TheVariants.{Less}
+
+-- what lies in blocks of their own
+abbrev pub unboxed : {X A : Type 0} → List (Box X A) → List X
+unboxed blocks = map (λ b. b.value) blocks
+
+-- what stands in a list
+abbrev pub Has : {X : Type 0} → X → List X → Type 0
+Has e [] = ⊥
+Has e (x ∷ xs) = (e ≡ x) ⊎ Has e xs
+
+-- each item comes before all that follow
+abbrev pub Ascends : {X : Type 0} → (X → X → Ordering) → List X → Type 0
+Ascends R [] = Unit {0}
+Ascends R (x ∷ xs) = AllByRecursion (λ y. R x y ≡ Less) xs × Ascends R xs
+
+-- numbers rise
+abbrev pub Rises : {E : Type 0} → (E → ℕ) → List E → Type 0
+Rises key [] = Unit {0}
+Rises key (e ∷ es) = AllByRecursion (λ x. key e < key x) es × Rises key es
+
+-- the shelf is in order, and has the items of the elements and no other
+pub record IsIndex {E X : Type 0} (item : E → Option X) (R : X → X → Ordering) (es : List E) (xs : List X) : Type 0 where
+  pub ascends : Ascends R xs
+  pub all : (e : E) (x : X) → Has e es → item e ≡ Some x → Has x xs
+  pub only : (x : X) → Has x xs → (e : E) × Has e es × (item e ≡ Some x)
+
+-- whether an item comes before another
+abbrev pub comes_before : {X : Type 0} → (X → X → Ordering) → X → X → Bool
+comes_before R x y = is_lt (R y x)
+
+-- the number of what was found, if it is what was looked for
+abbrev pub answer : {X : Type 0} → (X → Bool) → (X → ℕ) → Option X → Option ℕ
+answer hits number None = None
+answer hits number (Some x) = if hits x then Some (number x) else None

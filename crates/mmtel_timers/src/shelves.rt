@@ -1,0 +1,161 @@
+//! Lists whose items are seen one at a time, and each look is counted.
+ghost use Rattle.std.specs.Prelude.{◌≡◌, ℕ, Bool, true, false, ◌+◌, ◌-◌, ◌*◌, ◌^◌, ◌≤◌, ◌<◌, [], OnOk, OnErr, IfErr, length, insert, remove, option_copied, slice_get};
+ghost use Rattle.std.specs.List.Sorted.{IsPartitionedBy, IsPartitionPoint};
+
+use crate::steps::Steps;
+use mmtel_scan::NoMemory;
+use std::alloc::Global;
+use std::marker::Model;
+use std::sync::ledger::Ledger;
+
+/// A list of items that whoever keeps it keeps in an order of its own.
+///
+/// Each item lies in a block of its own, so that putting one in or taking one out moves an address for each item behind it.
+pub struct Shelf<T> {
+    items: Vec<Box<T>>,
+}
+
+impl<T> Model for Shelf<T> {
+    ghost use Rattle.std.specs.Prelude.{List};
+    ghost use Rattle.mmtel_timers.specs.Shelves.{unboxed};
+
+    ghost Value = { List T };
+
+    ghost view = { λ shelf. unboxed shelf.items.items };
+}
+
+impl<T: Drop> Drop for Shelf<T> {
+    fn drop(self) {
+        let Shelf { items: _ } = self;
+    }
+}
+
+/// A place that is looked for: it says of each item whether that comes before it.
+pub trait Mark<T> {
+    ghost before: { Self → T → Bool };
+
+    /// Whether the item comes before the place.
+    fn is_before(&self, item: &T) -> bool
+        ensures { result ≡ before self.now item.now };
+}
+
+/// Where a place is, and the item that stands there, None where it is the end.
+#[derive(Clone, Copy)]
+pub struct Sought<'a, T> {
+    pub place: usize,
+    pub item: Option<&'a T>,
+}
+
+impl<T> Shelf<T> {
+    /// A shelf of no items. It takes no memory.
+    pub fn new(alloc: Global) -> Shelf<T>
+        ensures { result ≡ [] }
+    {
+        Shelf {
+            items: Vec::new(alloc),
+        }
+    }
+
+    /// How many items it has.
+    pub fn len(&self) -> usize
+        ensures { result ≡ length self.now }
+    {
+        self.items.len()
+    }
+
+    /// The item at a place, None exactly where there is none. It is one step.
+    pub fn look<L: Ledger>(&self, place: usize, steps: &mut Steps<L>) -> Option<&T>
+        ensures item { option_copied result ≡ slice_get self.now place }
+        ensures step { steps.new ≡ steps.old + 1 }
+    {
+        steps.tick();
+        match self.items.get(place) {
+            Some(item) => Some(item.as_ref()),
+            None => None,
+        }
+    }
+
+    /// Puts an item before the one at a place, or at the end.
+    ///
+    /// # Errors
+    ///
+    /// Want of memory alone; the item is handed back, and the shelf is as before.
+    pub fn insert(&mut self, place: usize, item: T) -> Result<(), (T, NoMemory)>
+        requires { place ≤ length self.old }
+        ensures ok { OnOk result (self.new ≡ insert self.old place item) }
+        ensures err { OnErr result (self.new ≡ self.old) }
+        ensures handed_back { IfErr result (λ refused. refused.0 ≡ item) }
+    {
+        let block = match Box::new(*self.items.allocator(), item) {
+            Ok(block) => block,
+            Err(refused) => return Err((refused.value, NoMemory)),
+        };
+        if let Err(refused) = self.items.insert(place, block) {
+            return Err((Box::into_inner(refused.value), NoMemory));
+        }
+        Ok(())
+    }
+
+    /// Takes the item at a place out, None exactly where there is none.
+    pub fn remove(&mut self, place: usize) -> Option<T>
+        ensures item { result ≡ slice_get self.old place }
+        ensures rest { self.new ≡ remove self.old place }
+    {
+        if place < self.items.len() {
+            Some(Box::into_inner(self.items.remove(place)))
+        } else {
+            None
+        }
+    }
+
+    /// Takes the item at a place out and puts another one in where it belongs. It takes no memory.
+    pub fn exchange<L: Ledger, M: Mark<T>>(
+        &mut self,
+        from: usize,
+        mark: &M,
+        item: T,
+        steps: &mut Steps<L>,
+    ) -> (T, usize)
+        requires from { from < length self.old }
+        requires parted { IsPartitionedBy (M.before mark.now) (remove self.old from) }
+        ensures taken { slice_get self.old from ≡ Some result.0 }
+        ensures within { result.1 ≤ length (remove self.old from) }
+        ensures place { IsPartitionPoint (λ x. M.before mark.now x ≡ true) (λ x. M.before mark.now x ≡ false) (remove self.old from) result.1 }
+        ensures rest { self.new ≡ insert (remove self.old from) result.1 item }
+        ensures rise { steps.old ≤ steps.new }
+    {
+        let mut block = self.items.remove(from);
+        let taken = Box::replace(&mut block, item);
+        let place = self.seek(mark, steps).place;
+        match self.items.insert(place, block) {
+            Ok(()) => (taken, place),
+            Err(_) => unreachable!(),
+        }
+    }
+
+    /// The first place whose item does not come before what is looked for, in at most as many steps as twice the length and one has binary digits.
+    pub fn seek<L: Ledger, M: Mark<T>>(&self, mark: &M, steps: &mut Steps<L>) -> Sought<'_, T>
+        requires { IsPartitionedBy (M.before mark.now) self.now }
+        ensures within { result.place ≤ length self.now }
+        ensures parted { IsPartitionPoint (λ x. M.before mark.now x ≡ true) (λ x. M.before mark.now x ≡ false) self.now result.place }
+        ensures item { option_copied result.item ≡ slice_get self.now result.place }
+        ensures cost { 2 ^ (steps.new - steps.old) ≤ 2 * length self.now + 1 }
+        ensures rise { steps.old ≤ steps.new }
+    {
+        let mut low = 0;
+        let mut high = self.items.len();
+        let mut item = None;
+        while low < high {
+            let middle = low + (high - low) / 2;
+            steps.tick();
+            let found = self.items[middle].as_ref();
+            if mark.is_before(found) {
+                low = middle + 1;
+            } else {
+                high = middle;
+                item = Some(found);
+            }
+        }
+        Sought { place: low, item }
+    }
+}

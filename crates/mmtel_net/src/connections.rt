@@ -1,6 +1,9 @@
 //! Web connections that are read side by side.
-ghost use Rattle.std.specs.Prelude.{◌≡◌, ◌≤◌, length, IfOk};
-ghost use Rattle.mmtel_net.specs.Reading.{WaitsByNeed};
+ghost use Rattle.std.specs.Prelude.{◌≡◌, ◌≤◌, ◌<◌, ◌+◌, ◌*◌, ◌^◌, ◌&&◌, ◌||◌, ◌==◌, length, take, drop, min, nat_lt, is_err, IfOk, OnErr};
+ghost use Rattle.std.specs.Duration.{as_nanos};
+ghost use Rattle.std.specs.Result.{ForOk};
+ghost use Rattle.mmtel_http.specs.Expectations.{waits_to_go_on};
+ghost use Rattle.mmtel_net.specs.Reading.{Finds, Keeps, TakesIn, WaitsByNeed, is_late, unread, waits_unless, with_handed};
 
 use mmtel_http::{Whole, waits_to_go_on, whole};
 use mmtel_scan::{List, Text};
@@ -11,7 +14,7 @@ use std::net::TcpStream;
 use std::time::{Duration, Instant};
 
 /// How long a connection may take until its request is whole, in milliseconds.
-const DEADLINE: u64 = 500;
+const DEADLINE: u128 = 500;
 
 /// How long each write of a reply may take, in milliseconds.
 const REPLY: u64 = 50;
@@ -52,12 +55,34 @@ pub enum Found {
 }
 
 /// What stands behind so many bytes.
-fn behind(bytes: &[u8], count: usize) -> &[u8] {
+fn behind(bytes: &[u8], count: usize) -> &[u8]
+    ensures rest { result.now ≡ drop count bytes.now }
+    ensures room { count + length result.now < 2 ^ 64 }
+{
     if count <= bytes.len() {
         &bytes[count..]
     } else {
         &[]
     }
+}
+
+/// Copies as many bytes as there are and fit into the front of the buffer.
+fn fill(buf: &mut [u8], bytes: &[u8]) -> usize
+    ensures count { result ≡ min (length buf.old) (length bytes.now) }
+    ensures front { take result buf.new ≡ take result bytes.now }
+    ensures rest { drop result buf.new ≡ drop result buf.old }
+    ensures within { result ≤ length buf.new }
+{
+    let count = buf.len().min(bytes.len());
+    buf[..count].copy_from_slice(&bytes[..count]);
+    count
+}
+
+/// Whether a connection that came so long ago has taken too long.
+fn is_too_long(taken: Duration) -> bool
+    ensures { result ≡ nat_lt (500 * 1_000_000) (as_nanos taken) }
+{
+    taken.as_nanos() > DEADLINE * 1_000_000
 }
 
 impl Connection {
@@ -73,17 +98,19 @@ impl Connection {
         }
     }
 
-    /// Whether it has taken too long; a clock that fails says so too.
-    fn late(&self, rt: &HostRuntime) -> Step {
-        match self.came.elapsed(rt) {
-            Ok(taken) if taken <= Duration::from_millis(DEADLINE) => Step::Waits,
+    /// Whether it waits yet by this reading of the clock. A clock that fails lets none wait.
+    fn by_clock(&self, now: Option<Instant>) -> Step
+        ensures { result ≡ waits_unless (is_late now self.now) }
+    {
+        match now {
+            Some(now) if !is_too_long(now.duration_since(self.came)) => Step::Waits,
             _ => Step::Due,
         }
     }
 
     /// Tells a client that waits with its body to go on, once. A client that cannot be told may send it all the same.
     fn tell_to_go_on(&mut self)
-        ensures { self.new.bytes ≡ self.old.bytes }
+        ensures { self.new ≡ record self.old { told = self.old.told || waits_to_go_on self.old.bytes } }
     {
         if !self.told && waits_to_go_on(self.bytes.bytes()) {
             self.told = true;
@@ -93,8 +120,8 @@ impl Connection {
     }
 
     /// Keeps bytes that were read.
-    fn keep(&mut self, rt: &HostRuntime, alloc: Global, bytes: &[u8]) -> Step
-        ensures { WaitsByNeed self.old.bytes self.new.bytes result }
+    fn keep(&mut self, now: Option<Instant>, alloc: Global, bytes: &[u8]) -> Step
+        ensures { Keeps now self.old self.new bytes.now result }
     {
         if self.bytes.push(alloc, bytes).is_err() {
             return Step::NoMemory;
@@ -102,39 +129,63 @@ impl Connection {
         match whole(self.bytes.bytes()) {
             Whole::More => {
                 self.tell_to_go_on();
-                self.late(rt)
+                self.by_clock(now)
             }
             _ => Step::Due,
         }
     }
 
-    /// Reads what is there.
-    fn step(&mut self, rt: &HostRuntime, alloc: Global, buf: &mut [u8]) -> Step
-        ensures { WaitsByNeed self.old.bytes self.new.bytes result }
+    /// Takes in what a read of its stream came to.
+    fn take_in(
+        &mut self,
+        now: Option<Instant>,
+        alloc: Global,
+        buf: &[u8],
+        read: io::Result<usize>,
+    ) -> Step
+        requires { ForOk read (λ n. n ≤ length buf.now) }
+        ensures { TakesIn now self.old self.new buf.now read result }
     {
-        let mut by = &self.stream;
-        match by.read(buf) {
+        match read {
             Ok(0) => Step::Due,
-            Ok(count) => self.keep(rt, alloc, &buf[..count]),
-            Err(e) if e.kind() == ErrorKind::WouldBlock => self.late(rt),
-            Err(_) => {
-                self.failed = true;
-                Step::Due
-            }
+            Ok(count) => self.keep(now, alloc, &buf[..count]),
+            Err(e) => match e.kind() {
+                ErrorKind::WouldBlock => self.by_clock(now),
+                _ => {
+                    self.failed = true;
+                    Step::Due
+                }
+            },
         }
     }
 
-    /// Hands out what was read, as much as fits; then its failure, or its end.
+    /// Reads what is there.
+    fn step(&mut self, now: Option<Instant>, alloc: Global, buf: &mut [u8]) -> Step
+        ensures needed { WaitsByNeed now self.old self.new result }
+        ensures stays { self.new.stream ≡ self.old.stream }
+    {
+        let mut by = &self.stream;
+        let read = by.read(buf);
+        self.take_in(now, alloc, buf, read)
+    }
+
+    /// Hands out what was read, as much as fits, into the front of the buffer; then its failure, or its end.
     pub fn hand(&mut self, buf: &mut [u8]) -> io::Result<usize>
-        ensures { IfOk result (λ n. n ≤ length buf.new) }
+        ensures within { IfOk result (λ n. n ≤ length buf.new) }
+        ensures count { IfOk result (λ n. n ≡ min (length buf.old) (length (unread self.old))) }
+        ensures front { IfOk result (λ n. take n buf.new ≡ take n (unread self.old)) }
+        ensures rest { IfOk result (λ n. drop n buf.new ≡ drop n buf.old) }
+        ensures handed { IfOk result (λ n. self.new ≡ with_handed n self.old) }
+        ensures failed { is_err result ≡ ((length (unread self.old) == 0) && self.old.failed) }
+        ensures unread { OnErr result (self.new ≡ self.old) }
+        ensures unfilled { OnErr result (buf.new ≡ buf.old) }
     {
         let rest = behind(self.bytes.bytes(), self.handed);
         if rest.is_empty() && self.failed {
             return Err(io::Error::from(ErrorKind::ConnectionReset));
         }
-        let count = buf.len().min(rest.len());
-        buf[..count].copy_from_slice(&rest[..count]);
-        self.handed = self.handed.saturating_add(count);
+        let count = fill(buf, rest);
+        self.handed += count;
         Ok(count)
     }
 
@@ -148,19 +199,18 @@ impl Connection {
     }
 }
 
-/// Reads each of the connections once, and takes out the first that is due.
+/// Reads each of the connections once, the first first, and takes out the first that is due; those that were read before it wait behind the others.
 pub fn find_due(
     waiting: &mut List<Connection>,
-    rt: &HostRuntime,
+    now: Option<Instant>,
     alloc: Global,
     buf: &mut [u8],
-) -> Found {
-    for _ in 0..waiting.items().len() {
-        if waiting.items().is_empty() {
-            return Found::Nothing;
-        }
+) -> Found
+    ensures { Finds now waiting.old waiting.new result }
+{
+    for _turn in 0..waiting.items().len() {
         let mut connection = waiting.remove(0);
-        match connection.step(rt, alloc, buf) {
+        match connection.step(now, alloc, buf) {
             Step::Due => return Found::One(connection),
             Step::NoMemory => return Found::NoMemory,
             Step::Waits => {

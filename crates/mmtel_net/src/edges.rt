@@ -1,5 +1,6 @@
 //! The sockets with the web connections that wait, of which no clause says what comes.
-ghost use Rattle.std.specs.Prelude.{◌≤◌, length, IfOk};
+ghost use Rattle.std.specs.Prelude.{◌≡◌, ◌≤◌, ◌+◌, ◌%◌, length, take, drop, min, IfOk, IsTrue, OnErr, option_map};
+ghost use Rattle.mmtel_net.specs.Reading.{announced, with_handed};
 
 use crate::connections::{Connection, Found, find_due};
 use crate::sockets::{Sockets, clock};
@@ -25,6 +26,8 @@ pub struct Edge<'a> {
     buffer: [u8; 16_385],
     web_first: bool,
     web_failed: bool,
+    web_came: bool,
+    turn: u8,
 }
 
 /// A datagram as an arrival. The buffer holds one byte more than a datagram may have, so one that was cut is too large still.
@@ -56,6 +59,8 @@ impl<'a> Edge<'a> {
             buffer: [0; 16_385],
             web_first: true,
             web_failed: false,
+            web_came: true,
+            turn: 0,
         }
     }
 
@@ -86,8 +91,14 @@ impl<'a> Edge<'a> {
     }
 
     /// Takes a web connection that has come, if there is room; true where memory ran out.
+    ///
+    /// The listener is asked only where one may be there: asking it for nothing costs as much as a datagram.
     fn accept(&mut self, alloc: Global) -> io::Result<bool> {
+        if !self.web_came {
+            return Ok(false);
+        }
         let Some(stream) = self.stream()? else {
+            self.web_came = false;
             return Ok(false);
         };
         let came = Instant::now(self.rt)?;
@@ -103,7 +114,11 @@ impl<'a> Edge<'a> {
         if self.accept(alloc)? {
             return Ok(Some(Arrival::NoMemory));
         }
-        match find_due(&mut self.waiting, self.rt, alloc, &mut self.buffer) {
+        if self.waiting.items().is_empty() {
+            return Ok(None);
+        }
+        let now = Instant::now(self.rt).ok();
+        match find_due(&mut self.waiting, now, alloc, &mut self.buffer) {
             Found::Nothing => Ok(None),
             Found::NoMemory => Ok(Some(Arrival::NoMemory)),
             Found::One(connection) => {
@@ -144,16 +159,31 @@ impl<'a> Edge<'a> {
         }
     }
 
-    /// Waits for a datagram or a connection; for a datagram alone where no connection would be taken.
-    fn wait(&self, ms: i32) {
+    /// Waits for a datagram or a connection; for a datagram alone where no connection would be taken. The listener is not asked while it fails, so it is tried again then.
+    fn wait(&mut self, ms: i32) {
+        let listens = self.has_room() && !self.web_failed;
         if let Some(sockets) = &self.sockets {
-            sockets.wait(self.has_room() && !self.web_failed, ms);
+            let came = sockets.wait(listens, ms);
+            self.web_came = self.web_came || self.web_failed || came;
+        }
+    }
+
+    /// Counts a call of `next`. At each 256th the listener is asked whatever the waits said: while datagrams never end, nothing is waited for.
+    fn count_turn(&mut self)
+        ensures counted { self.new.turn ≡ (self.old.turn + 1) % 256 }
+        ensures asked { (self.new.turn ≡ 0) → IsTrue self.new.web_came }
+        ensures kept { IsTrue self.old.web_came → IsTrue self.new.web_came }
+    {
+        self.turn = self.turn.wrapping_add(1);
+        if self.turn == 0 {
+            self.web_came = true;
         }
     }
 
     /// What comes within 50 ms. While connections wait they are looked at every 5 ms.
     pub fn next(&mut self, alloc: Global) -> io::Result<Arrival> {
         self.connection = None;
+        self.count_turn();
         let (turns, ms) = if self.waiting.items().is_empty() {
             (1, 50)
         } else {
@@ -176,7 +206,12 @@ impl<'a> Edge<'a> {
 
     /// Hands out what was read of the connection that was announced last.
     pub fn read(&mut self, buf: &mut [u8]) -> io::Result<usize>
-        ensures { IfOk result (λ n. n ≤ length buf.new) }
+        ensures within { IfOk result (λ n. n ≤ length buf.new) }
+        ensures count { IfOk result (λ n. n ≡ min (length buf.old) (length (announced self.old.connection))) }
+        ensures front { IfOk result (λ n. take n buf.new ≡ take n (announced self.old.connection)) }
+        ensures rest { IfOk result (λ n. drop n buf.new ≡ drop n buf.old) }
+        ensures handed { IfOk result (λ n. self.new ≡ record self.old { connection = option_map (with_handed n) self.old.connection }) }
+        ensures err { OnErr result (self.new ≡ self.old) }
     {
         match &mut self.connection {
             Some(connection) => connection.hand(buf),

@@ -86,8 +86,8 @@ impl Sockets {
         }
     }
 
-    /// Waits until a datagram has come or, where that is asked for, a web connection, for so many milliseconds at most.
-    pub fn wait(&self, listens: bool, ms: i32) {
+    /// Waits until a datagram has come or, where that is asked for, a web connection, for so many milliseconds at most; whether the latter may have come.
+    pub fn wait(&self, listens: bool, ms: i32) -> bool {
         let listener = if listens {
             self.listener.as_raw_fd()
         } else {
@@ -106,6 +106,7 @@ impl Sockets {
             },
         ];
         let _ready = poll(&mut asked, ms);
+        asked[1].revents != 0
     }
 
     /// Sends a datagram.

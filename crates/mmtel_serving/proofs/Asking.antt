@@ -1,16 +1,13 @@
 -- What a request asks of the keeper rests on no text that is in force, and want of memory is answered alike whatever was asked.
-use Rattle.std.proofs.Common.{◌≡◌, ◌∙◌, ℕ, List, [], Option, IfOk, Result, Ok, Err, refl, sym, ap, inl}
+use Rattle.std.proofs.Common.{◌≡◌, ◌∙◌, ℕ, List, [], Option, Result, Ok, Err, refl, sym, ap, inl}
 use Rattle.std.specs.Prelude.{OnErr}
 use Rattle.mmtel_charging.specs.declared.rows.Row.{Row}
 use Rattle.mmtel_directory.specs.declared.directories.WebDirectory.{WebDirectory}
 use Rattle.mmtel_http.specs.Requests.{Request}
 use Rattle.mmtel_keeper.specs.Kept.{Held, KeeperCalls}
 use Rattle.mmtel_serving.specs.Calls.{Answers, Call, SaysItsText, asks, call_by, call_in, none, stores}
-use Rattle.mmtel_scan.specs.declared.memory.NoMemory.{NoMemory}
-use Rattle.mmtel_serving.specs.Outcomes.{kept_in}
-use Rattle.mmtel_serving.specs.declared.serving.Served.{Served}
 use Rattle.mmtel_types.specs.declared.numbers.Account.{Account}
-use Rattle.mmtel_web.specs.Answers.{Kept, failed, no_memory, reply_of, reply_to, web_of, web_reply}
+use Rattle.mmtel_web.specs.Answers.{Kept, failed, no_memory, reply_of, reply_to, web_of}
 use Rattle.mmtel_web.specs.Uploads.{OnlyRepliesSeeTexts, UploadsSayTheirText, unsaid}
 use Rattle.mmtel_web.specs.declared.answers.Web.{Web}
 use Rattle.mmtel_web.specs.declared.answers.Web.TheVariants as web
@@ -43,12 +40,6 @@ call_unsaid web.Charges = refl
 
 pub call_same : (d : WebDirectory) (texts : List (Account × List ℕ)) (request : Request) → OnlyRepliesSeeTexts → call_by (web_of d texts request) ≡ call_in d request
 call_same d texts request law = call_unsaid (web_of d texts request) ∙ (ap call_by (law d texts request) ∙ sym (call_unsaid (web_of d [] request)))
-
-pub err_reply : (r : Result Served NoMemory) (d : WebDirectory) (texts : List (Account × List ℕ)) (request : Request)
-    → IfOk r (λ s. s.reply ≡ reply_of 507 []) → IfOk r (λ s. kept_in s.kept ≡ no_memory) → IfOk r (λ s. s.reply ≡ web_reply d texts request (kept_in s.kept) s.rows)
-err_reply (Ok s) d texts request said kept =
-    said ∙ (sym (memory_reply s.rows (web_of d texts request)) ∙ ap (λ (k : Kept). reply_to k s.rows (web_of d texts request)) (sym kept))
-err_reply (Err e) d texts request said kept = tt
 
 pub on_err : {T E : Type 0} (r : Result T E) (P : Type 0) → P → OnErr r P
 on_err (Ok x) P p = tt

@@ -1,14 +1,13 @@
 //! What becomes of the calls of a keeper.
-ghost use Rattle.std.specs.Prelude.{◌≡◌, IfOk, []};
+ghost use Rattle.std.specs.Prelude.{◌≡◌, []};
 ghost use Rattle.mmtel_serving.specs.Calls.{Counted, Stored, Told};
 ghost use Rattle.mmtel_serving.specs.Outcomes.{kept_in};
-ghost use Rattle.mmtel_web.specs.Answers.{after_call};
+ghost use Rattle.mmtel_web.specs.Answers.{after_call, reply_of};
 
 use mmtel_charging::Row;
 use mmtel_keeper::{KeepFault, Keeper};
-use mmtel_scan::{List, NoMemory, Text};
+use mmtel_scan::{List, Text};
 use mmtel_types::Account;
-use mmtel_web::reply;
 use std::alloc::Global;
 
 /// What became of the keeper's call that a request asks for; of one that asks for none, that it was answered.
@@ -64,13 +63,28 @@ pub fn ask_rows<K: Keeper>(alloc: Global, keeper: &mut K) -> Charges
     }
 }
 
-/// The reply once a call of the keeper was made or not: this one where it was (503 where it failed, 507 for want of memory).
-pub fn after_call(alloc: Global, kept: Outcome, text: Text) -> Result<Text, NoMemory>
-    ensures reply { IfOk result (λ said. said ≡ after_call (kept_in kept) text) }
-{
-    match kept {
-        Outcome::Made => Ok(text),
-        Outcome::Failed => reply(alloc, 503, &[]),
-        Outcome::NoMemory => reply(alloc, 507, &[]),
+/// The replies that may be due where the keeper is called. They are made before it is, so that what it does is always answered.
+#[derive(Drop)]
+pub struct Replies {
+    /// Where its call was made.
+    pub made: Text,
+    /// Where it failed (503).
+    pub failed: Text,
+    /// Where memory ran out (507).
+    pub no_memory: Text,
+}
+
+impl Replies {
+    /// The reply that is due, by what became of the call.
+    pub fn after_call(self, kept: Outcome) -> Text
+        requires failed { self.failed ≡ reply_of 503 [] }
+        requires no_memory { self.no_memory ≡ reply_of 507 [] }
+        ensures reply { result ≡ after_call (kept_in kept) self.made }
+    {
+        match kept {
+            Outcome::Made => self.made,
+            Outcome::Failed => self.failed,
+            Outcome::NoMemory => self.no_memory,
+        }
     }
 }

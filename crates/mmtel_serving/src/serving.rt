@@ -12,7 +12,7 @@ ghost use Rattle.mmtel_web.specs.Answers.{made, no_memory, reply_of, reply_to, w
 ghost use Rattle.mmtel_web.specs.Uploads.{kept_upload, upload_by, upload_in};
 ghost use Rattle.mmtel_web.specs.declared.answers.Web.TheVariants as web;
 
-use crate::outcomes::{Charges, Outcome, after_call, ask_rows, store};
+use crate::outcomes::{Charges, Outcome, Replies, ask_rows, store};
 use mmtel_charging::{Row, rows_text};
 use mmtel_in_force::Records;
 use mmtel_keeper::Keeper;
@@ -60,7 +60,19 @@ fn keep<K: Keeper>(
     kept
 }
 
-/// Does what an upload asks.
+/// Answers for want of memory: this reply, which was made before.
+fn without_memory(sorry: Text, rows: List<Row>) -> Served
+    requires { sorry ≡ reply_of 507 [] }
+    ensures { result ≡ record { reply = reply_of 507 []; kept = Outcome.NoMemory; rows = rows } }
+{
+    Served {
+        reply: sorry,
+        kept: Outcome::NoMemory,
+        rows,
+    }
+}
+
+/// Does what an upload asks. The reply to each outcome is there before the keeper is called.
 fn serve_upload<K: Keeper>(
     alloc: Global,
     records: &mut Records,
@@ -69,23 +81,31 @@ fn serve_upload<K: Keeper>(
     sheet: Sheet,
     text: Text,
     said: Text,
-) -> Result<Served, NoMemory>
+    sorry: Text,
+) -> Served
     requires its { sheet ≡ kept_sheet text }
-    ensures reply { IfOk result (λ served. served.reply ≡ answers.after_call (kept_in served.kept) said) }
-    ensures texts { IfOk result (λ served. records.new.texts.texts ≡ put_kept (kept_upload (kept_in served.kept) (Some (account, text))) records.old.texts.texts) }
+    requires sorry { sorry ≡ reply_of 507 [] }
+    ensures reply { result.reply ≡ answers.after_call (kept_in result.kept) said }
+    ensures texts { records.new.texts.texts ≡ put_kept (kept_upload (kept_in result.kept) (Some (account, text))) records.old.texts.texts }
     ensures registered { (registrations : Registrations) → IsRegisteredBy records.old registrations → IsRegisteredBy records.new registrations }
-    ensures stored { IfOk result (λ served. Stored account text (kept_in served.kept) (K.held keeper.old) (K.held keeper.new) (K.calls keeper.old) (K.calls keeper.new)) }
-    ensures counted { IfOk result (λ served. Counted (kept_in served.kept) (K.faults keeper.old) (K.faults keeper.new)) }
-    ensures met { OnErr result (Met (stores account text) (K.held keeper.old) (K.held keeper.new) (K.calls keeper.old) (K.calls keeper.new) (K.faults keeper.old)
-        (K.faults keeper.new)) }
+    ensures stored { Stored account text (kept_in result.kept) (K.held keeper.old) (K.held keeper.new) (K.calls keeper.old) (K.calls keeper.new) }
+    ensures counted { Counted (kept_in result.kept) (K.faults keeper.old) (K.faults keeper.new) }
 {
+    let failed = match reply(alloc, 503, &[]) {
+        Ok(failed) => failed,
+        Err(NoMemory) => return without_memory(sorry, List::new()),
+    };
+    let replies = Replies {
+        made: said,
+        failed,
+        no_memory: sorry,
+    };
     let kept = keep(alloc, records, keeper, account, sheet, text);
-    let reply = after_call(alloc, kept, said)?;
-    Ok(Served {
-        reply,
+    Served {
+        reply: replies.after_call(kept),
         kept,
         rows: List::new(),
-    })
+    }
 }
 
 /// The reply with the charging rows.
@@ -96,49 +116,43 @@ fn rows_reply(alloc: Global, rows: &[Row]) -> Result<Text, NoMemory>
     reply(alloc, 200, text.bytes())
 }
 
-/// Answers for want of memory, before anything has changed.
-fn without_memory(alloc: Global, rows: List<Row>) -> Result<Served, NoMemory>
-    ensures reply { IfOk result (λ served. served.reply ≡ reply_of 507 []) }
-    ensures kept { IfOk result (λ served. kept_in served.kept ≡ no_memory) }
-{
-    let reply = reply(alloc, 507, &[])?;
-    Ok(Served {
-        reply,
-        kept: Outcome::NoMemory,
-        rows,
-    })
-}
-
 /// Answers with the charging rows.
-fn with_rows(alloc: Global, rows: List<Row>) -> Result<Served, NoMemory>
-    ensures reply { IfOk result (λ served. served.reply ≡ reply_to (kept_in served.kept) served.rows web.Charges) }
-    ensures kept { IfOk result (λ served. (kept_in served.kept ≡ made × served.rows ≡ rows) ⊎ (kept_in served.kept ≡ no_memory)) }
+fn with_rows(alloc: Global, rows: List<Row>, sorry: Text) -> Served
+    requires { sorry ≡ reply_of 507 [] }
+    ensures reply { result.reply ≡ reply_to (kept_in result.kept) result.rows web.Charges }
+    ensures kept { (kept_in result.kept ≡ made) ⊎ (kept_in result.kept ≡ no_memory) }
+    ensures rows { result.rows ≡ rows }
 {
     match rows_reply(alloc, rows.items()) {
-        Ok(reply) => Ok(Served {
+        Ok(reply) => Served {
             reply,
             kept: Outcome::Made,
             rows,
-        }),
-        Err(NoMemory) => without_memory(alloc, rows),
+        },
+        Err(NoMemory) => without_memory(sorry, rows),
     }
 }
 
-/// Tells the charging rows.
-fn serve_charges<K: Keeper>(alloc: Global, keeper: &mut K) -> Result<Served, NoMemory>
-    ensures reply { IfOk result (λ served. served.reply ≡ reply_to (kept_in served.kept) served.rows web.Charges) }
-    ensures told { IfOk result (λ served. Told (kept_in served.kept) served.rows (K.held keeper.old) (K.held keeper.new) (K.calls keeper.old) (K.calls keeper.new)) }
-    ensures counted { IfOk result (λ served. Counted (kept_in served.kept) (K.faults keeper.old) (K.faults keeper.new)) }
-    ensures met { OnErr result (Met asks (K.held keeper.old) (K.held keeper.new) (K.calls keeper.old) (K.calls keeper.new) (K.faults keeper.old) (K.faults keeper.new)) }
+/// Tells the charging rows. The reply to a failure is there before the keeper is called.
+fn serve_charges<K: Keeper>(alloc: Global, keeper: &mut K, sorry: Text) -> Served
+    requires { sorry ≡ reply_of 507 [] }
+    ensures reply { result.reply ≡ reply_to (kept_in result.kept) result.rows web.Charges }
+    ensures told { Told (kept_in result.kept) result.rows (K.held keeper.old) (K.held keeper.new) (K.calls keeper.old) (K.calls keeper.new) }
+    ensures counted { Counted (kept_in result.kept) (K.faults keeper.old) (K.faults keeper.new) }
 {
+    let failed = match reply(alloc, 503, &[]) {
+        Ok(failed) => failed,
+        Err(NoMemory) => return without_memory(sorry, List::new()),
+    };
     let Charges { kept, rows } = ask_rows(alloc, keeper);
     match kept {
-        Outcome::Made => with_rows(alloc, rows),
-        Outcome::Failed => {
-            let reply = reply(alloc, 503, &[])?;
-            Ok(Served { reply, kept, rows })
-        }
-        Outcome::NoMemory => without_memory(alloc, rows),
+        Outcome::Made => with_rows(alloc, rows, sorry),
+        Outcome::Failed => Served {
+            reply: failed,
+            kept,
+            rows,
+        },
+        Outcome::NoMemory => without_memory(sorry, rows),
     }
 }
 
@@ -148,29 +162,54 @@ fn serve_web<K: Keeper>(
     records: &mut Records,
     keeper: &mut K,
     web: Web,
-) -> Result<Served, NoMemory>
+    sorry: Text,
+) -> Served
     requires its { SaysItsText web }
-    ensures reply { IfOk result (λ served. served.reply ≡ reply_to (kept_in served.kept) served.rows web) }
-    ensures texts { IfOk result (λ served. records.new.texts.texts ≡ put_kept (kept_upload (kept_in served.kept) (upload_by web)) records.old.texts.texts) }
+    requires sorry { sorry ≡ reply_of 507 [] }
+    ensures reply { result.reply ≡ reply_to (kept_in result.kept) result.rows web }
+    ensures texts { records.new.texts.texts ≡ put_kept (kept_upload (kept_in result.kept) (upload_by web)) records.old.texts.texts }
     ensures registered { (registrations : Registrations) → IsRegisteredBy records.old registrations → IsRegisteredBy records.new registrations }
-    ensures keeper { IfOk result (λ served.
-        Answers (call_by web) (kept_in served.kept) served.rows (K.held keeper.old) (K.held keeper.new) (K.calls keeper.old) (K.calls keeper.new)) }
-    ensures counted { IfOk result (λ served. Counted (kept_in served.kept) (K.faults keeper.old) (K.faults keeper.new)) }
-    ensures met { OnErr result (Met (call_by web) (K.held keeper.old) (K.held keeper.new) (K.calls keeper.old) (K.calls keeper.new) (K.faults keeper.old) (K.faults keeper.new)) }
+    ensures keeper { Answers (call_by web) (kept_in result.kept) result.rows (K.held keeper.old) (K.held keeper.new) (K.calls keeper.old) (K.calls keeper.new) }
+    ensures counted { Counted (kept_in result.kept) (K.faults keeper.old) (K.faults keeper.new) }
 {
     match web {
-        Web::Read(reply) => Ok(Served {
+        Web::Read(reply) => Served {
             reply,
             kept: Outcome::Made,
             rows: List::new(),
-        }),
+        },
         Web::Store {
             account,
             sheet,
             text,
             reply,
-        } => serve_upload(alloc, records, keeper, account, sheet, text, reply),
-        Web::Charges => serve_charges(alloc, keeper),
+        } => serve_upload(alloc, records, keeper, account, sheet, text, reply, sorry),
+        Web::Charges => serve_charges(alloc, keeper, sorry),
+    }
+}
+
+/// Does what the bytes ask, once there is a reply to want of memory.
+fn serve_bytes<K: Keeper>(
+    alloc: Global,
+    names: &WebDirectory,
+    records: &mut Records,
+    keeper: &mut K,
+    bytes: &[u8],
+    sorry: Text,
+) -> Served
+    requires { sorry ≡ reply_of 507 [] }
+    ensures reply { result.reply ≡ web_reply names.now records.old.texts.texts (request_of bytes.now) (kept_in result.kept) result.rows }
+    ensures texts { records.new.texts.texts
+        ≡ put_kept (kept_upload (kept_in result.kept) (upload_in names.now (request_of bytes.now))) records.old.texts.texts }
+    ensures registered { (registrations : Registrations) → IsRegisteredBy records.old registrations → IsRegisteredBy records.new registrations }
+    ensures keeper { Answers (call_in names.now (request_of bytes.now)) (kept_in result.kept) result.rows (K.held keeper.old) (K.held keeper.new) (K.calls keeper.old)
+        (K.calls keeper.new) }
+    ensures counted { Counted (kept_in result.kept) (K.faults keeper.old) (K.faults keeper.new) }
+{
+    uploads_are_what_they_say();
+    match answer(alloc, names, records.texts(), bytes) {
+        Ok(web) => serve_web(alloc, records, keeper, web, sorry),
+        Err(NoMemory) => without_memory(sorry, List::new()),
     }
 }
 
@@ -182,7 +221,7 @@ fn serve_web<K: Keeper>(
 ///
 /// # Errors
 ///
-/// Want of memory alone: not even the reply was to be had. A record may then have been kept.
+/// Want of memory alone, before the request is looked at: not even the reply to want of memory was to be had. Nothing has changed, and the keeper was not called.
 pub fn serve<K: Keeper>(
     alloc: Global,
     names: &WebDirectory,
@@ -201,13 +240,13 @@ pub fn serve<K: Keeper>(
         Answers (call_in names.now (request_of bytes.now)) (kept_in served.kept) served.rows (K.held keeper.old) (K.held keeper.new) (K.calls keeper.old) (K.calls keeper.new)) }
     // Its count of faults rose exactly where its call failed.
     ensures counted { IfOk result (λ served. Counted (kept_in served.kept) (K.faults keeper.old) (K.faults keeper.new)) }
-    // For want of memory too it was called at most once, as the request asks, and what it holds has changed by that alone.
+    // Want of memory that is not answered came before anything was done: no record has changed, and the keeper was not called.
+    ensures unchanged { OnErr result (records.new ≡ records.old) }
+    ensures uncalled { OnErr result (keeper.new ≡ keeper.old) }
+    // So it meets what is asked of a keeper's call over a request, as the callers say it.
     ensures met { OnErr result (Met (call_in names.now (request_of bytes.now)) (K.held keeper.old) (K.held keeper.new) (K.calls keeper.old) (K.calls keeper.new)
         (K.faults keeper.old) (K.faults keeper.new)) }
 {
-    uploads_are_what_they_say();
-    match answer(alloc, names, records.texts(), bytes) {
-        Ok(web) => serve_web(alloc, records, keeper, web),
-        Err(NoMemory) => without_memory(alloc, List::new()),
-    }
+    let sorry = reply(alloc, 507, &[])?;
+    Ok(serve_bytes(alloc, names, records, keeper, bytes, sorry))
 }

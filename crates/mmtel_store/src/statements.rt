@@ -1,10 +1,18 @@
-//! The statements: each in a function of its own, with no clause.
+//! The statements, each in a function of its own: the values that they are given and that they give have clauses, their text has none.
+ghost use Rattle.std.specs.Prelude.{◌≡◌, decimal, map, IfOk};
+ghost use Rattle.sqlite.specs.Values.{or_null};
+ghost use Rattle.sqlite_value.specs.Order.{column};
+ghost use Rattle.sqlite_value.specs.Value.{owned};
+ghost use Rattle.sqlite_value.specs.declared.value.Value.TheVariants as value;
+ghost use Rattle.mmtel_store.specs.Columns.{kind_number, nine_of, number, row_columns, sheet_columns, two_of};
+ghost use Rattle.mmtel_types.specs.Causes.{status_of, word_of};
 
 use crate::values::{cause_of, kind_number, kind_of, millis, no_memory, unreadable};
-use mmtel_charging::Row;
-use mmtel_scan::{List, Text};
-use mmtel_types::{Account, CallNo, Moment};
-use sqlite::{Alter, Connection, Error, ErrorCode, Transaction, params};
+use mmtel_charging::{Kind, Row};
+use mmtel_scan::{List, Text, add_number, plain_number};
+use mmtel_types::{Account, CallNo, Cause, Moment};
+use sqlite::types::{ToSql, ValueRef};
+use sqlite::{Alter, Connection, Error, ErrorCode, Transaction};
 use std::alloc::Global;
 
 /// Makes the tables where they are not there.
@@ -16,6 +24,13 @@ fn make_tables<S: Alter>(conn: &mut Connection<S>) -> Result<(), Error> {
     )
 }
 
+/// The values of a record's columns.
+fn sheet_columns(account: Account, body: &[u8]) -> [ValueRef<'_>; 2]
+    ensures { map owned result ≡ sheet_columns account body.now }
+{
+    [account.0.to_sql(), body.to_sql()]
+}
+
 fn put_sheet<S: Alter>(
     conn: &mut Connection<S>,
     account: Account,
@@ -23,12 +38,14 @@ fn put_sheet<S: Alter>(
 ) -> Result<(), Error> {
     let _count = conn.execute(
         "INSERT INTO sheets (account, body) VALUES (?1, ?2) ON CONFLICT (account) DO UPDATE SET body = excluded.body",
-        params![account.0, body],
+        &sheet_columns(account, body),
     )?;
     Ok(())
 }
 
-fn read_sheet(alloc: Global, row: &sqlite::Row) -> Result<(Account, Text), Error> {
+fn read_sheet(alloc: Global, row: &sqlite::Row) -> Result<(Account, Text), Error>
+    ensures { IfOk result (λ sheet. two_of row.now ≡ sheet_columns sheet.0 sheet.1) }
+{
     let account: u32 = row.get(0)?;
     let body: Vec<u8> = row.get(1)?;
     match Text::of(alloc, body.as_slice()) {
@@ -56,29 +73,49 @@ fn sheets<S: Alter>(
     sheets_of(alloc, found.as_slice())
 }
 
-fn decimal(alloc: Global, n: u64) -> Result<String, Error> {
-    match format!(in alloc; "{n}") {
-        Ok(text) => Ok(text),
+fn decimal(alloc: Global, n: u64) -> Result<Text, Error>
+    ensures { IfOk result (λ text. text ≡ decimal n) }
+{
+    let mut text = Text::new();
+    match add_number(alloc, &mut text, n) {
+        Ok(()) => Ok(text),
         Err(_) => Err(no_memory()),
     }
 }
 
+/// The value of a moment, which may be absent.
+fn moment_value(moment: Option<Moment>) -> ValueRef<'static>
+    ensures { owned result ≡ or_null number moment }
+{
+    match moment {
+        Some(moment) => millis(moment).to_sql(),
+        None => ValueRef::Null,
+    }
+}
+
+/// The values of a charging row's columns; its call's number comes as text.
+fn row_columns<'a>(row: &Row, call: &'a [u8]) -> [ValueRef<'a>; 9]
+    requires { call.now ≡ decimal row.now.call.0 }
+    ensures { map owned result ≡ row_columns row.now }
+{
+    [
+        kind_number(row.kind).to_sql(),
+        row.account.0.to_sql(),
+        ValueRef::Text(call),
+        millis(row.began).to_sql(),
+        moment_value(row.answered),
+        millis(row.ended).to_sql(),
+        row.holds.to_sql(),
+        row.cause.word().to_sql(),
+        u32::from(row.cause.status()).to_sql(),
+    ]
+}
+
 fn add_row<S: Alter>(alloc: Global, tx: &mut Transaction<'_, S>, row: &Row) -> Result<(), Error> {
     let call = decimal(alloc, row.call.0)?;
-    let answered = row.answered.map(millis);
     let _count = tx.execute(
         "INSERT INTO charges (kind, account, callno, began, answered, ended, holds, cause, code) VALUES (?1, ?2, ?3, ?4, ?5, ?6, ?7, ?8, ?9)",
-        params![
-            kind_number(row.kind),
-            row.account.0,
-            &call,
-            millis(row.began),
-            answered,
-            millis(row.ended),
-            row.holds,
-            row.cause.word(),
-            u32::from(row.cause.status())
-        ],
+        &row_columns(row, call.bytes()),
     )?;
     Ok(())
 }
@@ -94,30 +131,39 @@ fn add_rows<S: Alter>(alloc: Global, conn: &mut Connection<S>, rows: &[Row]) -> 
     tx.commit()
 }
 
-fn moment(number: u64, column: usize) -> Result<Moment, Error> {
-    match Moment::new(number) {
+fn moment(row: &sqlite::Row, at: usize) -> Result<Moment, Error>
+    ensures { IfOk result (λ moment. column row.now at ≡ number moment) }
+{
+    let ms: u64 = row.get(at)?;
+    match Moment::new(ms) {
         Some(moment) => Ok(moment),
-        None => Err(unreadable(column)),
+        None => Err(unreadable(at)),
     }
 }
 
-fn answered(row: &sqlite::Row) -> Result<Option<Moment>, Error> {
-    let answered: Option<u64> = row.get(4)?;
-    match answered {
-        None => Ok(None),
-        Some(number) => Ok(Some(moment(number, 4)?)),
+fn answered(row: &sqlite::Row) -> Result<Option<Moment>, Error>
+    ensures { IfOk result (λ moment. column row.now 4 ≡ or_null number moment) }
+{
+    match row.get_ref(4)? {
+        ValueRef::Null => Ok(None),
+        _ => Ok(Some(moment(row, 4)?)),
     }
 }
 
-fn call(row: &sqlite::Row) -> Result<CallNo, Error> {
+fn call(row: &sqlite::Row) -> Result<CallNo, Error>
+    ensures { IfOk result (λ call. column row.now 2 ≡ value.Text (decimal call.0)) }
+{
     let call: String = row.get(2)?;
-    match call.as_str().parse::<u64>() {
-        Ok(number) => Ok(CallNo(number)),
-        Err(_) => Err(unreadable(2)),
+    match plain_number(u64::MAX, call.as_bytes()) {
+        Some(number) => Ok(CallNo(number)),
+        None => Err(unreadable(2)),
     }
 }
 
-fn cause(row: &sqlite::Row) -> Result<mmtel_types::Cause, Error> {
+fn cause(row: &sqlite::Row) -> Result<Cause, Error>
+    ensures word { IfOk result (λ cause. column row.now 7 ≡ value.Text (word_of cause)) }
+    ensures status { IfOk result (λ cause. column row.now 8 ≡ number (status_of cause)) }
+{
     let word: String = row.get(7)?;
     let status: u32 = row.get(8)?;
     let Ok(status) = u16::try_from(status) else {
@@ -129,25 +175,35 @@ fn cause(row: &sqlite::Row) -> Result<mmtel_types::Cause, Error> {
     }
 }
 
-fn read_row(row: &sqlite::Row) -> Result<Row, Error> {
-    let kind: u32 = row.get(0)?;
+fn kind(row: &sqlite::Row) -> Result<Kind, Error>
+    ensures { IfOk result (λ kind. column row.now 0 ≡ number (kind_number kind)) }
+{
+    let number: u32 = row.get(0)?;
+    match kind_of(number) {
+        Some(kind) => Ok(kind),
+        None => Err(unreadable(0)),
+    }
+}
+
+/// The charging row of these values, in the order of the columns.
+fn read_row(row: &sqlite::Row) -> Result<Row, Error>
+    ensures { IfOk result (λ read. nine_of row.now ≡ row_columns read) }
+{
+    let kind = kind(row)?;
     let account: u32 = row.get(1)?;
     let call = call(row)?;
-    let began: u64 = row.get(3)?;
+    let began = moment(row, 3)?;
     let answered = answered(row)?;
-    let ended: u64 = row.get(5)?;
+    let ended = moment(row, 5)?;
     let holds: u32 = row.get(6)?;
     let cause = cause(row)?;
-    let Some(kind) = kind_of(kind) else {
-        return Err(unreadable(0));
-    };
     Ok(Row {
         kind,
         account: Account(account),
         call,
-        began: moment(began, 3)?,
+        began,
         answered,
-        ended: moment(ended, 5)?,
+        ended,
         holds,
         cause,
     })

@@ -174,7 +174,7 @@ fn add_key(told: &mut Told, word: &[u8], key: &Text) {
 
 fn add_fault(told: &mut Told, fault: &SheetFault) {
     match fault {
-        SheetFault::NotToml { .. } => told.add(b"not TOML\n"),
+        SheetFault::NotToml => told.add(b"not TOML\n"),
         SheetFault::Unknown { key } => add_key(told, b"unknown ", key),
         SheetFault::Wrong { key } => add_key(told, b"wrong ", key),
         SheetFault::Many { key, limit: 64 } => add_key(told, b"many ", key),

@@ -27,10 +27,10 @@ use Rattle.mmtel_b2bua_laws.proofs.Living.{Gone, Later, Lived, Place, Runs, Same
 
 -- ---- the same is known, and it comes to the same
 
-known-same : (s : Start) (events : List Event) (heard : List Heard) → Lived s events heard → known_after s events ≡ story_known.known_after s heard
+pub known-same : (s : Start) (events : List Event) (heard : List Heard) → Lived s events heard → known_after s events ≡ story_known.known_after s heard
 known-same s events heard l = λ i. known_as s.site s.now (opening_in s) (λ k. l.stood k i)
 
-outcome-same : (s : Start) (events : List Event) (heard : List Heard) → Lived s events heard → outcome_after s events ≡ story_known.outcome_after s heard
+pub outcome-same : (s : Start) (events : List Event) (heard : List Heard) → Lived s events heard → outcome_after s events ≡ story_known.outcome_after s heard
 outcome-same s events heard l = λ i. outcome (known_as s.site s.now (opening_in s) (λ k. l.stood k i)) (l.endings i)
 
 -- what stays of the story's call
@@ -152,9 +152,22 @@ filed-at law charged s events heard cause l fits over_by_cause (Later stands kep
           (sym (known-same s events heard l) i) s.arrival.number (sym (outcome-same s events heard l) i).targets),
     )
 
+-- of one that was answered
+ended-at : CallsGoOn → ChargingIsExact → (s : Start) (events : List Event) (heard : List Heard) (cause : Cause) → Lived s events heard → (call_after s events).phase ≡ Over cause →
+    is_some (answer_in (endings_after s events)) ≡ true → Place s events heard → cause ≡ causes.Ended
+ended-at law charged s events heard cause l over_by_cause answered (Same is rows over) =
+    law.cause s heard cause (ap (λ (c : Call). c.phase) (sym is) ∙ over_by_cause) (ap is_some (charged.answered s heard ∙ ap answer_in (sym l.endings)) ∙ answered)
+ended-at law charged s events heard cause l over_by_cause answered (Later stands kept (Runs on parts none)) =
+    absurd (let e : false ≡ true = sym (stands-on (call_after s events).phase on) ∙ ap is_over over_by_cause in cc)
+ended-at law charged s events heard cause l over_by_cause answered (Later stands kept (Gone over past is)) =
+    let same_phase : Over causes.Ended ≡ Over cause = sym over ∙ over_by_cause in
+    let same : causes.Ended ≡ cause = cc in
+    sym same
+
 pub lives_charged : CallsGoOn → ChargingIsExact → LivesAreCharged
 lives_charged law charged = record {
   answered = answered-told law charged;
   runs = λ s events fits goes. let (heard, l) = lived law charged s events in runs-at law charged s events heard l fits goes l.place;
   filed = λ s events cause fits over. let (heard, l) = lived law charged s events in filed-at law charged s events heard cause l fits over l.place;
+  ended = λ s events cause over answered. let (heard, l) = lived law charged s events in ended-at law charged s events heard cause l over answered l.place;
 }

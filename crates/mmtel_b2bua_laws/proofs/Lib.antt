@@ -3,10 +3,12 @@ mod Tables
 mod Moving
 pub mod Living
 mod Concluding
+mod Watching
 mod Own
 mod Tabling
 mod Cleaning
 mod Giving
+mod Replies
 mod Legs
 mod Filing
 mod Keys

@@ -193,7 +193,7 @@ turns-same P at c d filed (Stays from kept on later nothing) = kept
 turns-same P at c d filed (Leaves from kept over past is) = kept
 
 -- it is not offered any more
-after-offered : (P : Type 0) (at : ℕ) (d c : Call) (rows : List Row) → After P at d c rows → is_offered c.phase ≡ false
+pub after-offered : (P : Type 0) (at : ℕ) (d c : Call) (rows : List Row) → After P at d c rows → is_offered c.phase ≡ false
 after-offered P at d c rows (Runs stands parts none) = go c.phase stands
   where
     go : (phase : Phase) → stands_in phase ≡ true → is_offered phase ≡ false
@@ -368,7 +368,8 @@ pub record Beside (s : Start) (R : List Event → List Heard → Type 0) : Type 
   -- the call is that of the story
   pub same : (x : Heard) (earlier : List Event) (heard : List Heard) → call_after s earlier ≡ story.call_after s heard → R earlier heard → R (Hears x ∷ earlier) (x ∷ heard)
   -- a leg of it was taken out once, and the story has a signal that says nothing
-  pub later : (x : Heard) (earlier : List Event) (heard : List Heard) → is_offered (call_after s earlier).phase ≡ false → R earlier heard → R (Hears x ∷ earlier) (quiet x ∷ heard)
+  pub later : (x : Heard) (earlier : List Event) (heard : List Heard) → stands_in (story.call_after s heard).phase ≡ true → is_offered (call_after s earlier).phase ≡ false →
+      R earlier heard → R (Hears x ∷ earlier) (quiet x ∷ heard)
   -- what is no signal
   pub releases : (side : Side) (earlier : List Event) (heard : List Heard) → R earlier heard → R (Releases side ∷ earlier) heard
   pub restores : (away : Released) (earlier : List Event) (heard : List Heard) → R earlier heard → R (Restores away ∷ earlier) heard
@@ -383,7 +384,7 @@ signal-lives law s R b x earlier heard (Same is rows over) l r = (x ∷ heard, s
 signal-lives law s R b x earlier heard (Later stands kept after) l r = (
   quiet x ∷ heard,
   signal-later law s x earlier heard stands kept after l,
-  b.later x earlier heard (after-offered (AreFitting s earlier) (over_at s earlier) (story.call_after s heard) (call_after s earlier) (rows_after s earlier) after) r,
+  b.later x earlier heard stands (after-offered (AreFitting s earlier) (over_at s earlier) (story.call_after s heard) (call_after s earlier) (rows_after s earlier) after) r,
 )
 
 -- ---- every life
@@ -420,7 +421,7 @@ nothing-beside : (s : Start) → Beside s (λ events heard. Unit {0})
 nothing-beside s = record {
   opens = tt;
   same = λ x earlier heard is r. tt;
-  later = λ x earlier heard offered r. tt;
+  later = λ x earlier heard stands offered r. tt;
   releases = λ side earlier heard r. tt;
   restores = λ away earlier heard r. tt;
   finishes = λ at desk earlier heard r. tt;

@@ -1,20 +1,24 @@
 -- What is said of every table, put together.
-use Rattle.std.proofs.Common.{◌≡◌, ℕ, List, [], ◌∷◌, ◌++◌, None, take, drop, refl, ap, sym, ◌∙◌, append_assoc}
+use Rattle.std.proofs.Common.{◌≡◌, ℕ, List, [], ◌∷◌, ◌++◌, None, take, drop, refl, ap, subst, sym, ◌∙◌, append_assoc}
 use Rattle.std.proofs.lemmas.List.{append-nil, take-append-drop}
 use Rattle.std.proofs.lemmas.Option.{none-some}
 use Rattle.mmtel_charging.specs.declared.rows.Row.{Row}
 use Rattle.mmtel_call_decisions.specs.Site.{Site}
 use Rattle.mmtel_call_laws.specs.GoingOn.{CallsGoOn}
-use Rattle.mmtel_call_laws.specs.Laws.{ChargingIsExact, ComesToItsOutcome, DiversionsAreCounted, ShowsItsOutcome}
+use Rattle.mmtel_call_laws.specs.Laws.{ChargingIsExact, ComesToItsOutcome, DiversionsAreCounted, ShowsItsOutcome, ShowsNothingLater}
+use Rattle.mmtel_call_laws.specs.Trace.Laws.{AttemptsAreSeen, EndingsAreSeen, IsSeen}
 use Rattle.mmtel_b2bua.specs.Histories.{Deed, Drops, Finishes, Hears, Releases, Restores, table_after}
 use Rattle.mmtel_b2bua.specs.Tables.{Table}
 use Rattle.mmtel_b2bua_laws.specs.Deeds.{call_of, entry_in, handed_after, handed_by, number_by, out_by, rows_after, rows_by}
 use Rattle.mmtel_b2bua_laws.specs.Laws.{CallsBringForthTheirOwn, CallsOfTablesAreExact, CallsTakeTheirSteps, NothingIsOfNobody, RowsAreInOrder}
+use Rattle.mmtel_b2bua_laws.specs.Lives.{call_after}
+use Rattle.mmtel_b2bua_laws.specs.Watched.{no_reply_after, watch_after}
 use Rattle.mmtel_b2bua_laws.proofs.Concluding.{lives_charged, lives_come, lives_counted, lives_show, lives_stay}
 use Rattle.mmtel_b2bua_laws.proofs.Keys.{life_others}
 use Rattle.mmtel_b2bua_laws.proofs.Moving.{ComesTo, Effect, Nobodys, Opens, finished-effect, hears-effect}
 use Rattle.mmtel_b2bua_laws.proofs.Own.{holds_after}
 use Rattle.mmtel_b2bua_laws.proofs.Tables.{finds}
+use Rattle.mmtel_b2bua_laws.proofs.Watching.{lives_end_as_seen, lives_show_throughout, lives_watched}
 
 -- ---- a deed of nobody
 
@@ -69,8 +73,8 @@ take_steps law charged site deeds number few = (holds_after (lives_stay law char
 pub bring_own : CallsGoOn → ChargingIsExact → CallsBringForthTheirOwn
 bring_own law charged site deeds number life few is = (holds_after (lives_stay law charged) site deeds few).brings number life is
 
-pub calls_exact : CallsGoOn → ChargingIsExact → ComesToItsOutcome → ShowsItsOutcome → DiversionsAreCounted → CallsOfTablesAreExact
-calls_exact law charged comes shows counted site deeds number life few is =
+pub calls_exact : CallsGoOn → ChargingIsExact → ComesToItsOutcome → ShowsItsOutcome → ShowsNothingLater → AttemptsAreSeen → EndingsAreSeen → DiversionsAreCounted → CallsOfTablesAreExact
+calls_exact law charged comes shows later attempts endings counted site deeds number life few is =
     let holds = holds_after (lives_stay law charged) site deeds few in
     let own = holds.brings number life is in
     let charges = lives_charged law charged in
@@ -79,8 +83,14 @@ calls_exact law charged comes shows counted site deeds number life few is =
       result = lives_come law charged comes life.start life.events;
       emits = own.emits;
       shown = λ keys. lives_show law charged shows life.start life.events (life_others site deeds number life keys is) own.desks;
+      throughout = λ keys. lives_show_throughout law charged shows later life.start life.events (life_others site deeds number life keys is) own.desks;
+      seen = lives_end_as_seen law charged attempts endings life.start life.events;
+      watched =
+          subst (λ (site : Site). IsSeen site.bound (no_reply_after life.start life.events) (call_after life.start life.events).phase (watch_after life.start life.events)) own.opening.0
+          (lives_watched law charged attempts life.start life.events);
       counted = lives_counted law charged counted life.start life.events;
       answered = charges.answered life.start life.events;
       runs = λ back goes. let (run, none) = charges.runs life.start life.events (holds.fits back number life is) goes in (run, own.rows ∙ none);
       filed = λ cause back over. let (none, rows) = charges.filed life.start life.events cause (holds.fits back number life is) over in (none, own.rows ∙ rows);
+      ended = λ cause over answered. charges.ended life.start life.events cause over answered;
     }

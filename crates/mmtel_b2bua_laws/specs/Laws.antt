@@ -1,8 +1,9 @@
 -- What is said of every table of calls, in the subject's words.
-use Rattle.std.specs.Prelude.{◌++◌, ◌≡◌, ◌+◌, ◌==◌, ℕ, Bool, false, List, [], Some, None, filter, find}
+use Rattle.std.specs.Prelude.{◌++◌, ◌≡◌, ◌+◌, ◌==◌, ℕ, Bool, false, true, List, [], Some, None, filter, find, is_some}
 use Rattle.mmtel_charging.specs.declared.rows.Row.{Row}
 use Rattle.mmtel_precedence.specs.Laws.{diversions_made}
 use Rattle.mmtel_types.specs.declared.causes.Cause.{Cause}
+use Rattle.mmtel_types.specs.declared.causes.Cause.TheVariants.{Ended}
 use Rattle.mmtel_call_decisions.specs.Site.{Site}
 use Rattle.mmtel_call.specs.declared.calls.Phase.TheVariants.{Over}
 use Rattle.mmtel_call_laws.specs.Charged.{running}
@@ -10,12 +11,14 @@ use Rattle.mmtel_call_laws.specs.Endings.{answer_in}
 use Rattle.mmtel_call_laws.specs.Known.{left_at_first, result_of}
 use Rattle.mmtel_call_laws.specs.Shown.{sign_of_result, signs_of, signs_of_targets}
 use Rattle.mmtel_call_laws.specs.Story.{Start, is_over, opening_in}
+use Rattle.mmtel_call_laws.specs.Trace.Laws.{IsSeen}
 use Rattle.mmtel_b2bua.specs.Entries.{is_numbered}
 use Rattle.mmtel_b2bua.specs.Histories.{Deed, table_after}
 use Rattle.mmtel_b2bua_laws.specs.Deeds.{ArePutBack, HasNumbers, HaveOwnKeys, call_of, emits_of, entry_in, handed_after, life_of, out_by, rows_after as rows_of_all}
 use Rattle.mmtel_b2bua_laws.specs.Deeds.{rows_by, rows_of}
 use Rattle.mmtel_b2bua_laws.specs.Known.{AreFitting, AreOthers, HaveOwnDesks, charges_after, endings_after, outcome_after, parts_after}
 use Rattle.mmtel_b2bua_laws.specs.Lives.{Event, Life, call_after, emits_after, emits_while_offered, rows_after}
+use Rattle.mmtel_b2bua_laws.specs.Watched.{endings_seen, no_reply_after, signs_after, watch_after}
 
 -- ---- a life, as a story of its call
 
@@ -27,6 +30,19 @@ LivesComeToTheirOutcome = (s : Start) (events : List Event) → result_of (call_
 abbrev pub LivesShowTheirOutcome : Type 0
 LivesShowTheirOutcome = (s : Start) (events : List Event) → AreOthers s.arrival.key events → HaveOwnDesks s events →
     signs_of s.arrival.key (emits_while_offered s events) ≡ signs_of_targets (opening_in s) (outcome_after s events).targets ++ sign_of_result (outcome_after s events).result
+
+-- and in its whole life the targets have these INVITEs and no other, and the caller that final and no other, whatever comes to the call later
+abbrev pub LivesShowThroughout : Type 0
+LivesShowThroughout = (s : Start) (events : List Event) → AreOthers s.arrival.key events → HaveOwnDesks s events →
+    signs_after s events ≡ signs_of_targets (opening_in s) (outcome_after s events).targets ++ sign_of_result (outcome_after s events).result
+
+-- how its attempts ended is told by what went out and was heard alone
+abbrev pub LivesEndAsIsSeen : Type 0
+LivesEndAsIsSeen = (s : Start) (events : List Event) → endings_after s events ≡ endings_seen s events
+
+-- while it is offered its attempt is the one that is on its way, with its deadlines, each at its moment; and else none is on its way
+abbrev pub LivesAreWatched : Type 0
+LivesAreWatched = (s : Start) (events : List Event) → IsSeen s.site.bound (no_reply_after s events) (call_after s events).phase (watch_after s events)
 
 -- so many diversions are left as the bound leaves after those that the call came with and those that were made
 abbrev pub LivesAreCounted : Type 0
@@ -42,6 +58,9 @@ pub record LivesAreCharged : Type 0 where
   -- once it is over nothing runs, and of each part that began a row was filed, in the order begun
   pub filed : (s : Start) (events : List Event) (cause : Cause) → AreFitting s events → (call_after s events).phase ≡ Over cause →
       (running (call_after s events) ≡ []) × (rows_after s events ≡ charges_after s events cause)
+  -- and where an attempt was answered, by this cause alone
+  pub ended : (s : Start) (events : List Event) (cause : Cause) → (call_after s events).phase ≡ Over cause → is_some (answer_in (endings_after s events)) ≡ true →
+      cause ≡ Ended
 
 -- ---- a table
 
@@ -89,12 +108,18 @@ pub record CallIsExact (site : Site) (deeds : List Deed) (number : ℕ) (life : 
   pub shown : HaveOwnKeys deeds →
       signs_of life.start.arrival.key (emits_while_offered life.start life.events)
       ≡ signs_of_targets (opening_in life.start) (outcome_after life.start life.events).targets ++ sign_of_result (outcome_after life.start life.events).result
+  pub throughout : HaveOwnKeys deeds →
+      signs_after life.start life.events
+      ≡ signs_of_targets (opening_in life.start) (outcome_after life.start life.events).targets ++ sign_of_result (outcome_after life.start life.events).result
+  pub seen : endings_after life.start life.events ≡ endings_seen life.start life.events
+  pub watched : IsSeen site.bound (no_reply_after life.start life.events) (call_after life.start life.events).phase (watch_after life.start life.events)
   pub counted : (call_after life.start life.events).diversions.left + diversions_made (outcome_after life.start life.events) ≡ left_at_first life.start
   pub answered : (call_after life.start life.events).answered ≡ answer_in (endings_after life.start life.events)
   pub runs : ArePutBack site deeds → is_over (call_after life.start life.events).phase ≡ false →
       (running (call_after life.start life.events) ≡ parts_after life.start life.events) × (rows_of site number deeds ≡ [])
   pub filed : (cause : Cause) → ArePutBack site deeds → (call_after life.start life.events).phase ≡ Over cause →
       (running (call_after life.start life.events) ≡ []) × (rows_of site number deeds ≡ charges_after life.start life.events cause)
+  pub ended : (cause : Cause) → (call_after life.start life.events).phase ≡ Over cause → is_some (answer_in (endings_after life.start life.events)) ≡ true → cause ≡ Ended
 
 abbrev pub CallsOfTablesAreExact : Type 0
 CallsOfTablesAreExact = (site : Site) (deeds : List Deed) (number : ℕ) (life : Life) → HasNumbers site deeds → life_of site number deeds ≡ Some life →

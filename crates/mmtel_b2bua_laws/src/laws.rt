@@ -1,12 +1,13 @@
 //! What each call of a table comes to. These are laws, and no code.
 ghost use Rattle.mmtel_b2bua_laws.specs.Clean.{CallsSendCleanMessages, DeedsSendCleanMessages, LegsGoOutClean};
 ghost use Rattle.mmtel_b2bua_laws.specs.Laws.{CallsBringForthTheirOwn, CallsOfTablesAreExact, CallsTakeTheirSteps, LivesAreCharged, LivesAreCounted};
-ghost use Rattle.mmtel_b2bua_laws.specs.Laws.{LivesComeToTheirOutcome, LivesShowTheirOutcome, NothingIsOfNobody, RowsAreInOrder, RowsAreOfTheirCalls};
+ghost use Rattle.mmtel_b2bua_laws.specs.Laws.{LivesAreWatched, LivesComeToTheirOutcome, LivesEndAsIsSeen, LivesShowTheirOutcome, LivesShowThroughout, NothingIsOfNobody, RowsAreInOrder, RowsAreOfTheirCalls};
 ghost use Rattle.mmtel_b2bua_laws.specs.Legs.{LegsGoBack};
+ghost use Rattle.mmtel_b2bua_laws.specs.Replies.{CallsReplyInTheirOwn, LivesReplyInTheirOwn};
 
 use mmtel_call_laws::{
-    calls_come_to_their_outcome, calls_go_on, calls_send_clean_messages, calls_show_their_outcome,
-    charging_is_exact, diversions_are_counted,
+    calls_are_what_is_seen, calls_come_to_their_outcome, calls_go_on, calls_reply_in_their_own,
+    calls_send_clean_messages, calls_show_their_outcome, charging_is_exact, diversions_are_counted,
 };
 
 /// A call of which legs are taken out and put back, or that is ended without one, comes to what a call comes to that only hears signals: its Outcome, what goes out while it
@@ -14,6 +15,9 @@ use mmtel_call_laws::{
 pub fn lives_come_to_their_outcome()
     ensures result { LivesComeToTheirOutcome }
     ensures shown { LivesShowTheirOutcome }
+    ensures throughout { LivesShowThroughout }
+    ensures seen { LivesEndAsIsSeen }
+    ensures watched { LivesAreWatched }
     ensures counted { LivesAreCounted }
     ensures charged { LivesAreCharged }
 {
@@ -21,6 +25,7 @@ pub fn lives_come_to_their_outcome()
     charging_is_exact();
     calls_come_to_their_outcome();
     calls_show_their_outcome();
+    calls_are_what_is_seen();
     diversions_are_counted();
 }
 
@@ -56,6 +61,7 @@ pub fn calls_of_tables_are_exact()
     charging_is_exact();
     calls_come_to_their_outcome();
     calls_show_their_outcome();
+    calls_are_what_is_seen();
     diversions_are_counted();
 }
 
@@ -73,6 +79,17 @@ pub fn tables_send_clean_messages()
     ensures legs { LegsGoOutClean }
 {
     calls_send_clean_messages();
+    calls_go_on();
+    charging_is_exact();
+}
+
+/// Each reply of a call, in its whole life, is in the server transaction of a request of its own: the INVITE that opened it, or one that it heard (RFC 3261 §8.2.6, §17.2). So
+/// it is of all that goes out in its deeds on a table.
+pub fn calls_of_tables_reply_in_their_own()
+    ensures lives { LivesReplyInTheirOwn }
+    ensures law { CallsReplyInTheirOwn }
+{
+    calls_reply_in_their_own();
     calls_go_on();
     charging_is_exact();
 }

@@ -1,6 +1,6 @@
 -- Where a call stands, beside the moves of the precedence of services.
-use Rattle.std.proofs.Common.{◌≡◌, ℕ, suc, ◌+◌, ◌-◌, List, [], ◌++◌, length}
-use Rattle.std.specs.Prelude.{Some, None, count_by}
+use Rattle.std.proofs.Common.{◌≡◌, ℕ, suc, ◌+◌, ◌-◌, true, false, List, [], ◌++◌, length, refl}
+use Rattle.std.specs.Prelude.{Option, Some, None, count_by, is_some}
 use Rattle.std.specs.Option.{option_map}
 use Rattle.mmtel_charging.specs.declared.rows.Row.{Row}
 use Rattle.mmtel_leg.specs.Legs.{Leg}
@@ -10,7 +10,9 @@ use Rattle.mmtel_precedence.specs.Moves as moves
 use Rattle.mmtel_precedence.specs.Moves.{Kept, account_at}
 use Rattle.mmtel_precedence.specs.Turns as turns
 use Rattle.mmtel_types.specs.declared.causes.Cause.{Cause}
+use Rattle.mmtel_types.specs.declared.causes.Cause.TheVariants as causes
 use Rattle.mmtel_call_decisions.specs.Decisions.{its_sheet}
+use Rattle.mmtel_call_decisions.specs.Rows.{cause_by}
 use Rattle.mmtel_call_decisions.specs.Site.{Site}
 use Rattle.mmtel_call_decisions.specs.declared.openings.Opening.{Opening}
 use Rattle.mmtel_call_decisions.specs.declared.rows.Ending.{Ending}
@@ -22,7 +24,7 @@ use Rattle.mmtel_call.specs.declared.calls.Stage.{Stage}
 use Rattle.mmtel_call.specs.declared.calls.Trial.{Trial}
 use Rattle.mmtel_call_laws.specs.Charged.{last_part, origin_part, past_parts, rows_of_parts}
 use Rattle.mmtel_call_laws.specs.Shown.{Sign, sign_of_result, signs_of, signs_of_targets}
-use Rattle.mmtel_call_laws.specs.Known.{known_as, over_by, received_in}
+use Rattle.mmtel_call_laws.specs.Known.{known_as, last_record, over_by, received_in}
 use Rattle.mmtel_call_laws.proofs.Parts.{all_parts, last_served}
 
 -- so many diversions the bound leaves at first
@@ -34,6 +36,7 @@ pub record IsRinging (site : Site) (first : Standing) (o : Opening) (later : ℕ
   pub phase : c.phase ≡ Offered x
   pub rings : kept.phase ≡ moves.Ringing (account_at reach)
   pub sheet : turns.sheet_of reach ≡ its_sheet x.attempt.service
+  pub record_of : its_sheet x.attempt.service ≡ last_record (known_as site first o later) 0 kept.targets
   pub answered : c.answered ≡ None
   pub origin : x.caller.meter ≡ origin_part (known_as site first o later) o.number
   pub past : c.past ≡ past_parts (known_as site first o later) o.number 0 None kept.targets
@@ -56,10 +59,16 @@ pub record IsTalking (site : Site) (first : Standing) (o : Opening) (later : ℕ
 abbrev pub ending_at : Call → (at : ℕ) → Cause → Ending
 ending_at c at cause = record { answered = c.answered; at = at; holds = c.hold.holds; cause = cause }
 
+-- an answered call is over by one cause alone
+pub by-answer : (answered : Option ℕ) (cause : Cause) → is_some answered ≡ true → cause_by answered cause ≡ causes.Ended
+by-answer None cause h = absurd (let e : false ≡ true = h in cc)
+by-answer (Some at) cause h = refl
+
 -- it is over
 pub record IsEnded (site : Site) (first : Standing) (o : Opening) (later : ℕ → Standing) (kept : Kept) (c : Call) (filed : List Row) (at : ℕ) (cause : Cause) : Type 0 where
   pub phase : c.phase ≡ Over cause
   pub over : kept.phase ≡ moves.Over (over_by c.answered (Final cause))
+  pub why : is_some c.answered ≡ true → cause ≡ causes.Ended
   pub past : c.past ≡ []
   pub rows : filed ≡ rows_of_parts (ending_at c at cause) (known_as site first o later) o.number kept.targets
 

@@ -55,11 +55,11 @@ use Rattle.mmtel_answers.specs.Answers.{relayed_reply}
 use Rattle.mmtel_answers.specs.Said.{Said, status_of as status_in}
 use Rattle.mmtel_message.specs.Addresses.{contact_text}
 use Rattle.mmtel_call.specs.Offering.{longest_time, next_attempt, sent_to}
-use Rattle.mmtel_call_laws.specs.Known.{known_as, over_by, received_in}
-use Rattle.mmtel_call_laws.proofs.Agreeing.{Comes, Ends, IsReady, Rings, total}
+use Rattle.mmtel_call_laws.specs.Known.{known_as, last_record, over_by, received_in}
+use Rattle.mmtel_call_laws.proofs.Agreeing.{Comes, Ends, IsReady, Rings, by-answer, total}
 use Rattle.mmtel_call_laws.proofs.Falling.{divert-leaves, target-leaves}
 use Rattle.mmtel_call_laws.proofs.Knowing.{IsKnown, barred-known, cause_of, of_caller-known, reach_of-known, served-known, sheet-known, target_uri}
-use Rattle.mmtel_call_laws.proofs.Parts.{all_parts, last_part-more, last_served, last_served-more, past_parts-more, rows-unanswered}
+use Rattle.mmtel_call_laws.proofs.Parts.{all_parts, last_part-more, last_record-more, last_served, last_served-more, past_parts-more, rows-unanswered}
 
 -- ---- what is shown
 
@@ -137,6 +137,7 @@ refused-comes site first later at caller cause c desk rows P old kept ready same
         place = Ends (cause_by c.answered cause) (record {
           phase = refl;
           over = ap moves.Over (sym (unanswered c.answered cause ready.answered));
+          why = by-answer c.answered cause;
           past = refl;
           rows = refl;
         });
@@ -214,6 +215,18 @@ served-last : (site : Site) (now first : Standing) (later : ℕ → Standing) (c
 served-last site now first later c kept by target offer =
     last_served-more (known_as site first c.opening later) None kept.targets (target_as target.uri by offer) ∙ sym (served-known site now first c.opening later by target)
 
+-- the record of the account that is served there
+record-last : (site : Site) (now first : Standing) (later : ℕ → Standing) (caller : Leg) (c : Call) (kept : Kept) (by : Option DueDiversion) (target : Target) (offer : Offer) →
+    IsComing site now first later caller c kept by target →
+    its_sheet (service_at site now c.opening (cause_of by) target) ≡ last_record (known_as site first c.opening later) 0 (kept.targets ++ target_as target.uri by offer ∷ [])
+record-last site now first later caller c kept by target offer coming =
+    let call = known_as site first c.opening later in
+    let service = service_at site now c.opening (cause_of by) target in
+    let place : kept.done ≡ 0 + length kept.targets = let e = coming.reached in omega arith in
+    sym (sheet-known site now c.opening (cause_of by) target service (peer_for site c.opening target))
+    ∙ ap turns.sheet_of (sym (reach_of-known site now first c.opening later kept.done by target coming.number coming.stands))
+    ∙ sym (last_record-more call 0 kept.done kept.targets (target_as target.uri by offer) place)
+
 -- by the turn there; an offer only where a peer leads to it
 turn-comes : (left : ℕ) (site : Site) (now first : Standing) (later : ℕ → Standing) (caller : Leg) → (P : Type 0) → DivertComes left site now first later caller P →
     (reach : Reach) (peer : Option Peer) (by : Option DueDiversion) (target : Target) (turn : Turn) (c : Call) (desk : Desk) (rows : List Row) (old : List Sign) (kept : Kept) →
@@ -238,6 +251,7 @@ turn-comes left site now first later caller P goes reach (Some peer) by target (
           phase = refl;
           rings = refl;
           sheet = sheet;
+          record_of = record-last site now first later caller c kept by target (Offered waiting) coming;
           answered = coming.answered;
           origin = coming.origin;
           past = coming.past (Offered waiting);

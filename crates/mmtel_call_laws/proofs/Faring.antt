@@ -34,7 +34,7 @@ use Rattle.mmtel_call.specs.declared.calls.Stage.{Stage}
 use Rattle.mmtel_call.specs.declared.calls.Trial.{Trial}
 use Rattle.mmtel_call.specs.declared.signals.Signal.{Signal}
 use Rattle.mmtel_call.specs.declared.signals.Signal.TheVariants as signal
-use Rattle.mmtel_call_laws.specs.Shown.{Accepted, IsOthers, Refused, final_sign, signs_of}
+use Rattle.mmtel_call_laws.specs.Shown.{Accepted, AsksOthersAt, IsOthers, Refused, final_sign, signs_of}
 use Rattle.mmtel_call_laws.proofs.Coming.{relayed-shown, told-shown}
 use Rattle.mmtel_sheet_values.specs.declared.values.Sheet.{Sheet}
 use Rattle.mmtel_transaction.specs.declared.words.Emit.{Emit}
@@ -62,6 +62,7 @@ pub record WasAnswered (P : Type 0) (at : ℕ) (x : Trial) (c : Call) (before : 
   pub diversions : s.call.diversions ≡ c.diversions
   pub past : s.call.past ≡ c.past
   pub answered : s.call.answered ≡ Some at
+  pub awaits : (key : TKey) → AsksOthersAt key stage
   pub caller : y.caller.meter ≡ x.caller.meter
   pub callee : y.callee.meter ≡ x.callee.leg.meter
   pub none : s.desk.rows ≡ before.rows
@@ -244,6 +245,7 @@ answers P site now x key m c desk end accepted e = Answers (ap Some e) _ _ (reco
   diversions = refl;
   past = refl;
   answered = refl;
+  awaits = λ key. tt;
   caller = refl;
   callee = refl;
   none = refl;

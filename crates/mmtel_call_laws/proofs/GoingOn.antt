@@ -8,8 +8,10 @@ use Rattle.mmtel_precedence.specs.Calls as precedence
 use Rattle.mmtel_precedence.specs.Extension.{LaterEndingsExtend}
 use Rattle.mmtel_precedence.specs.Moves.{Kept, MovesGiveTheOutcome}
 use Rattle.mmtel_precedence.specs.Turns.{EndingsAreMoves, TurnsAreMoves}
+use Rattle.mmtel_types.specs.declared.causes.Cause.{Cause}
 use Rattle.mmtel_types.specs.declared.causes.Cause.TheVariants as causes
 use Rattle.std.specs.Prelude.{Option, Some, None, is_some}
+use Rattle.mmtel_call_decisions.specs.Decisions.{its_sheet}
 use Rattle.mmtel_call_decisions.specs.Rows.{cause_by, rows_by}
 use Rattle.mmtel_call_decisions.specs.Site.{Site}
 use Rattle.mmtel_call_decisions.specs.declared.openings.Opening.{Opening}
@@ -20,11 +22,12 @@ use Rattle.mmtel_call.specs.declared.calls.Pair.{Pair}
 use Rattle.mmtel_call.specs.declared.calls.Phase.{Phase}
 use Rattle.mmtel_call.specs.declared.calls.Phase.TheVariants.{Lent, Offered, Over, Stood}
 use Rattle.mmtel_call.specs.declared.calls.Stage.{Stage}
+use Rattle.mmtel_call.specs.declared.calls.Trial.{Trial}
 use Rattle.mmtel_call.specs.declared.signals.Signal.{Signal}
 use Rattle.mmtel_call_laws.specs.Charged.{last_part, origin_part, past_parts}
 use Rattle.mmtel_call_laws.specs.GoingOn as going
 use Rattle.mmtel_call_laws.specs.GoingOn.{CallsGoOn, HasLeft, Parts, StaysOver, StaysSame, ended_at, parts_begun, parts_in, parts_now, stands_in}
-use Rattle.mmtel_call_laws.specs.Known.{known_after, known_as, stood_after}
+use Rattle.mmtel_call_laws.specs.Known.{known_after, known_as, last_record, outcome_after, stood_after}
 use Rattle.mmtel_call_laws.specs.Story.{Heard, Start, call_after, is_over, opening_in, over_at, rows_after}
 use Rattle.mmtel_call_laws.proofs.Agreeing.{Ends, Place, Rings, Talks}
 use Rattle.mmtel_call_laws.proofs.Answering as answering
@@ -57,6 +60,21 @@ begun_run turn_law end_law extend enough_law s heard goes =
     parts-at s.site s.now (opening_in s) (stood_after s heard) kept (call_after s heard) (rows_after s heard) (over_at s heard) goes t.agrees.place
     ∙ ap (λ (o : precedence.Outcome). made_of (origin_part call number) (past_parts call number 0 None o.targets) (last_part call number 0 o.targets)) t.outcome
 
+record-at : (site : Site) (first : Standing) (o : Opening) (later : ℕ → Standing) (kept : Kept) (c : Call) (filed : List Row) (at : ℕ) (y : Trial) → c.phase ≡ Offered y → Place site first o later kept c filed at →
+    its_sheet y.attempt.service ≡ last_record (known_as site first o later) 0 kept.targets
+record-at site first o later kept c filed at y offered (Rings x reach p) =
+    let e : Offered y ≡ Offered x = sym offered ∙ p.phase in
+    let same : y ≡ x = cc in
+    ap (λ (x : Trial). its_sheet x.attempt.service) same ∙ p.record_of
+record-at site first o later kept c filed at y offered (Talks x stage moment p) = absurd (let e : Stood x stage ≡ Offered y = sym p.phase ∙ offered in cc)
+record-at site first o later kept c filed at y offered (Ends cause p) = absurd (let e : Over cause ≡ Offered y = sym p.phase ∙ offered in cc)
+
+goes_by_record : Laws ((s : Start) (heard : List Heard) (x : Trial) → (call_after s heard).phase ≡ Offered x → its_sheet x.attempt.service ≡ last_record (known_after s heard) 0 (outcome_after s heard).targets)
+goes_by_record turn_law end_law extend enough_law s heard x offered =
+    let (kept, t) = told turn_law end_law extend enough_law s heard in
+    record-at s.site s.now (opening_in s) (stood_after s heard) kept (call_after s heard) (rows_after s heard) (over_at s heard) x offered t.agrees.place
+    ∙ ap (λ (o : precedence.Outcome). last_record (known_after s heard) 0 o.targets) t.outcome
+
 answered-at : (site : Site) (first : Standing) (o : Opening) (later : ℕ → Standing) (kept : Kept) (c : Call) (filed : List Row) (at : ℕ) → stands_in c.phase ≡ true → Place site first o later kept c filed at → is_some c.answered ≡ true
 answered-at site first o later kept c filed at stands (Rings x reach p) = absurd (let e : false ≡ true = ap stands_in (sym p.phase) ∙ stands in cc)
 answered-at site first o later kept c filed at stands (Talks x stage moment p) = ap is_some p.answered
@@ -66,6 +84,20 @@ was_answered : Laws ((s : Start) (heard : List Heard) → stands_in (call_after 
 was_answered turn_law end_law extend enough_law s heard stands =
     let (kept, t) = told turn_law end_law extend enough_law s heard in
     answered-at s.site s.now (opening_in s) (stood_after s heard) kept (call_after s heard) (rows_after s heard) (over_at s heard) stands t.agrees.place
+
+cause-at : (site : Site) (first : Standing) (o : Opening) (later : ℕ → Standing) (kept : Kept) (c : Call) (filed : List Row) (at : ℕ) (cause : Cause) → c.phase ≡ Over cause → is_some c.answered ≡ true →
+    Place site first o later kept c filed at → cause ≡ causes.Ended
+cause-at site first o later kept c filed at cause over answered (Rings x reach p) = absurd (let e : Offered x ≡ Over cause = sym p.phase ∙ over in cc)
+cause-at site first o later kept c filed at cause over answered (Talks x stage moment p) = absurd (let e : Stood x stage ≡ Over cause = sym p.phase ∙ over in cc)
+cause-at site first o later kept c filed at cause over answered (Ends why p) =
+    let e : Over why ≡ Over cause = sym p.phase ∙ over in
+    let same : why ≡ cause = cc in
+    sym same ∙ p.why answered
+
+by_ending : Laws ((s : Start) (heard : List Heard) (cause : Cause) → (call_after s heard).phase ≡ Over cause → is_some (call_after s heard).answered ≡ true → cause ≡ causes.Ended)
+by_ending turn_law end_law extend enough_law s heard cause over answered =
+    let (kept, t) = told turn_law end_law extend enough_law s heard in
+    cause-at s.site s.now (opening_in s) (stood_after s heard) kept (call_after s heard) (rows_after s heard) (over_at s heard) cause over answered t.agrees.place
 
 -- ---- one step
 
@@ -120,7 +152,9 @@ pub calls_go_on : Laws CallsGoOn
 calls_go_on turn_law end_law extend enough_law = record {
   opening = stays_itself turn_law end_law extend enough_law;
   parts = begun_run turn_law end_law extend enough_law;
+  record_of = goes_by_record turn_law end_law extend enough_law;
   answered = was_answered turn_law end_law extend enough_law;
+  cause = by_ending turn_law end_law extend enough_law;
   standing = λ site now heard c desk stands. standing-goes c.phase site now heard c desk stands;
   ended = λ site now heard c desk over. over-stays c.phase site now heard c desk over;
 }

@@ -10,11 +10,13 @@ pub mod Turning
 pub mod Telling
 pub mod Lowering
 pub mod Concluding
-mod Signs
+pub mod Signs
+mod Later
 mod Moments
 mod GoingOn
 mod Notices
 mod Trace
 pub mod Heads
 pub mod Branches
+pub mod Replies
 pub mod Secret

@@ -7,12 +7,14 @@ use Rattle.mmtel_charging.specs.declared.rows.Kind.TheVariants.{Origin, Terminat
 use Rattle.mmtel_charging.specs.declared.rows.Kind.{Kind}
 use Rattle.mmtel_precedence.specs.Calls as precedence
 use Rattle.mmtel_precedence.specs.Calls.{Target, standing_after}
-use Rattle.mmtel_precedence.specs.Targets.{served_at}
+use Rattle.mmtel_precedence.specs.Targets.{reach_of, served_at}
+use Rattle.mmtel_precedence.specs.Turns.{sheet_of}
 use Rattle.mmtel_types.specs.declared.numbers.Account.{Account}
 use Rattle.mmtel_types.specs.declared.numbers.CallNo.{CallNo}
 use Rattle.mmtel_call_decisions.specs.Rows.{last_row, past_answer, past_row, rows_by, with_answer}
 use Rattle.mmtel_call_decisions.specs.declared.rows.Ending.{Ending}
 use Rattle.mmtel_call_laws.specs.Charged.{diverting_part, last_part, past_parts, served_part}
+use Rattle.mmtel_call_laws.specs.Known.{last_record}
 
 -- the account that is served at the last target, or else this one
 abbrev pub last_served : precedence.Call → (before : Option Account) → List Target → Option Account
@@ -50,6 +52,16 @@ last_part-more call number k m (one ∷ []) target e =
 last_part-more call number k m (one ∷ two ∷ later) target e =
     let same : m ≡ suc k + length (two ∷ later) = omega arith in
     last_part-more call number (suc k) m (two ∷ later) target same
+
+pub last_record-more : (call : precedence.Call) (k m : ℕ) (targets : List Target) (target : Target) → m ≡ k + length targets →
+    last_record call k (targets ++ target ∷ []) ≡ sheet_of (reach_of call m target.uri target.by)
+last_record-more call k m [] target e =
+    let same : m ≡ k = omega arith in ap (λ i. sheet_of (reach_of call i target.uri target.by)) (sym same)
+last_record-more call k m (one ∷ []) target e =
+    let same : m ≡ suc k = omega arith in ap (λ i. sheet_of (reach_of call i target.uri target.by)) (sym same)
+last_record-more call k m (one ∷ two ∷ later) target e =
+    let same : m ≡ suc k + length (two ∷ later) = omega arith in
+    last_record-more call (suc k) m (two ∷ later) target same
 
 pub last_served-more : (call : precedence.Call) (before : Option Account) (targets : List Target) (target : Target) →
     last_served call before (targets ++ target ∷ []) ≡ served_at call target.by target.uri

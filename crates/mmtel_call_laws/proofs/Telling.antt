@@ -2,7 +2,7 @@
 use Rattle.std.proofs.Common.{◌≡◌, ℕ, zero, suc, ◌+◌, ◌-◌, ◌≤◌, ◌<◌, Bool, true, false, List, [], ◌∷◌, ◌++◌, length, drop, refl, ap, sym, subst, ◌∙◌, arith}
 use Rattle.std.proofs.lemmas.Bool.Decides.{nat_tests}
 use Rattle.std.proofs.lemmas.List.{append-nil, drop_at}
-use Rattle.std.specs.Prelude.{Option, Some, None, if◌then◌else◌, nat_lt}
+use Rattle.std.specs.Prelude.{Option, Some, None, if◌then◌else◌, is_some, nat_lt}
 use Rattle.std.specs.Option.{option_map}
 use Rattle.mmtel_charging.specs.declared.rows.Row.{Row}
 use Rattle.mmtel_desk.specs.Desks.{drew}
@@ -282,6 +282,7 @@ over-same site first o later kept c filed at cause rows new agrees p u =
       place = Ends cause (record {
         phase = u.phase ∙ p.phase;
         over = p.over ∙ ap (λ answered. moves.Over (over_by answered (Final cause))) (sym u.alike.answered);
+        why = λ h. p.why (ap is_some (sym u.alike.answered) ∙ h);
         past = u.alike.past ∙ p.past;
         rows =
             ap (λ l. filed ++ l) no_rows ∙ append-nil filed ∙ p.rows

@@ -42,7 +42,7 @@ use Rattle.mmtel_call_laws.specs.Shown.{Accepted, Sign, final_sign, sign_of_resu
 use Rattle.std.proofs.lemmas.Bool.Decides.{nat_tests}
 use Rattle.mmtel_call_laws.specs.Endings.{ended_at}
 use Rattle.mmtel_call_laws.specs.Known.{known_as, over_by}
-use Rattle.mmtel_call_laws.proofs.Agreeing.{Came, Comes, Ends, IsReady, IsRinging, IsTalking, Rings, Talks, total}
+use Rattle.mmtel_call_laws.proofs.Agreeing.{Came, Comes, Ends, IsReady, IsRinging, IsTalking, Rings, Talks, by-answer, total}
 use Rattle.mmtel_call_laws.proofs.Answering as answering
 use Rattle.mmtel_call_laws.proofs.Coming.{IsDiverting, StandsThen, came-after, divert-comes, refused-comes, unanswered, relayed-shown, told-shown}
 use Rattle.mmtel_call_laws.proofs.Faring as faring
@@ -196,6 +196,7 @@ given-up end_law site now first later kept c d filed rows P old x y reach desk s
         place = Ends (cause_by d.answered causes.Cancelled) (record {
           phase = refl;
           over = ap moves.Over (sym (unanswered d.answered causes.Cancelled (same.answered ∙ p.answered)));
+          why = by-answer d.answered causes.Cancelled;
           past = refl;
           rows =
               ap (λ past. rows_by end past y.caller.meter y.callee.leg.meter) (same.past ∙ p.past)
@@ -224,6 +225,7 @@ still-came site now first later kept c filed before P x y reach s o step made em
           phase = r.phase;
           rings = p.rings;
           sheet = p.sheet ∙ ap its_sheet (sym r.service);
+          record_of = ap its_sheet r.service ∙ p.record_of;
           answered = r.same.answered ∙ p.answered;
           origin = r.caller ∙ p.origin;
           past = r.same.past ∙ p.past;
@@ -322,6 +324,7 @@ talking-came-at site first later at kept c d filed rows x y stage moment desk p 
         place = Ends (cause_by d.answered causes.Ended) (record {
           phase = refl;
           over = p.over ∙ ap moves.Over (sym (answered-cause d.answered moment (same.answered ∙ p.answered)));
+          why = by-answer d.answered causes.Ended;
           past = refl;
           rows =
               ap (λ past. rows_by end past y.caller.meter y.callee.meter) (same.past ∙ p.past)

@@ -7,6 +7,7 @@ use Rattle.mmtel_desk.specs.declared.desks.Desk.{Desk}
 use Rattle.mmtel_precedence.specs.Calls.{Standing}
 use Rattle.mmtel_types.specs.declared.causes.Cause.{Cause}
 use Rattle.mmtel_types.specs.declared.causes.Cause.TheVariants.{Ended}
+use Rattle.mmtel_call_decisions.specs.Decisions.{its_sheet}
 use Rattle.mmtel_call_decisions.specs.Rows.{rows_by}
 use Rattle.mmtel_call_decisions.specs.Site.{Site}
 use Rattle.mmtel_call_decisions.specs.declared.rows.Ending.{Ending}
@@ -16,9 +17,10 @@ use Rattle.mmtel_call.specs.Table.{step}
 use Rattle.mmtel_call.specs.declared.calls.Call.{Call}
 use Rattle.mmtel_call.specs.declared.calls.Phase.{Phase}
 use Rattle.mmtel_call.specs.declared.calls.Phase.TheVariants.{Lent, Offered, Over, Stood}
+use Rattle.mmtel_call.specs.declared.calls.Trial.{Trial}
 use Rattle.mmtel_call.specs.declared.signals.Signal.{Signal}
 use Rattle.mmtel_call_laws.specs.Charged.{last_part, origin_part, past_parts}
-use Rattle.mmtel_call_laws.specs.Known.{known_after, outcome_after}
+use Rattle.mmtel_call_laws.specs.Known.{known_after, last_record, outcome_after}
 use Rattle.mmtel_call_laws.specs.Story.{Heard, Start, call_after, is_over, opening_in}
 
 -- ---- the parts of a call that run
@@ -98,8 +100,13 @@ pub record CallsGoOn : Type 0 where
   pub opening : (s : Start) (heard : List Heard) → (call_after s heard).opening ≡ opening_in s
   -- while it is not over, those parts run that Outcome says began
   pub parts : (s : Start) (heard : List Heard) → is_over (call_after s heard).phase ≡ false → parts_now (call_after s heard) ≡ parts_begun s heard
+  -- while it is offered, it goes by the record that the account of the last target of Outcome had when the call reached it
+  pub record_of : (s : Start) (heard : List Heard) (x : Trial) → (call_after s heard).phase ≡ Offered x →
+      its_sheet x.attempt.service ≡ last_record (known_after s heard) 0 (outcome_after s heard).targets
   -- one that stands was answered
   pub answered : (s : Start) (heard : List Heard) → stands_in (call_after s heard).phase ≡ true → is_some (call_after s heard).answered ≡ true
+  -- and one that was answered is over by Ended alone
+  pub cause : (s : Start) (heard : List Heard) (cause : Cause) → (call_after s heard).phase ≡ Over cause → is_some (call_after s heard).answered ≡ true → cause ≡ Ended
   -- on whatever it hears a call that stands goes on to stand, or ends; one that is over stays so
   pub standing : (site : Site) (now : Standing) (heard : Signal) (c : Call) (desk : Desk) → stands_in c.phase ≡ true → GoesOn now.at c desk.rows (step site now heard c desk)
   pub ended : (site : Site) (now : Standing) (heard : Signal) (c : Call) (desk : Desk) → is_over c.phase ≡ true → StaysOver c desk.rows (step site now heard c desk)

@@ -1,12 +1,15 @@
 -- The call of a story as the precedence of services knows it, and what Outcome says that it comes to (TS 24.604 §4.5.2.6, TS 24.611 §4.5.2, TS 24.615 §4.5.5).
-use Rattle.std.specs.Prelude.{ℕ, ◌-◌, nat_lt, Bool, if◌then◌else◌, List, [], ◌∷◌, Option, Some, None, is_some}
+use Rattle.std.specs.Prelude.{ℕ, suc, ◌-◌, nat_lt, Bool, if◌then◌else◌, List, [], ◌∷◌, Option, Some, None, is_some}
 use Rattle.mmtel_history.specs.HistoryInfo.{diversions_in}
 use Rattle.mmtel_lex.specs.declared.values.Uri.{Uri}
 use Rattle.mmtel_parties.specs.Routing.{next_hop}
 use Rattle.mmtel_precedence.specs.Calls as precedence
-use Rattle.mmtel_precedence.specs.Calls.{Standing}
+use Rattle.mmtel_precedence.specs.Calls.{Standing, Target}
 use Rattle.mmtel_precedence.specs.Outcome.{outcome}
+use Rattle.mmtel_precedence.specs.Targets.{reach_of}
+use Rattle.mmtel_precedence.specs.Turns.{sheet_of}
 use Rattle.mmtel_rules.specs.Identities.{has_identity, identity_holds}
+use Rattle.mmtel_sheet_values.specs.declared.values.Sheet.{Sheet}
 use Rattle.mmtel_trust.specs.Accounts.{account_of}
 use Rattle.mmtel_call_decisions.specs.Opening.{first_of, received_list}
 use Rattle.mmtel_call_decisions.specs.Site.{Site}
@@ -71,6 +74,12 @@ known_after s heard = known_as s.site s.now (opening_in s) (stood_after s heard)
 
 abbrev pub outcome_after : Start → List Heard → precedence.Outcome
 outcome_after s heard = outcome (known_after s heard) (endings_after s heard)
+
+-- the record of the account that is served at the last of these targets, the first of which was reached after k diversions; as it stood when the call reached that
+abbrev pub last_record : precedence.Call → (k : ℕ) → List Target → Option Sheet
+last_record call k [] = None
+last_record call k (target ∷ []) = sheet_of (reach_of call k target.uri target.by)
+last_record call k (target ∷ next ∷ later) = last_record call (suc k) (next ∷ later)
 
 -- the result of a call so far, by whether it was answered and where it stands
 abbrev pub over_by : Option ℕ → precedence.Result → precedence.Result

@@ -1,19 +1,27 @@
 -- What is said of every story of a call, in the subject's words.
-use Rattle.std.specs.Prelude.{◌++◌, ◌≡◌, ℕ, ◌+◌, Bool, false, List, [], map, count_by}
+use Rattle.std.specs.Prelude.{◌++◌, ◌≡◌, ℕ, ◌+◌, Bool, false, true, List, [], map, count_by}
 use Rattle.mmtel_charging.specs.Meters.{Noted}
 use Rattle.mmtel_charging.specs.declared.rows.Kind.{Kind}
 use Rattle.mmtel_charging.specs.declared.rows.Row.{Row}
+use Rattle.mmtel_desk.specs.declared.desks.Desk.{Desk}
+use Rattle.mmtel_precedence.specs.Calls.{Standing}
 use Rattle.mmtel_precedence.specs.Laws.{diversions_made}
+use Rattle.mmtel_transaction.specs.declared.words.TKey.{TKey}
 use Rattle.mmtel_types.specs.declared.causes.Cause.{Cause}
 use Rattle.mmtel_types.specs.declared.numbers.Account.{Account}
 use Rattle.mmtel_types.specs.declared.numbers.CallNo.{CallNo}
+use Rattle.mmtel_call_decisions.specs.Site.{Site}
 use Rattle.mmtel_call_decisions.specs.declared.rows.Ending.{Ending}
+use Rattle.mmtel_call.specs.Lending.{finished}
+use Rattle.mmtel_call.specs.Table.{step}
+use Rattle.mmtel_call.specs.declared.calls.Call.{Call}
 use Rattle.mmtel_call.specs.declared.calls.Phase.TheVariants.{Over}
+use Rattle.mmtel_call.specs.declared.signals.Signal.{Signal}
 use Rattle.mmtel_call_laws.specs.Charged.{parts_of, rows_of_parts, running}
 use Rattle.mmtel_call_laws.specs.Endings.{answer_in, endings_after}
 use Rattle.mmtel_call_laws.specs.Known.{known_after, left_at_first, outcome_after, result_of}
-use Rattle.mmtel_call_laws.specs.Shown.{AreOwn, emits_while_offered, sign_of_result, signs_of, signs_of_targets}
-use Rattle.mmtel_call_laws.specs.Story.{Heard, Start, call_after, is_over, over_at, rows_after, opening_in}
+use Rattle.mmtel_call_laws.specs.Shown.{AreOwn, AsksOthers, IsOthers, emits_while_offered, is_offered, shown_by, sign_of_result, signs_of, signs_of_targets}
+use Rattle.mmtel_call_laws.specs.Story.{Heard, Start, added, call_after, first_step, is_over, over_at, rows_after, opening_in}
 
 -- ---- the precedence of services
 
@@ -28,6 +36,21 @@ ComesToItsOutcome = (s : Start) (heard : List Heard) → result_of (call_after s
 abbrev pub ShowsItsOutcome : Type 0
 ShowsItsOutcome = (s : Start) (heard : List Heard) → AreOwn s heard →
     signs_of s.arrival.key (emits_while_offered s heard) ≡ signs_of_targets (opening_in s) (outcome_after s heard).targets ++ sign_of_result (outcome_after s heard).result
+
+-- whatever a call hears, in whatever story, as long as each later request has a server transaction of its own
+pub record ShowsNothingLater : Type 0 where
+  -- so has the one whose answer it waits for: as it opens, and after each step
+  pub opens : (s : Start) (key : TKey) → AsksOthers key (first_step s).call.phase
+  pub asks : (site : Site) (now : Standing) (heard : Signal) (c : Call) (desk : Desk) (key : TKey) → AsksOthers key c.phase → IsOthers key heard →
+      AsksOthers key (step site now heard c desk).call.phase
+  -- while it is offered no INVITE is passed on, so all counts that is seen
+  pub all : (site : Site) (now : Standing) (heard : Signal) (c : Call) (desk : Desk) (key : TKey) → is_offered c.phase ≡ true →
+      shown_by key heard (added desk.out (step site now heard c desk).desk.out) ≡ signs_of key (added desk.out (step site now heard c desk).desk.out)
+  -- once it is not offered any more it has no INVITE to a target go out, and no final to the INVITE that opened it: neither by what it hears,
+  pub none : (site : Site) (now : Standing) (heard : Signal) (c : Call) (desk : Desk) (key : TKey) → is_offered c.phase ≡ false → AsksOthers key c.phase → IsOthers key heard →
+      shown_by key heard (added desk.out (step site now heard c desk).desk.out) ≡ []
+  -- nor where it ends without a leg that was taken out of it
+  pub ends : (site : Site) (at : ℕ) (c : Call) (desk : Desk) (key : TKey) → signs_of key (added desk.out (finished site at c desk).desk.out) ≡ []
 
 -- ---- the bound
 

@@ -12,4 +12,5 @@ pub mod Trace
 -- what it sends has its own lines and was sent once; and what nobody may learn from it.
 pub mod Heads
 pub mod Branches
+pub mod Replies
 pub mod Secret

@@ -13,8 +13,11 @@ use Rattle.mmtel_transaction.specs.declared.words.Emit.TheVariants as emit
 use Rattle.mmtel_transaction.specs.declared.words.TKey.{TKey}
 use Rattle.mmtel_types.specs.Causes.{status_of}
 use Rattle.mmtel_call_decisions.specs.declared.openings.Opening.{Opening}
+use Rattle.mmtel_call.specs.Requests.{is_invite}
 use Rattle.mmtel_call.specs.declared.calls.Phase.{Phase}
 use Rattle.mmtel_call.specs.declared.calls.Phase.TheVariants as phases
+use Rattle.mmtel_call.specs.declared.calls.Stage.{Stage}
+use Rattle.mmtel_call.specs.declared.calls.Stage.TheVariants as stages
 use Rattle.mmtel_call.specs.declared.signals.Signal.{Signal}
 use Rattle.mmtel_call.specs.declared.signals.Signal.TheVariants as signal
 use Rattle.mmtel_call_laws.specs.Story.{Heard, Start, added, call_after, first_step, next_step}
@@ -45,6 +48,29 @@ sign_of key (emit.ArmSeat room seat what at) = []
 abbrev pub signs_of : (key : TKey) → List Emit → List Sign
 signs_of key [] = []
 signs_of key (e ∷ later) = sign_of key e ++ signs_of key later
+
+-- ---- what is seen of a step, whether or not the call is offered
+
+-- an INVITE that a side sends within the call (RFC 3261 §14),
+abbrev pub is_within : Signal → Bool
+is_within (signal.Request side asked request) = is_invite request
+is_within (signal.Ack side ack) = false
+is_within (signal.Cancel asked cancel invite) = false
+is_within (signal.Answer asked response) = false
+is_within (signal.Silent branch method) = false
+is_within (signal.Due what) = false
+is_within (signal.Ended asked) = false
+
+-- which the other side has too: all but the first INVITE, which is that one
+abbrev pub but_passed_on : List Sign → List Sign
+but_passed_on [] = []
+but_passed_on (Invited uri ∷ later) = later
+but_passed_on (Accepted ∷ later) = Accepted ∷ but_passed_on later
+but_passed_on (Refused code ∷ later) = Refused code ∷ but_passed_on later
+
+-- where this was heard, and this went out
+abbrev pub shown_by : (key : TKey) → Signal → List Emit → List Sign
+shown_by key heard out = if is_within heard then but_passed_on (signs_of key out) else signs_of key out
 
 -- ---- what Outcome says of it
 
@@ -92,6 +118,19 @@ IsOthers key (signal.Answer asked response) = Unit {0}
 IsOthers key (signal.Silent branch method) = Unit {0}
 IsOthers key (signal.Due what) = Unit {0}
 IsOthers key (signal.Ended asked) = Unit {0}
+
+-- a call that waits for the answer to an INVITE of a side waits for that of another request than the INVITE that opened it
+abbrev pub AsksOthersAt : (key : TKey) → Stage → Type 0
+AsksOthersAt key (stages.Answered waiting success) = Unit {0}
+AsksOthersAt key (stages.Parting waiting success) = Unit {0}
+AsksOthersAt key stages.Talking = Unit {0}
+AsksOthersAt key (stages.Asking asking q) = (q.key.0 == key.0) ≡ false
+
+abbrev pub AsksOthers : (key : TKey) → Phase → Type 0
+AsksOthers key (phases.Offered x) = Unit {0}
+AsksOthers key (phases.Stood x stage) = AsksOthersAt key stage
+AsksOthers key (phases.Lent loan) = Unit {0}
+AsksOthers key (phases.Over cause) = Unit {0}
 
 -- and each step has a desk of its own, on which nothing lies
 abbrev pub AreOwn : Start → List Heard → Type 0

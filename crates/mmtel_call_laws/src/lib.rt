@@ -6,6 +6,7 @@ mod branch_laws;
 mod head_laws;
 mod notice_laws;
 mod outcome_laws;
+mod reply_laws;
 mod secret_laws;
 mod trace_laws;
 
@@ -19,6 +20,7 @@ pub use outcome_laws::{
     calls_come_to_their_outcome, calls_go_on, calls_show_their_outcome, charging_is_exact,
     diversions_are_counted,
 };
+pub use reply_laws::calls_reply_in_their_own;
 pub use secret_laws::{
     alike_calls_go_on_alike, answers_to_attempts_see_public_parts, calls_are_alike_in_both,
     lent_calls_stay_alike, look_ups_alone_are_seen, messages_are_whole, openings_see_public_parts,

@@ -1,6 +1,6 @@
 //! What every story of a call comes to. These are laws, and no code.
 ghost use Rattle.mmtel_call_laws.specs.GoingOn.{CallsGoOn};
-ghost use Rattle.mmtel_call_laws.specs.Laws.{ChargingIsExact, ComesToItsOutcome, DiversionsAreCounted, ShowsItsOutcome};
+ghost use Rattle.mmtel_call_laws.specs.Laws.{ChargingIsExact, ComesToItsOutcome, DiversionsAreCounted, ShowsItsOutcome, ShowsNothingLater};
 
 use mmtel_precedence::laws::{
     endings_are_moves, later_endings_extend, moves_give_the_outcome, turns_are_moves,
@@ -21,6 +21,8 @@ pub fn calls_come_to_their_outcome()
 /// 4458), and at the end one final to the caller, by the result (RFC 3261 §13.3.1).
 pub fn calls_show_their_outcome()
     ensures law { ShowsItsOutcome }
+    // Once it is not offered any more it has no INVITE to a target go out, and no final to the INVITE that opened it, whatever it hears, also while a leg of it is away.
+    ensures later { ShowsNothingLater }
 {
     turns_are_moves();
     endings_are_moves();

@@ -210,7 +210,7 @@ then_without at site line place seat invite s e p =
     let first = put_books at place seat (record seat { invite = invite }) s e refl (plain_there s.room.seats place seat e p) p in
     books_then at s next (at_seat (ended_without site at line) place next) first (books_at_seat at (ended_without site at line) (without_books at site line) place next first.plain)
 
-acked_rows : (sip : Addr) (key : TKey) (m : Said) (o : Option Invite) (desk : Desk) → (failure_acked sip key m o desk).rows ≡ desk.rows
+pub acked_rows : (sip : Addr) (key : TKey) (m : Said) (o : Option Invite) (desk : Desk) → (failure_acked sip key m o desk).rows ≡ desk.rows
 acked_rows sip key m None desk = refl
 acked_rows sip key m (Some (Waiting number i)) desk = refl
 acked_rows sip key m (Some (Agreed branch tag ack)) desk = refl
@@ -256,7 +256,7 @@ cancel_rows : (b : Bool) (sip : Addr) (i : Invitation) (desk : Desk) → (if b t
 cancel_rows true sip i desk = refl
 cancel_rows false sip i desk = refl
 
-cancelled_rows : (sip : Addr) (o : Option Invite) (desk : Desk) → (cancelled_in sip o desk).rows ≡ desk.rows
+pub cancelled_rows : (sip : Addr) (o : Option Invite) (desk : Desk) → (cancelled_in sip o desk).rows ≡ desk.rows
 cancelled_rows sip None desk = refl
 cancelled_rows sip (Some (Waiting number i)) desk = cancel_rows (is_cancellable i) sip i desk
 cancelled_rows sip (Some (Agreed branch tag ack)) desk = refl

@@ -177,7 +177,7 @@ begun_books at place seat other s meter e f g is h p =
 
 -- ---- a seat is left
 
-filed_rows : (at : ℕ) (meter : Option Noted) (desk : Desk) → (filed_by at meter desk).rows ≡ desk.rows ++ rows_at at meter
+pub filed_rows : (at : ℕ) (meter : Option Noted) (desk : Desk) → (filed_by at meter desk).rows ≡ desk.rows ++ rows_at at meter
 filed_rows at None desk = sym (append-nil desk.rows)
 filed_rows at (Some meter) desk = refl
 
@@ -201,7 +201,7 @@ gone_books at place seat s e is filed still p =
 pub left_books : (at : ℕ) (had_bye : Bool) → KeepsBooks at (left at had_bye)
 left_books at had_bye place seat s is p = gone_books at place seat s (left_with at had_bye seat s.effects) is (filed_rows at (leg_of seat.party).meter s.effects.desk) refl p
 
-same_leg_meter : (party : Party) (leg : Leg) → leg.meter ≡ (leg_of party).meter → (leg_of (with_leg leg party)).meter ≡ (leg_of party).meter
+pub same_leg_meter : (party : Party) (leg : Leg) → leg.meter ≡ (leg_of party).meter → (leg_of (with_leg leg party)).meter ≡ (leg_of party).meter
 same_leg_meter (Invited before) leg e = e
 same_leg_meter (Came before) leg e = e
 same_leg_meter (Brought before) leg e = e
@@ -249,7 +249,7 @@ closed_with_books at site number s p = ends_if at (is_creator number) s (closed 
 
 -- ---- NOTIFY
 
-notified_rows : (site : Site) (room : RoomNo) (on : Bool) (line : List ℕ) (party : Party) (desk : Desk) → (notified_by site room on line party desk).rows ≡ desk.rows
+pub notified_rows : (site : Site) (room : RoomNo) (on : Bool) (line : List ℕ) (party : Party) (desk : Desk) → (notified_by site room on line party desk).rows ≡ desk.rows
 notified_rows site room on line (Invited leg) desk = refl
 notified_rows site room on line (Came leg) desk = refl
 notified_rows site room on line (Brought leg) desk = refl

@@ -204,7 +204,7 @@ success_rows : (sip : Addr) (l : Loose) (remote : Remote) (o : Option Dialogue) 
 success_rows sip l remote None desk = refl
 success_rows sip l remote (Some d) desk = refl
 
-response_rows : (sip : Addr) (key : TKey) (m : HeardMessage) (l : Loose) (desk : Desk) → (on_response sip key m l desk).desk.rows ≡ desk.rows
+pub response_rows : (sip : Addr) (key : TKey) (m : HeardMessage) (l : Loose) (desk : Desk) → (on_response sip key m l desk).desk.rows ≡ desk.rows
 response_rows sip key m l desk =
     let known : Loose = with_invitation l (knows key l.invitation) in
     let last : Rest = record { left = None; desk = final_acked sip key l.invitation m desk } in
@@ -324,7 +324,7 @@ opens_charged site c table =
 
 -- ---- NOTIFY
 
-record Silent (live : List Room) (before : Effects) (s : Stepped) : Type 0 where
+pub record Silent (live : List Room) (before : Effects) (s : Stepped) : Type 0 where
   pub filed : s.effects.desk.rows ≡ before.desk.rows
   pub runs_on : running s.live ≡ running live
   pub plain : AllPlain s.live
@@ -350,7 +350,7 @@ telling_in : (site : Site) (seat code : ℕ) (o : Option ℕ) (live : List Room)
 telling_in site seat code None live effects p = record { filed = refl; runs_on = refl; plain = p }
 telling_in site seat code (Some place) live effects p = telling_at site seat code place live effects p
 
-notified_quiet : (site : Site) (room seat code : ℕ) (live : List Room) (effects : Effects) → AllPlain live → Silent live effects (notified site room seat code live effects)
+pub notified_quiet : (site : Site) (room seat code : ℕ) (live : List Room) (effects : Effects) → AllPlain live → Silent live effects (notified site room seat code live effects)
 unfolding notified
 notified_quiet site room seat code live effects p = telling_in site seat code (place_of room live) live effects p
 
@@ -512,7 +512,7 @@ booked_deed site (Drops count) table p = (record { left = refl; runs_on = refl }
 
 -- ---- whatever was done before
 
-always_plain : (site : Site) (deeds : List Deed) → AllPlain (table_after site deeds).live
+pub always_plain : (site : Site) (deeds : List Deed) → AllPlain (table_after site deeds).live
 always_plain site [] = tt
 always_plain site (deed ∷ deeds) = (booked_deed site deed (table_after site deeds) (always_plain site deeds)).1
 

@@ -53,7 +53,7 @@ use Rattle.mmtel_seats.specs.declared.seats.Party.{Party}
 use Rattle.mmtel_seats.specs.declared.seats.Party.TheVariants.{Brought, Came, Invited}
 use Rattle.mmtel_seats.specs.declared.seats.Seat.{Seat}
 use Rattle.mmtel_call_laws.specs.Heads.Clean.{AreCleanLines, IsClean}
-use Rattle.mmtel_call_laws.specs.Heads.Emits.{IsCleanDesk, IsTextOfClean}
+use Rattle.mmtel_call_laws.specs.Heads.Emits.{IsCleanDesk, IsTextOfAck}
 use Rattle.mmtel_call_laws.specs.Heads.Heard.{IsCleanUri}
 use Rattle.mmtel_call_laws.specs.Heads.Kept.{IsCleanDialogue}
 use Rattle.mmtel_call_laws.proofs.Heads.Building.{response_clean}
@@ -261,7 +261,7 @@ stood_clean room at account remote (Invited leg) f e = (met_clean leg.dialogue r
 stood_clean room at account remote (Came leg) f e = e
 stood_clean room at account remote (Brought leg) f e = e
 
-agreed_by_clean : (tag ack : List ℕ) (o : Option Invite) → IsTextOfClean ack → IfSome o IsCleanInvite → IfSome (agreed_by tag ack o) IsCleanInvite
+agreed_by_clean : (tag ack : List ℕ) (o : Option Invite) → IsTextOfAck ack → IfSome o IsCleanInvite → IfSome (agreed_by tag ack o) IsCleanInvite
 agreed_by_clean tag ack None f e = tt
 agreed_by_clean tag ack (Some (Waiting number i)) f e = f
 agreed_by_clean tag ack (Some (Agreed branch before sent)) f e = e
@@ -306,7 +306,7 @@ response_row site at key m h place seat s e is =
     (provisional_clean key place seat s e is)
     (if_step (nat_lt (status_of m.heard.start) 300) (on_success site at m place seat s) (on_failure site at key m place seat s) (success_clean site at m h place seat s e is) (failure_clean site at key m h place seat s e is))
 
-repeat_clean : (m : Said) (tag ack : List ℕ) → IsTextOfClean ack → KeepsClean (on_repeat m tag ack)
+repeat_clean : (m : Said) (tag ack : List ℕ) → IsTextOfAck ack → KeepsClean (on_repeat m tag ack)
 repeat_clean m tag ack f place seat s e is =
     if_step (is_success (status_of m.heard.start) && bytes_eq (tag_given m) tag) (acked_again ack seat s) s
     (with_desk_clean (emitted (emit.Plain (dialogue_of seat).peer ack) s.effects.desk) s (emit_clean (emit.Plain (dialogue_of seat).peer ack) s.effects.desk f is.desk_in) is) is

@@ -21,7 +21,7 @@ use Rattle.mmtel_seats.specs.declared.seats.Party.{Party}
 use Rattle.mmtel_seats.specs.declared.seats.Party.TheVariants.{Brought, Came, Invited}
 use Rattle.mmtel_seats.specs.declared.seats.Seat.{Seat}
 use Rattle.mmtel_call_laws.specs.Heads.Clean.{IsClean}
-use Rattle.mmtel_call_laws.specs.Heads.Emits.{Each, IsCleanDesk, IsTextOfClean}
+use Rattle.mmtel_call_laws.specs.Heads.Emits.{Each, IsCleanDesk, IsTextOfAck}
 use Rattle.mmtel_call_laws.specs.Heads.Kept.{IsCleanDialogue}
 use Rattle.mmtel_call_laws.proofs.Heads.Keeping.{IsCleanLoose}
 use Rattle.mmtel_call_laws.proofs.Heads.Sending.{IsCleanInvitation, asked_clean, bye_clean, each_append, each_drop, each_get, each_take}
@@ -31,7 +31,7 @@ use Rattle.mmtel_focus_laws.proofs.CleanTexts.{notify_clean}
 
 abbrev pub IsCleanInvite : Invite → Type 0
 IsCleanInvite (Waiting number i) = IsCleanInvitation i
-IsCleanInvite (Agreed branch tag ack) = IsTextOfClean ack
+IsCleanInvite (Agreed branch tag ack) = IsTextOfAck ack
 
 -- a dialog, with the server's tag in it
 abbrev pub IsCleanHere : Dialogue → Type 0

@@ -2,10 +2,13 @@ mod Books
 mod ChargedSteps
 mod ChargedRows
 mod ChargedTables
+mod SeatedRows
+mod SeatedTables
 mod CleanTexts
 mod CleanSteps
 mod CleanRows
 mod CleanTables
+mod Replies
 mod Lists
 mod Likes
 mod Alike

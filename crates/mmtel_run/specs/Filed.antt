@@ -1,5 +1,5 @@
 -- The charging rows of a run: those of the calls that are over and of the seats that were left, in the order in which they were closed (TS 32.260 §5).
-use Rattle.std.specs.Prelude.{◌≡◌, ℕ, Bool, true, if◌then◌else◌, List, [], ◌∷◌, ◌++◌, map}
+use Rattle.std.specs.Prelude.{◌≡◌, ℕ, zero, suc, Bool, true, if◌then◌else◌, List, [], ◌∷◌, ◌++◌, drop, length, map}
 use Rattle.mmtel_b2bua.specs.Histories.{Deed, Drops, Finishes, Hears, Releases, Restores, finished_by, heard_by, table_after}
 use Rattle.mmtel_b2bua.specs.Tables.{Table}
 use Rattle.mmtel_call_decisions.specs.Site.{Site}
@@ -9,10 +9,10 @@ use Rattle.mmtel_focus.specs.Histories as rooms
 use Rattle.mmtel_focus.specs.Site as focus
 use Rattle.mmtel_in_force.specs.Texts.{Texts}
 use Rattle.mmtel_run.specs.Calls.{site_of}
-use Rattle.mmtel_run.specs.Events.{Digest, Happened}
+use Rattle.mmtel_run.specs.Events.{Digest, Happened, Notice, notices}
 use Rattle.mmtel_run.specs.Rooms.{rooms_site}
-use Rattle.mmtel_run.specs.Run.{world_after}
-use Rattle.mmtel_run.specs.World.{World, came}
+use Rattle.mmtel_run.specs.Run.{clock_at, fire_one, one_more, world_after}
+use Rattle.mmtel_run.specs.World.{World, beginning, came}
 
 -- ---- those of the calls
 
@@ -65,6 +65,39 @@ pub record AreFiled (directory : Directory) (world : World) : Type 0 where
 abbrev pub RowsAreFiled : Type 0
 RowsAreFiled = (directory : Directory) (token : List ℕ) (loaded : Texts) (fuel : ℕ) (happened : List Happened) →
     AreFiled directory (world_after directory token loaded fuel happened)
+
+-- ---- in one order: that of the steps, of which each is a deadline that fires, or an event
+
+-- the worlds to which the deadlines lead that are due at a moment, one after another
+abbrev pub settling : Directory → (token : List ℕ) → (fuel : ℕ) → ℕ → World → List World
+settling directory token zero now world = []
+settling directory token (suc fuel) now world = fire_one directory token now world ∷ settling directory token fuel now (fire_one directory token now world)
+
+-- those to which the steps of a run lead: before each event the deadlines that are due by then, and then the event
+abbrev pub steps_of : Directory → (token : List ℕ) → (fuel : ℕ) → List Notice → World → List World
+steps_of directory token fuel [] world = []
+steps_of directory token fuel (notice ∷ others) world =
+    settling directory token fuel (clock_at world notice.at) world
+    ++ one_more directory token fuel notice world ∷ steps_of directory token fuel others (one_more directory token fuel notice world)
+
+-- the rows that a step closes: of the seats that were left in it, and behind them of the calls that were over in it
+abbrev pub rows_of_step : Directory → (before after : World) → List Row
+rows_of_step directory before after =
+    drop (length (rows_left (rooms_site directory) before.rooms)) (rows_left (rooms_site directory) after.rooms)
+    ++ drop (length (rows_closed (site_of directory) before.deeds)) (rows_closed (site_of directory) after.deeds)
+
+abbrev pub rows_of_steps : Directory → (before : World) → (steps : List World) → List Row
+rows_of_steps directory before [] = []
+rows_of_steps directory before (world ∷ later) = rows_of_step directory before world ++ rows_of_steps directory world later
+
+-- the rows that the keeper took, and behind them those that wait, are those of the first step, behind them those of the second, and so on
+abbrev pub AreInOrder : Directory → (token : List ℕ) → (loaded : Texts) → (fuel : ℕ) → List Happened → Type 0
+AreInOrder directory token loaded fuel happened =
+    (world_after directory token loaded fuel happened).filed ++ (world_after directory token loaded fuel happened).waiting
+    ≡ rows_of_steps directory (beginning loaded) (steps_of directory token fuel (notices directory happened) (beginning loaded))
+
+abbrev pub RowsAreInOrder : Type 0
+RowsAreInOrder = (directory : Directory) (token : List ℕ) (loaded : Texts) (fuel : ℕ) (happened : List Happened) → AreInOrder directory token loaded fuel happened
 
 -- none waits behind an event in which the keeper took what was handed to it
 abbrev pub NoneWaits : Type 0

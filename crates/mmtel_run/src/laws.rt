@@ -2,7 +2,7 @@
 ghost use Rattle.mmtel_run.specs.Access.{AccessIsGivenOrRefused};
 ghost use Rattle.mmtel_run.specs.Alike.{MasksMakeKin, MasksNameTheRegistrant};
 ghost use Rattle.mmtel_run.specs.Audio.{RoomsAreForAudio};
-ghost use Rattle.mmtel_run.specs.Filed.{NoneWaits, RowsAreFiled};
+ghost use Rattle.mmtel_run.specs.Filed.{NoneWaits, RowsAreFiled, RowsAreInOrder};
 ghost use Rattle.mmtel_run.specs.InForce.{CallsAreToldWhatIsInForce, CallsSeeWhatIsSaid, LastIsInForce, TextsAreThoseKept};
 ghost use Rattle.mmtel_run.specs.Short.{CallsDrawOn, CallsEndOn, RoomsDrawOn};
 ghost use Rattle.mmtel_run.specs.Headline.{GivesAlways, GivesOnce, MoreChangesNothing};
@@ -36,10 +36,12 @@ pub fn records_are_those_kept()
     puts_change_one_account();
 }
 
-/// The charging rows of a run: those that the keeper took and those that wait are those of its calls, in the order in which they were closed (3GPP TS 32.260 §5). None
-/// waits behind an event in which the keeper took what was handed to it.
+/// The charging rows of a run: those that the keeper took and those that wait are those of its calls and those of the seats of its rooms, all in the order of the steps in
+/// which they were closed (3GPP TS 32.260 §5). None waits behind an event in which the keeper took what was handed to it.
 pub fn rows_are_filed()
     ensures all { RowsAreFiled }
+    // All of them, of calls and of seats, stand in the order of the steps in which the call was over or the seat was left.
+    ensures order { RowsAreInOrder }
     ensures none { NoneWaits }
 {}
 

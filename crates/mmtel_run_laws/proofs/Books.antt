@@ -1,5 +1,5 @@
 -- The book of the seats of a run: each meter that begins is a participant's, and is closed once, or runs.
-use Rattle.std.proofs.Common.{◌≡◌, ℕ, ◌+◌, Bool, true, List, [], ◌∷◌, ◌++◌, Option, Some, None, map, refl, sym, ap, ◌∙◌, subst, arith, cond, append-nil, append_assoc, IfSome}
+use Rattle.std.proofs.Common.{◌≡◌, ℕ, ◌+◌, Bool, true, List, [], ◌∷◌, ◌++◌, Option, Some, None, refl, sym, ap, ◌∙◌, subst, arith, cond, append-nil, append_assoc, IfSome}
 use Rattle.std.specs.Prelude.{count_by, option_to_list}
 use Rattle.std.proofs.lemmas.List.{append_cancel_left}
 use Rattle.std.proofs.lemmas.List.Sums.{sum_by-append}
@@ -12,15 +12,12 @@ use Rattle.mmtel_focus.specs.Site.{Site}
 use Rattle.mmtel_focus.specs.Table.{Table}
 use Rattle.mmtel_focus_laws.specs.Charging.{DeedsAreCharged, Entry, Follows, IsBegun, IsCharged, IsDropped, IsUncharged, among, rows_at, running}
 use Rattle.mmtel_run.specs.Filed.{rows_left}
-use Rattle.mmtel_run_laws.specs.Rows.{Dated, RunsOn, begun_in, closed_in, is_participant, is_seat_row}
+use Rattle.mmtel_focus_laws.specs.Seated.{moment_of}
+use Rattle.mmtel_run_laws.specs.Rows.{Dated, IsBookAt, IsBookOf, RunsOn, begun_in, closed_in, dated, is_participant, is_seat_row}
 use Rattle.mmtel_run_laws.proofs.Hearing.{IsOfRun}
 use Rattle.mmtel_run_laws.proofs.Parting.{each_behind, each_first, each_last}
 
 -- ---- a book, and a deed more
-
--- entries of one moment
-abbrev dated : (at : ℕ) → List Entry → List Dated
-dated at entries = map (λ entry. record { at = at; entry = entry }) entries
 
 follows-on : (at : ℕ) (before : List Noted) (entries : List Entry) (after : List Noted) (rows : List Row) → Follows at before entries after rows → RunsOn before (dated at entries) after rows
 follows-on at before [] after rows f = f
@@ -45,14 +42,15 @@ runs-behind before (x ∷ one) mid rows two after more f g =
 pub record Kept (site : Site) (deeds : List Deed) : Type 0 where
   pub book : List Dated
   pub runs : RunsOn [] book (running (table_after site deeds).live) (rows_left site deeds)
+  pub of_deeds : IsBookOf site deeds book
 
 -- these rows were filed, behind those that were there
 same-rows : (before rows brought : List Row) → before ++ brought ≡ before ++ rows → rows ≡ brought
 same-rows before rows brought e = sym (append_cancel_left before brought rows e)
 
-charged-more : (site : Site) (deed : Deed) (older : List Deed) (at : ℕ) → IsCharged at (table_after site older) (table_after site (deed ∷ older)) →
+charged-more : (site : Site) (deed : Deed) (older : List Deed) (at : ℕ) → moment_of deed ≡ Some at → IsCharged at (table_after site older) (table_after site (deed ∷ older)) →
     (table_after site (deed ∷ older)).rows ≡ (table_after site older).rows ++ (brought_after site older deed).desk.rows → Kept site older → Kept site (deed ∷ older)
-charged-more site deed older at c is k =
+charged-more site deed older at moment c is k =
     let same : c.rows ≡ (brought_after site older deed).desk.rows = same-rows (table_after site older).rows c.rows (brought_after site older deed).desk.rows (sym is ∙ c.filed) in
     record {
       book = k.book ++ dated at c.booked.entries;
@@ -60,16 +58,31 @@ charged-more site deed older at c is k =
           runs-behind [] k.book (running (table_after site older).live) (rows_left site older) (dated at c.booked.entries) (running (table_after site (deed ∷ older)).live) (brought_after site older deed).desk.rows k.runs
           (subst (λ (rows : List Row). RunsOn (running (table_after site older).live) (dated at c.booked.entries) (running (table_after site (deed ∷ older)).live) rows) same
           (follows-on at (running (table_after site older).live) c.booked.entries (running (table_after site (deed ∷ older)).live) c.rows c.booked.follows));
+      of_deeds = (
+        k.book,
+        dated at c.booked.entries,
+        refl,
+        k.of_deeds,
+        subst (λ (o : Option ℕ). IsBookAt o (running (table_after site older).live) (running (table_after site (deed ∷ older)).live) (brought_after site older deed).desk.rows (dated at c.booked.entries)) (sym moment)
+            (c.booked.entries, refl, subst (λ (rows : List Row). Follows at (running (table_after site older).live) c.booked.entries (running (table_after site (deed ∷ older)).live) rows) same c.booked.follows),
+      );
     }
 
 -- nothing was filed, and the same meters run
-uncharged-more : (site : Site) (deed : Deed) (older : List Deed) → running (table_after site (deed ∷ older)).live ≡ running (table_after site older).live → (brought_after site older deed).desk.rows ≡ [] →
+uncharged-more : (site : Site) (deed : Deed) (older : List Deed) → moment_of deed ≡ None → running (table_after site (deed ∷ older)).live ≡ running (table_after site older).live → (brought_after site older deed).desk.rows ≡ [] →
     Kept site older → Kept site (deed ∷ older)
-uncharged-more site deed older runs none k = record {
+uncharged-more site deed older moment runs none k = record {
   book = k.book;
   runs =
       subst (λ (meters : List Noted). RunsOn [] k.book meters (rows_left site older ++ (brought_after site older deed).desk.rows)) (sym runs)
       (subst (RunsOn [] k.book (running (table_after site older).live)) (sym (ap (λ (rows : List Row). rows_left site older ++ rows) none ∙ append-nil (rows_left site older))) k.runs);
+  of_deeds = (
+    k.book,
+    [],
+    sym (append-nil k.book),
+    k.of_deeds,
+    subst (λ (o : Option ℕ). IsBookAt o (running (table_after site older).live) (running (table_after site (deed ∷ older)).live) (brought_after site older deed).desk.rows []) (sym moment) (refl, runs, none),
+  );
 }
 
 -- whoever opens a room leaves none
@@ -79,23 +92,23 @@ opens-none site c table = refl
 
 more-kept : DeedsAreCharged → (site : Site) (deed : Deed) (older : List Deed) → IsOfRun deed → Kept site older → Kept site (deed ∷ older)
 more-kept law site (Opens coming) older of k =
-    charged-more site (Opens coming) older coming.at (law site older (Opens coming))
+    charged-more site (Opens coming) older coming.at refl (law site older (Opens coming))
     (sym (ap (λ (rows : List Row). (table_after site older).rows ++ rows) (opens-none site coming (table_after site older)) ∙ append-nil (table_after site older).rows)) k
-more-kept law site (Joins room coming) older of k = charged-more site (Joins room coming) older coming.at (law site older (Joins room coming)) refl k
-more-kept law site (Adopts room adoption) older of k = charged-more site (Adopts room adoption) older adoption.at (law site older (Adopts room adoption)) refl k
+more-kept law site (Joins room coming) older of k = charged-more site (Joins room coming) older coming.at refl (law site older (Joins room coming)) refl k
+more-kept law site (Adopts room adoption) older of k = charged-more site (Adopts room adoption) older adoption.at refl (law site older (Adopts room adoption)) refl k
 more-kept law site (Notifies room seat code tokens) older of k =
     let u : IsUncharged (table_after site older) (table_after site (Notifies room seat code tokens ∷ older)) = law site older (Notifies room seat code tokens) in
     let brought : List Row = (brought_after site older (Notifies room seat code tokens)).desk.rows in
-    uncharged-more site (Notifies room seat code tokens) older u.runs_on (append_cancel_left (table_after site older).rows brought [] (u.filed ∙ sym (append-nil (table_after site older).rows))) k
-more-kept law site (Hears heard) older of k = charged-more site (Hears heard) older heard.at (law site older (Hears heard)) refl k
+    uncharged-more site (Notifies room seat code tokens) older refl u.runs_on (append_cancel_left (table_after site older).rows brought [] (u.filed ∙ sym (append-nil (table_after site older).rows))) k
+more-kept law site (Hears heard) older of k = charged-more site (Hears heard) older heard.at refl (law site older (Hears heard)) refl k
 more-kept law site (Leaves room seat) older of k = absurd of
 more-kept law site (Closes room) older of k = absurd of
 more-kept law site (Drops count) older of k =
     let dropped : IsDropped count (table_after site older) (table_after site (Drops count ∷ older)) = law site older (Drops count) in
-    uncharged-more site (Drops count) older dropped.runs_on refl k
+    uncharged-more site (Drops count) older refl dropped.runs_on refl k
 
 pub kept : DeedsAreCharged → (site : Site) (deeds : List Deed) → Each IsOfRun deeds → Kept site deeds
-kept law site [] of = record { book = []; runs = (refl, refl) }
+kept law site [] of = record { book = []; runs = (refl, refl); of_deeds = refl }
 kept law site (deed ∷ older) of = more-kept law site deed older of.0 (kept law site older of.1)
 
 -- ---- whose its meters and rows are

@@ -9,6 +9,7 @@ use Rattle.mmtel_call_laws.specs.Heads.Emits.{Each}
 use Rattle.mmtel_charging.specs.declared.rows.Row.{Row}
 use Rattle.mmtel_directory.specs.declared.directories.Directory.{Directory}
 use Rattle.mmtel_focus_laws.specs.Charging.{DeedsAreCharged, running}
+use Rattle.mmtel_focus_laws.specs.Seated.{RowsAreDue, SeatsAreDue, SeatsAreMetered}
 use Rattle.mmtel_run.specs.Calls.{site_of}
 use Rattle.mmtel_run.specs.Filed.{AreFiled, Closed, closed_by, rows_closed, rows_in, rows_left, rows_of_calls, rows_of_rooms}
 use Rattle.mmtel_run.specs.Rooms.{rooms_site}
@@ -105,13 +106,17 @@ module _ (steps : CallsTakeTheirSteps) (exact : CallsOfTablesAreExact) (own : Ro
   seat-rows : filter is_seat_row (all_rows w) ≡ rows_left (rooms_site d) w.rooms
   seat-rows = ap (filter is_seat_row) (sym filed.all) ∙ (seats-alone filed.closed of-calls of-seats ∙ filed.seats)
 
-  pub rows_charged : RowsAreCharged d w
-  rows_charged =
+  pub rows_charged : SeatsAreDue → SeatsAreMetered → RowsAreDue → RowsAreCharged d w
+  rows_charged due metered named =
       let k = kept seats (rooms_site d) w.rooms of_run in
       record {
         calls = ap (filter is_call_row) (sym filed.all) ∙ (calls-alone filed.closed of-calls of-seats ∙ filed.calls);
         seats = seat-rows;
         book = k.book;
+        deeds = k.of_deeds;
         booked = subst (RunsOn [] k.book (running (rooms_in d w).live)) (sym seat-rows) k.runs;
         once = λ p. all_once p k.book (running (rooms_in d w).live) (rows_left (rooms_site d) w.rooms) k.runs;
+        seated = λ newer older is. due (rooms_site d) older;
+        metered = metered (rooms_site d) w.rooms;
+        named = λ newer older deed is. named (rooms_site d) older deed;
       }

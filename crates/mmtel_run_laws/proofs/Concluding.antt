@@ -21,13 +21,14 @@ use Rattle.mmtel_call_laws.specs.Notices.Due.{notices_due}
 use Rattle.mmtel_directory.specs.declared.directories.Directory.{Directory}
 use Rattle.mmtel_focus_laws.specs.Heads.{EmitsAreClean}
 use Rattle.mmtel_focus_laws.specs.Charging.{DeedsAreCharged}
+use Rattle.mmtel_focus_laws.specs.Seated.{RowsAreDue, SeatsAreDue, SeatsAreMetered}
 use Rattle.mmtel_in_force.specs.Texts.{Texts}
 use Rattle.mmtel_message.specs.Message.{Message}
 use Rattle.mmtel_message.specs.declared.messages.Start.{Start}
 use Rattle.mmtel_precedence.specs.Laws.{DiversionsHaveForwards, StaysWithinBound, diversions_made}
 use Rattle.mmtel_run.specs.Calls.{site_of}
 use Rattle.mmtel_run.specs.Events.{Happened}
-use Rattle.mmtel_run.specs.Filed.{RowsAreFiled}
+use Rattle.mmtel_run.specs.Filed.{RowsAreFiled, RowsAreInOrder}
 use Rattle.mmtel_run.specs.InForce.{CallsAreToldWhatIsInForce, LastIsInForce, TextsAreThoseKept}
 use Rattle.mmtel_run.specs.Run.{world_after}
 use Rattle.mmtel_run.specs.Short.{IsShort}
@@ -35,12 +36,13 @@ use Rattle.mmtel_run.specs.World.{World}
 use Rattle.mmtel_run_laws.specs.Clean.{RunsSendCleanMessages}
 use Rattle.mmtel_run_laws.specs.Outcome.{CallComesToOutcome, CallsOfRunsComeToOutcome, StaysWithinTheBound, is_invited, rows_of_call, seen_of}
 use Rattle.mmtel_run_laws.specs.Rows.{RowsAreCharged, SeatsOfRunsAreChargedOnce}
-use Rattle.mmtel_run_laws.specs.Stood.{StoodIn}
+use Rattle.mmtel_run_laws.proofs.Awaiting.{still_awaited}
 use Rattle.mmtel_run_laws.proofs.Bounded.{invites_few, targets_few, within}
 use Rattle.mmtel_run_laws.proofs.Charged.{of_call, rows_charged}
 use Rattle.mmtel_run_laws.proofs.Hearing.{IsKeyed}
 use Rattle.mmtel_run_laws.proofs.Keyed.{keys_few}
-use Rattle.mmtel_run_laws.proofs.Sending.{offers_own}
+use Rattle.mmtel_run_laws.proofs.Opened.{life_opened}
+use Rattle.mmtel_run_laws.proofs.Sending.{all_own}
 use Rattle.mmtel_run_laws.proofs.Lending.{lent_at_once, put_back}
 use Rattle.mmtel_run_laws.proofs.Standing.{LifeStood, life_stood, reached}
 use Rattle.mmtel_run_laws.proofs.Stories.{lives_told}
@@ -75,15 +77,16 @@ bounded bound_law forwards d life same shown =
 
 module _ (back : LegsGoBack) (steps : CallsTakeTheirSteps) (exact_law : CallsOfTablesAreExact) (rows_law : RowsAreOfTheirCalls) (seats : DeedsAreCharged) (filed : RowsAreFiled) where
   -- the rows of a short run
-  charged : (d : Directory) (token : List ℕ) (loaded : Texts) (fuel : ℕ) (happened : List Happened) → IsShort (world_after d token loaded fuel happened) →
+  charged : SeatsAreDue → SeatsAreMetered → RowsAreDue → (d : Directory) (token : List ℕ) (loaded : Texts) (fuel : ℕ) (happened : List Happened) → IsShort (world_after d token loaded fuel happened) →
       RowsAreCharged d (world_after d token loaded fuel happened)
-  charged d token loaded fuel happened short =
+  charged due metered named d token loaded fuel happened short =
       let w : World = world_after d token loaded fuel happened in
       let told : WellTold d token loaded fuel happened happened = all_told d token loaded fuel happened back in
-      rows_charged steps exact_law rows_law seats d w (filed d token loaded fuel happened) (has_numbers d w told.keyed short) (put_back (site_of d) None w.deeds told.lent) told.rooms
+      rows_charged steps exact_law rows_law seats d w (filed d token loaded fuel happened) (has_numbers d w told.keyed short) (put_back (site_of d) None w.deeds told.lent) told.rooms due metered named
 
-  pub seats_charged : SeatsOfRunsAreChargedOnce
-  seats_charged d token loaded happened short fuel enough = charged d token loaded fuel happened (short fuel enough)
+  pub seats_charged : SeatsAreDue → SeatsAreMetered → RowsAreDue → RowsAreInOrder → SeatsOfRunsAreChargedOnce
+  seats_charged due metered named order d token loaded happened short fuel enough =
+      record { rows = charged due metered named d token loaded fuel happened (short fuel enough); order = order d token loaded fuel happened }
 
   module _ (own_law : CallsBringForthTheirOwn) (goes : CallsGoOn) (charging : ChargingIsExact) (told_law : TellsOfItsDiversions) (silent : TellsNothingLater) (ends : EndsInSilence)
       (bound_law : StaysWithinBound) (forwards : DiversionsHaveForwards) (texts : TextsAreThoseKept) (last : LastIsInForce) (views : CallsAreToldWhatIsInForce) where
@@ -102,6 +105,11 @@ module _ (back : LegsGoBack) (steps : CallsTakeTheirSteps) (exact_law : CallsOfT
         record {
           exact = exact;
           shown = shown;
+          throughout = exact.throughout told.keyed.own;
+          awaited = λ none. let (e, is, waits) = life_opened (site_of d) w.acts number w.deeds life told.awaited.asked is in
+              still_awaited life.start.arrival.invite.peer w.acts life.start.arrival.key.0 e told.awaited.run is waits none;
+          seen = exact.seen;
+          watched = exact.watched;
           lent = lent_at_once back (site_of d) number w.deeds life told.lent is;
           told =
               lives_told goes charging told_law silent ends life.start life.events
@@ -110,8 +118,9 @@ module _ (back : LegsGoBack) (steps : CallsTakeTheirSteps) (exact_law : CallsOfT
           charged = record {
             runs = λ goes_on. let now = exact.runs put goes_on in (now.0, rows ∙ now.1);
             filed = λ cause over. let now = exact.filed cause put over in (now.0, rows ∙ now.1);
+            ended = exact.ended;
           };
-          opened = subst (λ (n : ℕ). StoodIn d token loaded fuel happened n life.start.arrival.served.origin life.start.now) own.opening.1 lived.opened;
+          opened = lived.opened;
           reached = λ k. reached texts last views d token loaded fuel happened number life.start life.events k lived.events;
         }
 
@@ -121,4 +130,4 @@ module _ (back : LegsGoBack) (steps : CallsTakeTheirSteps) (exact_law : CallsOfT
 -- ---- what is sent out
 
 pub sends_clean : DeedsSendCleanMessages → LegsGoOutClean → EmitsAreClean → CallsAreToldWhatIsInForce → IsReadClean → ((m : Message Start) → IsCleanMessage m → HasOwnLines m) → RunsSendCleanMessages
-sends_clean sends legs seats views read own d token loaded happened home clean_token short fuel enough = offers_own own sends legs seats views read d token home clean_token loaded fuel happened
+sends_clean sends legs seats views read own d token loaded happened home clean_token short fuel enough = all_own d happened own sends legs seats views read token home clean_token loaded fuel

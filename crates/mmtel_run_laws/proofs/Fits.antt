@@ -31,7 +31,7 @@ use Rattle.mmtel_types.specs.Sides.{other_of}
 use Rattle.mmtel_types.specs.declared.numbers.Peer.{Peer}
 use Rattle.mmtel_types.specs.declared.sides.Side.{Side}
 use Rattle.mmtel_types.specs.declared.sides.Side.TheVariants.{Callee, Caller}
-use Rattle.mmtel_run_laws.specs.Belonging.{awaited_role, comes_from, loose_at, of_loose, of_taken, other_role, request_role_in, request_role_of, response_role_of, said_by, side_asked, side_role, taken_at}
+use Rattle.mmtel_run_laws.specs.Belonging.{awaited_role, comes_from, loose_at, of_loose, of_taken, other_role, request_role_in, request_role_of, response_role_of, said_by, side_role, taken_at, unshown_response}
 
 -- ---- a side that is restricted, and its own peer
 
@@ -120,10 +120,10 @@ module _ (wholes : MessagesAreWhole) (site : Site) (keys : TKey → Bool) where
     awaited (Over cause) key c tie = tt
 
     -- of the peers of both it comes, where it hides anything
-    pub both_own : (one other : Bool) (side : Side) → hides (if one && other then Says side else Plain) ≡ true → (one ≡ true) × (other ≡ true)
-    both_own true true side e = (refl, refl)
-    both_own true false side e = absurd (true_false (sym e))
-    both_own false other side e = absurd (true_false (sym e))
+    pub both_own : (one other : Bool) → hides (if one && other then unshown_response else Plain) ≡ true → (one ≡ true) × (other ≡ true)
+    both_own true true e = (refl, refl)
+    both_own true false e = absurd (true_false (sym e))
+    both_own false other e = absurd (true_false (sym e))
 
     others : (key : TKey) (branch : List ℕ) (c : Call)
         → ((at : ℕ) (l : Loose) → position (is_of branch) c.loose ≡ Some at → slice_get c.loose at ≡ Some l → keys key ≡ trusts site l.invitation.dialogue.peer)
@@ -134,9 +134,9 @@ module _ (wholes : MessagesAreWhole) (site : Site) (keys : TKey → Bool) where
         let x : Option Taken = taken_at (position (is_taken branch) c.taken) c.taken in
         record {
           loose = λ at y p g. is_answer key (other_role m l x) y.invitation.dialogue.peer
-              (λ e. sym (ap (of_loose m) (ap (λ (o : Option ℕ). loose_at o c.loose) p ∙ g)) ∙ (both_own (of_loose m l) (of_taken m x) (side_asked l x) e).0) (loose at y p g);
+              (λ e. sym (ap (of_loose m) (ap (λ (o : Option ℕ). loose_at o c.loose) p ∙ g)) ∙ (both_own (of_loose m l) (of_taken m x) e).0) (loose at y p g);
           taken = λ at y p g. is_answer key (other_role m l x) y.invitation.dialogue.peer
-              (λ e. sym (ap (of_taken m) (ap (λ (o : Option ℕ). taken_at o c.taken) p ∙ g)) ∙ (both_own (of_loose m l) (of_taken m x) (side_asked l x) e).1) (taken at y p g);
+              (λ e. sym (ap (of_taken m) (ap (λ (o : Option ℕ). taken_at o c.taken) p ∙ g)) ∙ (both_own (of_loose m l) (of_taken m x) e).1) (taken at y p g);
         }
 
     -- what ties the client transaction, where it is known whom the server trusts of it

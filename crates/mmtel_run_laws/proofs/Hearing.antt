@@ -1,9 +1,10 @@
 -- What is done on calls and rooms in one event of a run: what calls hear they hear with the records and registrations that were in force before it, and each request with a server transaction of its own; a leg that is put back is of the side that is away; and no seat of a room is left, and no room closed, without a signal.
 -- The words of a run are walked once. A world stands so still where nothing is done on calls and rooms, and after a deed on calls, and after one on rooms.
 use Rattle.std.proofs.Common.{◌≡◌, ℕ, zero, suc, ◌+◌, List, [], ◌∷◌, ◌++◌, length, refl, sym, ap, ◌∙◌, subst, ◌≤◌, arith, le_refl, Bool, true, false, Option, Some, None, IfSome, Result, Ok, Err}
-use Rattle.std.specs.Prelude.{if◌then◌else◌, is_some, nat_le, option_map}
+use Rattle.std.specs.Prelude.{if◌then◌else◌, is_some, nat_le, option_map, slice_get}
 use Rattle.std.specs.List.{find}
 use Rattle.std.proofs.lemmas.Bool.Decides.{nat_tests}
+use Rattle.std.proofs.lemmas.Option.{none-some}
 use Rattle.mmtel_answers.specs.Said.{Said}
 use Rattle.mmtel_b2bua.specs.Histories.{Deed, Drops, Finishes, Hears, Releases, Restores, finished_by, hears_after, table_after}
 use Rattle.mmtel_b2bua.specs.Lending.{entry_of, leg_out, takes_back}
@@ -26,9 +27,10 @@ use Rattle.mmtel_focus.specs.declared.signals.RoomSignal.TheVariants as of_room
 use Rattle.mmtel_leg.specs.declared.legs.Released.{Released}
 use Rattle.mmtel_sheet_values.specs.View.{InForce}
 use Rattle.mmtel_transaction.specs.Answers.{Next, due_one, fires, is_before, is_invite_of, is_merged, key_of, next_due, part_of, says, says_due, says_opened, sooner, text_again, tkey}
-use Rattle.mmtel_transaction.specs.Calls.{DidAck, DidAsk, DidBegin, DidFire, DidHear, DidReply, live}
+use Rattle.mmtel_transaction.specs.Calls.{Done, DidAck, DidAsk, DidBegin, DidFire, DidHear, DidReply, live, offers, opened, opens, step_of}
 use Rattle.mmtel_transaction.specs.Deadlines.{deadline, ends, resend_at}
 use Rattle.mmtel_transaction.specs.Heads.{head_of, is_cancel}
+use Rattle.mmtel_transaction.specs.Runs.{IsRun}
 use Rattle.mmtel_transaction.specs.declared.entries.Entry.{Entry}
 use Rattle.mmtel_transaction.specs.declared.parts.Part.{Part}
 use Rattle.mmtel_transaction.specs.declared.parts.Part.TheVariants as part
@@ -55,6 +57,7 @@ use Rattle.mmtel_run.specs.Refusals.{Course, Refuse, Enter, EnterRoom, Open, Ope
 use Rattle.mmtel_run.specs.Rooms.{Holder, InCall, InRoom, account_of_side, is_key_of_calls, is_of_calls, is_with, replacement_in, side_replaced, status_by}
 use Rattle.mmtel_run.specs.Run.{clock_at, due_in, fire_one, fired_if, one_more, settled}
 use Rattle.mmtel_run.specs.World.{World, acknowledging_by, adopting, adoption_of, alarmed, answering, begun, bringing, calls_in, came, cancelling, cancelling_call, comes_of, drawing, emit_one, emitted, ended_of, entering_room, finishing, fired, handing, heard_in_rooms, heard_now, hearing, holder_in, housed, joining_of, lending, lodging, met, next_tag, noticed, opening_of, registering, repeating, replaced_by, replaced_with, replacing, replying, responding_to, room_joined, room_opened, rooms_in, rung, seated, signalled, silenced, taken_out, taking, tokens_now, told}
+use Rattle.mmtel_run_laws.proofs.Awaiting.{IsWaiting}
 use Rattle.mmtel_run_laws.proofs.Keyed.{HasKey, HasNoKey, Keyed, ended_keyed, dropped_keyed, fresh_keyed, keys, keys_fresh, keys_grow, more_keyed, quiet_keyed, released_keyed, restored_keyed}
 
 -- ---- a deed that was heard so, where these were done before
@@ -93,6 +96,86 @@ IsOfRun (rooms.Leaves room seat) = ⊥
 IsOfRun (rooms.Closes room) = ⊥
 IsOfRun (rooms.Drops count) = Unit {0}
 
+get-next : (xs : List Entry) (x : Entry) → slice_get (xs ++ x ∷ []) (length xs) ≡ Some x
+get-next [] x = refl
+get-next (y ∷ xs) x = get-next xs x
+
+-- ---- the transactions of a run, and by which of them its calls were opened
+
+-- more calls were made of the transactions, and what was opened stays
+record Grows (before after : List Done) : Type 0 where
+  le : keys before ≤ keys after
+  still : (n : ℕ) (e : Entry) → slice_get (opened before) n ≡ Some e → slice_get (opened after) n ≡ Some e
+  run : IsRun before → IsRun after
+
+grows_refl : (h : List Done) → Grows h h
+grows_refl h = record { le = le_refl (keys h); still = λ n e is. is; run = λ r. r }
+
+get-left : (xs ys : List Entry) (n : ℕ) (x : Entry) → slice_get xs n ≡ Some x → slice_get (xs ++ ys) n ≡ Some x
+get-left [] ys n x h = absurd (none-some x h)
+get-left (y ∷ xs) ys zero x h = h
+get-left (y ∷ xs) ys (suc n) x h = get-left xs ys n x h
+
+grows : (c : Done) (h : List Done) → (IsRun h → IsRun (c ∷ h)) → Grows h (c ∷ h)
+grows c h run = record { le = keys_grow c h; still = λ n e is. get-left (opened h) (opens (step_of h) (offers h) (length (opened h)) c) n e is; run = run }
+
+-- an INVITE that opens a call opened this transaction, which waits for its final
+abbrev pub OpensAt : List Done → ℕ → Peer → Type 0
+OpensAt h n p = (e : Entry) × (slice_get (opened h) n ≡ Some e) × IsWaiting p e
+
+abbrev pub IsOpenedBy : List Done → Signal → Type 0
+IsOpenedBy h (signal.Arrived key invite served registration identities) = OpensAt h key.0 invite.peer
+IsOpenedBy h (signal.Request call side key request) = Unit {0}
+IsOpenedBy h (signal.Ack call side ack) = Unit {0}
+IsOpenedBy h (signal.Cancel call key cancel invite) = Unit {0}
+IsOpenedBy h (signal.Answer key response) = Unit {0}
+IsOpenedBy h (signal.Silent branch method) = Unit {0}
+IsOpenedBy h (signal.Due call what) = Unit {0}
+IsOpenedBy h (signal.Over key) = Unit {0}
+
+abbrev pub IsAskedIn : List Done → Deed → Type 0
+IsAskedIn h (Hears x) = IsOpenedBy h x.signal
+IsAskedIn h (Releases number side) = Unit {0}
+IsAskedIn h (Restores number away) = Unit {0}
+IsAskedIn h (Finishes number at tokens) = Unit {0}
+IsAskedIn h (Drops count) = Unit {0}
+
+opened-later : (g h : List Done) (s : Signal) → Grows g h → IsOpenedBy g s → IsOpenedBy h s
+opened-later g h (signal.Arrived key invite served registration identities) more (e, is, waits) = (e, more.still key.0 e is, waits)
+opened-later g h (signal.Request call side key request) more o = tt
+opened-later g h (signal.Ack call side ack) more o = tt
+opened-later g h (signal.Cancel call key cancel invite) more o = tt
+opened-later g h (signal.Answer key response) more o = tt
+opened-later g h (signal.Silent branch method) more o = tt
+opened-later g h (signal.Due call what) more o = tt
+opened-later g h (signal.Over key) more o = tt
+
+asked-later : (g h : List Done) (deed : Deed) → Grows g h → IsAskedIn g deed → IsAskedIn h deed
+asked-later g h (Hears x) more a = opened-later g h x.signal more a
+asked-later g h (Releases number side) more a = tt
+asked-later g h (Restores number away) more a = tt
+asked-later g h (Finishes number at tokens) more a = tt
+asked-later g h (Drops count) more a = tt
+
+all-asked-later : (g h : List Done) (deeds : List Deed) → Grows g h → Each (IsAskedIn g) deeds → Each (IsAskedIn h) deeds
+all-asked-later g h [] more a = tt
+all-asked-later g h (deed ∷ deeds) more a = (asked-later g h deed more a.0, all-asked-later g h deeds more a.1)
+
+-- what is no request opens nothing
+no-opening : (h : List Done) (s : Signal) → HasNoKey s → IsOpenedBy h s
+no-opening h (signal.Arrived key invite served registration identities) none = absurd none
+no-opening h (signal.Request call side key request) none = tt
+no-opening h (signal.Ack call side ack) none = tt
+no-opening h (signal.Cancel call key cancel invite) none = tt
+no-opening h (signal.Answer key response) none = tt
+no-opening h (signal.Silent branch method) none = tt
+no-opening h (signal.Due call what) none = tt
+no-opening h (signal.Over key) none = tt
+
+pub record AreAwaited (w : World) : Type 0 where
+  pub run : IsRun w.acts
+  pub asked : Each (IsAskedIn w.acts) w.deeds
+
 -- ---- what one event adds to what was done before it
 
 abbrev pub in_force_in : World → InForce
@@ -108,6 +191,7 @@ pub record Adds (d : Directory) (now : ℕ) (w0 : World) (away : Option ℕ) (w 
   pub keyed : IsKeyed d w
   pub whole : IsWhole (site_of d) away w.deeds
   pub rooms : Each IsOfRun w.rooms
+  pub awaited : AreAwaited w
 
 -- and the records and registrations stand as they stood
 record Still (d : Directory) (now : ℕ) (w0 : World) (away : Option ℕ) (w : World) : Type 0 where
@@ -217,26 +301,27 @@ module _ (d : Directory) (token : List ℕ) (back : LegsGoBack) (w0 : World) (no
   -- ---- nothing is done on calls and rooms
 
   -- whatever becomes of records and registrations
-  alone : {away : Option ℕ} (w v : World) → v.deeds ≡ w.deeds → v.rooms ≡ w.rooms → keys w.acts ≤ keys v.acts → Adds d now w0 away w → Adds d now w0 away v
-  alone {away} w v deeds seats le t = record {
+  alone : {away : Option ℕ} (w v : World) → v.deeds ≡ w.deeds → v.rooms ≡ w.rooms → Grows w.acts v.acts → Adds d now w0 away w → Adds d now w0 away v
+  alone {away} w v deeds seats more t = record {
     added = t.added;
     is = deeds ∙ t.is;
     sees = t.sees;
-    keyed = keyed-same d w v deeds le t.keyed;
+    keyed = keyed-same d w v deeds more.le t.keyed;
     whole = subst (IsWhole (site_of d) away) (sym deeds) t.whole;
     rooms = subst (Each IsOfRun) (sym seats) t.rooms;
+    awaited = record { run = more.run t.awaited.run; asked = subst (Each (IsAskedIn v.acts)) (sym deeds) (all-asked-later w.acts v.acts w.deeds more t.awaited.asked) };
   }
 
-  quiet : {away : Option ℕ} (w v : World) → v.deeds ≡ w.deeds → v.rooms ≡ w.rooms → v.texts ≡ w.texts → v.registrations ≡ w.registrations → keys w.acts ≤ keys v.acts → StillAt away w → StillAt away v
-  quiet w v deeds seats texts registrations le t = record { adds = alone w v deeds seats le t.adds; texts = texts ∙ t.texts; registrations = registrations ∙ t.registrations }
+  quiet : {away : Option ℕ} (w v : World) → v.deeds ≡ w.deeds → v.rooms ≡ w.rooms → v.texts ≡ w.texts → v.registrations ≡ w.registrations → Grows w.acts v.acts → StillAt away w → StillAt away v
+  quiet w v deeds seats texts registrations more t = record { adds = alone w v deeds seats more t.adds; texts = texts ∙ t.texts; registrations = registrations ∙ t.registrations }
 
   emit_still : {away : Option ℕ} (at : ℕ) (x : Emit) (w : World) → StillAt away w → StillAt away (emit_one at x w)
-  emit_still at (emit.Ask peer message) w t = quiet w _ refl refl refl refl (keys_grow (DidAsk peer message at) w.acts) t
-  emit_still at (emit.Reply key message) w t = quiet w _ refl refl refl refl (keys_grow (DidReply key.0 message at) w.acts) t
-  emit_still at (emit.Plain peer text) w t = quiet w _ refl refl refl refl (le_refl (keys w.acts)) t
-  emit_still at (emit.Ack key message) w t = quiet w _ refl refl refl refl (keys_grow (DidAck key.0 message) w.acts) t
-  emit_still at (emit.Arm call what when) w t = quiet w _ refl refl refl refl (le_refl (keys w.acts)) t
-  emit_still at (emit.ArmSeat room seat what when) w t = quiet w _ refl refl refl refl (le_refl (keys w.acts)) t
+  emit_still at (emit.Ask peer message) w t = quiet w _ refl refl refl refl (grows (DidAsk peer message at) w.acts (λ r. r)) t
+  emit_still at (emit.Reply key message) w t = quiet w _ refl refl refl refl (grows (DidReply key.0 message at) w.acts (λ r. r)) t
+  emit_still at (emit.Plain peer text) w t = quiet w _ refl refl refl refl (grows_refl w.acts) t
+  emit_still at (emit.Ack key message) w t = quiet w _ refl refl refl refl (grows (DidAck key.0 message) w.acts (λ r. r)) t
+  emit_still at (emit.Arm call what when) w t = quiet w _ refl refl refl refl (grows_refl w.acts) t
+  emit_still at (emit.ArmSeat room seat what when) w t = quiet w _ refl refl refl refl (grows_refl w.acts) t
 
   emitted_still : {away : Option ℕ} (at : ℕ) (xs : List Emit) (w : World) → StillAt away w → StillAt away (emitted at xs w)
   emitted_still at [] w t = t
@@ -244,9 +329,9 @@ module _ (d : Directory) (token : List ℕ) (back : LegsGoBack) (w0 : World) (no
 
   -- ---- a deed on calls
 
-  lending_still : {before after : Option ℕ} (deed : Deed) (w : World) → Sees (in_force_in w0) now deed → Keyed (site_of d) (keys w.acts) (deed ∷ w.deeds) → IsWhole (site_of d) after (deed ∷ w.deeds) →
+  lending_still : {before after : Option ℕ} (deed : Deed) (w : World) → Sees (in_force_in w0) now deed → Keyed (site_of d) (keys w.acts) (deed ∷ w.deeds) → IsAskedIn w.acts deed → IsWhole (site_of d) after (deed ∷ w.deeds) →
       StillAt before w → StillAt after (lending deed w)
-  lending_still deed w sees keyed whole t = record {
+  lending_still deed w sees keyed asked whole t = record {
     adds = record {
       added = deed ∷ t.adds.added;
       is = ap (λ (deeds : List Deed). deed ∷ deeds) t.adds.is;
@@ -254,46 +339,47 @@ module _ (d : Directory) (token : List ℕ) (back : LegsGoBack) (w0 : World) (no
       keyed = keyed;
       whole = whole;
       rooms = t.adds.rooms;
+      awaited = record { run = t.adds.awaited.run; asked = (asked, t.adds.awaited.asked) };
     };
     texts = t.texts;
     registrations = t.registrations;
   }
 
   bringing_still : {before : Option ℕ} (at : ℕ) (deed : Deed) (desk : Desk) (w : World) → Sees (in_force_in w0) now deed → Keyed (site_of d) (keys w.acts) (deed ∷ w.deeds) →
-      IsWhole (site_of d) None (deed ∷ w.deeds) → StillAt before w → StillSo (bringing at deed desk w)
-  bringing_still at deed desk w sees keyed whole t =
+      IsAskedIn w.acts deed → IsWhole (site_of d) None (deed ∷ w.deeds) → StillAt before w → StillSo (bringing at deed desk w)
+  bringing_still at deed desk w sees keyed asked whole t =
       let done : World = lending (Drops (length desk.rows)) (lending deed w) in
-      let brought : StillSo (lending deed w) = lending_still deed w sees keyed whole t in
+      let brought : StillSo (lending deed w) = lending_still deed w sees keyed asked whole t in
       let still : StillSo done =
-      lending_still (Drops (length desk.rows)) (lending deed w) tt (dropped_keyed (site_of d) (keys w.acts) (length desk.rows) (deed ∷ w.deeds) keyed) whole brought in
+      lending_still (Drops (length desk.rows)) (lending deed w) tt (dropped_keyed (site_of d) (keys w.acts) (length desk.rows) (deed ∷ w.deeds) keyed) tt whole brought in
       emitted_still at desk.out (record w { deeds = Drops (length desk.rows) ∷ deed ∷ w.deeds; drawn = desk.tokens.drawn; waiting = w.waiting ++ desk.rows })
-      (quiet done _ refl refl refl refl (le_refl (keys w.acts)) still)
+      (quiet done _ refl refl refl refl (grows_refl w.acts) still)
 
   -- they hear what is no request
   signalled_still : (at : ℕ) (x : Signal) (w : World) → at ≤ now → HasNoKey x → StillSo w → StillSo (signalled d token at x w)
   signalled_still at x w le none t =
       bringing_still at (Hears (heard_now token at x w)) (hears_after (site_of d) w.deeds (heard_now token at x w)).desk w
-      ((λ i. in_force (t.texts i) (t.registrations i)), le) (quiet_keyed (site_of d) (keys w.acts) w.deeds (heard_now token at x w) none t.adds.keyed) t.adds.whole t
+      ((λ i. in_force (t.texts i) (t.registrations i)), le) (quiet_keyed (site_of d) (keys w.acts) w.deeds (heard_now token at x w) none t.adds.keyed) (no-opening w.acts x none) t.adds.whole t
 
   -- the leg of a call is away, and it ends
   finishing_still : (at : ℕ) (call : CallNo) (w : World) → StillAt (Some call.0) w → StillSo (finishing d token at call w)
   finishing_still at call w t =
       bringing_still at (Finishes call.0 at (tokens_now token w)) (finished_by (site_of d) call.0 at (tokens_now token w) (calls_in d w)).desk w tt
-      (ended_keyed (site_of d) (keys w.acts) call.0 at (tokens_now token w) w.deeds t.adds.keyed) t.adds.whole t
+      (ended_keyed (site_of d) (keys w.acts) call.0 at (tokens_now token w) w.deeds t.adds.keyed) tt t.adds.whole t
 
   releasing_still : (number : ℕ) (side : Side) (leg : Released) (w : World) → leg_out number side (calls_in d w).entries ≡ Some leg → StillSo w → StillAt (Some number) (lending (Releases number side) w)
   releasing_still number side leg w is t =
-      lending_still (Releases number side) w tt (released_keyed (site_of d) (keys w.acts) number side w.deeds t.adds.keyed) (refl, (leg, is), t.adds.whole) t
+      lending_still (Releases number side) w tt (released_keyed (site_of d) (keys w.acts) number side w.deeds t.adds.keyed) tt (refl, (leg, is), t.adds.whole) t
 
   restoring_still : (number : ℕ) (leg : Released) (w : World) → takes_back leg (entry_of number (calls_in d w).entries) ≡ true → StillAt (Some number) w → StillSo (lending (Restores number leg) w)
-  restoring_still number leg w fits t = lending_still (Restores number leg) w tt (restored_keyed (site_of d) (keys w.acts) number leg w.deeds t.adds.keyed) (fits, t.adds.whole) t
+  restoring_still number leg w fits t = lending_still (Restores number leg) w tt (restored_keyed (site_of d) (keys w.acts) number leg w.deeds t.adds.keyed) tt (fits, t.adds.whole) t
 
   -- ---- a deed on rooms
 
   lodging_still : {away : Option ℕ} (at : ℕ) (deed : rooms.Deed) (desk : Desk) (w : World) → IsOfRun deed → StillAt away w → StillAt away (lodging at deed desk w)
   lodging_still at deed desk w of_run t =
       emitted_still at desk.out (record w { rooms = rooms.Drops (length desk.rows) ∷ deed ∷ w.rooms; waiting = w.waiting ++ desk.rows }) (record {
-        adds = record { added = t.adds.added; is = t.adds.is; sees = t.adds.sees; keyed = t.adds.keyed; whole = t.adds.whole; rooms = (tt, (of_run, t.adds.rooms)) };
+        adds = record { added = t.adds.added; is = t.adds.is; sees = t.adds.sees; keyed = t.adds.keyed; whole = t.adds.whole; rooms = (tt, (of_run, t.adds.rooms)); awaited = record { run = t.adds.awaited.run; asked = t.adds.awaited.asked } };
         texts = t.texts;
         registrations = t.registrations;
       })
@@ -301,7 +387,7 @@ module _ (d : Directory) (token : List ℕ) (back : LegsGoBack) (w0 : World) (no
   housed_still : {away : Option ℕ} (at : ℕ) (deed : rooms.Deed) (w : World) → IsOfRun deed → StillAt away w → StillAt away (housed d at deed w)
   housed_still at deed w of_run t =
       let v : World = record w { drawn = (comes_of d deed w).tokens.drawn } in
-      lodging_still at deed (comes_of d deed w) v of_run (quiet w v refl refl refl refl (le_refl (keys w.acts)) t)
+      lodging_still at deed (comes_of d deed w) v of_run (quiet w v refl refl refl refl (grows_refl w.acts) t)
 
   seated_still : (at : ℕ) (x : RoomSignal) (w : World) → StillSo w → StillSo (seated d token at x w)
   seated_still at x w t = housed_still at (heard_in_rooms token at x w) w tt t
@@ -320,17 +406,18 @@ module _ (d : Directory) (token : List ℕ) (back : LegsGoBack) (w0 : World) (no
   over_still at key false w le t = seated_still at (of_room.Over key) w t
 
   rung_still : (x : Due) (w : World) → DueBy now x → StillSo w → StillSo (rung d token x w)
-  rung_still (due.Again peer at text) w le t = quiet w _ refl refl refl refl (le_refl (keys w.acts)) t
+  rung_still (due.Again peer at text) w le t = quiet w _ refl refl refl refl (grows_refl w.acts) t
   rung_still (due.Silent key branch method at) w le t = silenced_still at branch method (is_of_calls (invite_silent branch method) (calls_in d w).entries) w le t
   rung_still (due.Over key at) w le t = over_still at key (is_key_of_calls key (calls_in d w).entries) w le t
   rung_still due.Nothing w le t = t
 
   begun_still : (w : World) → StillSo w → StillSo (begun w)
-  begun_still w t = quiet w (begun w) refl refl refl refl (keys_grow (DidBegin w.steps) w.acts) t
+  begun_still w t = quiet w (begun w) refl refl refl refl (grows (DidBegin w.steps) w.acts (λ r. r)) t
 
-  fires_still : (o : Option Next) (w : World) → StillSo w → StillSo (record w { acts = fires w.acts o })
-  fires_still None w t = quiet w _ refl refl refl refl (le_refl (keys w.acts)) t
-  fires_still (Some next) w t = quiet w _ refl refl refl refl (keys_grow (DidFire next.entry.key) w.acts) t
+  fires_still : (o : Option Next) (w : World) → next_due now (live w.acts) ≡ o → StillSo w → StillSo (record w { acts = fires w.acts o })
+  fires_still None w first t = quiet w _ refl refl refl refl (grows_refl w.acts) t
+  fires_still (Some next) w first t =
+      quiet w _ refl refl refl refl (grows (DidFire next.entry.key) w.acts (λ r. (record { now = now; next = next; first = first; same = refl }, r))) t
 
   alarmed_still : (at : ℕ) (x : Alarm) (w : World) → at ≤ now → StillSo w → StillSo (alarmed d token at x w)
   alarmed_still at (OfCall call what) w le t = signalled_still at (signal.Due call what) w le tt t
@@ -339,9 +426,9 @@ module _ (d : Directory) (token : List ℕ) (back : LegsGoBack) (w0 : World) (no
   fired_still : (x : Deadline) (w : World) → DeadlineBy now x → StillSo w → StillSo (fired d token now x w)
   fired_still OfMessage w le t =
       let next : Option Next = next_due now (live (begun w).acts) in
-      rung_still (says_due next) (record (begun w) { acts = fires (begun w).acts next }) (says-by now next (next-by now (live (begun w).acts))) (fires_still next (begun w) (begun_still w t))
+      rung_still (says_due next) (record (begun w) { acts = fires (begun w).acts next }) (says-by now next (next-by now (live (begun w).acts))) (fires_still next (begun w) refl (begun_still w t))
   fired_still (OfAlarm armed others) w le t =
-      alarmed_still armed.at armed.alarm (record (begun w) { armed = others }) le (quiet (begun w) _ refl refl refl refl (le_refl (keys (begun w).acts)) (begun_still w t))
+      alarmed_still armed.at armed.alarm (record (begun w) { armed = others }) le (quiet (begun w) _ refl refl refl refl (grows_refl (begun w).acts) (begun_still w t))
 
   if_fired_still : (o : Option Deadline) (w : World) → IfSome o (DeadlineBy now) → StillSo w → StillSo (fired_if d token now o w)
   if_fired_still None w le t = t
@@ -356,7 +443,7 @@ module _ (d : Directory) (token : List ℕ) (back : LegsGoBack) (w0 : World) (no
   module _ (s : Said) where
     -- the server's own answer
     replying_adds : (key : TKey) (answer : Answer) (w : World) → AddsSo w → AddsSo (replying d token now key s answer w)
-    replying_adds key answer w t = alone w _ refl refl (keys_grow (DidReply key.0 (response_to d.sip (tag_for token w.drawn s.heard.to_tag) s answer) now) w.acts) t
+    replying_adds key answer w t = alone w _ refl refl (grows (DidReply key.0 (response_to d.sip (tag_for token w.drawn s.heard.to_tag) s answer) now) w.acts (λ r. r)) t
 
     opened_still : (key : TKey) (tag : List ℕ) (b : Bool) (w : World) → StillSo w → StillSo (room_opened d now key s tag b w)
     opened_still key tag true w t = emit_still now (emit.Reply key (response_to d.sip tag s (plainly 503))) w t
@@ -402,29 +489,29 @@ module _ (d : Directory) (token : List ℕ) (back : LegsGoBack) (w0 : World) (no
         (seated d token now (of_room.Request room seat key s) w) (seated_still now (of_room.Request room seat key s) w t)
 
     -- a request of a fresh transaction, which is the one after so many
-    module _ (n : ℕ) (w : World) (le : n + 1 ≤ keys w.acts) (k : Keyed (site_of d) n w.deeds) (t : StillSo w) where
-      asked_still : (x : Signal) → HasKey n x → StillSo (signalled d token now x w)
-      asked_still x key =
+    module _ (n : ℕ) (w : World) (le : n + 1 ≤ keys w.acts) (k : Keyed (site_of d) n w.deeds) (first : OpensAt w.acts n s.peer) (t : StillSo w) where
+      asked_still : (x : Signal) → HasKey n x → IsOpenedBy w.acts x → StillSo (signalled d token now x w)
+      asked_still x key opens =
           bringing_still now (Hears (heard_now token now x w)) (hears_after (site_of d) w.deeds (heard_now token now x w)).desk w
           ((λ i. in_force (t.texts i) (t.registrations i)), le_refl now)
-          (more_keyed (site_of d) (n + 1) (keys w.acts) (Hears (heard_now token now x w) ∷ w.deeds) le (fresh_keyed (site_of d) n w.deeds (heard_now token now x w) key k)) t.adds.whole t
+          (more_keyed (site_of d) (n + 1) (keys w.acts) (Hears (heard_now token now x w) ∷ w.deeds) le (fresh_keyed (site_of d) n w.deeds (heard_now token now x w) key k)) opens t.adds.whole t
 
       drawn_still : StillSo (drawing 1 w)
-      drawn_still = quiet w (drawing 1 w) refl refl refl refl (le_refl (keys w.acts)) t
+      drawn_still = quiet w (drawing 1 w) refl refl refl refl (grows_refl w.acts) t
 
       taking_adds : (c : Course) → AddsSo (taking d token now (tkey n) s c w)
       taking_adds (Refuse answer) = replying_adds (tkey n) answer w t.adds
-      taking_adds (Enter call side) = (asked_still (signal.Request call side (tkey n) s) refl).adds
+      taking_adds (Enter call side) = (asked_still (signal.Request call side (tkey n) s) refl tt).adds
       taking_adds (EnterRoom room seat) = (entering_still (tkey n) room seat w t).adds
-      taking_adds Open = (asked_still (arrived d.names.accounts (tkey n) s) refl).adds
+      taking_adds Open = (asked_still (arrived d.names.accounts (tkey n) s) refl first).adds
       taking_adds OpenRoom = (opened_still (tkey n) (next_tag token w) (has_no_room (rooms_in d w).live) (drawing 1 w) drawn_still).adds
       taking_adds (JoinRoom room) = (joined_still (tkey n) room (next_tag token w) (access room.0 (rooms_in d w).live) (drawing 1 w) drawn_still).adds
       taking_adds (Register account seconds) =
-          replying_adds (tkey n) (plainly 200) (registering account (until_of now seconds) w) (alone w (registering account (until_of now seconds) w) refl refl (le_refl (keys w.acts)) t.adds)
+          replying_adds (tkey n) (plainly 200) (registering account (until_of now seconds) w) (alone w (registering account (until_of now seconds) w) refl refl (grows_refl w.acts) t.adds)
 
       cancelling_call_adds : (invite : TKey) (o : Option (CallNo × Side)) → AddsSo (cancelling_call d token now (tkey n) s invite o w)
       cancelling_call_adds invite None = replying_adds (tkey n) (plainly 200) w t.adds
-      cancelling_call_adds invite (Some asked) = (asked_still (signal.Cancel asked.0 (tkey n) s invite) refl).adds
+      cancelling_call_adds invite (Some asked) = (asked_still (signal.Cancel asked.0 (tkey n) s invite) refl tt).adds
 
       cancelling_adds : (invite : Option TKey) → AddsSo (cancelling d token now (tkey n) s invite w)
       cancelling_adds None = replying_adds (tkey n) (plainly 481) w t.adds
@@ -436,7 +523,7 @@ module _ (d : Directory) (token : List ℕ) (back : LegsGoBack) (w0 : World) (no
 
     repeating_still : (o : Option (Peer × List ℕ)) (w : World) → StillSo w → StillSo (repeating now o w)
     repeating_still None w t = t
-    repeating_still (Some sent) w t = quiet w _ refl refl refl refl (le_refl (keys w.acts)) t
+    repeating_still (Some sent) w t = quiet w _ refl refl refl refl (grows_refl w.acts) t
 
     acknowledging_still : (o : Option Holder) (w : World) → StillSo w → StillSo (acknowledging_by d token now s o w)
     acknowledging_still None w t = t
@@ -458,21 +545,21 @@ module _ (d : Directory) (token : List ℕ) (back : LegsGoBack) (w0 : World) (no
     abbrev said_of : Part → World → Option transaction.Heard
     said_of p w = says (keys w.acts) (live w.acts) s.peer (message_in s.heard) p
 
-    heard_still : (p : Part) (w : World) → StillSo w → StillSo (heard_as p w)
-    heard_still p w t = quiet w (heard_as p w) refl refl refl refl (keys_grow (DidHear s.peer (message_in s.heard) now p) w.acts) t
+    heard_still : (p : Part) (w : World) → p ≡ part_of (head_of (message_in s.heard)) (live w.acts) → StillSo w → StillSo (heard_as p w)
+    heard_still p w taken t = quiet w (heard_as p w) refl refl refl refl (grows (DidHear s.peer (message_in s.heard) now p) w.acts (λ r. (taken, r))) t
 
-    said_adds : (p : Part) (w : World) → StillSo w → AddsSo (answering d token now s (said_of p w) (hearing_as p (said_of p w) w))
-    said_adds part.Fresh w t =
-        requested_adds (keys w.acts) (heard_as part.Fresh w) (omega (arith, keys_fresh s.peer (message_in s.heard) now w.acts)) t.adds.keyed (heard_still part.Fresh w t)
+    said_adds : (p : Part) (w : World) → p ≡ part_of (head_of (message_in s.heard)) (live w.acts) → StillSo w → AddsSo (answering d token now s (said_of p w) (hearing_as p (said_of p w) w))
+    said_adds part.Fresh w taken t =
+        requested_adds (keys w.acts) (heard_as part.Fresh w) (omega (arith, keys_fresh s.peer (message_in s.heard) now w.acts)) t.adds.keyed (_, get-next (opened w.acts) _, record { server = refl; peer = refl; plan = refl; done = refl; refused = refl; over = refl }) (heard_still part.Fresh w taken t)
         (is_cancel (head_of (message_in s.heard))) (option_map key_of (find (is_invite_of (head_of (message_in s.heard))) (live w.acts)))
-    said_adds part.Full w t = alone w _ refl refl (le_refl (keys w.acts)) t.adds
-    said_adds (part.Repeat key) w t = (repeating_still _ (heard_as (part.Repeat key) w) (heard_still (part.Repeat key) w t)).adds
-    said_adds (part.Same key) w t = (repeating_still _ (heard_as (part.Same key) w) (heard_still (part.Same key) w t)).adds
-    said_adds (part.Answer key) w t =
-        (responding_still (tkey key) (is_of_calls (invite_answered s) (calls_in d (heard_as (part.Answer key) w)).entries) (heard_as (part.Answer key) w) (heard_still (part.Answer key) w t)).adds
-    said_adds (part.Acked key) w t = (heard_still (part.Acked key) w t).adds
-    said_adds part.AckOf2xx w t = (acknowledging_still (holder_in d s.heard (heard_as part.AckOf2xx w)) (heard_as part.AckOf2xx w) (heard_still part.AckOf2xx w t)).adds
-    said_adds part.Stray w t = (heard_still part.Stray w t).adds
+    said_adds part.Full w taken t = alone w _ refl refl (grows_refl w.acts) t.adds
+    said_adds (part.Repeat key) w taken t = (repeating_still _ (heard_as (part.Repeat key) w) (heard_still (part.Repeat key) w taken t)).adds
+    said_adds (part.Same key) w taken t = (repeating_still _ (heard_as (part.Same key) w) (heard_still (part.Same key) w taken t)).adds
+    said_adds (part.Answer key) w taken t =
+        (responding_still (tkey key) (is_of_calls (invite_answered s) (calls_in d (heard_as (part.Answer key) w)).entries) (heard_as (part.Answer key) w) (heard_still (part.Answer key) w taken t)).adds
+    said_adds (part.Acked key) w taken t = (heard_still (part.Acked key) w taken t).adds
+    said_adds part.AckOf2xx w taken t = (acknowledging_still (holder_in d s.heard (heard_as part.AckOf2xx w)) (heard_as part.AckOf2xx w) (heard_still part.AckOf2xx w taken t)).adds
+    said_adds part.Stray w taken t = (heard_still part.Stray w taken t).adds
 
     -- the transactions as they are once it is heard
     hearing_is : (o : Option transaction.Heard) (w : World) → hearing now s o w ≡ hearing_as (part_of (head_of (message_in s.heard)) (live w.acts)) o w
@@ -482,31 +569,31 @@ module _ (d : Directory) (token : List ℕ) (back : LegsGoBack) (w0 : World) (no
     told_adds : (w : World) → StillSo w → AddsSo (told d token now s w)
     told_adds w t =
         let p : Part = part_of (head_of (message_in s.heard)) (live w.acts) in
-        subst (λ (v : World). AddsSo (answering d token now s (said_of p w) v)) (sym (hearing_is (said_of p w) w)) (said_adds p w t)
+        subst (λ (v : World). AddsSo (answering d token now s (said_of p w) v)) (sym (hearing_is (said_of p w) w)) (said_adds p w refl t)
 
   -- ---- the event
 
   met_adds : (x : Digest) (w : World) → StillSo w → AddsSo (met d token now x w)
   met_adds events.Nothing w t = t.adds
-  met_adds (events.Refused peer source reply) w t = alone w _ refl refl (le_refl (keys w.acts)) t.adds
+  met_adds (events.Refused peer source reply) w t = alone w _ refl refl (grows_refl w.acts) t.adds
   met_adds (events.Heard said) w t = told_adds said w t
-  met_adds (events.Asked request kept rows) w t = alone w _ refl refl (le_refl (keys w.acts)) t.adds
+  met_adds (events.Asked request kept rows) w t = alone w _ refl refl (grows_refl w.acts) t.adds
 
   handing_adds : (took : Bool) (rows : List Row) (w : World) → AddsSo w → AddsSo (handing took rows w)
   handing_adds took [] w t = t
   handing_adds false (row ∷ rows) w t = t
-  handing_adds true (row ∷ rows) w t = alone w _ refl refl (le_refl (keys w.acts)) t
+  handing_adds true (row ∷ rows) w t = alone w _ refl refl (grows_refl w.acts) t
 
   came_adds : (x : Digest) (took : Bool) (w : World) → StillSo w → AddsSo (came d token now x took w)
   came_adds x took w t =
       let begins : World = record (begun w) { clock = now } in
       let left : World = met d token now x begins in
-      handing_adds took left.waiting left (met_adds x begins (quiet (begun w) begins refl refl refl refl (le_refl (keys (begun w).acts)) (begun_still w t)))
+      handing_adds took left.waiting left (met_adds x begins (quiet (begun w) begins refl refl refl refl (grows_refl (begun w).acts) (begun_still w t)))
 
 -- one event, with the deadlines before it
-pub event_adds : (d : Directory) (token : List ℕ) → LegsGoBack → (fuel : ℕ) (x : Notice) (w : World) → IsKeyed d w → IsWhole (site_of d) None w.deeds → Each IsOfRun w.rooms →
+pub event_adds : (d : Directory) (token : List ℕ) → LegsGoBack → (fuel : ℕ) (x : Notice) (w : World) → IsKeyed d w → IsWhole (site_of d) None w.deeds → Each IsOfRun w.rooms → AreAwaited w →
     Adds d (clock_at w x.at) w None (one_more d token fuel x w)
-event_adds d token back fuel x w keyed whole of_run =
+event_adds d token back fuel x w keyed whole of_run awaited =
     came_adds d token back w (clock_at w x.at) x.digest x.took (settled d token fuel (clock_at w x.at) w)
     (settled_still d token back w (clock_at w x.at) fuel w
-    (record { adds = record { added = []; is = refl; sees = tt; keyed = keyed; whole = whole; rooms = of_run }; texts = refl; registrations = refl }))
+    (record { adds = record { added = []; is = refl; sees = tt; keyed = keyed; whole = whole; rooms = of_run; awaited = awaited }; texts = refl; registrations = refl }))

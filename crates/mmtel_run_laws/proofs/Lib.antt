@@ -1,6 +1,8 @@
 -- What a run comes to:
 mod Keyed
+mod Awaiting
 mod Hearing
+mod Opened
 mod Telling
 mod Lending
 mod Standing
@@ -30,6 +32,7 @@ mod CourseKinds
 mod Deeds
 mod Emitting
 mod Fits
+mod Worked
 mod Growing
 mod Inviting
 mod Keys

@@ -54,7 +54,7 @@ use Rattle.mmtel_run_laws.proofs.TellingAlike.{Below, told-alike, trusts_same}
 
 -- ---- masked digests
 
-abbrev left_of : Said → MaskedDigest → Said
+abbrev pub left_of : Said → MaskedDigest → Said
 left_of other Nothing = other
 left_of other (Refused peer source reply) = other
 left_of other (Heard left tests registrant) = left

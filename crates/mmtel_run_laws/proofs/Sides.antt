@@ -1,7 +1,7 @@
 -- In each of two runs a message hides no more than the call knows that hears it.
-use Rattle.std.proofs.Common.{◌≡◌, ℕ, Bool, true, false, List, [], refl, ap, sym, ◌∙◌, Option, Some, None, subst}
-use Rattle.std.specs.Prelude.{◌&&◌, ◌∷◌, if◌then◌else◌, is_some, position, slice_get}
-use Rattle.std.specs.Option.{option_map, option_or, unwrap_or}
+use Rattle.std.proofs.Common.{◌≡◌, ℕ, Bool, true, false, List, refl, ap, sym, ◌∙◌, Option, Some, None, subst}
+use Rattle.std.specs.Prelude.{if◌then◌else◌, is_some, position, slice_get}
+use Rattle.std.specs.Option.{option_map, unwrap_or}
 use Rattle.mmtel_answers.specs.Said.{Said}
 use Rattle.mmtel_b2bua.specs.Entries.{is_numbered, sent_it}
 use Rattle.mmtel_b2bua.specs.Lending.{entry_at, entry_of}
@@ -16,19 +16,18 @@ use Rattle.mmtel_call.specs.Answered.{leg_of}
 use Rattle.mmtel_call.specs.declared.signals.Signal.TheVariants as of_call
 use Rattle.mmtel_call_laws.specs.Secret.Common.{MessagesAreWhole}
 use Rattle.mmtel_call_laws.specs.Secret.Premises.{IsAnswer, IsAsked}
-use Rattle.mmtel_call_laws.specs.Secret.Roles.{Plain, Role, Says, hides, opening_role}
+use Rattle.mmtel_call_laws.specs.Secret.Roles.{Role, hides, opening_role}
 use Rattle.mmtel_call_laws.specs.Secret.Seen.{Trust, trust_of}
 use Rattle.mmtel_call_laws.specs.Secret.Table.{FitsIn, SentIn}
 use Rattle.mmtel_desk.specs.Loose.{is_of}
 use Rattle.mmtel_desk.specs.declared.invitations.Loose.{Loose}
 use Rattle.mmtel_directory.specs.declared.directories.Directory.{Directory}
-use Rattle.mmtel_focus.specs.Histories as rooms
 use Rattle.mmtel_focus.specs.Rooms.{Room}
 use Rattle.mmtel_seats.specs.declared.seats.Invite.{Invite}
 use Rattle.mmtel_seats.specs.declared.seats.Invite.TheVariants.{Agreed, Waiting}
 use Rattle.mmtel_seats.specs.declared.seats.Seat.{Seat}
 use Rattle.mmtel_focus.specs.Seats.{dialogue_of}
-use Rattle.mmtel_focus.specs.Table.{Table, asks, is_asked, no_rooms, room_at}
+use Rattle.mmtel_focus.specs.Table.{Table, asks, is_asked, room_at}
 use Rattle.mmtel_focus_laws.specs.Heard.{Answers, IsAnswerBy, IsOfInvite, IsOfSeat, Message}
 use Rattle.mmtel_message.specs.Faults.{is_request}
 use Rattle.mmtel_scan.proofs.Runs.{and_true}
@@ -45,22 +44,13 @@ use Rattle.mmtel_types.specs.declared.sides.Side.{Side}
 use Rattle.mmtel_run.specs.Alike.{trusts}
 use Rattle.mmtel_run.specs.Calls.{named_by, site_of}
 use Rattle.mmtel_run.specs.Events.{message_in}
-use Rattle.mmtel_run.specs.Rooms.{is_of_calls, rooms_site}
+use Rattle.mmtel_run.specs.Rooms.{is_of_calls}
 use Rattle.mmtel_run.specs.World.{World, calls_in, rooms_in}
 use Rattle.mmtel_run_laws.specs.Alike.{InviteIsTied, IsOfOne, MessageIsTied, SeatAnswerIsTied}
-use Rattle.mmtel_run_laws.specs.Belonging.{answered_role, asked_at, asked_in, cancel_role, comes_from, dialog_role, hides_caller, is_opening, loose_at, named_role, newest, newest_in_rooms, of_invite, of_loose, of_seat, request_role_of, response_role_of, role_as, role_in_answer, role_in_dialog, role_in_seat, role_in_seat_answer, role_in_seat_answer_by, role_of, seat_answer_role, seat_asked, side_of_seat}
+use Rattle.mmtel_run_laws.specs.Belonging.{answer_role, answer_role_by, answered_role, asked_at, asked_in, comes_from, dialog_role, hides_caller, is_opening, loose_at, named_role, of_invite, of_loose, of_seat, request_role_of, response_role_of, role_as, role_in_answer, role_in_seat_answer, role_of, seat_answer_role, seat_asked, unshown_request}
 use Rattle.mmtel_run_laws.proofs.CourseKinds.{answer_response, named_tagged}
 use Rattle.mmtel_run_laws.proofs.Emitting.{Knows}
 use Rattle.mmtel_run_laws.proofs.Fits.{answer_by, both_own, entry_found, is_answer, request_fits, true_false}
-
--- no seat is known before any room, and no call sent what none has
-no_seat : (m : Said) (o : Option (List ℕ)) → role_in_seat_answer_by o m no_rooms ≡ None
-no_seat m None = refl
-no_seat m (Some branch) = refl
-
-no_answer : (m : Said) (o : Option (List ℕ)) → answered_role o m None ≡ None
-no_answer m None = refl
-no_answer m (Some branch) = refl
 
 -- where the same peers are trusted
 sent_any : (t u : Trust) → ((p : Peer) → t.peer p ≡ u.peer p) → (p : Phase) (c : Call) (side : Side) (m : Said) → SentIn p t c side m → SentIn p u c side m
@@ -85,15 +75,11 @@ module _ (wholes : MessagesAreWhole) (d : Directory) (keys : TKey → Bool) (x :
   unfolding role_of
   role_is t p = ap (role_as x u m) p
 
-  -- whose it is, where no call that lives names it
-  abbrev else_in_dialog : Role
-  else_in_dialog = unwrap_or (newest_in_rooms (rooms_site x) (role_in_seat m) u.rooms) (newest (site_of x) (role_in_dialog m) u.deeds)
-
-  abbrev else_in_answer : Role
-  else_in_answer = unwrap_or (newest_in_rooms (rooms_site x) (role_in_seat_answer m) u.rooms) (newest (site_of x) (role_in_answer m) u.deeds)
-
   dialog_is : (c : CallNo × Side) → named_by m.heard entries ≡ Some c → dialog_role x u m ≡ request_role_of c.1 m (entry_of c.0.0 entries)
-  dialog_is c named = ap (λ (o : Option (CallNo × Side)). unwrap_or (named_role m entries o) else_in_dialog) named
+  dialog_is c named = ap (λ (o : Option (CallNo × Side)). named_role m entries o) named
+
+  abbrev fresh_by : (opens cancels : Bool) → Role
+  fresh_by opens cancels = if opens then opening_role (hides_caller x u m.heard) else if cancels then unshown_request else dialog_role x u m
 
   -- a request that is fresh, and no CANCEL
   fresh_is : (c : CallNo × Side) → part_of (head_of (message_in m.heard)) (live u.acts) ≡ part.Fresh → is_cancel (head_of (message_in m.heard)) ≡ false →
@@ -101,9 +87,8 @@ module _ (wholes : MessagesAreWhole) (d : Directory) (keys : TKey → Bool) (x :
       → role_of x u m ≡ request_role_of c.1 m (entry_of c.0.0 entries)
   fresh_is c p other named =
       role_is part.Fresh p
-      ∙ (ap (λ (b : Bool). if b then opening_role (hides_caller x u m.heard) else if is_cancel (head_of (message_in m.heard)) then cancel_role x u m else dialog_role x u m) (named_tagged m.heard entries c named)
-      ∙ (ap (λ (b : Bool). if b then cancel_role x u m else dialog_role x u m) other
-      ∙ dialog_is c named))
+      ∙ (ap (λ (b : Bool). fresh_by b (is_cancel (head_of (message_in m.heard)))) (named_tagged m.heard entries c named)
+      ∙ (ap (fresh_by false) other ∙ dialog_is c named))
 
   pub request_hears : (c : CallNo × Side) (key : TKey) → part_of (head_of (message_in m.heard)) (live u.acts) ≡ part.Fresh → is_cancel (head_of (message_in m.heard)) ≡ false →
       named_by m.heard entries ≡ Some c → IsAsked S key m
@@ -114,7 +99,7 @@ module _ (wholes : MessagesAreWhole) (d : Directory) (keys : TKey → Bool) (x :
   pub opening_is : part_of (head_of (message_in m.heard)) (live u.acts) ≡ part.Fresh → is_opening m.heard ≡ true → role_of x u m ≡ opening_role (hides_caller x u m.heard)
   opening_is p opens =
       role_is part.Fresh p
-      ∙ ap (λ (b : Bool). if b then opening_role (hides_caller x u m.heard) else if is_cancel (head_of (message_in m.heard)) then cancel_role x u m else dialog_role x u m) opens
+      ∙ ap (λ (b : Bool). fresh_by b (is_cancel (head_of (message_in m.heard)))) opens
 
   pub ack_hears : (c : CallNo × Side) → part_of (head_of (message_in m.heard)) (live u.acts) ≡ part.AckOf2xx → named_by m.heard entries ≡ Some c →
       CallHears S (is_numbered c.0.0) (of_call.Ack c.1 m) (role_of x u m) entries
@@ -135,19 +120,24 @@ module _ (wholes : MessagesAreWhole) (d : Directory) (keys : TKey → Bool) (x :
   known : (key : ℕ) (peer : Peer) → IsOfOne x u (tkey key) peer → keys (tkey key) ≡ trusts d peer
   known key peer is = known_by key peer (peer_of key (live u.acts)) (λ q e. knows key q e) is
 
+  -- the INVITEs of calls that have this branch
+  sent_with : (branch : List ℕ) → invite_answered m ≡ Some branch → position (sent_it (Some branch)) entries ≡ position (sent_it (invite_answered m)) entries
+  sent_with branch is = sym (ap (λ (o : Option (List ℕ)). position (sent_it o) entries) is)
+
   answer_is : (branch : List ℕ) (place : ℕ) (i : Entry) → position (sent_it (invite_answered m)) entries ≡ Some place → slice_get entries place ≡ Some i →
-      invite_answered m ≡ Some branch → role_in_answer m (calls_in x u) ≡ Some (response_role_of branch m i.call)
+      invite_answered m ≡ Some branch → answer_role x u m ≡ response_role_of branch m i.call
   answer_is branch place i q g is =
-      ap (λ (e : Option Entry). answered_role (invite_answered m) m e) (ap (λ (o : Option ℕ). entry_at o entries) q ∙ g)
-      ∙ ap (λ (o : Option (List ℕ)). answered_role o m (Some i)) is
+      ap (answer_role_by x u m) is
+      ∙ ap (λ (e : Option Entry). unwrap_or (answered_role branch m e) (role_in_seat_answer branch m (rooms_in x u)))
+      (ap (λ (o : Option ℕ). entry_at o entries) (sent_with branch is ∙ q) ∙ g)
 
   pub answer_hears : (key : ℕ) → part_of (head_of (message_in m.heard)) (live u.acts) ≡ part.Answer key →
       CallHears S (sent_it (invite_answered m)) (of_call.Answer (tkey key) m) (role_of x u m) entries
   answer_hears key p place i q g =
       answer_by wholes (site_of d) keys m told (answer_response (message_in m.heard) (live u.acts) key p) (invite_answered m) (tkey key) (role_of x u m) i
-      (λ branch is. role_is (part.Answer key) p ∙ ap (λ (o : Option Role). unwrap_or o else_in_answer) (answer_is branch place i q g is))
+      (λ branch is. role_is (part.Answer key) p ∙ answer_is branch place i q g is)
       (λ branch is.
-      let t = tied.response key branch place i p is (sym (ap (λ (o : Option (List ℕ)). position (sent_it o) entries) is) ∙ q) g in
+      let t = tied.response key branch place i p is (sent_with branch is ∙ q) g in
       record {
         awaited = λ j c e. known key j.dialogue.peer (t.awaited j c e);
         loose = λ at l a b. known key l.invitation.dialogue.peer (t.loose at l a b);
@@ -163,15 +153,6 @@ module _ (wholes : MessagesAreWhole) (d : Directory) (keys : TKey → Bool) (x :
   none_of None e = refl
   none_of (Some place) e = absurd (true_false e)
 
-  no_call : is_of_calls (invite_answered m) entries ≡ false → role_in_answer m (calls_in x u) ≡ None
-  no_call none =
-      ap (λ (o : Option ℕ). answered_role (invite_answered m) m (entry_at o entries)) (none_of (position (sent_it (invite_answered m)) entries) none) ∙ no_answer m (invite_answered m)
-
-  newest_room : (role : Table → Option Role) (deeds : List rooms.Deed) (r : Role) → role no_rooms ≡ None → role (rooms.table_after (rooms_site x) deeds) ≡ Some r →
-      newest_in_rooms (rooms_site x) role deeds ≡ Some r
-  newest_room role [] r none e = let n : None ≡ Some r = sym none ∙ e in absurd cc
-  newest_room role (deed ∷ deeds) r none e = ap (λ (o : Option Role). option_or o (newest_in_rooms (rooms_site x) role deeds)) e
-
   module _ (key : ℕ) (p : part_of (head_of (message_in m.heard)) (live u.acts) ≡ part.Answer key) (none : is_of_calls (invite_answered m) entries ≡ false) (branch : List ℕ) (is : invite_answered m ≡ Some branch) where
     abbrev asked : Option Seat
     asked = seat_asked branch table.live
@@ -179,27 +160,25 @@ module _ (wholes : MessagesAreWhole) (d : Directory) (keys : TKey → Bool) (x :
     abbrev left : Option Loose
     left = loose_at (position (is_of branch) table.loose) table.loose
 
-    seat_role : (r : Role) → seat_answer_role m left asked ≡ Some r → role_of x u m ≡ r
-    seat_role r e =
+    no_call : role_in_answer branch m (calls_in x u) ≡ None
+    no_call =
+        ap (λ (o : Option ℕ). answered_role branch m (entry_at o entries))
+        (none_of (position (sent_it (Some branch)) entries) (ap (λ (o : Option ℕ). is_some o) (sent_with branch is) ∙ none))
+
+    -- it hides where it comes from the peers of both
+    seat_role : role_of x u m ≡ seat_answer_role m left asked
+    seat_role =
         role_is (part.Answer key) p
-        ∙ (ap (λ (o : Option Role). unwrap_or o else_in_answer) (no_call none)
-        ∙ ap (λ (o : Option Role). unwrap_or o (newest (site_of x) (role_in_answer m) u.deeds))
-        (newest_room (role_in_seat_answer m) u.rooms r (no_seat m (invite_answered m)) (ap (λ (o : Option (List ℕ)). role_in_seat_answer_by o m table) is ∙ e)))
-
-    -- the two peers of whom it has to come, where it hides anything
-    abbrev by_both : Option Loose → Option Seat → Role
-    by_both l s = if of_loose m l && of_seat m s then Says (side_of_seat l s) else Plain
-
-    with_seat : (l : Option Loose) (s : Seat) → seat_answer_role m l (Some s) ≡ Some (by_both l (Some s))
-    with_seat None s = refl
-    with_seat (Some l) s = refl
+        ∙ (ap (answer_role_by x u m) is
+        ∙ ap (λ (o : Option Role). unwrap_or o (role_in_seat_answer branch m table)) no_call)
 
     response : is_request m.heard.start ≡ false
     response = answer_response (message_in m.heard) (live u.acts) key p
 
-    comes : (l : Option Loose) (s : Option Seat) → role_of x u m ≡ by_both l s → hides (role_of x u m) ≡ true → (of_loose m l ≡ true) × (of_seat m s ≡ true)
-    comes l s same_role hidden =
-        both_own wholes (site_of d) keys m told response (of_loose m l) (of_seat m s) (side_of_seat l s) (sym (ap hides same_role) ∙ hidden)
+    comes : (l : Option Loose) (s : Option Seat) → left ≡ l → asked ≡ s → hides (role_of x u m) ≡ true → (of_loose m l ≡ true) × (of_seat m s ≡ true)
+    comes l s one other hidden =
+        both_own wholes (site_of d) keys m told response (of_loose m l) (of_seat m s)
+        (sym (ap hides (seat_role ∙ (ap (λ (o : Option Loose). seat_answer_role m o asked) one ∙ ap (seat_answer_role m l) other))) ∙ hidden)
 
     answer_of : (peer : Peer) → (hides (role_of x u m) ≡ true → comes_from peer m ≡ true) → IsOfOne x u (tkey key) peer → IsAnswer S (tkey key) peer (role_of x u m) m
     answer_of peer its tie = is_answer wholes (site_of d) keys m told response (tkey key) (role_of x u m) peer its (known key peer tie)
@@ -219,8 +198,7 @@ module _ (wholes : MessagesAreWhole) (d : Directory) (keys : TKey → Bool) (x :
         IsAnswer S (tkey key) l.invitation.dialogue.peer (role_of x u m) m
     of_left at l found got =
         let there : left ≡ Some l = ap (λ (o : Option ℕ). loose_at o table.loose) found ∙ got in
-        let role : role_of x u m ≡ by_both (Some l) asked = seat_role (by_both (Some l) asked) (ap (λ (o : Option Loose). seat_answer_role m o asked) there) in
-        answer_of l.invitation.dialogue.peer (λ hidden. (comes (Some l) asked role hidden).0) (tie.loose at l found got)
+        answer_of l.invitation.dialogue.peer (λ hidden. (comes (Some l) asked there refl hidden).0) (tie.loose at l found got)
 
     of_asked : (at place : ℕ) (room : Room) (seat : Seat) → position (asks branch) table.live ≡ Some at → slice_get table.live at ≡ Some room →
         position (is_asked branch) room.seats ≡ Some place → slice_get room.seats place ≡ Some seat
@@ -228,10 +206,8 @@ module _ (wholes : MessagesAreWhole) (d : Directory) (keys : TKey → Bool) (x :
     of_asked at place room seat found got asked_there got_too =
         let there : asked ≡ Some seat =
         ap (λ (o : Option ℕ). asked_in branch (room_at o table.live)) found ∙ (ap (asked_in branch) got ∙ (ap (λ (o : Option ℕ). asked_at o room.seats) asked_there ∙ got_too)) in
-        let role : role_of x u m ≡ by_both left (Some seat) =
-        seat_role (by_both left (Some seat)) (ap (λ (o : Option Seat). seat_answer_role m left o) there ∙ with_seat left seat) in
         let its : hides (role_of x u m) ≡ true → (comes_from (dialogue_of seat).peer m ≡ true) × (of_invite m seat.invite ≡ true) =
-        λ hidden. and_true (comes_from (dialogue_of seat).peer m) (of_invite m seat.invite) (comes left (Some seat) role hidden).1 in
+        λ hidden. and_true (comes_from (dialogue_of seat).peer m) (of_invite m seat.invite) (comes left (Some seat) refl there hidden).1 in
         let t = tie.seat at place room seat found got asked_there got_too in
         record { invite = invite_by seat.invite (λ hidden. (its hidden).1) t.invite; leg = answer_of (dialogue_of seat).peer (λ hidden. (its hidden).0) t.leg }
 

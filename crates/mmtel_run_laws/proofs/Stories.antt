@@ -54,7 +54,7 @@ module _ (silent : TellsNothingLater) (ends : EndsInSilence) (s : Start) where
   beside = record {
     opens = refl;
     same = λ x earlier heard is r i. r i ++ own_notices s x (added x.desk.out (next_step s x (is i)).desk.out);
-    later = λ x earlier heard offered r.
+    later = λ x earlier heard stands offered r.
         no-more (notices_of s earlier) _
         (none-own s x (added x.desk.out (step s.site x.now x.signal (call_after s earlier) x.desk).desk.out) (silent s.site x.now x.signal (call_after s earlier) x.desk s.arrival.key offered))
         ∙ (r ∙ sym (no-more (notices_after s heard) _ (quiet-none s x (story.call_after s heard))));

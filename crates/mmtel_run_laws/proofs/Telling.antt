@@ -10,7 +10,7 @@ use Rattle.mmtel_run.specs.Events.{Happened, Notice, moment_of, notice_of, notic
 use Rattle.mmtel_run.specs.Run.{after, clock_at, one_more, world_after}
 use Rattle.mmtel_run.specs.World.{World, beginning}
 use Rattle.mmtel_run_laws.specs.Stood.{deeds_after}
-use Rattle.mmtel_run_laws.proofs.Hearing.{Adds, IsKeyed, IsOfRun, IsWhole, Sees, event_adds, in_force_in}
+use Rattle.mmtel_run_laws.proofs.Hearing.{Adds, AreAwaited, IsKeyed, IsOfRun, IsWhole, Sees, event_adds, in_force_in}
 
 -- ---- a run, event by event
 
@@ -62,6 +62,7 @@ module _ (d : Directory) (token : List ℕ) (loaded : Texts) (fuel : ℕ) (whole
     pub keyed : IsKeyed d (at_end_of happened)
     pub lent : IsWhole (site_of d) None (deeds_after d token loaded fuel happened)
     pub rooms : Each IsOfRun (at_end_of happened).rooms
+    pub awaited : AreAwaited (at_end_of happened)
 
   -- ---- those of one event
 
@@ -88,13 +89,14 @@ module _ (d : Directory) (token : List ℕ) (loaded : Texts) (fuel : ℕ) (whole
     more-told back told =
         let w : World = at_end_of earlier in
         let next : at_end_of (earlier ++ event ∷ []) ≡ one_more d token fuel (notice_of d event) w = one-event earlier event in
-        let a : Adds d (clock_at w (moment_of event.event)) w None (one_more d token fuel (notice_of d event) w) = event_adds d token back fuel (notice_of d event) w told.keyed told.lent told.rooms in
+        let a : Adds d (clock_at w (moment_of event.event)) w None (one_more d token fuel (notice_of d event) w) = event_adds d token back fuel (notice_of d event) w told.keyed told.lent told.rooms told.awaited in
         let is : deeds_after d token loaded fuel (earlier ++ event ∷ []) ≡ a.added ++ deeds_after d token loaded fuel earlier = ap (λ (w : World). w.deeds) next ∙ a.is in
         record {
           deeds = subst AllTold (sym is) (event-told [] a.added is a.sees told.deeds);
           keyed = subst (IsKeyed d) (sym next) a.keyed;
           lent = subst (λ (w : World). IsWhole (site_of d) None w.deeds) (sym next) a.whole;
           rooms = subst (λ (w : World). Each IsOfRun w.rooms) (sym next) a.rooms;
+          awaited = subst AreAwaited (sym next) a.awaited;
         }
 
   -- ---- those of the whole
@@ -106,4 +108,4 @@ module _ (d : Directory) (token : List ℕ) (loaded : Texts) (fuel : ℕ) (whole
       subst WellTold join (rest-told back (earlier ++ event ∷ []) rest (is ∙ sym join) (more-told earlier event rest is back told))
 
   pub all_told : LegsGoBack → WellTold whole
-  all_told back = rest-told back [] whole refl (record { deeds = tt; keyed = record { opened = le_refl 0; below = tt; own = tt }; lent = tt; rooms = tt })
+  all_told back = rest-told back [] whole refl (record { deeds = tt; keyed = record { opened = le_refl 0; below = tt; own = tt }; lent = tt; rooms = tt; awaited = record { run = tt; asked = tt } })

@@ -1,5 +1,5 @@
--- The texts that transactions keep, and send again, are those of requests and responses that were offered: where these are clean, so are they.
-use Rattle.std.proofs.Common.{◌≡◌, ℕ, zero, suc, ◌+◌, ◌==◌, Bool, true, false, not, ◌&&◌, ◌||◌, List, [], ◌∷◌, ◌++◌, length, Option, Some, None, refl, sym, ap, ◌∙◌, subst, IfSome, map, cond, arith}
+-- The texts that transactions keep, and send again, are those of requests and responses that were built.
+use Rattle.std.proofs.Common.{◌≡◌, ℕ, zero, suc, ◌+◌, ◌==◌, Bool, true, false, not, ◌&&◌, ◌||◌, List, [], ◌∷◌, ◌++◌, length, Option, Some, None, inl, inr, refl, sym, ap, ◌∙◌, subst, IfSome, map, cond, arith}
 use Rattle.std.specs.Prelude.{if◌then◌else◌, nat_lt, nat_le, filter, find, is_some, IsSome, option_map, slice_get}
 use Rattle.std.specs.Option.{unwrap_or}
 use Rattle.std.specs.Str.{bytes_eq}
@@ -8,7 +8,7 @@ use Rattle.std.proofs.lemmas.Bool.{eqb-true}
 use Rattle.std.proofs.lemmas.List.{map-append}
 use Rattle.std.proofs.lemmas.Option.{none-some, same_Some}
 use Rattle.mmtel_call_laws.specs.Heads.Clean.{IsCleanMessage}
-use Rattle.mmtel_call_laws.specs.Heads.Emits.{Each, IsTextOfClean}
+use Rattle.mmtel_call_laws.specs.Heads.Emits.{Each}
 use Rattle.mmtel_call_laws.proofs.Heads.Sending.{each_append}
 use Rattle.mmtel_message.specs.Message.{Message}
 use Rattle.mmtel_message.specs.Texts.{message_text}
@@ -28,10 +28,11 @@ use Rattle.mmtel_transaction.specs.declared.parts.Part.TheVariants as part
 use Rattle.mmtel_transaction.specs.declared.words.Due.{Due}
 use Rattle.mmtel_transaction.specs.declared.words.Due.TheVariants as due
 use Rattle.mmtel_types.specs.declared.numbers.Peer.{Peer}
+use Rattle.mmtel_run_laws.specs.Clean.{Builds, IsSentIn}
 
 -- ---- what was done on transactions
 
--- what is offered is clean, and what is heard is taken for what the transactions make of it
+-- what is built is clean, and what is heard is taken for what the transactions make of it
 abbrev pub IsGoodAct : Done → List Done → Type 0
 IsGoodAct (DidBegin step) h = Unit {0}
 IsGoodAct (DidHear p m now taken) h = taken ≡ part_of (head_of m) (live h)
@@ -44,8 +45,13 @@ abbrev pub AreGoodActs : List Done → Type 0
 AreGoodActs [] = Unit {0}
 AreGoodActs (c ∷ h) = IsGoodAct c h × AreGoodActs h
 
-text_of : (m : Message Start) → IsCleanMessage m → IsTextOfClean (message_text m)
-text_of m clean = record { message = m; clean = clean; is = refl }
+-- the text of what is built by this is sent by it
+sent_now : (c : Done) (h : List Done) (m : Message Start) → Builds c m → IsSentIn (c ∷ h) (message_text m)
+sent_now c h m built = record { message = m; built = inl built; is = refl }
+
+-- and what was sent before is sent still
+pub sent_still : (c : Done) (h : List Done) (text : List ℕ) → IsSentIn h text → IsSentIn (c ∷ h) text
+sent_still c h text t = record { message = t.message; built = inr t.built; is = t.is }
 
 -- ---- what a transaction keeps
 
@@ -59,10 +65,10 @@ Waits Final last = IsSome last
 Waits End last = Unit {0}
 Waits plan.Acked last = Unit {0}
 
-pub record Keeps (K : ℕ → Bool → Type 0) (e : Entry) : Type 0 where
+pub record Keeps (K : ℕ → Bool → Type 0) (T : List ℕ → Type 0) (e : Entry) : Type 0 where
   pub kind : K e.key e.is_server
-  pub request : e.is_server ≡ false → IsTextOfClean e.request
-  pub last : IfSome e.last IsTextOfClean
+  pub request : e.is_server ≡ false → T e.request
+  pub last : IfSome e.last T
   pub waits : e.is_server ≡ true → Waits e.plan e.last
 
 still-waits : (p : Plan) (last : Option (List ℕ)) (text : List ℕ) → Waits p last → Waits p (Some text)
@@ -74,21 +80,21 @@ still-waits Final last text w = refl
 still-waits End last text w = tt
 still-waits plan.Acked last text w = tt
 
-module _ (K : ℕ → Bool → Type 0) where
-  either : (b : Bool) (x y : Entry) → Keeps K x → Keeps K y → Keeps K (if b then x else y)
+module _ (K : ℕ → Bool → Type 0) (T : List ℕ → Type 0) where
+  either : (b : Bool) (x y : Entry) → Keeps K T x → Keeps K T y → Keeps K T (if b then x else y)
   either true x y h g = h
   either false x y h g = g
 
   -- the same transaction, in what is kept of it
-  as-before : (e x : Entry) → x.key ≡ e.key → x.is_server ≡ e.is_server → x.request ≡ e.request → x.last ≡ e.last → x.plan ≡ e.plan → Keeps K e → Keeps K x
+  as-before : (e x : Entry) → x.key ≡ e.key → x.is_server ≡ e.is_server → x.request ≡ e.request → x.last ≡ e.last → x.plan ≡ e.plan → Keeps K T e → Keeps K T x
   as-before e x key server request last plan k = record {
     kind = subst (λ (b : Bool). K x.key b) (sym server) (subst (λ (n : ℕ). K n e.is_server) (sym key) k.kind);
-    request = λ s. subst IsTextOfClean (sym request) (k.request (sym server ∙ s));
-    last = subst (λ (o : Option (List ℕ)). IfSome o IsTextOfClean) (sym last) k.last;
+    request = λ s. subst T (sym request) (k.request (sym server ∙ s));
+    last = subst (λ (o : Option (List ℕ)). IfSome o T) (sym last) k.last;
     waits = λ s. subst (λ (o : Option (List ℕ)). Waits x.plan o) (sym last) (subst (λ (p : Plan). Waits p e.last) (sym plan) (k.waits (sym server ∙ s)));
   }
 
-  fired-keeps : (step : ℕ) (e : Entry) → Keeps K e → Keeps K (fired step e)
+  fired-keeps : (step : ℕ) (e : Entry) → Keeps K T e → Keeps K T (fired step e)
   fired-keeps step e k =
       either (is_some (resend_at e)) (record e { shots = e.shots + 1; step = step }) (record e { is_over = true }) (as-before e _ refl refl refl refl refl k)
       (as-before e _ refl refl refl refl refl k)
@@ -97,47 +103,47 @@ module _ (K : ℕ → Bool → Type 0) where
   final-waits true text = refl
   final-waits false text = tt
 
-  replied-keeps : (step order status : ℕ) (text to_tag : List ℕ) (now : ℕ) (e : Entry) → IsTextOfClean text → Keeps K e → Keeps K (replied step order status text to_tag now e)
+  replied-keeps : (step order status : ℕ) (text to_tag : List ℕ) (now : ℕ) (e : Entry) → T text → Keeps K T e → Keeps K T (replied step order status text to_tag now e)
   replied-keeps step order status text to_tag now e clean k =
       either (not e.is_server || not (e.done == 0)) e _ k
       (either (is_provisional status) (record e { last = Some text }) _
       (record { kind = k.kind; request = k.request; last = clean; waits = λ s. still-waits e.plan e.last text (k.waits s) })
       (record { kind = k.kind; request = k.request; last = clean; waits = λ s. final-waits (is_invite e.asked) text }))
 
-  kept-keeps : (text : List ℕ) (e : Entry) → IsTextOfClean text → Keeps K e → Keeps K (kept text e)
+  kept-keeps : (text : List ℕ) (e : Entry) → T text → Keeps K T e → Keeps K T (kept text e)
   kept-keeps text e clean k =
       either (not e.is_server && e.is_refused) (record e { last = Some text }) e
       (record { kind = k.kind; request = k.request; last = clean; waits = λ s. still-waits e.plan e.last text (k.waits s) }) k
 
-  acked-keeps : (step now : ℕ) (e : Entry) → Keeps K e → Keeps K (acked step now e)
+  acked-keeps : (step now : ℕ) (e : Entry) → Keeps K T e → Keeps K T (acked step now e)
   acked-keeps step now e k =
       either e.is_acked e (record e { is_acked = true; plan = plan.Acked; start = now; shots = 0; step = step }) k
       (record { kind = k.kind; request = k.request; last = k.last; waits = λ s. tt })
 
-  acked-2xx-keeps : (step : ℕ) (m : Head) (e : Entry) → Keeps K e → Keeps K (acked_2xx step m e)
+  acked-2xx-keeps : (step : ℕ) (m : Head) (e : Entry) → Keeps K T e → Keeps K T (acked_2xx step m e)
   acked-2xx-keeps step m e k =
       either (is_ack_of m e) (record e { is_acked = true; plan = End; step = step }) e (record { kind = k.kind; request = k.request; last = k.last; waits = λ s. tt }) k
 
   -- a client transaction, whatever it waits for
-  client-keeps : (e x : Entry) → e.is_server ≡ false → x.key ≡ e.key → x.is_server ≡ e.is_server → x.request ≡ e.request → x.last ≡ e.last → Keeps K e → Keeps K x
+  client-keeps : (e x : Entry) → e.is_server ≡ false → x.key ≡ e.key → x.is_server ≡ e.is_server → x.request ≡ e.request → x.last ≡ e.last → Keeps K T e → Keeps K T x
   client-keeps e x client key server request last k = record {
     kind = subst (λ (b : Bool). K x.key b) (sym server) (subst (λ (n : ℕ). K n e.is_server) (sym key) k.kind);
-    request = λ s. subst IsTextOfClean (sym request) (k.request client);
-    last = subst (λ (o : Option (List ℕ)). IfSome o IsTextOfClean) (sym last) k.last;
+    request = λ s. subst T (sym request) (k.request client);
+    last = subst (λ (o : Option (List ℕ)). IfSome o T) (sym last) k.last;
     waits = λ s. absurd (let f : true ≡ false = sym s ∙ (server ∙ client) in cc);
   }
 
-  answered-keeps : (step status now : ℕ) (e : Entry) → e.is_server ≡ false → Keeps K e → Keeps K (answered step status now e)
+  answered-keeps : (step status now : ℕ) (e : Entry) → e.is_server ≡ false → Keeps K T e → Keeps K T (answered step status now e)
   answered-keeps step status now e client k =
       either (is_provisional status) (rang step now e) (finished step status now e)
       (either (e.is_early || not (e.done == 0)) e _ k (client-keeps e _ client refl refl refl refl k))
       (either (not (is_invite e.asked)) _ _ (client-keeps e _ client refl refl refl refl k)
       (either (not (e.done == 0)) _ _ (client-keeps e _ client refl refl refl refl k) (client-keeps e _ client refl refl refl refl k)))
 
-  hit-keeps : (key : ℕ) (f : Entry → Entry) (e : Entry) → (e.key ≡ key → Keeps K e → Keeps K (f e)) → Keeps K e → Keeps K (hit key f e)
+  hit-keeps : (key : ℕ) (f : Entry → Entry) (e : Entry) → (e.key ≡ key → Keeps K T e → Keeps K T (f e)) → Keeps K T e → Keeps K T (hit key f e)
   hit-keeps key f e each k = go (e.key == key) refl
     where
-      go : (b : Bool) → (e.key == key) ≡ b → Keeps K (if b then f e else e)
+      go : (b : Bool) → (e.key == key) ≡ b → Keeps K T (if b then f e else e)
       go true is = each (eqb-true e.key key is) k
       go false is = k
 
@@ -153,7 +159,7 @@ module _ (K : ℕ → Bool → Type 0) where
     IsOfClient part.AckOf2xx = Unit {0}
     IsOfClient part.Stray = Unit {0}
 
-    heard-keeps : (step : ℕ) (m : Message Start) (now : ℕ) (taken : Part) (e : Entry) → IsOfClient taken → Keeps K e → Keeps K (heard_change step m now taken e)
+    heard-keeps : (step : ℕ) (m : Message Start) (now : ℕ) (taken : Part) (e : Entry) → IsOfClient taken → Keeps K T e → Keeps K T (heard_change step m now taken e)
     heard-keeps step m now part.Fresh e c k = k
     heard-keeps step m now part.Full e c k = k
     heard-keeps step m now (part.Repeat key) e c k = k
@@ -169,18 +175,18 @@ module _ (K : ℕ → Bool → Type 0) where
     IsGoodChange (DidBegin step) = Unit {0}
     IsGoodChange (DidHear p m now taken) = IsOfClient taken
     IsGoodChange (DidAsk p m now) = Unit {0}
-    IsGoodChange (DidReply key m now) = IsCleanMessage m
-    IsGoodChange (DidAck key m) = IsCleanMessage m
+    IsGoodChange (DidReply key m now) = T (message_text m)
+    IsGoodChange (DidAck key m) = T (message_text m)
     IsGoodChange (DidFire key) = Unit {0}
 
-    change-keeps : (step order : ℕ) (c : Done) (e : Entry) → IsGoodChange c → Keeps K e → Keeps K (change step order c e)
+    change-keeps : (step order : ℕ) (c : Done) (e : Entry) → IsGoodChange c → Keeps K T e → Keeps K T (change step order c e)
     change-keeps step order (DidBegin n) e g k = k
     change-keeps step order (DidHear p m now taken) e g k = heard-keeps step m now taken e g k
     change-keeps step order (DidAsk p m now) e g k = k
     change-keeps step order (DidReply key m now) e g k =
         hit-keeps key (replied step order (head_of m).status (message_text m) (head_of m).to_tag now) e
-        (λ same k. replied-keeps step order (head_of m).status (message_text m) (head_of m).to_tag now e (text_of m g) k) k
-    change-keeps step order (DidAck key m) e g k = hit-keeps key (kept (message_text m)) e (λ same k. kept-keeps (message_text m) e (text_of m g) k) k
+        (λ same k. replied-keeps step order (head_of m).status (message_text m) (head_of m).to_tag now e g k) k
+    change-keeps step order (DidAck key m) e g k = hit-keeps key (kept (message_text m)) e (λ same k. kept-keeps (message_text m) e g k) k
     change-keeps step order (DidFire key) e g k = hit-keeps key (fired step) e (λ same k. fired-keeps step e k) k
 
 -- ---- of which kind the transaction of a number is
@@ -203,12 +209,22 @@ get-next (y ∷ xs) x = get-next xs x
 later-kind : (c : Done) (h : List Done) (n : ℕ) (b : Bool) → Kind h n b → Kind (c ∷ h) n b
 later-kind c h n b k = (k.0, get-left (opened h) (opens (step_of h) (offers h) (length (opened h)) c) n k.0 k.1, k.2)
 
-later : (c : Done) (h : List Done) (e : Entry) → Keeps (Kind h) e → Keeps (Kind (c ∷ h)) e
+later : (c : Done) (h : List Done) (e : Entry) → Keeps (Kind h) (IsSentIn (c ∷ h)) e → Keeps (Kind (c ∷ h)) (IsSentIn (c ∷ h)) e
 later c h e k = record { kind = later-kind c h e.key e.is_server k.kind; request = k.request; last = k.last; waits = k.waits }
 
-all-later : (c : Done) (h : List Done) (es : List Entry) → Each (Keeps (Kind h)) es → Each (Keeps (Kind (c ∷ h))) es
+all-later : (c : Done) (h : List Done) (es : List Entry) → Each (Keeps (Kind h) (IsSentIn (c ∷ h))) es → Each (Keeps (Kind (c ∷ h)) (IsSentIn (c ∷ h))) es
 all-later c h [] k = tt
 all-later c h (e ∷ es) k = (later c h e k.0, all-later c h es k.1)
+
+-- texts that were sent before
+last-still : (c : Done) (h : List Done) (o : Option (List ℕ)) → IfSome o (IsSentIn h) → IfSome o (IsSentIn (c ∷ h))
+last-still c h None k = tt
+last-still c h (Some text) k = sent_still c h text k
+
+all-still : (c : Done) (h : List Done) (es : List Entry) → Each (Keeps (Kind h) (IsSentIn h)) es → Each (Keeps (Kind h) (IsSentIn (c ∷ h))) es
+all-still c h [] k = tt
+all-still c h (e ∷ es) k =
+    (record { kind = k.0.kind; request = λ s. sent_still c h e.request (k.0.request s); last = last-still c h e.last k.0.last; waits = k.0.waits }, all-still c h es k.1)
 
 -- ---- an answer is heard by a client transaction
 
@@ -232,37 +248,37 @@ is-client : (b c d : Bool) → (not b && c && d) ≡ true → b ≡ false
 is-client true c d e = absurd (let f : false ≡ true = e in cc)
 is-client false c d e = refl
 
-module _ (K : ℕ → Bool → Type 0) (one : (n : ℕ) (a b : Bool) → K n a → K n b → a ≡ b) where
+module _ (K : ℕ → Bool → Type 0) (T : List ℕ → Type 0) (one : (n : ℕ) (a b : Bool) → K n a → K n b → a ≡ b) where
   -- of an ACK and of any other request
-  ack-part : (o : Option Entry) → IsOfClient K one (part_ack o)
+  ack-part : (o : Option Entry) → IsOfClient K T one (part_ack o)
   ack-part None = tt
   ack-part (Some e) = go e.is_refused
     where
-      go : (b : Bool) → IsOfClient K one (if b then part.Acked e.key else part.AckOf2xx)
+      go : (b : Bool) → IsOfClient K T one (if b then part.Acked e.key else part.AckOf2xx)
       go true = tt
       go false = tt
 
-  request-part : (full : Bool) (o : Option Entry) → IsOfClient K one (part_request full o)
+  request-part : (full : Bool) (o : Option Entry) → IsOfClient K T one (part_request full o)
   request-part full (Some e) = tt
   request-part true None = tt
   request-part false None = tt
 
-  response-part : (m : Head) (o : Option Entry) → IfSome o (Keeps K) → IfSome o (λ e. is_client_of m e ≡ true) → IsOfClient K one (part_response m o)
+  response-part : (m : Head) (o : Option Entry) → IfSome o (Keeps K T) → IfSome o (λ e. is_client_of m e ≡ true) → IsOfClient K T one (part_response m o)
   response-part m None k c = tt
   response-part m (Some e) k c = go (is_invite e.asked && e.is_refused && is_refusal m.status)
     where
-      go : (b : Bool) → IsOfClient K one (if b then part.Same e.key else part.Answer e.key)
+      go : (b : Bool) → IsOfClient K T one (if b then part.Same e.key else part.Answer e.key)
       go true = tt
       go false = subst (K e.key) (is-client e.is_server (bytes_eq e.asked.branch m.branch) (bytes_eq e.asked.method m.method) c) k.kind
 
-  either-part : (b : Bool) (x y : Part) → IsOfClient K one x → IsOfClient K one y → IsOfClient K one (if b then x else y)
+  either-part : (b : Bool) (x y : Part) → IsOfClient K T one x → IsOfClient K T one y → IsOfClient K T one (if b then x else y)
   either-part true x y h g = h
   either-part false x y h g = g
 
-  taken-part : (m : Head) (es : List Entry) → Each (Keeps K) es → IsOfClient K one (part_of m es)
+  taken-part : (m : Head) (es : List Entry) → Each (Keeps K T) es → IsOfClient K T one (part_of m es)
   taken-part m es k =
       either-part m.is_request _ _ (either-part (is_ack m) _ _ (ack-part (find (is_server_of m) es)) (request-part (is_full es) (find (is_server_of m) es)))
-      (response-part m (find (is_client_of m) es) (find-each (Keeps K) (is_client_of m) es k) (find-passes (is_client_of m) es))
+      (response-part m (find (is_client_of m) es) (find-each (Keeps K T) (is_client_of m) es k) (find-passes (is_client_of m) es))
 
 -- ---- all transactions
 
@@ -275,31 +291,33 @@ filter-each P p (e ∷ es) k = go (p e) (filter-each P p es k.1)
     go false f = f
 
 pub record AllKeep (h : List Done) : Type 0 where
-  pub firsts : Each (Keeps (Kind h)) (opened h)
-  pub now : Each (Keeps (Kind h)) (map (entry_of h) (opened h))
+  pub firsts : Each (Keeps (Kind h) (IsSentIn h)) (opened h)
+  pub now : Each (Keeps (Kind h) (IsSentIn h)) (map (entry_of h) (opened h))
 
-live-keep : (h : List Done) → AllKeep h → Each (Keeps (Kind h)) (live h)
-live-keep h k = filter-each (Keeps (Kind h)) is_live (map (entry_of h) (opened h)) k.now
+live-keep : (h : List Done) → AllKeep h → Each (Keeps (Kind h) (IsSentIn h)) (live h)
+live-keep h k = filter-each (Keeps (Kind h) (IsSentIn h)) is_live (map (entry_of h) (opened h)) k.now
 
-good-change : (c : Done) (h : List Done) → IsGoodAct c h → AllKeep h → IsGoodChange (Kind h) (one-kind h) c
+good-change : (c : Done) (h : List Done) → IsGoodAct c h → AllKeep h → IsGoodChange (Kind h) (IsSentIn (c ∷ h)) (one-kind h) c
 good-change (DidBegin step) h g k = tt
-good-change (DidHear p m now taken) h g k = subst (IsOfClient (Kind h) (one-kind h)) (sym g) (taken-part (Kind h) (one-kind h) (head_of m) (live h) (live-keep h k))
+good-change (DidHear p m now taken) h g k =
+    subst (IsOfClient (Kind h) (IsSentIn (DidHear p m now taken ∷ h)) (one-kind h)) (sym g)
+    (taken-part (Kind h) (IsSentIn (DidHear p m now taken ∷ h)) (one-kind h) (head_of m) (live h) (all-still (DidHear p m now taken) h (live h) (live-keep h k)))
 good-change (DidAsk p m now) h g k = tt
-good-change (DidReply key m now) h g k = g
-good-change (DidAck key m) h g k = g
+good-change (DidReply key m now) h g k = sent_now (DidReply key m now) h m refl
+good-change (DidAck key m) h g k = sent_now (DidAck key m) h m refl
 good-change (DidFire key) h g k = tt
 
-old-keep : (c : Done) (h : List Done) → IsGoodChange (Kind h) (one-kind h) c → (es : List Entry) → Each (Keeps (Kind h)) es → Each (Keeps (Kind h)) (map (entry_of h) es) →
-    Each (Keeps (Kind h)) (map (entry_of (c ∷ h)) es)
+old-keep : (c : Done) (h : List Done) → IsGoodChange (Kind h) (IsSentIn (c ∷ h)) (one-kind h) c → (es : List Entry) → Each (Keeps (Kind h) (IsSentIn (c ∷ h))) es →
+    Each (Keeps (Kind h) (IsSentIn (c ∷ h))) (map (entry_of h) es) → Each (Keeps (Kind h) (IsSentIn (c ∷ h))) (map (entry_of (c ∷ h)) es)
 old-keep c h g [] f k = tt
 old-keep c h g (e ∷ es) f k = (
-  either (Kind h) (nat_lt e.key (length (opened h))) _ e (change-keeps (Kind h) (one-kind h) (step_of h) (offers h) c (entry_of h e) g k.0) f.0,
+  either (Kind h) (IsSentIn (c ∷ h)) (nat_lt e.key (length (opened h))) _ e (change-keeps (Kind h) (IsSentIn (c ∷ h)) (one-kind h) (step_of h) (offers h) c (entry_of h e) g k.0) f.0,
   old-keep c h g es f.1 k.1,
 )
 
 -- what one more call opens
 abbrev OpensKept : List Done → Done → List Entry → Type 0
-OpensKept h c new = Each (Keeps (λ n b. (x : Entry) × (slice_get (opened h ++ new) n ≡ Some x) × (x.is_server ≡ b))) new × Each (λ e. e.key ≡ length (opened h)) new
+OpensKept h c new = Each (Keeps (λ n b. (x : Entry) × (slice_get (opened h ++ new) n ≡ Some x) × (x.is_server ≡ b)) (IsSentIn (c ∷ h))) new × Each (λ e. e.key ≡ length (opened h)) new
 
 server-opens : (h : List Done) (p : Peer) (m : Message Start) (now : ℕ) (taken : Part) → OpensKept h (DidHear p m now taken) (heard_opens (step_of h) (length (opened h)) p m now taken)
 server-opens h p m now part.Fresh = (
@@ -318,7 +336,7 @@ new-keep : (c : Done) (h : List Done) → IsGoodAct c h → OpensKept h c (opens
 new-keep (DidBegin step) h g = (tt, tt)
 new-keep (DidHear p m now taken) h g = server-opens h p m now taken
 new-keep (DidAsk p m now) h g = (
-  (record { kind = (_, get-next (opened h) _, refl); request = λ s. text_of m g; last = tt; waits = λ s. absurd (let f : false ≡ true = s in cc) }, tt),
+  (record { kind = (_, get-next (opened h) _, refl); request = λ s. sent_now (DidAsk p m now) h m refl; last = tt; waits = λ s. absurd (let f : false ≡ true = s in cc) }, tt),
   (refl, tt),
 )
 new-keep (DidReply key m now) h g = (tt, tt)
@@ -342,29 +360,32 @@ all_keep (c ∷ h) g =
     let before = all_keep h g.1 in
     let new = opens (step_of h) (offers h) (length (opened h)) c in
     let opens_kept = new-keep c h g.0 in
-    let old : Each (Keeps (Kind (c ∷ h))) (map (entry_of (c ∷ h)) (opened h)) =
-    all-later c h (map (entry_of (c ∷ h)) (opened h)) (old-keep c h (good-change c h g.0 before) (opened h) before.firsts before.now) in
+    let firsts : Each (Keeps (Kind h) (IsSentIn (c ∷ h))) (opened h) = all-still c h (opened h) before.firsts in
+    let now : Each (Keeps (Kind h) (IsSentIn (c ∷ h))) (map (entry_of h) (opened h)) = all-still c h (map (entry_of h) (opened h)) before.now in
+    let old : Each (Keeps (Kind (c ∷ h)) (IsSentIn (c ∷ h))) (map (entry_of (c ∷ h)) (opened h)) =
+    all-later c h (map (entry_of (c ∷ h)) (opened h)) (old-keep c h (good-change c h g.0 before) (opened h) firsts now) in
     record {
-      firsts = each_append (Keeps (Kind (c ∷ h))) (opened h) new (all-later c h (opened h) before.firsts) opens_kept.0;
-      now = subst (Each (Keeps (Kind (c ∷ h)))) (sym (map-append (entry_of (c ∷ h)) (opened h) new))
-          (each_append (Keeps (Kind (c ∷ h))) (map (entry_of (c ∷ h)) (opened h)) (map (entry_of (c ∷ h)) new) old (new-stay c h (Keeps (Kind (c ∷ h))) new opens_kept.0 opens_kept.1));
+      firsts = each_append (Keeps (Kind (c ∷ h)) (IsSentIn (c ∷ h))) (opened h) new (all-later c h (opened h) firsts) opens_kept.0;
+      now = subst (Each (Keeps (Kind (c ∷ h)) (IsSentIn (c ∷ h)))) (sym (map-append (entry_of (c ∷ h)) (opened h) new))
+          (each_append (Keeps (Kind (c ∷ h)) (IsSentIn (c ∷ h))) (map (entry_of (c ∷ h)) (opened h)) (map (entry_of (c ∷ h)) new) old
+          (new-stay c h (Keeps (Kind (c ∷ h)) (IsSentIn (c ∷ h))) new opens_kept.0 opens_kept.1));
     }
 
 -- ---- what is sent again
 
-module _ (K : ℕ → Bool → Type 0) where
-  abbrev IsOwnAgain : Option (Peer × List ℕ) → Type 0
-  IsOwnAgain o = IfSome o (λ sent. IsTextOfClean sent.1)
+module _ (K : ℕ → Bool → Type 0) (T : List ℕ → Type 0) where
+  abbrev pub IsOwnAgain : Option (Peer × List ℕ) → Type 0
+  IsOwnAgain o = IfSome o (λ sent. T sent.1)
 
-  same-last : (p : Peer) (o : Option (List ℕ)) → IfSome o IsTextOfClean → IsOwnAgain (option_map (λ t. (p, t)) o)
+  same-last : (p : Peer) (o : Option (List ℕ)) → IfSome o T → IsOwnAgain (option_map (λ t. (p, t)) o)
   same-last p None h = tt
   same-last p (Some text) h = h
 
-  pub same_own : (o : Option Entry) → IfSome o (Keeps K) → IsOwnAgain (then_gives gives_same o)
+  pub same_own : (o : Option Entry) → IfSome o (Keeps K T) → IsOwnAgain (then_gives gives_same o)
   same_own None k = tt
   same_own (Some e) k = same-last e.peer e.last k.last
 
-  pub again_own : (p : Peer) (o : Option Entry) → IfSome o (Keeps K) → IsOwnAgain (then_gives (gives_again p) o)
+  pub again_own : (p : Peer) (o : Option Entry) → IfSome o (Keeps K T) → IsOwnAgain (then_gives (gives_again p) o)
   again_own p None k = tt
   again_own p (Some e) k = go _
     where
@@ -375,9 +396,9 @@ module _ (K : ℕ → Bool → Type 0) where
   -- ---- deadlines
 
   abbrev IsOwnNext : Option Next → Type 0
-  IsOwnNext o = IfSome o (λ n. Keeps K n.entry)
+  IsOwnNext o = IfSome o (λ n. Keeps K T n.entry)
 
-  one-own : (now : ℕ) (e : Entry) (o : Option ℕ) → Keeps K e → IsOwnNext (due_one now e o)
+  one-own : (now : ℕ) (e : Entry) (o : Option ℕ) → Keeps K T e → IsOwnNext (due_one now e o)
   one-own now e None k = tt
   one-own now e (Some at) k = go (nat_le at now)
     where
@@ -394,16 +415,16 @@ module _ (K : ℕ → Bool → Type 0) where
       go true = g
       go false = h
 
-  next-own : (now : ℕ) (es : List Entry) → Each (Keeps K) es → IsOwnNext (next_due now es)
+  next-own : (now : ℕ) (es : List Entry) → Each (Keeps K T) es → IsOwnNext (next_due now es)
   next-own now [] k = tt
   next-own now (e ∷ es) k = sooner-own (due_one now e (deadline e)) (next_due now es) (one-own now e (deadline e) k.0) (next-own now es k.1)
 
-  unwrapped : (o : Option (List ℕ)) → IfSome o IsTextOfClean → IsSome o → IsTextOfClean (unwrap_or o [])
+  unwrapped : (o : Option (List ℕ)) → IfSome o T → IsSome o → T (unwrap_or o [])
   unwrapped None h s = absurd (let f : false ≡ true = s in cc)
   unwrapped (Some text) h s = h
 
   -- a server transaction that sends again sends its last response
-  server-text : (p : Plan) (start at shots : ℕ) (last : Option (List ℕ)) → Waits p last → is_some (resend_by p start at shots) ≡ true → IfSome last IsTextOfClean → IsTextOfClean (unwrap_or last [])
+  server-text : (p : Plan) (start at shots : ℕ) (last : Option (List ℕ)) → Waits p last → is_some (resend_by p start at shots) ≡ true → IfSome last T → T (unwrap_or last [])
   server-text Idle start at shots last w s h = absurd (let f : false ≡ true = s in cc)
   server-text Invite start at shots last w s h = absurd w
   server-text Other start at shots last w s h = absurd w
@@ -412,34 +433,34 @@ module _ (K : ℕ → Bool → Type 0) where
   server-text End start at shots last w s h = absurd (let f : false ≡ true = s in cc)
   server-text plan.Acked start at shots last w s h = absurd (let f : false ≡ true = s in cc)
 
-  resent-own : (e : Entry) → Keeps K e → is_some (resend_at e) ≡ true → IsTextOfClean (text_again e)
+  resent-own : (e : Entry) → Keeps K T e → is_some (resend_at e) ≡ true → T (text_again e)
   resent-own e k s = go e.is_server refl
     where
-      go : (b : Bool) → e.is_server ≡ b → IsTextOfClean (if b then unwrap_or e.last [] else e.request)
+      go : (b : Bool) → e.is_server ≡ b → T (if b then unwrap_or e.last [] else e.request)
       go true is = server-text e.plan e.start e.at e.shots e.last (k.waits is) s k.last
       go false is = k.request is
 
-abbrev pub IsOwnDue : Due → Type 0
-IsOwnDue (due.Again peer at text) = IsTextOfClean text
-IsOwnDue (due.Silent key branch method at) = Unit {0}
-IsOwnDue (due.Over key at) = Unit {0}
-IsOwnDue due.Nothing = Unit {0}
+abbrev pub IsOwnDue : (T : List ℕ → Type 0) → Due → Type 0
+IsOwnDue T (due.Again peer at text) = T text
+IsOwnDue T (due.Silent key branch method at) = Unit {0}
+IsOwnDue T (due.Over key at) = Unit {0}
+IsOwnDue T due.Nothing = Unit {0}
 
-due-by : (K : ℕ → Bool → Type 0) (o : Option Next) → IsOwnNext K o → IsOwnDue (says_due o)
-due-by K None k = tt
-due-by K (Some n) k = go (is_some (resend_at n.entry)) refl (ends n.entry.plan)
+due-by : (K : ℕ → Bool → Type 0) (T : List ℕ → Type 0) (o : Option Next) → IsOwnNext K T o → IsOwnDue T (says_due o)
+due-by K T None k = tt
+due-by K T (Some n) k = go (is_some (resend_at n.entry)) refl (ends n.entry.plan)
   where
     go : (b : Bool) → is_some (resend_at n.entry) ≡ b → (c : Bool) →
-        IsOwnDue (if b then due.Again n.entry.peer n.at (text_again n.entry) else if c then due.Over (record { 0 = n.entry.key }) n.at else due.Silent (record { 0 = n.entry.key }) n.entry.asked.branch n.entry.asked.method n.at)
-    go true is c = resent-own K n.entry k is
+        IsOwnDue T (if b then due.Again n.entry.peer n.at (text_again n.entry) else if c then due.Over (record { 0 = n.entry.key }) n.at else due.Silent (record { 0 = n.entry.key }) n.entry.asked.branch n.entry.asked.method n.at)
+    go true is c = resent-own K T n.entry k is
     go false is true = tt
     go false is false = tt
 
-pub due_own : (h : List Done) (now : ℕ) → AreGoodActs h → IsOwnDue (says_due (next_due now (live h)))
-due_own h now g = due-by (Kind h) (next_due now (live h)) (next-own (Kind h) now (live h) (live-keep h (all_keep h g)))
+pub due_own : (h : List Done) (now : ℕ) → AreGoodActs h → IsOwnDue (IsSentIn h) (says_due (next_due now (live h)))
+due_own h now g = due-by (Kind h) (IsSentIn h) (next_due now (live h)) (next-own (Kind h) (IsSentIn h) now (live h) (live-keep h (all_keep h g)))
 
-pub repeat_own : (h : List Done) (p : Peer) (key : ℕ) → AreGoodActs h → IsOwnAgain (Kind h) (then_gives (gives_again p) (by_key key (live h)))
-repeat_own h p key g = again_own (Kind h) p (by_key key (live h)) (find-each (Keeps (Kind h)) (is_of key) (live h) (live-keep h (all_keep h g)))
+pub repeat_own : (h : List Done) (p : Peer) (key : ℕ) → AreGoodActs h → IsOwnAgain (Kind h) (IsSentIn h) (then_gives (gives_again p) (by_key key (live h)))
+repeat_own h p key g = again_own (Kind h) (IsSentIn h) p (by_key key (live h)) (find-each (Keeps (Kind h) (IsSentIn h)) (is_of key) (live h) (live-keep h (all_keep h g)))
 
-pub same_again : (h : List Done) (key : ℕ) → AreGoodActs h → IsOwnAgain (Kind h) (then_gives gives_same (by_key key (live h)))
-same_again h key g = same_own (Kind h) (by_key key (live h)) (find-each (Keeps (Kind h)) (is_of key) (live h) (live-keep h (all_keep h g)))
+pub same_again : (h : List Done) (key : ℕ) → AreGoodActs h → IsOwnAgain (Kind h) (IsSentIn h) (then_gives gives_same (by_key key (live h)))
+same_again h key g = same_own (Kind h) (IsSentIn h) (by_key key (live h)) (find-each (Keeps (Kind h) (IsSentIn h)) (is_of key) (live h) (live-keep h (all_keep h g)))

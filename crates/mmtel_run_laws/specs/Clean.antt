@@ -1,35 +1,99 @@
--- What a run sends out has its own lines and nobody else's (RFC 3261 §7, §25.1).
-use Rattle.std.specs.Prelude.{◌≡◌, ℕ, List, Ok}
+-- What a run sends out has its own lines and nobody else's (RFC 3261 §7, §25.1): each message that was built, and each text, which is that of a message that was built.
+use Rattle.std.specs.Prelude.{◌≡◌, ◌⊎◌, ℕ, List, [], ◌∷◌, ◌++◌, Option, Some, None, Ok}
 use Rattle.mmtel_call_laws.specs.Heads.Clean.{HasOwnLines, IsClean}
 use Rattle.mmtel_call_laws.specs.Heads.Emits.{Each}
 use Rattle.mmtel_directory.specs.Directory.{directory_of}
 use Rattle.mmtel_directory.specs.declared.directories.Directory.{Directory}
 use Rattle.mmtel_in_force.specs.Texts.{Texts}
+use Rattle.mmtel_leg.specs.Requests.{Given, ack_of}
+use Rattle.mmtel_leg.specs.declared.dialogues.Dialogue.{Dialogue}
 use Rattle.mmtel_message.specs.Message.{Message}
 use Rattle.mmtel_message.specs.Texts.{message_text}
 use Rattle.mmtel_message.specs.declared.messages.Start.{Start}
 use Rattle.mmtel_outside.specs.declared.events.Offer.{Offer}
 use Rattle.mmtel_outside.specs.declared.events.Offer.TheVariants as offer
-use Rattle.mmtel_run.specs.Events.{Happened}
-use Rattle.mmtel_run.specs.Run.{IsEnough, gives}
+use Rattle.mmtel_run.specs.Answers.{completed_reply, plainly, response_to}
+use Rattle.mmtel_run.specs.Events.{Digest, Happened, Nothing, Refused, Heard, Asked, digest}
+use Rattle.mmtel_run.specs.Run.{IsEnough, world_after}
 use Rattle.mmtel_run.specs.Short.{IsShortRun}
+use Rattle.mmtel_run.specs.World.{World}
+use Rattle.mmtel_transaction.specs.Calls.{Done, DidAck, DidAsk, DidBegin, DidFire, DidHear, DidReply}
 
--- the text of a message that, parted at its line ends, is the start line of that message, its lines, an empty line and its body, and nothing else; and none of these lines
+-- ---- the messages that are sent by a transaction
+
+-- each that was asked, replied or acknowledged, parted at its line ends, is its start line, its lines, an empty line and its body, and nothing else; and none of these lines
 -- has a byte 0, CR or LF
-pub record IsOwnText (text : List ℕ) : Type 0 where
+abbrev pub IsOwnAct : Done → Type 0
+IsOwnAct (DidBegin step) = Unit {0}
+IsOwnAct (DidHear peer message now taken) = Unit {0}
+IsOwnAct (DidAsk peer message now) = HasOwnLines message
+IsOwnAct (DidReply key message now) = HasOwnLines message
+IsOwnAct (DidAck key message) = HasOwnLines message
+IsOwnAct (DidFire key) = Unit {0}
+
+-- a message is the one that was built for it
+abbrev pub Builds : Done → Message Start → Type 0
+Builds (DidBegin step) built = ⊥
+Builds (DidHear peer message now taken) built = ⊥
+Builds (DidAsk peer message now) built = built ≡ message
+Builds (DidReply key message now) built = built ≡ message
+Builds (DidAck key message) built = built ≡ message
+Builds (DidFire key) built = ⊥
+
+-- or for one of these
+abbrev pub IsBuiltIn : List Done → Message Start → Type 0
+IsBuiltIn [] built = ⊥
+IsBuiltIn (act ∷ older) built = Builds act built ⊎ IsBuiltIn older built
+
+-- the text of one of them: it is sent, or sent again
+pub record IsSentIn (acts : List Done) (text : List ℕ) : Type 0 where
   pub message : Message Start
+  pub built : IsBuiltIn acts message
   pub is : text ≡ message_text message
+
+-- ---- those that are sent by none
+
+-- the ACK of a 2xx (RFC 3261 §13.2.2.4): it was made of a dialog and of what it was given, and has its own lines
+pub record IsOwnAck (text : List ℕ) : Type 0 where
+  pub dialogue : Dialogue
+  pub given : Given
+  pub lines : HasOwnLines (ack_of dialogue given)
+  pub is : text ≡ message_text (ack_of dialogue given)
+
+-- what is answered to an event by no transaction, with this tag: to a request that is one too many, and to bytes that are refused as they are read
+abbrev pub plain_reply : Directory → (tag : List ℕ) → Digest → Option (Message Start)
+plain_reply directory tag Nothing = None
+plain_reply directory tag (Refused peer source reply) = Some (completed_reply tag source reply)
+plain_reply directory tag (Heard said) = Some (response_to directory.sip tag said (plainly 503))
+plain_reply directory tag (Asked request kept rows) = None
+
+-- one of these happened, and this is the text of the answer to it, which has its own lines
+pub record IsOwnReply (directory : Directory) (happened : List Happened) (text : List ℕ) : Type 0 where
+  pub earlier : List Happened
+  pub event : Happened
+  pub later : List Happened
+  pub in_order : happened ≡ earlier ++ event ∷ later
+  pub tag : List ℕ
+  pub message : Message Start
+  pub replies : plain_reply directory tag (digest directory event) ≡ Some message
   pub lines : HasOwnLines message
+  pub is : text ≡ message_text message
 
--- what is offered to a peer is such a text
-abbrev pub IsOwnOffer : Offer → Type 0
-IsOwnOffer (offer.To peer at text) = IsOwnText text
-IsOwnOffer (offer.Web at text) = Unit {0}
+-- ---- of a run
 
--- so is each text that is offered to a peer in a run
+-- what is offered to a peer is the text of one of these messages
+abbrev pub IsOwnOffer : Directory → List Happened → List Done → Offer → Type 0
+IsOwnOffer directory happened acts (offer.To peer at text) = IsSentIn acts text ⊎ (IsOwnAck text ⊎ IsOwnReply directory happened text)
+IsOwnOffer directory happened acts (offer.Web at text) = Unit {0}
+
+-- so each message that was built has its own lines, and nothing is offered to a peer but the texts of messages that were built
+pub record AllAreClean (directory : Directory) (happened : List Happened) (world : World) : Type 0 where
+  pub built : Each IsOwnAct world.acts
+  pub offered : Each (IsOwnOffer directory happened world.acts) world.offers
+
 abbrev pub SendsCleanMessages : Directory → (token : List ℕ) → (loaded : Texts) → List Happened → Type 0
 SendsCleanMessages directory token loaded happened =
-    (fuel : ℕ) → IsEnough directory token loaded fuel happened → Each IsOwnOffer (gives directory token loaded fuel happened)
+    (fuel : ℕ) → IsEnough directory token loaded fuel happened → AllAreClean directory happened (world_after directory token loaded fuel happened)
 
 -- of every run that is not longer than numbers count, under a home domain and a token that are of one line each, whatever was heard, loaded and uploaded
 abbrev pub RunsSendCleanMessages : Type 0

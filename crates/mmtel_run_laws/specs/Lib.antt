@@ -2,6 +2,7 @@
 -- What each call of a run comes to, and how things stood for it:
 pub mod Outcome
 pub mod Stood
+pub mod Awaited
 -- The charging rows:
 pub mod Rows
 -- What is sent out:
@@ -12,6 +13,7 @@ pub mod Seen
 -- What nobody may learn:
 pub mod Belonging
 pub mod Mask
+pub mod Worked
 pub mod Alike
 pub mod Invited
 pub mod Secret

@@ -1,12 +1,14 @@
 -- What each call of a run comes to: the precedence of services over how its attempts ended and over the records, registrations and live calls as they stood in the run when
 -- it reached each target; the bound on diversions; the 181s; and its rows (TS 24.604 §4.5.2.6, TS 24.611 §4.5.2, TS 24.615 §4.5.5, TS 32.260 §5).
-use Rattle.std.specs.Prelude.{◌≡◌, ◌≤◌, ◌⊎◌, ℕ, ◌+◌, ◌&&◌, max, Bool, true, false, List, [], ◌∷◌, ◌++◌, None, Some, count_by, filter, length}
+use Rattle.std.specs.Prelude.{◌≡◌, ◌≤◌, ℕ, ◌+◌, ◌&&◌, max, Bool, true, false, List, [], ◌∷◌, ◌++◌, Some, count_by, filter, is_some, length}
 use Rattle.mmtel_call_decisions.specs.Opening.{received_list}
 use Rattle.mmtel_call.specs.declared.calls.Phase.TheVariants.{Over}
 use Rattle.mmtel_call_laws.specs.Charged.{running}
+use Rattle.mmtel_call_laws.specs.Endings.{answer_in}
 use Rattle.mmtel_call_laws.specs.Known.{received_in}
 use Rattle.mmtel_call_laws.specs.Shown.{Accepted, Invited, Refused, Sign, sign_of_result, signs_of, signs_of_targets}
 use Rattle.mmtel_call_laws.specs.Story.{Start, added, first_step, is_over, opening_in}
+use Rattle.mmtel_call_laws.specs.Trace.Laws.{IsSeen}
 use Rattle.mmtel_call_laws.specs.Notices.Due.{notices_due, notices_in, own_notices}
 use Rattle.mmtel_charging.specs.declared.rows.Row.{Row}
 use Rattle.mmtel_directory.specs.declared.directories.Directory.{Directory}
@@ -16,17 +18,20 @@ use Rattle.mmtel_message.specs.declared.messages.Start.{Start as StartLine}
 use Rattle.mmtel_precedence.specs.Laws.{diversions_made}
 use Rattle.mmtel_transaction.specs.declared.words.Emit.{Emit}
 use Rattle.mmtel_types.specs.declared.causes.Cause.{Cause}
+use Rattle.mmtel_types.specs.declared.causes.Cause.TheVariants.{Ended}
 use Rattle.mmtel_b2bua_laws.specs.Deeds.{life_of}
-use Rattle.mmtel_b2bua_laws.specs.Known.{charges_after, outcome_after, parts_after, stood_after}
+use Rattle.mmtel_b2bua_laws.specs.Known.{charges_after, endings_after, outcome_after, parts_after, stood_after}
 use Rattle.mmtel_b2bua_laws.specs.Laws.{CallIsExact, is_row_of}
 use Rattle.mmtel_b2bua_laws.specs.Lives.{Event, Finishes, Hears, Life, Releases, Restores, call_after, emits_by, emits_while_offered}
+use Rattle.mmtel_b2bua_laws.specs.Watched.{endings_seen, no_reply_after, signs_after, watch_after}
 use Rattle.mmtel_run.specs.Calls.{site_of}
 use Rattle.mmtel_run.specs.Events.{Happened}
 use Rattle.mmtel_run.specs.Run.{IsEnough, world_after}
 use Rattle.mmtel_run.specs.Short.{IsShortRun}
 use Rattle.mmtel_run.specs.World.{World}
+use Rattle.mmtel_run_laws.specs.Awaited.{AwaitsItsFinal}
 use Rattle.mmtel_run_laws.specs.Rows.{all_rows, is_call_row}
-use Rattle.mmtel_run_laws.specs.Stood.{StoodIn}
+use Rattle.mmtel_run_laws.specs.Stood.{ReachedIn, StoodIn}
 
 -- ---- what is seen of a call
 
@@ -87,6 +92,8 @@ pub record IsChargedExactly (world : World) (number : ℕ) (life : Life) : Type 
   -- once it is over nothing runs, and its rows are those of the parts that began, in that order, each once
   pub filed : (cause : Cause) → (call_after life.start life.events).phase ≡ Over cause →
       (running (call_after life.start life.events) ≡ []) × (rows_of_call world number ≡ charges_after life.start life.events cause)
+  -- and where it was answered, their cause is Ended
+  pub ended : (cause : Cause) → (call_after life.start life.events).phase ≡ Over cause → is_some (answer_in (endings_after life.start life.events)) ≡ true → cause ≡ Ended
 
 -- by its Outcome, which is over how its attempts ended and how things stood
 pub record CallComesToOutcome (directory : Directory) (token : List ℕ) (loaded : Texts) (fuel : ℕ) (happened : List Happened) (number : ℕ) (life : Life) : Type 0 where
@@ -95,6 +102,15 @@ pub record CallComesToOutcome (directory : Directory) (token : List ℕ) (loaded
   -- the INVITEs to its targets, each by the diversion that led there, and its final are those of Outcome, in order
   pub shown : seen_of life ≡ signs_of_targets (opening_in life.start) (outcome_after life.start life.events).targets ++
       sign_of_result (outcome_after life.start life.events).result
+  -- and so in its whole life: it has no other INVITE to a target and no other final, whatever comes to it once it is answered or over
+  pub throughout : signs_after life.start life.events ≡ signs_of_targets (opening_in life.start) (outcome_after life.start life.events).targets ++
+      sign_of_result (outcome_after life.start life.events).result
+  -- and the server transaction of the INVITE that opened it is live, and of the peer who sent that, as long as no final was offered in it; so that final is offered to them
+  pub awaited : AwaitsItsFinal (world_after directory token loaded fuel happened) life.start
+  -- how its attempts ended is what was seen of them: what went out, and what was heard
+  pub seen : endings_after life.start life.events ≡ endings_seen life.start life.events
+  -- while it is offered its attempt is the one that is on its way, and that one's deadlines went out, each at its moment, and no other; and else none is on its way
+  pub watched : IsSeen directory.bound (no_reply_after life.start life.events) (call_after life.start life.events).phase (watch_after life.start life.events)
   -- it heard signals, and no leg of it is away: one that was taken out was put back at once, or the call ended
   pub lent : AreLentAtOnce false life.events
   -- the server's own 181s to its caller are those of the diversions that its Outcome says were made, in order (TS 24.604 §4.5.2.6)
@@ -102,10 +118,10 @@ pub record CallComesToOutcome (directory : Directory) (token : List ℕ) (loaded
       ≡ notices_due (site_of directory) (opening_in life.start) (received_list life.start.arrival.invite) (outcome_after life.start life.events).targets
   pub bounded : StaysWithinTheBound directory life
   pub charged : IsChargedExactly (world_after directory token loaded fuel happened) number life
-  -- things stood as they stood in the run when it opened,
-  pub opened : StoodIn directory token loaded fuel happened number life.start.arrival.served.origin life.start.now
-  -- and when it reached the target of its next diversion after k others: in a later step, or in that in which it opened
-  pub reached : (k : ℕ) → StoodIn directory token loaded fuel happened number None (stood_after life.start life.events k) ⊎ (stood_after life.start life.events k ≡ life.start.now)
+  -- things stood as they stood in the run in the deed by which it opened,
+  pub opened : StoodIn directory token loaded fuel happened number (record { start = life.start; events = [] }) life.start.arrival.served.origin life.start.now
+  -- and in the one by which it reached the target of its next diversion after k others
+  pub reached : (k : ℕ) → ReachedIn directory token loaded fuel happened number life k (stood_after life.start life.events k)
 
 -- ---- of a run
 

@@ -1,14 +1,20 @@
 -- How things stood in a run when a call heard something of it: which records and registrations were in force, and whom the calls kept busy (3GPP TS 24.623 §5, TS 24.604
 -- §4.5.2.6, TS 24.615 §4.5.5).
-use Rattle.std.specs.Prelude.{◌≡◌, ◌≤◌, ℕ, List, [], ◌∷◌, ◌++◌, Option, option_to_list}
+use Rattle.std.specs.Prelude.{◌≡◌, ◌≤◌, ◌⊎◌, ℕ, true, false, nat_lt, List, [], ◌∷◌, ◌++◌, Option, None, Some, option_to_list}
 use Rattle.std.specs.Option.{option_map}
 use Rattle.mmtel_b2bua.specs.Entries.{busy_beside}
-use Rattle.mmtel_b2bua.specs.Histories.{Deed, Heard, Hears}
+use Rattle.mmtel_b2bua.specs.Histories.{Deed, Heard, Hears, table_after}
+use Rattle.mmtel_b2bua_laws.specs.Deeds.{call_of, is_number, life_of}
+use Rattle.mmtel_b2bua_laws.specs.Lives as lives
+use Rattle.mmtel_b2bua_laws.specs.Lives.{Event, Life, call_after}
 use Rattle.mmtel_call_decisions.specs.Site.{calls_among}
+use Rattle.mmtel_call_laws.specs.Known.{made_in}
+use Rattle.mmtel_call_laws.specs.Story as story
+use Rattle.mmtel_call_laws.specs.Story.{Start}
 use Rattle.mmtel_directory.specs.declared.directories.Directory.{Directory}
 use Rattle.mmtel_in_force.specs.Texts.{Texts, end_at}
 use Rattle.mmtel_precedence.specs.Calls.{Standing}
-use Rattle.mmtel_run.specs.Calls.{calls_after}
+use Rattle.mmtel_run.specs.Calls.{calls_after, site_of}
 use Rattle.mmtel_run.specs.Events.{Happened, moment_of}
 use Rattle.mmtel_run.specs.InForce.{last_of, uploads_of}
 use Rattle.mmtel_run.specs.Run.{clock_at, world_after}
@@ -19,20 +25,24 @@ use Rattle.mmtel_types.specs.declared.numbers.Account.{Account}
 abbrev pub deeds_after : Directory → (token : List ℕ) → (loaded : Texts) → (fuel : ℕ) → List Happened → List Deed
 deeds_after directory token loaded fuel happened = (world_after directory token loaded fuel happened).deeds
 
--- so things stood for the call of this number when the calls heard something in the run; where it opened by that, it kept this account busy itself
-pub record StoodIn (directory : Directory) (token : List ℕ) (loaded : Texts) (fuel : ℕ) (happened : List Happened) (number : ℕ) (own : Option Account)
+-- so things stood for the call of this number when it heard something in the run, by which its life came to be this one; where it opened by that, it kept this account busy
+-- itself
+pub record StoodIn (directory : Directory) (token : List ℕ) (loaded : Texts) (fuel : ℕ) (happened : List Happened) (number : ℕ) (came : Life) (own : Option Account)
     (now : Standing) : Type 0 where
-  -- the event in which they heard it, and those before and after it
+  -- the event in which it heard that, and those before and after it
   pub earlier : List Happened
   pub event : Happened
   pub later : List Happened
   pub in_order : happened ≡ earlier ++ event ∷ later
-  -- what they heard, and what was done on them in that event before it and after it
+  -- what it heard, and what was done on the calls in that event before it and after it
   pub heard : Heard
   pub before : List Deed
   pub after : List Deed
   pub deeds : deeds_after directory token loaded fuel (earlier ++ event ∷ []) ≡ after ++ Hears heard ∷ (before ++ deeds_after directory token loaded fuel earlier)
-  -- the moment was that at which they heard it, which is not later than the greatest moment of an event so far
+  -- this deed is of this call, and by it the life of the call came to be this one
+  pub mine : is_number number (call_of (site_of directory) (Hears heard) (table_after (site_of directory) (before ++ deeds_after directory token loaded fuel earlier))) ≡ true
+  pub comes : life_of (site_of directory) number (Hears heard ∷ (before ++ deeds_after directory token loaded fuel earlier)) ≡ Some came
+  -- the moment was that at which it heard that, which is not later than the greatest moment of an event so far
   pub moment : now.at ≡ heard.at
   pub by_then : now.at ≤ clock_at (world_after directory token loaded fuel earlier) (moment_of event.event)
   -- the record of an account was the last one of those that were loaded and those that were kept before that event
@@ -41,3 +51,30 @@ pub record StoodIn (directory : Directory) (token : List ℕ) (loaded : Texts) (
   pub registrations : (account : Account) → now.ends account.0 ≡ end_at (world_after directory token loaded fuel earlier).registrations account
   -- the live calls of an account were those that the calls made as they stood right before
   pub live : now.live ≡ calls_among (option_to_list own ++ busy_beside number (calls_after directory (before ++ deeds_after directory token loaded fuel earlier)).entries)
+
+-- ---- when a diversion was made
+
+-- the diversions that were made by then
+abbrev pub made_by : Start → List Event → ℕ
+made_by s events = made_in s (call_after s events)
+
+-- a signal that the call of this life heard after it had opened, and how things stood then, which is how they stood in the run
+pub record HeardIn (directory : Directory) (token : List ℕ) (loaded : Texts) (fuel : ℕ) (happened : List Happened) (number : ℕ) (life : Life) (now : Standing) : Type 0 where
+  -- what it heard, and what came to it before that and after it, the last first
+  pub heard : story.Heard
+  pub earlier : List Event
+  pub later : List Event
+  pub in_order : life.events ≡ later ++ lives.Hears heard ∷ earlier
+  pub so : now ≡ heard.now
+  pub stood : StoodIn directory token loaded fuel happened number (record { start = life.start; events = lives.Hears heard ∷ earlier }) None heard.now
+
+-- the step in which the call of this life made its next diversion after k others, and so reached the target of it: that in which it opened, or the one by which it had made
+-- more than k, and no more than k before; and how things stood in that step
+pub data ReachedIn (directory : Directory) (token : List ℕ) (loaded : Texts) (fuel : ℕ) (happened : List Happened) (number : ℕ) (life : Life) (k : ℕ)
+    (now : Standing) : Type 0 where
+  Opening : nat_lt k (made_by life.start []) ≡ true → now ≡ life.start.now → ReachedIn directory token loaded fuel happened number life k now
+  Later : (step : HeardIn directory token loaded fuel happened number life now) → nat_lt k (made_by life.start step.earlier) ≡ false →
+      nat_lt k (made_by life.start (lives.Hears step.heard ∷ step.earlier)) ≡ true → ReachedIn directory token loaded fuel happened number life k now
+  -- it has not made it, and things stand as in some step of it
+  NotYet : nat_lt k (made_by life.start life.events) ≡ false → HeardIn directory token loaded fuel happened number life now ⊎ (now ≡ life.start.now) →
+      ReachedIn directory token loaded fuel happened number life k now

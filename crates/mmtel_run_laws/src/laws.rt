@@ -11,7 +11,9 @@ use mmtel_call_laws::{
     calls_go_on, calls_tell_of_their_diversions, charging_is_exact,
     clean_messages_have_their_lines, what_was_read_is_clean,
 };
-use mmtel_focus_laws::{participants_are_charged_once, rooms_send_clean_messages};
+use mmtel_focus_laws::{
+    participants_are_charged_once, rooms_send_clean_messages, seats_have_their_meters,
+};
 use mmtel_precedence::laws::{diversions_have_forwards, diversions_stay_within_the_bound};
 use mmtel_run::{records_are_those_kept, rows_are_filed};
 
@@ -35,8 +37,9 @@ pub fn calls_of_runs_come_to_their_outcome()
     participants_are_charged_once();
 }
 
-/// The rows of a run, those that the keeper took and those that wait, are those of its calls and those of the seats of its rooms, each in their order; and of the seats
-/// each that has an account has one row, once it is left, and none before (TS 32.260 §5).
+/// The rows of a run, those that the keeper took and those that wait, are those of its calls and those of the seats of its rooms, all in the order of the steps in which the
+/// call was over or the seat was left. Whoever is seated with an account has a meter of that account, which is the account of the deed that gave the seat, since the moment of
+/// the deed that seated them; it has one row, once the seat is left, and none before (TS 32.260 §5).
 pub fn seats_of_runs_are_charged_once()
     ensures law { SeatsOfRunsAreChargedOnce }
 {
@@ -46,11 +49,13 @@ pub fn seats_of_runs_are_charged_once()
     legs_go_back();
     rows_are_filed();
     participants_are_charged_once();
+    seats_have_their_meters();
 }
 
-/// Each text that a run offers to a peer is that of a message: parted at its line ends it is the start line of that message, its lines, an empty line and its body, and
-/// nothing else, and none of these lines has a byte 0, CR or LF (RFC 3261 §7). So nobody puts a line into a message of another, whatever was heard, loaded and uploaded,
-/// under a home domain and a token that are of one line each.
+/// Each message that is built in a run for a transaction has its own lines: parted at its line ends it is its start line, its lines, an empty line and its body, and nothing
+/// else, and none of these lines has a byte 0, CR or LF (RFC 3261 §7). Each text that is offered to a peer is that of such a message, or of one that no transaction sends and
+/// that has its own lines too: the ACK of a 2xx, or the answer to a request that is one too many or to bytes that are refused as they are read. So nobody puts a line into a
+/// message of another, whatever was heard, loaded and uploaded, under a home domain and a token that are of one line each.
 pub fn runs_send_clean_messages()
     ensures law { RunsSendCleanMessages }
 {

@@ -6,6 +6,7 @@ ghost use Rattle.mmtel_run_laws.specs.Alike.{AllLookUp};
 ghost use Rattle.mmtel_run_laws.specs.Invited.{RoomsSendOnce};
 ghost use Rattle.mmtel_run_laws.specs.Secret.{ConfigurationsAreRead, KeepsTheSecret, KeepsTheSecretInBoth, MasksOnce, OffersKeepItInOne, OffersKeepTheSecret};
 ghost use Rattle.mmtel_run_laws.specs.Secret.{RunsAreTied, SeenByNotices};
+ghost use Rattle.mmtel_run_laws.specs.Worked.{EachComes, PublicAreShown, RestrictedAreHidden, UnshownAreHidden};
 
 use mmtel_b2bua_laws::{alike_tables_answer_alike, tables_stay_alike};
 use mmtel_call_laws::{calls_send_once, messages_are_whole};
@@ -76,3 +77,12 @@ pub fn runs_keep_the_secret()
     texts_decide_nothing();
     transactions_are_of_one_peer();
 }
+
+/// What two phones say that differ in whose they are computes, with the roles that it has in a run (RFC 3323 §4.1, RFC 3325 §7, RFC 7044 §10.1): without its private places
+/// it is the same where their side of a call is restricted, and where it goes no further, and is not where it is for everybody; and there are worlds in which it comes so.
+pub fn masks_compute()
+    ensures restricted { RestrictedAreHidden }
+    ensures unshown { UnshownAreHidden }
+    ensures shown { PublicAreShown }
+    ensures worlds { EachComes }
+{}

@@ -23,7 +23,7 @@ use Rattle.mmtel_call.specs.declared.calls.Call.{Call}
 use Rattle.mmtel_call.specs.declared.calls.Taken.{Taken}
 use Rattle.mmtel_call.specs.Closing.{onward}
 use Rattle.mmtel_call.specs.Leaving.{acked_again, answered_at, answered_loose, answered_other, answered_taken, answered_taken_at, as_loose, forked, is_fork, is_loose_key, is_success, is_taken, is_taken_key, is_talking, repeated, taken_again, with_rest, without, without_at, without_key, without_silent}
-use Rattle.mmtel_call_laws.specs.Heads.Emits.{Each, IsCleanDesk, IsTextOfClean}
+use Rattle.mmtel_call_laws.specs.Heads.Emits.{Each, IsCleanDesk, IsTextOfAck}
 use Rattle.mmtel_call_laws.specs.Heads.Kept.{IsCleanDialogue}
 use Rattle.mmtel_call_laws.proofs.Heads.Going.{called_clean}
 use Rattle.mmtel_call_laws.proofs.Heads.Hearing.{IsCleanHeard}
@@ -127,7 +127,7 @@ forked_row site key m at t c desk heard e k p had =
       desk = is.desk_in;
     }
 
-acked_again_clean : (t : Taken) (o : Option (List ℕ)) (desk : Desk) → IfSome o IsTextOfClean → IsCleanDesk desk → IsCleanDesk (acked_again t o desk)
+acked_again_clean : (t : Taken) (o : Option (List ℕ)) (desk : Desk) → IfSome o IsTextOfAck → IsCleanDesk desk → IsCleanDesk (acked_again t o desk)
 acked_again_clean t None desk e had = had
 acked_again_clean t (Some text) desk e had = emit_clean (emit.Plain t.invitation.dialogue.peer text) desk e had
 

@@ -42,7 +42,7 @@ use Rattle.mmtel_types.specs.declared.numbers.Peer.{Peer}
 use Rattle.mmtel_types.specs.declared.sides.Side.{Side}
 use Rattle.mmtel_types.specs.declared.sides.Side.TheVariants.{Caller, Callee}
 use Rattle.mmtel_call_laws.specs.Heads.Clean.{AreClean, AreCleanLines, IsClean}
-use Rattle.mmtel_call_laws.specs.Heads.Emits.{Each, IsCleanDesk, IsCleanEmit, IsTextOfClean}
+use Rattle.mmtel_call_laws.specs.Heads.Emits.{Each, IsCleanDesk, IsCleanEmit, IsTextOfAck}
 use Rattle.mmtel_call_laws.specs.Heads.Heard.{IsCleanUri}
 use Rattle.mmtel_call_laws.specs.Heads.Kept.{IsCleanDialogue, IsCleanGiven}
 use Rattle.mmtel_call_laws.proofs.Heads.Bytes.{all_cons, decimal_clean, joined}
@@ -154,14 +154,14 @@ asked_for_clean sip method d passed m desk is e f had =
 
 -- ---- ACKs of a 2xx
 
-ack_clean : (d : Dialogue) (given : Given) → IsCleanDialogue d → IsCleanGiven given → IsTextOfClean (message_text (ack_of d given))
-ack_clean d given is had = record { message = ack_of d given; clean = request_clean d (unwrap_or d.invited 0) (codes "ACK") given is refl had; is = refl }
+ack_clean : (d : Dialogue) (given : Given) → IsCleanDialogue d → IsCleanGiven given → IsTextOfAck (message_text (ack_of d given))
+ack_clean d given is had = record { dialogue = d; given = given; clean = request_clean d (unwrap_or d.invited 0) (codes "ACK") given is refl had; is = refl }
 
-pub ack_text_clean : (sip : Addr) (d : Dialogue) (branch : List ℕ) → IsCleanDialogue d → IsClean branch → IsTextOfClean (ack_text sip d branch)
+pub ack_text_clean : (sip : Addr) (d : Dialogue) (branch : List ℕ) → IsCleanDialogue d → IsClean branch → IsTextOfAck (ack_text sip d branch)
 unfolding ack_text
 ack_text_clean sip d branch is e = ack_clean d (bare sip branch) is (given_clean (bare sip branch) e refl)
 
-pub relayed_ack_clean : (sip : Addr) (d : Dialogue) (branch : List ℕ) (passed : List Line) (m : HeardMessage) → IsCleanDialogue d → IsClean branch → AreCleanLines passed → IsTextOfClean (relayed_ack_text sip d branch passed m)
+pub relayed_ack_clean : (sip : Addr) (d : Dialogue) (branch : List ℕ) (passed : List Line) (m : HeardMessage) → IsCleanDialogue d → IsClean branch → AreCleanLines passed → IsTextOfAck (relayed_ack_text sip d branch passed m)
 unfolding relayed_ack_text
 relayed_ack_clean sip d branch passed m is e f = ack_clean d (relaying sip branch passed m) is (given_clean (relaying sip branch passed m) e f)
 
@@ -184,7 +184,7 @@ pub record IsCleanRemote (r : Remote) : Type 0 where
 pub record AreCleanSent (d : Dialogue) (branch : List ℕ) (ack : Option (List ℕ)) (forks : List Dialogue) (early : Option Remote) : Type 0 where
   pub dialogue_in : IsCleanDialogue d
   pub branch_in : IsClean branch
-  pub ack_in : IfSome ack IsTextOfClean
+  pub ack_in : IfSome ack IsTextOfAck
   pub forks_in : Each IsCleanDialogue forks
   pub early_in : IfSome early IsCleanRemote
 

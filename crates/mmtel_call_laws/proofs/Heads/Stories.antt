@@ -5,6 +5,7 @@ use Rattle.mmtel_answers.specs.Said.{Said, status_of}
 use Rattle.mmtel_desk.specs.Desks.{drew, token}
 use Rattle.mmtel_desk.specs.declared.desks.Desk.{Desk}
 use Rattle.mmtel_history.specs.HistoryInfo.{reading}
+use Rattle.mmtel_leg.specs.Requests.{ack_of}
 use Rattle.mmtel_leg.specs.Dialogues.{request_uri}
 use Rattle.mmtel_leg.specs.Legs.{Leg}
 use Rattle.mmtel_message.specs.Message.{line_texts}
@@ -261,7 +262,7 @@ own_lines m is = record { parted = splits m is; clean = cleans m is }
 emit_lines : (e : Emit) → IsCleanEmit e → SendsOwnLines e
 emit_lines (emit.Ask peer m) is = own_lines m is
 emit_lines (emit.Reply key m) is = own_lines m is
-emit_lines (emit.Plain peer text) is = (is.message, is.is, own_lines is.message is.clean)
+emit_lines (emit.Plain peer text) is = (is.dialogue, is.given, is.is, own_lines (ack_of is.dialogue is.given) is.clean)
 emit_lines (emit.Ack key m) is = own_lines m is
 emit_lines (emit.Arm call what at) is = tt
 emit_lines (emit.ArmSeat room seat what at) is = tt

@@ -37,7 +37,7 @@ use Rattle.mmtel_call.specs.Ringing.{taken_by, with_loose}
 use Rattle.mmtel_call.specs.Sending.{replied_to}
 use Rattle.mmtel_call.specs.Stages.{busy_in, has_left, is_due_at, left_by, on_ack_at, on_bye, on_cancel_at, on_due_at, on_heard_at, on_invite, on_request_at, on_request_at_if, on_response_at, on_silence_at, rung_out}
 use Rattle.mmtel_call_laws.specs.Heads.Clean.{AreCleanLines}
-use Rattle.mmtel_call_laws.specs.Heads.Emits.{Each, IsCleanDesk, IsTextOfClean}
+use Rattle.mmtel_call_laws.specs.Heads.Emits.{Each, IsCleanDesk, IsTextOfAck}
 use Rattle.mmtel_call_laws.specs.Heads.Kept.{IsCleanDialogue}
 use Rattle.mmtel_call_laws.proofs.Heads.Hearing.{IsCleanHeard}
 use Rattle.mmtel_call_laws.proofs.Heads.Keeping.{IsCleanHere, IsCleanPair, IsCleanReinvite, IsCleanStage, IsCleanStep, IsCleanTaken, IsKept, if_step, once_clean, onward_clean, over_clean, replied_to_clean, shown_to_clean, unheard_clean, unlisted_clean}
@@ -74,7 +74,7 @@ staged_clean x stage c desk is e k had = onward_clean (at_stage x stage c) desk 
 
 -- ---- the ACK of a 2xx
 
-with_ack_clean : (branch text : List ℕ) → IsTextOfClean text → (t : Taken) → IsCleanTaken t → IsCleanTaken (with_ack branch text t)
+with_ack_clean : (branch text : List ℕ) → IsTextOfAck text → (t : Taken) → IsCleanTaken t → IsCleanTaken (with_ack branch text t)
 with_ack_clean branch text e t is = by (bytes_eq t.invitation.branch branch)
   where
     by : (b : Bool) → IsCleanTaken (if b then record t { invitation = record t.invitation { ack = Some text } } else t)
@@ -86,7 +86,7 @@ acked_across_clean : (site : Site) (x : Pair) (side : Side) (success : Success) 
 acked_across_clean site x side success m c desk heard is k had =
     let d : Dialogue = (leg_of (other_of side) x).dialogue in
     let shown : AreCleanLines (shown_across site c x side m) = shown_across_clean site c x side m k heard in
-    let text : IsTextOfClean (relayed_ack_text site.sip d (token desk) (shown_across site c x side m) m.heard) =
+    let text : IsTextOfAck (relayed_ack_text site.sip d (token desk) (shown_across site c x side m) m.heard) =
     relayed_ack_clean site.sip d (token desk) (shown_across site c x side m) m.heard (leg_clean (other_of side) x is) (token_clean desk had) shown in
     record {
       kept = record {

@@ -39,6 +39,7 @@ use Rattle.mmtel_call.specs.declared.calls.Call.{Call}
 use Rattle.mmtel_call.specs.declared.calls.Phase.{Phase}
 use Rattle.mmtel_call.specs.declared.calls.Phase.TheVariants.{Lent, Offered, Over, Stood}
 use Rattle.mmtel_call.specs.declared.calls.Trial.{Trial}
+use Rattle.mmtel_call_laws.specs.Trace.Laws.{longest}
 use Rattle.mmtel_call_laws.specs.Trace.Seen.{Armed, Invited, Mark, branch_of, mark_of}
 use Rattle.mmtel_call_laws.proofs.Trace.Reading.{Adds, adds_emit, branch_read, own_deadline}
 use Rattle.mmtel_call_laws.proofs.Trace.Sending.{Unseen, relayed_unseen, told_diversion_unseen, told_unseen}
@@ -46,8 +47,8 @@ use Rattle.mmtel_call_laws.proofs.Trace.Sending.{Unseen, relayed_unseen, told_di
 -- ---- where a call came to
 
 -- an INVITE went out, of the next attempt after so many, with its deadline; this was the last number of the caller; and there is room for so many attempts and diversions
-pub record HasReached (y : Trial) (attempts : ℕ) (last : Option ℕ) (room : ℕ) (c : Call) (marks : List Mark) : Type 0 where
-  pub seen : marks ≡ Invited y.attempt.invitation.dialogue.peer y.attempt.invitation.dialogue.target y.attempt.invitation.branch ∷ Armed (due_word.Cap y.attempt.number) ∷ []
+pub record HasReached (at : ℕ) (y : Trial) (attempts : ℕ) (last : Option ℕ) (room : ℕ) (c : Call) (marks : List Mark) : Type 0 where
+  pub seen : marks ≡ Invited y.attempt.invitation.dialogue.peer y.attempt.invitation.dialogue.target y.attempt.invitation.branch ∷ Armed (due_word.Cap y.attempt.number) (at + longest) ∷ []
   pub leg : y.callee.leg.dialogue.peer ≡ y.attempt.invitation.dialogue.peer
   pub rang : y.attempt.rang ≡ false
   pub number : y.attempt.number ≡ next_number attempts
@@ -55,50 +56,50 @@ pub record HasReached (y : Trial) (attempts : ℕ) (last : Option ℕ) (room : �
   pub latest : y.caller.dialogue.last ≡ last
   pub few : c.attempts + c.diversions.left ≤ room
 
-abbrev pub Came : Phase → (attempts : ℕ) → (last : Option ℕ) → (room : ℕ) → Call → List Mark → Type 0
-Came (Offered y) attempts last room c marks = HasReached y attempts last room c marks
-Came (Stood x stage) attempts last room c marks = marks ≡ []
-Came (Lent loan) attempts last room c marks = marks ≡ []
-Came (Over cause) attempts last room c marks = marks ≡ []
+abbrev pub Came : (at : ℕ) → Phase → (attempts : ℕ) → (last : Option ℕ) → (room : ℕ) → Call → List Mark → Type 0
+Came at (Offered y) attempts last room c marks = HasReached at y attempts last room c marks
+Came at (Stood x stage) attempts last room c marks = marks ≡ []
+Came at (Lent loan) attempts last room c marks = marks ≡ []
+Came at (Over cause) attempts last room c marks = marks ≡ []
 
 next_few : (attempts left room : ℕ) → attempts + left < room → next_number attempts + left ≤ room
 next_few attempts left room less = omega (arith, less)
 
 module _ (site : Site) (before : Desk) where
-  pub record Moves (own : CallNo) (attempts : ℕ) (last : Option ℕ) (room : ℕ) (s : Step) : Type 0 where
+  pub record Moves (at : ℕ) (own : CallNo) (attempts : ℕ) (last : Option ℕ) (room : ℕ) (s : Step) : Type 0 where
     pub marks : List Mark
     pub adds : Adds site.sip own before s.desk marks
-    pub came : Came s.call.phase attempts last room s.call marks
+    pub came : Came at s.call.phase attempts last room s.call marks
 
   abbrev So : Call → Desk → Type 0
   So c desk = Unseen site c.opening.number before desk
 
   -- from a call with this caller
-  abbrev Goes : Call → Leg → (room : ℕ) → Step → Type 0
-  Goes c caller room s = Moves c.opening.number c.attempts caller.dialogue.last room s
+  abbrev Goes : (at : ℕ) → Call → Leg → (room : ℕ) → Step → Type 0
+  Goes at c caller room s = Moves at c.opening.number c.attempts caller.dialogue.last room s
 
-  moves_if : (own : CallNo) (attempts : ℕ) (last : Option ℕ) (room : ℕ) (b : Bool) (one two : Step) → Moves own attempts last room one → Moves own attempts last room two → Moves own attempts last room (if b then one else two)
-  moves_if own attempts last room true one two p q = p
-  moves_if own attempts last room false one two p q = q
+  moves_if : (at : ℕ) (own : CallNo) (attempts : ℕ) (last : Option ℕ) (room : ℕ) (b : Bool) (one two : Step) → Moves at own attempts last room one → Moves at own attempts last room two → Moves at own attempts last room (if b then one else two)
+  moves_if at own attempts last room true one two p q = p
+  moves_if at own attempts last room false one two p q = q
 
-  pub over_moves : (own : CallNo) (at : ℕ) (cause : Cause) (first meter : Option Noted) (attempts : ℕ) (last : Option ℕ) (room : ℕ) (c : Call) (desk : Desk) → Unseen site own before desk → Moves own attempts last room (over at cause first meter c desk)
+  pub over_moves : (own : CallNo) (at : ℕ) (cause : Cause) (first meter : Option Noted) (attempts : ℕ) (last : Option ℕ) (room : ℕ) (c : Call) (desk : Desk) → Unseen site own before desk → Moves at own attempts last room (over at cause first meter c desk)
   over_moves own at cause first meter attempts last room c desk had = record { marks = []; adds = record { new = had.new; out = had.out; seen = had.seen }; came = refl }
 
-  refused_moves : (at : ℕ) (caller : Leg) (cause : Cause) (room : ℕ) (c : Call) (desk : Desk) → So c desk → Goes c caller room (refused site at caller cause c desk)
+  refused_moves : (at : ℕ) (caller : Leg) (cause : Cause) (room : ℕ) (c : Call) (desk : Desk) → So c desk → Goes at c caller room (refused site at caller cause c desk)
   refused_moves at caller cause room c desk had =
       over_moves c.opening.number at cause caller.meter None c.attempts caller.dialogue.last room c (told_caller site c (status_of cause) desk) (told_unseen site c.opening.number before c (status_of cause) desk had)
 
-  refused_by_moves : (at : ℕ) (caller : Leg) (service : Option Service) (m : Option Said) (cause : Cause) (room : ℕ) (c : Call) (desk : Desk) → So c desk → Goes c caller room (refused_by site at caller service m cause c desk)
+  refused_by_moves : (at : ℕ) (caller : Leg) (service : Option Service) (m : Option Said) (cause : Cause) (room : ℕ) (c : Call) (desk : Desk) → So c desk → Goes at c caller room (refused_by site at caller service m cause c desk)
   refused_by_moves at caller service None cause room c desk had = refused_moves at caller cause room c desk had
   refused_by_moves at caller service (Some m) cause room c desk had =
-      moves_if c.opening.number c.attempts caller.dialogue.last room (is_status (status_in m.heard.start) (handed_on cause)) (over at cause caller.meter None c (relayed_to_caller site c service m desk)) (refused site at caller cause c desk)
+      moves_if at c.opening.number c.attempts caller.dialogue.last room (is_status (status_in m.heard.start) (handed_on cause)) (over at cause caller.meter None c (relayed_to_caller site c service m desk)) (refused site at caller cause c desk)
       (over_moves c.opening.number at cause caller.meter None c.attempts caller.dialogue.last room c (relayed_to_caller site c service m desk) (relayed_unseen site c.opening.number before c service m desk had))
       (refused_moves at caller cause room c desk had)
 
   -- ---- an offer
 
   offer_moves : (at : ℕ) (caller : Leg) (service : Option Service) (waiting : Bool) (aim : Aim) (room : ℕ) (c : Call) (desk : Desk) → c.attempts + c.diversions.left < room → So c desk →
-      Goes c caller room (offer site at caller service waiting aim c desk)
+      Goes at c caller room (offer site at caller service waiting aim c desk)
   offer_moves at caller service waiting aim room c desk less had =
       let o = c.opening in
       let shown : List Line = shown_to site o c.diversions service Caller aim.peer o.invite in
@@ -111,8 +112,8 @@ module _ (site : Site) (before : Desk) where
       let asked : Desk = emitted (emit.Ask aim.peer m) (drew third) in
       let cap = due_word.Cap (next_attempt c) in
       record {
-        marks = Invited aim.peer aim.uri (token third) ∷ Armed cap ∷ [];
-        adds = adds_emit site.sip o.number before asked (emit.Arm o.number cap (at + longest_time)) (Invited aim.peer aim.uri (token third) ∷ []) (Armed cap ∷ []) (own_deadline site.sip o.number cap (at + longest_time))
+        marks = Invited aim.peer aim.uri (token third) ∷ Armed cap (at + longest_time) ∷ [];
+        adds = adds_emit site.sip o.number before asked (emit.Arm o.number cap (at + longest_time)) (Invited aim.peer aim.uri (token third) ∷ []) (Armed cap (at + longest_time) ∷ []) (own_deadline site.sip o.number cap (at + longest_time))
             (adds_emit site.sip o.number before (drew third) (emit.Ask aim.peer m) [] (Invited aim.peer aim.uri (token third) ∷ []) marked drawn);
         came = record { seen = refl; leg = refl; rang = refl; number = refl; now_attempts = refl; latest = refl; few = next_few c.attempts c.diversions.left room less };
       }
@@ -121,21 +122,21 @@ module _ (site : Site) (before : Desk) where
 
   -- a diversion that is due, where so many are left
   abbrev Diverts : ℕ → Standing → Leg → Type 0
-  Diverts left now caller = (service : Option Service) (due : DueDiversion) (room : ℕ) (c : Call) (desk : Desk) → c.attempts + left ≤ room → So c desk → Goes c caller room (divert left site now caller service due c desk)
+  Diverts left now caller = (service : Option Service) (due : DueDiversion) (room : ℕ) (c : Call) (desk : Desk) → c.attempts + left ≤ room → So c desk → Goes now.at c caller room (divert left site now caller service due c desk)
 
   offer_where_moves : (peer : Option Peer) (at : ℕ) (caller : Leg) (service : Option Service) (waiting : Bool) (cause : Option ℕ) (target : Target) (room : ℕ) (c : Call) (desk : Desk) →
-      c.attempts + c.diversions.left < room → So c desk → Goes c caller room (offer_where peer site at caller service waiting cause target c desk)
+      c.attempts + c.diversions.left < room → So c desk → Goes at c caller room (offer_where peer site at caller service waiting cause target c desk)
   offer_where_moves None at caller service waiting cause target room c desk less had = refused_moves at caller causes.NoRoute room (passed_by at service c) desk had
   offer_where_moves (Some peer) at caller service waiting cause target room c desk less had = offer_moves at caller service waiting (aim_at c.opening peer cause target) room c desk less had
 
   turn_moves : (left : ℕ) (now : Standing) (caller : Leg) → Diverts left now caller → (service : Option Service) (peer : Option Peer) (cause : Option ℕ) (target : Target) (turn : Turn) (room : ℕ) (c : Call) (desk : Desk) →
-      c.attempts + c.diversions.left < room → c.attempts + left ≤ room → So c desk → Goes c caller room (on_turn (divert left site now caller) site now.at caller service peer cause target turn c desk)
+      c.attempts + c.diversions.left < room → c.attempts + left ≤ room → So c desk → Goes now.at c caller room (on_turn (divert left site now caller) site now.at caller service peer cause target turn c desk)
   turn_moves left now caller later service peer cause target (TurnOffer waiting) room c desk less most had = offer_where_moves peer now.at caller service waiting cause target room c desk less had
   turn_moves left now caller later service peer cause target (TurnDivert due) room c desk less most had = later service due room (passed_by now.at service c) desk most had
   turn_moves left now caller later service peer cause target (TurnRefuse why) room c desk less most had = refused_moves now.at caller why room (passed_by now.at service c) desk had
 
   target_moves : (left : ℕ) (now : Standing) (caller : Leg) → Diverts left now caller → (cause : Option ℕ) (target : Target) (room : ℕ) (c : Call) (desk : Desk) →
-      c.attempts + c.diversions.left < room → c.attempts + left ≤ room → So c desk → Goes c caller room (at_target (divert left site now caller) site now caller cause target c desk)
+      c.attempts + c.diversions.left < room → c.attempts + left ≤ room → So c desk → Goes now.at c caller room (at_target (divert left site now caller) site now caller cause target c desk)
   target_moves left now caller later cause target room c desk less most had =
       let service = service_at site now c.opening cause target in
       let peer = peer_for site c.opening target in
@@ -150,7 +151,7 @@ module _ (site : Site) (before : Desk) where
       by true = told_diversion_unseen site c.opening.number before c desk had
       by false = had
 
-  unless_moves : (barred : Bool) (go : Call → Desk → Step) (at : ℕ) (caller : Leg) (room : ℕ) (c : Call) (desk : Desk) → So c desk → Goes c caller room (go c desk) → Goes c caller room (unless_barred barred go site at caller c desk)
+  unless_moves : (barred : Bool) (go : Call → Desk → Step) (at : ℕ) (caller : Leg) (room : ℕ) (c : Call) (desk : Desk) → So c desk → Goes at c caller room (go c desk) → Goes at c caller room (unless_barred barred go site at caller c desk)
   unless_moves true go at caller room c desk had is = refused_moves at caller causes.OutgoingBarred room c desk had
   unless_moves false go at caller room c desk had is = is
 
@@ -173,22 +174,22 @@ module _ (site : Site) (before : Desk) where
   less_most : (n room : ℕ) → n < room → n ≤ room
   less_most n room less = omega (arith, less)
 
-  reach_moves : (now : Standing) (caller : Leg) (cause : Option ℕ) (target : Target) (room : ℕ) (c : Call) (desk : Desk) → c.attempts + c.diversions.left < room → So c desk → Goes c caller room (reach site now caller cause target c desk)
+  reach_moves : (now : Standing) (caller : Leg) (cause : Option ℕ) (target : Target) (room : ℕ) (c : Call) (desk : Desk) → c.attempts + c.diversions.left < room → So c desk → Goes now.at c caller room (reach site now caller cause target c desk)
   reach_moves now caller cause target room c desk less had =
       target_moves c.diversions.left now caller (divert_moves c.diversions.left now caller) cause target room c desk less (less_most (c.attempts + c.diversions.left) room less) had
 
   -- ---- after an attempt, and as the call opens
 
-  end_moves : (now : Standing) (caller : Leg) (service : Option Service) (m : Option Said) (after : AfterEnd) (room : ℕ) (c : Call) (desk : Desk) → c.attempts + c.diversions.left ≤ room → So c desk → Goes c caller room (on_end site now caller service m after c desk)
+  end_moves : (now : Standing) (caller : Leg) (service : Option Service) (m : Option Said) (after : AfterEnd) (room : ℕ) (c : Call) (desk : Desk) → c.attempts + c.diversions.left ≤ room → So c desk → Goes now.at c caller room (on_end site now caller service m after c desk)
   end_moves now caller service m EndAnswered room c desk most had = over_moves c.opening.number now.at causes.Ended caller.meter None c.attempts caller.dialogue.last room c desk had
   end_moves now caller service m (EndDivert due) room c desk most had = divert_moves c.diversions.left now caller service due room c desk most had
   end_moves now caller service m (EndRefuse cause) room c desk most had = refused_by_moves now.at caller service m cause room c desk had
 
-  pub goes_on_moves : (now : Standing) (x : Trial) (how : End) (m : Option Said) (room : ℕ) (c : Call) (desk : Desk) → c.attempts + c.diversions.left ≤ room → So c desk → Goes c x.caller room (goes_on site now x how m c desk)
+  pub goes_on_moves : (now : Standing) (x : Trial) (how : End) (m : Option Said) (room : ℕ) (c : Call) (desk : Desk) → c.attempts + c.diversions.left ≤ room → So c desk → Goes now.at c x.caller room (goes_on site now x how m c desk)
   goes_on_moves now x how m room c desk most had =
       end_moves now x.caller x.attempt.service m (decided_after c.opening now.at x.attempt.service how) room (with_past x.callee.leg.meter c) desk most had
 
   pub begins_moves : (refusal : Option Cause) (now : Standing) (room : ℕ) (c : Call) (desk : Desk) → c.attempts + c.diversions.left < room → So c desk →
-      Goes c (caller_of now.at c) room (unless_refused refusal site now (caller_of now.at c) c desk)
+      Goes now.at c (caller_of now.at c) room (unless_refused refusal site now (caller_of now.at c) c desk)
   begins_moves None now room c desk less had = reach_moves now (caller_of now.at c) None (first_of c.opening) room c desk less had
   begins_moves (Some cause) now room c desk less had = refused_moves now.at (caller_of now.at c) cause room c desk had

@@ -1,7 +1,8 @@
 -- What a call that is offered does on each signal: it waits on for its attempt, or the attempt ends and the call goes on or is over.
-use Rattle.std.proofs.Common.{◌≡◌, ◌≤◌, ◌+◌, ℕ, ◌==◌, Bool, true, false, not, List, [], ◌∷◌, Option, Some, None, refl, ap, sym, ◌∙◌, arith, nat_lt, ◌&&◌, ◌||◌, Result, Ok, Err}
+use Rattle.std.proofs.Common.{◌≡◌, ◌≤◌, ◌+◌, ℕ, ◌==◌, Bool, true, false, not, List, [], ◌∷◌, Option, Some, None, refl, ap, sym, subst, ◌∙◌, arith, nat_lt, ◌&&◌, ◌||◌, Result, Ok, Err}
 use Rattle.std.proofs.lemmas.Bool.Decides.{nat_tests}
 use Rattle.std.specs.Prelude.{if◌then◌else◌, is_ok}
+use Rattle.std.specs.Str.{bytes_eq}
 use Rattle.mmtel_answers.specs.Said.{Said, status_of}
 use Rattle.mmtel_desk.specs.Sending.{final_acked}
 use Rattle.mmtel_desk.specs.declared.desks.Desk.{Desk}
@@ -34,33 +35,41 @@ use Rattle.mmtel_call.specs.declared.calls.Trial.{Trial}
 use Rattle.mmtel_call.specs.declared.signals.Signal.{Signal}
 use Rattle.mmtel_call.specs.declared.signals.Signal.TheVariants as signal
 use Rattle.mmtel_call_laws.specs.Endings.{end_by_answer, end_by_deadline, end_by_request, end_by_silence, end_of_attempt, is_its}
-use Rattle.mmtel_call_laws.specs.Trace.Laws.{Each}
-use Rattle.mmtel_call_laws.specs.Trace.Seen.{Armed, Going, Invited, Mark, last_by, last_by_request, rings_by, rings_by_answer}
+use Rattle.mmtel_call_laws.specs.Trace.Laws.{deadlines_of}
+use Rattle.mmtel_call_laws.specs.Trace.Seen.{Armed, Going, Mark, last_by, last_by_request, rings_by, rings_by_answer}
 use Rattle.mmtel_call_laws.proofs.Trace.Going.{Moves, goes_on_moves, over_moves}
 use Rattle.mmtel_call_laws.proofs.Trace.Reading.{Adds, adds_emit, adds_nothing, adds_quiet, own_deadline}
 use Rattle.mmtel_call_laws.proofs.Trace.Sending.{Unseen, cancelled_unseen, final_acked_unseen, other_waits, relayed_unseen, replied_unseen, told_unseen, unheard_unseen, unlisted_unseen}
 
--- the attempt of a call as it would be seen, with these deadlines after its first
-abbrev pub going_of : Trial → List DueWord → Going
-going_of x others = record {
+-- the no-reply time of the record by which the call was offered
+abbrev pub its_time : Trial → Option ℕ
+its_time x = time_of (its_sheet x.attempt.service)
+
+-- the attempt of a call as it would be seen, where its INVITE went out at this moment, and it rang at this one
+abbrev pub going_of : Trial → (since : ℕ) → (rung : Option ℕ) → Going
+going_of x since rung = record {
   peer = x.attempt.invitation.dialogue.peer;
   uri = x.attempt.invitation.dialogue.target;
   branch = x.attempt.invitation.branch;
-  armed = due.Cap x.attempt.number ∷ others;
-  rang = x.attempt.rang;
+  since = since;
+  armed = deadlines_of x.attempt.number (its_time x) since rung;
+  rung = rung;
 }
 
--- the no-reply time of this number
-abbrev pub IsArmed : ℕ → Mark → Type 0
-IsArmed number (Invited peer uri branch) = ⊥
-IsArmed number (Armed what) = what ≡ due.NoReply number
+-- what a step arms at this moment, by whether it is the first in which the target rings: the no-reply time, where there is one
+abbrev pub marked_by : (number : ℕ) → (at : ℕ) → (time : Option ℕ) → List Mark
+marked_by number at None = []
+marked_by number at (Some time) = Armed (due.NoReply number) (at + time) ∷ []
+
+abbrev pub marks_rung : (number : ℕ) → (at : ℕ) → (time : Option ℕ) → (first : Bool) → List Mark
+marks_rung number at time first = if first then marked_by number at time else []
 
 -- the call as it is offered
 abbrev pub offered : Trial → Call → Call
 offered x c = record c { phase = Offered x }
 
 -- it waits on for the same attempt, after this
-pub record StillWaits (site : Site) (x : Trial) (c : Call) (before : Desk) (last : Option ℕ) (rings_now : Bool) (s : Step) (y : Trial) : Type 0 where
+pub record StillWaits (at : ℕ) (site : Site) (x : Trial) (c : Call) (before : Desk) (last : Option ℕ) (rings_now : Bool) (s : Step) (y : Trial) : Type 0 where
   pub phase : s.call.phase ≡ Offered y
   pub attempts : s.call.attempts ≡ c.attempts
   pub left : s.call.diversions.left ≡ c.diversions.left
@@ -70,13 +79,12 @@ pub record StillWaits (site : Site) (x : Trial) (c : Call) (before : Desk) (last
   pub branch : y.attempt.invitation.branch ≡ x.attempt.invitation.branch
   pub leg : y.callee.leg.dialogue.peer ≡ x.callee.leg.dialogue.peer
   pub rang : y.attempt.rang ≡ (x.attempt.rang || rings_now)
-  pub marks : List Mark
-  pub adds : Adds site.sip c.opening.number before s.desk marks
-  pub armed : Each (IsArmed x.attempt.number) marks
+  pub service : y.attempt.service ≡ x.attempt.service
+  pub adds : Adds site.sip c.opening.number before s.desk (marks_rung x.attempt.number at (its_time x) (rings_now && not x.attempt.rang))
 
-pub data Passes (site : Site) (x : Trial) (c : Call) (before : Desk) (last : Option ℕ) (rings_now : Bool) (end : Option End) (s : Step) : Type 0 where
-  Waits : end ≡ None → (y : Trial) → StillWaits site x c before last rings_now s y → Passes site x c before last rings_now end s
-  Leaves : (how : End) → end ≡ Some how → Moves site before c.opening.number c.attempts last (c.attempts + c.diversions.left) s → Passes site x c before last rings_now end s
+pub data Passes (at : ℕ) (site : Site) (x : Trial) (c : Call) (before : Desk) (last : Option ℕ) (rings_now : Bool) (end : Option End) (s : Step) : Type 0 where
+  Waits : end ≡ None → (y : Trial) → StillWaits at site x c before last rings_now s y → Passes at site x c before last rings_now end s
+  Leaves : (how : End) → end ≡ Some how → Moves site before at c.opening.number c.attempts last (c.attempts + c.diversions.left) s → Passes at site x c before last rings_now end s
 
 or_false : (b : Bool) → b ≡ (b || false)
 or_false true = refl
@@ -90,7 +98,7 @@ module _ (site : Site) (now : Standing) (x : Trial) (c : Call) (before : Desk) w
   So desk = Unseen site c.opening.number before desk
 
   abbrev Does : (last : Option ℕ) → (rings_now : Bool) → Option End → Step → Type 0
-  Does last rings_now end s = Passes site x c before last rings_now end s
+  Does last rings_now end s = Passes now.at site x c before last rings_now end s
 
   does_if : (last : Option ℕ) (b one_rings two_rings : Bool) (end end2 : Option End) (s s2 : Step) → Does last one_rings end s → Does last two_rings end2 s2 → Does last (if b then one_rings else two_rings) (if b then end else end2) (if b then s else s2)
   does_if last true one_rings two_rings end end2 s s2 f g = f
@@ -103,7 +111,7 @@ module _ (site : Site) (now : Standing) (x : Trial) (c : Call) (before : Desk) w
 
   -- nothing is seen, and it waits on as it was
   waits : (s : Step) → s.call.phase ≡ Offered x → s.call.attempts ≡ c.attempts → s.call.diversions.left ≡ c.diversions.left → So s.desk → Does Last false None s
-  waits s e f g had = Waits refl x (record { phase = e; attempts = f; left = g; latest = refl; number = refl; dialogue = refl; branch = refl; leg = refl; rang = or_false x.attempt.rang; marks = []; adds = had; armed = tt })
+  waits s e f g had = Waits refl x (record { phase = e; attempts = f; left = g; latest = refl; number = refl; dialogue = refl; branch = refl; leg = refl; rang = or_false x.attempt.rang; service = refl; adds = had })
 
   -- a side was heard
   waits_heard : (y : Trial) (last : Option ℕ) (desk : Desk) → y.caller.dialogue.last ≡ last → y.attempt ≡ x.attempt → y.callee.leg.dialogue.peer ≡ x.callee.leg.dialogue.peer → So desk → Does last false None (onward (offered y c) desk)
@@ -117,9 +125,8 @@ module _ (site : Site) (now : Standing) (x : Trial) (c : Call) (before : Desk) w
     branch = ap (λ (a : Attempt). a.invitation.branch) f;
     leg = g;
     rang = ap (λ (a : Attempt). a.rang) f ∙ or_false x.attempt.rang;
-    marks = [];
+    service = ap (λ (a : Attempt). a.service) f;
     adds = had;
-    armed = tt;
   })
 
   -- ---- the caller gives up
@@ -189,20 +196,19 @@ module _ (site : Site) (now : Standing) (x : Trial) (c : Call) (before : Desk) w
   met_peer (Some remote) callee = refl
 
   -- what the first one that rings arms
-  abbrev IsArming : Desk → Type 0
-  IsArming desk = (marks : List Mark) × Adds site.sip c.opening.number before desk marks × Each (IsArmed x.attempt.number) marks
-
-  armed_by : (b : Bool) (time : Option ℕ) (desk : Desk) → So desk → IsArming (if b then armed_in time now.at x.attempt (offered x c) desk else desk)
-  armed_by true None desk had = ([], had, tt)
+  armed_by : (b : Bool) (time : Option ℕ) (desk : Desk) → So desk →
+      Adds site.sip c.opening.number before (if b then armed_in time now.at x.attempt (offered x c) desk else desk) (marks_rung x.attempt.number now.at time b)
+  armed_by true None desk had = had
   armed_by true (Some time) desk had =
       let what = due.NoReply x.attempt.number in
-      (Armed what ∷ [], adds_emit site.sip c.opening.number before desk _ [] (Armed what ∷ []) (own_deadline site.sip c.opening.number what (now.at + time)) had, (refl, tt))
-  armed_by false time desk had = ([], had, tt)
+      let mark = Armed what (now.at + time) ∷ [] in
+      adds_emit site.sip c.opening.number before desk _ [] mark (own_deadline site.sip c.opening.number what (now.at + time)) had
+  armed_by false time desk had = had
 
   proceeds : (key : TKey) (m : Said) (code : ℕ) (desk : Desk) → So desk → Does Last (rings code) None (proceeding site now.at x key m code (offered x c) desk)
   proceeds key m code desk had =
       let relayed = relayed_to_caller site (offered x c) x.attempt.service m desk in
-      let (marks, adds, arms) = armed_by (rings code && not x.attempt.rang) (time_of (its_sheet x.attempt.service)) relayed (relayed_unseen site c.opening.number before (offered x c) x.attempt.service m desk had) in
+      let adds = armed_by (rings code && not x.attempt.rang) (its_time x) relayed (relayed_unseen site c.opening.number before (offered x c) x.attempt.service m desk had) in
       let s = proceeding site now.at x key m code (offered x c) desk in
       Waits refl (record x { callee = callee_after x.callee m; attempt = Rattle.mmtel_call.specs.Ringing.ringing code (Rattle.mmtel_call.specs.Ringing.having_met (early_said x.callee m) (Rattle.mmtel_call.specs.Ringing.noted key x.attempt)) }) (record {
         phase = refl;
@@ -214,9 +220,8 @@ module _ (site : Site) (now : Standing) (x : Trial) (c : Call) (before : Desk) w
         branch = refl;
         leg = met_peer (early_said x.callee m) x.callee;
         rang = refl;
-        marks = marks;
+        service = refl;
         adds = adds;
-        armed = arms;
       })
 
   answers : (rings_now : Bool) (key : TKey) (m : Said) (how : End) (desk : Desk) → So desk → Does Last rings_now (Some how) (answered site now.at x key m (offered x c) desk)
@@ -240,9 +245,8 @@ module _ (site : Site) (now : Standing) (x : Trial) (c : Call) (before : Desk) w
         branch = refl;
         leg = refl;
         rang = or_false x.attempt.rang ∙ ap (λ b. x.attempt.rang || b) (sym (f refl));
-        marks = [];
-        adds = had;
-        armed = tt;
+        service = refl;
+        adds = subst (λ b. Adds site.sip c.opening.number before desk (marks_rung x.attempt.number now.at (its_time x) (b && not x.attempt.rang))) (sym (f refl)) had;
       })
   class_passes key m code true false success desk e f had = absurd (let h : false ≡ true = e refl in cc)
   class_passes key m code false true success desk e f had = proceeds key m code desk had
@@ -267,22 +271,24 @@ module _ (site : Site) (now : Standing) (x : Trial) (c : Call) (before : Desk) w
       let other = other_waits site c.opening.number before key m branch (offered x c) desk had in
       waits _ other.phase other.attempts other.left other.unseen
 
-  answer_passes : (key : TKey) (m : Said) (branch : Option (List ℕ)) (others : List DueWord) (desk : Desk) → So desk → Does Last (rings_by_answer (going_of x others) m branch) (end_by_answer x m branch) (answer_to branch site now key m (offered x c) desk)
-  answer_passes key m None others desk had = stays desk had
-  answer_passes key m (Some branch) others desk had = its_answer (is_its x branch) key m branch desk had
+  answer_passes : (key : TKey) (m : Said) (branch : Option (List ℕ)) (g : Going) (desk : Desk) → g.branch ≡ x.attempt.invitation.branch → So desk → Does Last (rings_by_answer g m branch) (end_by_answer x m branch) (answer_to branch site now key m (offered x c) desk)
+  answer_passes key m None g desk same had = stays desk had
+  answer_passes key m (Some branch) g desk same had =
+      subst (λ own. Does Last (bytes_eq own branch && rings (status_of m.heard.start)) (end_by_answer x m (Some branch)) (answer_to (Some branch) site now key m (offered x c) desk)) (sym same)
+      (its_answer (is_its x branch) key m branch desk had)
 
 -- ---- any signal
 
-pub passes : (site : Site) (now : Standing) (x : Trial) (heard : Signal) (c : Call) (others : List DueWord) (desk : Desk) →
-    Passes site x c desk (last_by x.caller.dialogue.last heard) (rings_by (going_of x others) heard) (end_of_attempt x (offered x c) heard) (step site now heard (offered x c) desk)
+pub passes : (site : Site) (now : Standing) (x : Trial) (heard : Signal) (c : Call) (g : Going) (desk : Desk) → g.branch ≡ x.attempt.invitation.branch →
+    Passes now.at site x c desk (last_by x.caller.dialogue.last heard) (rings_by g heard) (end_of_attempt x (offered x c) heard) (step site now heard (offered x c) desk)
 unfolding step
-passes site now x (signal.Request side key request) c others desk = request_passes site now x c desk side key request desk (adds_nothing site.sip c.opening.number desk)
-passes site now x (signal.Ack side ack) c others desk = stays site now x c desk desk (adds_nothing site.sip c.opening.number desk)
-passes site now x (signal.Cancel key cancel invite) c others desk =
+passes site now x (signal.Request side key request) c g desk same = request_passes site now x c desk side key request desk (adds_nothing site.sip c.opening.number desk)
+passes site now x (signal.Ack side ack) c g desk same = stays site now x c desk desk (adds_nothing site.sip c.opening.number desk)
+passes site now x (signal.Cancel key cancel invite) c g desk same =
     let replied = replied_to site (offered x c) key cancel 200 desk in
     let had = replied_unseen site c.opening.number desk (offered x c) key cancel 200 desk (adds_nothing site.sip c.opening.number desk) in
     does_either site now x c desk x.caller.dialogue.last (invite.0 == c.opening.key.0) _ _ _ _ (gives_up site now x c desk x.caller.dialogue.last x replied had) (stays site now x c desk replied had)
-passes site now x (signal.Answer key response) c others desk = answer_passes site now x c desk key response (invite_answered response) others desk (adds_nothing site.sip c.opening.number desk)
-passes site now x (signal.Silent branch method) c others desk = silence_passes site now x c desk (invite_silent branch method) desk (adds_nothing site.sip c.opening.number desk)
-passes site now x (signal.Due what) c others desk = due_passes site now x c desk what desk (adds_nothing site.sip c.opening.number desk)
-passes site now x (signal.Ended key) c others desk = waits site now x c desk (onward (without_key key (offered x c)) desk) refl refl refl (adds_nothing site.sip c.opening.number desk)
+passes site now x (signal.Answer key response) c g desk same = answer_passes site now x c desk key response (invite_answered response) g desk same (adds_nothing site.sip c.opening.number desk)
+passes site now x (signal.Silent branch method) c g desk same = silence_passes site now x c desk (invite_silent branch method) desk (adds_nothing site.sip c.opening.number desk)
+passes site now x (signal.Due what) c g desk same = due_passes site now x c desk what desk (adds_nothing site.sip c.opening.number desk)
+passes site now x (signal.Ended key) c g desk same = waits site now x c desk (onward (without_key key (offered x c)) desk) refl refl refl (adds_nothing site.sip c.opening.number desk)

@@ -72,5 +72,5 @@ adds_quiet sip own before desk e marks is had =
     record { new = more.new; out = more.out; seen = more.seen ∙ append-nil marks }
 
 -- a deadline of the call itself
-pub own_deadline : (sip : Addr) (own : CallNo) (what : DueWord) (at : ℕ) → mark_of sip own (emit.Arm own what at) ≡ mark_of_deadline what
-own_deadline sip own what at = ap (λ b. if b then mark_of_deadline what else []) (eq-eqb own.0 own.0 refl)
+pub own_deadline : (sip : Addr) (own : CallNo) (what : DueWord) (at : ℕ) → mark_of sip own (emit.Arm own what at) ≡ mark_of_deadline what at
+own_deadline sip own what at = ap (λ b. if b then mark_of_deadline what at else []) (eq-eqb own.0 own.0 refl)

@@ -23,14 +23,14 @@ use Rattle.mmtel_call_laws.specs.Laws.{ComesToItsOutcome, ShowsItsOutcome}
 use Rattle.mmtel_call_laws.specs.Shown as shown
 use Rattle.mmtel_call_laws.specs.Shown.{AreOwn, Sign, emits_while_offered, final_sign, is_offered, sign_of, sign_of_result, signs_of, signs_of_targets}
 use Rattle.mmtel_call_laws.specs.Story.{Heard, Start, added, call_after, first_step, next_step, opening_in}
-use Rattle.mmtel_call_laws.specs.Trace.Laws.{AttemptsAreSeen, IsLastOf, IsSeen, TargetsAreSeen, last_in, or_before, uri_in, uris_in}
-use Rattle.mmtel_call_laws.specs.Trace.Seen.{Armed, Going, Invited, Mark, Watch, after_hearing, branch_of, ends_by, last_after_all, mark_of, mark_of_deadline, marks_first, marks_next, marks_of, nothing_yet, on_mark, on_marks, watch_after, watched_from, watched_next, with_armed}
+use Rattle.mmtel_call_laws.specs.Trace.Laws.{AttemptsAreSeen, IsLastOf, IsSeen, TargetsAreSeen, last_in, no_reply_after, or_before, uri_in, uris_in}
+use Rattle.mmtel_call_laws.specs.Trace.Seen.{Armed, Deadline, Going, Invited, Mark, Watch, after_hearing, branch_of, ends_by, last_after_all, mark_of, mark_of_deadline, marks_first, marks_next, marks_of, nothing_yet, on_mark, on_marks, watch_after, watched_from, watched_next, with_armed}
 
 -- ---- what is shown and what is marked have the same Request-URIs
 
 abbrev uri_marked : Mark → List (List ℕ)
 uri_marked (Invited peer uri branch) = uri ∷ []
-uri_marked (Armed what) = []
+uri_marked (Armed what at) = []
 
 abbrev uris_marked : List Mark → List (List ℕ)
 uris_marked [] = []
@@ -44,11 +44,11 @@ marked_append : (xs ys : List Mark) → uris_marked (xs ++ ys) ≡ uris_marked x
 marked_append [] ys = refl
 marked_append (x ∷ xs) ys = ap (λ l. uri_marked x ++ l) (marked_append xs ys) ∙ sym (append_assoc (uri_marked x) (uris_marked xs) (uris_marked ys))
 
-deadline_marked : (b : Bool) (what : DueWord) → [] ≡ uris_marked (if b then mark_of_deadline what else [])
-deadline_marked true (due.NoReply number) = refl
-deadline_marked true (due.Cap number) = refl
-deadline_marked true (due.NoAck number) = refl
-deadline_marked false what = refl
+deadline_marked : (b : Bool) (what : DueWord) (at : ℕ) → [] ≡ uris_marked (if b then mark_of_deadline what at else [])
+deadline_marked true (due.NoReply number) at = refl
+deadline_marked true (due.Cap number) at = refl
+deadline_marked true (due.NoAck number) at = refl
+deadline_marked false what at = refl
 
 final_shown : (its low success : Bool) (code : ℕ) → uris_in (if its then (if low then [] else if success then shown.Accepted ∷ [] else shown.Refused code ∷ []) else []) ≡ []
 final_shown true true success code = refl
@@ -65,7 +65,7 @@ one_shown key sip own (emit.Ask peer m) = ask_shown (is_method (codes "INVITE") 
 one_shown key sip own (emit.Reply asked m) = final_shown (asked.0 == key.0) (nat_lt (status_of m.start) 200) (nat_lt (status_of m.start) 300) (status_of m.start)
 one_shown key sip own (emit.Plain peer text) = refl
 one_shown key sip own (emit.Ack asked m) = refl
-one_shown key sip own (emit.Arm call what at) = deadline_marked (call.0 == own.0) what
+one_shown key sip own (emit.Arm call what at) = deadline_marked (call.0 == own.0) what at
 one_shown key sip own (emit.ArmSeat room seat what at) = refl
 
 same_shown : (key : TKey) (sip : Addr) (own : CallNo) (out : List Emit) → uris_in (signs_of key out) ≡ uris_marked (marks_of sip own out)
@@ -99,18 +99,19 @@ abbrev uri_going : Option Going → Option (List ℕ)
 uri_going None = None
 uri_going (Some g) = Some g.uri
 
-armed_uri : (what : DueWord) (o : Option Going) → uri_going (option_map (with_armed what) o) ≡ uri_going o
-armed_uri what None = refl
-armed_uri what (Some g) = refl
+armed_uri : (deadline : Deadline) (o : Option Going) → uri_going (option_map (with_armed deadline) o) ≡ uri_going o
+armed_uri deadline None = refl
+armed_uri deadline (Some g) = refl
 
-marks_uri : (marks : List Mark) (w : Watch) → uri_going (on_marks w marks).going ≡ or_before (uri_going w.going) (last_in (uris_marked marks))
-marks_uri [] w = refl
-marks_uri (Invited peer uri branch ∷ marks) w = marks_uri marks (on_mark w (Invited peer uri branch)) ∙ by (last_in (uris_marked marks))
+marks_uri : (now : ℕ) (marks : List Mark) (w : Watch) → uri_going (on_marks now w marks).going ≡ or_before (uri_going w.going) (last_in (uris_marked marks))
+marks_uri now [] w = refl
+marks_uri now (Invited peer uri branch ∷ marks) w = marks_uri now marks (on_mark now w (Invited peer uri branch)) ∙ by (last_in (uris_marked marks))
   where
     by : (o : Option (List ℕ)) → or_before (Some uri) o ≡ or_before (uri_going w.going) (or_before (Some uri) o)
     by None = refl
     by (Some later) = refl
-marks_uri (Armed what ∷ marks) w = marks_uri marks (on_mark w (Armed what)) ∙ ap (λ o. or_before o (last_in (uris_marked marks))) (armed_uri what w.going)
+marks_uri now (Armed what at ∷ marks) w =
+    marks_uri now marks (on_mark now w (Armed what at)) ∙ ap (λ o. or_before o (last_in (uris_marked marks))) (armed_uri (record { what = what; at = at }) w.going)
 
 -- ---- every story
 
@@ -125,34 +126,34 @@ IsLast uris o = (uri : List ℕ) → uri_going o ≡ Some uri → last_in uris �
 first_shown : (s : Start) → IsLast (shown_so_far s []) (watch_after s []).going
 unfolding emits_while_offered watch_after
 first_shown s uri e =
-    ap last_in (same_shown s.arrival.key s.site.sip s.arrival.number (added s.desk.out (first_step s).desk.out)) ∙ by (last_in (uris_marked (marks_first s))) ∙ sym (marks_uri (marks_first s) nothing_yet) ∙ e
+    ap last_in (same_shown s.arrival.key s.site.sip s.arrival.number (added s.desk.out (first_step s).desk.out)) ∙ by (last_in (uris_marked (marks_first s))) ∙ sym (marks_uri s.now.at (marks_first s) nothing_yet) ∙ e
   where
     by : (o : Option (List ℕ)) → o ≡ or_before None o
     by None = refl
     by (Some later) = refl
 
 -- after one more step in which these were marked
-heard_uri : (uris : List (List ℕ)) (w : Watch) (g : Going) (heard : Signal) (end : Option End) (marks : List Mark) → last_in uris ≡ Some g.uri → IsLast (uris ++ uris_marked marks) (on_marks (after_hearing w g heard end) marks).going
-heard_uri uris w g heard None marks last uri e =
-    last_append uris (uris_marked marks) ∙ ap (λ o. or_before o (last_in (uris_marked marks))) last ∙ sym (marks_uri marks (after_hearing w g heard None)) ∙ e
-heard_uri uris w g heard (Some how) marks last uri e =
-    last_append uris (uris_marked marks) ∙ ap (or_before (last_in uris)) (by (last_in (uris_marked marks)) ∙ sym (marks_uri marks (after_hearing w g heard (Some how))) ∙ e)
+heard_uri : (now : ℕ) (uris : List (List ℕ)) (w : Watch) (g : Going) (heard : Signal) (end : Option End) (marks : List Mark) → last_in uris ≡ Some g.uri → IsLast (uris ++ uris_marked marks) (on_marks now (after_hearing now w g heard end) marks).going
+heard_uri now uris w g heard None marks last uri e =
+    last_append uris (uris_marked marks) ∙ ap (λ o. or_before o (last_in (uris_marked marks))) last ∙ sym (marks_uri now marks (after_hearing now w g heard None)) ∙ e
+heard_uri now uris w g heard (Some how) marks last uri e =
+    last_append uris (uris_marked marks) ∙ ap (or_before (last_in uris)) (by (last_in (uris_marked marks)) ∙ sym (marks_uri now marks (after_hearing now w g heard (Some how))) ∙ e)
   where
     by : (o : Option (List ℕ)) → o ≡ or_before None o
     by None = refl
     by (Some later) = refl
 
-next_uri : (uris : List (List ℕ)) (w : Watch) (o : Option Going) (key : TKey) (number : Option ℕ) (heard : Signal) (marks : List Mark) (offered : Bool) → w.going ≡ o → (offered ≡ false → o ≡ None) → IsLast uris o →
-    IsLast (uris ++ (if offered then uris_marked marks else [])) (watched_from w o key number heard marks).going
-next_uri uris w None key number heard marks offered none unless last uri e = absurd (let f : None ≡ Some uri = ap uri_going (sym none) ∙ e in cc)
-next_uri uris w (Some g) key number heard marks true is unless last uri e = heard_uri uris w g heard (ends_by key number g heard) marks (last g.uri refl) uri e
-next_uri uris w (Some g) key number heard marks false is unless last uri e = absurd (let f : Some g ≡ None = unless refl in cc)
+next_uri : (now : ℕ) (uris : List (List ℕ)) (w : Watch) (o : Option Going) (key : TKey) (number : Option ℕ) (heard : Signal) (marks : List Mark) (offered : Bool) → w.going ≡ o → (offered ≡ false → o ≡ None) → IsLast uris o →
+    IsLast (uris ++ (if offered then uris_marked marks else [])) (watched_from now w o key number heard marks).going
+next_uri now uris w None key number heard marks offered none unless last uri e = absurd (let f : None ≡ Some uri = ap uri_going (sym none) ∙ e in cc)
+next_uri now uris w (Some g) key number heard marks true is unless last uri e = heard_uri now uris w g heard (ends_by key number g heard) marks (last g.uri refl) uri e
+next_uri now uris w (Some g) key number heard marks false is unless last uri e = absurd (let f : Some g ≡ None = unless refl in cc)
 
-unoffered : (bound : ℕ) (p : Phase) (w : Watch) → IsSeen bound p w → is_offered p ≡ false → w.going ≡ None
-unoffered bound (Offered x) w seen e = absurd cc
-unoffered bound (Stood x stage) w seen e = seen
-unoffered bound (Lent loan) w seen e = seen
-unoffered bound (Over cause) w seen e = seen
+unoffered : (bound : ℕ) (time : Option ℕ) (p : Phase) (w : Watch) → IsSeen bound time p w → is_offered p ≡ false → w.going ≡ None
+unoffered bound time (Offered x) w seen e = absurd cc
+unoffered bound time (Stood x stage) w seen e = seen
+unoffered bound time (Lent loan) w seen e = seen
+unoffered bound time (Over cause) w seen e = seen
 
 one_more : (s : Start) (x : Heard) (earlier : List Heard) → shown_so_far s (x ∷ earlier) ≡ shown_so_far s earlier ++ (if is_offered (call_after s earlier).phase then uris_marked (marks_next s x earlier) else [])
 unfolding emits_while_offered
@@ -173,8 +174,8 @@ last_shown law s [] = first_shown s
 last_shown law s (x ∷ earlier) =
     let w = watch_after s earlier in
     let phase = (call_after s earlier).phase in
-    subst (λ uris. IsLast uris (watched_next w s.arrival.key (last_after_all s earlier) x.signal (marks_next s x earlier)).going) (sym (one_more s x earlier))
-    (next_uri (shown_so_far s earlier) w w.going s.arrival.key (last_after_all s earlier) x.signal (marks_next s x earlier) (is_offered phase) refl (unoffered s.site.bound phase w (law s earlier)) (last_shown law s earlier))
+    subst (λ uris. IsLast uris (watched_next x.now.at w s.arrival.key (last_after_all s earlier) x.signal (marks_next s x earlier)).going) (sym (one_more s x earlier))
+    (next_uri x.now.at (shown_so_far s earlier) w w.going s.arrival.key (last_after_all s earlier) x.signal (marks_next s x earlier) (is_offered phase) refl (unoffered s.site.bound (no_reply_after s earlier) phase w (law s earlier)) (last_shown law s earlier))
 
 -- ---- Outcome
 
@@ -185,18 +186,18 @@ pending (Stood x stage) answered result e offered = absurd cc
 pending (Lent loan) answered result e offered = absurd cc
 pending (Over cause) answered result e offered = absurd cc
 
-is_last : (bound : ℕ) (p : Phase) (w : Watch) (signs : List Sign) → IsSeen bound p w → (is_offered p ≡ true → IsLast (uris_in signs) w.going) → IsLastOf p signs
-is_last bound (Offered x) w signs seen last = last refl x.attempt.invitation.dialogue.target (ap uri_going seen.going ∙ ap Some (sym seen.uri))
-is_last bound (Stood x stage) w signs seen last = tt
-is_last bound (Lent loan) w signs seen last = tt
-is_last bound (Over cause) w signs seen last = tt
+is_last : (bound : ℕ) (time : Option ℕ) (p : Phase) (w : Watch) (signs : List Sign) → IsSeen bound time p w → (is_offered p ≡ true → IsLast (uris_in signs) w.going) → IsLastOf p signs
+is_last bound time (Offered x) w signs seen last = last refl x.attempt.invitation.dialogue.target (ap uri_going seen.going ∙ ap Some (sym seen.uri))
+is_last bound time (Stood x stage) w signs seen last = tt
+is_last bound time (Lent loan) w signs seen last = tt
+is_last bound time (Over cause) w signs seen last = tt
 
 pub targets_are_seen : AttemptsAreSeen → ComesToItsOutcome → ShowsItsOutcome → TargetsAreSeen
 targets_are_seen law comes shows s heard own =
     let c = call_after s heard in
     let o = outcome_after s heard in
     let signs = signs_of_targets (opening_in s) o.targets in
-    is_last s.site.bound c.phase (watch_after s heard) signs (law s heard) (λ offered.
+    is_last s.site.bound (no_reply_after s heard) c.phase (watch_after s heard) signs (law s heard) (λ offered.
     let same : signs_of s.arrival.key (emits_while_offered s heard) ≡ signs =
     shows s heard own ∙ ap (λ l. signs ++ l) (pending c.phase c.answered o.result (comes s heard) offered) ∙ append-nil signs in
     subst (λ l. IsLast (uris_in l) (watch_after s heard).going) same (last_shown law s heard))

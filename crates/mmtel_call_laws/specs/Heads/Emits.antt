@@ -1,9 +1,9 @@
--- What goes out of a step, clean: each message, and each text that is that of a message.
+-- What goes out of a step, clean: each message, and each text, which is that of an ACK.
 use Rattle.std.specs.Prelude.{◌≡◌, ℕ, List, [], ◌∷◌}
 use Rattle.mmtel_desk.specs.declared.desks.Desk.{Desk}
-use Rattle.mmtel_message.specs.Message.{Message}
+use Rattle.mmtel_leg.specs.Requests.{Given, ack_of}
+use Rattle.mmtel_leg.specs.declared.dialogues.Dialogue.{Dialogue}
 use Rattle.mmtel_message.specs.Texts.{message_text}
-use Rattle.mmtel_message.specs.declared.messages.Start.{Start}
 use Rattle.mmtel_transaction.specs.declared.words.Emit.{Emit}
 use Rattle.mmtel_transaction.specs.declared.words.Emit.TheVariants as emit
 use Rattle.mmtel_call_laws.specs.Heads.Clean.{IsClean, IsCleanMessage}
@@ -13,16 +13,17 @@ abbrev pub Each : {A : Type 0} → (A → Type 0) → List A → Type 0
 Each P [] = Unit {0}
 Each P (x ∷ xs) = P x × Each P xs
 
--- the text of a clean message
-pub record IsTextOfClean (text : List ℕ) : Type 0 where
-  pub message : Message Start
-  pub clean : IsCleanMessage message
-  pub is : text ≡ message_text message
+-- the text of an ACK in a dialog (RFC 3261 §13.2.2.4), which goes out by no transaction: it is that of a clean message, which was made of the dialog and of what it was given
+pub record IsTextOfAck (text : List ℕ) : Type 0 where
+  pub dialogue : Dialogue
+  pub given : Given
+  pub clean : IsCleanMessage (ack_of dialogue given)
+  pub is : text ≡ message_text (ack_of dialogue given)
 
 abbrev pub IsCleanEmit : Emit → Type 0
 IsCleanEmit (emit.Ask peer m) = IsCleanMessage m
 IsCleanEmit (emit.Reply key m) = IsCleanMessage m
-IsCleanEmit (emit.Plain peer text) = IsTextOfClean text
+IsCleanEmit (emit.Plain peer text) = IsTextOfAck text
 IsCleanEmit (emit.Ack key m) = IsCleanMessage m
 IsCleanEmit (emit.Arm call what at) = Unit {0}
 IsCleanEmit (emit.ArmSeat room seat what at) = Unit {0}

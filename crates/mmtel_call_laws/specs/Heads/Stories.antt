@@ -7,9 +7,9 @@ use Rattle.mmtel_types.specs.declared.sides.Side.{Side}
 use Rattle.mmtel_call.specs.declared.signals.Signal.{Signal}
 use Rattle.mmtel_call.specs.declared.signals.Signal.TheVariants as signal
 use Rattle.mmtel_call_laws.specs.Story.{Heard, Start, call_after, first_step, next_step}
-use Rattle.mmtel_message.specs.Message.{Message}
+use Rattle.mmtel_leg.specs.Requests.{Given, ack_of}
+use Rattle.mmtel_leg.specs.declared.dialogues.Dialogue.{Dialogue}
 use Rattle.mmtel_message.specs.Texts.{message_text}
-use Rattle.mmtel_message.specs.declared.messages.Start.{Start as StartLine}
 use Rattle.mmtel_transaction.specs.declared.words.Emit.{Emit}
 use Rattle.mmtel_transaction.specs.declared.words.Emit.TheVariants as emit
 use Rattle.mmtel_call_laws.specs.Heads.Clean.{HasOwnLines, IsClean}
@@ -62,7 +62,7 @@ FinishedEmitsAreClean = (s : Start) (heard : List Heard) (side : Side) (at : ℕ
 abbrev pub SendsOwnLines : Emit → Type 0
 SendsOwnLines (emit.Ask peer m) = HasOwnLines m
 SendsOwnLines (emit.Reply key m) = HasOwnLines m
-SendsOwnLines (emit.Plain peer text) = (m : Message StartLine) × (text ≡ message_text m) × HasOwnLines m
+SendsOwnLines (emit.Plain peer text) = (dialogue : Dialogue) × (given : Given) × (text ≡ message_text (ack_of dialogue given)) × HasOwnLines (ack_of dialogue given)
 SendsOwnLines (emit.Ack key m) = HasOwnLines m
 SendsOwnLines (emit.Arm call what at) = Unit {0}
 SendsOwnLines (emit.ArmSeat room seat what at) = Unit {0}

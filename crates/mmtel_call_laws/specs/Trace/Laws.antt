@@ -1,20 +1,45 @@
--- What is said of every story of a call, in the subject's words: what it keeps of its attempt is what went out and was heard.
+-- What is said of every story of a call, in the subject's words: what it keeps of its attempt is what went out and was heard, and when its deadlines are due (TS 24.604
+-- §4.5.2.6).
 use Rattle.std.specs.Prelude.{◌≡◌, ◌<◌, ◌≤◌, ◌^◌, ◌+◌, ◌-◌, ℕ, List, [], ◌∷◌, ◌++◌, Option, Some, None}
 use Rattle.mmtel_transaction.specs.declared.words.DueWord.{DueWord}
 use Rattle.mmtel_transaction.specs.declared.words.DueWord.TheVariants as due
+use Rattle.mmtel_call_decisions.specs.Decisions.{time_of}
 use Rattle.mmtel_call.specs.declared.calls.Phase.{Phase}
 use Rattle.mmtel_call.specs.declared.calls.Phase.TheVariants.{Lent, Offered, Over, Stood}
 use Rattle.mmtel_call.specs.declared.calls.Trial.{Trial}
 use Rattle.mmtel_call_laws.specs.Endings.{endings_after}
-use Rattle.mmtel_call_laws.specs.Known.{outcome_after}
+use Rattle.mmtel_call_laws.specs.Known.{known_after, last_record, outcome_after}
 use Rattle.mmtel_call_laws.specs.Shown.{Accepted, AreOwn, Invited, Refused, Sign, signs_of_targets}
 use Rattle.mmtel_call_laws.specs.Story.{Heard, Start, call_after, opening_in}
-use Rattle.mmtel_call_laws.specs.Trace.Seen.{Going, Watch, endings_seen, watch_after}
+use Rattle.mmtel_call_laws.specs.Trace.Seen.{Deadline, Going, Watch, endings_seen, rang, watch_after}
 
 -- it holds of each
 abbrev pub Each : {A : Type 0} → (A → Type 0) → List A → Type 0
 Each P [] = Unit {0}
 Each P (x ∷ xs) = P x × Each P xs
+
+-- ---- the deadlines of an attempt
+
+-- the longest time that it may take, in milliseconds
+abbrev pub longest : ℕ
+longest = 180000
+
+-- so long it may ring, where the record of the account that is served at the last target has a rule for no answer, as it stood when the call reached it
+abbrev pub no_reply_after : Start → List Heard → Option ℕ
+no_reply_after s heard = time_of (last_record (known_after s heard) 0 (outcome_after s heard).targets)
+
+abbrev pub no_reply_in : (number : ℕ) → (first : ℕ) → (time : Option ℕ) → List Deadline
+no_reply_in number first None = []
+no_reply_in number first (Some time) = record { what = due.NoReply number; at = first + time } ∷ []
+
+-- the no-reply time of the attempt of this number, where it rang: from the first moment at which it did
+abbrev pub no_reply_of : (number : ℕ) → (time : Option ℕ) → (rung : Option ℕ) → List Deadline
+no_reply_of number time None = []
+no_reply_of number time (Some first) = no_reply_in number first time
+
+-- the deadlines of the attempt of this number whose INVITE went out at this moment: the longest time from then, and the no-reply time
+abbrev pub deadlines_of : (number : ℕ) → (time : Option ℕ) → (since : ℕ) → (rung : Option ℕ) → List Deadline
+deadlines_of number time since rung = record { what = due.Cap number; at = since + longest } ∷ no_reply_of number time rung
 
 -- the number of a deadline
 abbrev pub number_of_deadline : DueWord → ℕ
@@ -22,8 +47,8 @@ number_of_deadline (due.NoReply number) = number
 number_of_deadline (due.Cap number) = number
 number_of_deadline (due.NoAck number) = number
 
--- the attempt is the one that is on its way, where the configuration has this bound on diversions
-pub record IsOnItsWay (bound : ℕ) (x : Trial) (w : Watch) : Type 0 where
+-- the attempt is the one that is on its way, where the configuration has this bound on diversions, and the record of the target's account this no-reply time
+pub record IsOnItsWay (bound : ℕ) (time : Option ℕ) (x : Trial) (w : Watch) : Type 0 where
   pub seen : Going
   pub going : w.going ≡ Some seen
   -- its INVITE is the one that went out: to that peer, which is the peer of the target's leg, with that Request-URI and that branch
@@ -31,25 +56,23 @@ pub record IsOnItsWay (bound : ℕ) (x : Trial) (w : Watch) : Type 0 where
   pub leg : x.callee.leg.dialogue.peer ≡ seen.peer
   pub uri : x.attempt.invitation.dialogue.target ≡ seen.uri
   pub branch : x.attempt.invitation.branch ≡ seen.branch
-  -- its number is that of the longest time that went out behind it, and of the no-reply time where that went out since,
-  pub others : List DueWord
-  pub armed : seen.armed ≡ due.Cap x.attempt.number ∷ others
-  pub same : Each (λ what. what ≡ due.NoReply x.attempt.number) others
+  -- the deadlines that went out since are its own, of its number, each at its moment: the longest time from its INVITE on, and no other but for the no-reply time where it rang
+  pub armed : seen.armed ≡ deadlines_of x.attempt.number time seen.since seen.rung
   -- and each deadline that went out before has a lower one: of a bound that is configured there are numbers enough
   pub few : x.attempt.number ≤ bound + 1
-  pub lower : bound < 2 ^ 64 - 2 → Each (λ what. number_of_deadline what < x.attempt.number) w.earlier
+  pub lower : bound < 2 ^ 64 - 2 → Each (λ deadline. number_of_deadline deadline.what < x.attempt.number) w.earlier
   -- it rang where a response to that INVITE said so
-  pub rang : x.attempt.rang ≡ seen.rang
+  pub rang : x.attempt.rang ≡ rang seen
 
 -- none is on its way but while the call is offered
-abbrev pub IsSeen : (bound : ℕ) → Phase → Watch → Type 0
-IsSeen bound (Offered x) w = IsOnItsWay bound x w
-IsSeen bound (Stood x stage) w = w.going ≡ None
-IsSeen bound (Lent loan) w = w.going ≡ None
-IsSeen bound (Over cause) w = w.going ≡ None
+abbrev pub IsSeen : (bound : ℕ) → (time : Option ℕ) → Phase → Watch → Type 0
+IsSeen bound time (Offered x) w = IsOnItsWay bound time x w
+IsSeen bound time (Stood x stage) w = w.going ≡ None
+IsSeen bound time (Lent loan) w = w.going ≡ None
+IsSeen bound time (Over cause) w = w.going ≡ None
 
 abbrev pub AttemptsAreSeen : Type 0
-AttemptsAreSeen = (s : Start) (heard : List Heard) → IsSeen s.site.bound (call_after s heard).phase (watch_after s heard)
+AttemptsAreSeen = (s : Start) (heard : List Heard) → IsSeen s.site.bound (no_reply_after s heard) (call_after s heard).phase (watch_after s heard)
 
 -- so how attempts ended is told by what went out and was heard alone
 abbrev pub EndingsAreSeen : Type 0

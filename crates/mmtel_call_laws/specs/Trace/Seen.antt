@@ -1,6 +1,7 @@
--- What is seen of a call from outside, while it is offered: the INVITEs to its targets and the deadlines that go out, and what is heard. By these alone it is told which
--- attempt is on its way, and how attempts ended (RFC 3261 §9, §13.2.1, §15, §17.1.1, §17.1.3 and §21, TS 24.604 §4.5.2.6).
-use Rattle.std.specs.Prelude.{ℕ, ◌==◌, ◌&&◌, ◌||◌, not, Bool, false, if◌then◌else◌, Option, Some, None, List, [], ◌∷◌, ◌++◌, codes, is_ok, option_to_list}
+-- What is seen of a call from outside, while it is offered: the INVITEs to its targets and the deadlines that go out, each with its moment, and what is heard. By these
+-- alone it is told which attempt is on its way, since when and when it rang, and how attempts ended (RFC 3261 §9, §13.2.1, §15, §17.1.1, §17.1.3 and §21, TS 24.604
+-- §4.5.2.6).
+use Rattle.std.specs.Prelude.{ℕ, ◌==◌, ◌&&◌, not, Bool, false, if◌then◌else◌, Option, Some, None, List, [], ◌∷◌, ◌++◌, codes, is_ok, is_some, option_to_list}
 use Rattle.std.specs.List.{list_any}
 use Rattle.std.specs.Option.{option_map, unwrap_or}
 use Rattle.std.specs.Str.{bytes_eq}
@@ -37,20 +38,20 @@ use Rattle.mmtel_call_laws.specs.Story.{Heard, Start, added, call_after, first_s
 
 -- ---- what is seen of what goes out
 
--- an INVITE, to this peer, with this Request-URI and this branch; and a deadline of an attempt
+-- an INVITE, to this peer, with this Request-URI and this branch; and a deadline of an attempt, due at this moment
 pub data Mark : Type 0 where
   Invited : (peer : Peer) → (uri branch : List ℕ) → Mark
-  Armed : (what : DueWord) → Mark
+  Armed : (what : DueWord) → (at : ℕ) → Mark
 
 -- the branch of a request of the server, behind its cookie: what stands behind all else of the server's Via (RFC 3261 §8.1.1.7)
 abbrev pub branch_of : Addr → Message StartLine → List ℕ
 branch_of sip m = unwrap_or (after_text (via_text sip []) (field (codes "Via") m.lines)) []
 
 -- the no-reply time and the longest time are those of an attempt
-abbrev pub mark_of_deadline : DueWord → List Mark
-mark_of_deadline (due.NoReply number) = Armed (due.NoReply number) ∷ []
-mark_of_deadline (due.Cap number) = Armed (due.Cap number) ∷ []
-mark_of_deadline (due.NoAck number) = []
+abbrev pub mark_of_deadline : DueWord → (at : ℕ) → List Mark
+mark_of_deadline (due.NoReply number) at = Armed (due.NoReply number) at ∷ []
+mark_of_deadline (due.Cap number) at = Armed (due.Cap number) at ∷ []
+mark_of_deadline (due.NoAck number) at = []
 
 -- where the call has this number
 abbrev pub mark_of : Addr → CallNo → Emit → List Mark
@@ -58,7 +59,7 @@ mark_of sip own (emit.Ask peer m) = if is_method (codes "INVITE") m.start then I
 mark_of sip own (emit.Reply asked m) = []
 mark_of sip own (emit.Plain peer text) = []
 mark_of sip own (emit.Ack asked m) = []
-mark_of sip own (emit.Arm call what at) = if call.0 == own.0 then mark_of_deadline what else []
+mark_of sip own (emit.Arm call what at) = if call.0 == own.0 then mark_of_deadline what at else []
 mark_of sip own (emit.ArmSeat room seat what at) = []
 
 abbrev pub marks_of : Addr → CallNo → List Emit → List Mark
@@ -67,38 +68,50 @@ marks_of sip own (e ∷ later) = mark_of sip own e ++ marks_of sip own later
 
 -- ---- the attempt that is on its way
 
+-- a deadline, and the moment at which it is due
+pub record Deadline : Type 0 where
+  pub what : DueWord
+  pub at : ℕ
+
 pub record Going : Type 0 where
   -- of its INVITE: to whom it went, with which Request-URI and which branch
   pub peer : Peer
   pub uri : List ℕ
   pub branch : List ℕ
+  -- the moment of the step in which it went out
+  pub since : ℕ
   -- the deadlines that went out since, in order
-  pub armed : List DueWord
-  -- a response that says that the target rings was heard since
-  pub rang : Bool
+  pub armed : List Deadline
+  -- the moment at which a response was first heard since which says that the target rings, if one was
+  pub rung : Option ℕ
+
+abbrev pub rang : Going → Bool
+rang g = is_some g.rung
 
 pub record Watch : Type 0 where
   -- the deadlines of those before
-  pub earlier : List DueWord
+  pub earlier : List Deadline
   -- the one that is on its way, if one is
   pub going : Option Going
 
-abbrev pub armed_in : Option Going → List DueWord
+abbrev pub armed_in : Option Going → List Deadline
 armed_in None = []
 armed_in (Some g) = g.armed
 
-abbrev pub with_armed : DueWord → Going → Going
-with_armed what g = record g { armed = g.armed ++ what ∷ [] }
+abbrev pub with_armed : Deadline → Going → Going
+with_armed deadline g = record g { armed = g.armed ++ deadline ∷ [] }
 
--- an INVITE that goes out begins one
-abbrev pub on_mark : Watch → Mark → Watch
-on_mark w (Invited peer uri branch) =
-    record { earlier = w.earlier ++ armed_in w.going; going = Some (record { peer = peer; uri = uri; branch = branch; armed = []; rang = false }) }
-on_mark w (Armed what) = record w { going = option_map (with_armed what) w.going }
+-- in a step at this moment; an INVITE that goes out begins one
+abbrev pub on_mark : (now : ℕ) → Watch → Mark → Watch
+on_mark now w (Invited peer uri branch) = record {
+  earlier = w.earlier ++ armed_in w.going;
+  going = Some (record { peer = peer; uri = uri; branch = branch; since = now; armed = []; rung = None });
+}
+on_mark now w (Armed what at) = record w { going = option_map (with_armed (record { what = what; at = at })) w.going }
 
-abbrev pub on_marks : Watch → List Mark → Watch
-on_marks w [] = w
-on_marks w (mark ∷ later) = on_marks (on_mark w mark) later
+abbrev pub on_marks : (now : ℕ) → Watch → List Mark → Watch
+on_marks now w [] = w
+on_marks now w (mark ∷ later) = on_marks now (on_mark now w mark) later
 
 -- ---- what is heard of it
 
@@ -115,6 +128,11 @@ rings_by g (signal.Answer key response) = rings_by_answer g response (invite_ans
 rings_by g (signal.Silent branch method) = false
 rings_by g (signal.Due what) = false
 rings_by g (signal.Ended key) = false
+
+-- the first moment at which one did
+abbrev pub first_rung : (now : ℕ) → (before : Option ℕ) → (rings : Bool) → Option ℕ
+first_rung now (Some first) rings = Some first
+first_rung now None rings = if rings then Some now else None
 
 -- ---- the requests of the caller that are in order: its last number, and what it is after one more (RFC 3261 §12.2.2)
 
@@ -147,12 +165,12 @@ last_after_all s (x ∷ earlier) = last_by (last_after_all s earlier) x.signal
 -- a response to its INVITE, by its status
 abbrev pub ends_by_answer : Going → Said → Option (List ℕ) → Option End
 ends_by_answer g m None = None
-ends_by_answer g m (Some branch) = if bytes_eq g.branch branch then end_by_response (status_of m.heard.start) (redirect_of m) g.rang else None
+ends_by_answer g m (Some branch) = if bytes_eq g.branch branch then end_by_response (status_of m.heard.start) (redirect_of m) (rang g) else None
 
 -- no response at all to it; one that rang had one
 abbrev pub ends_by_silence : Going → Option (List ℕ) → Option End
 ends_by_silence g None = None
-ends_by_silence g (Some branch) = if bytes_eq g.branch branch && not g.rang then end_by events.Silence g.rang else None
+ends_by_silence g (Some branch) = if bytes_eq g.branch branch && not (rang g) then end_by events.Silence (rang g) else None
 
 -- a deadline that has the number of one that went out for it
 abbrev pub carries : ℕ → DueWord → Bool
@@ -160,24 +178,24 @@ carries number (due.NoReply other) = number == other
 carries number (due.Cap other) = number == other
 carries number (due.NoAck other) = false
 
-abbrev pub is_armed : ℕ → List DueWord → Bool
-is_armed number armed = list_any (carries number) armed
+abbrev pub is_armed : ℕ → List Deadline → Bool
+is_armed number armed = list_any (λ deadline. carries number deadline.what) armed
 
 abbrev pub ends_by_deadline : Going → DueWord → Option End
-ends_by_deadline g (due.NoReply number) = if is_armed number g.armed then end_by events.NoReplyTime g.rang else None
-ends_by_deadline g (due.Cap number) = if is_armed number g.armed then end_by events.LongestTime g.rang else None
+ends_by_deadline g (due.NoReply number) = if is_armed number g.armed then end_by events.NoReplyTime (rang g) else None
+ends_by_deadline g (due.Cap number) = if is_armed number g.armed then end_by events.LongestTime (rang g) else None
 ends_by_deadline g (due.NoAck number) = None
 
 -- the BYE of the caller, where it is in order
 abbrev pub ends_by_request : (last : Option ℕ) → Going → Side → Said → Option End
-ends_by_request last g Caller m = if in_order last m && is_bye m then end_by events.CallerGaveUp g.rang else None
+ends_by_request last g Caller m = if in_order last m && is_bye m then end_by events.CallerGaveUp (rang g) else None
 ends_by_request last g Callee m = None
 
 -- where the INVITE that opened the call is of this server transaction, and this was the last number of its caller
 abbrev pub ends_by : (key : TKey) → (last : Option ℕ) → Going → Signal → Option End
 ends_by key last g (signal.Request side asked request) = ends_by_request last g side request
 ends_by key last g (signal.Ack side ack) = None
-ends_by key last g (signal.Cancel asked cancel invite) = if invite.0 == key.0 then end_by events.CallerGaveUp g.rang else None
+ends_by key last g (signal.Cancel asked cancel invite) = if invite.0 == key.0 then end_by events.CallerGaveUp (rang g) else None
 ends_by key last g (signal.Answer asked response) = ends_by_answer g response (invite_answered response)
 ends_by key last g (signal.Silent branch method) = ends_by_silence g (invite_silent branch method)
 ends_by key last g (signal.Due what) = ends_by_deadline g what
@@ -190,17 +208,17 @@ ends_watched key last (Some g) heard = ends_by key last g heard
 
 -- ---- in a story: what was heard, and then what went out in that step
 
-abbrev pub after_hearing : Watch → Going → Signal → Option End → Watch
-after_hearing w g heard None = record w { going = Some (record g { rang = g.rang || rings_by g heard }) }
-after_hearing w g heard (Some how) = record { earlier = w.earlier ++ g.armed; going = None }
+abbrev pub after_hearing : (now : ℕ) → Watch → Going → Signal → Option End → Watch
+after_hearing now w g heard None = record w { going = Some (record g { rung = first_rung now g.rung (rings_by g heard) }) }
+after_hearing now w g heard (Some how) = record { earlier = w.earlier ++ g.armed; going = None }
 
 -- once none is on its way, none comes
-abbrev pub watched_from : Watch → Option Going → (key : TKey) → (last : Option ℕ) → Signal → List Mark → Watch
-watched_from w None key last heard marks = w
-watched_from w (Some g) key last heard marks = on_marks (after_hearing w g heard (ends_by key last g heard)) marks
+abbrev pub watched_from : (now : ℕ) → Watch → Option Going → (key : TKey) → (last : Option ℕ) → Signal → List Mark → Watch
+watched_from now w None key last heard marks = w
+watched_from now w (Some g) key last heard marks = on_marks now (after_hearing now w g heard (ends_by key last g heard)) marks
 
-abbrev pub watched_next : Watch → (key : TKey) → (last : Option ℕ) → Signal → List Mark → Watch
-watched_next w key last heard marks = watched_from w w.going key last heard marks
+abbrev pub watched_next : (now : ℕ) → Watch → (key : TKey) → (last : Option ℕ) → Signal → List Mark → Watch
+watched_next now w key last heard marks = watched_from now w w.going key last heard marks
 
 abbrev pub nothing_yet : Watch
 nothing_yet = record { earlier = []; going = None }
@@ -213,8 +231,8 @@ abbrev pub marks_next : Start → Heard → List Heard → List Mark
 marks_next s x earlier = marks_of s.site.sip s.arrival.number (added x.desk.out (next_step s x (call_after s earlier)).desk.out)
 
 unfoldable pub watch_after : Start → List Heard → Watch
-watch_after s [] = on_marks nothing_yet (marks_first s)
-watch_after s (x ∷ earlier) = watched_next (watch_after s earlier) s.arrival.key (last_after_all s earlier) x.signal (marks_next s x earlier)
+watch_after s [] = on_marks s.now.at nothing_yet (marks_first s)
+watch_after s (x ∷ earlier) = watched_next x.now.at (watch_after s earlier) s.arrival.key (last_after_all s earlier) x.signal (marks_next s x earlier)
 
 -- ---- how attempts ended, one after the other
 

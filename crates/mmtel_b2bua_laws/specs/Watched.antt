@@ -1,0 +1,75 @@
+-- What is seen of a life from outside: what it shows in each step, and its attempts, by what goes out and is heard while it is offered (RFC 3261 §13.2.1, §13.3.1, §14 and §21).
+-- A leg that is taken out or put back, or the end without one, is of an answered call, of which no attempt is on its way.
+use Rattle.std.specs.Prelude.{ℕ, Option, List, [], ◌∷◌, ◌++◌, option_to_list}
+use Rattle.std.specs.Option.{option_map}
+use Rattle.mmtel_precedence.specs.Calls.{Ended}
+use Rattle.mmtel_transaction.specs.declared.words.Emit.{Emit}
+use Rattle.mmtel_transaction.specs.declared.words.TKey.{TKey}
+use Rattle.mmtel_call_decisions.specs.Decisions.{time_of}
+use Rattle.mmtel_call.specs.declared.calls.Call.{Call}
+use Rattle.mmtel_call_laws.specs.Endings.{ended_at}
+use Rattle.mmtel_call_laws.specs.Known.{last_record}
+use Rattle.mmtel_call_laws.specs.Shown.{Sign, shown_by, signs_of}
+use Rattle.mmtel_call_laws.specs.Story.{Start, added, first_step}
+use Rattle.mmtel_call_laws.specs.Trace.Seen.{Going, Mark, Watch, ends_watched, first_last, last_by, marks_first, marks_of, nothing_yet, on_marks, watched_next}
+use Rattle.mmtel_b2bua_laws.specs.Known.{known_after, outcome_after}
+use Rattle.mmtel_b2bua_laws.specs.Lives.{Event, Finishes, Hears, Releases, Restores, call_after, emits_by}
+
+-- ---- what it shows: INVITEs to its targets, and finals to its caller
+
+-- of what goes out as this comes to it, but for an INVITE that a side sends within the call and that the other one has too
+abbrev pub shown_in : (key : TKey) → Event → List Emit → List Sign
+shown_in key (Hears x) out = shown_by key x.signal out
+shown_in key (Releases side) out = signs_of key out
+shown_in key (Restores away) out = signs_of key out
+shown_in key (Finishes at desk) out = signs_of key out
+
+-- in its whole life, in order
+unfoldable pub signs_after : Start → List Event → List Sign
+signs_after s [] = signs_of s.arrival.key (added s.desk.out (first_step s).desk.out)
+signs_after s (x ∷ earlier) = signs_after s earlier ++ shown_in s.arrival.key x (emits_by s.site x (call_after s earlier))
+
+-- ---- the attempt that is on its way
+
+-- the number of the last request of the caller that was in order
+abbrev pub last_in : Option ℕ → Event → Option ℕ
+last_in last (Hears x) = last_by last x.signal
+last_in last (Releases side) = last
+last_in last (Restores away) = last
+last_in last (Finishes at desk) = last
+
+unfoldable pub last_after : Start → List Event → Option ℕ
+last_after s [] = first_last s
+last_after s (x ∷ earlier) = last_in (last_after s earlier) x
+
+-- the INVITEs and deadlines that go out as this comes to it
+abbrev pub marks_in : Start → Event → Call → List Mark
+marks_in s x c = marks_of s.site.sip s.arrival.number (emits_by s.site x c)
+
+abbrev pub watched_in : Watch → (key : TKey) → (last : Option ℕ) → Event → List Mark → Watch
+watched_in w key last (Hears x) marks = watched_next x.now.at w key last x.signal marks
+watched_in w key last (Releases side) marks = w
+watched_in w key last (Restores away) marks = w
+watched_in w key last (Finishes at desk) marks = w
+
+unfoldable pub watch_after : Start → List Event → Watch
+watch_after s [] = on_marks s.now.at nothing_yet (marks_first s)
+watch_after s (x ∷ earlier) = watched_in (watch_after s earlier) s.arrival.key (last_after s earlier) x (marks_in s x (call_after s earlier))
+
+-- ---- how attempts ended, by that alone
+
+abbrev pub ends_in : (key : TKey) → (last : Option ℕ) → Option Going → Event → List Ended
+ends_in key last going (Hears x) = option_to_list (option_map (ended_at x.now.at) (ends_watched key last going x.signal))
+ends_in key last going (Releases side) = []
+ends_in key last going (Restores away) = []
+ends_in key last going (Finishes at desk) = []
+
+unfoldable pub endings_seen : Start → List Event → List Ended
+endings_seen s [] = []
+endings_seen s (x ∷ earlier) = endings_seen s earlier ++ ends_in s.arrival.key (last_after s earlier) (watch_after s earlier).going x
+
+-- ---- how long it may ring
+
+-- where the record of the account that is served at the last target has a rule for no answer, as it stood when the call reached it
+abbrev pub no_reply_after : Start → List Event → Option ℕ
+no_reply_after s events = time_of (last_record (known_after s events) 0 (outcome_after s events).targets)

@@ -1,0 +1,56 @@
+-- Calls reply in the server transactions of their own requests.
+use Rattle.std.proofs.Common.{◌≡◌, true, ℕ, Bool, List}
+use Rattle.mmtel_call.specs.Closing.{Step}
+use Rattle.mmtel_call.specs.Lending.{lent_at, lent_in, put_back_in}
+use Rattle.mmtel_call.specs.declared.calls.Call.{Call}
+use Rattle.mmtel_call.specs.declared.calls.Pair.{Pair}
+use Rattle.mmtel_call.specs.declared.calls.Phase.{Phase}
+use Rattle.mmtel_call.specs.declared.calls.Phase.TheVariants.{Lent, Offered, Over, Stood}
+use Rattle.mmtel_call.specs.declared.calls.Stage.{Stage}
+use Rattle.mmtel_call.specs.declared.calls.Stage.TheVariants.{Answered, Asking, Parting, Talking}
+use Rattle.mmtel_call_decisions.specs.Site.{Site}
+use Rattle.mmtel_leg.specs.declared.legs.Released.{Released}
+use Rattle.mmtel_types.specs.declared.sides.Side.{Side}
+use Rattle.mmtel_call_laws.specs.Replies.{CallIsOf, EndsReplyInTheirOwn, LentCallsKeepTheirOwn, OpeningsReplyInTheirOwn, PhaseIsOf, RepliesIn, ReturnedCallsKeepTheirOwn, StageIsOf, StepsReplyInTheirOwn}
+mod Rows
+use Rattle.mmtel_call_laws.proofs.Replies.Rows as rows
+
+module _ (own : ℕ → Bool) (site : Site) where
+  in_own : (s : Step) → rows.Good own site s → RepliesIn own s
+  in_own s is = record { call_in = is.call_in; out_in = is.desk_in }
+
+pub steps_reply_in_their_own : StepsReplyInTheirOwn
+steps_reply_in_their_own own site now heard c desk is a had = in_own own site _ (rows.step_good own site now heard c desk a is.phase is.opening had)
+
+pub openings_reply_in_their_own : OpeningsReplyInTheirOwn
+openings_reply_in_their_own own site now arrival desk is had = in_own own site _ (rows.opened_good own site now arrival desk is had)
+
+pub ends_reply_in_their_own : EndsReplyInTheirOwn
+ends_reply_in_their_own own site at c desk is had = in_own own site _ (rows.finished_good own site at c desk is.phase is.opening had)
+
+-- ---- a leg is taken out, or put back
+
+module _ (own : ℕ → Bool) where
+  lent_at_own : (stage : Stage) (side : Side) (x : Pair) (c : Call) → StageIsOf own stage → own c.opening.key.0 ≡ true → CallIsOf own (lent_at stage side x (record c { phase = Stood x stage }))
+  lent_at_own (Answered waiting success) side x c p k = record { opening = k; phase = p }
+  lent_at_own (Parting waiting success) side x c p k = record { opening = k; phase = p }
+  lent_at_own Talking side x c p k = record { opening = k; phase = tt }
+  lent_at_own (Asking asking q) side x c p k = record { opening = k; phase = p }
+
+  lent_own : (p : Phase) (side : Side) (c : Call) → PhaseIsOf own p → own c.opening.key.0 ≡ true → CallIsOf own (lent_in p side (record c { phase = p }))
+  lent_own (Offered x) side c p k = record { opening = k; phase = p }
+  lent_own (Stood x stage) side c p k = lent_at_own stage side x c p k
+  lent_own (Lent loan) side c p k = record { opening = k; phase = p }
+  lent_own (Over cause) side c p k = record { opening = k; phase = p }
+
+  back_own : (p : Phase) (away : Released) (c : Call) → PhaseIsOf own p → own c.opening.key.0 ≡ true → CallIsOf own (put_back_in p away (record c { phase = p }))
+  back_own (Offered x) away c p k = record { opening = k; phase = p }
+  back_own (Stood x stage) away c p k = record { opening = k; phase = p }
+  back_own (Lent loan) away c p k = record { opening = k; phase = tt }
+  back_own (Over cause) away c p k = record { opening = k; phase = p }
+
+pub lent_keep_their_own : LentCallsKeepTheirOwn
+lent_keep_their_own own side c is = lent_own own c.phase side c is.phase is.opening
+
+pub returned_keep_their_own : ReturnedCallsKeepTheirOwn
+returned_keep_their_own own away c is = back_own own c.phase away c is.phase is.opening

@@ -1,0 +1,32 @@
+-- In which server transactions rooms reply: in that of the request that is heard, or of the INVITE by which somebody comes, at once (RFC 3261 §8.2.6, §17.2).
+use Rattle.std.specs.Prelude.{◌≡◌, true, ℕ, Bool}
+use Rattle.mmtel_call_laws.specs.Heads.Emits.{Each}
+use Rattle.mmtel_call_laws.specs.Replies.{IsRepliedIn}
+use Rattle.mmtel_focus.specs.Histories.{Deed, Opens, Joins, Adopts, Notifies, Hears, Leaves, Closes, Drops, effects_of}
+use Rattle.mmtel_focus.specs.Site.{Site}
+use Rattle.mmtel_focus.specs.Table.{Table}
+use Rattle.mmtel_focus.specs.declared.signals.RoomSignal.{RoomSignal}
+use Rattle.mmtel_focus.specs.declared.signals.RoomSignal.TheVariants as signal
+
+-- a request that is heard is of these transactions
+abbrev pub SignalIsOf : (own : ℕ → Bool) → RoomSignal → Type 0
+SignalIsOf own (signal.Request room seat key request) = own key.0 ≡ true
+SignalIsOf own (signal.Ack room seat ack) = Unit {0}
+SignalIsOf own (signal.Answer key response) = Unit {0}
+SignalIsOf own (signal.Silent branch method) = Unit {0}
+SignalIsOf own (signal.Due room seat what) = Unit {0}
+SignalIsOf own (signal.Over key) = Unit {0}
+
+abbrev pub DeedIsOf : (own : ℕ → Bool) → Deed → Type 0
+DeedIsOf own (Opens coming) = own coming.key.0 ≡ true
+DeedIsOf own (Joins room coming) = own coming.key.0 ≡ true
+DeedIsOf own (Adopts room adoption) = Unit {0}
+DeedIsOf own (Notifies room seat code tokens) = Unit {0}
+DeedIsOf own (Hears heard) = SignalIsOf own heard.signal
+DeedIsOf own (Leaves room seat) = Unit {0}
+DeedIsOf own (Closes room) = Unit {0}
+DeedIsOf own (Drops count) = Unit {0}
+
+-- so each reply of the deed is in them, however the rooms stand; rooms keep no request to answer it later
+abbrev pub RoomsReplyInTheirOwn : Type 0
+RoomsReplyInTheirOwn = (own : ℕ → Bool) (site : Site) (deed : Deed) (table : Table) → DeedIsOf own deed → Each (IsRepliedIn own) (effects_of site deed table).desk.out

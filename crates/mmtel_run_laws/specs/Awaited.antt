@@ -1,0 +1,21 @@
+-- The server transaction of the INVITE that opened a call, until a final is offered in it: it is live, so what the call answers goes to the peer who sent that (RFC 3261 §17.2.1).
+use Rattle.std.specs.Prelude.{◌≡◌, ℕ, ◌==◌, ◌&&◌, not, Bool, false, Some}
+use Rattle.std.specs.List.{list_any}
+use Rattle.mmtel_call_laws.specs.Story.{Start}
+use Rattle.mmtel_run.specs.World.{World}
+use Rattle.mmtel_transaction.specs.Answers.{peer_of}
+use Rattle.mmtel_transaction.specs.Calls.{Done, DidAck, DidAsk, DidBegin, DidFire, DidHear, DidReply, live}
+use Rattle.mmtel_transaction.specs.Heads.{head_of, is_provisional}
+
+-- a final response is offered in the transaction of this number
+abbrev pub is_final_in : (key : ℕ) → Done → Bool
+is_final_in key (DidBegin step) = false
+is_final_in key (DidHear p m now taken) = false
+is_final_in key (DidAsk p m now) = false
+is_final_in key (DidReply other m now) = other == key && not (is_provisional (head_of m).status)
+is_final_in key (DidAck other m) = false
+is_final_in key (DidFire other) = false
+
+-- as long as none was
+abbrev pub AwaitsItsFinal : World → Start → Type 0
+AwaitsItsFinal world s = list_any (is_final_in s.arrival.key.0) world.acts ≡ false → peer_of s.arrival.key.0 (live world.acts) ≡ Some s.arrival.invite.peer

@@ -55,6 +55,6 @@ prepares_none words told link keeper later near before all = inl (record {
 })
 
 -- for want of memory
-pub prepares_short : {L K : Type 0} (words : List (List ℕ)) (told : Option Shelf) (link : LinkSeen) (keeper later : KeeperSeen) (near : L) (before : K)
-    → Prepares words told told link link keeper later near near before before Memory
-prepares_short words told link keeper later near before = inr (record { memory = refl; calls = refl; spared = refl; unbound = refl; taking = refl })
+pub prepares_short : {L K : Type 0} (words : List (List ℕ)) (told : Option Shelf) (link : LinkSeen) (keeper : KeeperSeen) (near : L) (before : K)
+    → Prepares words told told link link keeper keeper near near before before Memory
+prepares_short words told link keeper near before = inr (record { memory = refl; calls = refl; spared = refl; kept = refl; unbound = refl; unheard = refl })

@@ -1,11 +1,13 @@
 -- What the files gave, stage by stage.
 use Rattle.std.proofs.Common.{◌≡◌, ℕ, List, refl, sym, subst, Option, Some, None, Result, Ok, Err, IfSome}
 use Rattle.mmtel_directory.specs.Directory.{directory_of}
-use Rattle.mmtel_cli.specs.Due.{due_of_charges, due_of_records, due_of_script, shelf_of_config, shelf_of_directory}
+use Rattle.mmtel_cli.proofs.Stopping.{stopped_untouched}
+use Rattle.mmtel_cli.specs.Due.{due_of_charges, due_of_config, due_of_directory, due_of_records, due_of_script, shelf_of_config, shelf_of_directory}
 use Rattle.mmtel_cli.specs.Found.{HasCalled, IsDue}
 use Rattle.mmtel_cli.specs.Gives.{GivesScript, GivesBoth, GivesRecords, GivesCharges, GivesServe, ServesConfig, ServesDirectory}
 use Rattle.mmtel_cli.specs.Keeping.{KeeperSeen}
 use Rattle.mmtel_cli.specs.Serving.{LinkSeen}
+use Rattle.mmtel_cli.specs.Stopped.{UnservedReading}
 use Rattle.mmtel_outside.specs.Shelf.{Shelf, answer_at, called, ReadsTold}
 use Rattle.mmtel_words.specs.CommandLine.{Asked}
 use Rattle.mmtel_directory.specs.declared.directories.Directory.{Directory}
@@ -74,13 +76,6 @@ module _ (keeper later : KeeperSeen) where
     is_due = rw e refl;
   }
 
-  pub gives_memory : (told : Option Shelf) (asked : Asked) (directory : Result Directory ℕ) → GivesScript told keeper later asked directory Memory
-  gives_memory told asked directory = record {
-    script = told_answer told asked.script;
-    told_script = told_answer-is told asked.script;
-    is_due = tt;
-  }
-
   pub gives_config : (told after : Option Shelf) (asked : Asked) (config : List ℕ) (outcome : Report)
       → ReadsTold told after asked.config (Ok config) → GivesScript after keeper later asked (directory_of config) outcome → GivesBoth told keeper later asked outcome
   gives_config told after asked config outcome h k = record {
@@ -100,15 +95,6 @@ module _ (keeper later : KeeperSeen) where
     is_due = refl;
   }
 
-  pub gives_no_memory : (told : Option Shelf) (asked : Asked) → GivesBoth told keeper later asked Memory
-  gives_no_memory told asked = record {
-    config = told_answer told asked.config;
-    script = told_next told asked.script;
-    told_config = told_answer-is told asked.config;
-    told_script = told_next-is told asked.script;
-    is_due = tt;
-  }
-
 -- the calls that were made once the configuration's text was there
 pub called_config : (told mid after : Option Shelf) (name config : List ℕ) (outcome : Report) → ReadsTold told mid name (Ok config)
     → IfSome mid (λ shelf. HasCalled outcome after shelf (shelf_of_directory shelf (directory_of config)))
@@ -122,27 +108,22 @@ called_config (Some shelf) mid after name config outcome h k =
 -- ---- of `check`
 
 pub gives_text : (told after : Option Shelf) (records text : List ℕ) (outcome : Report)
-    → ReadsTold told after records (Ok text) → ((keeper later : KeeperSeen) → IsDue keeper later outcome (due_of_records (Some text))) → GivesRecords told records outcome
+    → ReadsTold told after records (Ok text) → ((keeper : KeeperSeen) → IsDue keeper keeper outcome (due_of_records (Some text))) → GivesRecords told records outcome
 gives_text told after records text outcome h d = record { text = Some text; told_text = some-is told after records text h; is_due = d }
 
 pub gives_no_text : (told after : Option Shelf) (records : List ℕ) → ReadsTold told after records (Err Failed) → GivesRecords told records File
-gives_no_text told after records h = record { text = None; told_text = none-is told after records h; is_due = λ keeper. λ later. refl }
+gives_no_text told after records h = record { text = None; told_text = none-is told after records h; is_due = λ keeper. refl }
 
 pub gives_unread : (told : Option Shelf) (records : List ℕ) → GivesRecords told records Memory
-gives_unread told records = record { text = told_answer told records; told_text = told_answer-is told records; is_due = λ keeper. λ later. tt }
+gives_unread told records = record { text = told_answer told records; told_text = told_answer-is told records; is_due = λ keeper. stopped_untouched keeper (due_of_records (told_answer told records)) }
 
 -- ---- of `charges`
 
 module _ (keeper later : KeeperSeen) where
   pub gives_charges : (told after : Option Shelf) (name config : List ℕ) (outcome : Report)
-      → ReadsTold told after name (Ok config) → IsDue keeper later outcome (due_of_charges (Some config)) → GivesCharges told keeper later name outcome
-  gives_charges told after name config outcome h d = record { text = Some config; told_text = some-is told after name config h; is_due = d }
-
-  pub gives_no_charges : (told after : Option Shelf) (name : List ℕ) → ReadsTold told after name (Err Failed) → GivesCharges told keeper later name File
-  gives_no_charges told after name h = record { text = None; told_text = none-is told after name h; is_due = refl }
-
-  pub gives_unread_charges : (told : Option Shelf) (name : List ℕ) → GivesCharges told keeper later name Memory
-  gives_unread_charges told name = record { text = told_answer told name; told_text = told_answer-is told name; is_due = tt }
+      → ReadsTold told after name (Ok config) → IsDue keeper later outcome (due_of_charges (Some config)) → later.held ≡ keeper.held
+      → GivesCharges told keeper later name outcome
+  gives_charges told after name config outcome h d same = record { text = Some config; told_text = some-is told after name config h; is_due = d; held = same }
 
 -- ---- of `serve`
 
@@ -152,22 +133,57 @@ module _ (link far : LinkSeen) (keeper later : KeeperSeen) where
       GivesServe told link far keeper later name token turns outcome
   gives_serve told after name config token turns outcome h d = record { text = Some config; told_text = some-is told after name config h; is_due = d }
 
-  pub gives_no_serve : (told after : Option Shelf) (name token : List ℕ) (turns : ℕ) → ReadsTold told after name (Err Failed)
-      → GivesServe told link far keeper later name token turns File
-  gives_no_serve told after name token turns h = record { text = None; told_text = none-is told after name h; is_due = refl }
+-- ---- where memory ran out, or a file could not be read, and nothing was asked of the keeper and of the link
 
-  -- for want of memory there is nothing to be said of the configuration
-  pub serves_short : (directory : Result Directory ℕ) (token : List ℕ) (turns : ℕ) → ServesDirectory directory token turns link far keeper later Memory
-  serves_short (Ok directory) token turns = tt
-  serves_short (Err line) token turns = tt
+module _ (keeper : KeeperSeen) where
+  pub gives_memory : (told : Option Shelf) (asked : Asked) (directory : Result Directory ℕ) → GivesScript told keeper keeper asked directory Memory
+  gives_memory told asked directory = record {
+    script = told_answer told asked.script;
+    told_script = told_answer-is told asked.script;
+    is_due = stopped_untouched keeper (due_of_directory directory asked.token (told_answer told asked.script));
+  }
 
-  unread_config : (config : Option (List ℕ)) (token : List ℕ) (turns : ℕ) → ServesConfig config token turns link far keeper later Memory
-  unread_config None token turns = tt
-  unread_config (Some config) token turns = serves_short (directory_of config) token turns
+  pub gives_no_memory : (told : Option Shelf) (asked : Asked) → GivesBoth told keeper keeper asked Memory
+  gives_no_memory told asked = record {
+    config = told_answer told asked.config;
+    script = told_next told asked.script;
+    told_config = told_answer-is told asked.config;
+    told_script = told_next-is told asked.script;
+    is_due = stopped_untouched keeper (due_of_config (told_answer told asked.config) asked.token (told_next told asked.script));
+  }
 
-  pub gives_unread_serve : (told : Option Shelf) (name token : List ℕ) (turns : ℕ) → GivesServe told link far keeper later name token turns Memory
-  gives_unread_serve told name token turns = record {
+  pub gives_no_charges : (told after : Option Shelf) (name : List ℕ) → ReadsTold told after name (Err Failed) → GivesCharges told keeper keeper name File
+  gives_no_charges told after name h = record { text = None; told_text = none-is told after name h; is_due = refl; held = refl }
+
+  pub gives_unread_charges : (told : Option Shelf) (name : List ℕ) → GivesCharges told keeper keeper name Memory
+  gives_unread_charges told name = record {
     text = told_answer told name;
     told_text = told_answer-is told name;
-    is_due = unread_config (told_answer told name) token turns;
+    is_due = stopped_untouched keeper (due_of_charges (told_answer told name));
+    held = refl;
   }
+
+  module _ (link : LinkSeen) where
+    pub gives_no_serve : (told after : Option Shelf) (name token : List ℕ) (turns : ℕ) → ReadsTold told after name (Err Failed)
+        → GivesServe told link link keeper keeper name token turns File
+    gives_no_serve told after name token turns h = record { text = None; told_text = none-is told after name h; is_due = (refl, refl) }
+
+    -- for want of memory there is nothing to be said of the configuration, and nothing was asked of the keeper and of the link
+    pub serves_short : (directory : Result Directory ℕ) (token : List ℕ) (turns : ℕ) → ServesDirectory directory token turns link link keeper keeper Memory
+    serves_short (Ok directory) token turns = λ suited. UnservedReading refl refl
+    serves_short (Err line) token turns = (refl, refl)
+
+    unread_config : (config : Option (List ℕ)) (token : List ℕ) (turns : ℕ) → ServesConfig config token turns link link keeper keeper Memory
+    unread_config None token turns = (refl, refl)
+    unread_config (Some config) token turns = serves_short (directory_of config) token turns
+
+    pub gives_unread_serve : (told : Option Shelf) (name token : List ℕ) (turns : ℕ) → GivesServe told link link keeper keeper name token turns Memory
+    gives_unread_serve told name token turns = record {
+      text = told_answer told name;
+      told_text = told_answer-is told name;
+      is_due = unread_config (told_answer told name) token turns;
+    }
+
+    -- a line of the configuration is bad
+    pub serves_line : (config : List ℕ) (line : ℕ) (token : List ℕ) (turns : ℕ) → directory_of config ≡ Err line → ServesConfig (Some config) token turns link link keeper keeper (Line line)
+    serves_line config line token turns e = rw e (refl, refl)

@@ -6,5 +6,7 @@ pub mod Running
 pub mod Saying
 pub mod Scripted
 pub mod ServedRuns
+pub mod Stopping
 pub mod WorkRuns
+pub mod WorkConfig
 pub mod Working

@@ -1,5 +1,5 @@
 -- The link, where no serving comes to it, and the count of its faults of taking in.
-use Rattle.std.proofs.Common.{◌≡◌, ℕ, List, inl, inr, Option, Some, None}
+use Rattle.std.proofs.Common.{◌≡◌, ℕ, List, ap, inl, inr, Option, Some, None}
 use Rattle.mmtel_outside.specs.Shelf.{Shelf}
 use Rattle.mmtel_words.specs.CommandLine.{Command, Serve, Replay, Check, Charges, Workload}
 use Rattle.mmtel_cli.proofs.Saying.{four_rose}
@@ -90,5 +90,5 @@ module _ {L K : Type 0} (told asked : Option Shelf) (link far : LinkSeen) (first
   }
   counts_at_four (inr out) ends ran = record {
     rose = four_rose told link far first last words status before after faults now ran;
-    kept = λ four. out.taking;
+    kept = λ four. ap (λ (l : LinkSeen). l.taking) out.unheard;
   }

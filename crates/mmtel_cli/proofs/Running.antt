@@ -19,23 +19,23 @@ use Rattle.mmtel_cli.proofs.CleanWords.{Suits, directory_suits, suited, token_cl
 use Rattle.mmtel_words.specs.CommandLine.{Asked, Command, Serve, Replay, Check, Charges, Workload, IsCommand, is_token}
 use Rattle.mmtel_cli.specs.Asks.{AsksFor, IsOnly, SpellsNone}
 use Rattle.mmtel_cli.specs.Due as due
-use Rattle.mmtel_cli.specs.Due.{due_of_events, due_of_script, due_of_directory, due_of_config, due_of_store, due_of_charges, due_of_upload, due_of_records, due_of_work}
-use Rattle.mmtel_cli.specs.Due.{first_after, shelf_by, shelf_first, shelf_after}
+use Rattle.mmtel_cli.specs.Due.{due_of_events, due_of_script, due_of_directory, due_of_config, due_of_store, due_of_charges, due_of_upload, due_of_records}
+use Rattle.mmtel_cli.specs.Due.{Due, first_after, shelf_by, shelf_first, shelf_after}
 use Rattle.mmtel_reports.specs.Ends.{Ends, WroteListing}
 use Rattle.mmtel_cli.specs.Found.{HasCalled, IsDue, IsServedBy, SparedBy, Spares}
-use Rattle.mmtel_cli.specs.Gives.{GivesBoth, GivesCharges, GivesRecords, GivesRun, GivesServe, Prepares, ServesConfig, ServesDirectory}
+use Rattle.mmtel_cli.specs.Gives.{GivesBoth, GivesCharges, GivesRecords, GivesRun, GivesServe, GivesWork, Prepares, ServesConfig, ServesDirectory}
 use Rattle.mmtel_cli.specs.Keeping.{IsNotLoaded, IsSpared, KeeperSeen}
 use Rattle.mmtel_cli.specs.Listings.{Lists, ListsRows}
 use Rattle.mmtel_cli.specs.Serving.{LinkSeen}
-use Rattle.mmtel_cli.specs.Workloads.{work_config}
-use Rattle.mmtel_cli.specs.Runs.{WroteMemory, WroteLine, WroteFile, WroteKeeper, WroteFault, Counted, Listed, ListedRows, Replayed, Checked, Charged, HasServed}
+use Rattle.mmtel_cli.specs.Stopped.{HasStopped, StopsOfServe, StopsServing}
+use Rattle.mmtel_cli.specs.Runs.{WroteMemory, WroteLine, WroteFile, WroteKeeper, WroteFault, Counted, Listed, ListedRows, Replayed, Checked, Charged, HasServed, Worked}
 use Rattle.mmtel_cli.specs.Runs.{Ran, RanServe, RanReplay, RanCheck, RanCharges, RanWork, RanNone, RanShort, Called, CalledFor}
-use Rattle.mmtel_cli.specs.Runs.{EndsOfEvents, EndsOfScript, EndsOfDirectory, EndsOfConfig, EndsOfStore, EndsOfCharges, EndsOfWork, EndsOfUpload, EndsOfRecords}
+use Rattle.mmtel_cli.specs.Runs.{EndsOfEvents, EndsOfScript, EndsOfDirectory, EndsOfConfig, EndsOfStore, EndsOfCharges, EndsOfUpload, EndsOfRecords}
 use Rattle.mmtel_cli.specs.Runs.{EndsOfServe, EndsOfServing, EndsServed, EndsServing, EndsUnkept, EndsUnlinked}
 use Rattle.mmtel_reports.specs.declared.reports.Report.{Report}
 use Rattle.mmtel_reports.specs.declared.reports.Report.TheVariants.{Usage, Line, Link, File, Keeper, Memory, Listing, Sound, Served, Unsound}
 
--- ---- what was written, where it is known what is due
+-- ---- a run, where it is known what is due
 
 module _ (outcomes : CallsOfRunsComeToOutcome) (charged : SeatsOfRunsAreChargedOnce) (sends : RunsSendCleanMessages) (homes : HomesAreClean)
     (reads : ConfigurationsAreRead) (apart : PeersAreApart) (link far : LinkSeen) (keeper later : KeeperSeen) (status : ℕ) (before after : Option (List ℕ)) (faults now : ℕ) where
@@ -44,6 +44,48 @@ module _ (outcomes : CallsOfRunsComeToOutcome) (charged : SeatsOfRunsAreChargedO
 
   abbrev OutOfMemory : Type 0
   OutOfMemory = WroteMemory status before after faults now
+
+  -- ---- where memory ran out
+
+  -- status 8 tells of that alone
+  memory_at_eight : (outcome : Report) → EndsSo outcome → status ≡ 8 → outcome ≡ Memory
+  memory_at_eight Usage ends eight = absurd (let wrong : 1 ≡ 8 = sym ends.0 ∙ eight in cc)
+  memory_at_eight (Line n) ends eight = absurd (let wrong : 2 ≡ 8 = sym ends.0 ∙ eight in cc)
+  memory_at_eight Link ends eight = absurd (let wrong : 4 ≡ 8 = sym ends.0 ∙ eight in cc)
+  memory_at_eight File ends eight = absurd (let wrong : 5 ≡ 8 = sym ends.0 ∙ eight in cc)
+  memory_at_eight Keeper ends eight = absurd (let wrong : 6 ≡ 8 = sym ends.0 ∙ eight in cc)
+  memory_at_eight Memory ends eight = refl
+  memory_at_eight (Listing text) ends eight = elim ends [
+    | inl whole ↦ absurd (let wrong : 0 ≡ 8 = sym whole.0 ∙ eight in cc)
+    | inr part ↦ absurd (let wrong : 7 ≡ 8 = sym part.0 ∙ eight in cc)
+  ]
+  memory_at_eight Sound ends eight = elim ends [
+    | inl whole ↦ absurd (let wrong : 0 ≡ 8 = sym whole.0 ∙ eight in cc)
+    | inr part ↦ absurd (let wrong : 7 ≡ 8 = sym part.0 ∙ eight in cc)
+  ]
+  memory_at_eight Served ends eight = absurd (let wrong : 0 ≡ 8 = sym ends.0 ∙ eight in cc)
+  memory_at_eight (Unsound line) ends eight = absurd (let wrong : 3 ≡ 8 = sym ends.0 ∙ eight in cc)
+
+  stopped_due : (wanted : Due) (outcome : Report) → IsDue keeper later outcome wanted → EndsSo outcome → status ≡ 8 → HasStopped keeper later wanted
+  stopped_due wanted outcome is ends eight = subst (λ (r : Report). IsDue keeper later r wanted) (memory_at_eight outcome ends eight) is
+
+  stops_in_serving : (directory : Result Directory ℕ) (token : List ℕ) (turns : ℕ) → IfOk directory Suits → is_token token ≡ true
+      → ServesDirectory directory token turns link far keeper later Memory → StopsServing directory token turns link far keeper later
+  stops_in_serving (Ok directory) token turns suits right is = is (suited directory token suits right)
+  stops_in_serving (Err line) token turns suits right is = is
+
+  stops_in_serve : (config : Option (List ℕ)) (token : List ℕ) (turns : ℕ) → is_token token ≡ true
+      → ServesConfig config token turns link far keeper later Memory → StopsOfServe config token turns link far keeper later
+  stops_in_serve None token turns right is = is
+  stops_in_serve (Some config) token turns right is = stops_in_serving (directory_of config) token turns (directory_suits homes apart reads config) right is
+
+  stops_of_serve : (config : Option (List ℕ)) (token : List ℕ) (turns : ℕ) (outcome : Report) → is_token token ≡ true
+      → ServesConfig config token turns link far keeper later outcome → EndsSo outcome → status ≡ 8 → StopsOfServe config token turns link far keeper later
+  stops_of_serve config token turns outcome right is ends eight =
+      stops_in_serve config token turns right
+      (subst (λ (r : Report). ServesConfig config token turns link far keeper later r) (memory_at_eight outcome ends eight) is)
+
+  -- ---- what was written
 
   written_line : (outcome : Report) (line : ℕ) → IsDue keeper later outcome (due.Line line) → EndsSo outcome → WroteLine line status before after faults now ⊎ OutOfMemory
   written_line Usage line is ends = absurd (let wrong : due.Line line ≡ due.Usage = is in cc)
@@ -61,41 +103,41 @@ module _ (outcomes : CallsOfRunsComeToOutcome) (charged : SeatsOfRunsAreChargedO
   written_line Served line is ends = absurd is
   written_line (Unsound other) line is ends = absurd (let wrong : due.Line line ≡ due.Unsound other = is in cc)
 
-  written_file : (outcome : Report) → IsDue keeper later outcome due.File → EndsSo outcome → WroteFile status before after faults now ⊎ OutOfMemory
-  written_file Usage is ends = absurd (let wrong : due.File ≡ due.Usage = is in cc)
-  written_file (Line n) is ends = absurd (let wrong : due.File ≡ due.Line n = is in cc)
-  written_file File is ends = inl ends
-  written_file Link is ends = absurd is
-  written_file Keeper is ends = absurd is
-  written_file Memory is ends = inr ends
-  written_file (Listing text) is ends = absurd is
-  written_file Sound is ends = absurd (let wrong : due.File ≡ due.Sound = is in cc)
-  written_file Served is ends = absurd is
-  written_file (Unsound other) is ends = absurd (let wrong : due.File ≡ due.Unsound other = is in cc)
+  written_file : (kept left : KeeperSeen) (outcome : Report) → IsDue kept left outcome due.File → EndsSo outcome → WroteFile status before after faults now ⊎ OutOfMemory
+  written_file kept left Usage is ends = absurd (let wrong : due.File ≡ due.Usage = is in cc)
+  written_file kept left (Line n) is ends = absurd (let wrong : due.File ≡ due.Line n = is in cc)
+  written_file kept left File is ends = inl ends
+  written_file kept left Link is ends = absurd is
+  written_file kept left Keeper is ends = absurd is
+  written_file kept left Memory is ends = inr ends
+  written_file kept left (Listing text) is ends = absurd is
+  written_file kept left Sound is ends = absurd (let wrong : due.File ≡ due.Sound = is in cc)
+  written_file kept left Served is ends = absurd is
+  written_file kept left (Unsound other) is ends = absurd (let wrong : due.File ≡ due.Unsound other = is in cc)
 
-  written_sound : (outcome : Report) → IsDue keeper later outcome due.Sound → EndsSo outcome → WroteListing (codes "ok\n") status before after faults now ⊎ OutOfMemory
-  written_sound Usage is ends = absurd (let wrong : due.Sound ≡ due.Usage = is in cc)
-  written_sound (Line n) is ends = absurd (let wrong : due.Sound ≡ due.Line n = is in cc)
-  written_sound File is ends = absurd (let wrong : due.Sound ≡ due.File = is in cc)
-  written_sound Link is ends = absurd is
-  written_sound Keeper is ends = absurd is
-  written_sound Memory is ends = inr ends
-  written_sound (Listing text) is ends = absurd is
-  written_sound Sound is ends = inl ends
-  written_sound Served is ends = absurd is
-  written_sound (Unsound other) is ends = absurd (let wrong : due.Sound ≡ due.Unsound other = is in cc)
+  written_sound : (kept left : KeeperSeen) (outcome : Report) → IsDue kept left outcome due.Sound → EndsSo outcome → WroteListing (codes "ok\n") status before after faults now ⊎ OutOfMemory
+  written_sound kept left Usage is ends = absurd (let wrong : due.Sound ≡ due.Usage = is in cc)
+  written_sound kept left (Line n) is ends = absurd (let wrong : due.Sound ≡ due.Line n = is in cc)
+  written_sound kept left File is ends = absurd (let wrong : due.Sound ≡ due.File = is in cc)
+  written_sound kept left Link is ends = absurd is
+  written_sound kept left Keeper is ends = absurd is
+  written_sound kept left Memory is ends = inr ends
+  written_sound kept left (Listing text) is ends = absurd is
+  written_sound kept left Sound is ends = inl ends
+  written_sound kept left Served is ends = absurd is
+  written_sound kept left (Unsound other) is ends = absurd (let wrong : due.Sound ≡ due.Unsound other = is in cc)
 
-  written_fault : (outcome : Report) (line : List ℕ) → IsDue keeper later outcome (due.Unsound line) → EndsSo outcome → WroteFault line status before after faults now ⊎ OutOfMemory
-  written_fault Usage line is ends = absurd (let wrong : due.Unsound line ≡ due.Usage = is in cc)
-  written_fault (Line n) line is ends = absurd (let wrong : due.Unsound line ≡ due.Line n = is in cc)
-  written_fault File line is ends = absurd (let wrong : due.Unsound line ≡ due.File = is in cc)
-  written_fault Link line is ends = absurd is
-  written_fault Keeper line is ends = absurd is
-  written_fault Memory line is ends = inr ends
-  written_fault (Listing text) line is ends = absurd is
-  written_fault Sound line is ends = absurd (let wrong : due.Unsound line ≡ due.Sound = is in cc)
-  written_fault Served line is ends = absurd is
-  written_fault (Unsound other) line is ends =
+  written_fault : (kept left : KeeperSeen) (outcome : Report) (line : List ℕ) → IsDue kept left outcome (due.Unsound line) → EndsSo outcome → WroteFault line status before after faults now ⊎ OutOfMemory
+  written_fault kept left Usage line is ends = absurd (let wrong : due.Unsound line ≡ due.Usage = is in cc)
+  written_fault kept left (Line n) line is ends = absurd (let wrong : due.Unsound line ≡ due.Line n = is in cc)
+  written_fault kept left File line is ends = absurd (let wrong : due.Unsound line ≡ due.File = is in cc)
+  written_fault kept left Link line is ends = absurd is
+  written_fault kept left Keeper line is ends = absurd is
+  written_fault kept left Memory line is ends = inr ends
+  written_fault kept left (Listing text) line is ends = absurd is
+  written_fault kept left Sound line is ends = absurd (let wrong : due.Unsound line ≡ due.Sound = is in cc)
+  written_fault kept left Served line is ends = absurd is
+  written_fault kept left (Unsound other) line is ends =
       let equal : due.Unsound line ≡ due.Unsound other = is in
       let same : other ≡ line = cc in
       let P : List ℕ → Type 0 = λ l. WroteFault l status before after faults now in
@@ -154,18 +196,18 @@ module _ (outcomes : CallsOfRunsComeToOutcome) (charged : SeatsOfRunsAreChargedO
   written_rows store Served is ends = absurd is
   written_rows store (Unsound other) is ends = absurd (let wrong : due.Rows store ≡ due.Unsound other = is in cc)
 
-  written_work : (calls salt : ℕ) (directory : Directory) (outcome : Report) → IsDue keeper later outcome (due.Work calls salt directory) → EndsSo outcome
+  written_work : (kept left : KeeperSeen) (calls salt : ℕ) (directory : Directory) (outcome : Report) → IsDue kept left outcome (due.Work calls salt directory) → EndsSo outcome
       → Counted directory calls salt status before after faults now ⊎ OutOfMemory
-  written_work calls salt directory Usage is ends = absurd (let wrong : due.Work calls salt directory ≡ due.Usage = is in cc)
-  written_work calls salt directory (Line n) is ends = absurd (let wrong : due.Work calls salt directory ≡ due.Line n = is in cc)
-  written_work calls salt directory File is ends = absurd (let wrong : due.Work calls salt directory ≡ due.File = is in cc)
-  written_work calls salt directory Link is ends = absurd is
-  written_work calls salt directory Keeper is ends = absurd is
-  written_work calls salt directory Memory is ends = inr ends
-  written_work calls salt directory (Listing text) is ends = inl (record { text = text; counts = is; written = ends })
-  written_work calls salt directory Sound is ends = absurd (let wrong : due.Work calls salt directory ≡ due.Sound = is in cc)
-  written_work calls salt directory Served is ends = absurd is
-  written_work calls salt directory (Unsound other) is ends = absurd (let wrong : due.Work calls salt directory ≡ due.Unsound other = is in cc)
+  written_work kept left calls salt directory Usage is ends = absurd (let wrong : due.Work calls salt directory ≡ due.Usage = is in cc)
+  written_work kept left calls salt directory (Line n) is ends = absurd (let wrong : due.Work calls salt directory ≡ due.Line n = is in cc)
+  written_work kept left calls salt directory File is ends = absurd (let wrong : due.Work calls salt directory ≡ due.File = is in cc)
+  written_work kept left calls salt directory Link is ends = absurd is
+  written_work kept left calls salt directory Keeper is ends = absurd is
+  written_work kept left calls salt directory Memory is ends = inr ends
+  written_work kept left calls salt directory (Listing text) is ends = inl (record { text = text; counts = is; written = ends })
+  written_work kept left calls salt directory Sound is ends = absurd (let wrong : due.Work calls salt directory ≡ due.Sound = is in cc)
+  written_work kept left calls salt directory Served is ends = absurd is
+  written_work kept left calls salt directory (Unsound other) is ends = absurd (let wrong : due.Work calls salt directory ≡ due.Unsound other = is in cc)
 
   -- ---- stage by stage
 
@@ -180,7 +222,7 @@ module _ (outcomes : CallsOfRunsComeToOutcome) (charged : SeatsOfRunsAreChargedO
       IsDue keeper later outcome (due_of_script directory token script)
       → EndsSo outcome
       → EndsOfScript directory token script keeper later status before after faults now ⊎ OutOfMemory
-  ends_of_script directory token None outcome suits right due ends = written_file outcome due ends
+  ends_of_script directory token None outcome suits right due ends = written_file keeper later outcome due ends
   ends_of_script directory token (Some script) outcome suits right due ends = ends_of_events directory token (events_of directory.peers.known script) outcome suits right due ends
 
   ends_of_directory : (directory : Result Directory ℕ) (token : List ℕ) (script : Option (List ℕ)) (outcome : Report) → IfOk directory Suits → is_token token ≡ true
@@ -193,21 +235,21 @@ module _ (outcomes : CallsOfRunsComeToOutcome) (charged : SeatsOfRunsAreChargedO
       IsDue keeper later outcome (due_of_config config token script)
       → EndsSo outcome
       → EndsOfConfig config token script keeper later status before after faults now ⊎ OutOfMemory
-  ends_of_config None token script outcome right due ends = written_file outcome due ends
+  ends_of_config None token script outcome right due ends = written_file keeper later outcome due ends
   ends_of_config (Some config) token script outcome right due ends =
       ends_of_directory (directory_of config) token script outcome (directory_suits homes apart reads config) right due ends
 
   -- ---- a check
 
-  ends_of_upload : (said : Upload) (outcome : Report) → IsDue keeper later outcome (due_of_upload said) → EndsSo outcome
+  ends_of_upload : (kept left : KeeperSeen) (said : Upload) (outcome : Report) → IsDue kept left outcome (due_of_upload said) → EndsSo outcome
       → EndsOfUpload said status before after faults now ⊎ OutOfMemory
-  ends_of_upload (upload.Accepted sheet) outcome due ends = written_sound outcome due ends
-  ends_of_upload (upload.Refused line) outcome due ends = written_fault outcome line due ends
+  ends_of_upload kept left (upload.Accepted sheet) outcome due ends = written_sound kept left outcome due ends
+  ends_of_upload kept left (upload.Refused line) outcome due ends = written_fault kept left outcome line due ends
 
-  ends_of_records : (text : Option (List ℕ)) (outcome : Report) → IsDue keeper later outcome (due_of_records text) → EndsSo outcome
+  ends_of_records : (kept left : KeeperSeen) (text : Option (List ℕ)) (outcome : Report) → IsDue kept left outcome (due_of_records text) → EndsSo outcome
       → EndsOfRecords text status before after faults now ⊎ OutOfMemory
-  ends_of_records None outcome due ends = written_file outcome due ends
-  ends_of_records (Some text) outcome due ends = ends_of_upload (upload_of text) outcome due ends
+  ends_of_records kept left None outcome due ends = written_file kept left outcome due ends
+  ends_of_records kept left (Some text) outcome due ends = ends_of_upload kept left (upload_of text) outcome due ends
 
   checked : (told : Option Shelf) (words : List (List ℕ)) (records : List ℕ) (outcome : Report)
       → IsOnly (Check records) words → GivesRecords told records outcome → EndsSo outcome → Checked told words status before after faults now
@@ -216,7 +258,7 @@ module _ (outcomes : CallsOfRunsComeToOutcome) (charged : SeatsOfRunsAreChargedO
     spelled = spelled;
     text = gives.text;
     told_text = gives.told_text;
-    ends = ends_of_records gives.text outcome (gives.is_due keeper later) ends;
+    ends = ends_of_records keeper keeper gives.text outcome (gives.is_due keeper) ends;
   }
 
   -- ---- the rows of a keeper
@@ -228,7 +270,7 @@ module _ (outcomes : CallsOfRunsComeToOutcome) (charged : SeatsOfRunsAreChargedO
 
   ends_of_charges : (config : Option (List ℕ)) (outcome : Report) → IsDue keeper later outcome (due_of_charges config) → EndsSo outcome
       → EndsOfCharges config keeper later status before after faults now ⊎ OutOfMemory
-  ends_of_charges None outcome due ends = written_file outcome due ends
+  ends_of_charges None outcome due ends = written_file keeper later outcome due ends
   ends_of_charges (Some config) outcome due ends = ends_of_store (directory_of config) outcome due ends
 
   charged_by : (told : Option Shelf) (words : List (List ℕ)) (config : List ℕ) (outcome : Report)
@@ -239,14 +281,22 @@ module _ (outcomes : CallsOfRunsComeToOutcome) (charged : SeatsOfRunsAreChargedO
     text = gives.text;
     told_text = gives.told_text;
     ends = ends_of_charges gives.text outcome gives.is_due ends;
+    stopped = stopped_due (due_of_charges gives.text) outcome gives.is_due ends;
+    held = gives.held;
   }
 
   -- ---- a workload
 
-  ends_of_work : (calls salt : ℕ) (directory : Result Directory ℕ) (outcome : Report) → IsDue keeper later outcome (due_of_work calls salt directory) → EndsSo outcome
-      → EndsOfWork calls salt directory status before after faults now ⊎ OutOfMemory
-  ends_of_work calls salt (Ok directory) outcome due ends = written_work calls salt directory outcome due ends
-  ends_of_work calls salt (Err line) outcome due ends = written_line outcome line due ends
+  worked : (words : List (List ℕ)) (calls salt : ℕ) (outcome : Report)
+      → IsOnly (Workload calls salt) words → GivesWork calls salt outcome → EndsSo outcome → Worked words status before after faults now
+  worked words calls salt outcome spelled gives ends = record {
+    calls = calls;
+    salt = salt;
+    spelled = spelled;
+    directory = gives.directory;
+    reads = gives.reads;
+    ends = written_work keeper keeper calls salt gives.directory outcome (gives.is_due keeper) ends;
+  }
 
   -- ---- serving
 
@@ -270,12 +320,12 @@ module _ (outcomes : CallsOfRunsComeToOutcome) (charged : SeatsOfRunsAreChargedO
       → ServesDirectory directory token turns link far keeper later outcome → EndsSo outcome
       → EndsOfServing directory token turns link far keeper later status before after faults now ⊎ OutOfMemory
   ends_of_serving (Ok directory) token turns outcome suits right due ends = written_serving directory token turns outcome suits right due ends
-  ends_of_serving (Err line) token turns outcome suits right due ends = written_line outcome line due ends
+  ends_of_serving (Err line) token turns outcome suits right due ends = written_line outcome line due.0 ends
 
   ends_of_serve : (config : Option (List ℕ)) (token : List ℕ) (turns : ℕ) (outcome : Report) → is_token token ≡ true
       → ServesConfig config token turns link far keeper later outcome → EndsSo outcome
       → EndsOfServe config token turns link far keeper later status before after faults now ⊎ OutOfMemory
-  ends_of_serve None token turns outcome right due ends = written_file outcome due ends
+  ends_of_serve None token turns outcome right due ends = written_file keeper later outcome due.0 ends
   ends_of_serve (Some config) token turns outcome right due ends =
       ends_of_serving (directory_of config) token turns outcome (directory_suits homes apart reads config) right due ends
 
@@ -290,6 +340,7 @@ module _ (outcomes : CallsOfRunsComeToOutcome) (charged : SeatsOfRunsAreChargedO
     text = gives.text;
     told_text = gives.told_text;
     ends = ends_of_serve gives.text token turns outcome spelled.spelled.0 gives.is_due ends;
+    stopped = stops_of_serve gives.text token turns outcome spelled.spelled.0 gives.is_due ends;
   }
 
   -- ---- a whole run
@@ -301,6 +352,7 @@ module _ (outcomes : CallsOfRunsComeToOutcome) (charged : SeatsOfRunsAreChargedO
     spelled = spelled;
     answers = record { config = gives.config; script = gives.script; told_config = gives.told_config; told_script = gives.told_script };
     ends = ends_of_config gives.config asked.token gives.script outcome spelled.spelled.0 gives.is_due ends;
+    stopped = stopped_due (due_of_config gives.config asked.token gives.script) outcome gives.is_due ends;
   }
 
   ran_none : (words : List (List ℕ)) (outcome : Report) (told : Option Shelf) → SpellsNone words → outcome ≡ Usage → EndsSo outcome →
@@ -317,14 +369,14 @@ module _ (outcomes : CallsOfRunsComeToOutcome) (charged : SeatsOfRunsAreChargedO
   ran_command told words (Some (Check records)) outcome asks gives ends = RanCheck (checked told words records outcome asks gives ends)
   ran_command told words (Some (Charges config)) outcome asks gives ends = RanCharges (charged_by told words config outcome asks gives ends)
   ran_command told words (Some (Workload calls salt)) outcome asks gives ends =
-      RanWork (record { calls = calls; salt = salt; spelled = asks; ends = ends_of_work calls salt (directory_of work_config) outcome gives ends })
+      RanWork (worked words calls salt outcome asks gives ends)
 
   pub ran : {L K : Type 0} (told called_then : Option Shelf) (near away : L) (kept held : K) (words : List (List ℕ)) (outcome : Report)
       → Prepares words told called_then link far keeper later near away kept held outcome → EndsSo outcome → Ran told link far keeper later words status before after faults now
   ran told called_then near away kept held words outcome (inl p) ends = ran_command told words p.command outcome p.asks p.gives ends
   ran told called_then near away kept held words outcome (inr out) ends =
       let P : Report → Type 0 = λ r. EndsSo r in
-      RanShort (subst P out.memory ends)
+      RanShort (subst P out.memory ends) out.kept out.unheard
 
 -- ---- the calls of files
 

@@ -19,17 +19,17 @@ use Rattle.mmtel_uploads.specs.declared.uploads.Upload.{Upload}
 use Rattle.mmtel_uploads.specs.declared.uploads.Upload.TheVariants as upload
 use Rattle.mmtel_words.specs.CommandLine.{Asked, Command, Serve, Replay, Check, Charges, Workload, IsCommand}
 use Rattle.mmtel_cli.specs.Asks.{IsServe, IsReplay, IsCheck, IsCharges, IsWorkload, IsOnly, SpellsNone}
-use Rattle.mmtel_cli.specs.Workloads.{work_config}
 use Rattle.mmtel_reports.specs.Ends.{WroteListing, WroteNothing}
 use Rattle.mmtel_cli.specs.Keeping.{IsLoaded, IsNotLoaded, IsOpened, KeeperSeen, refuses}
 use Rattle.mmtel_cli.specs.Serving.{IsBindCall, IsLinked, LinkFails, LinkSeen}
 use Rattle.mmtel_cli.specs.Runs.{Counted, HasServed, Listed, ListedRows, WroteMemory, Replayed, Checked, Charged, Worked, Refused, ServedLink, Ran, RanServe, RanReplay}
 use Rattle.mmtel_cli.specs.Runs.{RanCheck, RanCharges, RanWork, RanNone, RanShort}
-use Rattle.mmtel_cli.specs.Runs.{EndsOfEvents, EndsOfScript, EndsOfDirectory, EndsOfConfig, EndsOfStore, EndsOfCharges, EndsOfWork, EndsOfUpload, EndsOfRecords}
+use Rattle.mmtel_cli.specs.Runs.{EndsOfEvents, EndsOfScript, EndsOfDirectory, EndsOfConfig, EndsOfStore, EndsOfCharges, EndsOfUpload, EndsOfRecords}
 use Rattle.mmtel_cli.specs.Runs.{EndsOfServe, EndsOfServing, EndsServed, EndsServing, EndsUnkept, EndsUnlinked}
 use Rattle.mmtel_cli.specs.Sayings.{IsGood, IsKept, IsWilling, IsServable, GoodOnesAreListed, GoodOnesAreServed, GoodOnesSucceed, GoodOnesWantAKeeper, RowsAreListed}
 use Rattle.mmtel_cli.specs.Sayings.{RowsWantAKeeper, ServingWantsAKeeper, ServingWantsALink}
 use Rattle.mmtel_cli.specs.Sayings.{ChecksAreTold, ChecksOne, ChargesOne, WorksOne, ServesOne, DoneAtZero, DoneServe, DoneReplay, DoneCheck, DoneCharges, DoneWork}
+use Rattle.mmtel_cli.specs.Sayings.{ChargesKeep, EightIsShort, ShortCharges, ShortCheck, ShortReplay, ShortServe, ShortWords, ShortWork}
 use Rattle.mmtel_cli.specs.Sayings.{RefusesOne, ZeroIsListed, OneIsUsage, ThreeIsRefused, FourRose, SixRose, SevenRose, ZeroKept, StatusesAreThese, NoFaultNoFailure}
 
 -- ---- the words spell one command at most
@@ -98,7 +98,7 @@ module _ (shelf : Shelf) (link far : LinkSeen) (keeper later : KeeperSeen) (word
   good_run good (RanCharges c) = absurd (no_other (Charges c.config) (Replay asked) words c.spelled good.spelled refl)
   good_run good (RanWork w) = absurd (no_other (Workload w.calls w.salt) (Replay asked) words w.spelled good.spelled refl)
   good_run good (RanNone refused) = absurd (refused.none (Replay asked) good.spelled)
-  good_run good (RanShort memory) = inr memory.0
+  good_run good (RanShort memory spared unheard) = inr memory.0
 
 -- a keeper that can be bound and loaded is one that was not refused
 opens : (path : List ℕ) (calls since : Option KeeperCalls) (told : KeeperCalls) (refused : Bool) → IsOpened path calls since refused → calls ≡ Some told → refuses told ≡ refused
@@ -163,7 +163,7 @@ checks_are_told shelf link far keeper later words text status before after fault
 checks_are_told shelf link far keeper later words text status before after faults now there (RanWork w) =
     absurd (no_other (Workload w.calls w.salt) (Check there.records) words w.spelled there.spelled refl)
 checks_are_told shelf link far keeper later words text status before after faults now there (RanNone refused) = absurd (refused.none (Check there.records) there.spelled)
-checks_are_told shelf link far keeper later words text status before after faults now there (RanShort memory) = inr memory.0
+checks_are_told shelf link far keeper later words text status before after faults now there (RanShort memory spared unheard) = inr memory.0
 
 -- ---- a store whose rows are asked for
 
@@ -189,7 +189,7 @@ kept_run shelf link far keeper later words directory status before after faults 
 kept_run shelf link far keeper later words directory status before after faults now kept (RanWork w) =
     absurd (no_other (Workload w.calls w.salt) (Charges kept.config) words w.spelled kept.spelled refl)
 kept_run shelf link far keeper later words directory status before after faults now kept (RanNone refused) = absurd (refused.none (Charges kept.config) kept.spelled)
-kept_run shelf link far keeper later words directory status before after faults now kept (RanShort memory) = inr memory
+kept_run shelf link far keeper later words directory status before after faults now kept (RanShort memory spared unheard) = inr memory
 
 pub rows_are_listed : RowsAreListed
 rows_are_listed shelf link far keeper later words directory status before after faults now kept willing ran =
@@ -282,7 +282,7 @@ module _ (link far : LinkSeen) (keeper later : KeeperSeen) (directory : Director
     there_run good (RanCharges c) = absurd (no_other (Charges c.config) (Serve good.config token turns) words c.spelled good.spelled refl)
     there_run good (RanWork w) = absurd (no_other (Workload w.calls w.salt) (Serve good.config token turns) words w.spelled good.spelled refl)
     there_run good (RanNone refused) = absurd (refused.none (Serve good.config token turns) good.spelled)
-    there_run good (RanShort memory) = inr memory.0
+    there_run good (RanShort memory spared unheard) = inr memory.0
 
 pub good_ones_are_served : GoodOnesAreServed
 good_ones_are_served shelf link far keeper later words directory token turns status before after faults now good willing stood ran =
@@ -545,9 +545,8 @@ module _ (words : List (List ℕ)) (calls salt : ℕ) (spelled : IsWorkload call
       ending_written (WorksOne words 0 before after faults now) ⊥ ⊥ ⊥ status faults now l.text before after
       (λ w. record { calls = calls; salt = salt; spelled = spelled; directory = directory; counted = record { text = l.text; counts = l.counts; written = w } }) l.written
 
-  ending_work : (directory : Result Directory ℕ) → EndsOfWork calls salt directory status before after faults now ⊎ WroteMemory status before after faults now → EndsWork
-  ending_work (Ok directory) (inl e) = ending_counted directory e
-  ending_work (Err line) (inl e) = ending_line (WorksOne words 0 before after faults now) ⊥ ⊥ ⊥ status faults now e.0
+  ending_work : (directory : Directory) → Counted directory calls salt status before after faults now ⊎ WroteMemory status before after faults now → EndsWork
+  ending_work directory (inl e) = ending_counted directory e
   ending_work directory (inr memory) = ending_memory (WorksOne words 0 before after faults now) ⊥ ⊥ ⊥ status faults now memory.0
 
 -- ---- of `serve`
@@ -664,7 +663,7 @@ module _ (told : Option Shelf) (link far : LinkSeen) (keeper later : KeeperSeen)
     some = λ no_one. absurd (no_one (Workload w.calls w.salt) w.spelled.spelled);
     end = weaker (WorksOne words 0 before after faults now) DoneSo ⊥ (RefusesOne words) ⊥ TakingRose ⊥ KeeperRose status faults now
         (λ one. DoneWork one) (λ never. absurd never) (λ never. absurd never) (λ never. absurd never)
-        (ending_work words w.calls w.salt w.spelled.spelled status before after faults now (directory_of work_config) w.ends);
+        (ending_work words w.calls w.salt w.spelled.spelled status before after faults now w.directory w.ends);
   }
 
   of_short : WroteMemory status before after faults now → EndsSome
@@ -681,7 +680,7 @@ module _ (told : Option Shelf) (link far : LinkSeen) (keeper later : KeeperSeen)
   ends_so (RanCharges c) = inl (of_charges c)
   ends_so (RanWork w) = inl (of_work w)
   ends_so (RanNone refused) = inr refused
-  ends_so (RanShort memory) = inl (of_short memory)
+  ends_so (RanShort memory spared unheard) = inl (of_short memory)
 
 -- ---- the sayings
 
@@ -751,3 +750,31 @@ no_fault_no_failure told link far keeper later words status before after faults 
       | inl some ↦ some.end.fine (λ four. stood (some.end.four four)) (λ five. files (counts.rose five)) (λ six. kept (some.end.six six)) (λ seven. sink (some.end.rose seven))
       | inr refused ↦ rw (refused.said.0) refl
     ]
+
+-- ---- where memory ran out
+
+pub eight_is_short : EightIsShort
+eight_is_short told link far keeper later words status before after faults now (RanServe v) eight =
+    ShortServe (record { config = v.config; token = v.token; turns = v.turns; spelled = v.spelled.spelled; text = v.text; stopped = v.stopped eight })
+eight_is_short told link far keeper later words status before after faults now (RanReplay r) eight =
+    ShortReplay (record { asked = r.asked; spelled = r.spelled.spelled; config = r.answers.config; script = r.answers.script; stopped = r.stopped eight })
+eight_is_short told link far keeper later words status before after faults now (RanCheck c) eight = ShortCheck c.records c.spelled.spelled
+eight_is_short told link far keeper later words status before after faults now (RanCharges c) eight =
+    ShortCharges (record { config = c.config; spelled = c.spelled.spelled; text = c.text; stopped = c.stopped eight })
+eight_is_short told link far keeper later words status before after faults now (RanWork w) eight = ShortWork w.calls w.salt w.spelled.spelled
+eight_is_short told link far keeper later words status before after faults now (RanNone refused) eight =
+    absurd (not_usage 8 status refused.said.0 (λ w. cc) eight)
+eight_is_short told link far keeper later words status before after faults now (RanShort memory spared unheard) eight = ShortWords spared unheard
+
+pub charges_keep : ChargesKeep
+charges_keep told link far keeper later words status before after faults now (RanServe v) config spelled =
+    absurd (no_other (Serve v.config v.token v.turns) (Charges config) words v.spelled spelled refl)
+charges_keep told link far keeper later words status before after faults now (RanReplay r) config spelled =
+    absurd (no_other (Replay r.asked) (Charges config) words r.spelled spelled refl)
+charges_keep told link far keeper later words status before after faults now (RanCheck c) config spelled =
+    absurd (no_other (Check c.records) (Charges config) words c.spelled spelled refl)
+charges_keep told link far keeper later words status before after faults now (RanCharges c) config spelled = c.held
+charges_keep told link far keeper later words status before after faults now (RanWork w) config spelled =
+    absurd (no_other (Workload w.calls w.salt) (Charges config) words w.spelled spelled refl)
+charges_keep told link far keeper later words status before after faults now (RanNone refused) config spelled = absurd (refused.none (Charges config) spelled)
+charges_keep told link far keeper later words status before after faults now (RanShort memory spared unheard) config spelled = ap (λ (k : KeeperSeen). k.held) spared

@@ -22,7 +22,7 @@ use Rattle.mmtel_run.specs.Short.{IsShort, IsShortRun}
 use Rattle.mmtel_run.specs.World.{World, beginning}
 use Rattle.mmtel_run_laws.specs.Secret.{OffersKeepTheSecret}
 use Rattle.mmtel_script.specs.Script.{unheard}
-use Rattle.mmtel_server.specs.Driven.{Driven, EachAnswers, EachCounted, EachRead, EndsAfter, HeardMore, to_come, with_all}
+use Rattle.mmtel_server.specs.Driven.{Driven, EachAnswers, EachAnswersButLast, EachCounted, EachRead, EndsAfter, HeardMore, LastAnswers, to_come, with_all}
 use Rattle.mmtel_server.specs.Charged.{RowsCharged, took_last}
 use Rattle.mmtel_server_decisions.specs.Handed.{Handed, HandedCounted}
 use Rattle.mmtel_server.specs.Laws.{EachReadOut, IsEventReadOut, ReadOutSaysAll, UnfailedAreReadOut}
@@ -251,6 +251,17 @@ bound_still names (one ∷ happened) held left calls since e =
     bound_still names happened e.1 left e.3 since e.6.1
     ∙ (handed_still one.took e.4 e.0 e.1 e.2 e.3 e.6.0 ∙ answer_still (call_of names one.event) one.kept one.rows held e.0 calls e.2 e.5)
 
+last_still : (names : WebDirectory) (last : List Happened) (held left : Option Held) (calls since : Option KeeperCalls) → LastAnswers names last held left calls since
+    → IsBoundStill calls since
+last_still names [] held left calls since e = rw e.1 refl
+last_still names (one ∷ []) held left calls since e =
+    maybe_still e.0 since e.2.1 ∙ answer_still (call_of names one.event) one.kept one.rows held left calls e.0 e.2.0
+last_still names (one ∷ other ∷ happened) held left calls since e = absurd e
+
+pub bound_but_last : (names : WebDirectory) (happened : List Happened) (held left : Option Held) (calls since : Option KeeperCalls)
+    → EachAnswersButLast names happened held left calls since → IsBoundStill calls since
+bound_but_last names happened held left calls since e = last_still names e.1 e.2 left e.3 since e.5.1 ∙ bound_still names e.0 held e.2 calls e.3 e.5.0
+
 -- ---- the run of a script
 
 nothing_heard : (es : List Event) → heard_of es [] ≡ []
@@ -264,7 +275,7 @@ all_came (e ∷ es) [] end = absurd cc
 all_came (e ∷ es) (n ∷ reads) end = let rest = all_came es reads end in omega (arith, rest)
 
 -- what came is what was heard of the script's events
-came_of : (ear later : Ear) (es : List Event) → ear.reads ≡ [] → HeardMore (Some ear) (Some later) es → es ≡ heard_of ear.events later.reads
+pub came_of : (ear later : Ear) (es : List Event) → ear.reads ≡ [] → HeardMore (Some ear) (Some later) es → es ≡ heard_of ear.events later.reads
 came_of ear later es unread told =
     let nothing : heard_of ear.events ear.reads ≡ [] = ap (heard_of ear.events) unread ∙ nothing_heard ear.events in
     sym (ap (λ (l : List Event). l ++ es) nothing) ∙ (sym told.1 ∙ ap (λ (l : List Event). heard_of l later.reads) told.0)

@@ -1,8 +1,6 @@
 -- What serving a link came to, of a server that was just made.
-use Rattle.std.proofs.Common.{◌≡◌, ◌⊎◌, ◌∙◌, ℕ, Bool, true, false, List, [], length, sym, subst, ap, inr, Option, Some, None, Result, Ok, Err}
+use Rattle.std.proofs.Common.{◌≡◌, ◌⊎◌, ℕ, Bool, true, false, List, [], ◌++◌, length, sym, subst, inr, Option, Some, None, Result, Ok, Err}
 use Rattle.std.specs.Prelude.{OnOk, OnErr}
-use Rattle.std.specs.Option.{option_map}
-use Rattle.mmtel_charging.specs.declared.rows.Row.{Row}
 use Rattle.mmtel_directory.specs.declared.directories.Directory.{Directory}
 use Rattle.mmtel_giving.specs.Giving.{Gave, LostNoMore, IsBoundStill as ListensStill}
 use Rattle.mmtel_in_force.specs.Texts.{Texts}
@@ -11,24 +9,26 @@ use Rattle.mmtel_link.specs.Told.{Ear, Given, IsBind, LinkCalls}
 use Rattle.mmtel_outside.specs.Counts.{HasCause, Rose}
 use Rattle.mmtel_outside.specs.declared.events.Offer.{Offer}
 use Rattle.mmtel_run.specs.Events.{Happened, events_in}
-use Rattle.mmtel_run.specs.InForce.{uploads_of}
-use Rattle.mmtel_run.specs.Run.{gives, world_after}
+use Rattle.mmtel_run.specs.Run.{IsEnough, gives}
+use Rattle.mmtel_run.specs.Short.{IsShortRun}
 use Rattle.mmtel_serve.specs.Served as serve
-use Rattle.mmtel_serve.specs.Served.{GaveOn, KeptTheSecret, ReadsAll}
+use Rattle.mmtel_serve.specs.Served.{GaveOn, KeptTheSecret, ReadsAll, StoppedGiving}
 use Rattle.mmtel_server.specs.Charged.{Charged}
 use Rattle.mmtel_server.specs.Driven.{AnswersAll, CameToOutcome, ChargedSeats, EachCounted, EndsAfter, HasDriveCause, HasFailedByNumber, HeardMore, HoldsUploads, SentClean}
-use Rattle.mmtel_server.specs.Driven.{StandsOrRose, with_all}
-use Rattle.mmtel_server.specs.Stands.{Serves, Went}
+use Rattle.mmtel_server.specs.Driven.{StandsOrRose}
+use Rattle.mmtel_server.specs.Stands.{IsCut, Serves, Went}
 use Rattle.mmtel_server.specs.declared.driving.DriveFault.{DriveFault}
-use Rattle.mmtel_server.specs.declared.driving.DriveFault.TheVariants.{LinkFault}
+use Rattle.mmtel_server.specs.declared.driving.DriveFault.TheVariants.{LinkFault, NoMemory}
 use Rattle.mmtel_server.specs.declared.servers.Server.{Server}
 use Rattle.mmtel_types.specs.declared.numbers.Failed.{Failed}
 use Rattle.mmtel_cli.proofs.Scripted.{bound_still, none_waits}
+use Rattle.mmtel_cli.proofs.Stopping.{holds_all, kept_up_to}
 use Rattle.mmtel_cli.specs.Found.{CountsLink, IsServedBy, IsSuited}
 use Rattle.mmtel_cli.specs.Keeping.{IsLoaded, KeeperSeen, seen}
 use Rattle.mmtel_cli.specs.Serving.{IsBindCall, IsLinked, IsNotLinked, LinkSeen, ServesLink, ServesRun, line_seen}
+use Rattle.mmtel_cli.specs.Stopped.{GaveUpToLast, StoppedServing, UnservedServing}
 use Rattle.mmtel_reports.specs.declared.reports.Report.{Report}
-use Rattle.mmtel_reports.specs.declared.reports.Report.TheVariants.{Link, Served}
+use Rattle.mmtel_reports.specs.declared.reports.Report.TheVariants.{Link, Memory, Served}
 
 -- ---- binding
 
@@ -75,17 +75,11 @@ module _ (directory : Directory) (ear later : Option Ear) (given now : Option Gi
 
 -- ---- the run
 
--- what the keeper holds behind the beginning of a run
-holds_all : (d : Directory) (token : List ℕ) (loaded : Texts) (happened : List Happened) (held left : Option Held) (fuel : ℕ)
-    → ((rows : List Row) × ((world_after d token loaded fuel happened).filed ≡ rows) × (left ≡ option_map (with_all (uploads_of d.names happened) rows) held))
-    → left ≡ option_map (with_all (uploads_of d.names happened) (world_after d token loaded fuel happened).filed) held
-holds_all d token loaded happened held left fuel h = h.2 ∙ ap (λ (rows : List Row). option_map (with_all (uploads_of d.names happened) rows) held) (sym h.1)
-
 module _ (directory : Directory) (token : List ℕ) (loaded : Texts) (turns : ℕ) (old : Server) (serves : Serves directory token loaded [] old) (suited : IsSuited directory token)
     (ear later : Option Ear) (given now : Option Given) (calls after : Option LinkCalls) (taking taken giving gave : ℕ)
     (held left : Option Held) (asked since : Option KeeperCalls) (faults count : ℕ) where
   serves_run : (result : Result Bool DriveFault) (happened : List Happened)
-      → HeardMore ear later (events_in happened) → ReadsAll ear later giving gave result → EndsAfter turns later (length happened) result → ListensStill calls after →
+      → HeardMore ear later (events_in happened) → ReadsAll ear later given now giving gave result → EndsAfter turns later (length happened) result → ListensStill calls after →
       HasDriveCause taking taken result → HasFailedByNumber after result
       → LostNoMore given now ⊎ Rose giving gave → StandsOrRose giving gave → EachCounted happened faults count
       → GaveOn happened old given now → KeptTheSecret happened old given now → AnswersAll happened old held left asked since → HoldsUploads happened old held left
@@ -121,6 +115,24 @@ module _ (directory : Directory) (token : List ℕ) (loaded : Texts) (turns : �
     clean = λ short. clean directory token loaded [] serves short suited.home suited.text;
   }
 
+  -- of a run from its first event on, what was given where memory ran out
+  gave_up_to : (happened : List Happened) → StoppedGiving happened old given now → IsShortRun directory token loaded happened → (fuel : ℕ)
+      → IsEnough directory token loaded fuel happened → GaveUpToLast directory token loaded happened fuel given now
+  gave_up_to happened s short fuel enough =
+      let few = subst (λ (l : List Happened). IsShortRun directory token loaded l) s.parts short in
+      let so_far = subst (λ (l : List Happened). IsEnough directory token loaded fuel l) s.parts enough in
+      let here = s.gave directory token loaded [] fuel serves few so_far in
+      let front : IsCut (gives directory token loaded fuel s.done) here.0 (gives directory token loaded fuel (s.done ++ s.last)) = here.1 in
+      record {
+        done = s.done;
+        last = s.last;
+        parts = s.parts;
+        one = s.one;
+        offers = here.0;
+        front = subst (λ (l : List Happened). IsCut (gives directory token loaded fuel s.done) here.0 (gives directory token loaded fuel l)) (sym s.parts) front;
+        gave = here.2;
+      }
+
   run_closed : (new : Server) (closed : Bool) → serve.Served ear later giving gave given now held left asked since faults count turns old new (Ok closed)
       → ListensStill calls after → HasDriveCause {T = Bool} taking taken (Ok closed) → HasFailedByNumber {T = Bool} after (Ok closed) → LostNoMore given now ⊎ Rose giving gave →
       StandsOrRose giving gave
@@ -140,6 +152,30 @@ module _ (directory : Directory) (token : List ℕ) (loaded : Texts) (turns : �
       serves_run (Err LinkFault) s.happened s.made.told s.read s.made.ends listens cause number lost stands s.made.keeper.counted s.given_all.1 s.kept s.made.keeper.answers
       s.made.keeper.sheets
       s.made.charged s.made.outcome s.made.seats s.made.clean
+
+  -- memory ran out
+  run_stopped : (new : Server) → serve.Served ear later giving gave given now held left asked since faults count turns old new (Err NoMemory)
+      → ListensStill calls after → HasDriveCause {T = Bool} taking taken (Err NoMemory) → LostNoMore given now ⊎ Rose giving gave → StandsOrRose giving gave
+      → StoppedServing directory token loaded turns (line_seen ear given calls taking giving) (line_seen later now after taken gave) (seen held asked faults)
+      (seen left since count)
+  run_stopped new s listens cause lost stands = record {
+    happened = s.happened;
+    heard = s.made.told;
+    read = s.read;
+    ends = s.made.ends;
+    listens = listens;
+    taking = cause;
+    lost = lost;
+    giving = stands;
+    gave = λ short. λ fuel. λ enough. gave_up_to s.happened s.given_all short fuel enough;
+    secret = λ short.
+        let secret = s.kept directory token loaded serves short in
+        (secret.0, secret.1, λ seer. λ addr. λ at. secret.2 seer addr suited.apart at);
+    kept = kept_up_to directory token loaded s.happened old serves held left asked since faults count s.made.keeper s.made.charged;
+    outcome = λ short. s.made.outcome directory token loaded [] serves short;
+    seats = λ short. s.made.seats directory token loaded [] serves short;
+    clean = λ short. s.made.clean directory token loaded [] serves short suited.home suited.text;
+  }
 
 -- ---- with the keeper and the link before it
 
@@ -187,6 +223,22 @@ module _ (turns : ℕ) (ear later : Option Ear) (given now : Option Given) (call
       inr (serves_link directory token loaded turns line _ _ kept _ _ (Err LinkFault) suited linked opened
       (run_broken directory token loaded turns old serves suited ear later given now calls after taking taken giving gave held left asked since faults count new s listens
       by last lost stands))
+
+  pub served_stopped : (e : DriveFault) → e ≡ NoMemory → serve.Served ear later giving gave given now held left asked since faults count turns old new (Err e)
+      → ListensStill calls after → HasDriveCause {T = Bool} taking taken (Err e) → LostNoMore given now ⊎ Rose giving gave → StandsOrRose giving gave → ServedAs Memory
+  served_stopped e is served listens cause lost stands = λ directory. λ token. λ loaded. λ line. λ kept. λ serves. λ linked. λ opened. λ suited.
+      let s = subst (λ (f : DriveFault). serve.Served ear later giving gave given now held left asked since faults count turns old new (Err f)) is served in
+      let by = subst (λ (f : DriveFault). HasDriveCause {T = Bool} taking taken (Err f)) is cause in
+      UnservedServing (record {
+        loaded = loaded;
+        opening = _;
+        opened = opened;
+        listening = _;
+        linked = linked;
+        serving = run_stopped directory token loaded turns old serves suited ear later given now calls after taking taken giving gave held left asked since faults count new s
+            listens by lost stands;
+        branches = suited.branches;
+      })
 
 -- a server that was just made serves in a run of nothing
 pub just_made : (directory : Directory) (token : List ℕ) (loaded : Texts) (server : Server) → ((before : List Offer) → Went directory token loaded [] before server before)

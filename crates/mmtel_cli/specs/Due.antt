@@ -72,11 +72,6 @@ abbrev pub due_of_charges : Option (List ℕ) → Due
 due_of_charges None = File
 due_of_charges (Some config) = due_of_store (directory_of config)
 
--- what is due of `workload`, by its configuration
-abbrev pub due_of_work : (calls salt : ℕ) → Result Directory ℕ → Due
-due_of_work calls salt (Ok directory) = Work calls salt directory
-due_of_work calls salt (Err line) = Line line
-
 -- the files after the calls that are due: of `replay` the first call is for CONFIG, and the second for SCRIPT, where CONFIG is there and good; of `serve`, `check` and `charges`
 -- there is one call, and of `workload` and without a command none
 abbrev pub shelf_of_directory : Shelf → Result Directory ℕ → Shelf

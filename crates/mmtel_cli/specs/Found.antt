@@ -13,6 +13,7 @@ use Rattle.mmtel_cli.specs.Due.{Due}
 use Rattle.mmtel_cli.specs.Keeping.{IsNotLoaded, KeeperSeen}
 use Rattle.mmtel_cli.specs.Listings.{Lists, ListsRows}
 use Rattle.mmtel_cli.specs.Serving.{LinkFails, LinkSeen, ServesLink}
+use Rattle.mmtel_cli.specs.Stopped.{HasStopped, StoppedServe}
 use Rattle.mmtel_cli.specs.Workloads.{Counts}
 use Rattle.mmtel_reports.specs.declared.reports.Report.{Report}
 use Rattle.mmtel_reports.specs.declared.reports.Report.TheVariants.{Usage, Line, Link, File, Keeper, Memory, Listing, Sound, Served, Unsound}
@@ -39,9 +40,9 @@ IsUnkept keeper later (due.Work calls salt directory) = ⊥
 IsUnkept keeper later due.Sound = ⊥
 IsUnkept keeper later (due.Unsound line) = ⊥
 
--- what was found due is what is due, unless the keeper failed or memory ran out
+-- what was found due is what is due, unless the keeper failed or memory ran out, where the keeper had been asked so much
 abbrev pub IsDue : (keeper later : KeeperSeen) → Report → Due → Type 0
-IsDue keeper later Memory wanted = ⊤
+IsDue keeper later Memory wanted = HasStopped keeper later wanted
 IsDue keeper later Usage wanted = wanted ≡ due.Usage
 IsDue keeper later (Line line) wanted = wanted ≡ due.Line line
 IsDue keeper later Link wanted = ⊥
@@ -124,9 +125,9 @@ pub record IsSuited (directory : Directory) (token : List ℕ) : Type 0 where
   pub branches : BranchesAreRead directory token
 
 -- a configuration that was read is to be served, and so it came: the link was served; or the keeper could not be loaded, or the link not be bound or not take in what comes
--- next; or memory ran out
+-- next; or memory ran out, where so much had been done
 abbrev pub IsServedBy : Directory → (token : List ℕ) → (turns : ℕ) → (link far : LinkSeen) → (keeper later : KeeperSeen) → Report → Type 0
-IsServedBy directory token turns link far keeper later Memory = ⊤
+IsServedBy directory token turns link far keeper later Memory = IsSuited directory token → StoppedServe directory token turns link far keeper later
 IsServedBy directory token turns link far keeper later Usage = ⊥
 IsServedBy directory token turns link far keeper later (Line line) = ⊥
 IsServedBy directory token turns link far keeper later Link = IsSuited directory token → LinkFails directory token turns link far keeper later

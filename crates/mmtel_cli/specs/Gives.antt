@@ -5,7 +5,7 @@ use Rattle.std.specs.declared.result.Result.{Result}
 use Rattle.mmtel_words.specs.CommandLine.{Asked, Command, Serve, Replay, Check, Charges, Workload}
 use Rattle.mmtel_cli.specs.Asks.{AsksFor}
 use Rattle.mmtel_cli.specs.Due as due
-use Rattle.mmtel_cli.specs.Due.{due_of_charges, due_of_config, due_of_directory, due_of_records, due_of_work, first_after, shelf_after}
+use Rattle.mmtel_cli.specs.Due.{due_of_charges, due_of_config, due_of_directory, due_of_records, first_after, shelf_after}
 use Rattle.mmtel_cli.specs.Found.{HasCalled, IsDue, IsServedBy, SparedBy, TakingBy, UnboundBy}
 use Rattle.mmtel_cli.specs.Keeping.{KeeperSeen}
 use Rattle.mmtel_cli.specs.Serving.{LinkSeen}
@@ -30,26 +30,33 @@ pub record GivesBoth (told : Option Shelf) (keeper later : KeeperSeen) (asked : 
   pub told_script : IfSome told (λ shelf. script ≡ answer_at (called shelf) asked.script)
   pub is_due : IsDue keeper later outcome (due_of_config config asked.token script)
 
--- there is an answer for the file that is to be checked, the told one where the files tell, by which this was found due, whatever is seen of a keeper
+-- there is an answer for the file that is to be checked, the told one where the files tell, by which this was found due, over whatever is seen of a keeper
 pub record GivesRecords (told : Option Shelf) (records : List ℕ) (outcome : Report) : Type 0 where
   pub text : Option (List ℕ)
   pub told_text : IfSome told (λ shelf. text ≡ answer_at shelf records)
-  pub is_due : (keeper later : KeeperSeen) → IsDue keeper later outcome (due_of_records text)
+  pub is_due : (keeper : KeeperSeen) → IsDue keeper keeper outcome (due_of_records text)
 
--- the same of the configuration of `charges`
+-- the same of the configuration of `charges`; whatever was found due, the keeper holds what it held
 pub record GivesCharges (told : Option Shelf) (keeper later : KeeperSeen) (config : List ℕ) (outcome : Report) : Type 0 where
   pub text : Option (List ℕ)
   pub told_text : IfSome told (λ shelf. text ≡ answer_at shelf config)
   pub is_due : IsDue keeper later outcome (due_of_charges text)
+  pub held : later.held ≡ keeper.held
+
+-- the configuration of a workload is of the grammar, and by it this was found due, over whatever is seen of a keeper
+pub record GivesWork (calls salt : ℕ) (outcome : Report) : Type 0 where
+  pub directory : Directory
+  pub reads : directory_of work_config ≡ Ok directory
+  pub is_due : (keeper : KeeperSeen) → IsDue keeper keeper outcome (due.Work calls salt directory)
 
 -- what was found due of `serve` once the configuration was read
 abbrev pub ServesDirectory : Result Directory ℕ → (token : List ℕ) → (turns : ℕ) → (link far : LinkSeen) → (keeper later : KeeperSeen) → Report → Type 0
 ServesDirectory (Ok directory) token turns link far keeper later outcome = IsServedBy directory token turns link far keeper later outcome
-ServesDirectory (Err line) token turns link far keeper later outcome = IsDue keeper later outcome (due.Line line)
+ServesDirectory (Err line) token turns link far keeper later outcome = IsDue keeper later outcome (due.Line line) × (far ≡ link)
 
 -- and once it was asked for
 abbrev pub ServesConfig : Option (List ℕ) → (token : List ℕ) → (turns : ℕ) → (link far : LinkSeen) → (keeper later : KeeperSeen) → Report → Type 0
-ServesConfig None token turns link far keeper later outcome = IsDue keeper later outcome due.File
+ServesConfig None token turns link far keeper later outcome = IsDue keeper later outcome due.File × (far ≡ link)
 ServesConfig (Some config) token turns link far keeper later outcome = ServesDirectory (directory_of config) token turns link far keeper later outcome
 
 -- there is an answer for the configuration of `serve`, the told one where the files tell, by which this was found due
@@ -64,7 +71,7 @@ GivesCommand told link far keeper later (Serve config token turns) outcome = Giv
 GivesCommand told link far keeper later (Replay asked) outcome = GivesBoth told keeper later asked outcome
 GivesCommand told link far keeper later (Check records) outcome = GivesRecords told records outcome
 GivesCommand told link far keeper later (Charges config) outcome = GivesCharges told keeper later config outcome
-GivesCommand told link far keeper later (Workload calls salt) outcome = IsDue keeper later outcome (due_of_work calls salt (directory_of work_config))
+GivesCommand told link far keeper later (Workload calls salt) outcome = GivesWork calls salt outcome
 
 abbrev pub GivesRun : Option Shelf → (link far : LinkSeen) → (keeper later : KeeperSeen) → Option Command → Report → Type 0
 GivesRun told link far keeper later None outcome = outcome ≡ Usage
@@ -83,14 +90,15 @@ pub record Prepared {L K : Type 0} (words : List (List ℕ)) (told after : Optio
   pub taking : TakingBy command outcome link.taking far.taking
 
 -- memory ran out in reading the words, and nothing was asked of the files, of the keeper and of the link
-pub record RanOut {L K : Type 0} (told after : Option Shelf) (link far : LinkSeen) (near away : L) (before now : K) (outcome : Report) : Type 0 where
+pub record RanOut {L K : Type 0} (told after : Option Shelf) (link far : LinkSeen) (keeper later : KeeperSeen) (near away : L) (before now : K) (outcome : Report) : Type 0 where
   pub memory : outcome ≡ Memory
   pub calls : after ≡ told
   pub spared : now ≡ before
+  pub kept : later ≡ keeper
   pub unbound : away ≡ near
-  pub taking : far.taking ≡ link.taking
+  pub unheard : far ≡ link
 
 abbrev pub Prepares : {L K : Type 0} → List (List ℕ) → (told after : Option Shelf) → (link far : LinkSeen) → (keeper later : KeeperSeen) →
     (near away : L) → (before now : K) → Report → Type 0
 Prepares words told after link far keeper later near away before now outcome =
-    Prepared words told after link far keeper later near away before now outcome ⊎ RanOut told after link far near away before now outcome
+    Prepared words told after link far keeper later near away before now outcome ⊎ RanOut told after link far keeper later near away before now outcome

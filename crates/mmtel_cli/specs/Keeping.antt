@@ -1,6 +1,6 @@
 -- What a run asks of its keeper, and what the keeper shows of it: it is bound to the store of the configuration and loaded, each once, and what is uploaded in the run is kept
 -- there (3GPP TS 24.623 §5).
-use Rattle.std.specs.Prelude.{◌≡◌, ◌≢◌, ℕ, ◌||◌, Bool, true, false, List, Option, Some, None, IfSome, if◌then◌else◌}
+use Rattle.std.specs.Prelude.{◌≡◌, ◌≢◌, ◌⊎◌, ℕ, ◌||◌, Bool, true, false, List, Option, Some, None, IfSome, if◌then◌else◌}
 use Rattle.std.specs.Option.{option_map}
 use Rattle.mmtel_charging.specs.declared.rows.Row.{Row}
 use Rattle.mmtel_in_force.specs.Texts.{Texts}
@@ -51,6 +51,17 @@ pub record IsNotLoaded (path : List ℕ) (keeper later : KeeperSeen) : Type 0 wh
   pub calls : IsOpened path keeper.calls later.calls true
   pub held : later.held ≡ keeper.held
   pub rose : Rose keeper.faults later.faults
+
+-- memory ran out in these two calls, or behind them: it was asked to bind the path, or bound to it and then asked, and refused neither
+abbrev pub MayBeOpened : (path : List ℕ) → Option KeeperCalls → Option KeeperCalls → Type 0
+MayBeOpened path None after = after ≡ None
+MayBeOpened path (Some calls) after = ((after ≡ Some (called calls)) × (fails_next calls ≡ false)) ⊎ IsOpened path (Some calls) after false
+
+-- and nothing else was asked of it
+pub record IsOnlyOpened (path : List ℕ) (keeper later : KeeperSeen) : Type 0 where
+  pub calls : MayBeOpened path keeper.calls later.calls
+  pub held : later.held ≡ keeper.held
+  pub count : later.faults ≡ keeper.faults
 
 -- ---- in a run
 

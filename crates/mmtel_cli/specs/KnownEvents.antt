@@ -7,6 +7,7 @@ use Rattle.mmtel_outside.specs.declared.events.Offer.{Offer}
 use Rattle.mmtel_script.specs.Script.{unheard}
 use Rattle.mmtel_cli.specs.Keeping.{KeeperSeen}
 use Rattle.mmtel_cli.specs.Listings.{OffersRun}
+use Rattle.mmtel_cli.specs.Stopped.{StoppedRun}
 
 -- whatever a link of this kind stands for, its two counts of faults are 0
 abbrev pub NeverFails : {L : Type 0} → (taking giving : L → ℕ) → Type 0
@@ -21,3 +22,8 @@ IsUnheard events (Some ear) = (ear ≡ unheard ear.events) × (length ear.events
 abbrev pub OffersAllOf : Option Ear → Directory → (token : List ℕ) → (loaded : Texts) → (keeper later : KeeperSeen) → List Offer → Type 0
 OffersAllOf None directory token loaded keeper later offers = ⊥
 OffersAllOf (Some ear) directory token loaded keeper later offers = OffersRun directory token loaded ear.events keeper later offers
+
+-- or memory ran out in that run
+abbrev pub StopsAllOf : Option Ear → Directory → (token : List ℕ) → (loaded : Texts) → (keeper later : KeeperSeen) → Type 0
+StopsAllOf None directory token loaded keeper later = ⊥
+StopsAllOf (Some ear) directory token loaded keeper later = StoppedRun directory token loaded ear.events keeper later

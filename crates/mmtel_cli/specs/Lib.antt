@@ -6,6 +6,7 @@ pub mod Runs
 pub mod Listings
 pub mod Keeping
 pub mod Serving
+pub mod Stopped
 pub mod Workloads
 pub mod Sayings
 -- The reports that are due, and how each is written (of calls below the top call):

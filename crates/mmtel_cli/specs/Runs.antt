@@ -23,11 +23,12 @@ use Rattle.mmtel_uploads.specs.declared.uploads.Upload.{Upload}
 use Rattle.mmtel_uploads.specs.declared.uploads.Upload.TheVariants as upload
 use Rattle.mmtel_words.specs.CommandLine.{Asked, Serve, Replay, Check, Charges, Workload}
 use Rattle.mmtel_cli.specs.Asks.{IsServe, IsReplay, IsCheck, IsCharges, IsWorkload, IsOnly, SpellsNone}
-use Rattle.mmtel_cli.specs.Due.{shelf_of_config}
+use Rattle.mmtel_cli.specs.Due.{due_of_charges, due_of_config, shelf_of_config}
 use Rattle.mmtel_reports.specs.Ends.{Wrote, WroteListing, WroteNothing, line_text}
 use Rattle.mmtel_cli.specs.Keeping.{GivesRows, IsLoaded, IsNotLoaded, KeeperSeen}
 use Rattle.mmtel_cli.specs.Listings.{OffersRun}
 use Rattle.mmtel_cli.specs.Serving.{LinkFails, LinkSeen, ServesLink}
+use Rattle.mmtel_cli.specs.Stopped.{HasStopped, StopsOfServe}
 use Rattle.mmtel_cli.specs.Workloads.{Counts, work_config}
 
 -- ---- what was written, and the status
@@ -81,9 +82,9 @@ pub record Listed (directory : Directory) (token : List ℕ) (events : List Even
   -- where the run is short, each of its calls came to what the precedence of services makes of how its attempts ended and of how things stood when it reached each target,
   -- within the bound on diversions, and is charged so,
   pub outcome : IsShortRun directory token loaded run.happened → CallsComeToOutcome directory token loaded run.happened
-  -- whoever has left a seat of a conference room is charged for it once,
+  -- whoever is seated in a conference room has a meter of their account, and whoever has left a seat is charged for it once; all rows stand in the order of the steps,
   pub seats : IsShortRun directory token loaded run.happened → SeatsAreChargedOnce directory token loaded run.happened
-  -- what was offered to peers are messages with their own lines and nobody else's,
+  -- each message that was built has its own lines and nobody else's, and what was offered to peers are the texts of these,
   pub clean : IsShortRun directory token loaded run.happened → SendsCleanMessages directory token loaded run.happened
   -- and its listing was written: whole with status 0, and else a front of it with status 7
   pub written : WroteListing (listing_of offers) status before after faults now
@@ -154,10 +155,6 @@ pub record Counted (directory : Directory) (calls salt : ℕ) (status : ℕ) (be
   pub counts : Counts directory calls salt text
   pub written : WroteListing text status before after faults now
 
-abbrev pub EndsOfWork : (calls salt : ℕ) → Result Directory ℕ → ℕ → Option (List ℕ) → Option (List ℕ) → ℕ → ℕ → Type 0
-EndsOfWork calls salt (Ok directory) status before after faults now = Counted directory calls salt status before after faults now
-EndsOfWork calls salt (Err line) status before after faults now = WroteLine line status before after faults now
-
 -- ---- how serving ends
 
 -- the turns were made, or the link was closed: the link was served over what the keeper gave, as the definitions of the run say (`ServesRun`), and nothing was written
@@ -200,12 +197,13 @@ pub record Answered (told : Option Shelf) (asked : Asked) : Type 0 where
   pub told_config : IfSome told (λ shelf. config ≡ answer_at shelf asked.config)
   pub told_script : IfSome told (λ shelf. script ≡ answer_at (called shelf) asked.script)
 
--- the words spell a `replay`, and it ended as the files' answers and the keeper's say; or memory ran out
+-- the words spell a `replay`, and it ended as the files' answers and the keeper's say; or memory ran out, where the keeper had been asked so much (`Stopped`)
 pub record Replayed (told : Option Shelf) (keeper later : KeeperSeen) (words : List (List ℕ)) (status : ℕ) (before after : Option (List ℕ)) (faults now : ℕ) : Type 0 where
   pub asked : Asked
   pub spelled : IsOnly (Replay asked) words
   pub answers : Answered told asked
   pub ends : EndsOfConfig answers.config asked.token answers.script keeper later status before after faults now ⊎ WroteMemory status before after faults now
+  pub stopped : status ≡ 8 → HasStopped keeper later (due_of_config answers.config asked.token answers.script)
 
 -- the words spell a `check`, and it ended as the files' answer for RECORDS says, which is that of the first call where the files tell; or memory ran out
 pub record Checked (told : Option Shelf) (words : List (List ℕ)) (status : ℕ) (before after : Option (List ℕ)) (faults now : ℕ) : Type 0 where
@@ -215,23 +213,28 @@ pub record Checked (told : Option Shelf) (words : List (List ℕ)) (status : ℕ
   pub told_text : IfSome told (λ shelf. text ≡ answer_at shelf records)
   pub ends : EndsOfRecords text status before after faults now ⊎ WroteMemory status before after faults now
 
--- the words spell a `charges`, and it ended as the files' answer for CONFIG, which is that of the first call where the files tell, and the keeper's say; or memory ran out
+-- the words spell a `charges`, and it ended as the files' answer for CONFIG, which is that of the first call where the files tell, and the keeper's say; or memory ran out,
+-- where the keeper had been asked so much; whatever the status, it holds what it held
 pub record Charged (told : Option Shelf) (keeper later : KeeperSeen) (words : List (List ℕ)) (status : ℕ) (before after : Option (List ℕ)) (faults now : ℕ) : Type 0 where
   pub config : List ℕ
   pub spelled : IsOnly (Charges config) words
   pub text : Option (List ℕ)
   pub told_text : IfSome told (λ shelf. text ≡ answer_at shelf config)
   pub ends : EndsOfCharges text keeper later status before after faults now ⊎ WroteMemory status before after faults now
+  pub stopped : status ≡ 8 → HasStopped keeper later (due_of_charges text)
+  pub held : later.held ≡ keeper.held
 
--- the words spell a `workload`, and it ended so; or memory ran out
+-- the words spell a `workload`; its configuration is of the grammar, so no line of that is told, and it ended so; or memory ran out
 pub record Worked (words : List (List ℕ)) (status : ℕ) (before after : Option (List ℕ)) (faults now : ℕ) : Type 0 where
   pub calls : ℕ
   pub salt : ℕ
   pub spelled : IsOnly (Workload calls salt) words
-  pub ends : EndsOfWork calls salt (directory_of work_config) status before after faults now ⊎ WroteMemory status before after faults now
+  pub directory : Directory
+  pub reads : directory_of work_config ≡ Ok directory
+  pub ends : Counted directory calls salt status before after faults now ⊎ WroteMemory status before after faults now
 
 -- the words spell a `serve`, and it ended as the files' answer for CONFIG, which is that of the first call where the files tell, and the keeper's and the link's say; or memory
--- ran out
+-- ran out, where so much had been done
 pub record HasServed (told : Option Shelf) (link far : LinkSeen) (keeper later : KeeperSeen) (words : List (List ℕ)) (status : ℕ)
     (before after : Option (List ℕ)) (faults now : ℕ) : Type 0 where
   pub config : List ℕ
@@ -241,13 +244,14 @@ pub record HasServed (told : Option Shelf) (link far : LinkSeen) (keeper later :
   pub text : Option (List ℕ)
   pub told_text : IfSome told (λ shelf. text ≡ answer_at shelf config)
   pub ends : EndsOfServe text token turns link far keeper later status before after faults now ⊎ WroteMemory status before after faults now
+  pub stopped : status ≡ 8 → StopsOfServe text token turns link far keeper later
 
 -- the words spell no command
 pub record Refused (words : List (List ℕ)) (status : ℕ) (before after : Option (List ℕ)) (faults now : ℕ) : Type 0 where
   pub none : SpellsNone words
   pub said : WroteUsage status before after faults now
 
--- one of these; or memory ran out in reading the words
+-- one of these; or memory ran out in reading the words, and nothing was asked of the keeper and of the link
 pub data Ran (told : Option Shelf) (link far : LinkSeen) (keeper later : KeeperSeen) (words : List (List ℕ)) (status : ℕ)
     (before after : Option (List ℕ)) (faults now : ℕ) : Type 0 where
   RanServe : HasServed told link far keeper later words status before after faults now → Ran told link far keeper later words status before after faults now
@@ -256,7 +260,7 @@ pub data Ran (told : Option Shelf) (link far : LinkSeen) (keeper later : KeeperS
   RanCharges : Charged told keeper later words status before after faults now → Ran told link far keeper later words status before after faults now
   RanWork : Worked words status before after faults now → Ran told link far keeper later words status before after faults now
   RanNone : Refused words status before after faults now → Ran told link far keeper later words status before after faults now
-  RanShort : WroteMemory status before after faults now → Ran told link far keeper later words status before after faults now
+  RanShort : WroteMemory status before after faults now → later ≡ keeper → far ≡ link → Ran told link far keeper later words status before after faults now
 
 -- ---- the calls of files
 

@@ -18,7 +18,9 @@ use Rattle.mmtel_cli.specs.Asks.{IsServe, IsReplay, IsCheck, IsCharges, IsWorklo
 use Rattle.mmtel_reports.specs.Ends.{WroteListing}
 use Rattle.mmtel_cli.specs.Keeping.{KeeperSeen, refuses}
 use Rattle.mmtel_cli.specs.Runs.{Counted, CountsAtFive, EndsOfUpload, Listed, ListedRows, Ran, ServedLink}
+use Rattle.mmtel_cli.specs.Due.{due_of_charges, due_of_config}
 use Rattle.mmtel_cli.specs.Serving.{LinkSeen}
+use Rattle.mmtel_cli.specs.Stopped.{HasStopped, StopsOfServe}
 
 -- the words spell a `replay` whose files are there and of their grammars
 pub record IsGood (shelf : Shelf) (words : List (List ℕ)) (asked : Asked) (directory : Directory) (events : List Event) : Type 0 where
@@ -220,6 +222,47 @@ SevenRose = OfEachRun (λ link far keeper later words status before after faults
 
 abbrev pub ZeroKept : Type 0
 ZeroKept = OfEachRun (λ link far keeper later words status before after faults now. status ≡ 0 → now ≡ faults)
+
+-- ---- where memory ran out
+
+-- a `serve`, a `replay` and a `charges`, by what the files answered, where no more had been done
+pub record ServesShort (link far : LinkSeen) (keeper later : KeeperSeen) (words : List (List ℕ)) : Type 0 where
+  pub config : List ℕ
+  pub token : List ℕ
+  pub turns : ℕ
+  pub spelled : IsServe config token turns words
+  pub text : Option (List ℕ)
+  pub stopped : StopsOfServe text token turns link far keeper later
+
+pub record ReplaysShort (keeper later : KeeperSeen) (words : List (List ℕ)) : Type 0 where
+  pub asked : Asked
+  pub spelled : IsReplay asked words
+  pub config : Option (List ℕ)
+  pub script : Option (List ℕ)
+  pub stopped : HasStopped keeper later (due_of_config config asked.token script)
+
+pub record ChargesShort (keeper later : KeeperSeen) (words : List (List ℕ)) : Type 0 where
+  pub config : List ℕ
+  pub spelled : IsCharges config words
+  pub text : Option (List ℕ)
+  pub stopped : HasStopped keeper later (due_of_charges text)
+
+-- so far each command had come; `check` and `workload` ask nothing of the keeper and of the link
+pub data DoneAtEight (link far : LinkSeen) (keeper later : KeeperSeen) (words : List (List ℕ)) : Type 0 where
+  ShortServe : ServesShort link far keeper later words → DoneAtEight link far keeper later words
+  ShortReplay : ReplaysShort keeper later words → DoneAtEight link far keeper later words
+  ShortCheck : (records : List ℕ) → IsCheck records words → DoneAtEight link far keeper later words
+  ShortCharges : ChargesShort keeper later words → DoneAtEight link far keeper later words
+  ShortWork : (calls salt : ℕ) → IsWorkload calls salt words → DoneAtEight link far keeper later words
+  ShortWords : later ≡ keeper → far ≡ link → DoneAtEight link far keeper later words
+
+-- at status 8 no more had been done,
+abbrev pub EightIsShort : Type 0
+EightIsShort = OfEachRun (λ link far keeper later words status before after faults now. status ≡ 8 → DoneAtEight link far keeper later words)
+
+-- and of `charges` the keeper holds what it held, whatever the status
+abbrev pub ChargesKeep : Type 0
+ChargesKeep = OfEachRun (λ link far keeper later words status before after faults now. (config : List ℕ) → IsCharges config words → later.held ≡ keeper.held)
 
 -- no other status comes
 abbrev pub StatusesAreThese : Type 0

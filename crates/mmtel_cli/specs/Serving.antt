@@ -69,7 +69,7 @@ pub record ServesRun (directory : Directory) (token : List ℕ) (loaded : Texts)
   -- this happened: where the link tells what it hears it heard exactly these events more, one a turn, of web connections the bytes that were read;
   pub happened : List Happened
   pub heard : HeardMore link.ear later.ear (events_in happened)
-  pub read : ReadsAll link.ear later.ear link.giving later.giving result
+  pub read : ReadsAll link.ear later.ear link.given later.given link.giving later.giving result
   pub ends : EndsAfter turns later.ear (length happened) result
   -- it is bound to where it was; its count of taking in rose at a fault alone, which, where it tells its calls, comes by the number of the last of them; and something that it
   -- was given was lost only where its count of giving out rose;
@@ -92,7 +92,7 @@ pub record ServesRun (directory : Directory) (token : List ℕ) (loaded : Texts)
   pub bound : IsShortRun directory token loaded happened → IsBoundStill keeper.calls after.calls
   pub held : IsShortRun directory token loaded happened → HoldsAll directory token loaded happened keeper.held after.held
   pub charged : IsShortRun directory token loaded happened → ChargesAll directory token loaded happened keeper.faults after.faults
-  -- and each call came to its outcome, each seat that was left was charged once, and what was offered has its own lines
+  -- and each call came to its outcome, each seat that was left was charged once, on its account and in the order of the steps, and each message that was built has its own lines
   pub outcome : IsShortRun directory token loaded happened → CallsComeToOutcome directory token loaded happened
   pub seats : IsShortRun directory token loaded happened → SeatsAreChargedOnce directory token loaded happened
   pub clean : IsShortRun directory token loaded happened → SendsCleanMessages directory token loaded happened

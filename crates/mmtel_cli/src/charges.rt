@@ -4,7 +4,7 @@ ghost use Rattle.mmtel_cli.specs.Due as due;
 ghost use Rattle.mmtel_cli.specs.Due.{due_of_charges};
 ghost use Rattle.mmtel_cli.specs.Found.{CountsFiles, IsDue, IsRead, Spares};
 ghost use Rattle.mmtel_cli.specs.Gives.{GivesCharges};
-ghost use Rattle.mmtel_cli.specs.Keeping.{GivesRows, IsNotLoaded, seen};
+ghost use Rattle.mmtel_cli.specs.Keeping.{GivesRows, IsNotLoaded, IsOnlyOpened, seen};
 ghost use Rattle.mmtel_cli.specs.Listings.{ListsRows};
 ghost use Rattle.mmtel_keeper.specs.declared.keepers.KeepFault.TheVariants as fault;
 ghost use Rattle.mmtel_outside.specs.Shelf.{called};
@@ -23,6 +23,9 @@ fn rows_kept<K: Keeper>(alloc: Global, keeper: &mut K, store: &[u8]) -> Result<L
         (seen (K.held keeper.new) (K.calls keeper.new) (K.faults keeper.new))) }
     ensures failed { IsErrOf result fault.Failed → IsNotLoaded store.now (seen (K.held keeper.old) (K.calls keeper.old) (K.faults keeper.old))
         (seen (K.held keeper.new) (K.calls keeper.new) (K.faults keeper.new)) }
+    ensures stopped { IsErrOf result fault.NoMemory → IsOnlyOpened store.now (seen (K.held keeper.old) (K.calls keeper.old) (K.faults keeper.old))
+        (seen (K.held keeper.new) (K.calls keeper.new) (K.faults keeper.new)) }
+    ensures held { K.held keeper.new ≡ K.held keeper.old }
 {
     keeper.bind(alloc, store)?;
     keeper.rows(alloc)
@@ -34,6 +37,9 @@ fn rows_listed<K: Keeper>(alloc: Global, keeper: &mut K, store: &[u8]) -> Result
         (seen (K.held keeper.new) (K.calls keeper.new) (K.faults keeper.new)) text) }
     ensures failed { IsErrOf result fault.Failed → IsNotLoaded store.now (seen (K.held keeper.old) (K.calls keeper.old) (K.faults keeper.old))
         (seen (K.held keeper.new) (K.calls keeper.new) (K.faults keeper.new)) }
+    ensures stopped { IsErrOf result fault.NoMemory → IsOnlyOpened store.now (seen (K.held keeper.old) (K.calls keeper.old) (K.faults keeper.old))
+        (seen (K.held keeper.new) (K.calls keeper.new) (K.faults keeper.new)) }
+    ensures held { K.held keeper.new ≡ K.held keeper.old }
 {
     let rows = rows_kept(alloc, keeper, store)?;
     let text = rows_text(alloc, rows.items())?;
@@ -44,6 +50,7 @@ fn rows_listed<K: Keeper>(alloc: Global, keeper: &mut K, store: &[u8]) -> Result
 fn over_store<K: Keeper>(alloc: Global, keeper: &mut K, store: &[u8]) -> Report
     ensures due { IsDue (seen (K.held keeper.old) (K.calls keeper.old) (K.faults keeper.old))
         (seen (K.held keeper.new) (K.calls keeper.new) (K.faults keeper.new)) result (due.Rows store.now) }
+    ensures held { K.held keeper.new ≡ K.held keeper.old }
     ensures read { IsRead result }
     ensures spares { Spares result keeper.old keeper.new }
 {
@@ -58,6 +65,7 @@ fn over_store<K: Keeper>(alloc: Global, keeper: &mut K, store: &[u8]) -> Report
 fn over_text<K: Keeper>(alloc: Global, config: &Text, keeper: &mut K) -> Report
     ensures due { IsDue (seen (K.held keeper.old) (K.calls keeper.old) (K.faults keeper.old))
         (seen (K.held keeper.new) (K.calls keeper.new) (K.faults keeper.new)) result (due_of_charges (Some config.now)) }
+    ensures held { K.held keeper.new ≡ K.held keeper.old }
     ensures read { IsRead result }
     ensures spares { Spares result keeper.old keeper.new }
 {

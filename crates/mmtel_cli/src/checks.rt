@@ -14,7 +14,7 @@ use std::alloc::Global;
 
 /// What is due of a text that is checked.
 fn over_text(alloc: Global, text: &Text) -> Report
-    ensures due { (keeper later : KeeperSeen) → IsDue keeper later result (due_of_records (Some text.now)) }
+    ensures due { (keeper : KeeperSeen) → IsDue keeper keeper result (due_of_records (Some text.now)) }
     ensures read { IsRead result }
 {
     match upload_of(alloc, text.bytes()) {

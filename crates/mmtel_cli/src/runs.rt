@@ -1,8 +1,9 @@
 //! A run over a keeper and the events of a link, or of a script, to its end.
-ghost use Rattle.std.specs.Prelude.{◌≡◌, ◌≤◌, ℕ, List, [], IfOk, IsErrOf, OnOk};
-ghost use Rattle.mmtel_cli.specs.Keeping.{IsLoaded, IsNotLoaded, seen};
-ghost use Rattle.mmtel_cli.specs.KnownEvents.{IsUnheard, NeverFails, OffersAllOf};
+ghost use Rattle.std.specs.Prelude.{◌≡◌, ◌≤◌, ◌⊎◌, ℕ, List, [], IfOk, IsErrOf, OnErr, OnOk};
+ghost use Rattle.mmtel_cli.specs.Keeping.{IsLoaded, IsNotLoaded, IsOnlyOpened, seen};
+ghost use Rattle.mmtel_cli.specs.KnownEvents.{IsUnheard, NeverFails, OffersAllOf, StopsAllOf};
 ghost use Rattle.mmtel_cli.specs.Listings.{Lists, ListsOver};
+ghost use Rattle.mmtel_cli.specs.Stopped.{StoppedOver, StoppedReplay};
 ghost use Rattle.mmtel_directory.specs.declared.directories.Directory.{Directory};
 ghost use Rattle.mmtel_in_force.specs.Texts.{Texts};
 ghost use Rattle.mmtel_keeper.specs.declared.keepers.KeepFault.TheVariants as fault;
@@ -30,6 +31,8 @@ pub fn open<K: Keeper>(
         (seen (K.held keeper.new) (K.calls keeper.new) (K.faults keeper.new))) }
     ensures failed { IsErrOf result fault.Failed → IsNotLoaded store.now (seen (K.held keeper.old) (K.calls keeper.old) (K.faults keeper.old))
         (seen (K.held keeper.new) (K.calls keeper.new) (K.faults keeper.new)) }
+    ensures stopped { IsErrOf result fault.NoMemory → IsOnlyOpened store.now (seen (K.held keeper.old) (K.calls keeper.old) (K.faults keeper.old))
+        (seen (K.held keeper.new) (K.calls keeper.new) (K.faults keeper.new)) }
 {
     keeper.bind(alloc, store)?;
     keeper.load(alloc)
@@ -49,6 +52,9 @@ fn drive_over<L: Link, K: Keeper>(
     ensures run { OnOk result ((directory : Directory) (token : List ℕ) (loaded : Texts) → Went directory token loaded [] [] server.old out.old →
         OffersAllOf (L.ear link.old) directory token loaded (seen (K.held keeper.old) (K.calls keeper.old) (K.faults keeper.old))
         (seen (K.held keeper.new) (K.calls keeper.new) (K.faults keeper.new)) out.new) }
+    ensures stopped { OnErr result ((directory : Directory) (token : List ℕ) (loaded : Texts) → Went directory token loaded [] [] server.old out.old →
+        StopsAllOf (L.ear link.old) directory token loaded (seen (K.held keeper.old) (K.calls keeper.old) (K.faults keeper.old))
+        (seen (K.held keeper.new) (K.calls keeper.new) (K.faults keeper.new))) }
 {
     connections_are_read_out();
     runs_keep_the_secret();
@@ -74,6 +80,9 @@ pub fn offered<L: Link, K: Keeper>(
     requires unfailing { NeverFails L.taking L.giving }
     requires unheard { IsUnheard events (L.ear link.old) }
     ensures run { IfOk result (OffersAllOf (L.ear link.old) directory token.now loaded.now (seen (K.held keeper.old) (K.calls keeper.old) (K.faults keeper.old))
+        (seen (K.held keeper.new) (K.calls keeper.new) (K.faults keeper.new))) }
+    ensures stopped { OnErr result ((seen (K.held keeper.new) (K.calls keeper.new) (K.faults keeper.new) ≡ seen (K.held keeper.old) (K.calls keeper.old) (K.faults keeper.old))
+        ⊎ StopsAllOf (L.ear link.old) directory token.now loaded.now (seen (K.held keeper.old) (K.calls keeper.old) (K.faults keeper.old))
         (seen (K.held keeper.new) (K.calls keeper.new) (K.faults keeper.new))) }
 {
     let token = match Text::of(alloc, token) {
@@ -104,6 +113,8 @@ fn listed_over<K: Keeper>(
     requires unheard { script.old ≡ unheard script.old.events }
     ensures lists { IfOk result (ListsOver directory token.now loaded.now script.old.events (seen (K.held keeper.old) (K.calls keeper.old) (K.faults keeper.old))
         (seen (K.held keeper.new) (K.calls keeper.new) (K.faults keeper.new))) }
+    ensures stopped { OnErr result (StoppedOver directory token.now loaded.now script.old.events (seen (K.held keeper.old) (K.calls keeper.old) (K.faults keeper.old))
+        (seen (K.held keeper.new) (K.calls keeper.new) (K.faults keeper.new))) }
 {
     let events = script.len();
     let offers = offered(alloc, directory, token, loaded, script, events, keeper)?;
@@ -128,6 +139,8 @@ pub fn listed<K: Keeper>(
     ensures lists { IfOk result (Lists directory token.now script.old.events (seen (K.held keeper.old) (K.calls keeper.old) (K.faults keeper.old))
         (seen (K.held keeper.new) (K.calls keeper.new) (K.faults keeper.new))) }
     ensures failed { IsErrOf result fault.Failed → IsNotLoaded directory.store (seen (K.held keeper.old) (K.calls keeper.old) (K.faults keeper.old))
+        (seen (K.held keeper.new) (K.calls keeper.new) (K.faults keeper.new)) }
+    ensures stopped { IsErrOf result fault.NoMemory → StoppedReplay directory token.now script.old.events (seen (K.held keeper.old) (K.calls keeper.old) (K.faults keeper.old))
         (seen (K.held keeper.new) (K.calls keeper.new) (K.faults keeper.new)) }
 {
     match open(alloc, keeper, directory.store.bytes()) {

@@ -262,7 +262,7 @@ pub fn run<F: Files, L: Link, K: Keeper, S: Sink>(
     // what the keeper holds then, the charging rows of the calls and of the seats of conference rooms, and what each call came to; or the keeper could not be bound to the
     // store of the configuration or not be loaded; or the link could not be bound or not take in what comes next. Of the others: what a text that was checked is; the text of
     // exactly the charging rows that the keeper gave, or that it could not be bound or not give them; the numbers of exactly what a server makes of so many calls by the salt,
-    // whose messages are known from these two. Or it is the text of another status.
+    // whose messages are known from these two. Or it is the text of another status; and where memory ran out, what had been done by then: of the last event a front at most.
     ensures ran { Ran (F.told files.old)
         (line_seen (L.ear link.old) (L.given link.old) (L.calls link.old) (L.taking link.old) (L.giving link.old))
         (line_seen (L.ear link.new) (L.given link.new) (L.calls link.new) (L.taking link.new) (L.giving link.new))

@@ -1,11 +1,10 @@
 //! A workload: what a server makes of the calls of a rule, counted.
 ghost use Rattle.std.specs.Prelude.{◌≡◌, ◌≤◌, IfOk, None, OnOk, Some, length};
-ghost use Rattle.mmtel_cli.specs.Due.{due_of_work};
-ghost use Rattle.mmtel_cli.specs.Found.{IsDue, IsRead};
-ghost use Rattle.mmtel_cli.specs.Keeping.{KeeperSeen, seen};
+ghost use Rattle.mmtel_cli.specs.Found.{IsRead};
+ghost use Rattle.mmtel_cli.specs.Gives.{GivesWork};
+ghost use Rattle.mmtel_cli.specs.Keeping.{seen};
 ghost use Rattle.mmtel_cli.specs.Listings.{OffersRun};
-ghost use Rattle.mmtel_cli.specs.Workloads.{Counts, diversions_in, with_line, work_config, work_loaded, work_text, work_token};
-ghost use Rattle.mmtel_directory.specs.Directory.{directory_of};
+ghost use Rattle.mmtel_cli.specs.Workloads.{Counts, diversions_in, with_line, work_loaded, work_text, work_token};
 ghost use Rattle.mmtel_script.specs.Script.{unheard};
 
 use crate::runs::offered;
@@ -137,7 +136,7 @@ fn worked(alloc: Global, directory: Directory, calls: u32, salt: u32) -> Result<
 
 /// What is due of `workload`.
 pub fn over_workload(alloc: Global, calls: u32, salt: u32) -> Report
-    ensures due { (keeper later : KeeperSeen) → IsDue keeper later result (due_of_work calls salt (directory_of work_config)) }
+    ensures gives { GivesWork calls salt result }
     ensures read { IsRead result }
 {
     match read_directory(alloc, CONFIG) {
@@ -145,7 +144,7 @@ pub fn over_workload(alloc: Global, calls: u32, salt: u32) -> Report
             Ok(text) => Report::Listing(text),
             Err(NoMemory) => Report::Memory,
         },
-        Err(DirectoryFault::BadLine { line }) => Report::Line(line),
+        Err(DirectoryFault::BadLine { .. }) => unreachable!(),
         Err(DirectoryFault::NoMemory) => Report::Memory,
     }
 }

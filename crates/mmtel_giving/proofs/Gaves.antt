@@ -1,5 +1,5 @@
 -- What was given, and what more was given, is what is given of both.
-use Rattle.std.proofs.Common.{◌≡◌, Bool, true, false, inl, inr, ◌<◌, ◌+◌, ℕ, List, [], ◌∷◌, ◌++◌, length, take, drop, map, refl, sym, ap, ◌∙◌, subst, Option, Some, None, Result, Ok, Err, append_assoc, append-nil, arith, get_or, add-one, drop-cons}
+use Rattle.std.proofs.Common.{◌≡◌, Bool, true, false, inl, inr, ◌<◌, ◌+◌, ◌-◌, ℕ, List, [], ◌∷◌, ◌++◌, length, take, drop, map, refl, sym, ap, ◌∙◌, subst, Option, Some, None, Result, Ok, Err, append_assoc, append-nil, arith, get_or, add-one, drop-cons}
 use Rattle.std.proofs.lemmas.List.{map-append, take-append-drop}
 use Rattle.std.proofs.lemmas.Option.{none-some}
 use Rattle.std.proofs.Math.Seq.{take-add}
@@ -15,7 +15,7 @@ use Rattle.mmtel_trust.specs.Peers.{addr_of}
 use Rattle.mmtel_trust.specs.declared.parties.KnownPeer.{KnownPeer}
 use Rattle.mmtel_types.specs.declared.addrs.Addr.{Addr}
 use Rattle.mmtel_types.specs.declared.numbers.Peer.{Peer}
-use Rattle.mmtel_giving.specs.Giving.{Gave, GaveAll, GaveMore, LostOnlyWhereRose, replies_of, sends_of, sent_at, sent_of, text_of}
+use Rattle.mmtel_giving.specs.Giving.{Gave, GaveAll, GaveMore, LostOnlyWhereRose, RoseBy, lost_more, lost_told, replies_of, sends_of, sent_at, sent_of, text_of}
 
 -- ---- one offer
 
@@ -114,3 +114,13 @@ lost_then a b c n m k (inl one) (inl other) = inl (other.0 ∙ one.0, other.1 �
 lost_then a b c n m k (inl one) (inr rose) = inr (subst (λ (l : ℕ). Rose l k) one.1 rose)
 lost_then a b c n m k (inr rose) (inl other) = inr (subst (λ (l : ℕ). Rose n l) (sym other.1) rose)
 lost_then a b c n m k (inr rose) (inr more) = inr (omega (arith, rose, more))
+
+-- and its count
+pub counted_none : (given : Option Given) (giving : ℕ) → RoseBy (lost_more given given) giving giving
+counted_none given giving = omega arith
+
+counts_then : (x y z n m k : ℕ) → RoseBy (y - x) n m → RoseBy (z - y) m k → RoseBy (z - x) n k
+counts_then x y z n m k one other = omega (arith, one, other)
+
+pub counted_then : (a b c : Option Given) (n m k : ℕ) → RoseBy (lost_more a b) n m → RoseBy (lost_more b c) m k → RoseBy (lost_more a c) n k
+counted_then a b c n m k one other = counts_then (lost_told a) (lost_told b) (lost_told c) n m k one other

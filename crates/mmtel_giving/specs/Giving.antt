@@ -1,5 +1,5 @@
 -- What a link is given of what a server offers: each datagram at the address of its peer, and each reply on a web connection, in the order of the offers.
-use Rattle.std.specs.Prelude.{◌≡◌, ◌⊎◌, ℕ, ◌+◌, List, [], ◌∷◌, ◌++◌, if◌then◌else◌, map, filter, length, Option, Some, None, Result, Ok, Err}
+use Rattle.std.specs.Prelude.{◌≡◌, ◌⊎◌, ◌≤◌, ℕ, ◌+◌, ◌-◌, ◌^◌, min, List, [], ◌∷◌, ◌++◌, if◌then◌else◌, map, filter, length, Option, Some, None, Result, Ok, Err}
 use Rattle.std.specs.Option.{option_map}
 use Rattle.mmtel_link.specs.Told.{Given, LinkCalls}
 use Rattle.mmtel_link.specs.declared.events.Replied.{Replied}
@@ -71,6 +71,18 @@ GaveAll known offers before after (Err e) = (front : List Offer) × (rest : List
 -- how much of what it was given
 abbrev pub lost_in : Given → ℕ
 lost_in given = length (filter (λ (sent : Sent). sent.lost) given.offers) + length (filter (λ (replied : Replied). replied.lost) given.replies)
+
+-- how much more of it than before, where the link tells it
+abbrev pub lost_told : Option Given → ℕ
+lost_told None = 0
+lost_told (Some given) = lost_in given
+
+abbrev pub lost_more : Option Given → Option Given → ℕ
+lost_more before after = lost_told after - lost_told before
+
+-- a count rose by so much at least, or stands at the greatest u64
+abbrev pub RoseBy : (much before now : ℕ) → Type 0
+RoseBy much before now = min (before + much) (2 ^ 64 - 1) ≤ now
 
 -- where the link tells it, no more than before
 abbrev pub LostNoMore : Option Given → Option Given → Type 0

@@ -1,6 +1,6 @@
 //! Giving a link what a server offers.
 ghost use Rattle.std.specs.Prelude.{◌≡◌, ◌∷◌, [], IsErrOf, OnErr, OnOk};
-ghost use Rattle.mmtel_giving.specs.Giving.{Gave, GaveAll, IsBoundStill, LostOnlyWhereRose};
+ghost use Rattle.mmtel_giving.specs.Giving.{Gave, GaveAll, IsBoundStill, LostOnlyWhereRose, RoseBy, lost_more};
 ghost use Rattle.mmtel_link.specs.declared.links.SendFault.TheVariants as fault;
 
 use mmtel_link::{Link, SendFault};
@@ -30,6 +30,7 @@ fn give<L: Link>(
     ensures gave { OnOk result (Gave peers.now.known (offer.now ∷ []) (L.given link.old) (L.given link.new)) }
     ensures none { OnErr result (L.given link.new ≡ L.given link.old) }
     ensures lost { LostOnlyWhereRose (L.given link.old) (L.given link.new) (L.giving link.old) (L.giving link.new) }
+    ensures counted { RoseBy (lost_more (L.given link.old) (L.given link.new)) (L.giving link.old) (L.giving link.new) }
     ensures heard { L.ear link.new ≡ L.ear link.old }
     ensures bound { IsBoundStill (L.calls link.old) (L.calls link.new) }
     ensures taking { L.taking link.new ≡ L.taking link.old }
@@ -56,6 +57,7 @@ pub fn give_each<L: Link>(
 ) -> Result<(), NoMemory>
     ensures gave { GaveAll peers.now.known offers.now (L.given link.old) (L.given link.new) result }
     ensures lost { LostOnlyWhereRose (L.given link.old) (L.given link.new) (L.giving link.old) (L.giving link.new) }
+    ensures counted { RoseBy (lost_more (L.given link.old) (L.given link.new)) (L.giving link.old) (L.giving link.new) }
     ensures heard { L.ear link.new ≡ L.ear link.old }
     ensures bound { IsBoundStill (L.calls link.old) (L.calls link.new) }
     ensures taking { L.taking link.new ≡ L.taking link.old }

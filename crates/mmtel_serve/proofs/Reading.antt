@@ -1,87 +1,122 @@
 -- How web connections are read, between what a link is given.
-use Rattle.std.proofs.Common.{◌≡◌, ℕ, zero, suc, List, [], ◌∷◌, ◌++◌, drop, length, refl, sym, ap, ◌∙◌, subst, append-nil, append_assoc, Option, Some, None, arith, inl, inr}
+use Rattle.std.proofs.Common.{◌≡◌, ◌+◌, ◌-◌, ℕ, zero, suc, List, [], ◌∷◌, ◌++◌, drop, length, refl, sym, ap, ◌∙◌, subst, append-nil, append_assoc, Option, Some, None, arith, inl, inr}
 use Rattle.std.specs.Prelude.{◌⊎◌}
 use Rattle.std.specs.Option.{option_map}
-use Rattle.mmtel_giving.specs.Giving.{IsBoundStill, LostNoMore, lost_in}
+use Rattle.mmtel_giving.specs.Giving.{IsBoundStill, LostNoMore, RoseBy, lost_in, lost_more, lost_told}
 use Rattle.mmtel_link.specs.Told.{Ear, Given, LinkCalls}
 use Rattle.mmtel_outside.specs.Counts.{Rose}
 use Rattle.mmtel_outside.specs.declared.events.Event.{Event}
+use Rattle.mmtel_outside.specs.declared.events.Event.TheVariants as event
 use Rattle.mmtel_types.specs.declared.addrs.Addr.{Addr}
-use Rattle.mmtel_server.specs.Driven.{AddsOne, CalledTimes, CalledWithin, EachRead, HeardMore, ReadEach, StandsOrRose, called_times, to_come}
+use Rattle.mmtel_server.specs.Driven.{AddsOne, CalledTimes, CalledWithin, EachRead, HeardMore, IsRead, ReadEach, StandsOrRose, called_times, to_come}
 use Rattle.mmtel_server.proofs.Heard.{rise_then, to_come_then}
-use Rattle.mmtel_serve.specs.Served.{EachReadBetween, ReadsBetween, ReadsButLast}
+use Rattle.mmtel_serve.specs.Served.{EachReadBut, IsReadBut, ReadsBetween, ReadsButLast}
+
+-- ---- a count that rose by so much
+
+rises_then : (j k a b c : ℕ) → RoseBy j a b → RoseBy k b c → RoseBy (j + k) a c
+rises_then j k a b c one other = omega (arith, one, other)
+
+loses_then : (unread x y z a b c : ℕ) → RoseBy (unread + (y - x)) a b → RoseBy (z - y) b c → RoseBy (unread + (z - x)) a c
+loses_then unread x y z a b c one other = omega (arith, one, other)
+
+reads_on : (j k lost a b c : ℕ) → RoseBy (j + lost) a b → RoseBy k b c → RoseBy ((j + k) + lost) a c
+reads_on j k lost a b c one other = omega (arith, one, other)
+
+stands_on : (much a b c : ℕ) → RoseBy much a b → StandsOrRose b c → RoseBy much a c
+stands_on much a b c one (inl same) = omega (arith, one, same)
+stands_on much a b c one (inr rose) = omega (arith, one, rose)
+
+-- ---- how web connections were read
 
 -- no event more
-none_between : (giving gave : ℕ) (es : List Event) → StandsOrRose giving gave → EachReadBetween giving gave es []
-none_between giving gave [] stands = stands
-none_between giving gave (e ∷ es) stands = stands
+none_but : (es : List Event) → EachReadBut 0 es []
+none_but [] = refl
+none_but (e ∷ es) = refl
 
-pub reads_nothing : (ear : Option Ear) (giving gave : ℕ) → StandsOrRose giving gave → ReadsBetween ear ear giving gave
-reads_nothing None giving gave stands = tt
-reads_nothing (Some ear) giving gave stands = ([], sym (append-nil ear.reads), none_between giving gave (to_come ear) stands)
+pub reads_nothing : (ear : Option Ear) (given : Option Given) (giving : ℕ) → ReadsBetween ear ear given given giving giving
+reads_nothing None given giving = tt
+reads_nothing (Some ear) given giving = ([], 0, sym (append-nil ear.reads), none_but (to_come ear), omega arith)
 
--- after what was lost, these were read
-between_each : (a b c : ℕ) (es : List Event) (reads : List ℕ) → StandsOrRose a b → EachRead b c es reads → EachReadBetween a c es reads
-between_each a b c [] [] first each = subst (λ (n : ℕ). StandsOrRose a n) (sym each) first
-between_each a b c (e ∷ es) [] first each = subst (λ (n : ℕ). StandsOrRose a n) (sym each) first
-between_each a b c [] (n ∷ reads) first each = absurd each
-between_each a b c (e ∷ es) (n ∷ reads) first each = (b, each.0, first, (each.1, between_each each.0 each.0 c es reads (inl refl) each.2))
+-- one that was read out, but where a read failed
+one_but : (a b count : ℕ) (e : Event) → IsRead a b count e → (unread : ℕ) × IsReadBut unread count e × RoseBy unread a b
+one_but a b count (event.Datagram from at bytes) is = (0, refl, omega (arith, is))
+one_but a b count (event.Web at bytes) is = elim is.1 [
+  | inl out ↦ let same = out.1 in (0, (is.0, inl (out.0, refl)), omega (arith, same))
+  | inr rose ↦ (1, (is.0, inr refl), omega (arith, rose))
+]
+one_but a b count (event.Quiet at) is = (0, refl, omega (arith, is))
+
+-- the same of each
+each_but : (a b : ℕ) (es : List Event) (reads : List ℕ) → EachRead a b es reads → (unread : ℕ) × EachReadBut unread es reads × RoseBy unread a b
+each_but a b [] [] each = (0, refl, omega (arith, each))
+each_but a b (e ∷ es) [] each = (0, refl, omega (arith, each))
+each_but a b [] (n ∷ reads) each = absurd each
+each_but a b (e ∷ es) (n ∷ reads) each =
+    let one = one_but a each.0 n e each.1 in
+    let others = each_but each.0 b es reads each.2 in
+    (one.0 + others.0, (one.0, others.0, refl, (one.1, others.1)), rises_then one.0 others.0 a each.0 b one.2 others.2)
 
 -- and then these
-between_then : (a b c : ℕ) (es : List Event) (reads more : List ℕ) → EachReadBetween a b es reads → EachRead b c (drop (length reads) es) more → EachReadBetween a c es (reads ++ more)
-between_then a b c [] [] more first second = between_each a b c [] more first second
-between_then a b c (e ∷ es) [] more first second = between_each a b c (e ∷ es) more first second
-between_then a b c [] (n ∷ reads) more first second = absurd first
-between_then a b c (e ∷ es) (n ∷ reads) more first second = (first.0, first.1, first.2, (first.3.0, between_then first.1 b c es reads more first.3.1 second))
+but_then : (j k : ℕ) (es : List Event) (reads more : List ℕ) → EachReadBut j es reads → EachReadBut k (drop (length reads) es) more → EachReadBut (j + k) es (reads ++ more)
+but_then j k [] [] more first second = subst (λ (n : ℕ). EachReadBut n [] more) (omega (arith, first)) second
+but_then j k (e ∷ es) [] more first second = subst (λ (n : ℕ). EachReadBut n (e ∷ es) more) (omega (arith, first)) second
+but_then j k [] (n ∷ reads) more first second = absurd first
+but_then j k (e ∷ es) (n ∷ reads) more first second =
+    let all = first.2 in
+    (first.0, first.1 + k, omega (arith, all), (first.3.0, but_then first.1 k es reads more first.3.1 second))
 
 -- and then something may have been lost
-between_lost : (a b c : ℕ) (es : List Event) (reads : List ℕ) → EachReadBetween a b es reads → StandsOrRose b c → EachReadBetween a c es reads
-between_lost a b c [] [] first lost = rise_then a b c first lost
-between_lost a b c (e ∷ es) [] first lost = rise_then a b c first lost
-between_lost a b c [] (n ∷ reads) first lost = absurd first
-between_lost a b c (e ∷ es) (n ∷ reads) first lost = (first.0, first.1, first.2, (first.3.0, between_lost first.1 b c es reads first.3.1 lost))
+pub reads_lost : (ear later : Option Ear) (given between now : Option Given) (a b c : ℕ) → ReadsBetween ear later given between a b → RoseBy (lost_more between now) b c
+    → ReadsBetween ear later given now a c
+reads_lost None later given between now a b c first lost = tt
+reads_lost (Some ear) None given between now a b c first lost = absurd first
+reads_lost (Some ear) (Some later) given between now a b c first lost =
+    (first.0, first.1, first.2, first.3, loses_then first.1 (lost_told given) (lost_told between) (lost_told now) a b c first.4 lost)
 
-pub reads_lost : (ear later : Option Ear) (a b c : ℕ) → ReadsBetween ear later a b → StandsOrRose b c → ReadsBetween ear later a c
-reads_lost None later a b c first lost = tt
-reads_lost (Some ear) None a b c first lost = absurd first
-reads_lost (Some ear) (Some later) a b c first lost = (first.0, first.1, between_lost a b c (to_come ear) first.0 first.2 lost)
-
-pub reads_then : (ear mid later : Option Ear) (a b c : ℕ) (xs : List Event) → HeardMore ear mid xs → ReadsBetween ear mid a b → ReadEach mid later b c → ReadsBetween ear later a c
-reads_then None mid later a b c xs h first second = tt
-reads_then (Some ear) None later a b c xs h first second = absurd first
-reads_then (Some ear) (Some mid) None a b c xs h first second = absurd second
-reads_then (Some ear) (Some mid) (Some later) a b c xs h first second =
+pub reads_then : (ear mid later : Option Ear) (given now : Option Given) (a b c : ℕ) (xs : List Event) → HeardMore ear mid xs → ReadsBetween ear mid given now a b → ReadEach mid later b c
+    → ReadsBetween ear later given now a c
+reads_then None mid later given now a b c xs h first second = tt
+reads_then (Some ear) None later given now a b c xs h first second = absurd first
+reads_then (Some ear) (Some mid) None given now a b c xs h first second = absurd second
+reads_then (Some ear) (Some mid) (Some later) given now a b c xs h first second =
     let there : EachRead b c (drop (length first.0) (to_come ear)) second.0 =
-    subst (λ (es : List Event). EachRead b c es second.0) (to_come_then ear mid first.0 h.0 first.1) second.2 in (
+    subst (λ (es : List Event). EachRead b c es second.0) (to_come_then ear mid first.0 h.0 first.2) second.2 in
+    let these = each_but b c (drop (length first.0) (to_come ear)) second.0 there in (
       first.0 ++ second.0,
-      second.1 ∙ (ap (λ (l : List ℕ). l ++ second.0) first.1 ∙ append_assoc ear.reads first.0 second.0),
-      between_then a b c (to_come ear) first.0 second.0 first.2 there,
+      first.1 + these.0,
+      second.1 ∙ (ap (λ (l : List ℕ). l ++ second.0) first.2 ∙ append_assoc ear.reads first.0 second.0),
+      but_then first.1 these.0 (to_come ear) first.0 second.0 first.3 these.1,
+      reads_on first.1 these.0 (lost_more given now) a b c first.4 these.2,
     )
 
 -- the last of them was not read to its end
-pub reads_lost_last : (ear mid later : Option Ear) (a b : ℕ) → ReadsBetween ear mid a b → AddsOne mid later → ReadsButLast ear later a
-reads_lost_last None mid later a b first second = tt
-reads_lost_last (Some ear) None later a b first second = absurd first
-reads_lost_last (Some ear) (Some mid) None a b first second = absurd second
-reads_lost_last (Some ear) (Some mid) (Some later) a b first second = (
+pub reads_lost_last : (ear mid later : Option Ear) (given now : Option Given) (a b c : ℕ) → ReadsBetween ear mid given now a b → AddsOne mid later → StandsOrRose b c
+    → ReadsButLast ear later given now a c
+reads_lost_last None mid later given now a b c first second stands = tt
+reads_lost_last (Some ear) None later given now a b c first second stands = absurd first
+reads_lost_last (Some ear) (Some mid) None given now a b c first second stands = absurd second
+reads_lost_last (Some ear) (Some mid) (Some later) given now a b c first second stands = (
   first.0,
   second.0,
-  b,
-  second.2 ∙ (ap (λ (l : List ℕ). l ++ second.0) first.1 ∙ append_assoc ear.reads first.0 second.0),
+  first.1,
+  second.2 ∙ (ap (λ (l : List ℕ). l ++ second.0) first.2 ∙ append_assoc ear.reads first.0 second.0),
   second.1,
-  first.2,
+  first.3,
+  stands_on (first.1 + lost_more given now) a b c first.4 stands,
 )
 
-pub reads_all_last : (ear later : Option Ear) (a b : ℕ) → ReadsBetween ear later a b → ReadsButLast ear later a
-reads_all_last None later a b first = tt
-reads_all_last (Some ear) None a b first = absurd first
-reads_all_last (Some ear) (Some later) a b first = (
+pub reads_all_last : (ear later : Option Ear) (given now : Option Given) (a b : ℕ) → ReadsBetween ear later given now a b → ReadsButLast ear later given now a b
+reads_all_last None later given now a b first = tt
+reads_all_last (Some ear) None given now a b first = absurd first
+reads_all_last (Some ear) (Some later) given now a b first = (
   first.0,
   [],
-  b,
-  first.1 ∙ ap (λ (l : List ℕ). ear.reads ++ l) (sym (append-nil first.0)),
+  first.1,
+  first.2 ∙ ap (λ (l : List ℕ). ear.reads ++ l) (sym (append-nil first.0)),
   omega arith,
-  first.2,
+  first.3,
+  first.4,
 )
 
 -- ---- what was lost

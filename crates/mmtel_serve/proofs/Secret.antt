@@ -1,19 +1,25 @@
 -- What is sent to a peer's address is what the peer sees of the offers, and keeps the secret.
-use Rattle.std.proofs.Common.{◌≡◌, ℕ, Bool, true, false, List, [], ◌∷◌, ◌++◌, map, refl, sym, ap, ◌∙◌, Option, None, Some}
+use Rattle.std.proofs.Common.{◌≡◌, ◌==◌, ℕ, Bool, true, false, List, [], ◌∷◌, ◌++◌, map, refl, sym, ap, ◌∙◌, subst, Option, None, Some, inl, inr}
 use Rattle.std.specs.Prelude.{if◌then◌else◌}
+use Rattle.std.proofs.lemmas.Bool.{cases_Bool}
 use Rattle.std.proofs.lemmas.List.{map-append}
 use Rattle.mmtel_giving.specs.Giving.{Gave, bytes_to, sends_of, sent_of}
 use Rattle.mmtel_link.specs.Told.{Given}
 use Rattle.mmtel_outside.specs.declared.events.Offer.{Offer}
+use Rattle.mmtel_outside.specs.declared.events.Offer.TheVariants as offer
 use Rattle.mmtel_run.specs.Events.{Happened}
 use Rattle.mmtel_run.specs.Headline.{Gives, GivesAlways}
+use Rattle.mmtel_run.specs.Run.{IsEnough, gives}
+use Rattle.mmtel_run.specs.Short.{IsShortRun}
+use Rattle.mmtel_run.specs.View.{view}
 use Rattle.mmtel_run_laws.specs.Seen.{BytesAreSeen, texts_seen}
 use Rattle.mmtel_run_laws.specs.Secret.{OffersKeepTheSecret}
 use Rattle.mmtel_server.specs.declared.servers.Server.{Server}
 use Rattle.mmtel_trust.specs.declared.parties.KnownPeer.{KnownPeer}
 use Rattle.mmtel_types.specs.Addrs.{is_same_addr}
 use Rattle.mmtel_types.specs.declared.addrs.Addr.{Addr}
-use Rattle.mmtel_serve.specs.Served.{GaveOn, KeptTheSecret, SentTo}
+use Rattle.mmtel_types.specs.declared.numbers.Peer.{Peer}
+use Rattle.mmtel_serve.specs.Served.{GaveOn, KeptInFront, KeptTheSecret, SentTo, StoppedGiving}
 
 one_more : (b : Bool) (text : List ℕ) (xs ys : List (List ℕ)) → (if b then text ∷ (xs ++ ys) else xs ++ ys) ≡ (if b then text ∷ xs else xs) ++ ys
 one_more true text xs ys = refl
@@ -43,4 +49,38 @@ kept_of keeps always bytes happened old given now gave d token loaded serves sho
       here.0,
       keeps d token loaded happened here.0 exact,
       λ seer addr apart at. sent_there d.peers.known here.0 given now addr (texts_seen seer here.0) here.2 (bytes d.peers.known seer addr here.0 apart at),
+    )
+
+-- ---- where memory ran out
+
+view_then : (p : Peer) (xs ys : List Offer) → view p (xs ++ ys) ≡ view p xs ++ view p ys
+view_then p [] ys = refl
+view_then p (offer.To peer at text ∷ xs) ys = elim (cases_Bool (peer.0 == p.0)) [
+  | inl y ↦ rw y (ap (λ (l : List (ℕ × List ℕ)). (at, text) ∷ l) (view_then p xs ys))
+  | inr n ↦ rw n (view_then p xs ys)
+]
+view_then p (offer.Web at text ∷ xs) ys = view_then p xs ys
+
+seen_then : (p : Peer) (xs ys : List Offer) → texts_seen p (xs ++ ys) ≡ texts_seen p xs ++ texts_seen p ys
+seen_then p xs ys = ap (map (λ (seen : ℕ × List ℕ). seen.1)) (view_then p xs ys) ∙ map-append (λ (seen : ℕ × List ℕ). seen.1) (view p xs) (view p ys)
+
+-- what was given is a front of what the run gives, so what was sent is a front of what is seen of that
+pub front_of : OffersKeepTheSecret → GivesAlways → BytesAreSeen → (happened : List Happened) (old : Server) (given now : Option Given) → StoppedGiving happened old given now
+    → KeptInFront happened old given now
+front_of keeps always bytes happened old given now s d token loaded serves short =
+    let enough = always d token loaded happened in
+    let few = subst (λ (l : List Happened). IsShortRun d token loaded l) s.parts short in
+    let so_far = subst (λ (l : List Happened). IsEnough d token loaded enough.0 l) s.parts enough.1 in
+    let here = s.gave d token loaded [] enough.0 serves few so_far in
+    let offers : List Offer = gives d token loaded enough.0 happened in
+    let front : here.0 ++ here.1.1.0 ≡ offers = here.1.1.1 ∙ ap (gives d token loaded enough.0) (sym s.parts) in
+    let exact : Gives d token loaded happened offers = record { fuel = enough.0; enough = enough.1; exact = refl } in (
+      offers,
+      keeps d token loaded happened offers exact,
+      λ seer addr apart at. (
+        texts_seen seer here.0,
+        texts_seen seer here.1.1.0,
+        sym (seen_then seer here.0 here.1.1.0) ∙ ap (texts_seen seer) front,
+        sent_there d.peers.known here.0 given now addr (texts_seen seer here.0) here.2 (bytes d.peers.known seer addr here.0 apart at),
+      ),
     )

@@ -1,18 +1,19 @@
 -- What `serve` heard of a link, made of it, and gave it.
-use Rattle.std.specs.Prelude.{◌≡◌, ◌≤◌, ℕ, Bool, ⊤, List, [], ◌∷◌, ◌++◌, length, map, true, Option, Some, None, Result, Ok, Err}
+use Rattle.std.specs.Prelude.{◌≡◌, ◌≤◌, ◌⊎◌, ◌+◌, ℕ, Bool, ⊤, List, [], ◌∷◌, ◌++◌, length, map, true, Option, Some, None, Result, Ok, Err}
 use Rattle.mmtel_directory.specs.declared.directories.Directory.{Directory}
-use Rattle.mmtel_giving.specs.Giving.{Gave, bytes_to, sent_of}
+use Rattle.mmtel_giving.specs.Giving.{Gave, RoseBy, bytes_to, lost_more, sent_of}
 use Rattle.mmtel_in_force.specs.Texts.{Texts}
 use Rattle.mmtel_keeper.specs.Kept.{Held, KeeperCalls}
 use Rattle.mmtel_link.specs.Told.{Ear, Given}
 use Rattle.mmtel_outside.specs.declared.events.Event.{Event}
+use Rattle.mmtel_outside.specs.declared.events.Event.TheVariants as event
 use Rattle.mmtel_outside.specs.declared.events.Offer.{Offer}
 use Rattle.mmtel_run.specs.Events.{Happened}
 use Rattle.mmtel_run.specs.Run.{IsEnough, gives}
 use Rattle.mmtel_run.specs.Short.{IsShortRun}
 use Rattle.mmtel_run_laws.specs.Seen.{texts_seen}
 use Rattle.mmtel_run_laws.specs.Secret.{SeesAlike}
-use Rattle.mmtel_server.specs.Driven.{IsRead, MadeOf, ServesOn, StandsOrRose, to_come}
+use Rattle.mmtel_server.specs.Driven.{IsNeeded, IsReadOut, MadeOf, ServesOn, to_come}
 use Rattle.mmtel_server.specs.Stands.{IsCut, Serves}
 use Rattle.mmtel_server.specs.declared.driving.DriveFault.{DriveFault}
 use Rattle.mmtel_server.specs.declared.driving.DriveFault.TheVariants.{LinkFault, NoMemory}
@@ -23,32 +24,39 @@ use Rattle.mmtel_types.specs.declared.numbers.Peer.{Peer}
 
 -- ---- how web connections were read
 
--- each event that came of these was read so, in order: a web connection was read out, but where a read failed, at which the count of giving out rose; between them the
--- count stood, or rose where something that was given was lost
-abbrev pub EachReadBetween : (giving gave : ℕ) → List Event → (reads : List ℕ) → Type 0
-EachReadBetween giving gave events [] = StandsOrRose giving gave
-EachReadBetween giving gave [] (count ∷ reads) = ⊥
-EachReadBetween giving gave (e ∷ events) (count ∷ reads) =
-    (before : ℕ) × (between : ℕ) × StandsOrRose giving before × (IsRead before between count e × EachReadBetween between gave events reads)
+-- an event came of which so many bytes were read: no read was made of a web connection that was not needed, and it was read out; or it was not, and is one of those
+abbrev pub IsReadBut : (unread : ℕ) → ℕ → Event → Type 0
+IsReadBut unread count (event.Datagram from at bytes) = unread ≡ 0
+IsReadBut unread count (event.Web at bytes) = IsNeeded count bytes × ((IsReadOut count bytes × (unread ≡ 0)) ⊎ (unread ≡ 1))
+IsReadBut unread count (event.Quiet at) = unread ≡ 0
 
--- where the link tells what it hears, each event that came was read so
-abbrev pub ReadsBetween : Option Ear → Option Ear → (giving gave : ℕ) → Type 0
-ReadsBetween None later giving gave = ⊤
-ReadsBetween (Some ear) None giving gave = ⊥
-ReadsBetween (Some ear) (Some later) giving gave = (reads : List ℕ) × (later.reads ≡ ear.reads ++ reads) × EachReadBetween giving gave (to_come ear) reads
+-- the same of each event that came of these, in order: all of their web connections but so many were read out
+abbrev pub EachReadBut : (unread : ℕ) → List Event → (reads : List ℕ) → Type 0
+EachReadBut unread events [] = unread ≡ 0
+EachReadBut unread [] (count ∷ reads) = ⊥
+EachReadBut unread (e ∷ events) (count ∷ reads) = (one : ℕ) × (others : ℕ) × (unread ≡ one + others) × (IsReadBut one count e × EachReadBut others events reads)
+
+-- where the link tells what it hears, each event that came was read so: its count of giving out rose once for each connection that was not read out, and once for each thing
+-- more that was lost, where it tells that
+abbrev pub ReadsBetween : Option Ear → Option Ear → (given now : Option Given) → (giving gave : ℕ) → Type 0
+ReadsBetween None later given now giving gave = ⊤
+ReadsBetween (Some ear) None given now giving gave = ⊥
+ReadsBetween (Some ear) (Some later) given now giving gave =
+    (reads : List ℕ) × (unread : ℕ) × (later.reads ≡ ear.reads ++ reads) × EachReadBut unread (to_come ear) reads × RoseBy (unread + lost_more given now) giving gave
 
 -- each but the last, if that was not read to its end
-abbrev pub ReadsButLast : Option Ear → Option Ear → (giving : ℕ) → Type 0
-ReadsButLast None later giving = ⊤
-ReadsButLast (Some ear) None giving = ⊥
-ReadsButLast (Some ear) (Some later) giving =
-    (reads : List ℕ) × (last : List ℕ) × (gave : ℕ) × (later.reads ≡ ear.reads ++ (reads ++ last)) × (length last ≤ 1) × EachReadBetween giving gave (to_come ear) reads
+abbrev pub ReadsButLast : Option Ear → Option Ear → (given now : Option Given) → (giving gave : ℕ) → Type 0
+ReadsButLast None later given now giving gave = ⊤
+ReadsButLast (Some ear) None given now giving gave = ⊥
+ReadsButLast (Some ear) (Some later) given now giving gave =
+    (reads : List ℕ) × (last : List ℕ) × (unread : ℕ) × (later.reads ≡ ear.reads ++ (reads ++ last)) × (length last ≤ 1) × EachReadBut unread (to_come ear) reads
+    × RoseBy (unread + lost_more given now) giving gave
 
 -- memory may have run out in reading the last
-abbrev pub ReadsAll : Option Ear → Option Ear → (giving gave : ℕ) → Result Bool DriveFault → Type 0
-ReadsAll ear later giving gave (Ok closed) = ReadsBetween ear later giving gave
-ReadsAll ear later giving gave (Err LinkFault) = ReadsBetween ear later giving gave
-ReadsAll ear later giving gave (Err NoMemory) = ReadsButLast ear later giving
+abbrev pub ReadsAll : Option Ear → Option Ear → (given now : Option Given) → (giving gave : ℕ) → Result Bool DriveFault → Type 0
+ReadsAll ear later given now giving gave (Ok closed) = ReadsBetween ear later given now giving gave
+ReadsAll ear later given now giving gave (Err LinkFault) = ReadsBetween ear later given now giving gave
+ReadsAll ear later given now giving gave (Err NoMemory) = ReadsButLast ear later given now giving gave
 
 -- ---- what the link was given
 
@@ -100,10 +108,18 @@ KeptTheSecret happened old given now =
     (offers : List Offer) × SeesAlike directory token loaded happened offers
     × ((seer : Peer) (addr : Addr) → are_apart directory.peers.known ≡ true → addr_of seer directory.peers.known ≡ Some addr → SentTo addr given now (texts_seen seer offers))
 
+-- the same where memory ran out: what was sent to its address is a front of what it sees of them
+abbrev pub KeptInFront : List Happened → Server → Option Given → Option Given → Type 0
+KeptInFront happened old given now =
+    (directory : Directory) (token : List ℕ) (loaded : Texts) → Serves directory token loaded [] old → IsShortRun directory token loaded happened →
+    (offers : List Offer) × SeesAlike directory token loaded happened offers
+    × ((seer : Peer) (addr : Addr) → are_apart directory.peers.known ≡ true → addr_of seer directory.peers.known ≡ Some addr →
+    (front : List (List ℕ)) × (rest : List (List ℕ)) × (front ++ rest ≡ texts_seen seer offers) × SentTo addr given now front)
+
 abbrev pub KeptAll : List Happened → Server → Option Given → Option Given → Result Bool DriveFault → Type 0
 KeptAll happened old given now (Ok closed) = KeptTheSecret happened old given now
 KeptAll happened old given now (Err LinkFault) = KeptTheSecret happened old given now
-KeptAll happened old given now (Err NoMemory) = ⊤
+KeptAll happened old given now (Err NoMemory) = KeptInFront happened old given now
 
 -- ---- the whole
 
@@ -114,7 +130,7 @@ pub record Served (ear later : Option Ear) (giving gave : ℕ) (given now : Opti
   pub happened : List Happened
   pub made : MadeOf happened ear later held left calls after faults count turns old result
   -- the web connections among them read out,
-  pub read : ReadsAll ear later giving gave result
+  pub read : ReadsAll ear later given now giving gave result
   -- the server did them all, and the link was given what that makes it offer,
   pub given_all : GaveAllOf happened old new given now result
   -- and the secret was kept

@@ -41,5 +41,5 @@ pub record ServedSoFar (ear later : Option Ear) (giving gave : ℕ) (given now :
     (turns : ℕ) (old new : Server) : Type 0 where
   pub happened : List Happened
   pub made : MadeSoFar happened ear later held left calls after faults count turns old new
-  pub read : ReadsBetween ear later giving gave
+  pub read : ReadsBetween ear later given now giving gave
   pub gave_all : GaveOn happened old given now

@@ -1,6 +1,6 @@
 //! Serving: the server over a link that is given what the server offers.
 ghost use Rattle.std.specs.Prelude.{◌≡◌, ◌⊎◌, OnErr, OnOk};
-ghost use Rattle.mmtel_giving.specs.Giving.{IsBoundStill, LostNoMore, LostOnlyWhereRose};
+ghost use Rattle.mmtel_giving.specs.Giving.{IsBoundStill, LostNoMore, LostOnlyWhereRose, RoseBy, lost_more};
 ghost use Rattle.mmtel_outside.specs.Counts.{Rose};
 ghost use Rattle.mmtel_serve.specs.Served.{Served};
 ghost use Rattle.mmtel_serve.specs.Turns.{EventServed, EventStopped};
@@ -29,6 +29,7 @@ fn serve_event<L: Link, K: Keeper>(
         ⊎ EventServed server.old server.new event.now (L.given link.old) (L.given link.new)
         (K.held keeper.old) (K.held keeper.new) (K.calls keeper.old) (K.calls keeper.new) (K.faults keeper.old) (K.faults keeper.new) result) }
     ensures lost { LostOnlyWhereRose (L.given link.old) (L.given link.new) (L.giving link.old) (L.giving link.new) }
+    ensures counted { RoseBy (lost_more (L.given link.old) (L.given link.new)) (L.giving link.old) (L.giving link.new) }
     ensures heard { L.ear link.new ≡ L.ear link.old }
     ensures bound { IsBoundStill (L.calls link.old) (L.calls link.new) }
     ensures taking { L.taking link.new ≡ L.taking link.old }

@@ -10,7 +10,7 @@ use Rattle.mmtel_run.specs.Events.{Happened, events_in}
 use Rattle.mmtel_run.specs.Headline.{GivesAlways}
 use Rattle.mmtel_run.specs.Run.{IsEnough, gives}
 use Rattle.mmtel_run.specs.Short.{IsShortRun}
-use Rattle.mmtel_server.specs.Driven.{AddsOne, BrokeOff, Driven, HeardMore, IsAtEnd, KeptTheSecret, ReadEach, Takes, WentOn}
+use Rattle.mmtel_server.specs.Driven.{AddsOne, BrokeOff, Driven, HeardMore, IsAtEnd, KeptTheSecret, ReadEach, StandsOrRose, Takes, WentOn}
 use Rattle.mmtel_server.specs.Follows.{AllDrawOn}
 use Rattle.mmtel_server.specs.Laws.{RunLaws, WentSeesAlike}
 use Rattle.mmtel_server.specs.Stands.{AddsFront, BreaksOff, IsPrefixOf, Went}
@@ -125,14 +125,14 @@ module _ (laws : RunLaws) (ear : Option Ear) (giving : ℕ) (held : Option Held)
           }
 
       -- memory ran out before it was read to its end
-      pub lost : (later : Option Ear) (now : ℕ) (es : List Event) → length es ≤ 1 → HeardMore mid later es × AddsOne mid later
+      pub lost : (later : Option Ear) (now : ℕ) → StandsOrRose gave now → (es : List Event) → length es ≤ 1 → HeardMore mid later es × AddsOne mid later
           → Driven ear later giving now held kept_by calls asked faults count most old out server between (Err NoMemory)
-      lost later now es one told =
+      lost later now stands es one told =
           let few_lost : length (lost_events es) ≤ 1 = omega (arith, length_lost es, one) in
           record {
             happened = d.happened ++ lost_events es;
             made = made_lost laws ear held calls faults old d.happened mid kept_by asked count turns server d.made most later es one (omega (arith, less, one)) told.0;
-            read = read_lost_last ear mid later giving gave d.read told.1;
+            read = read_lost_last ear mid later giving gave now d.read told.1 stands;
             did = broke_there laws.draws laws.always d.happened (lost_events es) old server out between few_lost d.did;
             kept = tt;
           }
@@ -150,16 +150,16 @@ module _ (laws : RunLaws) (ear : Option Ear) (giving : ℕ) (held : Option Held)
         }
 
         -- it failed
-        pub fails : (later : Option Ear) (now : ℕ) (e : DriveFault) → Takes mid later gave now (Err e)
+        pub fails : (later : Option Ear) (now : ℕ) → StandsOrRose gave now → (e : DriveFault) → Takes mid later gave now (Err e)
             → Driven ear later giving now held kept_by calls asked faults count most old out server between (Err e)
-        fails later now LinkFault told = record {
+        fails later now stands LinkFault told = record {
           happened = d.happened;
           made = made_failed laws ear held calls faults old d.happened mid kept_by asked count turns server d.made most less later told.0;
           read = read_more later now told.1;
           did = d.did;
           kept = kept secret d.happened old server out between d.did;
         }
-        fails later now NoMemory told = lost later now told.0 told.1 told.2
+        fails later now stands NoMemory told = lost later now stands told.0 told.1 told.2
 
     -- the turns were made
     pub ends : WentSeesAlike → (most : ℕ) → turns ≡ most → Driven ear mid giving gave held kept_by calls asked faults count most old out server between (Ok false)

@@ -174,20 +174,21 @@ read_then (Some ear) (Some mid) (Some later) a b c xs h first second =
     )
 
 -- the last of them was not read to its end
-pub read_lost_last : (ear mid later : Option Ear) (a b : ℕ) → ReadEach ear mid a b → AddsOne mid later → ReadButLast ear later a
-read_lost_last None mid later a b first second = tt
-read_lost_last (Some ear) None later a b first second = absurd first
-read_lost_last (Some ear) (Some mid) None a b first second = absurd second
-read_lost_last (Some ear) (Some mid) (Some later) a b first second = (
+pub read_lost_last : (ear mid later : Option Ear) (a b c : ℕ) → ReadEach ear mid a b → AddsOne mid later → StandsOrRose b c → ReadButLast ear later a c
+read_lost_last None mid later a b c first second stands = tt
+read_lost_last (Some ear) None later a b c first second stands = absurd first
+read_lost_last (Some ear) (Some mid) None a b c first second stands = absurd second
+read_lost_last (Some ear) (Some mid) (Some later) a b c first second stands = (
   first.0,
   second.0,
   b,
   second.2 ∙ (ap (λ (l : List ℕ). l ++ second.0) first.1 ∙ append_assoc ear.reads first.0 second.0),
   second.1,
   first.2,
+  stands,
 )
 
-pub read_all_last : (ear later : Option Ear) (a b : ℕ) → ReadEach ear later a b → ReadButLast ear later a
+pub read_all_last : (ear later : Option Ear) (a b : ℕ) → ReadEach ear later a b → ReadButLast ear later a b
 read_all_last None later a b first = tt
 read_all_last (Some ear) None a b first = absurd first
 read_all_last (Some ear) (Some later) a b first = (
@@ -197,6 +198,7 @@ read_all_last (Some ear) (Some later) a b first = (
   first.1 ∙ ap (λ (l : List ℕ). ear.reads ++ l) (sym (append-nil first.0)),
   omega arith,
   first.2,
+  inl refl,
 )
 
 -- ---- counts

@@ -90,22 +90,23 @@ ReadEach None later giving gave = ⊤
 ReadEach (Some ear) None giving gave = ⊥
 ReadEach (Some ear) (Some later) giving gave = (reads : List ℕ) × (later.reads ≡ ear.reads ++ reads) × EachRead giving gave (to_come ear) reads
 
+-- a count stands, or it rose
+abbrev pub StandsOrRose : ℕ → ℕ → Type 0
+StandsOrRose before now = (now ≡ before) ⊎ Rose before now
+
 -- each but the last, if that was not read to its end
-abbrev pub ReadButLast : Option Ear → Option Ear → (giving : ℕ) → Type 0
-ReadButLast None later giving = ⊤
-ReadButLast (Some ear) None giving = ⊥
-ReadButLast (Some ear) (Some later) giving =
-    (reads : List ℕ) × (last : List ℕ) × (gave : ℕ) × (later.reads ≡ ear.reads ++ (reads ++ last)) × (length last ≤ 1) × EachRead giving gave (to_come ear) reads
+abbrev pub ReadButLast : Option Ear → Option Ear → (giving gave : ℕ) → Type 0
+ReadButLast None later giving gave = ⊤
+ReadButLast (Some ear) None giving gave = ⊥
+ReadButLast (Some ear) (Some later) giving gave =
+    (reads : List ℕ) × (last : List ℕ) × (before : ℕ) × (later.reads ≡ ear.reads ++ (reads ++ last)) × (length last ≤ 1) × EachRead giving before (to_come ear) reads
+    × StandsOrRose before gave
 
 -- memory may have run out in reading the last
 abbrev pub ReadAll : Option Ear → Option Ear → (giving gave : ℕ) → Result Bool DriveFault → Type 0
 ReadAll ear later giving gave (Ok closed) = ReadEach ear later giving gave
 ReadAll ear later giving gave (Err LinkFault) = ReadEach ear later giving gave
-ReadAll ear later giving gave (Err NoMemory) = ReadButLast ear later giving
-
--- a count stands, or it rose
-abbrev pub StandsOrRose : ℕ → ℕ → Type 0
-StandsOrRose before now = (now ≡ before) ⊎ Rose before now
+ReadAll ear later giving gave (Err NoMemory) = ReadButLast ear later giving gave
 
 -- ---- one turn
 
@@ -202,13 +203,14 @@ CameToOutcome happened old =
     (directory : Directory) (token : List ℕ) (loaded : Texts) (earlier : List Happened) →
     Serves directory token loaded earlier old → IsShortRun directory token loaded (earlier ++ happened) → CallsComeToOutcome directory token loaded (earlier ++ happened)
 
--- each seat of its rooms that was left was charged once
+-- each seat of its rooms that was left was charged once, to the account of the deed that gave it; and all rows stand in the order of the steps
 abbrev pub ChargedSeats : List Happened → Server → Type 0
 ChargedSeats happened old =
     (directory : Directory) (token : List ℕ) (loaded : Texts) (earlier : List Happened) →
     Serves directory token loaded earlier old → IsShortRun directory token loaded (earlier ++ happened) → SeatsAreChargedOnce directory token loaded (earlier ++ happened)
 
--- and each text that is offered to a peer in it has its own lines and nobody else's, under a home domain and a token of one line each
+-- and each message that is built in it has its own lines and nobody else's, and each text that is offered to a peer is that of one, under a home domain and a token of one line
+-- each
 abbrev pub SentClean : List Happened → Server → Type 0
 SentClean happened old =
     (directory : Directory) (token : List ℕ) (loaded : Texts) (earlier : List Happened) →

@@ -1,5 +1,5 @@
 use Rattle.mmtel_cli.proofs.Saying.{checks_are_told, four_rose, good_ones_are_listed, good_ones_are_served, good_ones_succeed, good_ones_want_a_keeper, no_fault_no_failure}
-use Rattle.mmtel_cli.proofs.Saying.{one_is_usage}
+use Rattle.mmtel_cli.proofs.Saying.{charges_keep, eight_is_short, one_is_usage}
 use Rattle.mmtel_cli.proofs.Saying.{rows_are_listed, rows_want_a_keeper, serving_wants_a_keeper, serving_wants_a_link, seven_rose, six_rose, statuses_are_these, three_is_refused}
 use Rattle.mmtel_cli.proofs.Saying.{zero_is_listed, zero_kept}
 use Rattle.mmtel_cli.proofs.laws.statuses_say.Goals as goal
@@ -51,6 +51,12 @@ returns-clause-keeper c = six_rose
 
 pub returns-clause-sink : goal.returns-clause-sink
 returns-clause-sink c = seven_rose
+
+pub returns-clause-memory : goal.returns-clause-memory
+returns-clause-memory c = eight_is_short
+
+pub returns-clause-keeps : goal.returns-clause-keeps
+returns-clause-keeps c = charges_keep
 
 pub returns-clause-known : goal.returns-clause-known
 returns-clause-known c = statuses_are_these

@@ -6,7 +6,7 @@ returns-in-Ok-clause-gives g c = gives_serve _ _ _ _ _ _ _ _ _ _ _ (rw c.bytes.e
 
 pub returns-in-Err-Failed-clause-gives : goal.returns-in-Err-Failed-clause-gives
 returns-in-Err-Failed-clause-gives g c =
-    gives_no_serve _ _ _ _ _ _ _ _ _ (rw c.bytes.ensures at (rw c.in-Err-Failed.field-0-is at c.in-Err-Failed.ensures.text))
+    gives_no_serve _ _ _ _ _ _ _ (rw c.bytes.ensures at (rw c.in-Err-Failed.field-0-is at c.in-Err-Failed.ensures.text))
 
 pub returns-in-Err-NoMemory-clause-gives : goal.returns-in-Err-NoMemory-clause-gives
-returns-in-Err-NoMemory-clause-gives g c = gives_unread_serve _ _ _ _ _ _ _ _
+returns-in-Err-NoMemory-clause-gives g c = gives_unread_serve _ _ _ _ _ _

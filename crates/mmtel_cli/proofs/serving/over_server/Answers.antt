@@ -1,4 +1,4 @@
-use Rattle.mmtel_cli.proofs.ServedRuns.{served_broken, served_closed}
+use Rattle.mmtel_cli.proofs.ServedRuns.{served_broken, served_closed, served_stopped}
 use Rattle.mmtel_cli.proofs.serving.over_server.Goals as goal
 
 pub returns-in-Ok-clause-served : goal.returns-in-Ok-clause-served
@@ -10,3 +10,8 @@ pub returns-in-Err-LinkFault-clause-served : goal.returns-in-Err-LinkFault-claus
 returns-in-Err-LinkFault-clause-served g c =
     served_broken _ _ _ _ _ _ _ _ _ _ _ _ _ _ _ _ _ _ _ _ c.in-Err-LinkFault.field-0-is c.in-Err-LinkFault.ensures.served c.in-Err-LinkFault.ensures.bound
     c.in-Err-LinkFault.ensures.cause c.in-Err-LinkFault.ensures.number c.in-Err-LinkFault.ensures.lost c.in-Err-LinkFault.ensures.giving
+
+pub returns-in-Err-NoMemory-clause-served : goal.returns-in-Err-NoMemory-clause-served
+returns-in-Err-NoMemory-clause-served g c =
+    served_stopped _ _ _ _ _ _ _ _ _ _ _ _ _ _ _ _ _ _ _ _ c.in-Err-NoMemory.field-0-is c.in-Err-NoMemory.ensures.served c.in-Err-NoMemory.ensures.bound
+    c.in-Err-NoMemory.ensures.cause c.in-Err-NoMemory.ensures.lost c.in-Err-NoMemory.ensures.giving

@@ -6,4 +6,4 @@ returns-in-Err-BadLine-clause-gives g c =
     gives_line _ _ _ _ _ _ (rw (← c.in-Err-BadLine.line-is) at (rw c.bytes.ensures at (rw c.in-Err-BadLine.field-0-is at c.in-Err-BadLine.ensures.exact)))
 
 pub returns-in-Err-NoMemory-clause-gives : goal.returns-in-Err-NoMemory-clause-gives
-returns-in-Err-NoMemory-clause-gives g c = gives_memory _ _ _ _ _
+returns-in-Err-NoMemory-clause-gives g c = gives_memory _ _ _ _

@@ -10,4 +10,4 @@ returns-in-Err-Failed-clause-gives g c =
     gives_no_script _ _ _ _ _ _ (rw c.bytes.ensures at (rw c.in-Err-Failed.field-0-is at c.in-Err-Failed.ensures.text))
 
 pub returns-in-Err-NoMemory-clause-gives : goal.returns-in-Err-NoMemory-clause-gives
-returns-in-Err-NoMemory-clause-gives g c = gives_memory _ _ _ _ _
+returns-in-Err-NoMemory-clause-gives g c = gives_memory _ _ _ _

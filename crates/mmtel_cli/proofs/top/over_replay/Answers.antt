@@ -9,7 +9,7 @@ returns-in-Err-Failed-clause-gives g c =
     gives_no_config _ _ _ _ _ (rw c.bytes.ensures at (rw c.in-Err-Failed.field-0-is at c.in-Err-Failed.ensures.text))
 
 pub returns-in-Err-NoMemory-clause-gives : goal.returns-in-Err-NoMemory-clause-gives
-returns-in-Err-NoMemory-clause-gives g c = gives_no_memory _ _ _ _
+returns-in-Err-NoMemory-clause-gives g c = gives_no_memory _ _ _
 
 pub returns-in-Ok-clause-calls : goal.returns-in-Ok-clause-calls
 returns-in-Ok-clause-calls g c = called_config _ _ _ _ _ _ (rw c.bytes.ensures at c.in-Ok.ensures.text) c.over_config-due.ensures.calls

@@ -11,4 +11,4 @@ pub returns-in-Ok-None-clause-prepares : goal.returns-in-Ok-None-clause-prepares
 returns-in-Ok-None-clause-prepares g c = prepares_none _ _ _ _ _ _ _ (rw c.in-Ok-None.field-0-is at c.in-Ok-None.ensures.only)
 
 pub returns-in-Err-clause-prepares : goal.returns-in-Err-clause-prepares
-returns-in-Err-clause-prepares g c = prepares_short _ _ _ _ _ _ _
+returns-in-Err-clause-prepares g c = prepares_short _ _ _ _ _ _

@@ -16,7 +16,7 @@ turns-init g c = record {
 pub turns-preserved : goal.turns-preserved
 turns-preserved g c = record {
   served = goes_on c.laws_of_runs_hold.ensures c.parts_are_given.ensures.none c.parts_are_given.ensures.both c.runs_keep_the_secret.ensures.offers c.bytes_are_seen.ensures.law _ _ _ _ _ _ _ _ _ _ _ _ _ _ _ c.turns.invariant.served _ _ _
-      (rw c.in-Ok-Some.field-0-is at c.in-Ok-Some.ensures.heard) _ c.next_event.ensures.given _ c.serve_event.ensures.heard _ (stands_of _ _ _ _ c.serve_event.ensures.lost) _ _ _ _ _ _ c.in-Ok.ensures.done;
+      (rw c.in-Ok-Some.field-0-is at c.in-Ok-Some.ensures.heard) _ c.next_event.ensures.given _ c.serve_event.ensures.heard _ _ _ _ _ _ c.serve_event.ensures.counted _ c.in-Ok.ensures.done;
   lost = lost_then _ _ _ _ _ _ _ _ c.turns.invariant.lost c.turns.invariant.giving c.next_event.ensures.given c.next_event.ensures.giving c.serve_event.ensures.lost;
   giving = rise_then _ _ _ (rise_then _ _ _ c.turns.invariant.giving c.next_event.ensures.giving) (stands_of _ _ _ _ c.serve_event.ensures.lost);
   bound = c.serve_event.ensures.bound ∙ (bound_within _ _ _ c.next_event.ensures.calls ∙ c.turns.invariant.bound);
@@ -26,7 +26,7 @@ turns-preserved g c = record {
 pub returns-in-Err-serve_event-clause-served : goal.returns-in-Err-serve_event-clause-served
 returns-in-Err-serve_event-clause-served g c =
     breaks c.laws_of_runs_hold.ensures c.parts_are_given.ensures.none c.parts_are_given.ensures.both c.runs_keep_the_secret.ensures.offers c.bytes_are_seen.ensures.law _ _ _ _ _ _ _ _ _ _ _ _ _ _ _ c.turns.invariant.served _ (omega arith) _ _ _
-    (rw c.in-Ok-Some.field-0-is at c.in-Ok-Some.ensures.heard) _ c.next_event.ensures.given _ c.serve_event.ensures.heard _ (stands_of _ _ _ _ c.serve_event.ensures.lost) _ _ _ _ _ _ c.in-Err-serve_event.ensures.stopped
+    (rw c.in-Ok-Some.field-0-is at c.in-Ok-Some.ensures.heard) _ c.next_event.ensures.given _ c.serve_event.ensures.heard _ _ _ _ _ _ c.serve_event.ensures.counted _ c.in-Err-serve_event.ensures.stopped
 
 pub returns-in-Err-serve_event-clause-lost : goal.returns-in-Err-serve_event-clause-lost
 returns-in-Err-serve_event-clause-lost g c = lost_then _ _ _ _ _ _ _ _ c.turns.invariant.lost c.turns.invariant.giving c.next_event.ensures.given c.next_event.ensures.giving c.serve_event.ensures.lost
@@ -47,7 +47,7 @@ returns-in-Ok-None-clause-giving g c = rise_then _ _ _ c.turns.invariant.giving 
 
 pub returns-in-Err-clause-served : goal.returns-in-Err-clause-served
 returns-in-Err-clause-served g c =
-    fails c.laws_of_runs_hold.ensures c.parts_are_given.ensures.none c.parts_are_given.ensures.both c.runs_keep_the_secret.ensures.offers c.bytes_are_seen.ensures.law _ _ _ _ _ _ _ _ _ _ _ _ _ _ _ c.turns.invariant.served _ (omega arith) _ c.next_event.ensures.given _ _ _
+    fails c.laws_of_runs_hold.ensures c.parts_are_given.ensures.none c.parts_are_given.ensures.both c.runs_keep_the_secret.ensures.offers c.bytes_are_seen.ensures.law _ _ _ _ _ _ _ _ _ _ _ _ _ _ _ c.turns.invariant.served _ (omega arith) _ c.next_event.ensures.given _ _ c.next_event.ensures.giving _
     c.in-Err.ensures.heard
 
 pub returns-in-Err-clause-lost : goal.returns-in-Err-clause-lost

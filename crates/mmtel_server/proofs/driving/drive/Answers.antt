@@ -35,8 +35,8 @@ returns-in-Ok-None-clause-driven g c =
 
 pub returns-in-Err-clause-driven : goal.returns-in-Err-clause-driven
 returns-in-Err-clause-driven g c =
-    fails c.laws_of_runs_hold.ensures _ _ _ _ _ _ _ _ _ _ _ _ _ _ _ c.turns.invariant.drove _ (omega arith) c.servers_offer_what_runs_give.ensures.secret _ _ _
-    c.in-Err.ensures.heard
+    fails c.laws_of_runs_hold.ensures _ _ _ _ _ _ _ _ _ _ _ _ _ _ _ c.turns.invariant.drove _ (omega arith) c.servers_offer_what_runs_give.ensures.secret _ _
+    c.next_event.ensures.giving _ c.in-Err.ensures.heard
 
 pub returns-clause-driven : goal.returns-clause-driven
 returns-clause-driven g c =

@@ -1,0 +1,5 @@
+use Rattle.std.proofs.Common.{refl}
+use Rattle.mmtel_cli.proofs.top.over_events.Goals as goal
+
+pub returns-in-Err-NoMemory-clause-due : goal.returns-in-Err-NoMemory-clause-due
+returns-in-Err-NoMemory-clause-due g c = (rw c.in-Err-NoMemory.field-0-is at c.in-Err-NoMemory.ensures.stopped) refl

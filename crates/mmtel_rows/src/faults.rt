@@ -16,6 +16,11 @@ const DATAGRAM: &[u8] =
     0a502d41737365727465642d4964656e746974793a203c7369703a6572696e406f746865722e6578616d706c653e0d0a507269766163793a2069640d0a436f6e74656e742d4c656e6774683a20300d0a\
     0d0a";
 
+/// These bytes, for another module's test too.
+pub fn erins_invite() -> &'static [u8] {
+    DATAGRAM
+}
+
 /// A script of one datagram for each beginning of these bytes.
 fn beginnings(script: &mut Page) {
     for place in 0..DATAGRAM.len() {

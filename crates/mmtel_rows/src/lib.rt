@@ -16,6 +16,8 @@ mod checks;
 #[cfg(test)]
 mod courses;
 #[cfg(test)]
+mod damaged;
+#[cfg(test)]
 mod devices;
 #[cfg(test)]
 mod digesting;
@@ -55,6 +57,8 @@ mod services;
 mod serving;
 #[cfg(test)]
 mod settings;
+#[cfg(test)]
+mod standing;
 #[cfg(test)]
 mod steps;
 #[cfg(test)]

@@ -18,6 +18,51 @@ at 300 peer 1|ACK sip:127.0.0.1:5060 SIP/2.0|Via: SIP/2.0/UDP 127.0.0.1:5071;bra
 at 400 peer 1|BYE sip:127.0.0.1:5060 SIP/2.0|Via: SIP/2.0/UDP 127.0.0.1:5071;branch=z9hG4bKy|Max-Forwards: 68|From: "{Erin^Frank}" <sip:{erin^frank}@other.example>;tag=a
 |To: <sip:bob@far.example>;tag=0123456789abcdef-1|Call-ID: c1|CSeq: 8 BYE|User-Agent: {one^another}|P-Asserted-Identity: <sip:{erin^frank}@other.example>
 |Content-Length: 0|
+~ The callee hangs up, and her phone answers the server's BYE in her name, as phones do, and again when the server knows nothing of it any more.
+at 0 peer 1|INVITE sip:bob@far.example SIP/2.0|Via: SIP/2.0/UDP 127.0.0.1:5071;branch=z9hG4bKa1|Max-Forwards: 68
+|From: "{Erin^Frank}" <sip:{erin^frank}@other.example>;tag=a|To: <sip:bob@far.example>|Call-ID: c1|CSeq: 7 INVITE|Contact: <sip:{erin^frank}@127.0.0.1:5071>
+|P-Asserted-Identity: <sip:{erin^frank}@other.example>|Privacy: id|User-Agent: {one^another}|Content-Length: 0|
+at 200 peer 2|SIP/2.0 200 OK|Via: SIP/2.0/UDP 127.0.0.1:5060;branch=z9hG4bK0123456789abcdef-4|From: "Anonymous" <sip:anonymous@anonymous.invalid>;tag=0123456789abcdef-3
+|To: <sip:bob@far.example>;tag=bt|Call-ID: 0123456789abcdef-2|CSeq: 1 INVITE|Contact: <sip:bob@127.0.0.1:5072>|Content-Length: 0|
+at 300 peer 1|ACK sip:127.0.0.1:5060 SIP/2.0|Via: SIP/2.0/UDP 127.0.0.1:5071;branch=z9hG4bKk|Max-Forwards: 68|From: "{Erin^Frank}" <sip:{erin^frank}@other.example>;tag=a
+|To: <sip:bob@far.example>;tag=0123456789abcdef-1|Call-ID: c1|CSeq: 7 ACK|Subject: {one^another}|Content-Length: 0|
+at 400 peer 2|BYE sip:127.0.0.1:5060 SIP/2.0|Via: SIP/2.0/UDP 127.0.0.1:5072;branch=z9hG4bKy|Max-Forwards: 68|From: <sip:bob@far.example>;tag=bt
+|To: "Anonymous" <sip:anonymous@anonymous.invalid>;tag=0123456789abcdef-3|Call-ID: 0123456789abcdef-2|CSeq: 1 BYE|Content-Length: 0|
+at 410 peer 1|SIP/2.0 200 OK|Via: SIP/2.0/UDP 127.0.0.1:5060;branch=z9hG4bK0123456789abcdef-6|From: <sip:bob@far.example>;tag=0123456789abcdef-1
+|To: "{Erin^Frank}" <sip:{erin^frank}@other.example>;tag=a|Call-ID: c1|CSeq: 1 BYE|Contact: <sip:{erin^frank}@127.0.0.1:5071>
+|P-Asserted-Identity: <sip:{erin^frank}@other.example>|Server: {one^another}|Content-Length: 0|
+at 9000 peer 1|SIP/2.0 200 OK|Via: SIP/2.0/UDP 127.0.0.1:5060;branch=z9hG4bK0123456789abcdef-6|From: <sip:bob@far.example>;tag=0123456789abcdef-1
+|To: "{Erin^Frank}" <sip:{erin^frank}@other.example>;tag=a|Call-ID: c1|CSeq: 1 BYE|Contact: <sip:{erin^frank}@127.0.0.1:5071>
+|P-Asserted-Identity: <sip:{erin^frank}@other.example>|Server: {one^another}|Content-Length: 0|
+~ She asks once more when her INVITE rings, gives it up, and acknowledges that it was given up; nothing of these goes further, whoever says it.
+at 0 peer 1|INVITE sip:bob@far.example SIP/2.0|Via: SIP/2.0/UDP 127.0.0.1:5071;branch=z9hG4bKa1|Max-Forwards: 68|From: "Erin" <sip:erin@other.example>;tag=a
+|To: <sip:bob@far.example>|Call-ID: c1|CSeq: 7 INVITE|Contact: <sip:erin@127.0.0.1:5071>|Content-Length: 0|
+at 100 peer 2|SIP/2.0 180 Ringing|Via: SIP/2.0/UDP 127.0.0.1:5060;branch=z9hG4bK0123456789abcdef-4|From: "Erin" <sip:erin@other.example>;tag=0123456789abcdef-3
+|To: <sip:bob@far.example>;tag=bt|Call-ID: 0123456789abcdef-2|CSeq: 1 INVITE|Content-Length: 0|
+at 200 peer 1|INVITE sip:bob@far.example SIP/2.0|Via: SIP/2.0/UDP 127.0.0.1:5071;branch=z9hG4bKa1|Max-Forwards: 68|From: "{Erin^Frank}" <sip:{erin^frank}@other.example>;tag=a
+|To: <sip:bob@far.example>|Call-ID: c1|CSeq: 7 INVITE|Contact: <sip:{erin^frank}@127.0.0.1:5071>|P-Served-User: <sip:{erin^frank}@other.example>;sescase=orig|Content-Length: 0|
+at 300 peer 1|CANCEL sip:bob@far.example SIP/2.0|Via: SIP/2.0/UDP 127.0.0.1:5071;branch=z9hG4bKa1|Max-Forwards: 68|From: "{Erin^Frank}" <sip:{erin^frank}@other.example>;tag=a
+|To: <sip:bob@far.example>|Call-ID: c1|CSeq: 7 CANCEL|P-Asserted-Identity: <sip:{erin^frank}@other.example>|User-Agent: {one^another}|Content-Length: 0|
+at 310 peer 2|SIP/2.0 200 OK|Via: SIP/2.0/UDP 127.0.0.1:5060;branch=z9hG4bK0123456789abcdef-4|From: "Erin" <sip:erin@other.example>;tag=0123456789abcdef-3
+|To: <sip:bob@far.example>;tag=bt|Call-ID: 0123456789abcdef-2|CSeq: 1 CANCEL|Content-Length: 0|
+at 320 peer 2|SIP/2.0 487 Request Terminated|Via: SIP/2.0/UDP 127.0.0.1:5060;branch=z9hG4bK0123456789abcdef-4|From: "Erin" <sip:erin@other.example>;tag=0123456789abcdef-3
+|To: <sip:bob@far.example>;tag=bt|Call-ID: 0123456789abcdef-2|CSeq: 1 INVITE|Content-Length: 0|
+at 330 peer 1|ACK sip:bob@far.example SIP/2.0|Via: SIP/2.0/UDP 127.0.0.1:5071;branch=z9hG4bKa1|Max-Forwards: 68|From: "{Erin^Frank}" <sip:{erin^frank}@other.example>;tag=a
+|To: <sip:bob@far.example>;tag=0123456789abcdef-1|Call-ID: c1|CSeq: 7 ACK|User-Agent: {one^another}|Content-Length: 0|
+~ Beside a call of hers: what she asks of the server itself it tells nobody, nor what she says in no dialog, or in answer to nothing that was asked.
+at 0 peer 1|INVITE sip:bob@far.example SIP/2.0|Via: SIP/2.0/UDP 127.0.0.1:5071;branch=z9hG4bKa1|Max-Forwards: 68|From: "Erin" <sip:erin@other.example>;tag=a
+|To: <sip:bob@far.example>|Call-ID: c1|CSeq: 7 INVITE|Contact: <sip:erin@127.0.0.1:5071>|Content-Length: 0|
+at 10 peer 1|OPTIONS sip:bob@home.example SIP/2.0|Via: SIP/2.0/UDP 127.0.0.1:5071;branch=z9hG4bKo1|Max-Forwards: 68
+|From: "{Erin^Frank}" <sip:{erin^frank}@other.example>;tag=a|To: <sip:bob@home.example>|Call-ID: c2|CSeq: 1 OPTIONS|P-Asserted-Identity: <sip:{erin^frank}@other.example>
+|Subject: {one^another}|Content-Length: 0|
+at 20 peer 1|BYE sip:bob@home.example SIP/2.0|Via: SIP/2.0/UDP 127.0.0.1:5071;branch=z9hG4bKo2|Max-Forwards: 68|From: "{Erin^Frank}" <sip:{erin^frank}@other.example>;tag=a
+|To: <sip:bob@home.example>;tag=b|Call-ID: c2|CSeq: 2 BYE|User-Agent: {one^another}|Content-Length: 0|
+at 30 peer 1|ACK sip:bob@home.example SIP/2.0|Via: SIP/2.0/UDP 127.0.0.1:5071;branch=z9hG4bKo3|Max-Forwards: 68|From: "{Erin^Frank}" <sip:{erin^frank}@other.example>;tag=a
+|To: <sip:bob@home.example>;tag=b|Call-ID: c2|CSeq: 2 ACK|Subject: {one^another}|Content-Length: 0|
+at 40 peer 1|SIP/2.0 200 OK|Via: SIP/2.0/UDP 127.0.0.1:5060;branch=z9hG4bK0123456789abcdef-99|From: <sip:bob@far.example>;tag=x
+|To: "{Erin^Frank}" <sip:{erin^frank}@other.example>;tag=a|Call-ID: c1|CSeq: 1 INVITE|Contact: <sip:{erin^frank}@127.0.0.1:5071>|Server: {one^another}|Content-Length: 0|
+at 200 peer 2|SIP/2.0 486 Busy Here|Via: SIP/2.0/UDP 127.0.0.1:5060;branch=z9hG4bK0123456789abcdef-4|From: "Erin" <sip:erin@other.example>;tag=0123456789abcdef-3
+|To: <sip:bob@far.example>;tag=bt|Call-ID: 0123456789abcdef-2|CSeq: 1 INVITE|Content-Length: 0|
 ~ The callee asks again in the call; her answer shows who she is, and so does her own INVITE.
 at 0 peer 1|INVITE sip:bob@far.example SIP/2.0|Via: SIP/2.0/UDP 127.0.0.1:5071;branch=z9hG4bKa1|Max-Forwards: 68
 |From: "{Erin^Frank}" <sip:{erin^frank}@other.example>;tag=a|To: <sip:bob@far.example>|Call-ID: c1|CSeq: 7 INVITE|Contact: <sip:{erin^frank}@127.0.0.1:5071>
@@ -187,14 +232,14 @@ at 200 peer 1|REFER sip:room-1@127.0.0.1:5060 SIP/2.0|Via: SIP/2.0/UDP 127.0.0.1
 |From: "{Erin^Frank}" <sip:{erin^frank}@other.example>;tag=a|To: <sip:conf@home.example>;tag=0123456789abcdef-1|Call-ID: c1|CSeq: 8 REFER|Refer-To: <sip:bob@far.example>
 |Content-Length: 0|
 at 210 peer 1|SIP/2.0 200 OK|Via: SIP/2.0/UDP 127.0.0.1:5060;branch=z9hG4bK0123456789abcdef-2|From: <sip:conf@home.example>;tag=0123456789abcdef-1
-|To: "Erin" <sip:erin@other.example>;tag=a|Call-ID: c1|CSeq: 1 NOTIFY|Content-Length: 0|
+|To: "{Erin^Frank}" <sip:{erin^frank}@other.example>;tag=a|Call-ID: c1|CSeq: 1 NOTIFY|Contact: <sip:{erin^frank}@127.0.0.1:5071>|Server: {one^another}|Content-Length: 0|
 at 300 peer 2|SIP/2.0 180 Ringing|Via: SIP/2.0/UDP 127.0.0.1:5060;branch=z9hG4bK0123456789abcdef-5|From: <sip:room-1@127.0.0.1:5060>;tag=0123456789abcdef-4
 |To: <sip:bob@far.example>;tag=bt|Call-ID: 0123456789abcdef-3|CSeq: 1 INVITE|Contact: <sip:bob@127.0.0.1:5072>|Content-Length: 0|
 at 400 peer 2|SIP/2.0 200 OK|Via: SIP/2.0/UDP 127.0.0.1:5060;branch=z9hG4bK0123456789abcdef-5|From: <sip:room-1@127.0.0.1:5060>;tag=0123456789abcdef-4
 |To: <sip:bob@far.example>;tag=bt|Call-ID: 0123456789abcdef-3|CSeq: 1 INVITE|Contact: <sip:bob@127.0.0.1:5072>|Content-Type: application/sdp|Content-Length: 123||v=0
 |o=- 1 1 IN IP4 127.0.0.1|s=-|c=IN IP4 127.0.0.1|t=0 0|m=audio 5004 RTP/AVP 8 0|a=rtpmap:8 PCMA/8000|a=sendrecv
 at 410 peer 1|SIP/2.0 200 OK|Via: SIP/2.0/UDP 127.0.0.1:5060;branch=z9hG4bK0123456789abcdef-7|From: <sip:conf@home.example>;tag=0123456789abcdef-1
-|To: "Erin" <sip:erin@other.example>;tag=a|Call-ID: c1|CSeq: 2 NOTIFY|Content-Length: 0|
+|To: "{Erin^Frank}" <sip:{erin^frank}@other.example>;tag=a|Call-ID: c1|CSeq: 2 NOTIFY|Contact: <sip:{erin^frank}@127.0.0.1:5071>|Server: {one^another}|Content-Length: 0|
 at 500 peer 1|BYE sip:room-1@127.0.0.1:5060 SIP/2.0|Via: SIP/2.0/UDP 127.0.0.1:5071;branch=z9hG4bKy1|Max-Forwards: 68
 |From: "{Erin^Frank}" <sip:{erin^frank}@other.example>;tag=a|To: <sip:conf@home.example>;tag=0123456789abcdef-1|Call-ID: c1|CSeq: 9 BYE|User-Agent: {one^another}
 |Content-Length: 0|

@@ -24,7 +24,8 @@ use Rattle.mmtel_transaction.specs.Belonging.{belongs, is_final_again, owner, re
 use Rattle.mmtel_transaction.specs.Runs.{IsRun}
 use Rattle.mmtel_transaction.specs.Waiting.{AcksOf2xxEndResends, EndsSuccess, HeardRefusal, KeptAcksAreGiven, WhatIsAckedIsSilent, is_ack_in}
 use Rattle.mmtel_transaction.proofs.Lists.{Keeps, keeps_change}
-use Rattle.mmtel_transaction.proofs.Having.{Has, at_key, has_live, has_more, has_more_back, of_key, same_entry}
+use Rattle.mmtel_timers.specs.Shelves.{Has}
+use Rattle.mmtel_transaction.proofs.Having.{at_key, has_live, has_more, has_more_back, of_key, same_entry}
 use Rattle.mmtel_transaction.proofs.Acks.{sound}
 use Rattle.mmtel_transaction.proofs.Among.{live_below, run_end}
 use Rattle.mmtel_transaction.proofs.Belongs.{hears_by_owner, owners_are_live}

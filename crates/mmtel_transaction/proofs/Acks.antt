@@ -24,7 +24,8 @@ use Rattle.mmtel_transaction.specs.Table.{settle}
 use Rattle.mmtel_transaction.specs.Laws.{EndsResends}
 use Rattle.mmtel_transaction.proofs.Lists.{keeps_acked, keeps_change}
 use Rattle.mmtel_transaction.proofs.Standing.{live_hit}
-use Rattle.mmtel_transaction.proofs.Having.{Has, at_key, found_in, has_live, has_more, has_more_back, of_key, run_before, same_entry}
+use Rattle.mmtel_timers.specs.Shelves.{Has}
+use Rattle.mmtel_transaction.proofs.Having.{at_key, found_in, has_live, has_more, has_more_back, of_key, run_before, same_entry}
 
 -- which ACKs are taken for one of a non-2xx final
 acked_ack : (j : ℕ) (o : Option Entry) → part.Acked j ≡ part_ack o → (e : Entry) × (o ≡ Some e) × (e.is_refused ≡ true) × (j ≡ e.key)

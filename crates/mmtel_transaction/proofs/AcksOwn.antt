@@ -21,7 +21,8 @@ use Rattle.mmtel_transaction.specs.Answers.{is_client_of, is_invite_of, is_serve
 use Rattle.mmtel_transaction.specs.Belonging.{AcksBelong, IsRefusedInvite, if_refused, owner}
 use Rattle.mmtel_transaction.specs.Runs.{IsRun}
 use Rattle.mmtel_transaction.proofs.Lists.{keeps_answered}
-use Rattle.mmtel_transaction.proofs.Having.{Has, at_key, finds, found_in, has_more_back, of_key, run_before}
+use Rattle.mmtel_timers.specs.Shelves.{Has}
+use Rattle.mmtel_transaction.proofs.Having.{at_key, finds, found_in, has_more_back, of_key, run_before}
 use Rattle.mmtel_transaction.proofs.Distinct.{apart, of_server, server_of}
 use Rattle.mmtel_transaction.proofs.Repeats.{no_answer}
 

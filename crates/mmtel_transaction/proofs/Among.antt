@@ -28,7 +28,8 @@ use Rattle.mmtel_transaction.specs.Runs.{IsNextOf, IsRun}
 use Rattle.mmtel_transaction.specs.Laws.{sent_again}
 use Rattle.mmtel_transaction.specs.Waiting.{AwaitsFinal, acknowledges, FinalsAwaitTheirAck, GoesBy, RingingIsNotGivenUp, UnansweredAreGivenUp, answers, is_ack_to, is_answer_to, is_final_to, request_moments, said_of_final, said_of_request, times_fired}
 use Rattle.mmtel_transaction.proofs.Lists.{Rising, keeps_change, rising}
-use Rattle.mmtel_transaction.proofs.Having.{Has, at_key, found_in, has_live, has_more, has_more_back, has_new, of_key, run_before, same_entry}
+use Rattle.mmtel_timers.specs.Shelves.{Has}
+use Rattle.mmtel_transaction.proofs.Having.{at_key, found_in, has_live, has_more, has_more_back, has_new, of_key, run_before, same_entry}
 use Rattle.mmtel_transaction.proofs.Order.{is_next, none_due}
 use Rattle.mmtel_transaction.proofs.Ends.{more_opened, none_of, still_ended}
 use Rattle.mmtel_transaction.proofs.Acks.{acked_is, final_done, sound}

@@ -16,7 +16,8 @@ use Rattle.mmtel_transaction.specs.Calls.{Done, DidBegin, DidHear, DidAsk, DidRe
 use Rattle.mmtel_transaction.specs.Answers.{by_key}
 use Rattle.mmtel_transaction.specs.Settling.{ArmedInItsStep}
 use Rattle.mmtel_transaction.proofs.Lists.{keeps_change}
-use Rattle.mmtel_transaction.proofs.Having.{Has, at_key, has_live, has_more_back, of_key}
+use Rattle.mmtel_timers.specs.Shelves.{Has}
+use Rattle.mmtel_transaction.proofs.Having.{at_key, has_live, has_more_back, of_key}
 
 -- a changed transaction that is live was armed in this step, or waits as before
 abbrev Armed : ℕ → Entry → Entry → Type 0

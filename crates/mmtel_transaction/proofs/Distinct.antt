@@ -18,7 +18,8 @@ use Rattle.mmtel_transaction.specs.Answers.{by_key, is_client_of, is_full, is_se
 use Rattle.mmtel_transaction.specs.Runs.{IsRun}
 use Rattle.mmtel_transaction.specs.Laws.{HaveOneKey}
 use Rattle.mmtel_transaction.proofs.Lists.{keeps_change}
-use Rattle.mmtel_transaction.proofs.Having.{Has, has_more_back, not_found, of_key, run_before}
+use Rattle.mmtel_timers.specs.Shelves.{Has}
+use Rattle.mmtel_transaction.proofs.Having.{has_more_back, not_found, of_key, run_before}
 
 -- the server transaction of a request, by its parts
 pub record IsServerOf (m : Head) (e : Entry) : Type 0 where

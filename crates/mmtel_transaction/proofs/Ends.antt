@@ -16,7 +16,8 @@ use Rattle.mmtel_transaction.specs.Calls.{Done, DidBegin, DidHear, DidAsk, DidRe
 use Rattle.mmtel_transaction.specs.Answers.{Next, by_key, fires, is_of, next_due, says_due, text_again, tkey}
 use Rattle.mmtel_transaction.specs.Laws.{IsLast, LastOnesEnd, WhatEndedStays}
 use Rattle.mmtel_transaction.proofs.Lists.{keeps_change}
-use Rattle.mmtel_transaction.proofs.Having.{Has, finds, has_live, has_more_back, of_key, same_entry}
+use Rattle.mmtel_timers.specs.Shelves.{Has}
+use Rattle.mmtel_transaction.proofs.Having.{finds, has_live, has_more_back, of_key, same_entry}
 use Rattle.mmtel_transaction.proofs.Order.{is_next}
 
 pub none_of : (o : Option Entry) → ((e : Entry) → o ≡ Some e → ⊥) → o ≡ None

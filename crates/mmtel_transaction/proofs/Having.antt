@@ -4,22 +4,19 @@ use Rattle.std.specs.Prelude.{Some, None, filter}
 use Rattle.std.specs.List.{find}
 use Rattle.std.proofs.lemmas.Bool.{eq-eqb, eqb-true, false_from_ne_true}
 use Rattle.std.proofs.lemmas.Option.{none-some, same_Some}
+use Rattle.mmtel_timers.specs.Shelves.{Has}
 use Rattle.mmtel_transaction.specs.declared.entries.Entry.{Entry}
 use Rattle.mmtel_transaction.specs.Calls.{Done, DidBegin, DidHear, DidAsk, DidReply, DidAck, DidFire, change, entry_of, is_live, live, offers, opened, opens, step_of}
 use Rattle.mmtel_transaction.specs.Answers.{by_key, is_of}
 use Rattle.mmtel_transaction.specs.Runs.{IsRun}
 use Rattle.mmtel_transaction.proofs.Lists.{Rising, live_more, rising}
 
-abbrev pub Has : Entry → List Entry → Type 0
-Has e [] = ⊥
-Has e (x ∷ es) = (e ≡ x) ⊎ Has e es
-
-has_map : (f : Entry → Entry) (e : Entry) (es : List Entry) → Has e es → Has (f e) (map f es)
+pub has_map : (f : Entry → Entry) (e : Entry) (es : List Entry) → Has e es → Has (f e) (map f es)
 has_map f e [] h = h
 has_map f e (x ∷ es) (inl q) = inl (ap f q)
 has_map f e (x ∷ es) (inr h) = inr (has_map f e es h)
 
-has_map_back : (f : Entry → Entry) (e : Entry) (es : List Entry) → Has e (map f es) → (x : Entry) × Has x es × (e ≡ f x)
+pub has_map_back : (f : Entry → Entry) (e : Entry) (es : List Entry) → Has e (map f es) → (x : Entry) × Has x es × (e ≡ f x)
 has_map_back f e [] h = absurd h
 has_map_back f e (x ∷ es) (inl q) = (x, inl refl, q)
 has_map_back f e (x ∷ es) (inr h) = let w = has_map_back f e es h in (w.0, inr w.1, w.2)
@@ -46,16 +43,16 @@ has_filter_back : (p : Entry → Bool) (e : Entry) (es : List Entry) → Has e (
 has_filter_back p e [] h = absurd h
 has_filter_back p e (x ∷ es) h = back_if (p x) p e x (filter p es) es refl (has_filter_back p e es) h
 
-has_left : (e : Entry) (es fs : List Entry) → Has e es → Has e (es ++ fs)
+pub has_left : (e : Entry) (es fs : List Entry) → Has e es → Has e (es ++ fs)
 has_left e [] fs h = absurd h
 has_left e (x ∷ es) fs (inl q) = inl q
 has_left e (x ∷ es) fs (inr h) = inr (has_left e es fs h)
 
-has_right : (e : Entry) (es fs : List Entry) → Has e fs → Has e (es ++ fs)
+pub has_right : (e : Entry) (es fs : List Entry) → Has e fs → Has e (es ++ fs)
 has_right e [] fs h = h
 has_right e (x ∷ es) fs h = inr (has_right e es fs h)
 
-has_append_back : (e : Entry) (es fs : List Entry) → Has e (es ++ fs) → Has e es ⊎ Has e fs
+pub has_append_back : (e : Entry) (es fs : List Entry) → Has e (es ++ fs) → Has e es ⊎ Has e fs
 has_append_back e [] fs h = inr h
 has_append_back e (x ∷ es) fs (inl q) = inl (inl q)
 has_append_back e (x ∷ es) fs (inr h) = elim (has_append_back e es fs h) [ inl a ↦ inl (inr a) | inr b ↦ inr b ]

@@ -14,7 +14,7 @@ use Rattle.mmtel_transaction.specs.Calls.{Done, DidAck, DidAsk, DidBegin, DidRep
 use Rattle.mmtel_transaction.specs.Answers.{Next, next_due}
 use Rattle.mmtel_transaction.specs.Settling.{BeginsChangeNothing, DueIsCounted, FiringsLeaveFewer, OffersAddNone, due_by, is_not_later}
 use Rattle.mmtel_transaction.specs.Table.{settle}
-use Rattle.mmtel_transaction.proofs.Having.{Has}
+use Rattle.mmtel_timers.specs.Shelves.{Has}
 use Rattle.mmtel_transaction.proofs.Order.{fired_later, is_next, none_due}
 use Rattle.mmtel_transaction.proofs.Settle.{fires_less, is_total, total}
 use Rattle.mmtel_transaction.proofs.Standing.{live_hit, live_new}

@@ -3,7 +3,6 @@ mod Few
 mod Times
 mod Lists
 mod Places
-mod Written
 mod Standing
 mod Having
 mod Distinct
@@ -22,3 +21,11 @@ mod Arming
 mod Among
 mod Acknowledged
 mod HeadLines
+mod Naming
+mod Changing
+mod Placing
+mod Reaching
+mod Soonest
+mod Settled
+mod Pushed
+mod Called

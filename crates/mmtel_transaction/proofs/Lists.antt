@@ -12,7 +12,9 @@ use Rattle.mmtel_transaction.specs.declared.heads.Head.{Head}
 use Rattle.mmtel_transaction.specs.declared.entries.Entry.{Entry}
 use Rattle.mmtel_transaction.specs.declared.parts.Part.{Part}
 use Rattle.mmtel_transaction.specs.declared.parts.Part.TheVariants as part
-use Rattle.mmtel_transaction.specs.Table.{settle}
+use Rattle.mmtel_transaction.specs.declared.entries.Change.{Change}
+use Rattle.mmtel_transaction.specs.declared.entries.Change.TheVariants as change_kind
+use Rattle.mmtel_transaction.specs.Table.{made, settle}
 use Rattle.mmtel_transaction.specs.Deadlines.{resend_at}
 use Rattle.mmtel_transaction.specs.Changes.{fired, replied, rang, finished, answered, acked, acked_2xx, kept, hit}
 use Rattle.mmtel_transaction.specs.Calls.{Done, DidBegin, DidHear, DidAsk, DidReply, DidAck, DidFire, offers, step_of, opens, heard_opens, opened, entry_of, live, is_live, change, heard_change}
@@ -105,7 +107,14 @@ keeps_acked_2xx s m e = keeps_if _ e _ _ (record { key = refl; server = refl; as
 keeps_kept : (t : List ℕ) (e : Entry) → Keeps e (kept t e)
 keeps_kept t e = keeps_if (not e.is_server && e.is_refused) e _ _ (record { key = refl; server = refl; asked = refl; peer = refl; over = λ o. o }) (record { key = refl; server = refl; asked = refl; peer = refl; over = λ o. o })
 
-keeps_hit : (k : ℕ) (f : Entry → Entry) (e : Entry) → Keeps e (f e) → Keeps e (hit k f e)
+pub keeps_made : (c : Change) (e : Entry) → Keeps e (made c e)
+keeps_made (change_kind.Fire step) e = keeps_fired step e
+keeps_made (change_kind.Reply step order status text to_tag now) e = keeps_replied step order status text to_tag now e
+keeps_made (change_kind.Answer step status now) e = keeps_answered step status now e
+keeps_made (change_kind.Ack step now) e = keeps_acked step now e
+keeps_made (change_kind.Keep text) e = keeps_kept text e
+
+pub keeps_hit : (k : ℕ) (f : Entry → Entry) (e : Entry) → Keeps e (f e) → Keeps e (hit k f e)
 keeps_hit k f e a = keeps_if (e.key == k) e _ _ a (record { key = refl; server = refl; asked = refl; peer = refl; over = λ o. o })
 
 keeps_heard : (s now : ℕ) (m : Message Start) (t : Part) (e : Entry) → Keeps e (heard_change s m now t e)

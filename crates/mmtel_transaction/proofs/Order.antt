@@ -17,7 +17,8 @@ use Rattle.mmtel_transaction.specs.Changes.{fired}
 use Rattle.mmtel_transaction.specs.Calls.{Done, DidFire, is_live, live, step_of}
 use Rattle.mmtel_transaction.specs.Answers.{Next, due_one, fires, is_before, next_due, sooner}
 use Rattle.mmtel_transaction.specs.Laws.{AreInOrder, FiresAfter, IsFirstDue, fired_then, firings}
-use Rattle.mmtel_transaction.proofs.Having.{Has, at_key, has_live, has_more_back, of_key, same_entry}
+use Rattle.mmtel_timers.specs.Shelves.{Has}
+use Rattle.mmtel_transaction.proofs.Having.{at_key, has_live, has_more_back, of_key, same_entry}
 
 -- what comes next of one transaction is later: along a closed list of moments, and from its last one to the giving up
 abbrev Climbs : List ℕ → Type 0

@@ -27,7 +27,8 @@ use Rattle.mmtel_transaction.specs.Answers.{Next, by_key, fires, gives_again, gi
 use Rattle.mmtel_transaction.specs.Runs.{IsNextOf, IsRun}
 use Rattle.mmtel_transaction.specs.Laws.{EndWasGiven, GivesEnd, IsRepeatOf, OpensNothing}
 use Rattle.mmtel_transaction.proofs.Lists.{Keeps, keeps_change}
-use Rattle.mmtel_transaction.proofs.Having.{Has, at_key, finds, found_in, has_more, has_new, run_before, same_entry}
+use Rattle.mmtel_timers.specs.Shelves.{Has}
+use Rattle.mmtel_transaction.proofs.Having.{at_key, finds, found_in, has_more, has_new, run_before, same_entry}
 use Rattle.mmtel_transaction.proofs.Distinct.{apart, of_server, server_of}
 use Rattle.mmtel_transaction.proofs.Order.{is_next}
 

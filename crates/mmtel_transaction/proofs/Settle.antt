@@ -17,7 +17,8 @@ use Rattle.mmtel_transaction.specs.Calls.{Done, DidFire, is_live, live, step_of}
 use Rattle.mmtel_transaction.specs.Answers.{Next, fires, next_due, upcoming_of}
 use Rattle.mmtel_transaction.specs.Settling.{FiringsEnd, FiringsUseUp, MoreChangesNothing, NoneIsDue, UpcomingIsLeast, all_left, left_by, settled, time_left}
 use Rattle.mmtel_transaction.specs.Table.{settle}
-use Rattle.mmtel_transaction.proofs.Having.{Has, at_key, of_key, same_entry}
+use Rattle.mmtel_timers.specs.Shelves.{Has}
+use Rattle.mmtel_transaction.proofs.Having.{at_key, of_key, same_entry}
 use Rattle.mmtel_transaction.proofs.Order.{before_end, counted_at, fired_later, first_of_all, is_next, none_due, not_less, not_same}
 use Rattle.mmtel_transaction.proofs.Standing.{live_hit}
 

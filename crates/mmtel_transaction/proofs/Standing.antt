@@ -1,6 +1,6 @@
 -- What the transactions stand for after one more call.
 use Rattle.std.proofs.Common.{◌≡◌, ℕ, ◌+◌, ◌-◌, ◌<◌, ◌^◌, List, [], ◌∷◌, ◌++◌, length, refl, true, false, Bool, sym, ap, ◌∙◌, arith, map, cond, subst, append-nil, length-append, inl, inr}
-use Rattle.std.specs.Prelude.{Some, filter, min}
+use Rattle.std.specs.Prelude.{Option, Some, filter, IfOk, min, Result, Ok, Err}
 use Rattle.std.proofs.Math.Nat.{min-eq_left, min-eq_right}
 use Rattle.std.proofs.lemmas.Bool.{cases_lt}
 use Rattle.mmtel_types.specs.declared.numbers.Peer.{Peer}
@@ -10,16 +10,20 @@ use Rattle.mmtel_transaction.specs.Heads.{head_of}
 use Rattle.mmtel_transaction.specs.declared.heads.Head.{Head}
 use Rattle.mmtel_transaction.specs.declared.entries.Entry.{Entry}
 use Rattle.mmtel_transaction.specs.declared.entries.Plan.TheVariants.{End}
+use Rattle.mmtel_transaction.specs.declared.parts.Part.{Part}
 use Rattle.mmtel_transaction.specs.declared.parts.Part.TheVariants as part
-use Rattle.mmtel_transaction.specs.declared.table.Found.{Found}
+use Rattle.mmtel_transaction.specs.declared.tables.Found.{Found}
 use Rattle.mmtel_transaction.specs.declared.words.Due.{Due}
+use Rattle.mmtel_transaction.specs.declared.words.Heard.{Heard}
+use Rattle.mmtel_transaction.specs.declared.words.HearFault.{HearFault}
+use Rattle.mmtel_transaction.specs.declared.words.TKey.{TKey}
 use Rattle.mmtel_transaction.specs.declared.transactions.Transactions.{Transactions}
 use Rattle.mmtel_transaction.specs.Changes.{fired, hit, acked_2xx, is_ack_of}
 use Rattle.mmtel_transaction.specs.Calls.{Done, DidHear, DidFire, offers, step_of, opens, opened, live, is_live, change, entry_of}
-use Rattle.mmtel_transaction.specs.Answers.{next_due, fires, part_of, says_due}
+use Rattle.mmtel_transaction.specs.Answers.{next_due, fires, hear_says, hears, part_of, says, says_due, says_opened}
 use Rattle.mmtel_transaction.specs.Runs.{IsRun}
-use Rattle.mmtel_transaction.specs.Table.{settle, found_of}
-use Rattle.mmtel_transaction.specs.Stands.{HasRoom, Stands}
+use Rattle.mmtel_transaction.specs.Table.{HearsAs, settle, found_of}
+use Rattle.mmtel_transaction.specs.Stands.{HasRoom, MayOpen, Stands}
 use Rattle.mmtel_transaction.proofs.Lists.{live_more, settled, rising, all_live, AllLive}
 
 map_as : (f g : Entry → Entry) (es : List Entry) → ((e : Entry) → f e ≡ g e) → map f es ≡ map g es
@@ -88,6 +92,11 @@ stands_open c h old new N st room run offered next step items same o q =
       run = run;
     }
 
+-- the INVITE matters to a CANCEL alone
+pub cancels : (b : Bool) (k : ℕ) (i j : Option TKey) (m : Message Start) → (b ≡ true → i ≡ j) → says_opened b k i m ≡ says_opened b k j m
+cancels true k i j m q = ap (λ o. says_opened true k o m) (q refl)
+cancels false k i j m q = refl
+
 -- the ACK of a 2xx
 ack_live : (s : ℕ) (m : Head) (e : Entry) → is_live e ≡ true → is_live (acked_2xx s m e) ≡ true
 ack_live s m e l = either (is_ack_of m e)
@@ -115,4 +124,14 @@ fired_done old new h now f said st found offered step next items says =
     let e : Some (found_of f) ≡ next_due now (live h) = found ∙ ap (next_due now) st.entries in (
       subst (λ o. Stands new (fires h o)) e (stands_hit (DidFire f.of.now.key) h old new st (record { now = now; next = found_of f; first = sym e; same = refl }, st.run) (offered ∙ st.offers) f.of.now.key (λ s i. fired s) step next items refl refl (λ x. refl)),
       says ∙ ap says_due e,
+    )
+
+-- a message that was heard as what it is taken for
+pub heard_done : (old new : Transactions) (p : Peer) (m : Message Start) (now at : ℕ) (head : Head) (taken : Part) (r : Result Heard HearFault) → head ≡ head_of m → taken ≡ part_of head old.entries → at ≡ now → (head ≡ head_of m → IfOk r (λ said. (h : List Done) → HasRoom h → HearsAs old new p m at taken said h)) → IfOk r (λ said. MayOpen old new (λ h. hears h p m now) (λ h. Some said ≡ hear_says h p m))
+heard_done old new p m now at head taken (Err fault) is part_is at_is done = tt
+heard_done old new p m now at head taken (Ok said) is part_is at_is done = λ h st room.
+    let q : taken ≡ part_of (head_of m) (live h) = part_is ∙ (ap (λ x. part_of x old.entries) is ∙ ap (part_of (head_of m)) st.entries) in
+    let w = done is h room st q in (
+      subst (λ t. Stands new (DidHear p m now t ∷ h)) q (subst (λ n. Stands new (DidHear p m n taken ∷ h)) at_is w.0),
+      w.1 ∙ ap (says (length (opened h)) (live h) p m) q,
     )

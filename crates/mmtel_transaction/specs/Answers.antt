@@ -28,6 +28,14 @@ key_method m = if is_ack m then invite else m.method
 abbrev pub is_server_of : Head → Entry → Bool
 is_server_of m e = e.is_server && bytes_eq e.asked.branch m.branch && bytes_eq e.asked.sent_by m.sent_by && bytes_eq e.asked.method (key_method m)
 
+-- the server transaction of this branch, sent-by and method
+abbrev pub is_server_named : List ℕ → List ℕ → List ℕ → Entry → Bool
+is_server_named branch sent_by method e = e.is_server && bytes_eq e.asked.branch branch && bytes_eq e.asked.sent_by sent_by && bytes_eq e.asked.method method
+
+-- a client transaction of this branch and method
+abbrev pub is_client_named : List ℕ → List ℕ → Entry → Bool
+is_client_named branch method e = not e.is_server && bytes_eq e.asked.branch branch && bytes_eq e.asked.method method
+
 -- the client transaction of a response: branch and CSeq method
 abbrev pub is_client_of : Head → Entry → Bool
 is_client_of m e = not e.is_server && bytes_eq e.asked.branch m.branch && bytes_eq e.asked.method m.method
@@ -42,6 +50,9 @@ most_servers = 16384
 
 abbrev pub servers : List Entry → ℕ
 servers es = count_by (λ e. e.is_server) es
+
+abbrev pub clients : List Entry → ℕ
+clients es = count_by (λ e. not e.is_server) es
 
 abbrev pub is_full : List Entry → Bool
 is_full es = nat_le most_servers (servers es)

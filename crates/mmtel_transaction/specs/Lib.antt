@@ -16,3 +16,4 @@ pub mod Settling
 pub mod HeadsRead
 -- What private functions cite.
 pub mod Table
+pub mod Indexes

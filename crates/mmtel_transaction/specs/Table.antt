@@ -14,7 +14,7 @@ use Rattle.mmtel_transaction.specs.declared.entries.Change.{Change}
 use Rattle.mmtel_transaction.specs.declared.entries.Change.TheVariants as change
 use Rattle.mmtel_transaction.specs.declared.parts.Part.{Part}
 use Rattle.mmtel_transaction.specs.declared.words.Heard.{Heard}
-use Rattle.mmtel_transaction.specs.declared.table.Found.{Found}
+use Rattle.mmtel_transaction.specs.declared.tables.Found.{Found}
 use Rattle.mmtel_transaction.specs.declared.transactions.Transactions.{Transactions}
 
 -- the transaction of a key changed, and left out where that ends it

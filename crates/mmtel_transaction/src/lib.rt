@@ -1,13 +1,16 @@
 //! SIP transactions: which message belongs to which, what is sent again and when, and when a transaction ends (RFC 3261 §17, RFC 6026).
 //!
-//! This is the plain form: every look-up is a walk of a list.
+//! Transactions are kept by their numbers, and looked up by shelves of names and of deadlines.
 #![tactic(auto)]
 
 mod entries;
 mod heads;
 pub mod laws;
+mod names;
 mod parts;
+mod shelving;
 mod table;
+mod tables;
 mod tokens;
 mod transactions;
 mod words;

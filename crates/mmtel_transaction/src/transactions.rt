@@ -1,8 +1,10 @@
 //! The transactions.
-ghost use Rattle.std.specs.Prelude.{◌≡◌, [], ◌∷◌, IfErr, IfOk, List, length, OnErr, OnOk, Some};
+ghost use Rattle.std.specs.Prelude.{◌≡◌, [], ◌∷◌, ◌+◌, ◌-◌, ◌*◌, ◌^◌, ◌≤◌, ◌<◌, IfErr, IfOk, List, length, OnErr, OnOk, option_map, Some};
+ghost use Rattle.std.specs.List.{find};
 ghost use Rattle.mmtel_transaction.specs.Heads.{head_of};
 ghost use Rattle.mmtel_transaction.specs.Calls.{DidAck, DidAsk, DidBegin, DidReply, Done, live, opened};
-ghost use Rattle.mmtel_transaction.specs.Answers.{fires, hear_says, hears, is_merged, next_due, part_of, peer_of, says_due, says_opened, tkey, upcoming_of};
+ghost use Rattle.mmtel_transaction.specs.Answers.{clients, fires, hear_says, hears, is_client_named, is_merged, is_server_named, key_of, next_due, part_of, peer_of};
+ghost use Rattle.mmtel_transaction.specs.Answers.{says_due, says_opened, servers, tkey, upcoming_of};
 ghost use Rattle.mmtel_transaction.specs.Stands.{Does, HasRoom, IsRefusal, MayOpen, Stands, Stays};
 ghost use Rattle.mmtel_transaction.specs.Table.{HearsAs};
 ghost use Rattle.mmtel_transaction.specs.declared.parts.Part.TheVariants.{Acked, AckOf2xx, Answer, Fresh, Repeat, Same, Stray};
@@ -11,13 +13,16 @@ use crate::entries::{Change, asked_entry, heard_entry, reply_change};
 use crate::heads::Head;
 use crate::parts::Part;
 use crate::table::{
-    Entries, give_key, invite_key, next_at, next_of, peer_at, same_key, say_due, take_part, twin_of,
+    Entries, cancelled_key, give_key, next_at, peer_at, same_key, say_due, take_part, twin_of,
 };
 use crate::words::{Due, HearFault, Heard, TKey};
 use mmtel_message::Msg;
 use mmtel_scan::NoMemory;
+use mmtel_timers::Steps;
 use mmtel_types::{Moment, Peer};
 use std::alloc::Global;
+use std::marker::Brand;
+use std::sync::ledger::{Blank, Ledger};
 
 /// The transactions of a server, which stand for the calls that were made of them.
 #[derive(Drop)]
@@ -61,16 +66,7 @@ impl Transactions {
         ensures done { IfOk result (λ key. MayOpen self.old self.new (λ h. DidAsk p m.now now ∷ h) (λ h. key ≡ tkey (length (opened h)))) }
         ensures err { OnErr result ((h : List Done) → Stands self.old h → Stands self.new h) }
     {
-        let asked = Head::of(alloc, m)?;
-        let text = m.text(alloc)?;
-        let key = self.next;
-        self.entries.push(
-            alloc,
-            asked_entry(self.step, self.offers, key, p, asked, text, now.ms()),
-        )?;
-        self.offers = self.offers.saturating_add(1);
-        self.next = self.next.saturating_add(1);
-        Ok(TKey(key))
+        self.ask_blank::<Brand>(alloc, p, m, now, Blank::new(1))
     }
 
     /// An answer is offered in a live server transaction without a final answer; in any other nothing changes.
@@ -82,12 +78,7 @@ impl Transactions {
         ensures done { OnOk result ((h : List Done) → Stands self.old h → Stands self.new (DidReply key.0 m.now now ∷ h)) }
         ensures err { OnErr result ((h : List Done) → Stands self.old h → Stands self.new h) }
     {
-        let head = Head::of(alloc, m)?;
-        let text = m.text(alloc)?;
-        let change = reply_change(self.step, self.offers, head, text, now.ms());
-        self.entries.settle(key.0, change);
-        self.offers = self.offers.saturating_add(1);
-        Ok(())
+        self.reply_blank::<Brand>(alloc, key, m, now, Blank::new(1))
     }
 
     /// The ACK of the non-2xx final that this live client INVITE transaction heard is kept, to be sent again when that final is heard again; in any other nothing changes.
@@ -99,9 +90,7 @@ impl Transactions {
         ensures done { OnOk result ((h : List Done) → Stands self.old h → Stands self.new (DidAck key.0 m.now ∷ h)) }
         ensures err { OnErr result ((h : List Done) → Stands self.old h → Stands self.new h) }
     {
-        let text = m.text(alloc)?;
-        self.entries.settle(key.0, Change::Keep(text));
-        Ok(())
+        self.ack_blank::<Brand>(alloc, key, m, Blank::new(1))
     }
 
     /// Hears a message: says which transaction it opens or belongs to, and what is sent again because of it.
@@ -113,9 +102,7 @@ impl Transactions {
         ensures done { IfOk result (λ said. MayOpen self.old self.new (λ h. hears h p m now) (λ h. Some said ≡ hear_says h p m)) }
         ensures refused { IfErr result (λ fault. Stays self.old self.new (λ h. IsRefusal (part_of (head_of m) (live h)) m fault)) }
     {
-        let head = Head::of(alloc, &m)?;
-        let taken = take_part(self.entries.items(), &head);
-        self.hear_as(alloc, p, m, head, now.ms(), taken)
+        self.hear_blank::<Brand>(alloc, p, m, now, Blank::new(1))
     }
 
     /// The first deadline that is not past now fires: by its moment, then the step that armed it, then the offer of its message.
@@ -127,36 +114,327 @@ impl Transactions {
         ensures done { IfOk result (λ said. Does self.old self.new (λ h. fires h (next_due now (live h))) (λ h. said ≡ says_due (next_due now (live h)))) }
         ensures err { OnErr result ((h : List Done) → Stands self.old h → Stands self.new h) }
     {
-        match next_of(self.entries.items(), now.ms()) {
-            None => Ok(Due::Nothing),
-            Some(found) => {
-                let said = say_due(alloc, found)?;
-                let key = found.of.key;
-                self.entries.settle(key, Change::Fire(self.step));
-                Ok(said)
-            }
-        }
+        self.due_blank::<Brand>(alloc, now, Blank::new(1))
     }
 
     /// The moment and the step of the deadline that `due` would take; None exactly where there is none.
     pub fn upcoming(&self, now: Moment) -> Option<(u64, u64)>
         ensures next { (h : List Done) → Stands self.now h → result ≡ upcoming_of (next_due now (live h)) }
     {
-        next_at(self.entries.items(), now.ms())
+        self.upcoming_blank::<Brand>(now, Blank::new(1))
     }
 
     /// The peer from which a live server transaction was opened, or to which a live client transaction was asked; None exactly where the key's is not live.
     pub fn peer(&self, key: TKey) -> Option<Peer>
         ensures live { (h : List Done) → Stands self.now h → result ≡ peer_of key.0 (live h) }
     {
-        peer_at(self.entries.items(), key.0)
+        peer_at(&self.entries, key.0)
     }
 
     /// Whether another live server transaction has the From tag, Call-ID and CSeq of this one (RFC 3261 §8.2.2.2).
     pub fn merged(&self, key: TKey) -> bool
         ensures live { (h : List Done) → Stands self.now h → result ≡ is_merged key.0 (live h) }
     {
-        twin_of(self.entries.items(), key.0)
+        self.merged_blank::<Brand>(key, Blank::new(1))
+    }
+
+    /// The live server transaction of this first Via branch, sent-by and method; None exactly where there is none.
+    ///
+    /// Of n live server transactions it looks at so few that 2 to their number is at most 2n + 1.
+    pub fn server_of<L: Ledger>(
+        &self,
+        branch: &[u8],
+        sent_by: &[u8],
+        method: &[u8],
+        steps: &mut Steps<L>,
+    ) -> Option<TKey>
+        ensures found { (h : List Done) → Stands self.now h → result ≡ option_map key_of (find (is_server_named branch.now sent_by.now method.now) (live h)) }
+        ensures cost { (h : List Done) → Stands self.now h → 2 ^ (steps.new - steps.old) ≤ 2 * servers (live h) + 1 }
+        ensures rise { steps.old ≤ steps.new }
+    {
+        match self.entries.find_server(branch, sent_by, method, steps) {
+            None => None,
+            Some(e) => Some(TKey(e.key)),
+        }
+    }
+
+    /// Of the live client transactions of this branch and method the first that was asked; None exactly where there is none.
+    ///
+    /// Of n live client transactions it looks at so few that 2 to their number is at most 2n + 1.
+    pub fn client_of<L: Ledger>(
+        &self,
+        branch: &[u8],
+        method: &[u8],
+        steps: &mut Steps<L>,
+    ) -> Option<TKey>
+        ensures found { (h : List Done) → Stands self.now h → result ≡ option_map key_of (find (is_client_named branch.now method.now) (live h)) }
+        ensures cost { (h : List Done) → Stands self.now h → 2 ^ (steps.new - steps.old) ≤ 2 * clients (live h) + 1 }
+        ensures rise { steps.old ≤ steps.new }
+    {
+        match self.entries.find_client(branch, method, steps) {
+            None => None,
+            Some(first) => Some(TKey(first.key)),
+        }
+    }
+}
+
+/// Each call again, which adds its looks at shelves to a counter.
+impl Transactions {
+    /// As `ask`.
+    ///
+    /// # Errors
+    ///
+    /// Want of memory alone; the transactions are then as before.
+    pub fn ask_counted<L: Ledger>(
+        &mut self,
+        alloc: Global,
+        p: Peer,
+        m: &Msg,
+        now: Moment,
+        steps: &mut Steps<L>,
+    ) -> Result<TKey, NoMemory>
+        ensures done { IfOk result (λ key. MayOpen self.old self.new (λ h. DidAsk p m.now now ∷ h) (λ h. key ≡ tkey (length (opened h)))) }
+        ensures err { OnErr result ((h : List Done) → Stands self.old h → Stands self.new h) }
+    {
+        let asked = Head::of(alloc, m)?;
+        let text = m.text(alloc)?;
+        let key = self.next;
+        self.entries.push(
+            alloc,
+            asked_entry(self.step, self.offers, key, p, asked, text, now.ms()),
+            steps,
+        )?;
+        self.offers = self.offers.saturating_add(1);
+        self.next = self.next.saturating_add(1);
+        Ok(TKey(key))
+    }
+
+    /// As `reply`.
+    ///
+    /// # Errors
+    ///
+    /// Want of memory alone; the transactions are then as before.
+    pub fn reply_counted<L: Ledger>(
+        &mut self,
+        alloc: Global,
+        key: TKey,
+        m: &Msg,
+        now: Moment,
+        steps: &mut Steps<L>,
+    ) -> Result<(), NoMemory>
+        ensures done { OnOk result ((h : List Done) → Stands self.old h → Stands self.new (DidReply key.0 m.now now ∷ h)) }
+        ensures err { OnErr result ((h : List Done) → Stands self.old h → Stands self.new h) }
+    {
+        let head = Head::of(alloc, m)?;
+        let text = m.text(alloc)?;
+        let change = reply_change(self.step, self.offers, head, text, now.ms());
+        self.entries.settle(key.0, change, steps);
+        self.offers = self.offers.saturating_add(1);
+        Ok(())
+    }
+
+    /// As `ack`.
+    ///
+    /// # Errors
+    ///
+    /// Want of memory alone; the transactions are then as before.
+    pub fn ack_counted<L: Ledger>(
+        &mut self,
+        alloc: Global,
+        key: TKey,
+        m: &Msg,
+        steps: &mut Steps<L>,
+    ) -> Result<(), NoMemory>
+        ensures done { OnOk result ((h : List Done) → Stands self.old h → Stands self.new (DidAck key.0 m.now ∷ h)) }
+        ensures err { OnErr result ((h : List Done) → Stands self.old h → Stands self.new h) }
+    {
+        let text = m.text(alloc)?;
+        self.entries.settle(key.0, Change::Keep(text), steps);
+        Ok(())
+    }
+
+    /// As `hear`.
+    ///
+    /// # Errors
+    ///
+    /// `Full`, which hands the message back, exactly where it would open a server transaction and 16,384 are live; and want of memory. The transactions are then as before.
+    pub fn hear_counted<L: Ledger>(
+        &mut self,
+        alloc: Global,
+        p: Peer,
+        m: Msg,
+        now: Moment,
+        steps: &mut Steps<L>,
+    ) -> Result<Heard, HearFault>
+        ensures done { IfOk result (λ said. MayOpen self.old self.new (λ h. hears h p m now) (λ h. Some said ≡ hear_says h p m)) }
+        ensures refused { IfErr result (λ fault. Stays self.old self.new (λ h. IsRefusal (part_of (head_of m) (live h)) m fault)) }
+    {
+        let head = Head::of(alloc, &m)?;
+        let taken = take_part(&self.entries, &head, steps);
+        self.hear_as(alloc, p, m, head, now.ms(), taken, steps)
+    }
+
+    /// As `due`.
+    ///
+    /// # Errors
+    ///
+    /// Want of memory alone; the transactions are then as before.
+    pub fn due_counted<L: Ledger>(
+        &mut self,
+        alloc: Global,
+        now: Moment,
+        steps: &mut Steps<L>,
+    ) -> Result<Due, NoMemory>
+        ensures done { IfOk result (λ said. Does self.old self.new (λ h. fires h (next_due now (live h))) (λ h. said ≡ says_due (next_due now (live h)))) }
+        ensures err { OnErr result ((h : List Done) → Stands self.old h → Stands self.new h) }
+    {
+        match self.entries.next_of(now.ms(), steps) {
+            None => Ok(Due::Nothing),
+            Some(found) => {
+                let said = say_due(alloc, found)?;
+                let key = found.of.key;
+                self.entries.settle(key, Change::Fire(self.step), steps);
+                Ok(said)
+            }
+        }
+    }
+
+    /// As `upcoming`, in at most one step.
+    pub fn upcoming_counted<L: Ledger>(
+        &self,
+        now: Moment,
+        steps: &mut Steps<L>,
+    ) -> Option<(u64, u64)>
+        ensures next { (h : List Done) → Stands self.now h → result ≡ upcoming_of (next_due now (live h)) }
+        ensures cost { steps.new ≤ steps.old + 1 }
+        ensures rise { steps.old ≤ steps.new }
+    {
+        next_at(&self.entries, now.ms(), steps)
+    }
+
+    /// As `peer`; a transaction's number is looked up without a step.
+    pub fn peer_counted<L: Ledger>(&self, key: TKey, steps: &mut Steps<L>) -> Option<Peer>
+        ensures live { (h : List Done) → Stands self.now h → result ≡ peer_of key.0 (live h) }
+        ensures cost { steps.new ≡ steps.old }
+    {
+        peer_at(&self.entries, key.0)
+    }
+
+    /// As `merged`.
+    pub fn merged_counted<L: Ledger>(&self, key: TKey, steps: &mut Steps<L>) -> bool
+        ensures live { (h : List Done) → Stands self.now h → result ≡ is_merged key.0 (live h) }
+    {
+        twin_of(&self.entries, key.0, steps)
+    }
+}
+
+/// Each call again, with a counter that is opened for it alone.
+impl Transactions {
+    fn ask_blank<L: Ledger>(
+        &mut self,
+        alloc: Global,
+        p: Peer,
+        m: &Msg,
+        now: Moment,
+        blank: Blank,
+    ) -> Result<TKey, NoMemory>
+        requires name { blank.name ≡ L.name }
+        requires parts { blank.parts ≡ L.parts }
+        requires some { 0 < L.parts }
+        ensures done { IfOk result (λ key. MayOpen self.old self.new (λ h. DidAsk p m.now now ∷ h) (λ h. key ≡ tkey (length (opened h)))) }
+        ensures err { OnErr result ((h : List Done) → Stands self.old h → Stands self.new h) }
+    {
+        let mut steps: Steps<L> = Steps::new(blank);
+        self.ask_counted(alloc, p, m, now, &mut steps)
+    }
+
+    fn reply_blank<L: Ledger>(
+        &mut self,
+        alloc: Global,
+        key: TKey,
+        m: &Msg,
+        now: Moment,
+        blank: Blank,
+    ) -> Result<(), NoMemory>
+        requires name { blank.name ≡ L.name }
+        requires parts { blank.parts ≡ L.parts }
+        requires some { 0 < L.parts }
+        ensures done { OnOk result ((h : List Done) → Stands self.old h → Stands self.new (DidReply key.0 m.now now ∷ h)) }
+        ensures err { OnErr result ((h : List Done) → Stands self.old h → Stands self.new h) }
+    {
+        let mut steps: Steps<L> = Steps::new(blank);
+        self.reply_counted(alloc, key, m, now, &mut steps)
+    }
+
+    fn ack_blank<L: Ledger>(
+        &mut self,
+        alloc: Global,
+        key: TKey,
+        m: &Msg,
+        blank: Blank,
+    ) -> Result<(), NoMemory>
+        requires name { blank.name ≡ L.name }
+        requires parts { blank.parts ≡ L.parts }
+        requires some { 0 < L.parts }
+        ensures done { OnOk result ((h : List Done) → Stands self.old h → Stands self.new (DidAck key.0 m.now ∷ h)) }
+        ensures err { OnErr result ((h : List Done) → Stands self.old h → Stands self.new h) }
+    {
+        let mut steps: Steps<L> = Steps::new(blank);
+        self.ack_counted(alloc, key, m, &mut steps)
+    }
+
+    fn hear_blank<L: Ledger>(
+        &mut self,
+        alloc: Global,
+        p: Peer,
+        m: Msg,
+        now: Moment,
+        blank: Blank,
+    ) -> Result<Heard, HearFault>
+        requires name { blank.name ≡ L.name }
+        requires parts { blank.parts ≡ L.parts }
+        requires some { 0 < L.parts }
+        ensures done { IfOk result (λ said. MayOpen self.old self.new (λ h. hears h p m now) (λ h. Some said ≡ hear_says h p m)) }
+        ensures refused { IfErr result (λ fault. Stays self.old self.new (λ h. IsRefusal (part_of (head_of m) (live h)) m fault)) }
+    {
+        let mut steps: Steps<L> = Steps::new(blank);
+        self.hear_counted(alloc, p, m, now, &mut steps)
+    }
+
+    fn due_blank<L: Ledger>(
+        &mut self,
+        alloc: Global,
+        now: Moment,
+        blank: Blank,
+    ) -> Result<Due, NoMemory>
+        requires name { blank.name ≡ L.name }
+        requires parts { blank.parts ≡ L.parts }
+        requires some { 0 < L.parts }
+        ensures done { IfOk result (λ said. Does self.old self.new (λ h. fires h (next_due now (live h))) (λ h. said ≡ says_due (next_due now (live h)))) }
+        ensures err { OnErr result ((h : List Done) → Stands self.old h → Stands self.new h) }
+    {
+        let mut steps: Steps<L> = Steps::new(blank);
+        self.due_counted(alloc, now, &mut steps)
+    }
+
+    fn upcoming_blank<L: Ledger>(&self, now: Moment, blank: Blank) -> Option<(u64, u64)>
+        requires name { blank.name ≡ L.name }
+        requires parts { blank.parts ≡ L.parts }
+        requires some { 0 < L.parts }
+        ensures next { (h : List Done) → Stands self.now h → result ≡ upcoming_of (next_due now (live h)) }
+    {
+        let mut steps: Steps<L> = Steps::new(blank);
+        self.upcoming_counted(now, &mut steps)
+    }
+
+    fn merged_blank<L: Ledger>(&self, key: TKey, blank: Blank) -> bool
+        requires name { blank.name ≡ L.name }
+        requires parts { blank.parts ≡ L.parts }
+        requires some { 0 < L.parts }
+        ensures live { (h : List Done) → Stands self.now h → result ≡ is_merged key.0 (live h) }
+    {
+        let mut steps: Steps<L> = Steps::new(blank);
+        self.merged_counted(key, &mut steps)
     }
 }
 
@@ -174,22 +452,23 @@ fn say_fresh(key: u64, invite: Option<TKey>, is_cancel: bool, m: Msg) -> Heard
 /// One method for each thing that a message may be taken for. What was read of the message is its second part.
 impl Transactions {
     /// A request is heard that opens a server transaction.
-    fn hear_fresh(
+    fn hear_fresh<L: Ledger>(
         &mut self,
         alloc: Global,
         p: Peer,
         m: Msg,
         head: Head,
         now: u64,
+        steps: &mut Steps<L>,
     ) -> Result<Heard, NoMemory>
         ensures done { head ≡ head_of m → IfOk result (λ said. (h : List Done) → HasRoom h → HearsAs self.old self.new p m now Fresh said h) }
         ensures err { OnErr result ((h : List Done) → Stands self.old h → Stands self.new h) }
     {
         let key = self.next;
-        let invite = invite_key(self.entries.items(), &head);
+        let invite = cancelled_key(&self.entries, &head, steps);
         let is_cancel = head.is_cancel();
         self.entries
-            .push(alloc, heard_entry(self.step, key, p, head, now))?;
+            .push(alloc, heard_entry(self.step, key, p, head, now), steps)?;
         self.next = self.next.saturating_add(1);
         Ok(say_fresh(key, invite, is_cancel, m))
     }
@@ -205,7 +484,7 @@ impl Transactions {
     ) -> Result<Heard, NoMemory>
         ensures { IfOk result (λ said. (h : List Done) → HearsAs self.now self.now p m now (Repeat key) said h) }
     {
-        let given = give_key(alloc, self.entries.items(), key, p)?;
+        let given = give_key(alloc, &self.entries, key, p)?;
         Ok(Heard::Repeat(given))
     }
 
@@ -220,12 +499,20 @@ impl Transactions {
     ) -> Result<Heard, NoMemory>
         ensures { IfOk result (λ said. (h : List Done) → HearsAs self.now self.now p m now (Same key) said h) }
     {
-        let given = same_key(alloc, self.entries.items(), key)?;
+        let given = same_key(alloc, &self.entries, key)?;
         Ok(Heard::Repeat(given))
     }
 
     /// A response is heard that answers a client transaction.
-    fn hear_answer(&mut self, p: Peer, m: Msg, status: u16, now: u64, key: u64) -> Heard
+    fn hear_answer<L: Ledger>(
+        &mut self,
+        p: Peer,
+        m: Msg,
+        status: u16,
+        now: u64,
+        key: u64,
+        steps: &mut Steps<L>,
+    ) -> Heard
         ensures { status ≡ (head_of m).status → (h : List Done) → HearsAs self.old self.new p m now (Answer key) result h }
     {
         self.entries.settle(
@@ -235,12 +522,20 @@ impl Transactions {
                 status,
                 now,
             },
+            steps,
         );
         Heard::Answer(TKey(key), m)
     }
 
     /// The ACK of a non-2xx final is heard.
-    fn hear_acked(&mut self, p: Peer, m: Msg, now: u64, key: u64) -> Heard
+    fn hear_acked<L: Ledger>(
+        &mut self,
+        p: Peer,
+        m: Msg,
+        now: u64,
+        key: u64,
+        steps: &mut Steps<L>,
+    ) -> Heard
         ensures { (h : List Done) → HearsAs self.old self.new p m now (Acked key) result h }
     {
         self.entries.settle(
@@ -249,15 +544,23 @@ impl Transactions {
                 step: self.step,
                 now,
             },
+            steps,
         );
         Heard::Acked(TKey(key))
     }
 
     /// Any other ACK is heard.
-    fn hear_ack(&mut self, p: Peer, m: Msg, head: &Head, now: u64) -> Heard
+    fn hear_ack<L: Ledger>(
+        &mut self,
+        p: Peer,
+        m: Msg,
+        head: &Head,
+        now: u64,
+        steps: &mut Steps<L>,
+    ) -> Heard
         ensures { head.now ≡ head_of m → (h : List Done) → HearsAs self.old self.new p m now AckOf2xx result h }
     {
-        self.entries.ack_2xx(self.step, head);
+        self.entries.ack_2xx(self.step, head, steps);
         Heard::AckOf2xx(m)
     }
 
@@ -269,7 +572,7 @@ impl Transactions {
     }
 
     /// A message is heard that is taken for this.
-    fn hear_as(
+    fn hear_as<L: Ledger>(
         &mut self,
         alloc: Global,
         p: Peer,
@@ -277,18 +580,19 @@ impl Transactions {
         head: Head,
         now: u64,
         taken: Part,
+        steps: &mut Steps<L>,
     ) -> Result<Heard, HearFault>
         ensures done { head ≡ head_of m → IfOk result (λ said. (h : List Done) → HasRoom h → HearsAs self.old self.new p m now taken said h) }
         ensures refused { IfErr result (λ fault. Stays self.old self.new (λ h. IsRefusal taken m fault)) }
     {
         match taken {
-            Part::Fresh => Ok(self.hear_fresh(alloc, p, m, head, now)?),
+            Part::Fresh => Ok(self.hear_fresh(alloc, p, m, head, now, steps)?),
             Part::Full => Err(HearFault::Full(m)),
             Part::Repeat(key) => Ok(self.hear_repeat(alloc, p, m, now, key)?),
             Part::Same(key) => Ok(self.hear_same(alloc, p, m, now, key)?),
-            Part::Answer(key) => Ok(self.hear_answer(p, m, head.status, now, key)),
-            Part::Acked(key) => Ok(self.hear_acked(p, m, now, key)),
-            Part::AckOf2xx => Ok(self.hear_ack(p, m, &head, now)),
+            Part::Answer(key) => Ok(self.hear_answer(p, m, head.status, now, key, steps)),
+            Part::Acked(key) => Ok(self.hear_acked(p, m, now, key, steps)),
+            Part::AckOf2xx => Ok(self.hear_ack(p, m, &head, now, steps)),
             Part::Stray => Ok(self.hear_stray(p, m, now)),
         }
     }

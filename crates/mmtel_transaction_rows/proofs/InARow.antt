@@ -3,7 +3,7 @@ use Rattle.std.proofs.Common.{◌≡◌, List, [], ◌∷◌, codes, refl, ap, �
 use Rattle.std.specs.Prelude.{Some, None}
 use Rattle.mmtel_message.specs.Texts.{message_text}
 use Rattle.mmtel_transaction.specs.Answers.{fires, next_due, upcoming_of}
-use Rattle.mmtel_transaction.specs.Calls.{Done, DidAsk, DidBegin, DidFire, entry_of, live, opened}
+use Rattle.mmtel_transaction.specs.Calls.{Done, DidAsk, DidBegin, DidFire, live, opened}
 use Rattle.mmtel_transaction.specs.Changes.{asked_first}
 use Rattle.mmtel_transaction.specs.Settling.{all_left, due_by, settled}
 use Rattle.mmtel_transaction.specs.declared.entries.Entry.{Entry}

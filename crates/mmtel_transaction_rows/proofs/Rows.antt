@@ -6,7 +6,7 @@ use Rattle.mmtel_message.specs.Message.{Message}
 use Rattle.mmtel_message.specs.Texts.{message_text}
 use Rattle.mmtel_message.specs.declared.messages.Start.{Start}
 use Rattle.mmtel_transaction.specs.Answers.{Next, hear_says, next_due, says_due, tkey}
-use Rattle.mmtel_transaction.specs.Calls.{Done, DidAck, DidAsk, DidFire, DidHear, DidReply, entry_of, live, offers, opened}
+use Rattle.mmtel_transaction.specs.Calls.{Done, DidAck, DidAsk, DidFire, DidHear, DidReply, entry_of, live, opened}
 use Rattle.mmtel_transaction.specs.Changes.{acked, asked_first, heard_first, hit, replied}
 use Rattle.mmtel_transaction.specs.Heads.{head_of}
 use Rattle.mmtel_transaction.specs.Laws.{said_in_turn, sent_again}

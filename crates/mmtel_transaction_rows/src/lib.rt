@@ -3,8 +3,10 @@
 #![tactic(auto)]
 
 mod laws;
+mod looks;
 
 pub use laws::{
     belonging_computes, deadlines_compute, heads_compute, peers_compute, rows_compute,
     waiting_computes,
 };
+pub use looks::{look_up_client, look_up_server};

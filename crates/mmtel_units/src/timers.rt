@@ -2,9 +2,10 @@
 
 use crate::asserting::assert_right;
 use mmtel_scan::number_up_to;
-use mmtel_timers::{Deadlines, Key, Schedule};
+use mmtel_timers::{Deadlines, Key, Schedule, Shelf};
 use mmtel_told::{Rows, Told, cut, wrong_line};
 use mmtel_types::Moment;
+use std::alloc::Global;
 
 /// The deadlines that the rows so far have left.
 #[derive(Drop)]
@@ -155,4 +156,38 @@ fn deadlines_and_schedules(rt: HostRuntime) {
         deadlines: Deadlines::new(),
     };
     assert_right(&rt, "STEPS", wrong_line(rt.alloc(), &mut steps, STEPS));
+}
+
+/// Puts an item before the one at a place, or at the end.
+fn put(told: &mut Told, shelf: &mut Shelf<u64>, place: usize, item: u64) {
+    if place > shelf.len() || shelf.insert(place, item).is_err() {
+        told.fail();
+    }
+}
+
+/// Takes every item out from the front and tells it.
+fn take_all(told: &mut Told, shelf: &mut Shelf<u64>) {
+    for _ in 0..shelf.len() {
+        if let Some(item) = shelf.remove(0) {
+            told.add_spaced_number(item);
+        }
+    }
+    told.add(b"\n");
+}
+
+/// Items are put at the front, at the end and between two; 0 where they then stand in order.
+fn wrong_shelf(alloc: Global) -> usize {
+    let mut told = Told::new(alloc);
+    let mut shelf = Shelf::new(alloc);
+    put(&mut told, &mut shelf, 0, 20);
+    put(&mut told, &mut shelf, 1, 40);
+    put(&mut told, &mut shelf, 0, 10);
+    put(&mut told, &mut shelf, 2, 30);
+    take_all(&mut told, &mut shelf);
+    told.wrong_line(b" 10 20 30 40\n")
+}
+
+#[test]
+fn items_are_put_on_a_shelf(rt: HostRuntime) {
+    assert_right(&rt, "shelf", wrong_shelf(rt.alloc()));
 }

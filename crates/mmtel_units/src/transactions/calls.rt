@@ -207,7 +207,7 @@ fn numbered(told: &mut Told, branch: u64) -> Option<Msg> {
 }
 
 /// An OPTIONS request with this Via.
-fn with_via(told: &mut Told, via: Text) -> Option<Msg> {
+pub fn with_via(told: &mut Told, via: Text) -> Option<Msg> {
     let mut m = message(told, b"OPTIONS/a")?;
     let done = m.set(told.alloc, b"Via", via);
     told.keep(done.is_ok());
@@ -233,14 +233,17 @@ fn is_fresh(said: &Heard, wanted: u64) -> bool {
     }
 }
 
-/// Whether the request whose branch is this number opens the transaction of this key.
-fn opens(told: &mut Told, transactions: &mut Transactions, branch: u64, now: Moment) -> bool {
-    let Some(m) = numbered(told, branch) else {
-        return false;
-    };
+/// Whether a request opens the transaction of this key.
+pub fn opens(
+    told: &Told,
+    transactions: &mut Transactions,
+    m: Msg,
+    wanted: u64,
+    now: Moment,
+) -> bool {
     match transactions.hear(told.alloc, Peer(1), m, now) {
         Ok(said) => {
-            let opened = is_fresh(&said, branch);
+            let opened = is_fresh(&said, wanted);
             drop(said);
             opened
         }
@@ -251,6 +254,19 @@ fn opens(told: &mut Told, transactions: &mut Transactions, branch: u64, now: Mom
     }
 }
 
+/// Whether the request whose branch is this number opens the transaction of this key.
+fn opens_numbered(
+    told: &mut Told,
+    transactions: &mut Transactions,
+    branch: u64,
+    now: Moment,
+) -> bool {
+    match numbered(told, branch) {
+        None => false,
+        Some(m) => opens(told, transactions, m, branch, now),
+    }
+}
+
 /// `many NUMBER`: requests are heard whose branches are the numbers from 0 on; how many of them open the transaction whose key is their branch.
 fn many(told: &mut Told, transactions: &mut Transactions, most: u64) {
     let Some(now) = Moment::new(0) else {
@@ -258,7 +274,7 @@ fn many(told: &mut Told, transactions: &mut Transactions, most: u64) {
     };
     let mut count: u64 = 0;
     for branch in 0..most {
-        if opens(told, transactions, branch, now) {
+        if opens_numbered(told, transactions, branch, now) {
             count = count.saturating_add(1);
         }
     }

@@ -6,7 +6,7 @@ use Rattle.mmtel_transaction.proofs.Standing.{stands_hit}
 use Rattle.mmtel_transaction.proofs.transactions.Transactions.hear_acked.Goals as goal
 
 pub returns : goal.returns
-returns c h st taken = (
+returns g c h st taken = (
   stands_hit (DidHear c.args.p c.args.m c.args.now (Acked c.args.key)) h c.args.self.now _ st (taken, st.run) st.offers c.args.key (λ s i. acked s c.args.now) refl refl c.settle.ensures refl refl (λ e. refl),
   refl,
 )

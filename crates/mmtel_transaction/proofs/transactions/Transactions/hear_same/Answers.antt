@@ -10,5 +10,5 @@ use Rattle.mmtel_transaction.proofs.transactions.Transactions.hear_same.Goals as
 pub returns : goal.returns
 returns c h st taken = (
   stands_same (DidHear c.args.p c.args.m c.args.now (Same c.args.key)) h c.args.self.now c.args.self.now st (taken, st.run) st.offers st.step refl refl refl (λ e. refl),
-  ap (λ g. Some (heard.Repeat g)) (c.in_ok-given.ensures ∙ ap (λ es. then_gives (gives_same) (by_key c.args.key es)) (c.items.ensures ∙ st.entries)),
+  ap (λ g. Some (heard.Repeat g)) (c.in_ok-given.ensures ∙ ap (λ es. then_gives (gives_same) (by_key c.args.key es)) st.entries),
 )

@@ -1,0 +1,158 @@
+-- The orders of names and of what transactions wait for; what a search by name finds.
+use Rattle.std.proofs.Common.{◌≡◌, ℕ, ◌<◌, Bool, true, false, cond, not, ◌&&◌, nat_lt, nat_eq, List, [], ◌∷◌, refl, sym, ap, ◌∙◌, arith, Some, None}
+use Rattle.std.specs.Prelude.{slice_get, option_map, ◌==◌}
+use Rattle.std.specs.List.{find}
+use Rattle.std.specs.List.Sorted.{IsPartitionPoint}
+use Rattle.std.specs.Str.{bytes_eq}
+use Rattle.std.specs.Cmp.{IsTotalOrder}
+use Rattle.std.specs.Cmp.Lexicographic.{slice_cmp}
+use Rattle.std.specs.Ordering.{is_lt, nat_cmp, ordering_then}
+use Rattle.std.specs.declared.cmp.Ordering.{Ordering}
+use Rattle.std.specs.declared.cmp.Ordering.TheVariants.{Less, Equal, Greater}
+use Rattle.std.proofs.lemmas.Bool.{and_from, and_parts, eq-eqb, eqb-true}
+use Rattle.std.proofs.lemmas.Bool.Decides.{nat_tests}
+use Rattle.std.proofs.lemmas.Cmp.{nat_cmp_total, nat_list_cmp_total, on_total, ranked, then_total, tied_itself}
+use Rattle.std.proofs.lemmas.Option.{none-some, same_Some}
+use Rattle.std.proofs.lemmas.Slice.Eq.{bytes_eq-Decides}
+use Rattle.mmtel_timers.specs.Shelves.{answer, comes_before, IsIndex, Rises}
+use Rattle.mmtel_timers.proofs.Looked.{looked}
+use Rattle.mmtel_transaction.specs.declared.entries.Entry.{Entry}
+use Rattle.mmtel_transaction.specs.declared.names.Name.{Name}
+use Rattle.mmtel_transaction.specs.declared.names.Waits.{Waits}
+use Rattle.mmtel_transaction.specs.Answers.{is_client_named, is_server_named}
+use Rattle.mmtel_transaction.specs.Indexes.{client_name, client_named, has_name, name_cmp, named, server_name, server_named, waits_cmp}
+
+pub names_total : IsTotalOrder name_cmp
+names_total = then_total (on_total (λ (x : Name). x.id) nat_list_cmp_total) (then_total (on_total (λ (x : Name). x.from) nat_list_cmp_total) (then_total (on_total (λ (x : Name). x.method) nat_list_cmp_total) (then_total (on_total (λ (x : Name). x.number) nat_cmp_total) (on_total (λ (x : Name). x.key) nat_cmp_total))))
+
+pub waits_total : IsTotalOrder waits_cmp
+waits_total = then_total (on_total (λ (x : Waits). x.at) nat_cmp_total) (then_total (on_total (λ (x : Waits). x.step) nat_cmp_total) (then_total (on_total (λ (x : Waits). x.order) nat_cmp_total) (on_total (λ (x : Waits). x.key) nat_cmp_total)))
+
+-- lists that are equal in order are equal
+same_first : (x y : ℕ) (xs ys : List ℕ) (r : Ordering) → r ≡ nat_cmp x y → ordering_then r (slice_cmp nat_cmp xs ys) ≡ Equal → (slice_cmp nat_cmp xs ys ≡ Equal → xs ≡ ys) → x ∷ xs ≡ y ∷ ys
+same_first x y xs ys Less e q ih = absurd cc
+same_first x y xs ys Greater e q ih = absurd cc
+same_first x y xs ys Equal e q ih = let same : x ≡ y = ranked x y Equal e in ap (λ z. z ∷ xs) same ∙ ap (λ zs. y ∷ zs) (ih q)
+
+pub same_list : (xs ys : List ℕ) → slice_cmp nat_cmp xs ys ≡ Equal → xs ≡ ys
+same_list [] [] q = refl
+same_list [] (y ∷ ys) q = absurd cc
+same_list (x ∷ xs) [] q = absurd cc
+same_list (x ∷ xs) (y ∷ ys) q = same_first x y xs ys (nat_cmp x y) refl q (same_list xs ys)
+
+-- of a mark and a later name: what does not come before the mark, and comes before the name, is alike
+decided : (a b c d k z : Ordering) → ordering_then a (ordering_then b (ordering_then c (ordering_then d k))) ≡ Less → is_lt (ordering_then a (ordering_then b (ordering_then c (ordering_then d z)))) ≡ false → (a ≡ Equal) × (b ≡ Equal) × (c ≡ Equal) × (d ≡ Equal) × (k ≡ Less)
+decided Less b c d k z l n = absurd cc
+decided Greater b c d k z l n = absurd cc
+decided Equal Less c d k z l n = absurd cc
+decided Equal Greater c d k z l n = absurd cc
+decided Equal Equal Less d k z l n = absurd cc
+decided Equal Equal Greater d k z l n = absurd cc
+decided Equal Equal Equal Less k z l n = absurd cc
+decided Equal Equal Equal Greater k z l n = absurd cc
+decided Equal Equal Equal Equal k z l n = (refl, refl, refl, refl, l)
+
+module _ (b s m : List ℕ) (n : ℕ) where
+  abbrev bound : Name
+  bound = named b s m n 0
+
+  pub record Alike (x : Name) : Type 0 where
+    pub id : x.id ≡ b
+    pub from : x.from ≡ s
+    pub method : x.method ≡ m
+    pub number : x.number ≡ n
+
+  pub alike : (x : Name) → has_name bound x ≡ true → Alike x
+  alike x h =
+      let o = and_parts (bytes_eq x.id b && bytes_eq x.from s && bytes_eq x.method m) (x.number == n) h in
+      let p = and_parts (bytes_eq x.id b && bytes_eq x.from s) (bytes_eq x.method m) o.0 in
+      let q = and_parts (bytes_eq x.id b) (bytes_eq x.from s) p.0 in
+      record {
+        id = (bytes_eq-Decides x.id b).0 q.0;
+        from = (bytes_eq-Decides x.from s).0 q.1;
+        method = (bytes_eq-Decides x.method m).0 p.1;
+        number = eqb-true x.number n o.1;
+      }
+
+  pub hits : (x : Name) → x.id ≡ b → x.from ≡ s → x.method ≡ m → x.number ≡ n → has_name bound x ≡ true
+  hits x p q r t = and_from _ _ (and_from _ _ (and_from _ _ ((bytes_eq-Decides x.id b).1 p) ((bytes_eq-Decides x.from s).1 q)) ((bytes_eq-Decides x.method m).1 r)) (eq-eqb x.number n t)
+
+  not_less : (k : ℕ) → is_lt (nat_cmp k 0) ≡ false
+  not_less k = let w : nat_lt k 0 ≡ false = grind (arith, nat_tests) in rw w (either (nat_eq k 0))
+    where
+      either : (t : Bool) → is_lt (cond t Equal Greater) ≡ false
+      either true = refl
+      either false = refl
+
+  same_parts : (a c d e k : Ordering) → a ≡ Equal → c ≡ Equal → d ≡ Equal → e ≡ Equal → is_lt k ≡ false → is_lt (ordering_then a (ordering_then c (ordering_then d (ordering_then e k)))) ≡ false
+  same_parts a c d e k p q r t l = rw (p, q, r, t) l
+
+  pub not_before : (x : Name) → has_name bound x ≡ true → comes_before name_cmp bound x ≡ false
+  not_before x h =
+      let a = alike x h in
+      same_parts (slice_cmp nat_cmp x.id b) (slice_cmp nat_cmp x.from s) (slice_cmp nat_cmp x.method m) (nat_cmp x.number n) (nat_cmp x.key 0)
+      (ap (λ y. slice_cmp nat_cmp y b) a.id ∙ tied_itself nat_list_cmp_total b)
+      (ap (λ y. slice_cmp nat_cmp y s) a.from ∙ tied_itself nat_list_cmp_total s)
+      (ap (λ y. slice_cmp nat_cmp y m) a.method ∙ tied_itself nat_list_cmp_total m)
+      (ap (λ y. nat_cmp y n) a.number ∙ tied_itself nat_cmp_total n)
+      (not_less x.key)
+
+  pub between : (y x : Name) → comes_before name_cmp bound y ≡ false → has_name bound x ≡ true → name_cmp y x ≡ Less → (has_name bound y ≡ true) × (y.key < x.key)
+  between y x t h l =
+      let a = alike x h in
+      let l : ordering_then (slice_cmp nat_cmp y.id b) (ordering_then (slice_cmp nat_cmp y.from s) (ordering_then (slice_cmp nat_cmp y.method m) (ordering_then (nat_cmp y.number n) (nat_cmp y.key x.key)))) ≡ Less = rw (← a.id, ← a.from, ← a.method, ← a.number) l in
+      let d = decided (slice_cmp nat_cmp y.id b) (slice_cmp nat_cmp y.from s) (slice_cmp nat_cmp y.method m) (nat_cmp y.number n) (nat_cmp y.key x.key) (nat_cmp y.key 0) l t in
+      (hits y (same_list y.id b d.0) (same_list y.from s d.1) (same_list y.method m d.2) (ranked y.number n Equal (sym d.3)), ranked y.key x.key Less (sym d.4))
+
+-- of servers
+module _ (b s m : List ℕ) where
+  server_item : (e : Entry) → is_server_named b s m e ≡ true → (x : Name) × (server_name e ≡ Some x) × (has_name (named b s m 0 0) x ≡ true)
+  server_item e q =
+      let p = and_parts (e.is_server && bytes_eq e.asked.branch b && bytes_eq e.asked.sent_by s) (bytes_eq e.asked.method m) q in
+      let r = and_parts (e.is_server && bytes_eq e.asked.branch b) (bytes_eq e.asked.sent_by s) p.0 in
+      let t = and_parts e.is_server (bytes_eq e.asked.branch b) r.0 in
+      (server_named e, ap (λ c. cond c (Some (server_named e)) None) t.0, and_from _ _ (and_from _ _ (and_from _ _ t.1 r.1) p.1) refl)
+
+  server_if : (e : Entry) (x : Name) (c : Bool) → e.is_server ≡ c → cond c (Some (server_named e)) None ≡ Some x → (e.is_server ≡ true) × (server_named e ≡ x)
+  server_if e x true t q = (t, same_Some (server_named e) x q)
+  server_if e x false t q = absurd (none-some x q)
+
+  server_is_of : (e : Entry) (x : Name) → server_name e ≡ Some x → has_name (named b s m 0 0) x ≡ true → is_server_named b s m e ≡ true
+  server_is_of e x q h =
+      let w = server_if e x e.is_server refl q in
+      let a = alike b s m 0 (server_named e) (ap (has_name (named b s m 0 0)) w.1 ∙ h) in
+      and_from _ _ (and_from _ _ (and_from _ _ w.0 ((bytes_eq-Decides e.asked.branch b).1 a.id)) ((bytes_eq-Decides e.asked.sent_by s).1 a.from)) ((bytes_eq-Decides e.asked.method m).1 a.method)
+
+  server_number : (e : Entry) (x : Name) → server_name e ≡ Some x → x.key ≡ e.key
+  server_number e x q = ap (λ (y : Name). y.key) (sym (server_if e x e.is_server refl q).1)
+
+  pub server_looked : (es : List Entry) (xs : List Name) (p : ℕ) → IsIndex server_name name_cmp es xs → Rises (λ (e : Entry). e.key) es → IsPartitionPoint (λ x. comes_before name_cmp (named b s m 0 0) x ≡ true) (λ x. comes_before name_cmp (named b s m 0 0) x ≡ false) xs p → answer (has_name (named b s m 0 0)) (λ (x : Name). x.key) (slice_get xs p) ≡ option_map (λ (e : Entry). e.key) (find (is_server_named b s m) es)
+  server_looked = looked server_name name_cmp names_total (is_server_named b s m) (comes_before name_cmp (named b s m 0 0)) (has_name (named b s m 0 0)) (λ (e : Entry). e.key) (λ (x : Name). x.key) server_item server_is_of server_number (not_before b s m 0) (between b s m 0)
+
+-- of clients
+module _ (b m : List ℕ) where
+  client_item : (e : Entry) → is_client_named b m e ≡ true → (x : Name) × (client_name e ≡ Some x) × (has_name (named b [] m 0 0) x ≡ true)
+  client_item e q =
+      let p = and_parts (not e.is_server && bytes_eq e.asked.branch b) (bytes_eq e.asked.method m) q in
+      let t = and_parts (not e.is_server) (bytes_eq e.asked.branch b) p.0 in
+      (client_named e, client_there e.is_server t.0, and_from _ _ (and_from _ _ (and_from _ _ t.1 refl) p.1) refl)
+    where
+      client_there : (c : Bool) → not c ≡ true → cond c None (Some (client_named e)) ≡ Some (client_named e)
+      client_there true n = absurd cc
+      client_there false n = refl
+
+  client_if : (e : Entry) (x : Name) (c : Bool) → e.is_server ≡ c → cond c None (Some (client_named e)) ≡ Some x → (not e.is_server ≡ true) × (client_named e ≡ x)
+  client_if e x true t q = absurd (none-some x q)
+  client_if e x false t q = (ap not t, same_Some (client_named e) x q)
+
+  client_is_of : (e : Entry) (x : Name) → client_name e ≡ Some x → has_name (named b [] m 0 0) x ≡ true → is_client_named b m e ≡ true
+  client_is_of e x q h =
+      let w = client_if e x e.is_server refl q in
+      let a = alike b [] m 0 (client_named e) (ap (has_name (named b [] m 0 0)) w.1 ∙ h) in
+      and_from _ _ (and_from _ _ w.0 ((bytes_eq-Decides e.asked.branch b).1 a.id)) ((bytes_eq-Decides e.asked.method m).1 a.method)
+
+  client_number : (e : Entry) (x : Name) → client_name e ≡ Some x → x.key ≡ e.key
+  client_number e x q = ap (λ (y : Name). y.key) (sym (client_if e x e.is_server refl q).1)
+
+  pub client_looked : (es : List Entry) (xs : List Name) (p : ℕ) → IsIndex client_name name_cmp es xs → Rises (λ (e : Entry). e.key) es → IsPartitionPoint (λ x. comes_before name_cmp (named b [] m 0 0) x ≡ true) (λ x. comes_before name_cmp (named b [] m 0 0) x ≡ false) xs p → answer (has_name (named b [] m 0 0)) (λ (x : Name). x.key) (slice_get xs p) ≡ option_map (λ (e : Entry). e.key) (find (is_client_named b m) es)
+  client_looked = looked client_name name_cmp names_total (is_client_named b m) (comes_before name_cmp (named b [] m 0 0)) (has_name (named b [] m 0 0)) (λ (e : Entry). e.key) (λ (x : Name). x.key) client_item client_is_of client_number (not_before b [] m 0) (between b [] m 0)

@@ -1,0 +1,11 @@
+use Rattle.std.proofs.Common.{rules}
+use Rattle.std.proofs.lemmas.List.Sorted.{answers_always}
+use Rattle.mmtel_transaction.proofs.Placing.{searched_boxes}
+use Rattle.mmtel_transaction.proofs.tables.search.Goals as goal
+
+pub returns : goal.returns
+returns c =
+    let facts = c.binary_search_by_key.ensures in
+    let by_key = facts.position (λ b. b.value.key) (answers_always _ _ _ (λ f a r g called. search rules)) in
+    let said = searched_boxes c.args.key c.args.entries.now _ c.requires.rises facts.bound by_key in
+    record { found = said.found; absent = said.absent }

@@ -1,0 +1,222 @@
+//! By what live transactions are looked up: their names, and what they wait for.
+ghost use Rattle.std.specs.Prelude.{◌≡◌, IfOk, option_copied};
+ghost use Rattle.std.specs.Ordering.{ordering_then};
+ghost use Rattle.mmtel_timers.specs.Shelves.{answer, comes_before};
+ghost use Rattle.mmtel_transaction.specs.Indexes.{call_named, client_named, has_name, mark_name, name_cmp, server_named, waits, waits_cmp};
+
+use crate::entries::{Entry, deadline_of};
+use mmtel_scan::{NoMemory, Text};
+use mmtel_timers::Mark;
+use std::alloc::Global;
+use std::cmp::Ordering;
+
+/// By what a message finds a transaction, and which transaction it is.
+pub struct Name {
+    /// The branch, or the Call-ID.
+    pub id: Text,
+    /// Whence the request came: the sent-by beside a branch, none of a client transaction, or the From tag beside a Call-ID.
+    pub from: Text,
+    pub method: Text,
+    /// The number of CSeq beside a Call-ID; 0 beside a branch.
+    pub number: u32,
+    /// The number of the transaction.
+    pub key: u64,
+}
+
+impl Drop for Name {
+    fn drop(self) {
+        let Name {
+            id: _,
+            from: _,
+            method: _,
+            number: _,
+            key: _,
+        } = self;
+    }
+}
+
+/// A name that is looked for: of those that are alike the first from a key on.
+#[derive(Clone, Copy)]
+pub struct NameMark<'a> {
+    pub id: &'a [u8],
+    pub from: &'a [u8],
+    pub method: &'a [u8],
+    pub number: u32,
+    pub key: u64,
+}
+
+/// What of two answers decides.
+fn or_then(first: Ordering, then: Ordering) -> Ordering
+    ensures { result ≡ ordering_then first then }
+{
+    match first {
+        Ordering::Less => Ordering::Less,
+        Ordering::Equal => then,
+        Ordering::Greater => Ordering::Greater,
+    }
+}
+
+/// Whether a name comes before a mark, or after it.
+fn name_order(name: &Name, mark: &NameMark<'_>) -> Ordering
+    ensures { result ≡ name_cmp name.now (mark_name mark.now) }
+{
+    match name.id.bytes().cmp(mark.id) {
+        Ordering::Less => Ordering::Less,
+        Ordering::Greater => Ordering::Greater,
+        Ordering::Equal => or_then(
+            name.from.bytes().cmp(mark.from),
+            or_then(
+                name.method.bytes().cmp(mark.method),
+                or_then(name.number.cmp(&mark.number), name.key.cmp(&mark.key)),
+            ),
+        ),
+    }
+}
+
+impl<'a> Mark<Name> for NameMark<'a> {
+    ghost before = { λ mark name. comes_before name_cmp (mark_name mark) name };
+
+    fn is_before(&self, name: &Name) -> bool {
+        match name_order(name, self) {
+            Ordering::Less => true,
+            Ordering::Equal => false,
+            Ordering::Greater => false,
+        }
+    }
+}
+
+/// The key of a name, if it is the one that is looked for.
+pub fn key_if(name: Option<&Name>, mark: &NameMark<'_>) -> Option<u64>
+    ensures { result ≡ answer (has_name (mark_name mark.now)) (λ x. x.key) (option_copied name.entry) }
+{
+    match name {
+        None => None,
+        Some(name) => {
+            if name.id.bytes() == mark.id
+                && name.from.bytes() == mark.from
+                && name.method.bytes() == mark.method
+                && name.number == mark.number
+            {
+                Some(name.key)
+            } else {
+                None
+            }
+        }
+    }
+}
+
+impl Name {
+    /// Itself, as what is looked for.
+    pub fn mark(&self) -> NameMark<'_>
+        ensures { mark_name result ≡ self.now }
+    {
+        NameMark {
+            id: self.id.bytes(),
+            from: self.from.bytes(),
+            method: self.method.bytes(),
+            number: self.number,
+            key: self.key,
+        }
+    }
+
+    /// The name of a server transaction.
+    ///
+    /// # Errors
+    ///
+    /// Want of memory alone.
+    pub fn of_server(alloc: Global, e: &Entry) -> Result<Name, NoMemory>
+        ensures name { IfOk result (λ name. name ≡ server_named e.now) }
+    {
+        Ok(Name {
+            id: e.asked.branch.copied(alloc)?,
+            from: e.asked.sent_by.copied(alloc)?,
+            method: e.asked.method.copied(alloc)?,
+            number: 0,
+            key: e.key,
+        })
+    }
+
+    /// The name of a client transaction.
+    ///
+    /// # Errors
+    ///
+    /// Want of memory alone.
+    pub fn of_client(alloc: Global, e: &Entry) -> Result<Name, NoMemory>
+        ensures name { IfOk result (λ name. name ≡ client_named e.now) }
+    {
+        Ok(Name {
+            id: e.asked.branch.copied(alloc)?,
+            from: Text::new(),
+            method: e.asked.method.copied(alloc)?,
+            number: 0,
+            key: e.key,
+        })
+    }
+
+    /// The call and CSeq of the request of a server transaction.
+    ///
+    /// # Errors
+    ///
+    /// Want of memory alone.
+    pub fn of_call(alloc: Global, e: &Entry) -> Result<Name, NoMemory>
+        ensures name { IfOk result (λ name. name ≡ call_named e.now) }
+    {
+        Ok(Name {
+            id: e.asked.call_id.copied(alloc)?,
+            from: e.asked.from_tag.copied(alloc)?,
+            method: e.asked.method.copied(alloc)?,
+            number: e.asked.number,
+            key: e.key,
+        })
+    }
+}
+
+/// What a live transaction waits for: the moment of its deadline, or the greatest number, and what orders those of one moment.
+#[derive(Clone, Copy)]
+pub struct Waits {
+    pub at: u128,
+    pub step: u64,
+    pub order: u128,
+    pub key: u64,
+}
+
+/// Which of two comes before the other.
+fn waits_order(x: &Waits, y: &Waits) -> Ordering
+    ensures { result ≡ waits_cmp x.now y.now }
+{
+    or_then(
+        x.at.cmp(&y.at),
+        or_then(
+            x.step.cmp(&y.step),
+            or_then(x.order.cmp(&y.order), x.key.cmp(&y.key)),
+        ),
+    )
+}
+
+impl Mark<Waits> for Waits {
+    ghost before = { λ mark x. comes_before waits_cmp mark x };
+
+    fn is_before(&self, x: &Waits) -> bool {
+        match waits_order(x, self) {
+            Ordering::Less => true,
+            Ordering::Equal => false,
+            Ordering::Greater => false,
+        }
+    }
+}
+
+/// What a transaction waits for.
+pub fn waits_of(e: &Entry) -> Waits
+    ensures { result ≡ waits e.now }
+{
+    let at = match deadline_of(e) {
+        None => u128::MAX,
+        Some(at) => at,
+    };
+    Waits {
+        at,
+        step: e.step,
+        order: e.order,
+        key: e.key,
+    }
+}

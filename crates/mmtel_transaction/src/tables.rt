@@ -1,0 +1,456 @@
+//! The live transactions with what they are looked up by: their numbers, which rise, and shelves of their names and deadlines.
+ghost use Rattle.std.specs.Prelude.{◌≡◌, ◌-◌, ◌+◌, ◌*◌, ◌^◌, ◌≤◌, ◌<◌, true, false, List, [], ◌++◌, ◌∷◌};
+ghost use Rattle.std.specs.Prelude.{OnOk, OnErr, IfOk, IfErr, IsTrue, map, option_map, option_copied, position, Some, None};
+ghost use Rattle.std.specs.List.{find, list_any};
+ghost use Rattle.mmtel_timers.specs.Shelves.{Has, IsIndex, Rises, unboxed};
+ghost use Rattle.mmtel_transaction.specs.declared.entries.Entry.{Entry};
+ghost use Rattle.mmtel_transaction.specs.Changes.{acked_2xx, hit};
+ghost use Rattle.mmtel_transaction.specs.Answers.{by_key, clients, is_client_named, is_full, is_of, is_other, is_server_named, next_due, servers};
+ghost use Rattle.mmtel_transaction.specs.Table.{found_of, made, now_of, settle};
+ghost use Rattle.mmtel_transaction.specs.Indexes.{ack_mark, call_name, due_first, IsPlaceOf, mark_name, name_cmp, TellsOfTwin, waiting, waits_cmp};
+
+use crate::entries::{Change, Entry, ack_2xx_entry, change_entry};
+use crate::heads::Head;
+use crate::names::{Name, NameMark, Waits, key_if, waits_of};
+use crate::shelving::{
+    ack_name, call_mark, client_mark, key_at, put_name, put_waits, rearm, server_mark, take_name,
+    take_waits, twin_name,
+};
+use mmtel_scan::NoMemory;
+use mmtel_timers::{Shelf, Steps};
+use mmtel_types::limits::SERVER_TRANSACTIONS;
+use std::alloc::Global;
+use std::marker::Model;
+use std::sync::ledger::Ledger;
+
+/// A deadline that is due.
+#[derive(Clone, Copy)]
+pub struct Found<'a> {
+    /// Its moment.
+    pub at: u64,
+    /// Its transaction.
+    pub of: &'a Entry,
+}
+
+/// The live transactions, the oldest first, which contracts see as their list.
+#[derive(Drop)]
+pub struct Tables {
+    entries: Vec<Box<Entry>>,
+    /// The branches of server transactions, with sent-by and method.
+    servers: Shelf<Name>,
+    /// The branches of client transactions, with the method.
+    clients: Shelf<Name>,
+    /// The Call-IDs of server transactions, with From tag and CSeq.
+    calls: Shelf<Name>,
+    /// What each transaction waits for; one that waits for nothing stands last.
+    due: Shelf<Waits>,
+}
+
+impl Model for Tables {
+    ghost use Rattle.std.specs.Prelude.{List};
+    ghost use Rattle.mmtel_timers.specs.Shelves.{unboxed};
+    ghost use Rattle.mmtel_transaction.specs.declared.entries.Entry.{Entry};
+    ghost use Rattle.mmtel_transaction.specs.Indexes.{AreTables};
+
+    ghost Value = { List Entry };
+
+    ghost view = { λ t. unboxed t.entries.items };
+
+    ghost invariant = { λ t. AreTables (unboxed t.entries.items) t.servers t.clients t.calls t.due };
+}
+
+impl Tables {
+    /// No transactions. It takes no memory.
+    #[tactic(auto, using(crate::proofs::Pushed::no_tables))]
+    pub fn new(alloc: Global) -> Tables
+        ensures { result ≡ [] }
+    {
+        Tables {
+            entries: Vec::new(alloc),
+            servers: Shelf::new(alloc),
+            clients: Shelf::new(alloc),
+            calls: Shelf::new(alloc),
+            due: Shelf::new(alloc),
+        }
+    }
+
+    /// The transaction of a key.
+    pub fn find(&self, key: u64) -> Option<&Entry>
+        ensures found { option_map now_of result ≡ by_key key self.now }
+        ensures rises { Rises (λ e. e.key) self.now }
+    {
+        match search(&self.entries, key) {
+            Ok(place) => Some(self.entries[place].as_ref()),
+            Err(_) => None,
+        }
+    }
+
+    /// The server transaction of this branch, sent-by and method; None exactly where there is none.
+    pub fn find_server<L: Ledger>(
+        &self,
+        branch: &[u8],
+        sent_by: &[u8],
+        method: &[u8],
+        steps: &mut Steps<L>,
+    ) -> Option<&Entry>
+        ensures found { option_map now_of result ≡ find (is_server_named branch.now sent_by.now method.now) self.now }
+        ensures cost { 2 ^ (steps.new - steps.old) ≤ 2 * servers self.now + 1 }
+        ensures rise { steps.old ≤ steps.new }
+    {
+        match self.server_key(branch, sent_by, method, steps) {
+            None => None,
+            Some(key) => self.find(key),
+        }
+    }
+
+    /// The first client transaction of this branch and method; None exactly where there is none.
+    pub fn find_client<L: Ledger>(
+        &self,
+        branch: &[u8],
+        method: &[u8],
+        steps: &mut Steps<L>,
+    ) -> Option<&Entry>
+        ensures found { option_map now_of result ≡ find (is_client_named branch.now method.now) self.now }
+        ensures cost { 2 ^ (steps.new - steps.old) ≤ 2 * clients self.now + 1 }
+        ensures rise { steps.old ≤ steps.new }
+    {
+        match self.client_key(branch, method, steps) {
+            None => None,
+            Some(key) => self.find(key),
+        }
+    }
+
+    /// The key of the server transaction of this branch, sent-by and method.
+    fn server_key<L: Ledger>(
+        &self,
+        branch: &[u8],
+        sent_by: &[u8],
+        method: &[u8],
+        steps: &mut Steps<L>,
+    ) -> Option<u64>
+        ensures found { result ≡ option_map (λ e. e.key) (find (is_server_named branch.now sent_by.now method.now) self.now) }
+        ensures cost { 2 ^ (steps.new - steps.old) ≤ 2 * servers self.now + 1 }
+        ensures rise { steps.old ≤ steps.new }
+    {
+        let mark = NameMark {
+            id: branch,
+            from: sent_by,
+            method,
+            number: 0,
+            key: 0,
+        };
+        let sought = self.servers.seek(&mark, steps);
+        key_if(sought.item, &mark)
+    }
+
+    /// The key of the first client transaction of this branch and method.
+    fn client_key<L: Ledger>(
+        &self,
+        branch: &[u8],
+        method: &[u8],
+        steps: &mut Steps<L>,
+    ) -> Option<u64>
+        ensures found { result ≡ option_map (λ e. e.key) (find (is_client_named branch.now method.now) self.now) }
+        ensures cost { 2 ^ (steps.new - steps.old) ≤ 2 * clients self.now + 1 }
+        ensures rise { steps.old ≤ steps.new }
+    {
+        let mark = NameMark {
+            id: branch,
+            from: b"",
+            method,
+            number: 0,
+            key: 0,
+        };
+        let sought = self.clients.seek(&mark, steps);
+        key_if(sought.item, &mark)
+    }
+
+    /// Whether as many server transactions are live as may be.
+    pub fn are_full(&self) -> bool
+        ensures { result ≡ is_full self.now }
+    {
+        self.servers.len() >= SERVER_TRANSACTIONS
+    }
+
+    /// Whether another server transaction has the From tag, Call-ID and CSeq of this one.
+    pub fn has_twin<L: Ledger>(&self, e: &Entry, steps: &mut Steps<L>) -> bool
+        ensures { result ≡ list_any (is_other e.now) self.now }
+    {
+        let mark = twin_name(e);
+        let from = self.calls.seek(&mark, steps).place;
+        has_other(&self.calls, from, &mark, e.key, steps)
+    }
+
+    /// The first deadline that is due.
+    pub fn next_of<L: Ledger>(&self, now: u64, steps: &mut Steps<L>) -> Option<Found<'_>>
+        ensures next { option_map found_of result ≡ next_due now self.now }
+        ensures cost { steps.new ≡ steps.old + 1 }
+    {
+        match due_now(self.due.look(0, steps), now) {
+            None => None,
+            Some((at, key)) => match self.find(key) {
+                None => None,
+                Some(of) => Some(Found { at, of }),
+            },
+        }
+    }
+
+    /// Adds a transaction at the end.
+    ///
+    /// # Errors
+    ///
+    /// Want of memory, and that of numbers, where its key is not above all others; the transactions are then as before.
+    pub fn push<L: Ledger>(
+        &mut self,
+        alloc: Global,
+        entry: Entry,
+        steps: &mut Steps<L>,
+    ) -> Result<(), NoMemory>
+        ensures ok { OnOk result (self.new ≡ self.old ++ entry ∷ []) }
+        ensures err { OnErr result (self.new ≡ self.old) }
+    {
+        if !self.is_above(entry.key) {
+            return Err(NoMemory);
+        }
+        if entry.is_server {
+            self.push_server(alloc, entry, steps)
+        } else {
+            self.push_client(alloc, entry, steps)
+        }
+    }
+
+    /// Whether a key is above all others.
+    fn is_above(&self, key: u64) -> bool
+        ensures { IsTrue result → (e : Entry) → Has e self.now → e.key < key }
+    {
+        match self.entries.last() {
+            None => true,
+            Some(last) => last.key < key,
+        }
+    }
+
+    /// Adds a server transaction, whose key is above all others.
+    fn push_server<L: Ledger>(
+        &mut self,
+        alloc: Global,
+        entry: Entry,
+        steps: &mut Steps<L>,
+    ) -> Result<(), NoMemory>
+        requires kind { entry.is_server ≡ true }
+        requires above { (e : Entry) → Has e self.old → e.key < entry.key }
+        ensures ok { OnOk result (self.new ≡ self.old ++ entry ∷ []) }
+        ensures err { OnErr result (self.new ≡ self.old) }
+    {
+        let waits = waits_of(&entry);
+        let name = Name::of_server(alloc, &entry)?;
+        let call = Name::of_call(alloc, &entry)?;
+        let entry = boxed(alloc, entry)?;
+        let due = put_waits(&mut self.due, waits, steps)?;
+        let server = match put_name(&mut self.servers, name, steps) {
+            Ok(server) => server,
+            Err(fault) => {
+                self.due.remove(due);
+                return Err(fault);
+            }
+        };
+        let called = match put_name(&mut self.calls, call, steps) {
+            Ok(called) => called,
+            Err(fault) => {
+                self.due.remove(due);
+                self.servers.remove(server);
+                return Err(fault);
+            }
+        };
+        match self.entries.push(entry) {
+            Ok(()) => {}
+            Err(_) => {
+                self.due.remove(due);
+                self.servers.remove(server);
+                self.calls.remove(called);
+                return Err(NoMemory);
+            }
+        }
+        Ok(())
+    }
+
+    /// Adds a client transaction, whose key is above all others.
+    fn push_client<L: Ledger>(
+        &mut self,
+        alloc: Global,
+        entry: Entry,
+        steps: &mut Steps<L>,
+    ) -> Result<(), NoMemory>
+        requires kind { entry.is_server ≡ false }
+        requires above { (e : Entry) → Has e self.old → e.key < entry.key }
+        ensures ok { OnOk result (self.new ≡ self.old ++ entry ∷ []) }
+        ensures err { OnErr result (self.new ≡ self.old) }
+    {
+        let waits = waits_of(&entry);
+        let name = Name::of_client(alloc, &entry)?;
+        let entry = boxed(alloc, entry)?;
+        let due = put_waits(&mut self.due, waits, steps)?;
+        let client = match put_name(&mut self.clients, name, steps) {
+            Ok(client) => client,
+            Err(fault) => {
+                self.due.remove(due);
+                return Err(fault);
+            }
+        };
+        match self.entries.push(entry) {
+            Ok(()) => {}
+            Err(_) => {
+                self.due.remove(due);
+                self.clients.remove(client);
+                return Err(NoMemory);
+            }
+        }
+        Ok(())
+    }
+
+    /// Changes the transaction of a key, and leaves it out where that ends it. It takes no memory.
+    pub fn settle<L: Ledger>(&mut self, key: u64, change: Change, steps: &mut Steps<L>)
+        ensures { self.new ≡ settle key (made change) self.old }
+    {
+        if let Ok(place) = search(&self.entries, key) {
+            let entry = &mut *self.entries[place];
+            let before = waits_of(entry);
+            change_entry(entry, change);
+            if !entry.is_over {
+                let after = waits_of(entry);
+                rearm(&mut self.due, &before, after, steps);
+            } else if entry.is_server {
+                take_waits(&mut self.due, &before, steps);
+                take_name(&mut self.servers, &server_mark(entry), steps);
+                take_name(&mut self.calls, &call_mark(entry), steps);
+                self.entries.remove(place);
+            } else {
+                take_waits(&mut self.due, &before, steps);
+                take_name(&mut self.clients, &client_mark(entry), steps);
+                self.entries.remove(place);
+            }
+        }
+    }
+
+    /// Hears the ACK of a 2xx. It takes no memory.
+    pub fn ack_2xx<L: Ledger>(&mut self, step: u64, m: &Head, steps: &mut Steps<L>)
+        ensures { self.new ≡ map (acked_2xx step m.now) self.old }
+    {
+        let from = self.calls.seek(&ack_name(m), steps).place;
+        ack_from(
+            &mut self.entries,
+            &mut self.due,
+            &self.calls,
+            from,
+            step,
+            m,
+            steps,
+        );
+    }
+}
+
+/// Where the transaction of a key stands, or would stand.
+fn search(entries: &[Box<Entry>], key: u64) -> Result<usize, usize>
+    requires rises { Rises (λ e. e.key) (unboxed entries.now) }
+    ensures found { IfOk result (λ i. position (is_of key) (unboxed entries.now) ≡ Some i) }
+    ensures absent { IfErr result (λ i. position (is_of key) (unboxed entries.now) ≡ None) }
+{
+    entries.binary_search_by_key(&key, |e| e.key)
+}
+
+/// A transaction in a block of its own, so that tables move little.
+fn boxed(alloc: Global, entry: Entry) -> Result<Box<Entry>, NoMemory>
+    ensures value { IfOk result (λ b. b.value ≡ entry) }
+{
+    match Box::new(alloc, entry) {
+        Ok(boxed) => Ok(boxed),
+        Err(_) => Err(NoMemory),
+    }
+}
+
+/// The moment and the key of the deadline that stands first, if it is due.
+fn due_now(first: Option<&Waits>, now: u64) -> Option<(u64, u64)>
+    ensures { result ≡ due_first now (option_copied first.entry) }
+{
+    match first {
+        None => None,
+        Some(first) => {
+            if first.at <= now as u128 {
+                Some((first.at as u64, first.key))
+            } else {
+                None
+            }
+        }
+    }
+}
+
+/// Whether, of the names from a place on that are like one, one is of another transaction than that of a key.
+fn has_other<L: Ledger>(
+    calls: &Shelf<Name>,
+    from: usize,
+    mark: &NameMark<'_>,
+    key: u64,
+    steps: &mut Steps<L>,
+) -> bool
+    ensures { TellsOfTwin (mark_name mark.now) key calls.now from result }
+{
+    for place in from..calls.len() {
+        match key_at(calls, place, mark, steps) {
+            None => return false,
+            Some(other) => {
+                if other != key {
+                    return true;
+                }
+            }
+        }
+    }
+    false
+}
+
+/// The ACK of a 2xx is heard by the transaction of a key, if it is of that one's.
+fn ack_key<L: Ledger>(
+    entries: &mut Vec<Box<Entry>>,
+    due: &mut Shelf<Waits>,
+    key: u64,
+    step: u64,
+    m: &Head,
+    steps: &mut Steps<L>,
+)
+    requires rises { Rises (λ e. e.key) (unboxed entries.old.items) }
+    requires due { IsIndex waiting waits_cmp (unboxed entries.old.items) due.old }
+    ensures entries { unboxed entries.new.items ≡ map (hit key (acked_2xx step m.now)) (unboxed entries.old.items) }
+    ensures due { IsIndex waiting waits_cmp (unboxed entries.new.items) due.new }
+{
+    if let Ok(place) = search(entries, key) {
+        let entry = &mut *entries[place];
+        let before = waits_of(entry);
+        ack_2xx_entry(entry, step, m);
+        let after = waits_of(entry);
+        rearm(due, &before, after, steps);
+    }
+}
+
+/// The ACK of a 2xx is heard by the INVITEs of its call and number, whose names stand from a place on.
+fn ack_from<L: Ledger>(
+    entries: &mut Vec<Box<Entry>>,
+    due: &mut Shelf<Waits>,
+    calls: &Shelf<Name>,
+    from: usize,
+    step: u64,
+    m: &Head,
+    steps: &mut Steps<L>,
+)
+    requires rises { Rises (λ e. e.key) (unboxed entries.old.items) }
+    requires due { IsIndex waiting waits_cmp (unboxed entries.old.items) due.old }
+    requires calls { IsIndex call_name name_cmp (unboxed entries.old.items) calls.now }
+    requires place { IsPlaceOf (ack_mark m.now) calls.now from }
+    ensures entries { unboxed entries.new.items ≡ map (acked_2xx step m.now) (unboxed entries.old.items) }
+    ensures due { IsIndex waiting waits_cmp (unboxed entries.new.items) due.new }
+{
+    let mark = ack_name(m);
+    for place in from..calls.len() {
+        match key_at(calls, place, &mark, steps) {
+            None => return,
+            Some(key) => ack_key(entries, due, key, step, m, steps),
+        }
+    }
+}

@@ -1,0 +1,219 @@
+//! Look-ups, first deadlines and ends among as many live server transactions as may be, so many that a walk of them at each call would take an hour.
+
+ghost use Rattle.std.specs.Prelude.{◌≡◌, ◌<◌};
+
+use crate::asserting::assert_right;
+use crate::transactions::calls::{opens, with_via};
+use crate::transactions::messages::message;
+use mmtel_message::Msg;
+use mmtel_scan::Text;
+use mmtel_timers::Steps;
+use mmtel_told::Told;
+use mmtel_transaction::{Due, TKey, Transactions};
+use mmtel_types::Moment;
+use std::alloc::Global;
+use std::marker::Brand;
+use std::sync::ledger::{Blank, Ledger};
+
+/// As many server transactions as may be live.
+const MOST: u64 = 16384;
+
+/// A branch: all have one length, and differ in their last bytes alone.
+fn branch(told: &mut Told, number: u64) -> Text {
+    let mut branch = Told::new(told.alloc);
+    branch.add(b"z9hG4bK-what-all-branches-begin-with-");
+    branch.add_number(number.saturating_add(100000));
+    told.copy(branch.whole())
+}
+
+/// The request of a branch.
+fn request(told: &mut Told, number: u64) -> Option<Msg> {
+    let of = branch(told, number);
+    let mut via = Told::new(told.alloc);
+    via.add(b"SIP/2.0/UDP 127.0.0.1:5071;branch=");
+    via.add(of.bytes());
+    let via = told.copy(via.whole());
+    with_via(told, via)
+}
+
+/// Whether the request of a number is heard and answered at that number's moment, so that its transaction ends 32,000 ms later.
+fn is_answered(
+    told: &mut Told,
+    transactions: &mut Transactions,
+    answer: &Msg,
+    number: u64,
+) -> bool {
+    let Some(now) = Moment::new(number) else {
+        return false;
+    };
+    let Some(m) = request(told, number) else {
+        return false;
+    };
+    opens(told, transactions, m, number, now)
+        && transactions
+            .reply(told.alloc, TKey(number), answer, now)
+            .is_ok()
+}
+
+/// Opens as many as may be and answers them; how many of them did not go so.
+fn fill(told: &mut Told, transactions: &mut Transactions) -> usize {
+    let Some(answer) = message(told, b"200/OPTIONS/a") else {
+        return 1;
+    };
+    let mut wrong: usize = 0;
+    for number in 0..MOST {
+        if !is_answered(told, transactions, &answer, number) {
+            wrong = wrong.saturating_add(1);
+        }
+    }
+    drop(answer);
+    wrong
+}
+
+/// The branches of all.
+fn branches(told: &mut Told) -> Vec<Text> {
+    let mut all = Vec::new(told.alloc);
+    for number in 0..MOST {
+        let one = branch(told, number);
+        let pushed = all.push(one);
+        told.keep(pushed.is_ok());
+    }
+    all
+}
+
+/// Whether the transaction of a place's branch has that place's number.
+fn is_found<L: Ledger>(
+    transactions: &Transactions,
+    branches: &[Text],
+    place: u64,
+    steps: &mut Steps<L>,
+) -> bool {
+    let Some(branch) = branches.get(place as usize) else {
+        return false;
+    };
+    match transactions.server_of(branch.bytes(), b"127.0.0.1:5071", b"OPTIONS", steps) {
+        None => false,
+        Some(key) => key.0 == place,
+    }
+}
+
+/// How many of so many look-ups, of all branches in turn, find another transaction or none.
+fn lost_counted<L: Ledger>(
+    transactions: &Transactions,
+    branches: &[Text],
+    calls: u64,
+    blank: Blank,
+) -> usize
+    requires name { blank.name ≡ L.name }
+    requires parts { blank.parts ≡ L.parts }
+    requires some { 0 < L.parts }
+{
+    let mut steps: Steps<L> = Steps::new(blank);
+    let mut wrong: usize = 0;
+    for call in 0..calls {
+        if !is_found(transactions, branches, call % MOST, &mut steps) {
+            wrong = wrong.saturating_add(1);
+        }
+    }
+    wrong
+}
+
+/// How many of so many look-ups, of all branches in turn, find another transaction or none.
+fn lost(transactions: &Transactions, branches: &[Text], calls: u64) -> usize {
+    lost_counted::<Brand>(transactions, branches, calls, Blank::new(1))
+}
+
+/// How many of so many calls give another deadline than the first, which is that of moment 32,000.
+fn mistaken(transactions: &Transactions, calls: u64) -> usize {
+    let Some(now) = Moment::new(250000) else {
+        return 1;
+    };
+    let mut wrong: usize = 0;
+    for _ in 0..calls {
+        match transactions.upcoming(now) {
+            Some((32000, 0)) => {}
+            _ => wrong = wrong.saturating_add(1),
+        }
+    }
+    wrong
+}
+
+/// Whether what is due next is the end of the transaction of this number.
+fn is_end(told: &Told, transactions: &mut Transactions, number: u64, now: Moment) -> bool {
+    match transactions.due(told.alloc, now) {
+        Err(_) => false,
+        Ok(said) => {
+            let ended = is_over(&said, number);
+            drop(said);
+            ended
+        }
+    }
+}
+
+fn is_over(said: &Due, number: u64) -> bool {
+    match said {
+        Due::Over(key, at) => key.0 == number && *at == number.saturating_add(32000),
+        _ => false,
+    }
+}
+
+/// How many of all do not end when it is their turn, the oldest first.
+fn unended(told: &Told, transactions: &mut Transactions) -> usize {
+    let Some(now) = Moment::new(250000) else {
+        return 1;
+    };
+    let mut wrong: usize = 0;
+    for number in 0..MOST {
+        if !is_end(told, transactions, number, now) {
+            wrong = wrong.saturating_add(1);
+        }
+    }
+    wrong
+}
+
+/// How many of 4,000,000 look-ups go wrong among as many server transactions as may be live.
+fn wrong_look_ups(alloc: Global) -> usize {
+    let mut told = Told::new(alloc);
+    let mut transactions = Transactions::new();
+    let unfilled = fill(&mut told, &mut transactions);
+    let all = branches(&mut told);
+    let wrong = lost(&transactions, &all, 4_000_000);
+    drop(all);
+    drop(transactions);
+    wrong.saturating_add(unfilled)
+}
+
+/// How many of 20,000,000 calls give another deadline than the first.
+fn wrong_deadlines(alloc: Global) -> usize {
+    let mut told = Told::new(alloc);
+    let mut transactions = Transactions::new();
+    let unfilled = fill(&mut told, &mut transactions);
+    let wrong = mistaken(&transactions, 20_000_000);
+    drop(transactions);
+    wrong.saturating_add(unfilled)
+}
+
+/// How many of as many transactions as may be live do not end in their turn.
+fn wrong_ends(alloc: Global) -> usize {
+    let mut told = Told::new(alloc);
+    let mut transactions = Transactions::new();
+    let unfilled = fill(&mut told, &mut transactions);
+    let wrong = unended(&told, &mut transactions);
+    drop(transactions);
+    wrong.saturating_add(unfilled)
+}
+
+#[test]
+fn look_ups_walk_nothing(rt: HostRuntime) {
+    assert_right(&rt, "look-ups", wrong_look_ups(rt.alloc()));
+}
+
+#[test]
+fn first_deadlines_walk_nothing(rt: HostRuntime) {
+    assert_right(&rt, "deadlines", wrong_deadlines(rt.alloc()));
+}
+
+#[test]
+fn ends_move_little(rt: HostRuntime) {
+    assert_right(&rt, "ends", wrong_ends(rt.alloc()));
+}

@@ -1,6 +1,6 @@
 //! A directory while its lines are read.
 ghost use Rattle.std.specs.Prelude.{◌≡◌, ◌++◌, Some, is_none, unwrap_or, IfOk};
-ghost use Rattle.mmtel_directory.specs.Directory.{Answers, are_new, entries_of, is_account, usual_mixer, usual_store, usual_web};
+ghost use Rattle.mmtel_directory.specs.Directory.{Answers, are_new, entries_of, usual_mixer, usual_store, usual_web};
 ghost use Rattle.mmtel_directory.specs.Drafts.{Adds, Steps, empty_draft, finished, step, takes, with_line};
 ghost use Rattle.mmtel_directory.specs.declared.config_lines.Line.TheVariants as said;
 
@@ -9,7 +9,7 @@ use crate::directories::{Directory, DirectoryFault, WebDirectory};
 use mmtel_lex::Uri;
 use mmtel_scan::{List, NoMemory, Text};
 use mmtel_sdp::Mixer;
-use mmtel_trust::{AccountIdentity, Accounts, KnownPeer, PeerTable, Route, TableFault};
+use mmtel_trust::{Accounts, KnownPeer, PeerTable, Route, TableFault};
 use mmtel_types::limits::{ACCOUNTS, DIVERSIONS_DEFAULT, ROUTES};
 use mmtel_types::{Account, Addr};
 use std::alloc::Global;
@@ -40,15 +40,6 @@ fn say_once<T: Drop>(place: &mut Option<T>, number: u64, said: T) -> Result<(), 
     }
     *place = Some(said);
     Ok(())
-}
-
-/// Whether there is such an account.
-pub fn is_account(identities: &[AccountIdentity], account: Account) -> bool
-    ensures exact { result ≡ is_account identities.now account }
-{
-    identities
-        .iter()
-        .any(|identity| identity.account.0 == account.0)
 }
 
 /// Adds the identities that the line of this number gives an account.
@@ -169,7 +160,7 @@ impl Draft {
     ) -> Result<(), DirectoryFault>
         ensures { Adds result number (takes self.old (said.Account account identities)) (with_line self.old (said.Account account identities)) self.new }
     {
-        if self.account_lines >= ACCOUNTS || is_account(self.accounts.identities(), account) {
+        if self.account_lines >= ACCOUNTS || self.accounts.has_account(account) {
             return Err(DirectoryFault::BadLine { line: number });
         }
         add_identities(alloc, &mut self.accounts, number, account, identities)?;

@@ -8,5 +8,4 @@ mod lines;
 
 pub use config_lines::{read_peer, readable_uri};
 pub use directories::{Directory, DirectoryFault, WebDirectory, read_directory};
-pub use drafts::is_account;
 pub use lines::next_line;

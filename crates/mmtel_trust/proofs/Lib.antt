@@ -1,13 +1,17 @@
 pub mod AccountLaws
 pub mod PeerLaws
+pub mod Pairs
 pub mod WordLaws
 pub mod Absorbed
 pub mod ByName
+pub mod HashLaws
 pub mod HeardLaws
+pub mod Indexing
 pub mod Kept
-pub mod Longest
+pub mod Lookups
 pub mod Masked
 pub mod MaskLaws
 pub mod PrefixLaws
+pub mod PrefixWalk
 pub mod TableLaws
 mod Worked

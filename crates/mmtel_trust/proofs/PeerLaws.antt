@@ -20,7 +20,7 @@ use Rattle.mmtel_trust.specs.Peers.{is_number, is_at, has_number, has_addr, peer
 
 -- ---- equal numbers and addresses
 
-peer_is : (p q : Peer) → (p.0 == q.0) ≡ true → p ≡ q
+pub peer_is : (p q : Peer) → (p.0 == q.0) ≡ true → p ≡ q
 peer_is p q e =
     let same : p.0 ≡ q.0 = grind (arith, nat_tests) in
     let of : ℕ → Peer = λ n. record { 0 = n } in
@@ -29,7 +29,7 @@ peer_is p q e =
 peer_self : (p : Peer) → (p.0 == p.0) ≡ true
 peer_self p = grind (arith, nat_tests)
 
-addr_is : (a b : Addr) → is_same_addr a b ≡ true → a ≡ b
+pub addr_is : (a b : Addr) → is_same_addr a b ≡ true → a ≡ b
 addr_is a b e =
     let both = and_true (bytes_eq a.ip b.ip) (a.port == b.port) e in
     let port : a.port ≡ b.port = let p : (a.port == b.port) ≡ true = both.1 in grind (arith, nat_tests) in
@@ -215,3 +215,11 @@ lead_on_more ks k [] e = refl
 lead_on_more ks k (r ∷ rs) e =
     let both = and_true (has_number r.peer ks) (list_all (λ r. has_number r.peer ks) rs) e in
     rw (there_more (is_number r.peer) ks k both.0, lead_on_more ks k rs both.1) refl
+
+-- ---- a further route
+
+pub leads_on_more : (ks : List KnownPeer) (rs : List Route) (r : Route) → list_all (λ r. has_number r.peer ks) rs ≡ true → has_number r.peer ks ≡ true → list_all (λ r. has_number r.peer ks) (rs ++ r ∷ []) ≡ true
+leads_on_more ks [] r e there = rw there refl
+leads_on_more ks (x ∷ xs) r e there =
+    let both = and_true (has_number x.peer ks) (list_all (λ r. has_number r.peer ks) xs) e in
+    rw (both.0, leads_on_more ks xs r both.1 there) refl

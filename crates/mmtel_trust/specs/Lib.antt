@@ -11,4 +11,7 @@ pub mod Passed
 pub mod Peers
 pub mod Privacy
 -- What private functions cite.
+pub mod Hashes
+pub mod Indexes
+pub mod Places
 pub mod Written

@@ -4,11 +4,13 @@
 
 mod accounts;
 mod faults;
+mod hashes;
 mod identities;
 mod kinds;
 mod laws;
 mod parties;
 mod peers;
+mod places;
 mod privacy;
 mod showing;
 mod table_laws;

@@ -1,13 +1,19 @@
 //! The table of peers and routes.
-ghost use Rattle.std.specs.Prelude.{◌≡◌, ◌∷◌, ◌++◌, Some, OnOk, OnErr, IfSome, true, [], filter, option_to_list};
-ghost use Rattle.std.specs.Option.{option_map, option_copied};
-ghost use Rattle.mmtel_lex.specs.Identity.{is_mark, reduced};
+ghost use Rattle.std.specs.Prelude.{◌≡◌, ◌≤◌, Some, OnOk, OnErr, IfSome, List, ℕ, true, [], filter, find, length};
+ghost use Rattle.std.specs.Option.{option_copied};
+ghost use Rattle.mmtel_lex.specs.Identity.{reduced};
 ghost use Rattle.mmtel_trust.specs.Faults.{Meets};
-ghost use Rattle.mmtel_trust.specs.Peers.{Peers, peer_fault, route_fault, has_number, has_addr, peer_at, addr_of, is_trusted, is_route, has_name, with_peer, with_route};
-ghost use Rattle.mmtel_trust.specs.Peers.{begins_with, is_prefix, leads, longest, named_route, route_of};
+ghost use Rattle.mmtel_trust.specs.Hashes.{addr_hash as hash_of_addr, name_hash as hash_of_name};
+ghost use Rattle.mmtel_trust.specs.Indexes.{are_within, is_trusted_one, leads_by};
+ghost use Rattle.mmtel_trust.specs.Peers.{Peers, peer_fault, route_fault, has_number, has_addr, has_name, peer_at, addr_of, is_at, is_number, is_trusted, is_route, with_peer, with_route};
+ghost use Rattle.mmtel_trust.specs.Peers.{begins_with, is_prefix, leads, longest, named_route, own_route, route_of};
+ghost use Rattle.mmtel_trust.specs.Places.{IsIndex};
+ghost use Rattle.mmtel_trust.specs.declared.parties.Route.{Route};
 
 use crate::faults::TableFault;
+use crate::hashes::{addr_hash, is_mark_byte, name_hash, stirred};
 use crate::parties::{KnownPeer, Route};
+use crate::places::{Key, Places, first, is_there};
 use crate::texts::is;
 use mmtel_lex::{List, Text, Uri};
 use mmtel_scan::{Class, is_all};
@@ -20,86 +26,110 @@ use std::marker::Model;
 pub struct PeerTable {
     peers: List<KnownPeer>,
     routes: List<Route>,
+    by_number: Places,
+    by_addr: Places,
+    by_name: Places,
+    /// No name of a route is longer, in bytes.
+    bound: usize,
 }
 
 impl Model for PeerTable {
-    ghost use Rattle.mmtel_trust.specs.Peers.{Peers, IsSound};
+    ghost use Rattle.mmtel_trust.specs.Indexes.{IsKept};
+    ghost use Rattle.mmtel_trust.specs.Peers.{Peers};
 
     ghost Value = { Peers };
 
     ghost view = { λ t. record { known = t.peers; routes = t.routes } };
 
-    ghost invariant = { λ t. IsSound (record { known = t.peers; routes = t.routes }) };
+    ghost invariant = { λ t. IsKept (record { known = t.peers; routes = t.routes }) t.by_number t.by_addr t.by_name t.bound };
 }
 
-fn has_number(peers: &[KnownPeer], p: Peer) -> bool
-    ensures { result ≡ has_number p peers.now }
-{
-    peers.iter().any(|known| known.peer.0 == p.0)
-}
+impl Key<KnownPeer> for Peer {
+    ghost is_key_of = { is_number };
 
-fn has_addr(peers: &[KnownPeer], a: Addr) -> bool
-    ensures { result ≡ has_addr a peers.now }
-{
-    peers.iter().any(|known| known.addr.is_same(a))
-}
+    ghost hash = { λ p. p.0 };
 
-fn peer_at(peers: &[KnownPeer], a: Addr) -> Option<Peer>
-    ensures { result ≡ peer_at a peers.now }
-{
-    for known in peers {
-        if known.addr.is_same(a) {
-            return Some(known.peer);
-        }
+    fn is_key_of(&self, item: &KnownPeer) -> bool {
+        item.peer.0 == self.0
     }
-    None
-}
 
-fn addr_of(peers: &[KnownPeer], p: Peer) -> Option<Addr>
-    ensures { result ≡ addr_of p peers.now }
-{
-    for known in peers {
-        if known.peer.0 == p.0 {
-            return Some(known.addr);
-        }
+    fn hash(&self) -> u64 {
+        u64::from(self.0)
     }
-    None
 }
 
-fn is_trusted(peers: &[KnownPeer], p: Peer) -> bool
-    ensures { result ≡ is_trusted p peers.now }
-{
-    peers.iter().any(|known| mmtel_decisions::is_trusted(known.peer, known.trusted, p))
-}
+/// The number of a peer that has to be of the trust domain.
+#[derive(Drop)]
+struct Trusted(Peer);
 
-fn is_route(route: &Route, name: &[u8]) -> bool
-    ensures { result ≡ is_route name.now route.now }
-{
-    is(route.name.bytes(), name)
-}
+impl Key<KnownPeer> for Trusted {
+    ghost is_key_of = { λ t k. is_trusted_one t.0 k };
 
-fn has_name(routes: &[Route], name: &[u8]) -> bool
-    ensures { result ≡ has_name name.now routes.now }
-{
-    routes.iter().any(|route| is_route(route, name))
-}
+    ghost hash = { λ t. t.0.0 };
 
-/// The peer of the route of this name.
-fn named_peer(routes: &[Route], name: &[u8]) -> Option<Peer>
-    ensures { result ≡ option_map (λ r. r.peer) (named_route name.now routes.now) }
-{
-    for route in routes {
-        if is_route(route, name) {
-            return Some(route.peer);
-        }
+    fn is_key_of(&self, item: &KnownPeer) -> bool {
+        mmtel_decisions::is_trusted(item.peer, item.trusted, self.0)
     }
-    None
+
+    fn hash(&self) -> u64 {
+        u64::from(self.0.0)
+    }
 }
 
-fn is_mark_byte(byte: u8) -> bool
-    ensures { result ≡ is_mark byte }
-{
-    byte == b'-' || byte == b'.' || byte == b'(' || byte == b')'
+impl Key<KnownPeer> for Addr {
+    ghost is_key_of = { is_at };
+
+    ghost hash = { hash_of_addr };
+
+    fn is_key_of(&self, item: &KnownPeer) -> bool {
+        item.addr.is_same(*self)
+    }
+
+    fn hash(&self) -> u64 {
+        addr_hash(*self)
+    }
+}
+
+/// The name of a route, compared without case.
+#[derive(Drop)]
+struct RouteName<'a> {
+    name: &'a [u8],
+}
+
+impl<'a> Key<Route> for RouteName<'a> {
+    ghost is_key_of = { λ n r. is_route n.name.now r };
+
+    ghost hash = { λ n. hash_of_name n.name.now };
+
+    fn is_key_of(&self, item: &Route) -> bool {
+        is(item.name.bytes(), self.name)
+    }
+
+    fn hash(&self) -> u64 {
+        name_hash(self.name)
+    }
+}
+
+/// The first bytes of a number without its visual separators: how many they are, and their hash.
+#[derive(Drop)]
+struct NumberFront<'a> {
+    number: &'a [u8],
+    length: usize,
+    hash: u64,
+}
+
+impl<'a> Key<Route> for NumberFront<'a> {
+    ghost is_key_of = { λ f r. leads_by (reduced f.number.now) f.length r };
+
+    ghost hash = { λ f. f.hash };
+
+    fn is_key_of(&self, item: &Route) -> bool {
+        leads_by(item, self.number, self.length)
+    }
+
+    fn hash(&self) -> u64 {
+        self.hash
+    }
 }
 
 /// Whether the number begins with the prefix once its visual separators are taken out.
@@ -138,47 +168,114 @@ fn leads(route: &Route, number: &[u8]) -> bool
     is_prefix(route.name.bytes()) && begins_with(number, route.name.bytes())
 }
 
-/// The route of the longer name; the one that was found before where they are as long.
-fn better<'a>(best: Option<&'a Route>, route: &'a Route) -> &'a Route
-    ensures { Some result.now ≡ longest (option_to_list (option_copied best.entry) ++ route.now ∷ []) }
+fn leads_by(route: &Route, number: &[u8], length: usize) -> bool
+    ensures { result ≡ leads_by (reduced number.now) length route.now }
 {
-    match best {
-        None => route,
-        Some(best) => if best.name.bytes().len() < route.name.bytes().len() {
-            route
-        } else {
-            best
-        },
+    if !leads(route, number) {
+        return false;
     }
+    route.name.bytes().len() == length
 }
 
-/// The peer of the longest prefix with which the number begins.
-#[tactic(auto, using(crate::proofs::Longest::further))]
-fn prefix_peer(routes: &[Route], number: &[u8]) -> Option<Peer>
-    ensures { result ≡ option_map (λ r. r.peer) (longest (filter (leads (reduced number.now)) routes.now)) }
+/// The route of the longest prefix with which the number begins, where no name of a route is longer than the bound.
+fn prefix_route<'a>(
+    routes: &'a [Route],
+    by_name: &Places,
+    bound: usize,
+    number: &[u8],
+) -> Option<&'a Route>
+    requires index { IsIndex (λ r. hash_of_name r.name) routes.now by_name.now }
+    requires within { are_within bound routes.now ≡ true }
+    ensures { option_copied result ≡ longest (filter (leads (reduced number.now)) routes.now) }
 {
     let mut best: Option<&Route> = None;
-    for route in routes {
-        if leads(route, number) {
-            best = Some(better(best, route));
+    let mut length = 0;
+    let mut hash = 1;
+    for byte in number {
+        if !is_mark_byte(*byte) {
+            if length >= bound {
+                return best;
+            }
+            length += 1;
+            hash = stirred(hash, u64::from(*byte));
+            let front = NumberFront {
+                number,
+                length,
+                hash,
+            };
+            best = first(by_name, routes, &front).or(best);
         }
     }
-    match best {
-        Some(route) => Some(route.peer),
+    best
+}
+
+/// The greater of both.
+fn wider(bound: usize, length: usize) -> usize
+    ensures before { bound ≤ result }
+    ensures more { length ≤ result }
+{
+    if bound < length { length } else { bound }
+}
+
+/// The peer at the address.
+fn peer_at(peers: &[KnownPeer], by_addr: &Places, a: Addr) -> Option<Peer>
+    requires { IsIndex (λ k. hash_of_addr k.addr) peers.now by_addr.now }
+    ensures { result ≡ peer_at a peers.now }
+{
+    match first(by_addr, peers, &a) {
+        Some(known) => Some(known.peer),
         None => None,
     }
 }
 
-fn route_of(routes: &[Route], uri: &Uri) -> Option<Peer>
+/// The address of the peer.
+fn addr_of(peers: &[KnownPeer], by_number: &Places, p: Peer) -> Option<Addr>
+    requires { IsIndex (λ k. k.peer.0) peers.now by_number.now }
+    ensures { result ≡ addr_of p peers.now }
+{
+    match first(by_number, peers, &p) {
+        Some(known) => Some(known.addr),
+        None => None,
+    }
+}
+
+/// The route of the name.
+fn named_route<'a>(routes: &'a [Route], by_name: &Places, name: &[u8]) -> Option<&'a Route>
+    requires { IsIndex (λ r. hash_of_name r.name) routes.now by_name.now }
+    ensures { option_copied result ≡ named_route name.now routes.now }
+{
+    first(by_name, routes, &RouteName { name })
+}
+
+/// The route that names the host of a URI, or the longest prefix of its number.
+fn own_route<'a>(
+    routes: &'a [Route],
+    by_name: &Places,
+    bound: usize,
+    uri: &Uri,
+) -> Option<&'a Route>
+    requires index { IsIndex (λ r. hash_of_name r.name) routes.now by_name.now }
+    requires within { are_within bound routes.now ≡ true }
+    ensures { option_copied result ≡ own_route uri.now routes.now }
+{
+    match uri {
+        Uri::Sip { host, .. } => named_route(routes, by_name, host.bytes()),
+        Uri::Tel { number, .. } => prefix_route(routes, by_name, bound, number.bytes()),
+    }
+}
+
+/// The peer to which the URI leads.
+fn route_of(routes: &[Route], by_name: &Places, bound: usize, uri: &Uri) -> Option<Peer>
+    requires index { IsIndex (λ r. hash_of_name r.name) routes.now by_name.now }
+    requires within { are_within bound routes.now ≡ true }
     ensures { result ≡ route_of uri.now routes.now }
 {
-    let own = match uri {
-        Uri::Sip { host, .. } => named_peer(routes, host.bytes()),
-        Uri::Tel { number, .. } => prefix_peer(routes, number.bytes()),
-    };
-    match own {
-        Some(peer) => Some(peer),
-        None => named_peer(routes, b"*"),
+    match own_route(routes, by_name, bound, uri) {
+        Some(route) => Some(route.peer),
+        None => match named_route(routes, by_name, b"*") {
+            Some(route) => Some(route.peer),
+            None => None,
+        },
     }
 }
 
@@ -190,7 +287,29 @@ impl PeerTable {
         PeerTable {
             peers: List::new(),
             routes: List::new(),
+            by_number: Places::new(),
+            by_addr: Places::new(),
+            by_name: Places::new(),
+            bound: 0,
         }
+    }
+
+    fn has_number(&self, p: Peer) -> bool
+        ensures { result ≡ has_number p self.now.known }
+    {
+        is_there(&self.by_number, self.peers.items(), &p)
+    }
+
+    fn has_addr(&self, a: Addr) -> bool
+        ensures { result ≡ has_addr a self.now.known }
+    {
+        is_there(&self.by_addr, self.peers.items(), &a)
+    }
+
+    fn has_name(&self, name: &[u8]) -> bool
+        ensures { result ≡ has_name name.now self.now.routes }
+    {
+        is_there(&self.by_name, self.routes.items(), &RouteName { name })
     }
 
     /// Adds a peer: its number, its address, and whether it is of the trust domain (RFC 3325 §2.3).
@@ -209,9 +328,12 @@ impl PeerTable {
         ensures err { OnErr result (self.new ≡ self.old) }
         ensures cause { Meets result (peer_fault p a self.old) }
     {
-        if has_number(self.peers.items(), p) || has_addr(self.peers.items(), a) {
+        if self.has_number(p) || self.has_addr(a) {
             return Err(TableFault::Taken);
         }
+        let place = self.peers.items().len();
+        self.by_number.add(alloc, u64::from(p.0), place)?;
+        self.by_addr.add(alloc, addr_hash(a), place)?;
         self.peers.push(
             alloc,
             KnownPeer {
@@ -236,12 +358,15 @@ impl PeerTable {
         ensures err { OnErr result (self.new ≡ self.old) }
         ensures cause { Meets result (route_fault name p self.old) }
     {
-        if has_name(self.routes.items(), name.bytes()) {
+        if self.has_name(name.bytes()) {
             return Err(TableFault::Taken);
         }
-        if !has_number(self.peers.items(), p) {
+        if !self.has_number(p) {
             return Err(TableFault::NoPeer);
         }
+        let place = self.routes.items().len();
+        self.by_name.add(alloc, name_hash(name.bytes()), place)?;
+        self.bound = wider(self.bound, name.bytes().len());
         self.routes.push(alloc, Route { name, peer: p })?;
         Ok(())
     }
@@ -252,7 +377,7 @@ impl PeerTable {
         // The peer that is found is at this address.
         ensures theirs { IfSome result (λ p. addr_of p self.now.known ≡ Some a) }
     {
-        peer_at(self.peers.items(), a)
+        peer_at(self.peers.items(), &self.by_addr, a)
     }
 
     /// The address of the peer; None where the peer is not in the table.
@@ -261,14 +386,14 @@ impl PeerTable {
         // What comes from this address is the peer's.
         ensures theirs { IfSome result (λ a. peer_at a self.now.known ≡ Some p) }
     {
-        addr_of(self.peers.items(), p)
+        addr_of(self.peers.items(), &self.by_number, p)
     }
 
     /// Whether the peer is of the trust domain (RFC 3325 §2.3); false where it is not in the table.
     pub fn trusted(&self, p: Peer) -> bool
         ensures exact { result ≡ is_trusted p self.now.known }
     {
-        is_trusted(self.peers.items(), p)
+        is_there(&self.by_number, self.peers.items(), &Trusted(p))
     }
 
     /// The peer that leads to a URI; None where none does.
@@ -280,6 +405,6 @@ impl PeerTable {
         // It leads to a peer of the table.
         ensures known { IfSome result (λ p. has_number p self.now.known ≡ true) }
     {
-        route_of(self.routes.items(), u)
+        route_of(self.routes.items(), &self.by_name, self.bound, u)
     }
 }

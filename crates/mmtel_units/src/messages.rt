@@ -3,6 +3,7 @@
 mod building;
 pub mod drafts;
 mod history;
+mod lookups;
 mod message;
 mod parties;
 mod responses;

@@ -5,7 +5,7 @@ use Rattle.mmtel_trust.proofs.accounts.Accounts.add.Goals as goal
 
 pub returns-clause-found : goal.returns-clause-found
 returns-clause-found c =
-    let none : has_identity c.args.u c.self.inside.identities ≡ false = sym (c.has_identity.ensures ∙ ap (λ es. has_identity c.args.u es) c.items.ensures) ∙ c.if-has_identity.false in
+    let none : has_identity c.args.u c.self.inside.identities ≡ false = sym (c.has_identity.ensures ∙ ap (λ es. has_identity c.args.u es) (sym c.self.view_is)) ∙ c.if-has_identity.false in
     ap (λ es. account_of es c.args.u) c.in_ok-push.ensures.ok ∙ added_found c.self.inside.identities c.args.a c.args.u none
 
 pub returns-clause-first : goal.returns-clause-first

@@ -1,0 +1,37 @@
+-- Hashes of what is looked up: equal keys have equal hashes, and nothing else is claimed of them. A hash is folded over bytes, so that none needs memory.
+use Rattle.std.specs.Prelude.{ℕ, ◌+◌, ◌*◌, ◌%◌, ◌^◌, ◌==◌, Bool, false, List, [], ◌∷◌, Option, Some, None, if◌then◌else◌}
+use Rattle.std.specs.Str.{str_to_ascii_lowercase}
+use Rattle.mmtel_lex.specs.Identity.{reduced}
+use Rattle.mmtel_lex.specs.declared.values.Uri.{Uri}
+use Rattle.mmtel_lex.specs.declared.values.Uri.TheVariants.{Sip, Tel}
+use Rattle.mmtel_types.specs.declared.addrs.Addr.{Addr}
+
+-- with one number more
+unfoldable pub stirred : ℕ → ℕ → ℕ
+stirred hash n = (hash * 1099511628211 % 2 ^ 64 + n) % 2 ^ 64
+
+-- with these bytes
+abbrev pub hashed : ℕ → List ℕ → ℕ
+hashed hash [] = hash
+hashed hash (b ∷ s) = hashed (stirred hash b) s
+
+-- of a name that is compared without case
+abbrev pub name_hash : List ℕ → ℕ
+name_hash name = hashed 1 (str_to_ascii_lowercase name)
+
+abbrev pub addr_hash : Addr → ℕ
+addr_hash a = stirred (hashed 1 a.ip) a.port
+
+abbrev pub begins_plus : List ℕ → Bool
+begins_plus [] = false
+begins_plus (b ∷ s) = b == 43
+
+-- of a sip URI: a user that begins with '+' may stand for a telephone number, which tel URIs name without a host
+abbrev pub sip_hash : Option (List ℕ) → List ℕ → ℕ
+sip_hash None host = name_hash host
+sip_hash (Some user) host = if begins_plus user then hashed 1 user else hashed (stirred (hashed 1 user) 64) (str_to_ascii_lowercase host)
+
+-- of an identity
+abbrev pub uri_hash : Uri → ℕ
+uri_hash (Sip user host port params headers) = sip_hash user host
+uri_hash (Tel number params) = hashed 1 (reduced number)

@@ -1,0 +1,128 @@
+//! Where the items of a list stand, by hashes of what they are looked up by.
+ghost use Rattle.std.specs.Prelude.{◌≡◌, [], ℕ, Bool, OnOk, OnErr, find};
+ghost use Rattle.std.specs.BTreeSet.{keys};
+ghost use Rattle.std.specs.List.{list_any};
+ghost use Rattle.std.specs.Option.{option_copied};
+ghost use Rattle.mmtel_trust.specs.Places.{Covers, IsMore, IsNext};
+
+use mmtel_scan::NoMemory;
+use std::alloc::Global;
+use std::collections::BTreeSet;
+use std::marker::Model;
+
+/// A hash, and a place in a list.
+type Place = (u64, usize);
+
+/// The places of the items of a list that only grows, by their hashes.
+///
+/// Each item's place is kept under its hash. A place may be kept without its item, as when memory runs out before that is added; so whoever looks asks each item.
+#[derive(Drop)]
+pub struct Places {
+    kept: Option<BTreeSet<Place, Global>>,
+}
+
+impl Model for Places {
+    ghost use Rattle.std.specs.Prelude.{List, [], ℕ};
+    ghost use Rattle.std.specs.Option.{option_map_or};
+    ghost use Rattle.std.specs.BTreeSet.{keys};
+
+    ghost Value = { List (ℕ × ℕ) };
+
+    ghost view = { λ places. option_map_or (λ set. keys set) places.kept [] };
+}
+
+/// What items of a list are looked up by.
+pub trait Key<T> {
+    ghost is_key_of: { Self → T → Bool };
+
+    ghost hash: { Self → ℕ };
+
+    /// Whether it is the key of the item.
+    fn is_key_of(&self, item: &T) -> bool
+        ensures { result ≡ is_key_of self.now item.now };
+
+    /// The hash under which its items stand.
+    fn hash(&self) -> u64
+        ensures { result ≡ hash self.now };
+}
+
+/// The first item of the key.
+pub fn first<'a, T, K: Key<T>>(places: &Places, items: &'a [T], key: &K) -> Option<&'a T>
+    requires { Covers (K.is_key_of key.now) (K.hash key.now) items.now places.now }
+    ensures { option_copied result ≡ find (K.is_key_of key.now) items.now }
+{
+    let hash = key.hash();
+    let mut from = 0;
+    'places: while let Some(place) = places.next(hash, from) {
+        match items.get(place) {
+            None => return None,
+            Some(item) => {
+                if key.is_key_of(item) {
+                    return Some(item);
+                }
+                from = place + 1;
+            }
+        }
+    }
+    None
+}
+
+/// Whether there is an item of the key.
+pub fn is_there<T, K: Key<T>>(places: &Places, items: &[T], key: &K) -> bool
+    requires { Covers (K.is_key_of key.now) (K.hash key.now) items.now places.now }
+    ensures { result ≡ list_any (K.is_key_of key.now) items.now }
+{
+    first(places, items, key).is_some()
+}
+
+impl Places {
+    /// No places. It takes no memory.
+    pub fn new() -> Places
+        ensures { result ≡ [] }
+    {
+        Places { kept: None }
+    }
+
+    /// Keeps a place under a hash.
+    ///
+    /// # Errors
+    ///
+    /// Want of memory alone; the places are then as before.
+    pub fn add(&mut self, alloc: Global, hash: u64, place: usize) -> Result<(), NoMemory>
+        ensures ok { OnOk result (IsMore hash place self.old self.new) }
+        ensures err { OnErr result (self.new ≡ self.old) }
+    {
+        match &mut self.kept {
+            Some(kept) => {
+                kept.insert((hash, place))?;
+                Ok(())
+            }
+            None => {
+                let mut kept = BTreeSet::new(alloc);
+                kept.insert((hash, place))?;
+                self.kept = Some(kept);
+                Ok(())
+            }
+        }
+    }
+
+    /// The first place that is kept under the hash, from this one on.
+    fn next(&self, hash: u64, from: usize) -> Option<usize>
+        ensures { IsNext self.now hash from result }
+    {
+        match &self.kept {
+            None => None,
+            Some(kept) => next_of(kept, hash, from),
+        }
+    }
+}
+
+/// The first place of the set under the hash, from this one on.
+fn next_of(kept: &BTreeSet<Place, Global>, hash: u64, from: usize) -> Option<usize>
+    ensures { IsNext (keys kept.now) hash from result }
+{
+    match kept.range((hash, from)..).next() {
+        None => None,
+        Some(place) => if place.0 == hash { Some(place.1) } else { None },
+    }
+}

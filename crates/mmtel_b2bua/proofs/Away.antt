@@ -1,5 +1,5 @@
 -- A leg that was taken out of a call has no meter, and fits into the call again, which stands where it stood.
-use Rattle.std.proofs.Common.{◌≡◌, ℕ, Bool, true, List, Option, Some, None, Ok, Err, Result, length, refl, sym, ap, cond, ◌∙◌, ◌==◌}
+use Rattle.std.proofs.Common.{◌≡◌, ℕ, Bool, true, List, Option, Some, None, Ok, Err, Result, length, refl, sym, ap, cond, not, ◌∙◌, ◌==◌}
 use Rattle.std.proofs.Math.Seq.{lt-length-set}
 use Rattle.std.proofs.lemmas.List.{length-set, get_or-set_same}
 use Rattle.std.proofs.lemmas.List.Folds.{position_or_len-set}
@@ -10,14 +10,17 @@ use Rattle.mmtel_call.specs.declared.calls.Call.{Call}
 use Rattle.mmtel_call.specs.declared.calls.Phase.TheVariants.{Lent, Offered, Over, Stood}
 use Rattle.mmtel_call.specs.declared.calls.Phase.{Phase}
 use Rattle.mmtel_call.specs.declared.calls.Stage.TheVariants.{Answered, Asking, Parting, Talking}
-use Rattle.mmtel_call.specs.Lending.{fits, fits_in, is_lent, left_of, lent_in, taken_out_in}
+use Rattle.mmtel_call.specs.Lending.{finished, finished_in, fits, fits_in, is_lent, left_of, lent_in, put_back_in, taken_out_in}
+use Rattle.mmtel_call.specs.Settled.{is_over_in}
+use Rattle.mmtel_call_decisions.specs.Site.{Site}
+use Rattle.mmtel_desk.specs.declared.desks.Desk.{Desk}
 use Rattle.mmtel_charging.specs.Meters.{Noted}
 use Rattle.mmtel_leg.specs.Releases.{released_leg}
 use Rattle.mmtel_leg.specs.declared.legs.Released.{Released}
 use Rattle.mmtel_types.specs.declared.sides.Side.{Side}
 use Rattle.mmtel_types.specs.declared.sides.Side.TheVariants.{Caller, Callee}
-use Rattle.mmtel_b2bua.specs.Entries.{is_numbered}
-use Rattle.mmtel_b2bua.specs.Lending.{entry_at, entry_of, is_away, leg_of_entry, leg_out, lent, lent_at, lent_by, place_of, released, takes_back}
+use Rattle.mmtel_b2bua.specs.Entries.{is_live, is_numbered}
+use Rattle.mmtel_b2bua.specs.Lending.{entry_at, entry_of, is_away, leg_of_entry, leg_out, lent, lent_at, lent_by, place_of, put_back, released, takes_back}
 use Rattle.mmtel_b2bua.specs.declared.entries.Entry.{Entry}
 
 -- ---- of one call
@@ -59,7 +62,7 @@ taken_meter (Stood x (Asking asking q)) side leg h = absurd (none-some leg h)
 taken_meter (Lent loan) side leg h = absurd (none-some leg h)
 taken_meter (Over cause) side leg h = absurd (none-some leg h)
 
-same_number : (phase : Phase) (side : Side) (c : Call) → (lent_in phase side c).opening.number.0 ≡ c.opening.number.0
+pub same_number : (phase : Phase) (side : Side) (c : Call) → (lent_in phase side c).opening.number.0 ≡ c.opening.number.0
 same_number (Offered x) side c = refl
 same_number (Stood x (Answered waiting success)) side c = refl
 same_number (Stood x (Parting waiting success)) side c = refl
@@ -67,6 +70,47 @@ same_number (Stood x Talking) side c = refl
 same_number (Stood x (Asking asking q)) side c = refl
 same_number (Lent loan) side c = refl
 same_number (Over cause) side c = refl
+
+-- put back, or ended without it, it has its number too
+pub number_back : (phase : Phase) (leg : Released) (c : Call) → (put_back_in phase leg c).opening.number.0 ≡ c.opening.number.0
+number_back (Offered x) leg c = refl
+number_back (Stood x stage) leg c = refl
+number_back (Lent loan) leg c = refl
+number_back (Over cause) leg c = refl
+
+number_over : (phase : Phase) (site : Site) (at : ℕ) (c : Call) (desk : Desk) → (finished_in phase site at c desk).call.opening.number.0 ≡ c.opening.number.0
+number_over (Offered x) site at c desk = refl
+number_over (Stood x stage) site at c desk = refl
+number_over (Lent loan) site at c desk = refl
+number_over (Over cause) site at c desk = refl
+
+pub number_ended : (site : Site) (at : ℕ) (c : Call) (desk : Desk) → (finished site at c desk).call.opening.number.0 ≡ c.opening.number.0
+unfolding finished
+number_ended site at c desk = number_over c.phase site at c desk
+
+-- whether it lives stays too
+lives_lent : (phase : Phase) (side : Side) (c : Call) → c.phase ≡ phase → is_over_in (lent_in phase side c).phase ≡ is_over_in c.phase
+lives_lent (Offered x) side c h = refl
+lives_lent (Stood x (Answered waiting success)) side c h = refl
+lives_lent (Stood x (Parting waiting success)) side c h = refl
+lives_lent (Stood x Talking) side c h = sym (ap is_over_in h)
+lives_lent (Stood x (Asking asking q)) side c h = refl
+lives_lent (Lent loan) side c h = refl
+lives_lent (Over cause) side c h = refl
+
+lives_back : (phase : Phase) (leg : Released) (c : Call) → c.phase ≡ phase → is_over_in (put_back_in phase leg c).phase ≡ is_over_in c.phase
+lives_back (Offered x) leg c h = refl
+lives_back (Stood x stage) leg c h = refl
+lives_back (Lent loan) leg c h = sym (ap is_over_in h)
+lives_back (Over cause) leg c h = refl
+
+pub live_lent : (side : Side) (e : Entry) → is_live (lent side e) ≡ is_live e
+unfolding is_live
+live_lent side e = ap not (lives_lent e.call.phase side e.call refl)
+
+pub live_back : (away : Released) (e : Entry) → is_live (put_back away e) ≡ is_live e
+unfolding is_live
+live_back away e = ap not (lives_back e.call.phase away e.call refl)
 
 -- ---- of the table
 
@@ -78,7 +122,7 @@ found_stays number es k e y is same =
     ap (λ n. cond (nat_lt n (length (slice_set es k y))) (Some n) None) (place_stays (is_numbered number) es k e y is same)
     ∙ ap (λ m. cond (nat_lt (position_or_len (is_numbered number) es) m) (Some (position_or_len (is_numbered number) es)) None) (length-set es k y)
 
-written : (es : List Entry) (k : ℕ) (e y : Entry) → slice_get es k ≡ Some e → slice_get (slice_set es k y) k ≡ Some y
+pub written : (es : List Entry) (k : ℕ) (e y : Entry) → slice_get es k ≡ Some e → slice_get (slice_set es k y) k ≡ Some y
 written es k e y is = slice_get-get_or (slice_set es k y) k y (lt-length-set es k y (slice_get_within es k e is)) ∙ ap Some (get_or-set_same es k y y (slice_get_within es k e is))
 
 entry_stays : (number : ℕ) (es : List Entry) (k : ℕ) (e y : Entry) → place_of number es ≡ Some k → slice_get es k ≡ Some e → is_numbered number y ≡ is_numbered number e → entry_of number (slice_set es k y) ≡ Some y

@@ -1,3 +1,6 @@
 mod Away
 mod Counting
-mod Places
+mod Finding
+mod Keeping
+mod Marking
+mod Opened

@@ -4,5 +4,6 @@ pub mod Tables
 pub mod Lending
 pub mod Names
 pub mod Histories
-
--- What private functions alone cite: nothing.
+-- What private functions alone cite: the table as it is kept.
+pub mod Kept
+pub mod Marks

@@ -1,12 +1,14 @@
 //! What is asked of the calls: whose dialog a request names, whose INVITE opened a server transaction, and who a side is.
 ghost use Rattle.std.specs.Prelude.{◌≡◌, Some, position};
 ghost use Rattle.std.specs.Option.{option_map};
-ghost use Rattle.mmtel_b2bua.specs.Lending.{entry_of, place_of};
+ghost use Rattle.mmtel_b2bua.specs.Lending.{entry_of};
 ghost use Rattle.mmtel_b2bua.specs.Names.{first_side, has_name, has_side, is_key, named_left, named_offered, named_stood, party, party_left, party_of, party_offered};
 ghost use Rattle.mmtel_b2bua.specs.Names.{party_stood, side_asking, side_by, side_named, side_that_asked, sided};
 
 use crate::busy::account_of;
+use crate::call_table::CallTable;
 use crate::entries::{Entry, InviteKey};
+use crate::marks::{Mark, told};
 use mmtel_call::{Pair, Phase, Trial, TriedLeg};
 use mmtel_leg::{Dialogue, Released};
 use mmtel_transaction::TKey;
@@ -98,22 +100,31 @@ impl<'a> DialogName<'a> {
     }
 }
 
-/// The place of the call whose dialog has this name.
-fn place_named(entries: &[Entry], name: DialogName<'_>) -> Option<usize>
-    ensures { result ≡ position (has_side (side_named name.entry.call_id.now name.entry.local.now name.entry.remote.now)) entries.now }
+/// The place of the box of the call whose dialog has this name.
+fn named_in(entries: &[Box<Entry>], name: DialogName<'_>) -> Option<usize>
+    ensures { result ≡ position (λ b. has_side (side_named name.entry.call_id.now name.entry.local.now name.entry.remote.now) b.value) entries.now }
 {
     entries
         .iter()
         .position(|entry| name.side_in(entry).is_some())
 }
 
-/// The call and the side whose dialog has this name.
-pub fn find(entries: &[Entry], name: DialogName<'_>) -> Option<(CallNo, Side)>
-    ensures { result ≡ first_side (side_named name.entry.call_id.now name.entry.local.now name.entry.remote.now) entries.now }
+/// The place of the call whose dialog has this name.
+fn place_named(table: &CallTable, name: DialogName<'_>) -> Option<usize>
+    ensures { result ≡ position (has_side (side_named name.entry.call_id.now name.entry.local.now name.entry.remote.now)) table.now.entries }
 {
-    match place_named(entries, name) {
+    let start = table.from(Mark::Named(told(name.local)));
+    let place = named_in(table.entries_from(start), name);
+    table.later(start, place)
+}
+
+/// The call and the side whose dialog has this name.
+pub fn find(table: &CallTable, name: DialogName<'_>) -> Option<(CallNo, Side)>
+    ensures { result ≡ first_side (side_named name.entry.call_id.now name.entry.local.now name.entry.remote.now) table.now.entries }
+{
+    match place_named(table, name) {
         None => None,
-        Some(at) => match entries.get(at) {
+        Some(at) => match table.get(at) {
             None => None,
             Some(entry) => entry.sided(name.side_in(entry)),
         },
@@ -225,42 +236,44 @@ fn party_left(
     }
 }
 
-/// The place of the call that lives whose INVITE opened this server transaction.
-fn place_asking(entries: &[Entry], key: TKey) -> Option<usize>
-    ensures { result ≡ position (has_side (side_asking key)) entries.now }
+/// The place of the box of the call that lives whose INVITE opened this server transaction.
+fn asking_in(entries: &[Box<Entry>], key: TKey) -> Option<usize>
+    ensures { result ≡ position (λ b. has_side (side_asking key) b.value) entries.now }
 {
     entries
         .iter()
         .position(|entry| entry.side_asking(key).is_some())
 }
 
-/// The call and the side whose INVITE opened this server transaction.
-pub fn asked_by(entries: &[Entry], key: TKey) -> Option<(CallNo, Side)>
-    ensures { result ≡ first_side (side_asking key) entries.now }
+/// The place of the call that lives whose INVITE opened this server transaction.
+fn place_asking(table: &CallTable, key: TKey) -> Option<usize>
+    ensures { result ≡ position (has_side (side_asking key)) table.now.entries }
 {
-    match place_asking(entries, key) {
+    let start = table.from(Mark::Asked(key.0));
+    let place = asking_in(table.entries_from(start), key);
+    table.later(start, place)
+}
+
+/// The call and the side whose INVITE opened this server transaction.
+pub fn asked_by(table: &CallTable, key: TKey) -> Option<(CallNo, Side)>
+    ensures { result ≡ first_side (side_asking key) table.now.entries }
+{
+    match place_asking(table, key) {
         None => None,
-        Some(at) => match entries.get(at) {
+        Some(at) => match table.get(at) {
             None => None,
             Some(entry) => entry.sided(entry.side_asking(key)),
         },
     }
 }
 
-/// The place of the call of this number.
-pub fn place_of(entries: &[Entry], number: CallNo) -> Option<usize>
-    ensures { result ≡ place_of number.0 entries.now }
-{
-    entries.iter().position(|entry| entry.is_numbered(number))
-}
-
 /// Who a side of the call of this number is.
-pub fn party(entries: &[Entry], number: CallNo, side: Side) -> Option<(Peer, Option<Account>)>
-    ensures { result ≡ party number.0 side entries.now }
+pub fn party(table: &CallTable, number: CallNo, side: Side) -> Option<(Peer, Option<Account>)>
+    ensures { result ≡ party number.0 side table.now.entries }
 {
-    match place_of(entries, number) {
+    match table.place_of(number) {
         None => None,
-        Some(at) => match entries.get(at) {
+        Some(at) => match table.get(at) {
             None => None,
             Some(entry) => entry.party(side),
         },

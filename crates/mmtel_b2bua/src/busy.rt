@@ -4,6 +4,7 @@ ghost use Rattle.std.specs.Option.{option_copied, option_map};
 ghost use Rattle.mmtel_call_decisions.specs.Site.{is_account};
 ghost use Rattle.mmtel_call.specs.Closing.{account_in};
 ghost use Rattle.mmtel_b2bua.specs.Entries.{accounts_of, beside, busy_beside, origin_of, served_of};
+ghost use Rattle.mmtel_b2bua.specs.Kept.{unboxed};
 ghost use Rattle.mmtel_b2bua.specs.Names.{live};
 ghost use Rattle.mmtel_b2bua.specs.Tables.{busy_with};
 
@@ -105,12 +106,13 @@ impl Entry {
 }
 
 /// The accounts that these calls keep busy, as a step of the call of this number sees them.
+#[tactic(auto, using(crate::proofs::Keeping::flat_boxes))]
 pub fn busy_beside(
     alloc: Global,
     number: CallNo,
-    entries: &[Entry],
+    entries: &[Box<Entry>],
 ) -> Result<List<Account>, NoMemory>
-    ensures { IfOk result (λ accounts. accounts ≡ busy_beside number.0 entries.now) }
+    ensures { IfOk result (λ accounts. accounts ≡ busy_beside number.0 (unboxed entries.now)) }
 {
     let mut accounts = List::new();
     for entry in entries {
@@ -129,10 +131,10 @@ pub fn busy_beside(
 fn add_with(
     alloc: Global,
     arrival: &Arrival,
-    entries: &[Entry],
+    entries: &[Box<Entry>],
     accounts: &mut List<Account>,
 ) -> Result<(), NoMemory>
-    ensures { OnOk result (accounts.new ≡ (accounts.old ++ option_to_list arrival.now.served.origin) ++ busy_beside arrival.now.number.0 entries.now) }
+    ensures { OnOk result (accounts.new ≡ (accounts.old ++ option_to_list arrival.now.served.origin) ++ busy_beside arrival.now.number.0 (unboxed entries.now)) }
 {
     add(alloc, accounts, arrival.served.origin)?;
     let others = busy_beside(alloc, arrival.number, entries)?;
@@ -149,9 +151,9 @@ fn add_with(
 pub fn busy_with(
     alloc: Global,
     arrival: &Arrival,
-    entries: &[Entry],
+    entries: &[Box<Entry>],
 ) -> Result<List<Account>, NoMemory>
-    ensures { IfOk result (λ accounts. accounts ≡ busy_with arrival.now entries.now) }
+    ensures { IfOk result (λ accounts. accounts ≡ busy_with arrival.now (unboxed entries.now)) }
 {
     let mut accounts = List::new();
     match add_with(alloc, arrival, entries, &mut accounts) {
@@ -164,9 +166,9 @@ pub fn busy_with(
 }
 
 /// How many of the calls keep the account busy, in 32 bits.
-#[tactic(auto, using(crate::proofs::Counting::live_more))]
-pub fn live_among(entries: &[Entry], account: Account) -> u32
-    ensures { result ≡ live account.0 entries.now }
+#[tactic(auto, using(crate::proofs::Counting::live_more, crate::proofs::Keeping::unboxed_more))]
+pub fn live_among(entries: &[Box<Entry>], account: Account) -> u32
+    ensures { result ≡ live account.0 (unboxed entries.now) }
 {
     let mut total = 0u32;
     for entry in entries {

@@ -3,8 +3,11 @@
 
 mod asked;
 mod busy;
+mod call_table;
 mod entries;
+mod index;
 mod lending;
+mod marks;
 mod moves;
 mod signals;
 mod tables;

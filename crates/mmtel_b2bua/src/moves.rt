@@ -1,20 +1,23 @@
 //! A signal moves the calls: the one that it is of takes its step, or one is opened.
-ghost use Rattle.std.specs.Prelude.{◌≡◌, ◌<◌, ◌++◌, ◌∷◌, [], ℕ, IfOk, OnOk, Some, if◌then◌else◌, length, option_to_list, position, remove, slice_get};
+ghost use Rattle.std.specs.Prelude.{◌≡◌, ◌<◌, ◌++◌, ◌∷◌, [], ℕ, IfOk, OnOk, Some, length, option_to_list, position, slice_get};
 ghost use Rattle.std.specs.Option.{option_copied};
 ghost use Rattle.mmtel_desk.specs.Invites.{invite_answered, invite_silent};
 ghost use Rattle.mmtel_call.specs.Settled.{is_settled};
 ghost use Rattle.mmtel_types.specs.declared.sides.Side.TheVariants.{Caller};
-ghost use Rattle.mmtel_b2bua.specs.Entries.{busy_beside, heard_by, is_numbered, kept, sent_it};
-ghost use Rattle.mmtel_b2bua.specs.Lending.{ended};
-ghost use Rattle.mmtel_b2bua.specs.Tables.{arrived, busy_with, entry_after, heard, invites_by, moved_at, moved_by, moved_in, open_of, step_of, taken};
+ghost use Rattle.mmtel_b2bua.specs.Entries.{heard_by, is_numbered, kept, sent_it};
+ghost use Rattle.mmtel_b2bua.specs.Kept.{number_of, unboxed};
+ghost use Rattle.mmtel_b2bua.specs.Tables.{arrived, busy_with, entry_after, heard, invites_by, moved_at, moved_in, open_of, opened_after, step_of, taken};
+ghost use Rattle.mmtel_scan.specs.Numbers.{next_number};
 
-use crate::asked::place_of;
 use crate::busy::{busy_beside, busy_with};
+use crate::call_table::CallTable;
 use crate::entries::{Entry, InviteKey};
+use crate::marks::{Mark, told};
 use crate::signals::Signal;
 use mmtel_answers::Hearing;
 use mmtel_call::{Call, Signal as CallSignal};
 use mmtel_call_decisions::{Arrival, Present, Setting};
+use mmtel_call_laws::{alike_calls_go_on_alike, calls_go_on};
 use mmtel_desk::{Desk, file, invite_answered, invite_silent};
 use mmtel_message::is_method;
 use mmtel_scan::{List, NoMemory, Text};
@@ -22,23 +25,6 @@ use mmtel_sheet_values::SheetView;
 use mmtel_transaction::TKey;
 use mmtel_types::{CallNo, Moment, Side};
 use std::alloc::Global;
-
-/// Spends a call and its place.
-pub fn give_up_entry(entry: Entry, at: Moment) {
-    let Entry { call, invites } = entry;
-    drop(invites);
-    call.give_up(at);
-}
-
-/// The call at this place leaves the table where nothing may be heard of it any more.
-pub fn leave_if_settled(entries: &mut Vec<Entry>, place: usize, settled: bool, at: Moment)
-    requires { place < length entries.old.items }
-    ensures { entries.new.items ≡ (if settled then remove entries.old.items place else entries.old.items) }
-{
-    if settled {
-        give_up_entry(entries.remove(place), at);
-    }
-}
 
 impl Entry {
     /// The call has this INVITE more, if there is one.
@@ -53,7 +39,7 @@ impl Entry {
 
     /// The call takes a step, and has this INVITE more. Tells whether nothing may be heard of it any more.
     #[tactic(auto, unfolding(crate::specs::Tables::step_of))]
-    fn hear(
+    pub fn hear(
         &mut self,
         alloc: Global,
         setting: &Setting<'_>,
@@ -67,7 +53,9 @@ impl Entry {
         ensures desk { OnOk result (desk.new ≡ (step_of setting.now present.now.at present.now.sheets.now present.now.busy.now signal desk.old self.old).desk) }
         ensures settled { IfOk result (λ settled. settled
             ≡ is_settled (step_of setting.now present.now.at present.now.sheets.now present.now.busy.now signal desk.old self.old).call) }
+        ensures number { OnOk result (number_of self.new ≡ number_of self.old) }
     {
+        alike_calls_go_on_alike();
         self.call.step(alloc, setting, present, signal, desk)?;
         self.add_invite(alloc, invite)?;
         Ok(self.call.is_settled())
@@ -76,7 +64,7 @@ impl Entry {
 
 /// The call at this place takes its step, and has this INVITE more.
 fn step_at(
-    entries: &mut Vec<Entry>,
+    table: &mut CallTable,
     alloc: Global,
     setting: &Setting<'_>,
     sheets: &SheetView,
@@ -86,14 +74,16 @@ fn step_at(
     invite: Option<InviteKey>,
     desk: &mut Desk,
 ) -> Result<(), NoMemory>
-    requires { place < length entries.old.items }
-    ensures entries { OnOk result (entries.new.items
-        ≡ (moved_at setting.now at sheets.now signal (option_to_list invite) place (slice_get entries.old.items place) entries.old.items desk.old).entries) }
+    requires { place < length table.old.entries }
+    ensures table { OnOk result (table.new ≡ record table.old {
+      entries =
+          (moved_at setting.now at sheets.now signal (option_to_list invite) place (slice_get table.old.entries place) table.old.entries desk.old).entries;
+    }) }
     ensures desk { OnOk result (desk.new
-        ≡ (moved_at setting.now at sheets.now signal (option_to_list invite) place (slice_get entries.old.items place) entries.old.items desk.old).desk) }
+        ≡ (moved_at setting.now at sheets.now signal (option_to_list invite) place (slice_get table.old.entries place) table.old.entries desk.old).desk) }
 {
-    let number = entries[place].call.opening.number;
-    let busy = match busy_beside(alloc, number, entries) {
+    let number = table.entries()[place].call.opening.number;
+    let busy = match busy_beside(alloc, number, table.entries()) {
         Ok(busy) => busy,
         Err(error) => {
             drop(signal);
@@ -105,15 +95,14 @@ fn step_at(
         sheets,
         busy: busy.items(),
     };
-    let settled = entries[place].hear(alloc, setting, &present, signal, invite, desk);
+    let heard = table.hear_at(alloc, setting, &present, place, signal, invite, desk);
     drop(busy);
-    leave_if_settled(entries, place, settled?, at);
-    Ok(())
+    heard
 }
 
 /// The call at a place takes its step, if there is one.
 fn hear(
-    entries: &mut Vec<Entry>,
+    table: &mut CallTable,
     alloc: Global,
     setting: &Setting<'_>,
     sheets: &SheetView,
@@ -123,9 +112,12 @@ fn hear(
     invite: Option<InviteKey>,
     desk: &mut Desk,
 ) -> Result<(), NoMemory>
-    requires { (n : ℕ) → place ≡ Some n → n < length entries.old.items }
-    ensures entries { OnOk result (entries.new.items ≡ (moved_in setting.now at sheets.now signal (option_to_list invite) place entries.old.items desk.old).entries) }
-    ensures desk { OnOk result (desk.new ≡ (moved_in setting.now at sheets.now signal (option_to_list invite) place entries.old.items desk.old).desk) }
+    requires { (n : ℕ) → place ≡ Some n → n < length table.old.entries }
+    ensures table { OnOk result (table.new ≡ record table.old {
+      entries =
+          (moved_in setting.now at sheets.now signal (option_to_list invite) place table.old.entries desk.old).entries;
+    }) }
+    ensures desk { OnOk result (desk.new ≡ (moved_in setting.now at sheets.now signal (option_to_list invite) place table.old.entries desk.old).desk) }
 {
     match place {
         None => {
@@ -134,7 +126,7 @@ fn hear(
         }
         Some(place) => {
             step_at(
-                entries, alloc, setting, sheets, at, place, signal, invite, desk,
+                table, alloc, setting, sheets, at, place, signal, invite, desk,
             )
         }
     }
@@ -142,7 +134,7 @@ fn hear(
 
 /// The call of this number takes its step, if there is one.
 fn hear_numbered(
-    entries: &mut Vec<Entry>,
+    table: &mut CallTable,
     alloc: Global,
     setting: &Setting<'_>,
     sheets: &SheetView,
@@ -152,20 +144,22 @@ fn hear_numbered(
     invite: Option<InviteKey>,
     desk: &mut Desk,
 ) -> Result<(), NoMemory>
-    ensures entries { OnOk result (entries.new.items
-        ≡ (heard setting.now at sheets.now (is_numbered number.0) signal (option_to_list invite) entries.old.items desk.old).entries) }
-    ensures desk { OnOk result (desk.new ≡ (heard setting.now at sheets.now (is_numbered number.0) signal (option_to_list invite) entries.old.items desk.old).desk) }
+    ensures table { OnOk result (table.new ≡ record table.old {
+      entries =
+          (heard setting.now at sheets.now (is_numbered number.0) signal (option_to_list invite) table.old.entries desk.old).entries;
+    }) }
+    ensures desk { OnOk result (desk.new ≡ (heard setting.now at sheets.now (is_numbered number.0) signal (option_to_list invite) table.old.entries desk.old).desk) }
 {
-    let place = place_of(entries, number);
+    let place = table.place_of(number);
     hear(
-        entries, alloc, setting, sheets, at, place, signal, invite, desk,
+        table, alloc, setting, sheets, at, place, signal, invite, desk,
     )
 }
 
 /// The call that an INVITE opens beside these.
 #[tactic(auto, unfolding(crate::specs::Tables::open_of))]
 fn opened(
-    entries: &[Entry],
+    entries: &[Box<Entry>],
     alloc: Global,
     setting: &Setting<'_>,
     sheets: &SheetView,
@@ -173,9 +167,11 @@ fn opened(
     arrival: Arrival,
     desk: &mut Desk,
 ) -> Result<Call, NoMemory>
-    ensures call { IfOk result (λ call. call ≡ (open_of setting.now at sheets.now (busy_with arrival entries.now) arrival desk.old).call) }
-    ensures desk { OnOk result (desk.new ≡ (open_of setting.now at sheets.now (busy_with arrival entries.now) arrival desk.old).desk) }
+    ensures call { IfOk result (λ call. call ≡ (open_of setting.now at sheets.now (busy_with arrival (unboxed entries.now)) arrival desk.old).call) }
+    ensures desk { OnOk result (desk.new ≡ (open_of setting.now at sheets.now (busy_with arrival (unboxed entries.now)) arrival desk.old).desk) }
+    ensures number { IfOk result (λ call. call.opening.number ≡ arrival.number) }
 {
+    calls_go_on();
     let busy = match busy_with(alloc, &arrival, entries) {
         Ok(busy) => busy,
         Err(error) => {
@@ -195,7 +191,7 @@ fn opened(
 
 /// An INVITE opens a call.
 fn open(
-    entries: &mut Vec<Entry>,
+    table: &mut CallTable,
     alloc: Global,
     setting: &Setting<'_>,
     sheets: &SheetView,
@@ -203,12 +199,16 @@ fn open(
     arrival: Arrival,
     desk: &mut Desk,
 ) -> Result<(), NoMemory>
-    ensures entries { OnOk result (entries.new.items ≡ (arrived setting.now at sheets.now arrival entries.old.items desk.old).entries) }
-    ensures desk { OnOk result (desk.new ≡ (arrived setting.now at sheets.now arrival entries.old.items desk.old).desk) }
+    requires { arrival.number.0 ≡ next_number table.old.opened }
+    ensures table { OnOk result (table.new ≡ record table.old {
+      entries = (arrived setting.now at sheets.now arrival table.old.entries desk.old).entries;
+      opened = next_number table.old.opened;
+    }) }
+    ensures desk { OnOk result (desk.new ≡ (arrived setting.now at sheets.now arrival table.old.entries desk.old).desk) }
 {
     let key = arrival.key;
-    let call = opened(entries, alloc, setting, sheets, at, arrival, desk)?;
-    keep_call(entries, alloc, call, key, at)
+    let call = opened(table.entries(), alloc, setting, sheets, at, arrival, desk)?;
+    keep_call(table, alloc, call, key, at)
 }
 
 /// The INVITE of the caller that this server transaction heard, as the first of its call.
@@ -228,36 +228,23 @@ fn first_invite(alloc: Global, key: TKey) -> Result<List<InviteKey>, NoMemory>
 
 /// Keeps a call that this server transaction opened, as long as something may be heard of it.
 fn keep_call(
-    entries: &mut Vec<Entry>,
+    table: &mut CallTable,
     alloc: Global,
     call: Call,
     key: TKey,
     at: Moment,
 ) -> Result<(), NoMemory>
-    ensures { OnOk result (entries.new.items ≡ entries.old.items ++ kept (record { call = call; invites = record { key = key; side = Caller } ∷ [] })) }
+    requires { call.opening.number.0 ≡ next_number table.old.opened }
+    ensures { OnOk result (table.new ≡ record table.old {
+      entries = table.old.entries ++ kept (record { call = call; invites = record { key = key; side = Caller } ∷ [] });
+      opened = next_number table.old.opened;
+    }) }
 {
     match first_invite(alloc, key) {
-        Ok(invites) => keep(entries, Entry { call, invites }, at),
+        Ok(invites) => table.add(alloc, Entry { call, invites }, at),
         Err(error) => {
             call.give_up(at);
             Err(error)
-        }
-    }
-}
-
-/// Keeps a call that was opened, as long as something may be heard of it.
-fn keep(entries: &mut Vec<Entry>, entry: Entry, at: Moment) -> Result<(), NoMemory>
-    ensures { OnOk result (entries.new.items ≡ entries.old.items ++ kept entry) }
-{
-    if entry.call.is_settled() {
-        give_up_entry(entry, at);
-        return Ok(());
-    }
-    match entries.push(entry) {
-        Ok(()) => Ok(()),
-        Err(refused) => {
-            give_up_entry(refused.value, at);
-            Err(NoMemory)
         }
     }
 }
@@ -272,18 +259,41 @@ fn invite_by(side: Side, key: TKey, request: &Hearing) -> Option<InviteKey>
     None
 }
 
-/// The place of the call of which an INVITE has this branch.
-pub fn place_sent(entries: &[Entry], branch: Option<&[u8]>) -> Option<usize>
-    ensures { result ≡ position (sent_it (option_copied branch.entry)) entries.now }
+/// The place of the box of the call of which an INVITE has this branch.
+fn sent_in(entries: &[Box<Entry>], branch: Option<&[u8]>) -> Option<usize>
+    ensures { result ≡ position (λ b. sent_it (option_copied branch.entry) b.value) entries.now }
 {
     entries.iter().position(|entry| entry.sent(branch))
 }
 
-/// The place of the call of which an INVITE had its answer by this client transaction.
-pub fn place_heard(entries: &[Entry], key: TKey) -> Option<usize>
-    ensures { result ≡ position (heard_by key) entries.now }
+/// The place of the call of which an INVITE has this branch.
+pub fn place_sent(table: &CallTable, branch: Option<&[u8]>) -> Option<usize>
+    ensures { result ≡ position (sent_it (option_copied branch.entry)) table.now.entries }
+{
+    match branch {
+        None => None,
+        Some(bytes) => {
+            let start = table.from(Mark::Sent(told(bytes)));
+            let place = sent_in(table.entries_from(start), branch);
+            table.later(start, place)
+        }
+    }
+}
+
+/// The place of the box of the call of which an INVITE had its answer by this client transaction.
+fn heard_in(entries: &[Box<Entry>], key: TKey) -> Option<usize>
+    ensures { result ≡ position (λ b. heard_by key b.value) entries.now }
 {
     entries.iter().position(|entry| entry.heard_by(key))
+}
+
+/// The place of the call of which an INVITE had its answer by this client transaction.
+pub fn place_heard(table: &CallTable, key: TKey) -> Option<usize>
+    ensures { result ≡ position (heard_by key) table.now.entries }
+{
+    let start = table.from(Mark::Heard(key.0));
+    let place = heard_in(table.entries_from(start), key);
+    table.later(start, place)
 }
 
 /// The bytes of a text, where there is one.
@@ -298,32 +308,34 @@ fn bytes_of(text: &Option<Text>) -> Option<&[u8]>
 
 /// The place of the call of which this answers an INVITE.
 fn place_answered(
-    entries: &[Entry],
+    table: &CallTable,
     alloc: Global,
     response: &Hearing,
 ) -> Result<Option<usize>, NoMemory>
-    ensures { IfOk result (λ place. place ≡ position (sent_it (invite_answered response.now)) entries.now) }
+    ensures { IfOk result (λ place. place ≡ position (sent_it (invite_answered response.now)) table.now.entries) }
 {
     let branch = invite_answered(alloc, response)?;
-    let place = place_sent(entries, bytes_of(&branch));
+    let place = place_sent(table, bytes_of(&branch));
     drop(branch);
     Ok(place)
 }
 
-/// The calls once they heard a signal; one that is opened has this number.
+/// The calls once they heard a signal; one that is opened has the next number.
 #[tactic(auto, unfolding(crate::specs::Tables::taken))]
 pub fn take(
-    entries: &mut Vec<Entry>,
+    table: &mut CallTable,
     alloc: Global,
     setting: &Setting<'_>,
     sheets: &SheetView,
     at: Moment,
-    number: CallNo,
     signal: Signal,
     desk: &mut Desk,
 ) -> Result<(), NoMemory>
-    ensures entries { OnOk result (entries.new.items ≡ (taken setting.now at sheets.now number.0 signal entries.old.items desk.old).entries) }
-    ensures desk { OnOk result (desk.new ≡ (taken setting.now at sheets.now number.0 signal entries.old.items desk.old).desk) }
+    ensures table { OnOk result (table.new ≡ record table.old {
+      entries = (taken setting.now at sheets.now (next_number table.old.opened) signal table.old.entries desk.old).entries;
+      opened = opened_after signal table.old.opened;
+    }) }
+    ensures desk { OnOk result (desk.new ≡ (taken setting.now at sheets.now (next_number table.old.opened) signal table.old.entries desk.old).desk) }
 {
     match signal {
         Signal::Arrived {
@@ -334,14 +346,14 @@ pub fn take(
             identities,
         } => {
             let arrival = Arrival {
-                number,
+                number: table.next_number(),
                 key,
                 invite,
                 served,
                 registration,
                 identities,
             };
-            open(entries, alloc, setting, sheets, at, arrival, desk)
+            open(table, alloc, setting, sheets, at, arrival, desk)
         }
         Signal::Request {
             call,
@@ -352,14 +364,12 @@ pub fn take(
             let invite = invite_by(side, key, &request);
             let signal = CallSignal::Request { side, key, request };
             hear_numbered(
-                entries, alloc, setting, sheets, at, call, signal, invite, desk,
+                table, alloc, setting, sheets, at, call, signal, invite, desk,
             )
         }
         Signal::Ack { call, side, ack } => {
             let signal = CallSignal::Ack { side, ack };
-            hear_numbered(
-                entries, alloc, setting, sheets, at, call, signal, None, desk,
-            )
+            hear_numbered(table, alloc, setting, sheets, at, call, signal, None, desk)
         }
         Signal::Cancel {
             call,
@@ -372,12 +382,10 @@ pub fn take(
                 cancel,
                 invite,
             };
-            hear_numbered(
-                entries, alloc, setting, sheets, at, call, signal, None, desk,
-            )
+            hear_numbered(table, alloc, setting, sheets, at, call, signal, None, desk)
         }
         Signal::Answer { key, response } => {
-            let place = match place_answered(entries, alloc, &response) {
+            let place = match place_answered(table, alloc, &response) {
                 Ok(place) => place,
                 Err(error) => {
                     drop(response);
@@ -385,29 +393,21 @@ pub fn take(
                 }
             };
             let signal = CallSignal::Answer { key, response };
-            hear(
-                entries, alloc, setting, sheets, at, place, signal, None, desk,
-            )
+            hear(table, alloc, setting, sheets, at, place, signal, None, desk)
         }
         Signal::Silent { branch, method } => {
-            let place = place_sent(entries, invite_silent(branch.bytes(), method.bytes()));
+            let place = place_sent(table, invite_silent(branch.bytes(), method.bytes()));
             let signal = CallSignal::Silent { branch, method };
-            hear(
-                entries, alloc, setting, sheets, at, place, signal, None, desk,
-            )
+            hear(table, alloc, setting, sheets, at, place, signal, None, desk)
         }
         Signal::Due { call, what } => {
             let signal = CallSignal::Due { what };
-            hear_numbered(
-                entries, alloc, setting, sheets, at, call, signal, None, desk,
-            )
+            hear_numbered(table, alloc, setting, sheets, at, call, signal, None, desk)
         }
         Signal::Over { key } => {
-            let place = place_heard(entries, key);
+            let place = place_heard(table, key);
             let signal = CallSignal::Ended { key };
-            hear(
-                entries, alloc, setting, sheets, at, place, signal, None, desk,
-            )
+            hear(table, alloc, setting, sheets, at, place, signal, None, desk)
         }
     }
 }

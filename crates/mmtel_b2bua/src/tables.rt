@@ -7,7 +7,7 @@ ghost use Rattle.mmtel_b2bua.specs.Histories.{CallsView, Deed, Drops, Finishes, 
 ghost use Rattle.mmtel_b2bua.specs.Histories.{finished_by, hears_after, heard_by, site_of, table_after};
 ghost use Rattle.mmtel_b2bua.specs.Lending.{ended, entry_of, is_away, leg_out, takes_back};
 ghost use Rattle.mmtel_b2bua.specs.Names.{first_side, live, party, side_asking, side_named};
-ghost use Rattle.mmtel_b2bua.specs.Tables.{is_full, is_opening, most_calls, no_calls, opened_after, taken, with_moved};
+ghost use Rattle.mmtel_b2bua.specs.Tables.{is_full, most_calls, no_calls, opened_after, taken, with_moved};
 ghost use Rattle.mmtel_desk.specs.Desks.{fresh};
 ghost use Rattle.mmtel_leg.specs.Releases.{released_leg};
 ghost use Rattle.mmtel_scan.specs.Numbers.{next_number};
@@ -16,17 +16,16 @@ ghost use Rattle.mmtel_trust.specs.declared.accounts.AccountIdentity.{AccountIde
 
 use crate::asked::{self, DialogName};
 use crate::busy::live_among;
-use crate::entries::Entry;
+use crate::call_table::CallTable;
 use crate::lending;
-use crate::moves::{give_up_entry, place_heard, place_sent, take};
+use crate::moves::{place_heard, place_sent, take};
 use crate::signals::{CallFault, Signal};
 use mmtel_call::NotTalking;
 use mmtel_call_decisions::Setting;
 use mmtel_charging::Row;
-use mmtel_decisions::drop_first;
 use mmtel_desk::Desk;
 use mmtel_leg::Released;
-use mmtel_scan::{List, NoMemory, Text};
+use mmtel_scan::{NoMemory, Text};
 use mmtel_sheet_values::SheetView;
 use mmtel_transaction::{Emits, TKey, Tokens};
 use mmtel_trust::{Accounts, PeerTable};
@@ -35,17 +34,12 @@ use std::alloc::Global;
 use std::marker::Model;
 use std::mem;
 
-/// So many calls may live at once.
-const MOST_CALLS: usize = 4_096;
-
 /// The calls of a server. They must be spent.
 pub struct Calls {
     sip: Addr,
     home: Text,
     bound: u16,
-    entries: Vec<Entry>,
-    opened: u64,
-    rows: List<Row>,
+    table: CallTable,
     has_failed: bool,
 }
 
@@ -59,43 +53,20 @@ impl Model for Calls {
       sip = c.sip;
       home = c.home;
       bound = c.bound;
-      table = record { entries = c.entries.items; opened = c.opened; rows = c.rows };
+      table = c.table;
       has_failed = c.has_failed;
     } };
 
     ghost invariant = { λ c. c.bound ≤ 16 };
 }
 
-/// How many of the calls live.
-fn live_calls(entries: &[Entry]) -> usize
-    ensures { result ≡ count_by is_live entries.now }
-{
-    let mut count = 0;
-    for entry in entries {
-        if entry.is_live() {
-            count += 1;
-        }
-    }
-    count
-}
-
 /// Whether a signal would open one call too many.
-fn is_full(signal: &Signal, entries: &[Entry]) -> bool
-    ensures { result ≡ is_full signal.now entries.now }
+fn is_full(signal: &Signal, table: &CallTable) -> bool
+    ensures { result ≡ is_full signal.now table.now.entries }
 {
     match signal {
-        Signal::Arrived { .. } => live_calls(entries) >= MOST_CALLS,
+        Signal::Arrived { .. } => table.is_full(),
         _ => false,
-    }
-}
-
-/// The number of the last call, after a signal.
-fn opened_after(signal: &Signal, opened: u64) -> u64
-    ensures { result ≡ opened_after signal.now opened }
-{
-    match signal {
-        Signal::Arrived { .. } => opened.saturating_add(1),
-        _ => opened,
     }
 }
 
@@ -113,9 +84,7 @@ impl Calls {
             sip,
             home,
             bound,
-            entries: Vec::new(alloc),
-            opened: 0,
-            rows: List::new(),
+            table: CallTable::new(alloc),
             has_failed: false,
         })
     }
@@ -143,8 +112,6 @@ impl Calls {
         ensures desk { OnOk result (desk.new
             ≡ (taken (site_of self.old peers.now accounts.now) now sheets.now (next_number self.old.table.opened) signal self.old.table.entries desk.old).desk) }
     {
-        let opened = opened_after(&signal, self.opened);
-        let number = CallNo(self.opened.saturating_add(1));
         let setting = Setting {
             sip: self.sip,
             home: self.home.bytes(),
@@ -152,31 +119,7 @@ impl Calls {
             peers,
             accounts,
         };
-        take(
-            &mut self.entries,
-            alloc,
-            &setting,
-            sheets,
-            now,
-            number,
-            signal,
-            desk,
-        )?;
-        self.opened = opened;
-        Ok(())
-    }
-
-    /// Keeps the rows that were closed, until they are handed over.
-    fn keep_rows(&mut self, alloc: Global, rows: List<Row>) -> Result<(), NoMemory>
-        ensures { OnOk result (self.new ≡ record self.old { table = record self.old.table { rows = self.old.table.rows ++ rows } }) }
-    {
-        match self.rows.extend(alloc, rows) {
-            Ok(()) => Ok(()),
-            Err((rows, error)) => {
-                drop(rows);
-                Err(error)
-            }
-        }
+        take(&mut self.table, alloc, &setting, sheets, now, signal, desk)
     }
 
     /// Keeps the rows that a step closed, and gives what goes out.
@@ -186,7 +129,7 @@ impl Calls {
     {
         let Desk { tokens, out, rows } = desk;
         drop(tokens);
-        match self.keep_rows(alloc, rows) {
+        match self.table.keep_rows(alloc, rows) {
             Ok(()) => Ok(out),
             Err(error) => {
                 drop(out);
@@ -257,7 +200,7 @@ impl Calls {
             drop(signal);
             return Err(CallFault::NoMemory);
         }
-        if is_full(&signal, &self.entries) {
+        if is_full(&signal, &self.table) {
             return Err(CallFault::Full(signal));
         }
         match self.hear_with(alloc, signal, sheets, peers, accounts, tokens, now) {
@@ -274,14 +217,14 @@ impl Calls {
         ensures { (peers : Peers) (accounts : List AccountIdentity) (deeds : List Deed) → Stands peers accounts self.now deeds →
             result ≡ live account.0 (table_after (site_of self.now peers accounts) deeds).entries }
     {
-        live_among(&self.entries, account)
+        live_among(self.table.entries(), account)
     }
 
     /// Whether as many calls live as may, so that an INVITE opens none and is handed back.
     pub fn is_full(&self) -> bool
         ensures { result ≡ nat_le most_calls (count_by is_live self.now.table.entries) }
     {
-        live_calls(&self.entries) >= MOST_CALLS
+        self.table.is_full()
     }
 
     /// The call and the side whose dialog has this Call-ID, this tag of the server and this tag of the other side (RFC 3261 §12.2.2).
@@ -294,7 +237,7 @@ impl Calls {
             local,
             remote,
         };
-        asked::find(&self.entries, name)
+        asked::find(&self.table, name)
     }
 
     /// The call that lives and the side whose INVITE opened this server transaction (RFC 3261 §9.2).
@@ -302,21 +245,21 @@ impl Calls {
         ensures { (peers : Peers) (accounts : List AccountIdentity) (deeds : List Deed) → Stands peers accounts self.now deeds →
             result ≡ first_side (side_asking invite) (table_after (site_of self.now peers accounts) deeds).entries }
     {
-        asked::asked_by(&self.entries, invite)
+        asked::asked_by(&self.table, invite)
     }
 
     /// Whether an INVITE of some call has this branch, so that what answers it, or its silence, is of that call (RFC 3261 §17.1.3).
     pub fn has_sent(&self, branch: Option<&[u8]>) -> bool
         ensures { result ≡ is_some (position (sent_it (option_copied branch.entry)) self.now.table.entries) }
     {
-        place_sent(&self.entries, branch).is_some()
+        place_sent(&self.table, branch).is_some()
     }
 
     /// Whether an INVITE of some call had its answer by this client transaction.
     pub fn has_heard(&self, key: TKey) -> bool
         ensures { result ≡ is_some (position (had_answer_by key) self.now.table.entries) }
     {
-        place_heard(&self.entries, key).is_some()
+        place_heard(&self.table, key).is_some()
     }
 
     /// The peer of a side's leg, and the account that is served there; None exactly where the call does not live or that side has no leg.
@@ -324,7 +267,7 @@ impl Calls {
         ensures { (peers : Peers) (accounts : List AccountIdentity) (deeds : List Deed) → Stands peers accounts self.now deeds →
             result ≡ party call.0 side (table_after (site_of self.now peers accounts) deeds).entries }
     {
-        asked::party(&self.entries, call, side)
+        asked::party(&self.table, call, side)
     }
 
     /// The rows of calls that are over and that were not handed over, in the order in which they were closed.
@@ -333,7 +276,7 @@ impl Calls {
             result.now ≡ (table_after (site_of self.now peers accounts) deeds).rows }
         ensures kept { result.now ≡ self.now.table.rows }
     {
-        self.rows.items()
+        self.table.rows()
     }
 
     /// So many of the rows that wait were handed over.
@@ -343,7 +286,7 @@ impl Calls {
             Stands peers accounts self.new (Drops count ∷ deeds) }
         ensures site { (peers : Peers) (accounts : List AccountIdentity) → site_of self.new peers accounts ≡ site_of self.old peers accounts }
     {
-        drop_first(&mut self.rows, count);
+        self.table.drop_rows(count);
     }
 
     /// Takes the standing leg of a side out of a talking call; its meter stays with the call (RFC 4579 §5.6). It takes no memory.
@@ -361,7 +304,7 @@ impl Calls {
         ensures fits { IfOk result (λ leg. takes_back leg (entry_of call.0 self.new.table.entries) ≡ true) }
         ensures meter { IfOk result (λ leg. (released_leg leg).meter ≡ None) }
     {
-        lending::release(&mut self.entries, call, side)
+        lending::release(&mut self.table, call, side)
     }
 
     /// Puts a leg back that was taken out of this call. It takes no memory.
@@ -372,7 +315,7 @@ impl Calls {
         ensures done { (peers : Peers) (accounts : List AccountIdentity) (deeds : List Deed) → Stands peers accounts self.old deeds →
             Stands peers accounts self.new (Restores call.0 away ∷ deeds) }
     {
-        lending::restore(&mut self.entries, call, away);
+        lending::restore(&mut self.table, call, away);
     }
 
     /// The call of this number, whose leg is away, ends, and its rows are kept.
@@ -398,7 +341,7 @@ impl Calls {
             accounts,
         };
         let mut desk = Desk::new(mem::replace(tokens, Tokens::new(Text::new())));
-        let finished = lending::finish(&mut self.entries, alloc, &setting, now, call, &mut desk);
+        let finished = lending::finish(&mut self.table, alloc, &setting, now, call, &mut desk);
         mem::swap(tokens, &mut desk.tokens);
         match finished {
             Ok(()) => self.settle(alloc, desk),
@@ -451,30 +394,10 @@ impl Calls {
             sip: _,
             home,
             bound: _,
-            entries,
-            opened: _,
-            rows,
+            table,
             has_failed: _,
         } = self;
         drop(home);
-        drop(rows);
-        give_up_all(entries);
-    }
-}
-
-/// Spends these calls and their places.
-fn give_up_all(entries: Vec<Entry>) {
-    let mut entries = entries;
-    'given: while let Some(entry) = entries.pop() {
-        give_up_entry(entry, beginning());
-    }
-    entries.destroy_empty();
-}
-
-/// The first of all moments: of rows that nobody keeps.
-fn beginning() -> Moment {
-    match Moment::new(0) {
-        Some(moment) => moment,
-        None => unreachable!(),
+        table.give_up();
     }
 }

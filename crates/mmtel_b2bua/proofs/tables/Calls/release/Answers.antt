@@ -1,8 +1,12 @@
+use Rattle.std.proofs.Common.{ap}
+use Rattle.mmtel_b2bua.specs.Tables.{Table}
 use Rattle.mmtel_b2bua.proofs.Away.{away_after, fits_after}
 use Rattle.mmtel_b2bua.proofs.tables.Calls.release.Goals as goal
 
 pub returns-clause-away : goal.returns-clause-away
-returns-clause-away c = away_after c.args.call.0 c.args.side c.self.inside.entries.items c.release.new.entries.items c.release.result _ c.release.ensures.entries c.release.ensures.leg
+returns-clause-away c =
+    away_after c.args.call.0 c.args.side c.self.inside.table.entries c.release.new.table.entries c.release.result _ (ap (λ (t : Table). t.entries) c.release.ensures.table) c.release.ensures.leg
 
 pub returns-clause-fits : goal.returns-clause-fits
-returns-clause-fits c = fits_after c.args.call.0 c.args.side c.self.inside.entries.items c.release.new.entries.items c.release.result _ c.release.ensures.entries c.release.ensures.leg
+returns-clause-fits c =
+    fits_after c.args.call.0 c.args.side c.self.inside.table.entries c.release.new.table.entries c.release.result _ (ap (λ (t : Table). t.entries) c.release.ensures.table) c.release.ensures.leg

@@ -1,0 +1,42 @@
+use Rattle.std.proofs.Common.{◌≡◌, ◌<◌, Bool, List, Some, length, subst, sym, ap, ◌∙◌, false, ◌+◌}
+use Rattle.std.specs.Prelude.{slice_get, set}
+use Rattle.std.specs.Box.{with_value}
+use Rattle.mmtel_b2bua.specs.Entries.{is_live}
+use Rattle.mmtel_b2bua.specs.Kept.{AreKept, number_of, one_if, unboxed}
+use Rattle.mmtel_b2bua.specs.Tables.{Table}
+use Rattle.mmtel_b2bua.specs.declared.entries.Entry.{Entry}
+use Rattle.mmtel_call.specs.declared.calls.Call.{Call}
+use Rattle.mmtel_b2bua.specs.Lending.{put_back, put_back_at}
+use Rattle.mmtel_b2bua.proofs.Away.{live_back, number_back}
+use Rattle.mmtel_b2bua.proofs.Keeping.{left_kept, set_boxes, stands_at, table_after}
+use Rattle.mmtel_b2bua.proofs.call_table.CallTable.restore_at.Goals as goal
+
+pub invariant_of-self : goal.invariant_of-self
+invariant_of-self c =
+    let bs = c.self.inside.entries.items in
+    let es = unboxed bs in
+    let k = c.args.place in
+    let e = c.deref_mut-entry.result.now in
+    let within : k < length es = subst (λ (t : Table). k < length t.entries) (sym c.self.view_is) c.requires.place in
+    let is : slice_get es k ≡ Some e = stands_at bs k c.index_mut.result.now e within c.index_mut.ensures.value c.deref_mut-entry.ensures.value in
+    let y : Entry = record { call = c.restore.new.self; invites = e.invites } in
+    let made : y ≡ put_back c.args.away e = ap (λ (call : Call). let x : Entry = record { call = call; invites = e.invites } in x) c.restore.ensures in
+    let now = set_boxes bs k (with_value c.index_mut.result.now y) in
+    let live : is_live y ≡ is_live e = ap is_live made ∙ live_back c.args.away e in
+    subst (λ (l : List Entry). AreKept l c.self.inside.opened c.self.inside.alive c.put_call-2.new.self) (sym now)
+    (left_kept es c.self.inside.opened c.self.inside.alive c.self.inside.index k e y c.self.invariant is false c.self.inside.alive c.put_call.new.self c.put_call-2.new.self c.put_call.ensures c.put_call-2.ensures (λ stays. ap number_of made ∙ number_back e.call.phase c.args.away e.call)
+    (ap (λ (b : Bool). c.self.inside.alive + one_if b) (sym live)))
+
+pub returns : goal.returns
+returns c =
+    let bs = c.self.inside.entries.items in
+    let es = unboxed bs in
+    let k = c.args.place in
+    let e = c.deref_mut-entry.result.now in
+    let within : k < length es = subst (λ (t : Table). k < length t.entries) (sym c.self.view_is) c.requires.place in
+    let is : slice_get es k ≡ Some e = stands_at bs k c.index_mut.result.now e within c.index_mut.ensures.value c.deref_mut-entry.ensures.value in
+    let y : Entry = record { call = c.restore.new.self; invites = e.invites } in
+    let made : y ≡ put_back c.args.away e = ap (λ (call : Call). let x : Entry = record { call = call; invites = e.invites } in x) c.restore.ensures in
+    let now = set_boxes bs k (with_value c.index_mut.result.now y) in
+    let t : Table = record { entries = es; opened = c.self.inside.opened; rows = c.self.inside.rows } in
+    table_after t c.args.self.now c.self.view_is k e is (λ o xs. put_back_at c.args.away k o xs) _ (now ∙ ap (λ (x : Entry). set es k x) made)

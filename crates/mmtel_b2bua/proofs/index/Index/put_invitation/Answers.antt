@@ -1,0 +1,11 @@
+use Rattle.std.proofs.Common.{ℕ, [], ◌∷◌, subst, List, ap, ◌∙◌}
+use Rattle.mmtel_b2bua.specs.Marks.{Written, heard_marks, told_of}
+use Rattle.mmtel_b2bua.specs.declared.marks.Mark.TheVariants.{Sent}
+use Rattle.mmtel_b2bua.proofs.Marking.{joined}
+use Rattle.mmtel_b2bua.proofs.index.Index.put_invitation.Goals as goal
+
+pub returns : goal.returns
+returns c =
+    let i = c.args.invitation.now in
+    let first = subst (λ (n : ℕ). Written c.args.stays c.args.call.0 (Sent n ∷ []) c.args.self.now c.put.new.self) (c.told.ensures ∙ ap (λ (l : List ℕ). told_of l) c.bytes.ensures) c.put.ensures in
+    joined c.args.stays c.args.call.0 (Sent (told_of i.branch) ∷ []) (heard_marks i.key) c.args.self.now c.put.new.self c.put_key.new.self first c.put_key.ensures

@@ -1,0 +1,56 @@
+-- The table of calls as it is kept: each call in a box of its own, their numbers ascending, and those that live counted.
+use Rattle.std.specs.Prelude.{ℕ, ◌≡◌, ◌<◌, ◌≤◌, ◌&&◌, not, Bool, true, if◌then◌else◌, Option, Some, None, Result, Ok, Err, List, [], ◌∷◌, Box, count_by, map}
+use Rattle.std.specs.List.{AllByRecursion}
+use Rattle.mmtel_scan.specs.declared.memory.NoMemory.{NoMemory}
+use Rattle.mmtel_call.specs.declared.signals.Signal as calls
+use Rattle.mmtel_call_decisions.specs.Site.{Site}
+use Rattle.mmtel_desk.specs.declared.desks.Desk.{Desk}
+use Rattle.mmtel_sheet_values.specs.View.{InForce}
+use Rattle.mmtel_types.specs.declared.numbers.Account.{Account}
+use Rattle.mmtel_b2bua.specs.Entries.{is_live}
+use Rattle.mmtel_b2bua.specs.Marks.{AreMarked}
+use Rattle.mmtel_b2bua.specs.Tables.{Moved, moved_by, step_of, unmoved}
+use Rattle.mmtel_b2bua.specs.declared.entries.Entry.{Entry}
+use Rattle.mmtel_b2bua.specs.declared.entries.InviteKey.{InviteKey}
+use Rattle.mmtel_b2bua.specs.declared.index.Index.{Index}
+
+abbrev pub unboxed : {X A : Type 0} → List (Box X A) → List X
+unboxed boxes = map (λ b. b.value) boxes
+
+abbrev pub number_of : Entry → ℕ
+number_of e = e.call.opening.number.0
+
+-- each number is above the one before it, the first above low, and the last not above high
+abbrev pub Ascend : (low : ℕ) → List Entry → (high : ℕ) → Type 0
+Ascend low [] high = low ≤ high
+Ascend low (e ∷ es) high = (low < number_of e) × Ascend (number_of e) es high
+
+-- so many live, the last that was opened had this number, and each is found by its marks
+pub record AreKept (es : List Entry) (opened living : ℕ) (index : Index) : Type 0 where
+  pub ascend : Ascend 0 es opened
+  pub alive : living ≡ count_by is_live es
+  pub marked : AreMarked index es
+
+-- all of these have lower numbers
+abbrev pub AllBelow : ℕ → List Entry → Type 0
+AllBelow number es = AllByRecursion (λ e. number_of e < number) es
+
+-- ---- counted on
+
+-- one where it is so, and else none
+abbrev pub one_if : Bool → ℕ
+one_if b = if b then 1 else 0
+
+-- a call that stays, and lives
+abbrev pub lives_on : (gone : Bool) → Entry → Bool
+lives_on gone e = not gone && is_live e
+
+-- a call leaves once nothing may be heard of it any more, and where memory ran out in its step
+abbrev pub is_gone : Result Bool NoMemory → Bool
+is_gone (Ok settled) = settled
+is_gone (Err fault) = true
+
+-- the call at this place takes a step, as others keep accounts busy, and has these INVITEs more
+abbrev pub heard_at : Site → (at : ℕ) → InForce → (busy : List Account) → calls.Signal → (invites : List InviteKey) → (place : ℕ) → Option Entry → List Entry → Desk → Moved
+heard_at site at view busy heard invites place None es desk = unmoved es desk
+heard_at site at view busy heard invites place (Some e) es desk = moved_by place invites e (step_of site at view busy heard desk e) es

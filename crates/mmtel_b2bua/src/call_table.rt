@@ -1,0 +1,419 @@
+//! The table of calls as it is kept: each call in a box of its own, so that little moves when one leaves; in the order of their numbers; those that live are counted; each is
+//! found by its marks.
+ghost use Rattle.std.specs.Prelude.{◌≡◌, ◌<◌, ◌≤◌, ◌+◌, ◌^◌, ◌++◌, true, None, IfOk, OnOk, MatchResult, Some, if◌then◌else◌};
+ghost use Rattle.std.specs.Prelude.{count_by, drop, length, nat_le, option_to_list, remove, slice_get, take, ℕ};
+ghost use Rattle.std.specs.Option.{option_copied, option_map};
+ghost use Rattle.std.specs.List.Sorted.{IsNonDecreasingBy};
+ghost use Rattle.mmtel_leg.specs.Releases.{released_leg};
+ghost use Rattle.mmtel_scan.specs.Numbers.{next_number};
+ghost use Rattle.mmtel_b2bua.specs.Entries.{is_live, kept};
+ghost use Rattle.mmtel_b2bua.specs.Kept.{AllBelow, heard_at, is_gone, lives_on, number_of, one_if, unboxed};
+ghost use Rattle.mmtel_b2bua.specs.Lending.{ended_at, is_away, leg_of_entry, lent_at, place_of, put_back_at, takes_back};
+ghost use Rattle.mmtel_b2bua.specs.Marks.{Unmarked};
+ghost use Rattle.mmtel_b2bua.specs.Tables.{most_calls, no_calls};
+
+use crate::entries::{Entry, InviteKey};
+use crate::index::Index;
+use crate::marks::Mark;
+use mmtel_call::{NotTalking, Signal as CallSignal};
+use mmtel_call_decisions::{Present, Setting};
+use mmtel_charging::Row;
+use mmtel_decisions::drop_first;
+use mmtel_desk::Desk;
+use mmtel_leg::Released;
+use mmtel_scan::{List, NoMemory};
+use mmtel_types::{CallNo, Moment, Side};
+use std::alloc::Global;
+use std::marker::Model;
+
+/// So many calls may live at once.
+const MOST_CALLS: usize = 4_096;
+
+/// The calls of which something may still be heard, and the rows that wait. They must be spent.
+pub struct CallTable {
+    entries: Vec<Box<Entry>>,
+    opened: u64,
+    alive: usize,
+    index: Index,
+    rows: List<Row>,
+}
+
+impl Model for CallTable {
+    ghost use Rattle.mmtel_b2bua.specs.Tables.{Table};
+
+    ghost Value = { Table };
+
+    ghost use Rattle.mmtel_b2bua.specs.Kept.{AreKept, unboxed};
+
+    ghost view = { λ t. record { entries = unboxed t.entries.items; opened = t.opened; rows = t.rows } };
+
+    ghost invariant = { λ t. AreKept (unboxed t.entries.items) t.opened t.alive t.index };
+}
+
+/// So many calls live, where one of them did or did not before, and does or does not now.
+fn recounted(alive: usize, before: bool, after: bool) -> usize
+    requires there { one_if before ≤ alive }
+    requires room { alive + one_if after < 2 ^ 64 + one_if before }
+    ensures { result + one_if before ≡ alive + one_if after }
+{
+    match (before, after) {
+        (true, false) => alive - 1,
+        (false, true) => alive + 1,
+        _ => alive,
+    }
+}
+
+/// Spends a call and its place.
+fn give_up_entry(entry: Entry, at: Moment) {
+    let Entry { call, invites } = entry;
+    drop(invites);
+    call.give_up(at);
+}
+
+/// Spends these calls and their places.
+fn give_up_all(entries: Vec<Box<Entry>>) {
+    let mut entries = entries;
+    'given: while let Some(entry) = entries.pop() {
+        give_up_entry(Box::into_inner(entry), beginning());
+    }
+    entries.destroy_empty();
+}
+
+/// The first of all moments: of rows that nobody keeps.
+fn beginning() -> Moment {
+    match Moment::new(0) {
+        Some(moment) => moment,
+        None => unreachable!(),
+    }
+}
+
+/// A call in a box of its own.
+fn boxed(alloc: Global, entry: Entry, at: Moment) -> Result<Box<Entry>, NoMemory>
+    ensures { IfOk result (λ b. b.value ≡ entry) }
+{
+    match Box::new(alloc, entry) {
+        Ok(boxed) => Ok(boxed),
+        Err(refused) => {
+            give_up_entry(refused.value, at);
+            Err(NoMemory)
+        }
+    }
+}
+
+/// The place of the call of this number.
+fn place_in(entries: &[Box<Entry>], number: CallNo) -> Option<usize>
+    requires { IsNonDecreasingBy (λ b. number_of b.value) entries.now }
+    ensures { result ≡ place_of number.0 (unboxed entries.now) }
+{
+    let place = entries.partition_point(|entry| entry.call.opening.number.0 < number.0);
+    if place == entries.len() {
+        return None;
+    }
+    if entries[place].is_numbered(number) {
+        Some(place)
+    } else {
+        None
+    }
+}
+
+/// From which place on no call has a lower number.
+fn below(entries: &[Box<Entry>], number: CallNo) -> usize
+    requires { IsNonDecreasingBy (λ b. number_of b.value) entries.now }
+    ensures within { result ≤ length (unboxed entries.now) }
+    ensures lower { AllBelow number.0 (take result (unboxed entries.now)) }
+{
+    entries.partition_point(|entry| entry.call.opening.number.0 < number.0)
+}
+
+/// So many places after another one, where so many calls are kept.
+fn after(from: usize, places: usize, count: usize) -> Option<usize>
+    requires { from + places < count }
+    ensures { result ≡ Some (from + places) }
+{
+    let place = from + places;
+    if place < count { Some(place) } else { None }
+}
+
+/// Whether a call leaves after its step.
+fn is_gone(heard: &Result<bool, NoMemory>) -> bool
+    ensures { result ≡ is_gone heard.now }
+{
+    match heard {
+        Ok(settled) => *settled,
+        Err(_) => true,
+    }
+}
+
+/// The call at this place stays or leaves. Whether it stays, and lives.
+fn keep_at(entries: &mut Vec<Box<Entry>>, place: usize, gone: bool, at: Moment) -> bool
+    requires { place < length entries.old.items }
+    ensures entries { entries.new.items ≡ (if gone then remove entries.old.items place else entries.old.items) }
+    ensures lives { (e : Entry) → slice_get (unboxed entries.old.items) place ≡ Some e → result ≡ lives_on gone e }
+{
+    if gone {
+        give_up_entry(Box::into_inner(entries.remove(place)), at);
+        return false;
+    }
+    entries[place].is_live()
+}
+
+impl CallTable {
+    /// No calls yet. It takes no memory.
+    pub fn new(alloc: Global) -> CallTable
+        ensures { result ≡ no_calls }
+    {
+        CallTable {
+            entries: Vec::new(alloc),
+            opened: 0,
+            alive: 0,
+            index: Index::new(alloc),
+            rows: List::new(),
+        }
+    }
+
+    /// The calls, in the order in which they were opened.
+    pub fn entries(&self) -> &[Box<Entry>]
+        ensures { unboxed result.now ≡ self.now.entries }
+    {
+        &self.entries
+    }
+
+    /// The number of the call that is opened next.
+    pub fn next_number(&self) -> CallNo
+        ensures { result.0 ≡ next_number self.now.opened }
+    {
+        CallNo(self.opened.saturating_add(1))
+    }
+
+    /// Whether as many calls live as may.
+    pub fn is_full(&self) -> bool
+        ensures { result ≡ nat_le most_calls (count_by is_live self.now.entries) }
+    {
+        self.alive >= MOST_CALLS
+    }
+
+    /// The place of the call of this number.
+    pub fn place_of(&self, number: CallNo) -> Option<usize>
+        ensures { result ≡ place_of number.0 self.now.entries }
+    {
+        place_in(&self.entries, number)
+    }
+
+    /// From which place on a call may have this mark.
+    pub fn from(&self, mark: Mark) -> usize
+        ensures within { result ≤ length self.now.entries }
+        ensures none { Unmarked mark (take result self.now.entries) }
+    {
+        match self.index.first(mark) {
+            None => self.entries.len(),
+            Some(number) => below(&self.entries, number),
+        }
+    }
+
+    /// The calls from this place on.
+    pub fn entries_from(&self, from: usize) -> &[Box<Entry>]
+        requires { from ≤ length self.now.entries }
+        ensures { unboxed result.now ≡ drop from self.now.entries }
+    {
+        let entries: &[Box<Entry>] = &self.entries;
+        &entries[from..]
+    }
+
+    /// The place of a call that stands at this one among those from another place on.
+    pub fn later(&self, from: usize, place: Option<usize>) -> Option<usize>
+        requires { (n : ℕ) → place ≡ Some n → from + n < length self.now.entries }
+        ensures { result ≡ option_map (λ n. from + n) place }
+    {
+        match place {
+            None => None,
+            Some(place) => after(from, place, self.entries.len()),
+        }
+    }
+
+    /// The call at this place.
+    pub fn get(&self, place: usize) -> Option<&Entry>
+        ensures { option_copied result ≡ slice_get self.now.entries place }
+    {
+        match self.entries.get(place) {
+            None => None,
+            Some(entry) => Some(entry),
+        }
+    }
+
+    /// Keeps a call that was opened, as long as something may be heard of it. It has the next number.
+    ///
+    /// # Errors
+    ///
+    /// Want of memory alone, for its place or for its number: 2^64 - 1 are opened in all.
+    pub fn add(&mut self, alloc: Global, entry: Entry, at: Moment) -> Result<(), NoMemory>
+        requires { number_of entry ≡ next_number self.old.opened }
+        ensures { OnOk result (self.new ≡ record self.old { entries = self.old.entries ++ kept entry; opened = next_number self.old.opened }) }
+    {
+        let number = entry.call.opening.number.0;
+        if entry.call.is_settled() {
+            give_up_entry(entry, at);
+            self.opened = number;
+            return Ok(());
+        }
+        if self.opened == u64::MAX {
+            give_up_entry(entry, at);
+            return Err(NoMemory);
+        }
+        let is_live = entry.is_live();
+        self.index.put_call(&entry, CallNo(number), true);
+        let boxed = boxed(alloc, entry, at)?;
+        match self.entries.push(boxed) {
+            Ok(()) => {
+                self.opened = number;
+                self.alive = recounted(self.alive, false, is_live);
+                Ok(())
+            }
+            Err(refused) => {
+                give_up_entry(Box::into_inner(refused.value), at);
+                Err(NoMemory)
+            }
+        }
+    }
+
+    /// The call at this place takes a step, and has this INVITE more; it leaves once nothing may be heard of it any more.
+    ///
+    /// # Errors
+    ///
+    /// Want of memory alone; the call has left then.
+    pub fn hear_at(
+        &mut self,
+        alloc: Global,
+        setting: &Setting<'_>,
+        present: &Present<'_>,
+        place: usize,
+        signal: CallSignal,
+        invite: Option<InviteKey>,
+        desk: &mut Desk,
+    ) -> Result<(), NoMemory>
+        requires { place < length self.old.entries }
+        ensures table { OnOk result (self.new ≡ record self.old {
+          entries = (heard_at setting.now present.now.at present.now.sheets.now present.now.busy.now
+              signal (option_to_list invite) place (slice_get self.old.entries place) self.old.entries desk.old).entries;
+        }) }
+        ensures desk { OnOk result (desk.new ≡ (heard_at setting.now present.now.at present.now.sheets.now present.now.busy.now
+            signal (option_to_list invite) place (slice_get self.old.entries place) self.old.entries desk.old).desk) }
+    {
+        let entry = &mut *self.entries[place];
+        let before = entry.is_live();
+        let number = entry.call.opening.number;
+        self.index.put_call(entry, number, false);
+        let heard = entry.hear(alloc, setting, present, signal, invite, desk);
+        let gone = is_gone(&heard);
+        self.index.put_call(entry, number, !gone);
+        let after = keep_at(&mut self.entries, place, gone, present.at);
+        self.alive = recounted(self.alive, before, after);
+        match heard {
+            Ok(_) => Ok(()),
+            Err(error) => Err(error),
+        }
+    }
+
+    /// The call at this place, whose leg is away, ends; it leaves once nothing may be heard of it any more.
+    ///
+    /// # Errors
+    ///
+    /// Want of memory alone; the call has left then.
+    pub fn finish_at(
+        &mut self,
+        alloc: Global,
+        setting: &Setting<'_>,
+        at: Moment,
+        place: usize,
+        desk: &mut Desk,
+    ) -> Result<(), NoMemory>
+        requires place { place < length self.old.entries }
+        requires away { is_away (slice_get self.old.entries place) ≡ true }
+        ensures table { OnOk result (self.new ≡ record self.old { entries = (ended_at setting.now at place (slice_get self.old.entries place) self.old.entries desk.old).entries }) }
+        ensures desk { OnOk result (desk.new ≡ (ended_at setting.now at place (slice_get self.old.entries place) self.old.entries desk.old).desk) }
+    {
+        let entry = &mut *self.entries[place];
+        let before = entry.is_live();
+        let number = entry.call.opening.number;
+        self.index.put_call(entry, number, false);
+        let finished = entry.finish(alloc, setting, at, desk);
+        let left = is_gone(&finished);
+        self.index.put_call(entry, number, !left);
+        let after = keep_at(&mut self.entries, place, left, at);
+        self.alive = recounted(self.alive, before, after);
+        match finished {
+            Ok(_) => Ok(()),
+            Err(error) => Err(error),
+        }
+    }
+
+    /// Takes a leg out of the call at this place.
+    pub fn release_at(&mut self, place: usize, side: Side) -> Result<Released, NotTalking>
+        requires { place < length self.old.entries }
+        ensures table { self.new ≡ record self.old { entries = lent_at side place (slice_get self.old.entries place) self.old.entries } }
+        ensures leg { MatchResult result (λ leg. leg_of_entry side (slice_get self.old.entries place) ≡ Some leg)
+            (λ refused. leg_of_entry side (slice_get self.old.entries place) ≡ None) }
+    {
+        let entry = &mut *self.entries[place];
+        let number = entry.call.opening.number;
+        self.index.put_call(entry, number, false);
+        let leg = entry.call.release(side);
+        self.index.put_call(entry, number, true);
+        leg
+    }
+
+    /// Puts a leg back into the call at this place.
+    pub fn restore_at(&mut self, place: usize, away: Released)
+        requires place { place < length self.old.entries }
+        requires fits { takes_back away (slice_get self.old.entries place) ≡ true }
+        requires meter { (released_leg away).meter ≡ None }
+        ensures { self.new ≡ record self.old { entries = put_back_at away place (slice_get self.old.entries place) self.old.entries } }
+    {
+        let entry = &mut *self.entries[place];
+        let number = entry.call.opening.number;
+        self.index.put_call(entry, number, false);
+        entry.call.restore(away);
+        self.index.put_call(entry, number, true);
+    }
+
+    /// The rows that wait, in the order in which they were closed.
+    pub fn rows(&self) -> &[Row]
+        ensures { result.now ≡ self.now.rows }
+    {
+        self.rows.items()
+    }
+
+    /// Keeps the rows that were closed, until they are handed over.
+    pub fn keep_rows(&mut self, alloc: Global, rows: List<Row>) -> Result<(), NoMemory>
+        ensures { OnOk result (self.new ≡ record self.old { rows = self.old.rows ++ rows }) }
+    {
+        match self.rows.extend(alloc, rows) {
+            Ok(()) => Ok(()),
+            Err((rows, error)) => {
+                drop(rows);
+                Err(error)
+            }
+        }
+    }
+
+    /// So many of the rows that wait were handed over.
+    pub fn drop_rows(&mut self, count: usize)
+        requires { count ≤ length self.old.rows }
+        ensures { self.new ≡ record self.old { rows = drop count self.old.rows } }
+    {
+        drop_first(&mut self.rows, count);
+    }
+
+    /// Spends all calls, without rows. It takes no memory.
+    pub fn give_up(self) {
+        let CallTable {
+            entries,
+            opened: _,
+            alive: _,
+            index,
+            rows,
+        } = self;
+        drop(index);
+        drop(rows);
+        give_up_all(entries);
+    }
+}

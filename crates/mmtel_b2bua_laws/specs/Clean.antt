@@ -5,6 +5,7 @@ use Rattle.mmtel_leg.specs.Dialogues.{request_uri}
 use Rattle.mmtel_sheet_values.specs.View.{InForce, sheet_in}
 use Rattle.mmtel_types.specs.declared.sides.Side.{Side}
 use Rattle.mmtel_call_decisions.specs.Site.{Site}
+use Rattle.mmtel_call_laws.specs.Heads.Acks as of_story
 use Rattle.mmtel_call_laws.specs.Heads.Clean.{IsClean}
 use Rattle.mmtel_call_laws.specs.Heads.Emits.{Each, IsCleanEmit}
 use Rattle.mmtel_call_laws.specs.Heads.Heard.{IsCleanSheet, IsOfClean}
@@ -15,6 +16,7 @@ use Rattle.mmtel_b2bua.specs.Histories.{Deed, Drops, Finishes, Heard, Hears, Rel
 use Rattle.mmtel_b2bua.specs.Lending.{leg_out}
 use Rattle.mmtel_b2bua.specs.declared.signals.Signal.{Signal}
 use Rattle.mmtel_b2bua.specs.declared.signals.Signal.TheVariants as signal
+use Rattle.mmtel_b2bua_laws.specs.Acks.{acked_after}
 use Rattle.mmtel_b2bua_laws.specs.Deeds.{HasNumbers, emits_of, life_of, out_by}
 use Rattle.mmtel_b2bua_laws.specs.Lives as lives
 use Rattle.mmtel_b2bua_laws.specs.Lives.{Event}
@@ -62,23 +64,23 @@ IsGivenClean (Drops count) = Unit {0}
 abbrev pub signals : List story.Heard → List Event
 signals heard = map lives.Hears heard
 
--- of a call of which no leg was taken out, and of one that ended in the deed after that
+-- of a call of which no leg was taken out, and of one that ended in the deed after that; of an ACK of a 2xx no lines go out but those that are shown of an ACK that this call heard
 pub record CallsSendCleanMessages : Type 0 where
   pub clean : (site : Site) (deeds : List Deed) (number : ℕ) (start : story.Start) (heard : List story.Heard) → HasNumbers site deeds → IsClean site.home →
       Each IsCleanDeed deeds →
-      life_of site number deeds ≡ Some (record { start = start; events = signals heard }) → Each IsCleanEmit (emits_of site number deeds)
+      life_of site number deeds ≡ Some (record { start = start; events = signals heard }) → Each (IsCleanEmit (of_story.acked_after start heard)) (emits_of site number deeds)
   pub lines : (site : Site) (deeds : List Deed) (number : ℕ) (start : story.Start) (heard : List story.Heard) → HasNumbers site deeds → IsClean site.home →
       Each IsCleanDeed deeds →
-      life_of site number deeds ≡ Some (record { start = start; events = signals heard }) → Each SendsOwnLines (emits_of site number deeds)
+      life_of site number deeds ≡ Some (record { start = start; events = signals heard }) → Each (SendsOwnLines (of_story.acked_after start heard)) (emits_of site number deeds)
   pub finished : (site : Site) (deeds : List Deed) (number : ℕ) (start : story.Start) (heard : List story.Heard) (side : Side) (at : ℕ) (desk : Desk) →
       HasNumbers site deeds → IsClean site.home → Each IsCleanDeed deeds →
       life_of site number deeds ≡ Some (record { start = start; events = lives.Finishes at desk ∷ lives.Releases side ∷ signals heard }) →
-      Each IsCleanEmit (emits_of site number deeds)
+      Each (IsCleanEmit (of_story.acked_after start heard)) (emits_of site number deeds)
 
--- of each deed, whatever was done before
+-- of each deed, whatever was done before; of an ACK of a 2xx no lines go out but those that are shown of an ACK that was heard in the call of its dialog
 abbrev pub DeedsSendCleanMessages : Type 0
 DeedsSendCleanMessages = (site : Site) (deeds : List Deed) (deed : Deed) → IsClean site.home → Each IsGivenClean (deed ∷ deeds) →
-    Each IsCleanEmit (out_by site deed (table_after site deeds))
+    Each (IsCleanEmit (acked_after site (deed ∷ deeds))) (out_by site deed (table_after site deeds))
 
 -- and the leg that is taken out of a call is clean
 abbrev pub LegsGoOutClean : Type 0

@@ -5,6 +5,7 @@ pub mod Known
 pub mod Watched
 pub mod Deeds
 pub mod Laws
+pub mod Acks
 pub mod Clean
 pub mod Legs
 pub mod Replies

@@ -72,7 +72,8 @@ pub fn legs_go_back()
 
 /// What goes out of a table is clean, and each message has its own lines, where what the calls are given is clean: messages of clean lines, records with clean URIs, and
 /// tokens of a clean text. It is said of each deed, where each leg that is put back is clean, and so is each that is taken out; and without a word on these of each call of
-/// which no leg was taken out, and of one that ended in the deed after that.
+/// which no leg was taken out, and of one that ended in the deed after that. Of an ACK of a 2xx no lines go out but those that are shown of an ACK that was heard in the call
+/// of its dialog.
 pub fn tables_send_clean_messages()
     ensures law { CallsSendCleanMessages }
     ensures deeds { DeedsSendCleanMessages }

@@ -2,6 +2,7 @@
 pub mod Clean
 pub mod Kept
 pub mod Heard
+pub mod Acks
 pub mod Emits
 pub mod Told
 pub mod Stories

@@ -41,7 +41,8 @@ pub fn clean_messages_are_passed_on_clean()
 
 /// Whatever a call hears, each message that it sends out is clean, and the text of it has its start line, its lines and its body, and nothing else: so nobody puts a line
 /// into a message of another. It is so where the lines and phrases that are heard are clean, as those are of each message that was read, and the Request-URI of the INVITE
-/// that opens it; and where the records' URIs, the home domain and the text of tokens are clean.
+/// that opens it; and where the records' URIs, the home domain and the text of tokens are clean. Of an ACK of a 2xx no lines go out but those that the header table shows of
+/// an ACK that the call heard on the other side, in the dialog that stood there then (RFC 3261 §13.2.2.4).
 pub fn calls_send_clean_messages()
     ensures clean { EmitsAreClean }
     ensures lines { EmitsHaveTheirLines }

@@ -71,23 +71,23 @@ abbrev pub Hears : Said → Type 0
 Hears m = IsCleanHeard m.heard
 
 refused_clean : (site : Site) (key : TKey) (m : Said) (code : ℕ) → Hears m → KeepsClean (refused site key m code)
-refused_clean site key m code h place seat s e is = with_desk_clean (replied site.sip key m (tag_of seat) code s.effects.desk) s (replied_clean site.sip key m (tag_of seat) code s.effects.desk h e.party_in.1 is.desk_in) is
+refused_clean site key m code h place seat s e is = with_desk_clean (replied site.sip key m (tag_of seat) code s.effects.desk) s (replied_clean [] site.sip key m (tag_of seat) code s.effects.desk h e.party_in.1 is.desk_in) is
 
 with_lines_clean : (site : Site) (key : TKey) (m : Said) (code : ℕ) (named : List Line) → Hears m → AreCleanLines named → KeepsClean (answered_with site key m code named)
 with_lines_clean site key m code named h f place seat s e is =
-    with_desk_clean (answered site.sip key m (tag_of seat) code [] named [] s.effects.desk) s (answered_clean site.sip key m (tag_of seat) code [] named [] s.effects.desk h e.party_in.1 refl f is.desk_in) is
+    with_desk_clean (answered site.sip key m (tag_of seat) code [] named [] s.effects.desk) s (answered_clean [] site.sip key m (tag_of seat) code [] named [] s.effects.desk h e.party_in.1 refl f is.desk_in) is
 
 -- with the Contact of the room
-room_answer_clean : (site : Site) (room : RoomNo) (key : TKey) (m : Said) (tag : List ℕ) (code : ℕ) (named : List Line) (body : List ℕ) (desk : Desk) → Hears m → IsClean tag → AreCleanLines named → IsCleanDesk desk →
-    IsCleanDesk (answered_at (contact_value site.sip room) key m tag code [] named body desk)
+room_answer_clean : (site : Site) (room : RoomNo) (key : TKey) (m : Said) (tag : List ℕ) (code : ℕ) (named : List Line) (body : List ℕ) (desk : Desk) → Hears m → IsClean tag → AreCleanLines named → IsCleanDesk [] desk →
+    IsCleanDesk [] (answered_at (contact_value site.sip room) key m tag code [] named body desk)
 room_answer_clean site room key m tag code named body desk h e f had =
-    emit_clean (emit.Reply key (response m.heard.start m.heard.lines (own_reply (contact_value site.sip room) m.source tag code [] named body))) desk
+    emit_clean [] (emit.Reply key (response m.heard.start m.heard.lines (own_reply (contact_value site.sip room) m.source tag code [] named body))) desk
     (response_clean m.heard.start m.heard.lines (own_reply (contact_value site.sip room) m.source tag code [] named body) h.lines_in
     (record { phrase_in = phrase_clean code; tag_in = e; contact_in = contact_clean site.sip room; passed_in = refl; named_in = f })) had
 
-agreed_clean : (site : Site) (at : ℕ) (room : RoomNo) (seat number : ℕ) (key : TKey) (m : Said) (tag : List ℕ) (desk : Desk) → Hears m → IsClean tag → IsCleanDesk desk → IsCleanDesk (agreed site at room seat number key m tag desk)
+agreed_clean : (site : Site) (at : ℕ) (room : RoomNo) (seat number : ℕ) (key : TKey) (m : Said) (tag : List ℕ) (desk : Desk) → Hears m → IsClean tag → IsCleanDesk [] desk → IsCleanDesk [] (agreed site at room seat number key m tag desk)
 agreed_clean site at room seat number key m tag desk h e had =
-    emit_clean (emit.ArmSeat room seat (due.NoAck number) (at + ack_time)) (answered_at (contact_value site.sip room) key m tag 200 [] sdp_lines (answer_in site.mixer m.heard.body) desk) tt
+    emit_clean [] (emit.ArmSeat room seat (due.NoAck number) (at + ack_time)) (answered_at (contact_value site.sip room) key m tag 200 [] sdp_lines (answer_in site.mixer m.heard.body) desk) tt
     (room_answer_clean site room key m tag 200 sdp_lines (answer_in site.mixer m.heard.body) desk h e sdp_clean had)
 
 -- ---- INVITE
@@ -117,17 +117,17 @@ bye_row site at key m h place seat s e is =
 new_clean : (seat : Seat) (room : Room) → IsCleanSeat seat → IsCleanRoom room → IsCleanRoom (with_new seat room)
 new_clean seat room e is = each_append IsCleanSeat room.seats (seat ∷ []) is (e, tt)
 
-invitation_clean : (site : Site) (room : RoomNo) (peer : Peer) (uri : List ℕ) (desk : Desk) → IsClean uri → IsCleanDesk desk → IsCleanDialogue (invitation_dialog site room peer uri desk)
+invitation_clean : (site : Site) (room : RoomNo) (peer : Peer) (uri : List ℕ) (desk : Desk) → IsClean uri → IsCleanDesk [] desk → IsCleanDialogue (invitation_dialog site room peer uri desk)
 invitation_clean site room peer uri desk e had = record {
-  call_id_in = token_clean desk had;
-  local_in = from_clean site.sip room (token (drew desk)) (token_clean (drew desk) had);
+  call_id_in = token_clean [] desk had;
+  local_in = from_clean site.sip room (token (drew desk)) (token_clean [] (drew desk) had);
   remote_in = name_text_clean (record { display = []; uri = uri; params = [] }) refl e refl;
   tag_in = refl;
   target_in = e;
   routes_in = refl;
 }
 
-sent_clean : (d : Dialogue) (number : ℕ) (branch : List ℕ) → IsCleanDialogue d → IsClean branch → IsCleanInvitation (sent d number branch)
+sent_clean : (d : Dialogue) (number : ℕ) (branch : List ℕ) → IsCleanDialogue d → IsClean branch → IsCleanInvitation [] (sent d number branch)
 sent_clean d number branch e f = record { dialogue_in = e; branch_in = f; ack_in = tt; forks_in = tt; early_in = tt }
 
 invited_clean : (site : Site) (at by : ℕ) (peer : Peer) (u : Uri) (s : Step) → IsCleanUri u → IsCleanStep s → IsCleanStep (invited site at by peer u s)
@@ -140,11 +140,11 @@ invited_clean site at by peer u s e is =
     let seat : Seat = invited_seat s.room by (account_of site.accounts u) d branch in
     let asked : Desk = asked_with site.sip (codes "INVITE") d (described site.sip s.room.number) (offer_text site.mixer) (drew (drew before)) in
     record {
-      room_in = new_clean seat s.room (record { party_in = (called_clean d is_d, token_clean (drew before) is.desk_in); invite_in = sent_clean d 1 branch is_d (token_clean (drew (drew before)) is.desk_in) }) is.room_in;
+      room_in = new_clean seat s.room (record { party_in = (called_clean d is_d, token_clean [] (drew before) is.desk_in); invite_in = sent_clean d 1 branch is_d (token_clean [] (drew (drew before)) is.desk_in) }) is.room_in;
       loose_in = is.loose_in;
       desk_in =
-          emit_clean (emit.ArmSeat s.room.number (next_number s.room.taken) (due.Cap (next_number s.room.counted)) (at + longest_ringing)) asked tt
-          (asked_clean site.sip (codes "INVITE") d (described site.sip s.room.number) (offer_text site.mixer) (drew (drew before)) is_d refl (described_clean site.sip s.room.number) is.desk_in);
+          emit_clean [] (emit.ArmSeat s.room.number (next_number s.room.taken) (due.Cap (next_number s.room.counted)) (at + longest_ringing)) asked tt
+          (asked_clean [] site.sip (codes "INVITE") d (described site.sip s.room.number) (offer_text site.mixer) (drew (drew before)) is_d refl (described_clean site.sip s.room.number) is.desk_in);
     }
 
 at_peer_clean : (site : Site) (at by : ℕ) (o : Option Peer) (u : Uri) (s : Step) → IsCleanUri u → IsCleanStep s → IsCleanStep (invited_at site at by o u s)
@@ -181,10 +181,10 @@ adopted_clean site at leg account by s e is = record {
       new_clean (adopted_seat at s.room leg account by (token s.effects.desk)) s.room
       (record {
         party_in = party_clean (meter_of s.room.number at account) (having_invited_by leg) (invited_leg_clean leg e);
-        invite_in = sent_clean (having_invited (released_leg leg)).dialogue (next_number (released_leg leg).dialogue.own) (token s.effects.desk) e.0 (token_clean s.effects.desk is.desk_in);
+        invite_in = sent_clean (having_invited (released_leg leg)).dialogue (next_number (released_leg leg).dialogue.own) (token s.effects.desk) e.0 (token_clean [] s.effects.desk is.desk_in);
       }) is.room_in;
   loose_in = is.loose_in;
-  desk_in = asked_clean site.sip (codes "INVITE") (released_leg leg).dialogue (described site.sip s.room.number) (offer_text site.mixer) s.effects.desk e.0 refl (described_clean site.sip s.room.number) is.desk_in;
+  desk_in = asked_clean [] site.sip (codes "INVITE") (released_leg leg).dialogue (described site.sip s.room.number) (offer_text site.mixer) s.effects.desk e.0 refl (described_clean site.sip s.room.number) is.desk_in;
 }
 
 -- ---- REFER
@@ -261,7 +261,7 @@ stood_clean room at account remote (Invited leg) f e = (met_clean leg.dialogue r
 stood_clean room at account remote (Came leg) f e = e
 stood_clean room at account remote (Brought leg) f e = e
 
-agreed_by_clean : (tag ack : List ℕ) (o : Option Invite) → IsTextOfAck ack → IfSome o IsCleanInvite → IfSome (agreed_by tag ack o) IsCleanInvite
+agreed_by_clean : (tag ack : List ℕ) (o : Option Invite) → IsTextOfAck [] ack → IfSome o IsCleanInvite → IfSome (agreed_by tag ack o) IsCleanInvite
 agreed_by_clean tag ack None f e = tt
 agreed_by_clean tag ack (Some (Waiting number i)) f e = f
 agreed_by_clean tag ack (Some (Agreed branch before sent)) f e = e
@@ -270,8 +270,8 @@ acknowledged_clean : (site : Site) (tag : List ℕ) → KeepsClean (acknowledged
 acknowledged_clean site tag place seat s e is =
     let ack : List ℕ = ack_text site.sip (dialogue_of seat) (token s.effects.desk) in
     let other : Seat = record seat { invite = agreed_by tag ack seat.invite } in
-    with_desk_clean (acked site.sip (dialogue_of seat) s.effects.desk) (put place other s) (acked_clean site.sip (dialogue_of seat) s.effects.desk e.party_in.0 is.desk_in)
-    (put_clean place other s (record { party_in = e.party_in; invite_in = agreed_by_clean tag ack seat.invite (ack_text_clean site.sip (dialogue_of seat) (token s.effects.desk) e.party_in.0 (token_clean s.effects.desk is.desk_in)) e.invite_in }) is)
+    with_desk_clean (acked site.sip (dialogue_of seat) s.effects.desk) (put place other s) (acked_clean [] site.sip (dialogue_of seat) s.effects.desk e.party_in.0 is.desk_in)
+    (put_clean place other s (record { party_in = e.party_in; invite_in = agreed_by_clean tag ack seat.invite (ack_text_clean [] site.sip (dialogue_of seat) (token s.effects.desk) e.party_in.0 (token_clean [] s.effects.desk is.desk_in)) e.invite_in }) is)
 
 success_clean : (site : Site) (at : ℕ) (m : Said) → Hears m → KeepsClean (on_success site at m)
 success_clean site at m h place seat s e is =
@@ -289,9 +289,9 @@ then_without : (site : Site) (at : ℕ) (line : List ℕ) (place : ℕ) (seat : 
 then_without site at line place seat invite s e f is =
     at_seat_clean (ended_without site at line) (without_clean site at line) place (put place (record seat { invite = invite }) s) (put_clean place (record seat { invite = invite }) s (record { party_in = e.party_in; invite_in = f }) is)
 
-failure_acked_clean : (sip : Addr) (key : TKey) (m : Said) (o : Option Invite) (desk : Desk) → Hears m → IfSome o IsCleanInvite → IsCleanDesk desk → IsCleanDesk (failure_acked sip key m o desk)
+failure_acked_clean : (sip : Addr) (key : TKey) (m : Said) (o : Option Invite) (desk : Desk) → Hears m → IfSome o IsCleanInvite → IsCleanDesk [] desk → IsCleanDesk [] (failure_acked sip key m o desk)
 failure_acked_clean sip key m None desk h e had = had
-failure_acked_clean sip key m (Some (Waiting number i)) desk h e had = final_acked_clean sip key i m.heard desk e h had
+failure_acked_clean sip key m (Some (Waiting number i)) desk h e had = final_acked_clean [] sip key i m.heard desk e h had
 failure_acked_clean sip key m (Some (Agreed branch tag ack)) desk h e had = had
 
 failure_clean : (site : Site) (at : ℕ) (key : TKey) (m : Said) → Hears m → KeepsClean (on_failure site at key m)
@@ -306,10 +306,10 @@ response_row site at key m h place seat s e is =
     (provisional_clean key place seat s e is)
     (if_step (nat_lt (status_of m.heard.start) 300) (on_success site at m place seat s) (on_failure site at key m place seat s) (success_clean site at m h place seat s e is) (failure_clean site at key m h place seat s e is))
 
-repeat_clean : (m : Said) (tag ack : List ℕ) → IsTextOfAck ack → KeepsClean (on_repeat m tag ack)
+repeat_clean : (m : Said) (tag ack : List ℕ) → IsTextOfAck [] ack → KeepsClean (on_repeat m tag ack)
 repeat_clean m tag ack f place seat s e is =
     if_step (is_success (status_of m.heard.start) && bytes_eq (tag_given m) tag) (acked_again ack seat s) s
-    (with_desk_clean (emitted (emit.Plain (dialogue_of seat).peer ack) s.effects.desk) s (emit_clean (emit.Plain (dialogue_of seat).peer ack) s.effects.desk f is.desk_in) is) is
+    (with_desk_clean (emitted (emit.Plain (dialogue_of seat).peer ack) s.effects.desk) s (emit_clean [] (emit.Plain (dialogue_of seat).peer ack) s.effects.desk f is.desk_in) is) is
 
 answer_to_clean : (o : Option Invite) (site : Site) (at : ℕ) (key : TKey) (m : Said) → Hears m → IfSome o IsCleanInvite → KeepsClean (on_answer_to o site at key m)
 answer_to_clean None site at key m h f place seat s e is = is
@@ -326,14 +326,14 @@ silence_row site at place seat s e is = if_step (is_waiting seat.invite) (ended_
 
 -- ---- deadlines
 
-cancelled_in_clean : (sip : Addr) (o : Option Invite) (desk : Desk) → IfSome o IsCleanInvite → IsCleanDesk desk → IsCleanDesk (cancelled_in sip o desk)
+cancelled_in_clean : (sip : Addr) (o : Option Invite) (desk : Desk) → IfSome o IsCleanInvite → IsCleanDesk [] desk → IsCleanDesk [] (cancelled_in sip o desk)
 cancelled_in_clean sip None desk e had = had
-cancelled_in_clean sip (Some (Waiting number i)) desk e had = cancelled_clean sip i desk e had
+cancelled_in_clean sip (Some (Waiting number i)) desk e had = cancelled_clean [] sip i desk e had
 cancelled_in_clean sip (Some (Agreed branch tag ack)) desk e had = had
 
 once_in_clean : (o : Option Invite) → IfSome o IsCleanInvite → IfSome (once_cancelled_in o) IsCleanInvite
 once_in_clean None e = tt
-once_in_clean (Some (Waiting number i)) e = once_clean i e
+once_in_clean (Some (Waiting number i)) e = once_clean [] i e
 once_in_clean (Some (Agreed branch tag ack)) e = e
 
 too_long_clean : (site : Site) (at : ℕ) → KeepsClean (too_long site at)

@@ -30,8 +30,8 @@ use Rattle.mmtel_focus_laws.proofs.CleanTexts.{notify_clean}
 -- ---- what is kept
 
 abbrev pub IsCleanInvite : Invite → Type 0
-IsCleanInvite (Waiting number i) = IsCleanInvitation i
-IsCleanInvite (Agreed branch tag ack) = IsTextOfAck ack
+IsCleanInvite (Waiting number i) = IsCleanInvitation [] i
+IsCleanInvite (Agreed branch tag ack) = IsTextOfAck [] ack
 
 -- a dialog, with the server's tag in it
 abbrev pub IsCleanHere : Dialogue → Type 0
@@ -49,10 +49,10 @@ IsCleanRoom room = Each IsCleanSeat room.seats
 
 pub record IsCleanStep (s : Step) : Type 0 where
   pub room_in : IsCleanRoom s.room
-  pub loose_in : Each IsCleanLoose s.effects.loose
-  pub desk_in : IsCleanDesk s.effects.desk
+  pub loose_in : Each (IsCleanLoose []) s.effects.loose
+  pub desk_in : IsCleanDesk [] s.effects.desk
 
-pub with_desk_clean : (desk : Desk) (s : Step) → IsCleanDesk desk → IsCleanStep s → IsCleanStep (with_desk desk s)
+pub with_desk_clean : (desk : Desk) (s : Step) → IsCleanDesk [] desk → IsCleanStep s → IsCleanStep (with_desk desk s)
 with_desk_clean desk s e is = record { room_in = is.room_in; loose_in = is.loose_in; desk_in = e }
 
 pub if_step : (b : Bool) (one two : Step) → IsCleanStep one → IsCleanStep two → IsCleanStep (if b then one else two)
@@ -96,10 +96,10 @@ with_leg_clean (Brought before) leg e = e
 
 -- ---- NOTIFY
 
-notified_clean : (site : Site) (room : RoomNo) (on : Bool) (line : List ℕ) (party : Party) (desk : Desk) → IsCleanParty party → IsCleanDesk desk → IsCleanDesk (notified_by site room on line party desk)
+notified_clean : (site : Site) (room : RoomNo) (on : Bool) (line : List ℕ) (party : Party) (desk : Desk) → IsCleanParty party → IsCleanDesk [] desk → IsCleanDesk [] (notified_by site room on line party desk)
 notified_clean site room on line (Invited leg) desk e had = had
-notified_clean site room on line (Came leg) desk e had = asked_clean site.sip (codes "NOTIFY") leg.dialogue (notify_lines site.sip room on) (fragment line) desk e.0 refl (notify_clean site.sip room on) had
-notified_clean site room on line (Brought leg) desk e had = asked_clean site.sip (codes "NOTIFY") leg.dialogue (notify_lines site.sip room on) (fragment line) desk e.0 refl (notify_clean site.sip room on) had
+notified_clean site room on line (Came leg) desk e had = asked_clean [] site.sip (codes "NOTIFY") leg.dialogue (notify_lines site.sip room on) (fragment line) desk e.0 refl (notify_clean site.sip room on) had
+notified_clean site room on line (Brought leg) desk e had = asked_clean [] site.sip (codes "NOTIFY") leg.dialogue (notify_lines site.sip room on) (fragment line) desk e.0 refl (notify_clean site.sip room on) had
 
 told_party_clean : (party : Party) → IsCleanParty party → IsCleanParty (told_party party)
 told_party_clean (Invited leg) e = e
@@ -120,7 +120,7 @@ told_by_clean site on line (Some number) s is = told_to_clean site on line numbe
 
 -- ---- a seat is left
 
-filed_clean : (at : ℕ) (meter : Option Noted) (desk : Desk) → IsCleanDesk desk → IsCleanDesk (filed_by at meter desk)
+filed_clean : (at : ℕ) (meter : Option Noted) (desk : Desk) → IsCleanDesk [] desk → IsCleanDesk [] (filed_by at meter desk)
 filed_clean at None desk is = is
 filed_clean at (Some meter) desk is = record { token_in = is.token_in; out_in = is.out_in }
 
@@ -128,26 +128,26 @@ ended_clean : (had_bye : Bool) (d : Dialogue) → IsCleanDialogue d → Each IsC
 ended_clean true d e = (e, tt)
 ended_clean false d e = tt
 
-within_clean : (had_bye : Bool) (leg : Leg) (i : Invitation) → IsCleanDialogue leg.dialogue → IsCleanInvitation i → IsCleanLoose (loose_within had_bye leg i)
+within_clean : (had_bye : Bool) (leg : Leg) (i : Invitation) → IsCleanDialogue leg.dialogue → IsCleanInvitation [] i → IsCleanLoose [] (loose_within had_bye leg i)
 within_clean had_bye leg i e is = record { dialogue_in = e; branch_in = is.branch_in; ack_in = is.ack_in; forks_in = ended_clean had_bye leg.dialogue e; early_in = is.early_in }
 
-loosened_clean : (had_bye : Bool) (party : Party) (i : Invitation) → IsCleanParty party → IsCleanInvitation i → IsCleanLoose (loosened had_bye party i)
+loosened_clean : (had_bye : Bool) (party : Party) (i : Invitation) → IsCleanParty party → IsCleanInvitation [] i → IsCleanLoose [] (loosened had_bye party i)
 loosened_clean had_bye (Invited leg) i e is = is
 loosened_clean had_bye (Came leg) i e is = within_clean had_bye leg i e.0 is
 loosened_clean had_bye (Brought leg) i e is = within_clean had_bye leg i e.0 is
 
-loosened_in_clean : (had_bye : Bool) (party : Party) (o : Option Invite) → IsCleanParty party → IfSome o IsCleanInvite → Each IsCleanLoose (loosened_in had_bye party o)
+loosened_in_clean : (had_bye : Bool) (party : Party) (o : Option Invite) → IsCleanParty party → IfSome o IsCleanInvite → Each (IsCleanLoose []) (loosened_in had_bye party o)
 loosened_in_clean had_bye party None e is = tt
 loosened_in_clean had_bye party (Some (Waiting number i)) e is = (loosened_clean had_bye party i e is, tt)
 loosened_in_clean had_bye party (Some (Agreed branch tag ack)) e is = tt
 
 pub record IsCleanEffects (e : Effects) : Type 0 where
-  pub loose_in : Each IsCleanLoose e.loose
-  pub desk_in : IsCleanDesk e.desk
+  pub loose_in : Each (IsCleanLoose []) e.loose
+  pub desk_in : IsCleanDesk [] e.desk
 
 left_with_clean : (at : ℕ) (had_bye : Bool) (seat : Seat) (e : Effects) → IsCleanSeat seat → IsCleanEffects e → IsCleanEffects (left_with at had_bye seat e)
 left_with_clean at had_bye seat e is had = record {
-  loose_in = each_append IsCleanLoose e.loose (loosened_in had_bye seat.party seat.invite) had.loose_in (loosened_in_clean had_bye seat.party seat.invite is.party_in is.invite_in);
+  loose_in = each_append (IsCleanLoose []) e.loose (loosened_in had_bye seat.party seat.invite) had.loose_in (loosened_in_clean had_bye seat.party seat.invite is.party_in is.invite_in);
   desk_in = filed_clean at (leg_of seat.party).meter e.desk had.desk_in;
 }
 
@@ -170,7 +170,7 @@ dismissed_clean site at place seat s e is = gone_clean place s (dismissed_with s
     by : (b : Bool) → IsCleanEffects (if b then left_with at true (having_had_bye seat) (record s.effects { desk = desk }) else left_with at false seat s.effects)
     by true =
         left_with_clean at true (having_had_bye seat) (record s.effects { desk = desk }) (record { party_in = with_leg_clean seat.party leg e.party_in; invite_in = e.invite_in })
-        (record { loose_in = is.loose_in; desk_in = bye_clean site.sip (dialogue_of seat) s.effects.desk e.party_in.0 is.desk_in })
+        (record { loose_in = is.loose_in; desk_in = bye_clean [] site.sip (dialogue_of seat) s.effects.desk e.party_in.0 is.desk_in })
     by false = left_with_clean at false seat s.effects e (record { loose_in = is.loose_in; desk_in = is.desk_in })
 
 -- ---- the room closes

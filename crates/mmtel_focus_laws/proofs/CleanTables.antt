@@ -115,57 +115,57 @@ heard_of_clean site at branch heard live effects h is had = in_clean (table.hear
 
 record IsCleanMoved (moved : Moved) : Type 0 where
   pub live_in : Each IsCleanRoom moved.live
-  pub loose_in : Each IsCleanLoose moved.loose
+  pub loose_in : Each (IsCleanLoose []) moved.loose
   pub effects_in : IsCleanEffects moved.effects
 
-beside_clean : (loose : List Loose) (s : Stepped) → Each IsCleanLoose loose → IsCleanStepped s → IsCleanMoved (table.beside loose s)
+beside_clean : (loose : List Loose) (s : Stepped) → Each (IsCleanLoose []) loose → IsCleanStepped s → IsCleanMoved (table.beside loose s)
 beside_clean loose s e is = record { live_in = is.live_in; loose_in = e; effects_in = is.effects_in }
 
-without_at_clean : (place : ℕ) (loose : List Loose) → Each IsCleanLoose loose → Each IsCleanLoose (without_at place loose)
-without_at_clean place loose e = each_append IsCleanLoose (take place loose) (drop (place + 1) loose) (each_take IsCleanLoose place loose e) (each_drop IsCleanLoose (place + 1) loose e)
+without_at_clean : (place : ℕ) (loose : List Loose) → Each (IsCleanLoose []) loose → Each (IsCleanLoose []) (without_at place loose)
+without_at_clean place loose e = each_append (IsCleanLoose []) (take place loose) (drop (place + 1) loose) (each_take (IsCleanLoose []) place loose e) (each_drop (IsCleanLoose []) (place + 1) loose e)
 
-without_clean : (o : Option ℕ) (loose : List Loose) → Each IsCleanLoose loose → Each IsCleanLoose (without o loose)
+without_clean : (o : Option ℕ) (loose : List Loose) → Each (IsCleanLoose []) loose → Each (IsCleanLoose []) (without o loose)
 without_clean None loose e = e
 without_clean (Some place) loose e = without_at_clean place loose e
 
-unmoved_clean : (live : List Room) (loose : List Loose) (effects : Effects) → Each IsCleanRoom live → Each IsCleanLoose loose → IsCleanEffects effects → IsCleanMoved (table.beside loose (unmoved live effects))
+unmoved_clean : (live : List Room) (loose : List Loose) (effects : Effects) → Each IsCleanRoom live → Each (IsCleanLoose []) loose → IsCleanEffects effects → IsCleanMoved (table.beside loose (unmoved live effects))
 unmoved_clean live loose effects is e had = record { live_in = is; loose_in = e; effects_in = had }
 
-loose_row : (sip : Addr) (key : TKey) (m : Said) (place : ℕ) (o : Option Loose) (live : List Room) (loose : List Loose) (effects : Effects) → IsOfClean m.heard → IfSome o IsCleanLoose → Each IsCleanRoom live → Each IsCleanLoose loose → IsCleanEffects effects →
+loose_row : (sip : Addr) (key : TKey) (m : Said) (place : ℕ) (o : Option Loose) (live : List Room) (loose : List Loose) (effects : Effects) → IsOfClean m.heard → IfSome o (IsCleanLoose []) → Each IsCleanRoom live → Each (IsCleanLoose []) loose → IsCleanEffects effects →
     IsCleanMoved (answered_loose sip key m place o live loose effects)
 loose_row sip key m place None live loose effects h f is e had = unmoved_clean live loose effects is e had
 loose_row sip key m place (Some l) live loose effects h f is e had =
     let rest : Rest = on_response sip key m.heard l effects.desk in
-    let is_rest = late_response_clean sip key m.heard l effects.desk (heard_clean m.heard h) f had.desk_in in
+    let is_rest = late_response_clean [] sip key m.heard l effects.desk (heard_clean m.heard h) f had.desk_in in
     record {
       live_in = is;
-      loose_in = each_append IsCleanLoose (without_at place loose) (option_to_list rest.left) (without_at_clean place loose e) (each_option IsCleanLoose rest.left is_rest.left_in);
+      loose_in = each_append (IsCleanLoose []) (without_at place loose) (option_to_list rest.left) (without_at_clean place loose e) (each_option (IsCleanLoose []) rest.left is_rest.left_in);
       effects_in = record { loose_in = had.loose_in; desk_in = is_rest.desk_in };
     }
 
 -- ---- signals
 
-answered_at_clean : (site : Site) (at : ℕ) (key : TKey) (m : Said) (branch : List ℕ) (o : Option ℕ) (live : List Room) (loose : List Loose) (effects : Effects) → IsOfClean m.heard → Each IsCleanRoom live → Each IsCleanLoose loose → IsCleanEffects effects →
+answered_at_clean : (site : Site) (at : ℕ) (key : TKey) (m : Said) (branch : List ℕ) (o : Option ℕ) (live : List Room) (loose : List Loose) (effects : Effects) → IsOfClean m.heard → Each IsCleanRoom live → Each (IsCleanLoose []) loose → IsCleanEffects effects →
     IsCleanMoved (answered_at site at key m branch o live loose effects)
 answered_at_clean site at key m branch None live loose effects h is e had = beside_clean loose (heard_of site at branch (of_seat.Answer key m) live effects) e (heard_of_clean site at branch (of_seat.Answer key m) live effects h is had)
-answered_at_clean site at key m branch (Some place) live loose effects h is e had = loose_row site.sip key m place (slice_get loose place) live loose effects h (each_get IsCleanLoose loose place e) is e had
+answered_at_clean site at key m branch (Some place) live loose effects h is e had = loose_row site.sip key m place (slice_get loose place) live loose effects h (each_get (IsCleanLoose []) loose place e) is e had
 
-answered_by_clean : (site : Site) (at : ℕ) (key : TKey) (m : Said) (o : Option (List ℕ)) (live : List Room) (loose : List Loose) (effects : Effects) → IsOfClean m.heard → Each IsCleanRoom live → Each IsCleanLoose loose → IsCleanEffects effects →
+answered_by_clean : (site : Site) (at : ℕ) (key : TKey) (m : Said) (o : Option (List ℕ)) (live : List Room) (loose : List Loose) (effects : Effects) → IsOfClean m.heard → Each IsCleanRoom live → Each (IsCleanLoose []) loose → IsCleanEffects effects →
     IsCleanMoved (answered_by site at key m o live loose effects)
 answered_by_clean site at key m None live loose effects h is e had = unmoved_clean live loose effects is e had
 answered_by_clean site at key m (Some branch) live loose effects h is e had = answered_at_clean site at key m branch (position (is_of branch) loose) live loose effects h is e had
 
-silenced_at_clean : (site : Site) (at : ℕ) (branch : List ℕ) (o : Option ℕ) (live : List Room) (loose : List Loose) (effects : Effects) → Each IsCleanRoom live → Each IsCleanLoose loose → IsCleanEffects effects →
+silenced_at_clean : (site : Site) (at : ℕ) (branch : List ℕ) (o : Option ℕ) (live : List Room) (loose : List Loose) (effects : Effects) → Each IsCleanRoom live → Each (IsCleanLoose []) loose → IsCleanEffects effects →
     IsCleanMoved (silenced_at site at branch o live loose effects)
 silenced_at_clean site at branch None live loose effects is e had = beside_clean loose (heard_of site at branch of_seat.Silent live effects) e (heard_of_clean site at branch of_seat.Silent live effects tt is had)
 silenced_at_clean site at branch (Some place) live loose effects is e had = unmoved_clean live (without_at place loose) effects is (without_at_clean place loose e) had
 
-silenced_by_clean : (site : Site) (at : ℕ) (o : Option (List ℕ)) (live : List Room) (loose : List Loose) (effects : Effects) → Each IsCleanRoom live → Each IsCleanLoose loose → IsCleanEffects effects →
+silenced_by_clean : (site : Site) (at : ℕ) (o : Option (List ℕ)) (live : List Room) (loose : List Loose) (effects : Effects) → Each IsCleanRoom live → Each (IsCleanLoose []) loose → IsCleanEffects effects →
     IsCleanMoved (silenced_by site at o live loose effects)
 silenced_by_clean site at None live loose effects is e had = unmoved_clean live loose effects is e had
 silenced_by_clean site at (Some branch) live loose effects is e had = silenced_at_clean site at branch (position (is_of branch) loose) live loose effects is e had
 
-signal_clean : (site : Site) (at : ℕ) (x : RoomSignal) (live : List Room) (loose : List Loose) (effects : Effects) → IsCleanSignal x → Each IsCleanRoom live → Each IsCleanLoose loose → IsCleanEffects effects → IsCleanMoved (taken site at x live loose effects)
+signal_clean : (site : Site) (at : ℕ) (x : RoomSignal) (live : List Room) (loose : List Loose) (effects : Effects) → IsCleanSignal x → Each IsCleanRoom live → Each (IsCleanLoose []) loose → IsCleanEffects effects → IsCleanMoved (taken site at x live loose effects)
 unfolding taken
 signal_clean site at (signal.Request room seat key request) live loose effects h is e had =
     beside_clean loose (heard_in site at room.0 seat (of_seat.Request key request) live effects) e (heard_in_clean site at room.0 seat (of_seat.Request key request) live effects h is had)
@@ -250,15 +250,15 @@ closed_clean room live is = closed_at_clean (place_of room live) live is
 
 record IsCleanTable (t : Table) : Type 0 where
   pub live_in : Each IsCleanRoom t.live
-  pub loose_in : Each IsCleanLoose t.loose
+  pub loose_in : Each (IsCleanLoose []) t.loose
 
 -- the table after it, and what went out
 record Did (site : Site) (deed : Deed) (t : Table) : Type 0 where
   pub table_in : IsCleanTable (did site deed t)
-  pub out_in : Each IsCleanEmit (effects_of site deed t).desk.out
+  pub out_in : Each (IsCleanEmit []) (effects_of site deed t).desk.out
 
 stepped_did : (t : Table) (s : Stepped) → IsCleanTable t → IsCleanStepped s → IsCleanTable (with_stepped s t)
-stepped_did t s is e = record { live_in = e.live_in; loose_in = each_append IsCleanLoose t.loose s.effects.loose is.loose_in e.effects_in.loose_in }
+stepped_did t s is e = record { live_in = e.live_in; loose_in = each_append (IsCleanLoose []) t.loose s.effects.loose is.loose_in e.effects_in.loose_in }
 
 did_clean : (site : Site) (deed : Deed) (t : Table) → IsCleanDeed deed → IsCleanTable t → Did site deed t
 did_clean site (Opens c) t e is =
@@ -274,7 +274,7 @@ did_clean site (Hears x) t e is =
     let moved : Moved = heard_by site x t in
     let one = signal_clean site x.at x.signal t.live t.loose (nothing x.tokens) e.signal is.live_in is.loose_in (nothing_clean x.tokens e.token) in
     record {
-      table_in = record { live_in = one.live_in; loose_in = each_append IsCleanLoose moved.loose moved.effects.loose one.loose_in one.effects_in.loose_in };
+      table_in = record { live_in = one.live_in; loose_in = each_append (IsCleanLoose []) moved.loose moved.effects.loose one.loose_in one.effects_in.loose_in };
       out_in = one.effects_in.desk_in.out_in;
     }
 did_clean site (Leaves room seat) t e is = record { table_in = record { live_in = left_clean room seat t.live is.live_in; loose_in = is.loose_in }; out_in = tt }
@@ -291,4 +291,4 @@ pub emits_clean : EmitsAreClean
 emits_clean site deeds deed each = (did_clean site deed (table_after site deeds) each.0 (table_clean site deeds each.1)).out_in
 
 pub emits_have_lines : EmitsHaveTheirLines
-emits_have_lines site deeds deed each = each_lines (brought_after site deeds deed).desk.out (emits_clean site deeds deed each)
+emits_have_lines site deeds deed each = each_lines [] (brought_after site deeds deed).desk.out (emits_clean site deeds deed each)

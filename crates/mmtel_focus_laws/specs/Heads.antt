@@ -1,5 +1,5 @@
 -- What is said of all that is done on a table of conference rooms: where it is given clean messages and legs, each message that goes out is clean (RFC 3261 §7, §25.1).
-use Rattle.std.specs.Prelude.{List, ◌∷◌}
+use Rattle.std.specs.Prelude.{List, [], ◌∷◌}
 use Rattle.mmtel_call_laws.specs.Heads.Clean.{IsClean}
 use Rattle.mmtel_call_laws.specs.Heads.Emits.{Each, IsCleanEmit}
 use Rattle.mmtel_call_laws.specs.Heads.Heard.{IsOfClean}
@@ -46,11 +46,11 @@ IsCleanDeed (Leaves room seat) = Unit {0}
 IsCleanDeed (Closes room) = Unit {0}
 IsCleanDeed (Drops count) = Unit {0}
 
--- ---- each message that goes out of it is clean, whatever was done before
+-- ---- each message that goes out of it is clean, whatever was done before; and of an ACK of a 2xx no lines go out, since a room passes no ACK on
 
 abbrev pub EmitsAreClean : Type 0
-EmitsAreClean = (site : Site) (deeds : List Deed) (deed : Deed) → Each IsCleanDeed (deed ∷ deeds) → Each IsCleanEmit (brought_after site deeds deed).desk.out
+EmitsAreClean = (site : Site) (deeds : List Deed) (deed : Deed) → Each IsCleanDeed (deed ∷ deeds) → Each (IsCleanEmit []) (brought_after site deeds deed).desk.out
 
 -- and its text has its own lines
 abbrev pub EmitsHaveTheirLines : Type 0
-EmitsHaveTheirLines = (site : Site) (deeds : List Deed) (deed : Deed) → Each IsCleanDeed (deed ∷ deeds) → Each SendsOwnLines (brought_after site deeds deed).desk.out
+EmitsHaveTheirLines = (site : Site) (deeds : List Deed) (deed : Deed) → Each IsCleanDeed (deed ∷ deeds) → Each (SendsOwnLines []) (brought_after site deeds deed).desk.out

@@ -1,5 +1,5 @@
 -- A server transaction that was opened by a request stays live, and of the peer who sent that, until a final is offered in it.
-use Rattle.std.proofs.Common.{◌≡◌, ◌<◌, ℕ, zero, suc, ◌+◌, ◌==◌, Bool, true, false, not, ◌&&◌, ◌||◌, List, [], ◌∷◌, ◌++◌, length, Option, Some, None, refl, sym, ap, ◌∙◌, subst, IfSome, map, cond, arith, append_assoc, length-append}
+use Rattle.std.proofs.Common.{◌≡◌, ◌<◌, ◌≤◌, le_refl, ℕ, zero, suc, ◌+◌, ◌==◌, Bool, true, false, not, ◌&&◌, ◌||◌, List, [], ◌∷◌, ◌++◌, length, Option, Some, None, refl, sym, ap, ◌∙◌, subst, IfSome, map, cond, arith, append_assoc, length-append}
 use Rattle.std.specs.Prelude.{if◌then◌else◌, nat_lt, nat_le, filter, find, is_some, option_map, slice_get}
 use Rattle.std.specs.List.{list_any}
 use Rattle.std.specs.Str.{bytes_eq}
@@ -345,13 +345,13 @@ module _ (p : Peer) (h : List Done) (x : Entry) (n : ℕ) (key : x.key ≡ n) (a
 
 -- ---- every run
 
-run-before : (c : Done) (h : List Done) → IsRun (c ∷ h) → IsRun h
-run-before (DidBegin n) h r = r
-run-before (DidHear p m now taken) h r = r.1
-run-before (DidAsk p m now) h r = r
-run-before (DidReply key m now) h r = r
-run-before (DidAck key m) h r = r
-run-before (DidFire key) h r = r.1
+pub run_before : (c : Done) (h : List Done) → IsRun (c ∷ h) → IsRun h
+run_before (DidBegin n) h r = r
+run_before (DidHear p m now taken) h r = r.1
+run_before (DidAsk p m now) h r = r
+run_before (DidReply key m now) h r = r
+run_before (DidAck key m) h r = r
+run_before (DidFire key) h r = r.1
 
 none-of : (b c : Bool) → (b || c) ≡ false → (b ≡ false) × (c ≡ false)
 none-of true c e = absurd (let f : true ≡ false = e in cc)
@@ -360,7 +360,7 @@ none-of false c e = (refl, e)
 waits : (p : Peer) (h : List Done) (n : ℕ) (e : Entry) → IsRun h → slice_get (opened h) n ≡ Some e → IsWaiting p e → list_any (is_final_in n) h ≡ false → IsWaiting p (entry_of h e)
 waits p [] n e run is w none = absurd (none-some e is)
 waits p (c ∷ h) n e run is w none =
-    go (nat_lt e.key (length (opened h))) refl (λ old. waits p h n e (run-before c h run) old w (none-of (is_final_in n c) (list_any (is_final_in n) h) none).1)
+    go (nat_lt e.key (length (opened h))) refl (λ old. waits p h n e (run_before c h run) old w (none-of (is_final_in n c) (list_any (is_final_in n) h) none).1)
   where
     key : e.key ≡ n
     key = let f : e.key ≡ 0 + n = at-key 0 n (opened (c ∷ h)) e (numbered (c ∷ h)) is in omega arith
@@ -381,3 +381,27 @@ still_awaited p h n e run is w none =
     find-at 0 n (now_all h) x (numbered-map 0 (entry_of h) (opened h) (entry-key h) (numbered h)) (get-map (entry_of h) (opened h) n e is) (ap not now.over) in
     let same : 0 + n ≡ n = omega arith in
     ap (option_map (λ (e : Entry). e.peer)) (subst (λ k. find (is_of k) (live h) ≡ Some x) same found) ∙ ap Some now.peer
+
+-- ---- as it was before
+
+pub run_of : (newer older : List Done) → IsRun (newer ++ older) → IsRun older
+run_of [] older run = run
+run_of (c ∷ newer) older run = run_of newer older (run_before c (newer ++ older) run)
+
+keys-of : (newer older : List Done) → length (opened older) ≤ length (opened (newer ++ older))
+keys-of [] older = le_refl (length (opened older))
+keys-of (c ∷ newer) older =
+    let h = newer ++ older in
+    omega (arith, keys-of newer older, length-append (opened h) (opens (step_of h) (offers h) (length (opened h)) c))
+
+opened-of : (newer older : List Done) (n : ℕ) → n < length (opened older) → slice_get (opened (newer ++ older)) n ≡ slice_get (opened older) n
+opened-of [] older n less = refl
+opened-of (c ∷ newer) older n less =
+    let h = newer ++ older in
+    let below : n < length (opened h) = omega (arith, less, keys-of newer older) in
+    get-front (opened h) (opens (step_of h) (offers h) (length (opened h)) c) n (grind (arith, nat_tests, below)) ∙ opened-of newer older n less
+
+-- where it was opened by then, and no final was offered in it
+pub awaited_before : (p : Peer) (newer older : List Done) (n : ℕ) (e : Entry) → IsRun (newer ++ older) → slice_get (opened (newer ++ older)) n ≡ Some e → IsWaiting p e →
+    n < length (opened older) → list_any (is_final_in n) older ≡ false → peer_of n (live older) ≡ Some p
+awaited_before p newer older n e run is w less none = still_awaited p older n e (run_of newer older run) (sym (opened-of newer older n less) ∙ is) w none

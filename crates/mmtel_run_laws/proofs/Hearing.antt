@@ -1,8 +1,9 @@
 -- What is done on calls and rooms in one event of a run: what calls hear they hear with the records and registrations that were in force before it, and each request with a server transaction of its own; a leg that is put back is of the side that is away; and no seat of a room is left, and no room closed, without a signal.
 -- The words of a run are walked once. A world stands so still where nothing is done on calls and rooms, and after a deed on calls, and after one on rooms.
-use Rattle.std.proofs.Common.{◌≡◌, ℕ, zero, suc, ◌+◌, List, [], ◌∷◌, ◌++◌, length, refl, sym, ap, ◌∙◌, subst, ◌≤◌, arith, le_refl, Bool, true, false, Option, Some, None, IfSome, Result, Ok, Err}
+use Rattle.std.proofs.Common.{◌≡◌, ℕ, zero, suc, ◌+◌, List, [], ◌∷◌, ◌++◌, length, refl, sym, ap, ◌∙◌, subst, ◌≤◌, arith, le_refl, ◌==◌, inl, inr, Bool, true, false, Option, Some, None, IfSome, Result, Ok, Err}
 use Rattle.std.specs.Prelude.{if◌then◌else◌, is_some, nat_le, option_map, slice_get}
 use Rattle.std.specs.List.{find}
+use Rattle.std.proofs.lemmas.Bool.{eq-eqb, eqb-true}
 use Rattle.std.proofs.lemmas.Bool.Decides.{nat_tests}
 use Rattle.std.proofs.lemmas.Option.{none-some}
 use Rattle.mmtel_answers.specs.Said.{Said}
@@ -11,6 +12,7 @@ use Rattle.mmtel_b2bua.specs.Lending.{entry_of, leg_out, takes_back}
 use Rattle.mmtel_b2bua.specs.Names.{party}
 use Rattle.mmtel_b2bua.specs.declared.signals.Signal.{Signal}
 use Rattle.mmtel_b2bua.specs.declared.signals.Signal.TheVariants as signal
+use Rattle.mmtel_b2bua_laws.specs.Deeds.{out_by}
 use Rattle.mmtel_b2bua_laws.specs.Legs.{LegsGoBack}
 use Rattle.mmtel_desk.specs.Invites.{invite_answered, invite_silent}
 use Rattle.mmtel_call_decisions.specs.Site.{Site}
@@ -24,6 +26,7 @@ use Rattle.mmtel_focus.specs.declared.faults.RoomFault.{RoomFault}
 use Rattle.mmtel_focus.specs.declared.referrals.Replaces.{Replaces}
 use Rattle.mmtel_focus.specs.declared.signals.RoomSignal.{RoomSignal}
 use Rattle.mmtel_focus.specs.declared.signals.RoomSignal.TheVariants as of_room
+use Rattle.mmtel_focus_laws.specs.Replies.{DeedIsOf, RoomsReplyInTheirOwn, SignalIsOf}
 use Rattle.mmtel_leg.specs.declared.legs.Released.{Released}
 use Rattle.mmtel_sheet_values.specs.View.{InForce}
 use Rattle.mmtel_transaction.specs.Answers.{Next, due_one, fires, is_before, is_invite_of, is_merged, key_of, next_due, part_of, says, says_due, says_opened, sooner, text_again, tkey}
@@ -54,11 +57,12 @@ use Rattle.mmtel_run.specs.Events.{Digest, Notice, message_in}
 use Rattle.mmtel_run.specs.Events as events
 use Rattle.mmtel_run.specs.Records.{in_force, until_of}
 use Rattle.mmtel_run.specs.Refusals.{Course, Refuse, Enter, EnterRoom, Open, OpenRoom, JoinRoom, Register, course}
-use Rattle.mmtel_run.specs.Rooms.{Holder, InCall, InRoom, account_of_side, is_key_of_calls, is_of_calls, is_with, replacement_in, side_replaced, status_by}
+use Rattle.mmtel_run.specs.Rooms.{Holder, InCall, InRoom, account_of_side, is_key_of_calls, is_of_calls, is_with, replacement_in, rooms_site, side_replaced, status_by}
 use Rattle.mmtel_run.specs.Run.{clock_at, due_in, fire_one, fired_if, one_more, settled}
 use Rattle.mmtel_run.specs.World.{World, acknowledging_by, adopting, adoption_of, alarmed, answering, begun, bringing, calls_in, came, cancelling, cancelling_call, comes_of, drawing, emit_one, emitted, ended_of, entering_room, finishing, fired, handing, heard_in_rooms, heard_now, hearing, holder_in, housed, joining_of, lending, lodging, met, next_tag, noticed, opening_of, registering, repeating, replaced_by, replaced_with, replacing, replying, responding_to, room_joined, room_opened, rooms_in, rung, seated, signalled, silenced, taken_out, taking, tokens_now, told}
 use Rattle.mmtel_run_laws.proofs.Awaiting.{IsWaiting}
-use Rattle.mmtel_run_laws.proofs.Keyed.{HasKey, HasNoKey, Keyed, ended_keyed, dropped_keyed, fresh_keyed, keys, keys_fresh, keys_grow, more_keyed, quiet_keyed, released_keyed, restored_keyed}
+use Rattle.mmtel_run_laws.proofs.Keyed.{HasKey, HasNoKey, Keyed, all_other, ended_keyed, dropped_keyed, fresh_keyed, keys, keys_fresh, keys_grow, more_keyed, quiet_keyed, released_keyed, restored_keyed}
+use Rattle.mmtel_run_laws.proofs.Replied.{AllAnswered, HasReply, IsAnswered, IsElsewhere, IsFrom, MayReply, RepliesSo, acts_later, key_from, no_from, replies_elsewhere, replies_more, replies_so}
 
 -- ---- a deed that was heard so, where these were done before
 
@@ -103,21 +107,28 @@ get-next (y ∷ xs) x = get-next xs x
 -- ---- the transactions of a run, and by which of them its calls were opened
 
 -- more calls were made of the transactions, and what was opened stays
-record Grows (before after : List Done) : Type 0 where
+-- where these were done on the calls, what was replied is such as may be
+record Grows (site : Site) (deeds : List Deed) (before after : List Done) : Type 0 where
   le : keys before ≤ keys after
   still : (n : ℕ) (e : Entry) → slice_get (opened before) n ≡ Some e → slice_get (opened after) n ≡ Some e
   run : IsRun before → IsRun after
+  answered : AllAnswered site deeds before → AllAnswered site deeds after
 
-grows_refl : (h : List Done) → Grows h h
-grows_refl h = record { le = le_refl (keys h); still = λ n e is. is; run = λ r. r }
+grows_refl : {site : Site} {deeds : List Deed} (h : List Done) → Grows site deeds h h
+grows_refl h = record { le = le_refl (keys h); still = λ n e is. is; run = λ r. r; answered = λ a. a }
 
 get-left : (xs ys : List Entry) (n : ℕ) (x : Entry) → slice_get xs n ≡ Some x → slice_get (xs ++ ys) n ≡ Some x
 get-left [] ys n x h = absurd (none-some x h)
 get-left (y ∷ xs) ys zero x h = h
 get-left (y ∷ xs) ys (suc n) x h = get-left xs ys n x h
 
-grows : (c : Done) (h : List Done) → (IsRun h → IsRun (c ∷ h)) → Grows h (c ∷ h)
-grows c h run = record { le = keys_grow c h; still = λ n e is. get-left (opened h) (opens (step_of h) (offers h) (length (opened h)) c) n e is; run = run }
+grows : {site : Site} {deeds : List Deed} (c : Done) (h : List Done) → (IsRun h → IsRun (c ∷ h)) → IsAnswered site (keys h) deeds c → Grows site deeds h (c ∷ h)
+grows {site} {deeds} c h run so = record {
+  le = keys_grow c h;
+  still = λ n e is. get-left (opened h) (opens (step_of h) (offers h) (length (opened h)) c) n e is;
+  run = run;
+  answered = λ a. (so, a);
+}
 
 -- an INVITE that opens a call opened this transaction, which waits for its final
 abbrev pub OpensAt : List Done → ℕ → Peer → Type 0
@@ -140,7 +151,7 @@ IsAskedIn h (Restores number away) = Unit {0}
 IsAskedIn h (Finishes number at tokens) = Unit {0}
 IsAskedIn h (Drops count) = Unit {0}
 
-opened-later : (g h : List Done) (s : Signal) → Grows g h → IsOpenedBy g s → IsOpenedBy h s
+opened-later : {site : Site} {deeds : List Deed} (g h : List Done) (s : Signal) → Grows site deeds g h → IsOpenedBy g s → IsOpenedBy h s
 opened-later g h (signal.Arrived key invite served registration identities) more (e, is, waits) = (e, more.still key.0 e is, waits)
 opened-later g h (signal.Request call side key request) more o = tt
 opened-later g h (signal.Ack call side ack) more o = tt
@@ -150,14 +161,14 @@ opened-later g h (signal.Silent branch method) more o = tt
 opened-later g h (signal.Due call what) more o = tt
 opened-later g h (signal.Over key) more o = tt
 
-asked-later : (g h : List Done) (deed : Deed) → Grows g h → IsAskedIn g deed → IsAskedIn h deed
+asked-later : {site : Site} {done : List Deed} (g h : List Done) (deed : Deed) → Grows site done g h → IsAskedIn g deed → IsAskedIn h deed
 asked-later g h (Hears x) more a = opened-later g h x.signal more a
 asked-later g h (Releases number side) more a = tt
 asked-later g h (Restores number away) more a = tt
 asked-later g h (Finishes number at tokens) more a = tt
 asked-later g h (Drops count) more a = tt
 
-all-asked-later : (g h : List Done) (deeds : List Deed) → Grows g h → Each (IsAskedIn g) deeds → Each (IsAskedIn h) deeds
+all-asked-later : {site : Site} {done : List Deed} (g h : List Done) (deeds : List Deed) → Grows site done g h → Each (IsAskedIn g) deeds → Each (IsAskedIn h) deeds
 all-asked-later g h [] more a = tt
 all-asked-later g h (deed ∷ deeds) more a = (asked-later g h deed more a.0, all-asked-later g h deeds more a.1)
 
@@ -172,9 +183,11 @@ no-opening h (signal.Silent branch method) none = tt
 no-opening h (signal.Due call what) none = tt
 no-opening h (signal.Over key) none = tt
 
-pub record AreAwaited (w : World) : Type 0 where
+-- and in a transaction by which a call was opened only the calls reply
+pub record AreAwaited (d : Directory) (w : World) : Type 0 where
   pub run : IsRun w.acts
   pub asked : Each (IsAskedIn w.acts) w.deeds
+  pub answered : AllAnswered (site_of d) w.deeds w.acts
 
 -- ---- what one event adds to what was done before it
 
@@ -191,7 +204,7 @@ pub record Adds (d : Directory) (now : ℕ) (w0 : World) (away : Option ℕ) (w 
   pub keyed : IsKeyed d w
   pub whole : IsWhole (site_of d) away w.deeds
   pub rooms : Each IsOfRun w.rooms
-  pub awaited : AreAwaited w
+  pub awaited : AreAwaited d w
 
 -- and the records and registrations stand as they stood
 record Still (d : Directory) (now : ℕ) (w0 : World) (away : Option ℕ) (w : World) : Type 0 where
@@ -287,7 +300,7 @@ due-by now w = first-by now (next_due now (live w.acts)) (first_armed now w.arme
 keyed-same : (d : Directory) (w v : World) → v.deeds ≡ w.deeds → keys w.acts ≤ keys v.acts → IsKeyed d w → IsKeyed d v
 keyed-same d w v deeds le k = subst (Keyed (site_of d) (keys v.acts)) (sym deeds) (more_keyed (site_of d) (keys w.acts) (keys v.acts) w.deeds le k)
 
-module _ (d : Directory) (token : List ℕ) (back : LegsGoBack) (w0 : World) (now : ℕ) where
+module _ (d : Directory) (token : List ℕ) (back : LegsGoBack) (own_law : RoomsReplyInTheirOwn) (w0 : World) (now : ℕ) where
   abbrev StillAt : (away : Option ℕ) → World → Type 0
   StillAt away w = Still d now w0 away w
 
@@ -301,7 +314,7 @@ module _ (d : Directory) (token : List ℕ) (back : LegsGoBack) (w0 : World) (no
   -- ---- nothing is done on calls and rooms
 
   -- whatever becomes of records and registrations
-  alone : {away : Option ℕ} (w v : World) → v.deeds ≡ w.deeds → v.rooms ≡ w.rooms → Grows w.acts v.acts → Adds d now w0 away w → Adds d now w0 away v
+  alone : {away : Option ℕ} (w v : World) → v.deeds ≡ w.deeds → v.rooms ≡ w.rooms → Grows (site_of d) w.deeds w.acts v.acts → Adds d now w0 away w → Adds d now w0 away v
   alone {away} w v deeds seats more t = record {
     added = t.added;
     is = deeds ∙ t.is;
@@ -309,29 +322,69 @@ module _ (d : Directory) (token : List ℕ) (back : LegsGoBack) (w0 : World) (no
     keyed = keyed-same d w v deeds more.le t.keyed;
     whole = subst (IsWhole (site_of d) away) (sym deeds) t.whole;
     rooms = subst (Each IsOfRun) (sym seats) t.rooms;
-    awaited = record { run = more.run t.awaited.run; asked = subst (Each (IsAskedIn v.acts)) (sym deeds) (all-asked-later w.acts v.acts w.deeds more t.awaited.asked) };
+    awaited = record {
+      run = more.run t.awaited.run;
+      asked = subst (Each (IsAskedIn v.acts)) (sym deeds) (all-asked-later w.acts v.acts w.deeds more t.awaited.asked);
+      answered = subst (λ (deeds : List Deed). AllAnswered (site_of d) deeds v.acts) (sym deeds) (more.answered t.awaited.answered);
+    };
   }
 
-  quiet : {away : Option ℕ} (w v : World) → v.deeds ≡ w.deeds → v.rooms ≡ w.rooms → v.texts ≡ w.texts → v.registrations ≡ w.registrations → Grows w.acts v.acts → StillAt away w → StillAt away v
+  quiet : {away : Option ℕ} (w v : World) → v.deeds ≡ w.deeds → v.rooms ≡ w.rooms → v.texts ≡ w.texts → v.registrations ≡ w.registrations → Grows (site_of d) w.deeds w.acts v.acts → StillAt away w → StillAt away v
   quiet w v deeds seats texts registrations more t = record { adds = alone w v deeds seats more t.adds; texts = texts ∙ t.texts; registrations = registrations ∙ t.registrations }
 
-  emit_still : {away : Option ℕ} (at : ℕ) (x : Emit) (w : World) → StillAt away w → StillAt away (emit_one at x w)
-  emit_still at (emit.Ask peer message) w t = quiet w _ refl refl refl refl (grows (DidAsk peer message at) w.acts (λ r. r)) t
-  emit_still at (emit.Reply key message) w t = quiet w _ refl refl refl refl (grows (DidReply key.0 message at) w.acts (λ r. r)) t
-  emit_still at (emit.Plain peer text) w t = quiet w _ refl refl refl refl (grows_refl w.acts) t
-  emit_still at (emit.Ack key message) w t = quiet w _ refl refl refl refl (grows (DidAck key.0 message) w.acts (λ r. r)) t
-  emit_still at (emit.Arm call what when) w t = quiet w _ refl refl refl refl (grows_refl w.acts) t
-  emit_still at (emit.ArmSeat room seat what when) w t = quiet w _ refl refl refl refl (grows_refl w.acts) t
+  -- it replies as may be
+  abbrev MaySend : World → Emit → Type 0
+  MaySend w x = RepliesSo (MayReply (site_of d) (keys w.acts) w.deeds) x
 
-  emitted_still : {away : Option ℕ} (at : ℕ) (xs : List Emit) (w : World) → StillAt away w → StillAt away (emitted at xs w)
-  emitted_still at [] w t = t
-  emitted_still at (x ∷ xs) w t = emitted_still at xs (emit_one at x w) (emit_still at x w t)
+  emit_still : {away : Option ℕ} (at : ℕ) (x : Emit) (w : World) → MaySend w x → StillAt away w → StillAt away (emit_one at x w)
+  emit_still at (emit.Ask peer message) w so t = quiet w _ refl refl refl refl (grows (DidAsk peer message at) w.acts (λ r. r) tt) t
+  emit_still at (emit.Reply key message) w so t = quiet w _ refl refl refl refl (grows (DidReply key.0 message at) w.acts (λ r. r) so) t
+  emit_still at (emit.Plain peer text) w so t = quiet w _ refl refl refl refl (grows_refl w.acts) t
+  emit_still at (emit.Ack key message) w so t = quiet w _ refl refl refl refl (grows (DidAck key.0 message) w.acts (λ r. r) tt) t
+  emit_still at (emit.Arm call what when) w so t = quiet w _ refl refl refl refl (grows_refl w.acts) t
+  emit_still at (emit.ArmSeat room seat what when) w so t = quiet w _ refl refl refl refl (grows_refl w.acts) t
+
+  -- others may be sent after it
+  emit_deeds : (at : ℕ) (x : Emit) (w : World) → (emit_one at x w).deeds ≡ w.deeds
+  emit_deeds at (emit.Ask peer message) w = refl
+  emit_deeds at (emit.Reply key message) w = refl
+  emit_deeds at (emit.Plain peer text) w = refl
+  emit_deeds at (emit.Ack key message) w = refl
+  emit_deeds at (emit.Arm call what when) w = refl
+  emit_deeds at (emit.ArmSeat room seat what when) w = refl
+
+  emit_keys : (at : ℕ) (x : Emit) (w : World) → keys w.acts ≤ keys (emit_one at x w).acts
+  emit_keys at (emit.Ask peer message) w = keys_grow (DidAsk peer message at) w.acts
+  emit_keys at (emit.Reply key message) w = keys_grow (DidReply key.0 message at) w.acts
+  emit_keys at (emit.Plain peer text) w = le_refl (keys w.acts)
+  emit_keys at (emit.Ack key message) w = keys_grow (DidAck key.0 message) w.acts
+  emit_keys at (emit.Arm call what when) w = le_refl (keys w.acts)
+  emit_keys at (emit.ArmSeat room seat what when) w = le_refl (keys w.acts)
+
+  sent_later : (w v : World) (xs : List Emit) → v.deeds ≡ w.deeds → keys w.acts ≤ keys v.acts → Each (MaySend w) xs → Each (MaySend v) xs
+  sent_later w v [] deeds le so = tt
+  sent_later w v (x ∷ xs) deeds le so = (
+    subst (λ (deeds : List Deed). RepliesSo (MayReply (site_of d) (keys v.acts) deeds) x) (sym deeds) (replies_more (site_of d) (keys w.acts) (keys v.acts) w.deeds x le so.0),
+    sent_later w v xs deeds le so.1,
+  )
+
+  emitted_still : {away : Option ℕ} (at : ℕ) (xs : List Emit) (w : World) → Each (MaySend w) xs → StillAt away w → StillAt away (emitted at xs w)
+  emitted_still at [] w so t = t
+  emitted_still at (x ∷ xs) w so t =
+      emitted_still at xs (emit_one at x w) (sent_later w (emit_one at x w) xs (emit_deeds at x w) (emit_keys at x w) so.1) (emit_still at x w so.0 t)
 
   -- ---- a deed on calls
 
-  lending_still : {before after : Option ℕ} (deed : Deed) (w : World) → Sees (in_force_in w0) now deed → Keyed (site_of d) (keys w.acts) (deed ∷ w.deeds) → IsAskedIn w.acts deed → IsWhole (site_of d) after (deed ∷ w.deeds) →
-      StillAt before w → StillAt after (lending deed w)
-  lending_still deed w sees keyed asked whole t = record {
+  -- what was replied before it is such as may be after it
+  abbrev AnsweredBy : Deed → World → Type 0
+  AnsweredBy deed w = AllAnswered (site_of d) (deed ∷ w.deeds) w.acts
+
+  answered_by : {away : Option ℕ} (deed : Deed) (w : World) → IsFrom (keys w.acts) deed → StillAt away w → AnsweredBy deed w
+  answered_by deed w from t = acts_later (site_of d) (keys w.acts) deed w.deeds w.acts (le_refl (keys w.acts)) from t.adds.awaited.answered
+
+  lending_still : {before after : Option ℕ} (deed : Deed) (w : World) → Sees (in_force_in w0) now deed → Keyed (site_of d) (keys w.acts) (deed ∷ w.deeds) → IsAskedIn w.acts deed →
+      AnsweredBy deed w → IsWhole (site_of d) after (deed ∷ w.deeds) → StillAt before w → StillAt after (lending deed w)
+  lending_still deed w sees keyed asked answered whole t = record {
     adds = record {
       added = deed ∷ t.adds.added;
       is = ap (λ (deeds : List Deed). deed ∷ deeds) t.adds.is;
@@ -339,71 +392,103 @@ module _ (d : Directory) (token : List ℕ) (back : LegsGoBack) (w0 : World) (no
       keyed = keyed;
       whole = whole;
       rooms = t.adds.rooms;
-      awaited = record { run = t.adds.awaited.run; asked = (asked, t.adds.awaited.asked) };
+      awaited = record { run = t.adds.awaited.run; asked = (asked, t.adds.awaited.asked); answered = answered };
     };
     texts = t.texts;
     registrations = t.registrations;
   }
 
   bringing_still : {before : Option ℕ} (at : ℕ) (deed : Deed) (desk : Desk) (w : World) → Sees (in_force_in w0) now deed → Keyed (site_of d) (keys w.acts) (deed ∷ w.deeds) →
-      IsAskedIn w.acts deed → IsWhole (site_of d) None (deed ∷ w.deeds) → StillAt before w → StillSo (bringing at deed desk w)
-  bringing_still at deed desk w sees keyed asked whole t =
+      IsAskedIn w.acts deed → AnsweredBy deed w → IsWhole (site_of d) None (deed ∷ w.deeds) → desk.out ≡ out_by (site_of d) deed (table_after (site_of d) w.deeds) →
+      StillAt before w → StillSo (bringing at deed desk w)
+  bringing_still at deed desk w sees keyed asked answered whole out t =
       let done : World = lending (Drops (length desk.rows)) (lending deed w) in
-      let brought : StillSo (lending deed w) = lending_still deed w sees keyed asked whole t in
+      let brought : StillSo (lending deed w) = lending_still deed w sees keyed asked answered whole t in
       let still : StillSo done =
-      lending_still (Drops (length desk.rows)) (lending deed w) tt (dropped_keyed (site_of d) (keys w.acts) (length desk.rows) (deed ∷ w.deeds) keyed) tt whole brought in
-      emitted_still at desk.out (record w { deeds = Drops (length desk.rows) ∷ deed ∷ w.deeds; drawn = desk.tokens.drawn; waiting = w.waiting ++ desk.rows })
+      lending_still (Drops (length desk.rows)) (lending deed w) tt (dropped_keyed (site_of d) (keys w.acts) (length desk.rows) (deed ∷ w.deeds) keyed) tt
+      (answered_by (Drops (length desk.rows)) (lending deed w) tt brought) whole brought in
+      let own : Each (MaySend done) desk.out =
+      replies_so desk.out (MayReply (site_of d) (keys w.acts) (Drops (length desk.rows) ∷ deed ∷ w.deeds)) (λ k m has.
+      inl (record { newer = Drops (length desk.rows) ∷ []; older = deed ∷ w.deeds; all = refl; brought = inl (subst (HasReply k m) out has); below = keyed.below })) in
+      emitted_still at desk.out (record w { deeds = Drops (length desk.rows) ∷ deed ∷ w.deeds; drawn = desk.tokens.drawn; waiting = w.waiting ++ desk.rows }) own
       (quiet done _ refl refl refl refl (grows_refl w.acts) still)
 
   -- they hear what is no request
   signalled_still : (at : ℕ) (x : Signal) (w : World) → at ≤ now → HasNoKey x → StillSo w → StillSo (signalled d token at x w)
   signalled_still at x w le none t =
       bringing_still at (Hears (heard_now token at x w)) (hears_after (site_of d) w.deeds (heard_now token at x w)).desk w
-      ((λ i. in_force (t.texts i) (t.registrations i)), le) (quiet_keyed (site_of d) (keys w.acts) w.deeds (heard_now token at x w) none t.adds.keyed) (no-opening w.acts x none) t.adds.whole t
+      ((λ i. in_force (t.texts i) (t.registrations i)), le) (quiet_keyed (site_of d) (keys w.acts) w.deeds (heard_now token at x w) none t.adds.keyed) (no-opening w.acts x none)
+      (answered_by (Hears (heard_now token at x w)) w (no_from (keys w.acts) x none) t) t.adds.whole refl t
 
   -- the leg of a call is away, and it ends
   finishing_still : (at : ℕ) (call : CallNo) (w : World) → StillAt (Some call.0) w → StillSo (finishing d token at call w)
   finishing_still at call w t =
       bringing_still at (Finishes call.0 at (tokens_now token w)) (finished_by (site_of d) call.0 at (tokens_now token w) (calls_in d w)).desk w tt
-      (ended_keyed (site_of d) (keys w.acts) call.0 at (tokens_now token w) w.deeds t.adds.keyed) tt t.adds.whole t
+      (ended_keyed (site_of d) (keys w.acts) call.0 at (tokens_now token w) w.deeds t.adds.keyed) tt (answered_by (Finishes call.0 at (tokens_now token w)) w tt t) t.adds.whole refl t
 
   releasing_still : (number : ℕ) (side : Side) (leg : Released) (w : World) → leg_out number side (calls_in d w).entries ≡ Some leg → StillSo w → StillAt (Some number) (lending (Releases number side) w)
   releasing_still number side leg w is t =
-      lending_still (Releases number side) w tt (released_keyed (site_of d) (keys w.acts) number side w.deeds t.adds.keyed) tt (refl, (leg, is), t.adds.whole) t
+      lending_still (Releases number side) w tt (released_keyed (site_of d) (keys w.acts) number side w.deeds t.adds.keyed) tt (answered_by (Releases number side) w tt t)
+      (refl, (leg, is), t.adds.whole) t
 
   restoring_still : (number : ℕ) (leg : Released) (w : World) → takes_back leg (entry_of number (calls_in d w).entries) ≡ true → StillAt (Some number) w → StillSo (lending (Restores number leg) w)
-  restoring_still number leg w fits t = lending_still (Restores number leg) w tt (restored_keyed (site_of d) (keys w.acts) number leg w.deeds t.adds.keyed) tt (fits, t.adds.whole) t
+  restoring_still number leg w fits t =
+      lending_still (Restores number leg) w tt (restored_keyed (site_of d) (keys w.acts) number leg w.deeds t.adds.keyed) tt (answered_by (Restores number leg) w tt t) (fits, t.adds.whole) t
 
   -- ---- a deed on rooms
 
-  lodging_still : {away : Option ℕ} (at : ℕ) (deed : rooms.Deed) (desk : Desk) (w : World) → IsOfRun deed → StillAt away w → StillAt away (lodging at deed desk w)
-  lodging_still at deed desk w of_run t =
-      emitted_still at desk.out (record w { rooms = rooms.Drops (length desk.rows) ∷ deed ∷ w.rooms; waiting = w.waiting ++ desk.rows }) (record {
-        adds = record { added = t.adds.added; is = t.adds.is; sees = t.adds.sees; keyed = t.adds.keyed; whole = t.adds.whole; rooms = (tt, (of_run, t.adds.rooms)); awaited = record { run = t.adds.awaited.run; asked = t.adds.awaited.asked } };
+  lodging_still : {away : Option ℕ} (at : ℕ) (deed : rooms.Deed) (desk : Desk) (w : World) → IsOfRun deed → Each (MaySend w) desk.out → StillAt away w → StillAt away (lodging at deed desk w)
+  lodging_still at deed desk w of_run own t =
+      emitted_still at desk.out (record w { rooms = rooms.Drops (length desk.rows) ∷ deed ∷ w.rooms; waiting = w.waiting ++ desk.rows }) own (record {
+        adds = record {
+          added = t.adds.added;
+          is = t.adds.is;
+          sees = t.adds.sees;
+          keyed = t.adds.keyed;
+          whole = t.adds.whole;
+          rooms = (tt, (of_run, t.adds.rooms));
+          awaited = record { run = t.adds.awaited.run; asked = t.adds.awaited.asked; answered = t.adds.awaited.answered };
+        };
         texts = t.texts;
         registrations = t.registrations;
       })
 
-  housed_still : {away : Option ℕ} (at : ℕ) (deed : rooms.Deed) (w : World) → IsOfRun deed → StillAt away w → StillAt away (housed d at deed w)
-  housed_still at deed w of_run t =
-      let v : World = record w { drawn = (comes_of d deed w).tokens.drawn } in
-      lodging_still at deed (comes_of d deed w) v of_run (quiet w v refl refl refl refl (grows_refl w.acts) t)
+  -- rooms reply in the transaction of the request that is heard in the deed
+  abbrev IsAway : World → ℕ → Type 0
+  IsAway w k = IsElsewhere (keys w.acts) k w.deeds
 
-  seated_still : (at : ℕ) (x : RoomSignal) (w : World) → StillSo w → StillSo (seated d token at x w)
-  seated_still at x w t = housed_still at (heard_in_rooms token at x w) w tt t
+  away_own : (key : TKey) (w : World) → IsAway w key.0 → (k : ℕ) → (k == key.0) ≡ true → IsAway w k
+  away_own key w away k is = subst (IsAway w) (sym (eqb-true k key.0 is)) away
+
+  none_own : (w : World) (k : ℕ) → false ≡ true → IsAway w k
+  none_own w k is = absurd (let f : false ≡ true = is in cc)
+
+  comes_own : (own : ℕ → Bool) (deed : rooms.Deed) (w : World) → DeedIsOf own deed → ((k : ℕ) → own k ≡ true → IsAway w k) → Each (MaySend w) (comes_of d deed w).out
+  comes_own own deed w is away =
+      replies_elsewhere own (site_of d) (keys w.acts) w.deeds (comes_of d deed w).out away (own_law own (rooms_site d) deed (rooms_in d w) is)
+
+  housed_still : {away : Option ℕ} (at : ℕ) (deed : rooms.Deed) (w : World) → IsOfRun deed → Each (MaySend w) (comes_of d deed w).out → StillAt away w → StillAt away (housed d at deed w)
+  housed_still at deed w of_run own t =
+      let v : World = record w { drawn = (comes_of d deed w).tokens.drawn } in
+      lodging_still at deed (comes_of d deed w) v of_run own (quiet w v refl refl refl refl (grows_refl w.acts) t)
+
+  -- they hear what is no request
+  seated_still : (at : ℕ) (x : RoomSignal) (w : World) → SignalIsOf (λ k. false) x → StillSo w → StillSo (seated d token at x w)
+  seated_still at x w none t = housed_still at (heard_in_rooms token at x w) w tt (comes_own (λ k. false) (heard_in_rooms token at x w) w none (none_own w)) t
 
   noticed_still : (at : ℕ) (room : RoomNo) (seat code : ℕ) (w : World) → StillSo w → StillSo (noticed d token at room seat code w)
-  noticed_still at room seat code w t = housed_still at (rooms.Notifies room.0 seat code (tokens_now token w)) w tt t
+  noticed_still at room seat code w t =
+      let deed : rooms.Deed = rooms.Notifies room.0 seat code (tokens_now token w) in housed_still at deed w tt (comes_own (λ k. false) deed w tt (none_own w)) t
 
   -- ---- deadlines
 
   silenced_still : (at : ℕ) (branch method : List ℕ) (b : Bool) (w : World) → at ≤ now → StillSo w → StillSo (silenced d token at branch method b w)
   silenced_still at branch method true w le t = signalled_still at (signal.Silent branch method) w le tt t
-  silenced_still at branch method false w le t = seated_still at (of_room.Silent branch method) w t
+  silenced_still at branch method false w le t = seated_still at (of_room.Silent branch method) w tt t
 
   over_still : (at : ℕ) (key : TKey) (b : Bool) (w : World) → at ≤ now → StillSo w → StillSo (ended_of d token at key b w)
   over_still at key true w le t = signalled_still at (signal.Over key) w le tt t
-  over_still at key false w le t = seated_still at (of_room.Over key) w t
+  over_still at key false w le t = seated_still at (of_room.Over key) w tt t
 
   rung_still : (x : Due) (w : World) → DueBy now x → StillSo w → StillSo (rung d token x w)
   rung_still (due.Again peer at text) w le t = quiet w _ refl refl refl refl (grows_refl w.acts) t
@@ -412,16 +497,16 @@ module _ (d : Directory) (token : List ℕ) (back : LegsGoBack) (w0 : World) (no
   rung_still due.Nothing w le t = t
 
   begun_still : (w : World) → StillSo w → StillSo (begun w)
-  begun_still w t = quiet w (begun w) refl refl refl refl (grows (DidBegin w.steps) w.acts (λ r. r)) t
+  begun_still w t = quiet w (begun w) refl refl refl refl (grows (DidBegin w.steps) w.acts (λ r. r) tt) t
 
   fires_still : (o : Option Next) (w : World) → next_due now (live w.acts) ≡ o → StillSo w → StillSo (record w { acts = fires w.acts o })
   fires_still None w first t = quiet w _ refl refl refl refl (grows_refl w.acts) t
   fires_still (Some next) w first t =
-      quiet w _ refl refl refl refl (grows (DidFire next.entry.key) w.acts (λ r. (record { now = now; next = next; first = first; same = refl }, r))) t
+      quiet w _ refl refl refl refl (grows (DidFire next.entry.key) w.acts (λ r. (record { now = now; next = next; first = first; same = refl }, r)) tt) t
 
   alarmed_still : (at : ℕ) (x : Alarm) (w : World) → at ≤ now → StillSo w → StillSo (alarmed d token at x w)
   alarmed_still at (OfCall call what) w le t = signalled_still at (signal.Due call what) w le tt t
-  alarmed_still at (OfSeat room seat what) w le t = seated_still at (of_room.Due room seat what) w t
+  alarmed_still at (OfSeat room seat what) w le t = seated_still at (of_room.Due room seat what) w tt t
 
   fired_still : (x : Deadline) (w : World) → DeadlineBy now x → StillSo w → StillSo (fired d token now x w)
   fired_still OfMessage w le t =
@@ -442,23 +527,28 @@ module _ (d : Directory) (token : List ℕ) (back : LegsGoBack) (w0 : World) (no
 
   module _ (s : Said) where
     -- the server's own answer
-    replying_adds : (key : TKey) (answer : Answer) (w : World) → AddsSo w → AddsSo (replying d token now key s answer w)
-    replying_adds key answer w t = alone w _ refl refl (grows (DidReply key.0 (response_to d.sip (tag_for token w.drawn s.heard.to_tag) s answer) now) w.acts (λ r. r)) t
+    replying_adds : (key : TKey) (answer : Answer) (w : World) → IsAway w key.0 → AddsSo w → AddsSo (replying d token now key s answer w)
+    replying_adds key answer w away t =
+        alone w _ refl refl (grows (DidReply key.0 (response_to d.sip (tag_for token w.drawn s.heard.to_tag) s answer) now) w.acts (λ r. r) (inr away)) t
 
-    opened_still : (key : TKey) (tag : List ℕ) (b : Bool) (w : World) → StillSo w → StillSo (room_opened d now key s tag b w)
-    opened_still key tag true w t = emit_still now (emit.Reply key (response_to d.sip tag s (plainly 503))) w t
-    opened_still key tag false w t = lodging_still now (opening_of d now key s tag) (comes_of d (opening_of d now key s tag) w) w tt t
+    opened_still : (key : TKey) (tag : List ℕ) (b : Bool) (w : World) → IsAway w key.0 → StillSo w → StillSo (room_opened d now key s tag b w)
+    opened_still key tag true w away t = emit_still now (emit.Reply key (response_to d.sip tag s (plainly 503))) w (inr away) t
+    opened_still key tag false w away t =
+        let deed : rooms.Deed = opening_of d now key s tag in
+        lodging_still now deed (comes_of d deed w) w tt (comes_own (λ k. k == key.0) deed w (eq-eqb key.0 key.0 refl) (away_own key w away)) t
 
-    joined_still : (key : TKey) (room : RoomNo) (tag : List ℕ) (r : Result ℕ RoomFault) (w : World) → StillSo w → StillSo (room_joined d token now key s room tag r w)
-    joined_still key room tag (Err fault) w t = emit_still now (emit.Reply key (response_to d.sip tag s (plainly (status_by fault)))) w t
-    joined_still key room tag (Ok place) w t = housed_still now (joining_of d now key s room tag (tokens_now token w)) w tt t
+    joined_still : (key : TKey) (room : RoomNo) (tag : List ℕ) (r : Result ℕ RoomFault) (w : World) → IsAway w key.0 → StillSo w → StillSo (room_joined d token now key s room tag r w)
+    joined_still key room tag (Err fault) w away t = emit_still now (emit.Reply key (response_to d.sip tag s (plainly (status_by fault)))) w (inr away) t
+    joined_still key room tag (Ok place) w away t =
+        let deed : rooms.Deed = joining_of d now key s room tag (tokens_now token w) in
+        housed_still now deed w tt (comes_own (λ k. k == key.0) deed w (eq-eqb key.0 key.0 refl) (away_own key w away)) t
 
     -- the leg is one that fits where it is put back
     adopting_still : (room : RoomNo) (seat : ℕ) (call : CallNo) (leg : Released) (account : Option Account) (r : Result ℕ RoomFault) (w : World) →
         takes_back leg (entry_of call.0 (calls_in d w).entries) ≡ true → StillAt (Some call.0) w → StillSo (adopting d token now room seat call leg account r w)
     adopting_still room seat call leg account (Ok place) w fits t =
-        let adopted : World = housed d now (adoption_of token now room seat leg account w) w in
-        finishing_still now call adopted (housed_still now (adoption_of token now room seat leg account w) w tt t)
+        let deed : rooms.Deed = adoption_of token now room seat leg account w in
+        finishing_still now call (housed d now deed w) (housed_still now deed w tt (comes_own (λ k. false) deed w tt (none_own w)) t)
     adopting_still room seat call leg account (Err fault) w fits t = noticed_still now room seat 503 (lending (Restores call.0 leg) w) (restoring_still call.0 leg w fits t)
 
     taken_still : (room : RoomNo) (seat : ℕ) (call : CallNo) (side : Side) (account : Option Account) (o : Option Released) (w : World) →
@@ -483,38 +573,45 @@ module _ (d : Directory) (token : List ℕ) (back : LegsGoBack) (w0 : World) (no
         let v : World = noticed d token now room seat 100 w in
         by_still peer room seat (side_replaced r (calls_in d v).entries) v (noticed_still now room seat 100 w t)
 
-    entering_still : (key : TKey) (room : RoomNo) (seat : ℕ) (w : World) → StillSo w → StillSo (entering_room d token now key s room seat w)
-    entering_still key room seat w t =
-        replacing_still s.peer room seat (replacement_in s.heard (comes_of d (heard_in_rooms token now (of_room.Request room seat key s) w) w).out)
-        (seated d token now (of_room.Request room seat key s) w) (seated_still now (of_room.Request room seat key s) w t)
+    entering_still : (key : TKey) (room : RoomNo) (seat : ℕ) (w : World) → IsAway w key.0 → StillSo w → StillSo (entering_room d token now key s room seat w)
+    entering_still key room seat w away t =
+        let deed : rooms.Deed = heard_in_rooms token now (of_room.Request room seat key s) w in
+        replacing_still s.peer room seat (replacement_in s.heard (comes_of d deed w).out) (seated d token now (of_room.Request room seat key s) w)
+        (housed_still now deed w tt (comes_own (λ k. k == key.0) deed w (eq-eqb key.0 key.0 refl) (away_own key w away)) t)
 
     -- a request of a fresh transaction, which is the one after so many
-    module _ (n : ℕ) (w : World) (le : n + 1 ≤ keys w.acts) (k : Keyed (site_of d) n w.deeds) (first : OpensAt w.acts n s.peer) (t : StillSo w) where
+    module _ (n : ℕ) (w : World) (le : n + 1 ≤ keys w.acts) (k : Keyed (site_of d) n w.deeds) (first : OpensAt w.acts n s.peer)
+        (answered : (deed : Deed) → IsFrom n deed → AllAnswered (site_of d) (deed ∷ w.deeds) w.acts) (t : StillSo w) where
+      -- no call was opened by it
+      its_own : IsAway w n
+      its_own = record { below = omega (arith, le); other = all_other n (tkey n) w.deeds refl k.below }
+
       asked_still : (x : Signal) → HasKey n x → IsOpenedBy w.acts x → StillSo (signalled d token now x w)
       asked_still x key opens =
           bringing_still now (Hears (heard_now token now x w)) (hears_after (site_of d) w.deeds (heard_now token now x w)).desk w
           ((λ i. in_force (t.texts i) (t.registrations i)), le_refl now)
-          (more_keyed (site_of d) (n + 1) (keys w.acts) (Hears (heard_now token now x w) ∷ w.deeds) le (fresh_keyed (site_of d) n w.deeds (heard_now token now x w) key k)) opens t.adds.whole t
+          (more_keyed (site_of d) (n + 1) (keys w.acts) (Hears (heard_now token now x w) ∷ w.deeds) le (fresh_keyed (site_of d) n w.deeds (heard_now token now x w) key k)) opens
+          (answered (Hears (heard_now token now x w)) (key_from n x key)) t.adds.whole refl t
 
       drawn_still : StillSo (drawing 1 w)
       drawn_still = quiet w (drawing 1 w) refl refl refl refl (grows_refl w.acts) t
 
       taking_adds : (c : Course) → AddsSo (taking d token now (tkey n) s c w)
-      taking_adds (Refuse answer) = replying_adds (tkey n) answer w t.adds
+      taking_adds (Refuse answer) = replying_adds (tkey n) answer w its_own t.adds
       taking_adds (Enter call side) = (asked_still (signal.Request call side (tkey n) s) refl tt).adds
-      taking_adds (EnterRoom room seat) = (entering_still (tkey n) room seat w t).adds
+      taking_adds (EnterRoom room seat) = (entering_still (tkey n) room seat w its_own t).adds
       taking_adds Open = (asked_still (arrived d.names.accounts (tkey n) s) refl first).adds
-      taking_adds OpenRoom = (opened_still (tkey n) (next_tag token w) (has_no_room (rooms_in d w).live) (drawing 1 w) drawn_still).adds
-      taking_adds (JoinRoom room) = (joined_still (tkey n) room (next_tag token w) (access room.0 (rooms_in d w).live) (drawing 1 w) drawn_still).adds
+      taking_adds OpenRoom = (opened_still (tkey n) (next_tag token w) (has_no_room (rooms_in d w).live) (drawing 1 w) its_own drawn_still).adds
+      taking_adds (JoinRoom room) = (joined_still (tkey n) room (next_tag token w) (access room.0 (rooms_in d w).live) (drawing 1 w) its_own drawn_still).adds
       taking_adds (Register account seconds) =
-          replying_adds (tkey n) (plainly 200) (registering account (until_of now seconds) w) (alone w (registering account (until_of now seconds) w) refl refl (grows_refl w.acts) t.adds)
+          replying_adds (tkey n) (plainly 200) (registering account (until_of now seconds) w) its_own (alone w (registering account (until_of now seconds) w) refl refl (grows_refl w.acts) t.adds)
 
       cancelling_call_adds : (invite : TKey) (o : Option (CallNo × Side)) → AddsSo (cancelling_call d token now (tkey n) s invite o w)
-      cancelling_call_adds invite None = replying_adds (tkey n) (plainly 200) w t.adds
+      cancelling_call_adds invite None = replying_adds (tkey n) (plainly 200) w its_own t.adds
       cancelling_call_adds invite (Some asked) = (asked_still (signal.Cancel asked.0 (tkey n) s invite) refl tt).adds
 
       cancelling_adds : (invite : Option TKey) → AddsSo (cancelling d token now (tkey n) s invite w)
-      cancelling_adds None = replying_adds (tkey n) (plainly 481) w t.adds
+      cancelling_adds None = replying_adds (tkey n) (plainly 481) w its_own t.adds
       cancelling_adds (Some invite) = cancelling_call_adds invite (asked_by invite (calls_in d w).entries)
 
       requested_adds : (is_cancel : Bool) (invited : Option TKey) → AddsSo (answering d token now s (Some (says_opened is_cancel n invited (message_in s.heard))) w)
@@ -528,11 +625,11 @@ module _ (d : Directory) (token : List ℕ) (back : LegsGoBack) (w0 : World) (no
     acknowledging_still : (o : Option Holder) (w : World) → StillSo w → StillSo (acknowledging_by d token now s o w)
     acknowledging_still None w t = t
     acknowledging_still (Some (InCall call side)) w t = signalled_still now (signal.Ack call side s) w (le_refl now) tt t
-    acknowledging_still (Some (InRoom room seat)) w t = seated_still now (of_room.Ack room seat s) w t
+    acknowledging_still (Some (InRoom room seat)) w t = seated_still now (of_room.Ack room seat s) w tt t
 
     responding_still : (key : TKey) (b : Bool) (w : World) → StillSo w → StillSo (responding_to d token now key s b w)
     responding_still key true w t = signalled_still now (signal.Answer key s) w (le_refl now) tt t
-    responding_still key false w t = seated_still now (of_room.Answer key s) w t
+    responding_still key false w t = seated_still now (of_room.Answer key s) w tt t
 
     -- the message was taken for this
     abbrev heard_as : Part → World → World
@@ -546,11 +643,12 @@ module _ (d : Directory) (token : List ℕ) (back : LegsGoBack) (w0 : World) (no
     said_of p w = says (keys w.acts) (live w.acts) s.peer (message_in s.heard) p
 
     heard_still : (p : Part) (w : World) → p ≡ part_of (head_of (message_in s.heard)) (live w.acts) → StillSo w → StillSo (heard_as p w)
-    heard_still p w taken t = quiet w (heard_as p w) refl refl refl refl (grows (DidHear s.peer (message_in s.heard) now p) w.acts (λ r. (taken, r))) t
+    heard_still p w taken t = quiet w (heard_as p w) refl refl refl refl (grows (DidHear s.peer (message_in s.heard) now p) w.acts (λ r. (taken, r)) tt) t
 
     said_adds : (p : Part) (w : World) → p ≡ part_of (head_of (message_in s.heard)) (live w.acts) → StillSo w → AddsSo (answering d token now s (said_of p w) (hearing_as p (said_of p w) w))
     said_adds part.Fresh w taken t =
-        requested_adds (keys w.acts) (heard_as part.Fresh w) (omega (arith, keys_fresh s.peer (message_in s.heard) now w.acts)) t.adds.keyed (_, get-next (opened w.acts) _, record { server = refl; peer = refl; plan = refl; done = refl; refused = refl; over = refl }) (heard_still part.Fresh w taken t)
+        requested_adds (keys w.acts) (heard_as part.Fresh w) (omega (arith, keys_fresh s.peer (message_in s.heard) now w.acts)) t.adds.keyed (_, get-next (opened w.acts) _, record { server = refl; peer = refl; plan = refl; done = refl; refused = refl; over = refl }) (λ deed from. (tt, acts_later (site_of d) (keys w.acts) deed w.deeds w.acts (le_refl (keys w.acts)) from t.adds.awaited.answered))
+        (heard_still part.Fresh w taken t)
         (is_cancel (head_of (message_in s.heard))) (option_map key_of (find (is_invite_of (head_of (message_in s.heard))) (live w.acts)))
     said_adds part.Full w taken t = alone w _ refl refl (grows_refl w.acts) t.adds
     said_adds (part.Repeat key) w taken t = (repeating_still _ (heard_as (part.Repeat key) w) (heard_still (part.Repeat key) w taken t)).adds
@@ -591,9 +689,10 @@ module _ (d : Directory) (token : List ℕ) (back : LegsGoBack) (w0 : World) (no
       handing_adds took left.waiting left (met_adds x begins (quiet (begun w) begins refl refl refl refl (grows_refl (begun w).acts) (begun_still w t)))
 
 -- one event, with the deadlines before it
-pub event_adds : (d : Directory) (token : List ℕ) → LegsGoBack → (fuel : ℕ) (x : Notice) (w : World) → IsKeyed d w → IsWhole (site_of d) None w.deeds → Each IsOfRun w.rooms → AreAwaited w →
+pub event_adds : (d : Directory) (token : List ℕ) → LegsGoBack → RoomsReplyInTheirOwn → (fuel : ℕ) (x : Notice) (w : World) → IsKeyed d w → IsWhole (site_of d) None w.deeds →
+    Each IsOfRun w.rooms → AreAwaited d w →
     Adds d (clock_at w x.at) w None (one_more d token fuel x w)
-event_adds d token back fuel x w keyed whole of_run awaited =
-    came_adds d token back w (clock_at w x.at) x.digest x.took (settled d token fuel (clock_at w x.at) w)
-    (settled_still d token back w (clock_at w x.at) fuel w
+event_adds d token back own_law fuel x w keyed whole of_run awaited =
+    came_adds d token back own_law w (clock_at w x.at) x.digest x.took (settled d token fuel (clock_at w x.at) w)
+    (settled_still d token back own_law w (clock_at w x.at) fuel w
     (record { adds = record { added = []; is = refl; sees = tt; keyed = keyed; whole = whole; rooms = of_run; awaited = awaited }; texts = refl; registrations = refl }))

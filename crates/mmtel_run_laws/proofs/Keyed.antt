@@ -1,5 +1,5 @@
--- Calls are opened and asked by requests that each have a server transaction of their own, so fewer are opened than there are transactions.
-use Rattle.std.proofs.Common.{◌≡◌, ℕ, ◌+◌, ◌≤◌, ◌<◌, List, [], ◌∷◌, length, refl, arith, length-append, le_trans}
+-- Calls are opened and asked by requests that each have a server transaction of their own, of a greater number than those before, so fewer are opened than there are transactions.
+use Rattle.std.proofs.Common.{◌≡◌, ℕ, ◌+◌, ◌≤◌, ◌<◌, List, [], ◌∷◌, length, refl, sym, subst, arith, length-append, le_trans}
 use Rattle.std.proofs.lemmas.Bool.{ne_eqb}
 use Rattle.mmtel_b2bua.specs.Histories.{Deed, Drops, Finishes, Heard, Hears, Releases, Restores, table_after}
 use Rattle.mmtel_b2bua.specs.Tables.{opened_after}
@@ -59,9 +59,9 @@ keys_fresh p m now h = length-append (opened h) (opens (step_of h) (offers h) (l
 
 abbrev pub OpensBelow : ℕ → Signal → Type 0
 OpensBelow n (signal.Arrived key invite served registration identities) = key.0 < n
-OpensBelow n (signal.Request call side key request) = Unit {0}
+OpensBelow n (signal.Request call side key request) = key.0 < n
 OpensBelow n (signal.Ack call side ack) = Unit {0}
-OpensBelow n (signal.Cancel call key cancel invite) = Unit {0}
+OpensBelow n (signal.Cancel call key cancel invite) = key.0 < n
 OpensBelow n (signal.Answer key response) = Unit {0}
 OpensBelow n (signal.Silent branch method) = Unit {0}
 OpensBelow n (signal.Due call what) = Unit {0}
@@ -74,18 +74,41 @@ IsBelow n (Restores number away) = Unit {0}
 IsBelow n (Finishes number at tokens) = Unit {0}
 IsBelow n (Drops count) = Unit {0}
 
+-- and its number is greater than those before
+abbrev pub IsAbove : Signal → List Deed → Type 0
+IsAbove (signal.Arrived key invite served registration identities) older = Each (IsBelow key.0) older
+IsAbove (signal.Request call side key request) older = Each (IsBelow key.0) older
+IsAbove (signal.Ack call side ack) older = Unit {0}
+IsAbove (signal.Cancel call key cancel invite) older = Each (IsBelow key.0) older
+IsAbove (signal.Answer key response) older = Unit {0}
+IsAbove (signal.Silent branch method) older = Unit {0}
+IsAbove (signal.Due call what) older = Unit {0}
+IsAbove (signal.Over key) older = Unit {0}
+
+abbrev pub IsAboveOlder : Deed → List Deed → Type 0
+IsAboveOlder (Hears x) older = IsAbove x.signal older
+IsAboveOlder (Releases number side) older = Unit {0}
+IsAboveOlder (Restores number away) older = Unit {0}
+IsAboveOlder (Finishes number at tokens) older = Unit {0}
+IsAboveOlder (Drops count) older = Unit {0}
+
+abbrev pub Rises : List Deed → Type 0
+Rises [] = Unit {0}
+Rises (deed ∷ older) = IsAboveOlder deed older × Rises older
+
 pub record Keyed (site : Site) (n : ℕ) (deeds : List Deed) : Type 0 where
   pub opened : (table_after site deeds).opened ≤ n
   pub below : Each (IsBelow n) deeds
+  pub rises : Rises deeds
   pub own : HaveOwnKeys deeds
 
 -- ---- of more transactions
 
 signal-below : (n m : ℕ) (s : Signal) → n ≤ m → OpensBelow n s → OpensBelow m s
 signal-below n m (signal.Arrived key invite served registration identities) le h = omega (arith, le, h)
-signal-below n m (signal.Request call side key request) le h = tt
+signal-below n m (signal.Request call side key request) le h = omega (arith, le, h)
 signal-below n m (signal.Ack call side ack) le h = tt
-signal-below n m (signal.Cancel call key cancel invite) le h = tt
+signal-below n m (signal.Cancel call key cancel invite) le h = omega (arith, le, h)
 signal-below n m (signal.Answer key response) le h = tt
 signal-below n m (signal.Silent branch method) le h = tt
 signal-below n m (signal.Due call what) le h = tt
@@ -98,12 +121,12 @@ deed-below n m (Restores number away) le h = tt
 deed-below n m (Finishes number at tokens) le h = tt
 deed-below n m (Drops count) le h = tt
 
-all-below : (n m : ℕ) (deeds : List Deed) → n ≤ m → Each (IsBelow n) deeds → Each (IsBelow m) deeds
-all-below n m [] le h = tt
-all-below n m (deed ∷ deeds) le h = (deed-below n m deed le h.0, all-below n m deeds le h.1)
+pub all_below : (n m : ℕ) (deeds : List Deed) → n ≤ m → Each (IsBelow n) deeds → Each (IsBelow m) deeds
+all_below n m [] le h = tt
+all_below n m (deed ∷ deeds) le h = (deed-below n m deed le h.0, all_below n m deeds le h.1)
 
 pub more_keyed : (site : Site) (n m : ℕ) (deeds : List Deed) → n ≤ m → Keyed site n deeds → Keyed site m deeds
-more_keyed site n m deeds le k = record { opened = le_trans k.opened le; below = all-below n m deeds le k.below; own = k.own }
+more_keyed site n m deeds le k = record { opened = le_trans k.opened le; below = all_below n m deeds le k.below; rises = k.rises; own = k.own }
 
 -- ---- another transaction than those
 
@@ -124,9 +147,9 @@ deed-other n key (Restores number away) is h = tt
 deed-other n key (Finishes number at tokens) is h = tt
 deed-other n key (Drops count) is h = tt
 
-all-other : (n : ℕ) (key : TKey) (deeds : List Deed) → key.0 ≡ n → Each (IsBelow n) deeds → Each (IsOtherDeed key) deeds
-all-other n key [] is h = tt
-all-other n key (deed ∷ deeds) is h = (deed-other n key deed is h.0, all-other n key deeds is h.1)
+pub all_other : (n : ℕ) (key : TKey) (deeds : List Deed) → key.0 ≡ n → Each (IsBelow n) deeds → Each (IsOtherDeed key) deeds
+all_other n key [] is h = tt
+all_other n key (deed ∷ deeds) is h = (deed-other n key deed is h.0, all_other n key deeds is h.1)
 
 -- ---- one more deed
 
@@ -175,9 +198,9 @@ same-opened (signal.Over key) n h = refl
 
 key-below : (n : ℕ) (s : Signal) → HasKey n s → OpensBelow (n + 1) s
 key-below n (signal.Arrived key invite served registration identities) h = omega (arith, h)
-key-below n (signal.Request call side key request) h = tt
+key-below n (signal.Request call side key request) h = omega (arith, h)
 key-below n (signal.Ack call side ack) h = tt
-key-below n (signal.Cancel call key cancel invite) h = tt
+key-below n (signal.Cancel call key cancel invite) h = omega (arith, h)
 key-below n (signal.Answer key response) h = tt
 key-below n (signal.Silent branch method) h = tt
 key-below n (signal.Due call what) h = tt
@@ -193,11 +216,31 @@ no-below n (signal.Silent branch method) h = tt
 no-below n (signal.Due call what) h = tt
 no-below n (signal.Over key) h = tt
 
+key-above : (n : ℕ) (s : Signal) (deeds : List Deed) → HasKey n s → Each (IsBelow n) deeds → IsAbove s deeds
+key-above n (signal.Arrived key invite served registration identities) deeds h below = subst (λ n. Each (IsBelow n) deeds) (sym h) below
+key-above n (signal.Request call side key request) deeds h below = subst (λ n. Each (IsBelow n) deeds) (sym h) below
+key-above n (signal.Ack call side ack) deeds h below = tt
+key-above n (signal.Cancel call key cancel invite) deeds h below = subst (λ n. Each (IsBelow n) deeds) (sym h) below
+key-above n (signal.Answer key response) deeds h below = tt
+key-above n (signal.Silent branch method) deeds h below = tt
+key-above n (signal.Due call what) deeds h below = tt
+key-above n (signal.Over key) deeds h below = tt
+
+no-above : (s : Signal) (deeds : List Deed) → HasNoKey s → IsAbove s deeds
+no-above (signal.Arrived key invite served registration identities) deeds h = absurd h
+no-above (signal.Request call side key request) deeds h = absurd h
+no-above (signal.Ack call side ack) deeds h = tt
+no-above (signal.Cancel call key cancel invite) deeds h = absurd h
+no-above (signal.Answer key response) deeds h = tt
+no-above (signal.Silent branch method) deeds h = tt
+no-above (signal.Due call what) deeds h = tt
+no-above (signal.Over key) deeds h = tt
+
 key-own : (n : ℕ) (s : Signal) (deeds : List Deed) → HasKey n s → Each (IsBelow n) deeds → HasOwnKey s deeds
 key-own n (signal.Arrived key invite served registration identities) deeds h below = tt
-key-own n (signal.Request call side key request) deeds h below = all-other n key deeds h below
+key-own n (signal.Request call side key request) deeds h below = all_other n key deeds h below
 key-own n (signal.Ack call side ack) deeds h below = tt
-key-own n (signal.Cancel call key cancel invite) deeds h below = all-other n key deeds h below
+key-own n (signal.Cancel call key cancel invite) deeds h below = all_other n key deeds h below
 key-own n (signal.Answer key response) deeds h below = tt
 key-own n (signal.Silent branch method) deeds h below = tt
 key-own n (signal.Due call what) deeds h below = tt
@@ -217,7 +260,8 @@ no-own (signal.Over key) deeds h = tt
 pub fresh_keyed : (site : Site) (n : ℕ) (deeds : List Deed) (x : Heard) → HasKey n x.signal → Keyed site n deeds → Keyed site (n + 1) (Hears x ∷ deeds)
 fresh_keyed site n deeds x h k = record {
   opened = omega (arith, next-opened x.signal (table_after site deeds).opened, k.opened);
-  below = (key-below n x.signal h, all-below n (n + 1) deeds (omega arith) k.below);
+  below = (key-below n x.signal h, all_below n (n + 1) deeds (omega arith) k.below);
+  rises = (key-above n x.signal deeds h k.below, k.rises);
   own = (key-own n x.signal deeds h k.below, k.own);
 }
 
@@ -226,19 +270,20 @@ pub quiet_keyed : (site : Site) (n : ℕ) (deeds : List Deed) (x : Heard) → Ha
 quiet_keyed site n deeds x h k = record {
   opened = omega (arith, same-opened x.signal (table_after site deeds).opened h, k.opened);
   below = (no-below n x.signal h, k.below);
+  rises = (no-above x.signal deeds h, k.rises);
   own = (no-own x.signal deeds h, k.own);
 }
 
 -- rows are handed over
 pub dropped_keyed : (site : Site) (n count : ℕ) (deeds : List Deed) → Keyed site n deeds → Keyed site n (Drops count ∷ deeds)
-dropped_keyed site n count deeds k = record { opened = k.opened; below = (tt, k.below); own = (tt, k.own) }
+dropped_keyed site n count deeds k = record { opened = k.opened; below = (tt, k.below); rises = (tt, k.rises); own = (tt, k.own) }
 
 -- a leg is taken out or put back, or a call ends without it
 pub released_keyed : (site : Site) (n number : ℕ) (side : Side) (deeds : List Deed) → Keyed site n deeds → Keyed site n (Releases number side ∷ deeds)
-released_keyed site n number side deeds k = record { opened = k.opened; below = (tt, k.below); own = (tt, k.own) }
+released_keyed site n number side deeds k = record { opened = k.opened; below = (tt, k.below); rises = (tt, k.rises); own = (tt, k.own) }
 
 pub restored_keyed : (site : Site) (n number : ℕ) (away : Released) (deeds : List Deed) → Keyed site n deeds → Keyed site n (Restores number away ∷ deeds)
-restored_keyed site n number away deeds k = record { opened = k.opened; below = (tt, k.below); own = (tt, k.own) }
+restored_keyed site n number away deeds k = record { opened = k.opened; below = (tt, k.below); rises = (tt, k.rises); own = (tt, k.own) }
 
 pub ended_keyed : (site : Site) (n number at : ℕ) (tokens : Drawn) (deeds : List Deed) → Keyed site n deeds → Keyed site n (Finishes number at tokens ∷ deeds)
-ended_keyed site n number at tokens deeds k = record { opened = k.opened; below = (tt, k.below); own = (tt, k.own) }
+ended_keyed site n number at tokens deeds k = record { opened = k.opened; below = (tt, k.below); rises = (tt, k.rises); own = (tt, k.own) }

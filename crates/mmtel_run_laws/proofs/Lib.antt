@@ -1,11 +1,18 @@
 -- What a run comes to:
 mod Keyed
+mod Replied
 mod Awaiting
 mod Hearing
+mod Lived
 mod Opened
+mod Unanswered
 mod Telling
 mod Lending
 mod Standing
+mod Walking
+mod Timing
+mod GoingOut
+mod Finals
 mod Stories
 mod Bounded
 mod Parting
@@ -15,6 +22,7 @@ mod Received
 mod Sheets
 mod Transacted
 mod Courses
+mod Acknowledging
 mod Sending
 mod Concluding
 mod Homes

@@ -1,26 +1,42 @@
 -- The INVITE that opened a call opened a server transaction that waits for its final.
-use Rattle.std.proofs.Common.{◌≡◌, ℕ, Bool, true, false, List, [], ◌∷◌, Option, Some, None, refl, subst, IfSome}
-use Rattle.std.specs.Prelude.{if◌then◌else◌}
+use Rattle.std.proofs.Common.{◌≡◌, ℕ, List, [], ◌∷◌, Option, Some, None, IfSome}
 use Rattle.std.specs.Option.{option_map}
-use Rattle.std.proofs.lemmas.Option.{none-some, same_Some}
 use Rattle.mmtel_b2bua.specs.Histories.{Deed, Drops, Finishes, Heard, Hears, Releases, Restores, table_after}
 use Rattle.mmtel_b2bua.specs.declared.entries.Entry.{Entry}
 use Rattle.mmtel_b2bua.specs.declared.signals.Signal.{Signal}
 use Rattle.mmtel_b2bua.specs.declared.signals.Signal.TheVariants as signal
-use Rattle.mmtel_b2bua_laws.specs.Deeds.{arrival_of, call_of, event_by, goes_on, is_number, life_of, opening_by, start_by}
+use Rattle.mmtel_b2bua_laws.specs.Deeds.{arrival_of, event_by, life_of, opening_by, start_by}
 use Rattle.mmtel_b2bua_laws.specs.Lives.{Event, Life}
 use Rattle.mmtel_call_decisions.specs.Site.{Site}
 use Rattle.mmtel_call_laws.specs.Heads.Emits.{Each}
 use Rattle.mmtel_call_laws.specs.Story.{Start}
 use Rattle.mmtel_transaction.specs.Calls.{Done}
 use Rattle.mmtel_run_laws.proofs.Hearing.{IsAskedIn, IsOpenedBy, OpensAt}
+use Rattle.mmtel_run_laws.proofs.Lived.{AllHold, life_holds}
+
+-- what holds of how each call opens holds of how this one did
+module _ (site : Site) (number : ℕ) (P : Start → Type 0) where
+  abbrev pub Starts : Start → List Event → Type 0
+  Starts s events = P s
+
+  abbrev pub AllStart : List Deed → Type 0
+  AllStart [] = Unit {0}
+  AllStart (deed ∷ older) = IfSome (opening_by site deed (table_after site older)) P × AllStart older
+
+  comes-so : (o : Option Event) → IfSome o (λ x. (s : Start) (earlier : List Event) → Starts s earlier → Starts s (x ∷ earlier))
+  comes-so None = tt
+  comes-so (Some x) = λ s earlier p. p
+
+  all-start : (deeds : List Deed) → AllStart deeds → AllHold site number Starts deeds
+  all-start [] a = tt
+  all-start (deed ∷ older) a = ((λ mine. record { opens = a.0; comes = comes-so (event_by deed number (table_after site older).entries) }), all-start older a.1)
+
+  pub life_starts : (deeds : List Deed) (life : Life) → AllStart deeds → life_of site number deeds ≡ Some life → P life.start
+  life_starts deeds life a is = life_holds site number Starts deeds life (all-start deeds a) is
 
 module _ (site : Site) (h : List Done) where
   abbrev IsStarted : Start → Type 0
   IsStarted s = OpensAt h s.arrival.key.0 s.arrival.invite.peer
-
-  abbrev Before : Option Life → Type 0
-  Before was = (earlier : Life) → was ≡ Some earlier → IsStarted earlier.start
 
   signal-starts : (x : Heard) (es : List Entry) (number : ℕ) (s : Signal) → IsOpenedBy h s → IfSome (option_map (start_by site x es) (arrival_of number s)) IsStarted
   signal-starts x es number (signal.Arrived key invite served registration identities) o = o
@@ -39,20 +55,9 @@ module _ (site : Site) (h : List Done) where
   deed-starts (Finishes number at tokens) older a = tt
   deed-starts (Drops count) older a = tt
 
-  goes : (opens : Option Start) (came : Option Event) (was : Option Life) (life : Life) → IfSome opens IsStarted → Before was → goes_on opens came was ≡ Some life → IsStarted life.start
-  goes (Some s) came was life o before is = subst (λ (life : Life). IsStarted life.start) (same_Some (record { start = s; events = [] }) life is) o
-  goes None came None life o before is = absurd (none-some life is)
-  goes None None (Some earlier) life o before is = subst (λ (life : Life). IsStarted life.start) (same_Some earlier life is) (before earlier refl)
-  goes None (Some x) (Some earlier) life o before is =
-      subst (λ (life : Life). IsStarted life.start) (same_Some (record earlier { events = x ∷ earlier.events }) life is) (before earlier refl)
+  all-started : (number : ℕ) (deeds : List Deed) → Each (IsAskedIn h) deeds → AllStart site number IsStarted deeds
+  all-started number [] a = tt
+  all-started number (deed ∷ older) a = (deed-starts deed older a.0, all-started number older a.1)
 
   pub life_opened : (number : ℕ) (deeds : List Deed) (life : Life) → Each (IsAskedIn h) deeds → life_of site number deeds ≡ Some life → IsStarted life.start
-  unfolding life_of
-  life_opened number [] life a is = absurd (none-some life is)
-  life_opened number (deed ∷ older) life a is =
-      go (is_number number (call_of site deed (table_after site older))) is (λ life. life_opened number older life a.1)
-    where
-      go : (b : Bool) → (if b then goes_on (opening_by site deed (table_after site older)) (event_by deed number (table_after site older).entries) (life_of site number older) else life_of site number older) ≡ Some life →
-          ((life : Life) → life_of site number older ≡ Some life → IsStarted life.start) → IsStarted life.start
-      go true now before = goes (opening_by site deed (table_after site older)) (event_by deed number (table_after site older).entries) (life_of site number older) life (deed-starts deed older a.0) before now
-      go false now before = before life now
+  life_opened number deeds life a is = life_starts site number IsStarted deeds life (all-started number deeds a) is

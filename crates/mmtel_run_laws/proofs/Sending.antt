@@ -1,14 +1,17 @@
 -- Each message that is built in a run is clean, and each text that is offered to a peer is that of such a message.
 use Rattle.std.proofs.Common.{◌≡◌, ℕ, zero, suc, List, [], ◌∷◌, ◌++◌, length, refl, sym, subst, Bool, true, false, Option, Some, None, ◌⊎◌, inl, inr, ◌∙◌, append_assoc, IfSome, Result, Ok, Err}
-use Rattle.std.specs.Prelude.{option_map}
+use Rattle.std.specs.Prelude.{option_map, codes}
 use Rattle.std.specs.List.{find}
 use Rattle.std.specs.Option.{option_map as map_some}
 use Rattle.mmtel_answers.specs.Said.{Said}
 use Rattle.mmtel_b2bua.specs.Histories.{Deed, Drops, Finishes, Hears, Releases, Restores, finished_by, hears_after}
-use Rattle.mmtel_b2bua.specs.Lending.{leg_out}
+use Rattle.mmtel_b2bua.specs.Lending.{entry_of, leg_out}
 use Rattle.mmtel_b2bua.specs.Names.{party}
 use Rattle.mmtel_b2bua.specs.declared.signals.Signal.{Signal}
 use Rattle.mmtel_b2bua.specs.declared.signals.Signal.TheVariants as signal
+use Rattle.mmtel_b2bua_laws.specs.Acks.{acked_after, acked_by, acked_of}
+use Rattle.mmtel_call_laws.specs.Heads.Acks.{Acked}
+use Rattle.mmtel_message.specs.Faults.{is_method}
 use Rattle.mmtel_b2bua_laws.specs.Clean.{AreCleanRecords, DeedsSendCleanMessages, IsCleanHearing, IsCleanSignal, IsGivenClean, LegsGoOutClean}
 use Rattle.mmtel_desk.specs.Invites.{invite_answered, invite_silent}
 use Rattle.mmtel_call_laws.specs.Heads.Clean.{HasOwnLines, IsClean, IsCleanMessage}
@@ -29,7 +32,6 @@ use Rattle.mmtel_focus.specs.declared.signals.RoomSignal.TheVariants as of_room
 use Rattle.mmtel_focus_laws.specs.Heads as heads
 use Rattle.mmtel_focus_laws.specs.Heads.{EmitsAreClean}
 use Rattle.mmtel_in_force.specs.Texts.{Registrations, Texts}
-use Rattle.mmtel_leg.specs.Requests.{ack_of}
 use Rattle.mmtel_leg.specs.declared.legs.Released.{Released}
 use Rattle.mmtel_leg.specs.declared.legs.Released.TheVariants as released
 use Rattle.mmtel_message.specs.Message.{Message}
@@ -75,7 +77,8 @@ use Rattle.mmtel_run.specs.Refusals.{Course, Refuse, Enter, EnterRoom, Open, Ope
 use Rattle.mmtel_run.specs.Rooms.{Holder, InCall, InRoom, account_of_side, is_key_of_calls, is_of_calls, is_with, leg_by, replacement_in, rooms_site, side_replaced, status_by}
 use Rattle.mmtel_run.specs.Run.{after, clock_at, due_in, fire_one, fired_if, one_more, settled, world_after}
 use Rattle.mmtel_run.specs.World.{World, acknowledging_by, acting, adopting, adoption_of, alarmed, answering, beginning, begun, bringing, calls_in, came, cancelling, cancelling_call, comes_of, drawing, emit_one, emitted, ended_of, entering_room, finishing, fired, handing, heard_in_rooms, heard_now, hearing, holder_in, housed, joining_of, lending, lodging, met, next_tag, noticed, offering, opening_of, registering, repeating, replaced_by, replaced_with, replacing, replying, replying_plainly, responding_to, room_joined, room_opened, rooms_in, rung, seated, signalled, silenced, taken_out, taking, to_peer, tokens_now, told}
-use Rattle.mmtel_run_laws.specs.Clean.{AllAreClean, Builds, IsOwnAck, IsOwnAct, IsOwnOffer, IsOwnReply, IsSentIn, plain_reply}
+use Rattle.mmtel_run_laws.specs.Clean.{AllAreClean, Builds, IsHeardIn, IsOwnAck, IsOwnAct, IsOwnOffer, IsOwnReply, IsSentIn, plain_reply}
+use Rattle.mmtel_run_laws.proofs.Acknowledging.{AreHeard, IsAckOfEvent, ack_still, acked_heard, emits_more, is_ack_heard, own_ack}
 use Rattle.mmtel_run_laws.proofs.Courses.{IsCleanAnswer, IsCleanCourse, IsHeardWell, answer_clean, course_clean, reply_clean, said_well, tag_clean}
 use Rattle.mmtel_run_laws.proofs.Received.{IsCleanRead, reads_clean}
 use Rattle.mmtel_run_laws.proofs.Sheets.{kept_clean}
@@ -96,128 +99,176 @@ records_clean law texts registrations number =
 module _ (d : Directory) (whole : List Happened) where
   record Good (w : World) : Type 0 where
     deeds : Each IsGivenClean w.deeds
+    acked : AreHeard d whole (acked_after (site_of d) w.deeds)
     rooms : Each heads.IsCleanDeed w.rooms
     acts : AreGoodActs w.acts
-    offers : Each (IsOwnOffer d whole w.acts) w.offers
+    offers : Each (IsOwnOffer d whole w.acts w.deeds) w.offers
 
   -- what was offered before one more call on the transactions
-  offer_still : (c : Done) (acts : List Done) (x : Offer) → IsOwnOffer d whole acts x → IsOwnOffer d whole (c ∷ acts) x
-  offer_still c acts (offer.To peer at text) (inl sent) = inl (sent_still c acts text sent)
-  offer_still c acts (offer.To peer at text) (inr plain) = inr plain
-  offer_still c acts (offer.Web at text) o = tt
+  offer_still : (c : Done) (acts : List Done) (deeds : List Deed) (x : Offer) → IsOwnOffer d whole acts deeds x → IsOwnOffer d whole (c ∷ acts) deeds x
+  offer_still c acts deeds (offer.To peer at text) (inl sent) = inl (sent_still c acts text sent)
+  offer_still c acts deeds (offer.To peer at text) (inr plain) = inr plain
+  offer_still c acts deeds (offer.Web at text) o = tt
 
-  offers_still : (c : Done) (acts : List Done) (xs : List Offer) → Each (IsOwnOffer d whole acts) xs → Each (IsOwnOffer d whole (c ∷ acts)) xs
-  offers_still c acts [] o = tt
-  offers_still c acts (x ∷ xs) o = (offer_still c acts x o.0, offers_still c acts xs o.1)
+  offers_still : (c : Done) (acts : List Done) (deeds : List Deed) (xs : List Offer) → Each (IsOwnOffer d whole acts deeds) xs → Each (IsOwnOffer d whole (c ∷ acts) deeds) xs
+  offers_still c acts deeds [] o = tt
+  offers_still c acts deeds (x ∷ xs) o = (offer_still c acts deeds x o.0, offers_still c acts deeds xs o.1)
+
+  -- and before one more deed on calls
+  offer_kept : (deed : Deed) (acts : List Done) (deeds : List Deed) (x : Offer) → IsOwnOffer d whole acts deeds x → IsOwnOffer d whole acts (deed ∷ deeds) x
+  offer_kept deed acts deeds (offer.To peer at text) (inl sent) = inl sent
+  offer_kept deed acts deeds (offer.To peer at text) (inr (inl ack)) = inr (inl (ack_still d whole deeds deed text ack))
+  offer_kept deed acts deeds (offer.To peer at text) (inr (inr reply)) = inr (inr reply)
+  offer_kept deed acts deeds (offer.Web at text) o = tt
+
+  offers_kept : (deed : Deed) (acts : List Done) (deeds : List Deed) (xs : List Offer) → Each (IsOwnOffer d whole acts deeds) xs → Each (IsOwnOffer d whole acts (deed ∷ deeds)) xs
+  offers_kept deed acts deeds [] o = tt
+  offers_kept deed acts deeds (x ∷ xs) o = (offer_kept deed acts deeds x o.0, offers_kept deed acts deeds xs o.1)
 
   -- the message that one more call builds is offered
-  acting_good : (c : Done) (w : World) (offers : List Offer) → IsGoodAct c w.acts → Each (IsOwnOffer d whole (c ∷ w.acts)) offers → Good w → Good (offering offers (acting c w))
+  acting_good : (c : Done) (w : World) (offers : List Offer) → IsGoodAct c w.acts → Each (IsOwnOffer d whole (c ∷ w.acts) w.deeds) offers → Good w → Good (offering offers (acting c w))
   acting_good c w offers good own g = record {
     deeds = g.deeds;
+    acked = g.acked;
     rooms = g.rooms;
     acts = (good, g.acts);
-    offers = each_append (IsOwnOffer d whole (c ∷ w.acts)) w.offers offers (offers_still c w.acts w.offers g.offers) own;
+    offers = each_append (IsOwnOffer d whole (c ∷ w.acts) w.deeds) w.offers offers (offers_still c w.acts w.deeds w.offers g.offers) own;
   }
 
-  -- nothing is
-  silent_good : (c : Done) (w v : World) → IsGoodAct c w.acts → v.deeds ≡ w.deeds → v.rooms ≡ w.rooms → v.acts ≡ c ∷ w.acts → v.offers ≡ w.offers → Good w → Good v
-  silent_good c w v good deeds seats acts offers g = record {
+  -- the same deeds, calls on transactions and offers
+  alike : (w v : World) → v.deeds ≡ w.deeds → v.rooms ≡ w.rooms → v.acts ≡ w.acts → v.offers ≡ w.offers → Good w → Good v
+  alike w v deeds seats acts offers g = record {
     deeds = subst (Each IsGivenClean) (sym deeds) g.deeds;
+    acked = subst (λ (h : List Deed). AreHeard d whole (acked_after (site_of d) h)) (sym deeds) g.acked;
     rooms = subst (Each heads.IsCleanDeed) (sym seats) g.rooms;
-    acts = subst AreGoodActs (sym acts) (good, g.acts);
-    offers = subst (λ (h : List Done). Each (IsOwnOffer d whole h) v.offers) (sym acts) (subst (Each (IsOwnOffer d whole (c ∷ w.acts))) (sym offers) (offers_still c w.acts w.offers g.offers));
+    acts = subst AreGoodActs (sym acts) g.acts;
+    offers =
+        subst (λ (h : List Deed). Each (IsOwnOffer d whole v.acts h) v.offers) (sym deeds)
+        (subst (λ (h : List Done). Each (IsOwnOffer d whole h w.deeds) v.offers) (sym acts) (subst (Each (IsOwnOffer d whole w.acts w.deeds)) (sym offers) g.offers));
   }
+
+  -- nothing is offered
+  silent_good : (c : Done) (w v : World) → IsGoodAct c w.acts → v.deeds ≡ w.deeds → v.rooms ≡ w.rooms → v.acts ≡ c ∷ w.acts → v.offers ≡ w.offers → Good w → Good v
+  silent_good c w v good deeds seats acts offers g =
+      alike (acting c w) v deeds seats acts offers
+      (record { deeds = g.deeds; acked = g.acked; rooms = g.rooms; acts = (good, g.acts); offers = offers_still c w.acts w.deeds w.offers g.offers })
 
   -- a text is offered to a peer by no transaction
-  abbrev IsOwnText : List Done → List ℕ → Type 0
-  IsOwnText acts text = IsSentIn acts text ⊎ (IsOwnAck text ⊎ IsOwnReply d whole text)
+  abbrev IsOwnText : List Done → List Deed → List ℕ → Type 0
+  IsOwnText acts deeds text = IsSentIn acts text ⊎ (IsOwnAck d whole deeds text ⊎ IsOwnReply d whole text)
 
-  plain_good : (at : ℕ) (peer : Peer) (text : List ℕ) (w : World) → IsOwnText w.acts text → Good w → Good (offering (offer.To peer at text ∷ []) w)
+  plain_good : (at : ℕ) (peer : Peer) (text : List ℕ) (w : World) → IsOwnText w.acts w.deeds text → Good w → Good (offering (offer.To peer at text ∷ []) w)
   plain_good at peer text w t g = record {
     deeds = g.deeds;
+    acked = g.acked;
     rooms = g.rooms;
     acts = g.acts;
-    offers = each_append (IsOwnOffer d whole w.acts) w.offers (offer.To peer at text ∷ []) g.offers (t, tt);
+    offers = each_append (IsOwnOffer d whole w.acts w.deeds) w.offers (offer.To peer at text ∷ []) g.offers (t, tt);
   }
 
 module _ (d : Directory) (whole : List Happened) (own_law : (m : Message Start) → IsCleanMessage m → HasOwnLines m) where
   -- to the peer of a transaction
-  peer_own : (c : Done) (acts : List Done) (m : Message Start) (at : ℕ) (o : Option Peer) → Builds c m → Each (IsOwnOffer d whole (c ∷ acts)) (to_peer at (message_text m) o)
-  peer_own c acts m at None b = tt
-  peer_own c acts m at (Some peer) b = (inl (record { message = m; built = inl b; is = refl }), tt)
+  peer_own : (c : Done) (acts : List Done) (deeds : List Deed) (m : Message Start) (at : ℕ) (o : Option Peer) → Builds c m →
+      Each (IsOwnOffer d whole (c ∷ acts) deeds) (to_peer at (message_text m) o)
+  peer_own c acts deeds m at None b = tt
+  peer_own c acts deeds m at (Some peer) b = (inl (record { message = m; built = inl b; is = refl }), tt)
 
-  emit_good : (at : ℕ) (x : Emit) (w : World) → IsCleanEmit x → Good d whole w → Good d whole (emit_one at x w)
+  -- what goes out is clean, and each ACK of a 2xx passes on what goes on of an ACK of these deeds
+  abbrev IsCleanAfter : List Deed → Emit → Type 0
+  IsCleanAfter deeds x = IsCleanEmit (acked_after (site_of d) deeds) x
+
+  emit_good : (at : ℕ) (x : Emit) (w : World) → IsCleanAfter w.deeds x → Good d whole w → Good d whole (emit_one at x w)
   emit_good at (emit.Ask peer message) w c g =
       acting_good d whole (DidAsk peer message at) w (offer.To peer at (message_text message) ∷ []) c (inl (record { message = message; built = inl refl; is = refl }), tt) g
   emit_good at (emit.Reply key message) w c g =
       acting_good d whole (DidReply key.0 message at) w (to_peer at (message_text message) (peer_of key.0 (live w.acts))) c
-      (peer_own (DidReply key.0 message at) w.acts message at (peer_of key.0 (live w.acts)) refl) g
-  emit_good at (emit.Plain peer text) w c g =
-      plain_good d whole at peer text w (inr (inl (record { dialogue = c.dialogue; given = c.given; lines = own_law (ack_of c.dialogue c.given) c.clean; is = c.is }))) g
+      (peer_own (DidReply key.0 message at) w.acts w.deeds message at (peer_of key.0 (live w.acts)) refl) g
+  emit_good at (emit.Plain peer text) w c g = plain_good d whole at peer text w (inr (inl (own_ack d whole own_law w.deeds text g.acked c))) g
   emit_good at (emit.Ack key message) w c g =
       acting_good d whole (DidAck key.0 message) w (to_peer at (message_text message) (peer_of key.0 (live w.acts))) c
-      (peer_own (DidAck key.0 message) w.acts message at (peer_of key.0 (live w.acts)) refl) g
-  emit_good at (emit.Arm call what when) w c g = record { deeds = g.deeds; rooms = g.rooms; acts = g.acts; offers = g.offers }
-  emit_good at (emit.ArmSeat room seat what when) w c g = record { deeds = g.deeds; rooms = g.rooms; acts = g.acts; offers = g.offers }
+      (peer_own (DidAck key.0 message) w.acts w.deeds message at (peer_of key.0 (live w.acts)) refl) g
+  emit_good at (emit.Arm call what when) w c g = record { deeds = g.deeds; acked = g.acked; rooms = g.rooms; acts = g.acts; offers = g.offers }
+  emit_good at (emit.ArmSeat room seat what when) w c g = record { deeds = g.deeds; acked = g.acked; rooms = g.rooms; acts = g.acts; offers = g.offers }
 
-  emitted_good : (at : ℕ) (xs : List Emit) (w : World) → Each IsCleanEmit xs → Good d whole w → Good d whole (emitted at xs w)
+  same_deeds : (at : ℕ) (x : Emit) (w : World) → (emit_one at x w).deeds ≡ w.deeds
+  same_deeds at (emit.Ask peer message) w = refl
+  same_deeds at (emit.Reply key message) w = refl
+  same_deeds at (emit.Plain peer text) w = refl
+  same_deeds at (emit.Ack key message) w = refl
+  same_deeds at (emit.Arm call what when) w = refl
+  same_deeds at (emit.ArmSeat room seat what when) w = refl
+
+  emitted_good : (at : ℕ) (xs : List Emit) (w : World) → Each (IsCleanAfter w.deeds) xs → Good d whole w → Good d whole (emitted at xs w)
   emitted_good at [] w c g = g
-  emitted_good at (x ∷ xs) w c g = emitted_good at xs (emit_one at x w) c.1 (emit_good at x w c.0 g)
-
-  -- the same deeds, calls on transactions and offers
-  alike : (w v : World) → v.deeds ≡ w.deeds → v.rooms ≡ w.rooms → v.acts ≡ w.acts → v.offers ≡ w.offers → Good d whole w → Good d whole v
-  alike w v deeds seats acts offers g = record {
-    deeds = subst (Each IsGivenClean) (sym deeds) g.deeds;
-    rooms = subst (Each heads.IsCleanDeed) (sym seats) g.rooms;
-    acts = subst AreGoodActs (sym acts) g.acts;
-    offers = subst (λ (h : List Done). Each (IsOwnOffer d whole h) v.offers) (sym acts) (subst (Each (IsOwnOffer d whole w.acts)) (sym offers) g.offers);
-  }
+  emitted_good at (x ∷ xs) w c g =
+      emitted_good at xs (emit_one at x w) (subst (λ (deeds : List Deed). Each (IsCleanAfter deeds) xs) (sym (same_deeds at x w)) c.1) (emit_good at x w c.0 g)
 
   module _ (sends : DeedsSendCleanMessages) (legs : LegsGoOutClean) (seats_send : EmitsAreClean) (views : CallsAreToldWhatIsInForce) (read : IsReadClean)
       (token : List ℕ) (home : IsClean d.home) (clean_token : IsClean token) where
     -- this was read of an event of the run: whatever is answered to it by no transaction, where it is clean, is the answer to this event
     record IsMet (x : Digest) : Type 0 where
       own : (tag : List ℕ) (m : Message Start) → plain_reply d tag x ≡ Some m → IsCleanMessage m → IsOwnReply d whole (message_text m)
+      heard : (said : Said) → x ≡ events.Heard said → IsHeardIn d whole said
 
     came_in : (earlier : List Happened) (event : Happened) (later : List Happened) → whole ≡ earlier ++ event ∷ later → IsMet (events.digest d event)
     came_in earlier event later is = record {
       own = λ tag m replies clean. record { earlier = earlier; event = event; later = later; in_order = is; tag = tag; message = m; replies = replies; lines = own_law m clean; is = refl };
+      heard = λ said digest. record { earlier = earlier; event = event; later = later; in_order = is; is = digest };
     }
 
     -- ---- a deed on calls
 
-    bringing_good : (at : ℕ) (deed : Deed) (desk : Desk) (w : World) → Each IsCleanEmit desk.out → IsGivenClean deed → Good d whole w → Good d whole (bringing at deed desk w)
-    bringing_good at deed desk w out c g =
+    -- the ACKs that a deed lets calls hear
+    abbrev acks_of : Deed → World → List Acked
+    acks_of deed w = acked_by (site_of d) deed (calls_in d w).entries
+
+    bringing_good : (at : ℕ) (deed : Deed) (desk : Desk) (w : World) → Each (IsCleanAfter (deed ∷ w.deeds)) desk.out → IsGivenClean deed → AreHeard d whole (acks_of deed w) →
+        Good d whole w → Good d whole (bringing at deed desk w)
+    bringing_good at deed desk w out c acked g =
         emitted_good at desk.out (record w { deeds = Drops (length desk.rows) ∷ deed ∷ w.deeds; drawn = desk.tokens.drawn; waiting = w.waiting ++ desk.rows }) out
-        (record { deeds = (tt, (c, g.deeds)); rooms = g.rooms; acts = g.acts; offers = g.offers })
+        (record {
+          deeds = (tt, (c, g.deeds));
+          acked = each_append (λ (x : Acked). IsAckOfEvent d whole x.ack) (acks_of deed w) (acked_after (site_of d) w.deeds) acked g.acked;
+          rooms = g.rooms;
+          acts = g.acts;
+          offers = offers_kept d whole (Drops (length desk.rows)) w.acts (deed ∷ w.deeds) w.offers (offers_kept d whole deed w.acts w.deeds w.offers g.offers);
+        })
 
     hearing_clean : (at : ℕ) (x : Signal) (w : World) → IsCleanSignal x → IsCleanHearing (heard_now token at x w)
     hearing_clean at x w c = record { records = records_clean views w.texts w.registrations; signal = c; token = clean_token }
 
-    signalled_good : (at : ℕ) (x : Signal) (w : World) → IsCleanSignal x → Good d whole w → Good d whole (signalled d token at x w)
-    signalled_good at x w c g =
+    signalled_good : (at : ℕ) (x : Signal) (w : World) → IsCleanSignal x → AreHeard d whole (acked_of (site_of d) x (calls_in d w).entries) → Good d whole w →
+        Good d whole (signalled d token at x w)
+    signalled_good at x w c acked g =
         let is : IsCleanHearing (heard_now token at x w) = hearing_clean at x w c in
-        bringing_good at (Hears (heard_now token at x w)) (hears_after (site_of d) w.deeds (heard_now token at x w)).desk w (sends (site_of d) w.deeds (Hears (heard_now token at x w)) home (is, g.deeds)) is g
+        bringing_good at (Hears (heard_now token at x w)) (hears_after (site_of d) w.deeds (heard_now token at x w)).desk w
+        (sends (site_of d) w.deeds (Hears (heard_now token at x w)) home (is, g.deeds)) is acked g
 
     finishing_good : (at : ℕ) (call : CallNo) (w : World) → Good d whole w → Good d whole (finishing d token at call w)
     finishing_good at call w g =
         bringing_good at (Finishes call.0 at (tokens_now token w)) (finished_by (site_of d) call.0 at (tokens_now token w) (calls_in d w)).desk w
-        (sends (site_of d) w.deeds (Finishes call.0 at (tokens_now token w)) home (clean_token, g.deeds)) clean_token g
+        (sends (site_of d) w.deeds (Finishes call.0 at (tokens_now token w)) home (clean_token, g.deeds)) clean_token tt g
 
-    lending_good : (deed : Deed) (w : World) → IsGivenClean deed → Good d whole w → Good d whole (lending deed w)
-    lending_good deed w c g = record { deeds = (c, g.deeds); rooms = g.rooms; acts = g.acts; offers = g.offers }
+    lending_good : (deed : Deed) (w : World) → IsGivenClean deed → AreHeard d whole (acks_of deed w) → Good d whole w → Good d whole (lending deed w)
+    lending_good deed w c acked g = record {
+      deeds = (c, g.deeds);
+      acked = each_append (λ (x : Acked). IsAckOfEvent d whole x.ack) (acks_of deed w) (acked_after (site_of d) w.deeds) acked g.acked;
+      rooms = g.rooms;
+      acts = g.acts;
+      offers = offers_kept d whole deed w.acts w.deeds w.offers g.offers;
+    }
 
     -- ---- a deed on rooms
 
-    lodging_good : (at : ℕ) (deed : rooms.Deed) (desk : Desk) (w : World) → Each IsCleanEmit desk.out → heads.IsCleanDeed deed → Good d whole w → Good d whole (lodging at deed desk w)
+    lodging_good : (at : ℕ) (deed : rooms.Deed) (desk : Desk) (w : World) → Each (IsCleanEmit []) desk.out → heads.IsCleanDeed deed → Good d whole w → Good d whole (lodging at deed desk w)
     lodging_good at deed desk w out c g =
-        emitted_good at desk.out (record w { rooms = rooms.Drops (length desk.rows) ∷ deed ∷ w.rooms; waiting = w.waiting ++ desk.rows }) out
-        (record { deeds = g.deeds; rooms = (tt, (c, g.rooms)); acts = g.acts; offers = g.offers })
+        emitted_good at desk.out (record w { rooms = rooms.Drops (length desk.rows) ∷ deed ∷ w.rooms; waiting = w.waiting ++ desk.rows })
+        (emits_more (acked_after (site_of d) w.deeds) desk.out out) (record { deeds = g.deeds; acked = g.acked; rooms = (tt, (c, g.rooms)); acts = g.acts; offers = g.offers })
 
     housed_good : (at : ℕ) (deed : rooms.Deed) (w : World) → heads.IsCleanDeed deed → Good d whole w → Good d whole (housed d at deed w)
     housed_good at deed w c g =
         let v : World = record w { drawn = (comes_of d deed w).tokens.drawn } in
-        lodging_good at deed (comes_of d deed w) v (seats_send (rooms_site d) w.rooms deed (c, g.rooms)) c (alike w v refl refl refl refl g)
+        lodging_good at deed (comes_of d deed w) v (seats_send (rooms_site d) w.rooms deed (c, g.rooms)) c (alike d whole w v refl refl refl refl g)
 
     seated_good : (at : ℕ) (x : RoomSignal) (w : World) → heads.IsCleanSignal x → Good d whole w → Good d whole (seated d token at x w)
     seated_good at x w c g = housed_good at (heard_in_rooms token at x w) w (record { token = clean_token; signal = c }) g
@@ -228,11 +279,11 @@ module _ (d : Directory) (whole : List Happened) (own_law : (m : Message Start) 
     -- ---- deadlines
 
     silenced_good : (at : ℕ) (branch method : List ℕ) (b : Bool) (w : World) → Good d whole w → Good d whole (silenced d token at branch method b w)
-    silenced_good at branch method true w g = signalled_good at (signal.Silent branch method) w tt g
+    silenced_good at branch method true w g = signalled_good at (signal.Silent branch method) w tt tt g
     silenced_good at branch method false w g = seated_good at (of_room.Silent branch method) w tt g
 
     over_good : (at : ℕ) (key : TKey) (b : Bool) (w : World) → Good d whole w → Good d whole (ended_of d token at key b w)
-    over_good at key true w g = signalled_good at (signal.Over key) w tt g
+    over_good at key true w g = signalled_good at (signal.Over key) w tt tt g
     over_good at key false w g = seated_good at (of_room.Over key) w tt g
 
     rung_good : (x : Due) (w : World) → IsOwnDue (IsSentIn w.acts) x → Good d whole w → Good d whole (rung d token x w)
@@ -257,7 +308,7 @@ module _ (d : Directory) (whole : List Happened) (own_law : (m : Message Start) 
     begun_good w g = silent_good d whole (DidBegin w.steps) w (begun w) tt refl refl refl refl g
 
     alarmed_good : (at : ℕ) (x : Alarm) (w : World) → Good d whole w → Good d whole (alarmed d token at x w)
-    alarmed_good at (OfCall call what) w g = signalled_good at (signal.Due call what) w tt g
+    alarmed_good at (OfCall call what) w g = signalled_good at (signal.Due call what) w tt tt g
     alarmed_good at (OfSeat room seat what) w g = seated_good at (of_room.Due room seat what) w tt g
 
     -- what a deadline of a message says is read of what was done on the transactions before it fires
@@ -267,7 +318,7 @@ module _ (d : Directory) (whole : List Happened) (own_law : (m : Message Start) 
         let next : Option Next = next_due now (live (begun w).acts) in
         rung_good (says_due next) (record (begun w) { acts = fires (begun w).acts next }) (due_still next (begun w).acts (says_due next) (due_own (begun w).acts now b.acts)) (fires_good next (begun w) b)
     fired_good now (OfAlarm armed others) w g =
-        alarmed_good armed.at armed.alarm (record (begun w) { armed = others }) (alike (begun w) (record (begun w) { armed = others }) refl refl refl refl (begun_good w g))
+        alarmed_good armed.at armed.alarm (record (begun w) { armed = others }) (alike d whole (begun w) (record (begun w) { armed = others }) refl refl refl refl (begun_good w g))
 
     if_fired_good : (now : ℕ) (o : Option Deadline) (w : World) → Good d whole w → Good d whole (fired_if d token now o w)
     if_fired_good now None w g = g
@@ -287,7 +338,7 @@ module _ (d : Directory) (whole : List Happened) (own_law : (m : Message Start) 
       replying_good : (key : TKey) (answer : Answer) (w : World) → IsCleanAnswer answer → Good d whole w → Good d whole (replying d token at key s answer w)
       replying_good key answer w a g =
           tagged_good key (tag_for token w.drawn s.heard.to_tag) answer (drawing (tags_due s.heard.to_tag) w) (tag_clean token w.drawn s.heard.to_tag clean_token) a
-          (alike w (drawing (tags_due s.heard.to_tag) w) refl refl refl refl g)
+          (alike d whole w (drawing (tags_due s.heard.to_tag) w) refl refl refl refl g)
 
       -- one that is too many
       too_many_good : (w : World) → Good d whole w → Good d whole (replying_plainly d token at s (plainly 503) w)
@@ -296,7 +347,7 @@ module _ (d : Directory) (whole : List Happened) (own_law : (m : Message Start) 
           let said : Message Start = response_to d.sip tag s (plainly 503) in
           plain_good d whole at s.peer (message_text said) (drawing (tags_due s.heard.to_tag) w)
           (inr (inr (met.own tag said refl (answer_clean d.sip tag s (plainly 503) (tag_clean token w.drawn s.heard.to_tag clean_token) well.lines_in refl))))
-          (alike w (drawing (tags_due s.heard.to_tag) w) refl refl refl refl g)
+          (alike d whole w (drawing (tags_due s.heard.to_tag) w) refl refl refl refl g)
 
       -- the leg of whoever sent the INVITE
       leg_clean : (tag : List ℕ) → IsClean tag → IsCleanLeg (released.Caller (leg_by tag s))
@@ -318,13 +369,13 @@ module _ (d : Directory) (whole : List Happened) (own_law : (m : Message Start) 
       adopting_good room seat call leg account (Ok place) w c g =
           let adopted : World = housed d at (adoption_of token at room seat leg account w) w in
           finishing_good at call adopted (housed_good at (adoption_of token at room seat leg account w) w (record { leg = c; token = clean_token }) g)
-      adopting_good room seat call leg account (Err fault) w c g = noticed_good at room seat 503 (lending (Restores call.0 leg) w) (lending_good (Restores call.0 leg) w c g)
+      adopting_good room seat call leg account (Err fault) w c g = noticed_good at room seat 503 (lending (Restores call.0 leg) w) (lending_good (Restores call.0 leg) w c tt g)
 
       taken_good : (room : RoomNo) (seat : ℕ) (call : CallNo) (side : Side) (account : Option Account) (o : Option Released) (w : World) → IfSome o IsCleanLeg → Good d whole w →
           Good d whole (taken_out d token at room seat call side account o w)
       taken_good room seat call side account None w c g = noticed_good at room seat 491 w g
       taken_good room seat call side account (Some leg) w c g =
-          adopting_good room seat call leg account (access room.0 (rooms_in d w).live) (lending (Releases call.0 side) w) c (lending_good (Releases call.0 side) w tt g)
+          adopting_good room seat call leg account (access room.0 (rooms_in d w).live) (lending (Releases call.0 side) w) c (lending_good (Releases call.0 side) w tt tt g)
 
       with_good : (room : RoomNo) (seat : ℕ) (call : CallNo) (side : Side) (b : Bool) (w : World) → Good d whole w → Good d whole (replaced_with d token at room seat call side b w)
       with_good room seat call side false w g = noticed_good at room seat 481 w g
@@ -348,34 +399,36 @@ module _ (d : Directory) (whole : List Happened) (own_law : (m : Message Start) 
           (seated d token at (of_room.Request room seat key s) w) (seated_good at (of_room.Request room seat key s) w well.of g)
 
       drawn_good : (w : World) → Good d whole w → Good d whole (drawing 1 w)
-      drawn_good w g = alike w (drawing 1 w) refl refl refl refl g
+      drawn_good w g = alike d whole w (drawing 1 w) refl refl refl refl g
 
       taking_good : (key : TKey) (c : Course) (w : World) → IsCleanCourse s.heard.start c → Good d whole w → Good d whole (taking d token at key s c w)
       taking_good key (Refuse answer) w a g = replying_good key answer w a g
-      taking_good key (Enter call side) w a g = signalled_good at (signal.Request call side key s) w well.of g
+      taking_good key (Enter call side) w a g = signalled_good at (signal.Request call side key s) w well.of tt g
       taking_good key (EnterRoom room seat) w a g = entering_good key room seat w g
-      taking_good key Open w a g = signalled_good at (arrived d.names.accounts key s) w (well.of, a) g
+      taking_good key Open w a g = signalled_good at (arrived d.names.accounts key s) w (well.of, a) tt g
       taking_good key OpenRoom w a g = room_opened_good key (next_tag token w) (has_no_room (rooms_in d w).live) (drawing 1 w) (tag_clean token w.drawn None clean_token) (drawn_good w g)
       taking_good key (JoinRoom room) w a g =
           room_joined_good key room (next_tag token w) (access room.0 (rooms_in d w).live) (drawing 1 w) (tag_clean token w.drawn None clean_token) (drawn_good w g)
       taking_good key (Register account seconds) w a g =
-          let v : World = registering account _ w in replying_good key (plainly 200) v refl (alike w v refl refl refl refl g)
+          let v : World = registering account _ w in replying_good key (plainly 200) v refl (alike d whole w v refl refl refl refl g)
 
       cancelling_call_good : (key invite : TKey) (o : Option (CallNo × Side)) (w : World) → Good d whole w → Good d whole (cancelling_call d token at key s invite o w)
       cancelling_call_good key invite None w g = replying_good key (plainly 200) w refl g
-      cancelling_call_good key invite (Some asked) w g = signalled_good at (signal.Cancel asked.0 key s invite) w well.of g
+      cancelling_call_good key invite (Some asked) w g = signalled_good at (signal.Cancel asked.0 key s invite) w well.of tt g
 
       cancelling_good : (key : TKey) (invite : Option TKey) (w : World) → Good d whole w → Good d whole (cancelling d token at key s invite w)
       cancelling_good key None w g = replying_good key (plainly 481) w refl g
       cancelling_good key (Some invite) w g = cancelling_call_good key invite (asked_by invite (calls_in d w).entries) w g
 
-      acknowledging_good : (o : Option Holder) (w : World) → Good d whole w → Good d whole (acknowledging_by d token at s o w)
-      acknowledging_good None w g = g
-      acknowledging_good (Some (InCall call side)) w g = signalled_good at (signal.Ack call side s) w well.of g
-      acknowledging_good (Some (InRoom room seat)) w g = seated_good at (of_room.Ack room seat s) w well.of g
+      acknowledging_good : (o : Option Holder) (w : World) → is_method (codes "ACK") s.heard.start ≡ true → Good d whole w → Good d whole (acknowledging_by d token at s o w)
+      acknowledging_good None w ack g = g
+      acknowledging_good (Some (InCall call side)) w ack g =
+          signalled_good at (signal.Ack call side s) w well.of
+          (acked_heard d whole (site_of d) side s (entry_of call.0 (calls_in d w).entries) (record { heard = met.heard s refl; is_ack = ack })) g
+      acknowledging_good (Some (InRoom room seat)) w ack g = seated_good at (of_room.Ack room seat s) w well.of g
 
       responding_good : (key : TKey) (b : Bool) (w : World) → Good d whole w → Good d whole (responding_to d token at key s b w)
-      responding_good key true w g = signalled_good at (signal.Answer key s) w well.of g
+      responding_good key true w g = signalled_good at (signal.Answer key s) w well.of tt g
       responding_good key false w g = seated_good at (of_room.Answer key s) w well.of g
 
       opened_good : (is_cancel : Bool) (n : ℕ) (invited : Option TKey) (w : World) → Good d whole w → Good d whole (answering d token at s (Some (says_opened is_cancel n invited (message_in s.heard))) w)
@@ -420,7 +473,8 @@ module _ (d : Directory) (whole : List Happened) (own_law : (m : Message Start) 
       said_good (part.Answer key) w is g =
           responding_good (tkey key) (is_of_calls (invite_answered s) (calls_in d (heard_as (part.Answer key) w)).entries) (heard_as (part.Answer key) w) (heard_good (part.Answer key) w is g)
       said_good (part.Acked key) w is g = heard_good (part.Acked key) w is g
-      said_good part.AckOf2xx w is g = acknowledging_good (holder_in d s.heard (heard_as part.AckOf2xx w)) (heard_as part.AckOf2xx w) (heard_good part.AckOf2xx w is g)
+      said_good part.AckOf2xx w is g = acknowledging_good (holder_in d s.heard (heard_as part.AckOf2xx w)) (heard_as part.AckOf2xx w)
+          (is_ack_heard (message_in s.heard) (live w.acts) is) (heard_good part.AckOf2xx w is g)
       said_good part.Stray w is g = heard_good part.Stray w is g
 
       -- the transactions as they are once it is heard
@@ -449,20 +503,26 @@ module _ (d : Directory) (whole : List Happened) (own_law : (m : Message Start) 
         let said : Message Start = completed_reply tag source reply in
         plain_good d whole at peer (message_text said) (drawing (tags_due (to_tag_in reply.lines)) w)
         (inr (inr (e.own tag said refl (reply_clean tag source reply (tag_clean token w.drawn (to_tag_in reply.lines) clean_token) c))))
-        (alike w (drawing (tags_due (to_tag_in reply.lines)) w) refl refl refl refl g)
+        (alike d whole w (drawing (tags_due (to_tag_in reply.lines)) w) refl refl refl refl g)
     met_good at (events.Heard said) w c e g = told_good at said c e w g
-    met_good at (events.Asked request kept rows) w c e g = record { deeds = g.deeds; rooms = g.rooms; acts = g.acts; offers = each_append (IsOwnOffer d whole w.acts) w.offers (offer.Web at _ ∷ []) g.offers (tt, tt) }
+    met_good at (events.Asked request kept rows) w c e g = record {
+      deeds = g.deeds;
+      acked = g.acked;
+      rooms = g.rooms;
+      acts = g.acts;
+      offers = each_append (IsOwnOffer d whole w.acts w.deeds) w.offers (offer.Web at _ ∷ []) g.offers (tt, tt);
+    }
 
     handing_good : (took : Bool) (rows : List Row) (w : World) → Good d whole w → Good d whole (handing took rows w)
     handing_good took [] w g = g
     handing_good false (row ∷ rows) w g = g
-    handing_good true (row ∷ rows) w g = alike w _ refl refl refl refl g
+    handing_good true (row ∷ rows) w g = alike d whole w _ refl refl refl refl g
 
     came_good : (at : ℕ) (x : Digest) (took : Bool) (w : World) → IsGoodDigest x → IsMet x → Good d whole w → Good d whole (came d token at x took w)
     came_good at x took w c e g =
         let begins : World = record (begun w) { clock = at } in
         let left : World = met d token at x begins in
-        handing_good took left.waiting left (met_good at x begins c e (alike (begun w) begins refl refl refl refl (begun_good w g)))
+        handing_good took left.waiting left (met_good at x begins c e (alike d whole (begun w) begins refl refl refl refl (begun_good w g)))
 
     abbrev AreGoodNotices : List Notice → Type 0
     AreGoodNotices xs = Each (λ x. IsGoodDigest x.digest × IsMet x.digest) xs
@@ -521,5 +581,5 @@ module _ (d : Directory) (whole : List Happened) (own_law : (m : Message Start) 
 
     pub all_own : (loaded : Texts) (fuel : ℕ) → AllAreClean d whole (after_all loaded fuel)
     all_own loaded fuel =
-        let good : Good d whole (after_all loaded fuel) = after_good fuel (notices d whole) (beginning loaded) (notices_good [] whole refl) (record { deeds = tt; rooms = tt; acts = tt; offers = tt }) in
+        let good : Good d whole (after_all loaded fuel) = after_good fuel (notices d whole) (beginning loaded) (notices_good [] whole refl) (record { deeds = tt; acked = tt; rooms = tt; acts = tt; offers = tt }) in
         record { built = own_acts (after_all loaded fuel).acts good.acts; offered = good.offers }

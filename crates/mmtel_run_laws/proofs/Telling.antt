@@ -4,6 +4,7 @@ use Rattle.mmtel_b2bua.specs.Histories.{Deed, Drops, Finishes, Heard, Hears, Rel
 use Rattle.mmtel_b2bua_laws.specs.Legs.{LegsGoBack}
 use Rattle.mmtel_call_laws.specs.Heads.Emits.{Each}
 use Rattle.mmtel_directory.specs.declared.directories.Directory.{Directory}
+use Rattle.mmtel_focus_laws.specs.Replies.{RoomsReplyInTheirOwn}
 use Rattle.mmtel_in_force.specs.Texts.{Texts}
 use Rattle.mmtel_run.specs.Calls.{site_of}
 use Rattle.mmtel_run.specs.Events.{Happened, Notice, moment_of, notice_of, notices}
@@ -62,7 +63,7 @@ module _ (d : Directory) (token : List ℕ) (loaded : Texts) (fuel : ℕ) (whole
     pub keyed : IsKeyed d (at_end_of happened)
     pub lent : IsWhole (site_of d) None (deeds_after d token loaded fuel happened)
     pub rooms : Each IsOfRun (at_end_of happened).rooms
-    pub awaited : AreAwaited (at_end_of happened)
+    pub awaited : AreAwaited d (at_end_of happened)
 
   -- ---- those of one event
 
@@ -85,27 +86,27 @@ module _ (d : Directory) (token : List ℕ) (loaded : Texts) (fuel : ℕ) (whole
       event-told (newer ++ deed ∷ []) older (is ∙ sym (append_assoc newer (deed ∷ []) (older ++ deeds_after d token loaded fuel earlier))) sees.1 told,
     )
 
-    more-told : LegsGoBack → WellTold earlier → WellTold (earlier ++ event ∷ [])
-    more-told back told =
+    more-told : LegsGoBack → RoomsReplyInTheirOwn → WellTold earlier → WellTold (earlier ++ event ∷ [])
+    more-told back own_law told =
         let w : World = at_end_of earlier in
         let next : at_end_of (earlier ++ event ∷ []) ≡ one_more d token fuel (notice_of d event) w = one-event earlier event in
-        let a : Adds d (clock_at w (moment_of event.event)) w None (one_more d token fuel (notice_of d event) w) = event_adds d token back fuel (notice_of d event) w told.keyed told.lent told.rooms told.awaited in
+        let a : Adds d (clock_at w (moment_of event.event)) w None (one_more d token fuel (notice_of d event) w) = event_adds d token back own_law fuel (notice_of d event) w told.keyed told.lent told.rooms told.awaited in
         let is : deeds_after d token loaded fuel (earlier ++ event ∷ []) ≡ a.added ++ deeds_after d token loaded fuel earlier = ap (λ (w : World). w.deeds) next ∙ a.is in
         record {
           deeds = subst AllTold (sym is) (event-told [] a.added is a.sees told.deeds);
           keyed = subst (IsKeyed d) (sym next) a.keyed;
           lent = subst (λ (w : World). IsWhole (site_of d) None w.deeds) (sym next) a.whole;
           rooms = subst (λ (w : World). Each IsOfRun w.rooms) (sym next) a.rooms;
-          awaited = subst AreAwaited (sym next) a.awaited;
+          awaited = subst (AreAwaited d) (sym next) a.awaited;
         }
 
   -- ---- those of the whole
 
-  rest-told : LegsGoBack → (earlier rest : List Happened) → whole ≡ earlier ++ rest → WellTold earlier → WellTold (earlier ++ rest)
-  rest-told back earlier [] is told = subst WellTold (sym (append-nil earlier)) told
-  rest-told back earlier (event ∷ rest) is told =
+  rest-told : LegsGoBack → RoomsReplyInTheirOwn → (earlier rest : List Happened) → whole ≡ earlier ++ rest → WellTold earlier → WellTold (earlier ++ rest)
+  rest-told back own_law earlier [] is told = subst WellTold (sym (append-nil earlier)) told
+  rest-told back own_law earlier (event ∷ rest) is told =
       let join : (earlier ++ event ∷ []) ++ rest ≡ earlier ++ event ∷ rest = append_assoc earlier (event ∷ []) rest in
-      subst WellTold join (rest-told back (earlier ++ event ∷ []) rest (is ∙ sym join) (more-told earlier event rest is back told))
+      subst WellTold join (rest-told back own_law (earlier ++ event ∷ []) rest (is ∙ sym join) (more-told earlier event rest is back own_law told))
 
-  pub all_told : LegsGoBack → WellTold whole
-  all_told back = rest-told back [] whole refl (record { deeds = tt; keyed = record { opened = le_refl 0; below = tt; own = tt }; lent = tt; rooms = tt; awaited = record { run = tt; asked = tt } })
+  pub all_told : LegsGoBack → RoomsReplyInTheirOwn → WellTold whole
+  all_told back own_law = rest-told back own_law [] whole refl (record { deeds = tt; keyed = record { opened = le_refl 0; below = tt; rises = tt; own = tt }; lent = tt; rooms = tt; awaited = record { run = tt; asked = tt; answered = tt } })

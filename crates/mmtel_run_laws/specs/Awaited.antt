@@ -16,6 +16,10 @@ is_final_in key (DidReply other m now) = other == key && not (is_provisional (he
 is_final_in key (DidAck other m) = false
 is_final_in key (DidFire other) = false
 
+-- that of the INVITE is live, and of the peer who sent it
+abbrev pub IsAnswerable : World → Start → Type 0
+IsAnswerable world s = peer_of s.arrival.key.0 (live world.acts) ≡ Some s.arrival.invite.peer
+
 -- as long as none was
 abbrev pub AwaitsItsFinal : World → Start → Type 0
-AwaitsItsFinal world s = list_any (is_final_in s.arrival.key.0) world.acts ≡ false → peer_of s.arrival.key.0 (live world.acts) ≡ Some s.arrival.invite.peer
+AwaitsItsFinal world s = list_any (is_final_in s.arrival.key.0) world.acts ≡ false → IsAnswerable world s

@@ -1,5 +1,10 @@
 -- What a run sends out has its own lines and nobody else's (RFC 3261 §7, §25.1): each message that was built, and each text, which is that of a message that was built.
-use Rattle.std.specs.Prelude.{◌≡◌, ◌⊎◌, ℕ, List, [], ◌∷◌, ◌++◌, Option, Some, None, Ok}
+use Rattle.std.specs.Prelude.{◌≡◌, true, ◌⊎◌, ℕ, List, [], ◌∷◌, ◌++◌, Option, Some, None, Ok, codes}
+use Rattle.mmtel_answers.specs.Requests.{bare, relaying}
+use Rattle.mmtel_answers.specs.Said.{Said}
+use Rattle.mmtel_b2bua.specs.Histories.{Deed}
+use Rattle.mmtel_b2bua_laws.specs.Acks.{acked_after}
+use Rattle.mmtel_call_laws.specs.Heads.Acks.{Acked}
 use Rattle.mmtel_call_laws.specs.Heads.Clean.{HasOwnLines, IsClean}
 use Rattle.mmtel_call_laws.specs.Heads.Emits.{Each}
 use Rattle.mmtel_directory.specs.Directory.{directory_of}
@@ -7,16 +12,20 @@ use Rattle.mmtel_directory.specs.declared.directories.Directory.{Directory}
 use Rattle.mmtel_in_force.specs.Texts.{Texts}
 use Rattle.mmtel_leg.specs.Requests.{Given, ack_of}
 use Rattle.mmtel_leg.specs.declared.dialogues.Dialogue.{Dialogue}
+use Rattle.mmtel_message.specs.Faults.{is_method}
 use Rattle.mmtel_message.specs.Message.{Message}
 use Rattle.mmtel_message.specs.Texts.{message_text}
 use Rattle.mmtel_message.specs.declared.messages.Start.{Start}
 use Rattle.mmtel_outside.specs.declared.events.Offer.{Offer}
 use Rattle.mmtel_outside.specs.declared.events.Offer.TheVariants as offer
+use Rattle.mmtel_run.specs.Calls.{site_of}
 use Rattle.mmtel_run.specs.Answers.{completed_reply, plainly, response_to}
 use Rattle.mmtel_run.specs.Events.{Digest, Happened, Nothing, Refused, Heard, Asked, digest}
 use Rattle.mmtel_run.specs.Run.{IsEnough, world_after}
 use Rattle.mmtel_run.specs.Short.{IsShortRun}
 use Rattle.mmtel_run.specs.World.{World}
+use Rattle.mmtel_trust.specs.Members.{IsIn}
+use Rattle.mmtel_trust.specs.Passed.{passed}
 use Rattle.mmtel_transaction.specs.Calls.{Done, DidAck, DidAsk, DidBegin, DidFire, DidHear, DidReply}
 
 -- ---- the messages that are sent by a transaction
@@ -53,10 +62,30 @@ pub record IsSentIn (acts : List Done) (text : List ℕ) : Type 0 where
 
 -- ---- those that are sent by none
 
--- the ACK of a 2xx (RFC 3261 §13.2.2.4): it was made of a dialog and of what it was given, and has its own lines
-pub record IsOwnAck (text : List ℕ) : Type 0 where
+-- this message was heard in an event of the run
+pub record IsHeardIn (directory : Directory) (happened : List Happened) (said : Said) : Type 0 where
+  pub earlier : List Happened
+  pub event : Happened
+  pub later : List Happened
+  pub in_order : happened ≡ earlier ++ event ∷ later
+  pub is : digest directory event ≡ Heard said
+
+-- an ACK was heard in a call while both its sides stood, and goes on in the dialog of the other side: of its lines those that the header table shows, and none of any other
+-- message; its body, and one hop less (RFC 3261 §13.2.2.4, §16.6)
+pub record IsPassedOn (directory : Directory) (happened : List Happened) (deeds : List Deed) (dialogue : Dialogue) (given : Given) : Type 0 where
+  pub acked : Acked
+  pub in_call : IsIn acked (acked_after (site_of directory) deeds)
+  pub heard : IsHeardIn directory happened acked.ack
+  pub is_ack : is_method (codes "ACK") acked.ack.heard.start ≡ true
+  pub dialog : dialogue ≡ acked.dialogue
+  pub is : given ≡ relaying given.sip given.branch (passed acked.facing acked.to_trusted [] acked.ack.heard.lines) acked.ack.heard
+
+-- the ACK of a 2xx (RFC 3261 §13.2.2.4) was made of a dialog and of what it was given, and has its own lines: the server acknowledges by itself and gives nothing, or passes an
+-- ACK on
+pub record IsOwnAck (directory : Directory) (happened : List Happened) (deeds : List Deed) (text : List ℕ) : Type 0 where
   pub dialogue : Dialogue
   pub given : Given
+  pub passes : (given ≡ bare given.sip given.branch) ⊎ IsPassedOn directory happened deeds dialogue given
   pub lines : HasOwnLines (ack_of dialogue given)
   pub is : text ≡ message_text (ack_of dialogue given)
 
@@ -82,14 +111,14 @@ pub record IsOwnReply (directory : Directory) (happened : List Happened) (text :
 -- ---- of a run
 
 -- what is offered to a peer is the text of one of these messages
-abbrev pub IsOwnOffer : Directory → List Happened → List Done → Offer → Type 0
-IsOwnOffer directory happened acts (offer.To peer at text) = IsSentIn acts text ⊎ (IsOwnAck text ⊎ IsOwnReply directory happened text)
-IsOwnOffer directory happened acts (offer.Web at text) = Unit {0}
+abbrev pub IsOwnOffer : Directory → List Happened → List Done → List Deed → Offer → Type 0
+IsOwnOffer directory happened acts deeds (offer.To peer at text) = IsSentIn acts text ⊎ (IsOwnAck directory happened deeds text ⊎ IsOwnReply directory happened text)
+IsOwnOffer directory happened acts deeds (offer.Web at text) = Unit {0}
 
 -- so each message that was built has its own lines, and nothing is offered to a peer but the texts of messages that were built
 pub record AllAreClean (directory : Directory) (happened : List Happened) (world : World) : Type 0 where
   pub built : Each IsOwnAct world.acts
-  pub offered : Each (IsOwnOffer directory happened world.acts) world.offers
+  pub offered : Each (IsOwnOffer directory happened world.acts world.deeds) world.offers
 
 abbrev pub SendsCleanMessages : Directory → (token : List ℕ) → (loaded : Texts) → List Happened → Type 0
 SendsCleanMessages directory token loaded happened =

@@ -3,8 +3,10 @@
 pub mod Outcome
 pub mod Stood
 pub mod Awaited
+pub mod Sent
 -- The charging rows:
 pub mod Rows
+pub mod Timed
 -- What is sent out:
 pub mod Clean
 -- What is offered is only added to, and what of it is sent to an address:

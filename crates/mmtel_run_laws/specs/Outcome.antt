@@ -5,8 +5,9 @@ use Rattle.mmtel_call_decisions.specs.Opening.{received_list}
 use Rattle.mmtel_call.specs.declared.calls.Phase.TheVariants.{Over}
 use Rattle.mmtel_call_laws.specs.Charged.{running}
 use Rattle.mmtel_call_laws.specs.Endings.{answer_in}
+use Rattle.mmtel_call_laws.specs.Heads.Emits.{Each}
 use Rattle.mmtel_call_laws.specs.Known.{received_in}
-use Rattle.mmtel_call_laws.specs.Shown.{Accepted, Invited, Refused, Sign, sign_of_result, signs_of, signs_of_targets}
+use Rattle.mmtel_call_laws.specs.Shown.{Accepted, Invited, Refused, Sign, is_offered, sign_of_result, signs_of, signs_of_targets}
 use Rattle.mmtel_call_laws.specs.Story.{Start, added, first_step, is_over, opening_in}
 use Rattle.mmtel_call_laws.specs.Trace.Laws.{IsSeen}
 use Rattle.mmtel_call_laws.specs.Notices.Due.{notices_due, notices_in, own_notices}
@@ -19,7 +20,7 @@ use Rattle.mmtel_precedence.specs.Laws.{diversions_made}
 use Rattle.mmtel_transaction.specs.declared.words.Emit.{Emit}
 use Rattle.mmtel_types.specs.declared.causes.Cause.{Cause}
 use Rattle.mmtel_types.specs.declared.causes.Cause.TheVariants.{Ended}
-use Rattle.mmtel_b2bua_laws.specs.Deeds.{life_of}
+use Rattle.mmtel_b2bua_laws.specs.Deeds.{emits_of, life_of}
 use Rattle.mmtel_b2bua_laws.specs.Known.{charges_after, endings_after, outcome_after, parts_after, stood_after}
 use Rattle.mmtel_b2bua_laws.specs.Laws.{CallIsExact, is_row_of}
 use Rattle.mmtel_b2bua_laws.specs.Lives.{Event, Finishes, Hears, Life, Releases, Restores, call_after, emits_by, emits_while_offered}
@@ -29,8 +30,9 @@ use Rattle.mmtel_run.specs.Events.{Happened}
 use Rattle.mmtel_run.specs.Run.{IsEnough, world_after}
 use Rattle.mmtel_run.specs.Short.{IsShortRun}
 use Rattle.mmtel_run.specs.World.{World}
-use Rattle.mmtel_run_laws.specs.Awaited.{AwaitsItsFinal}
+use Rattle.mmtel_run_laws.specs.Awaited.{AwaitsItsFinal, IsAnswerable}
 use Rattle.mmtel_run_laws.specs.Rows.{all_rows, is_call_row}
+use Rattle.mmtel_run_laws.specs.Sent.{FinalComes, GoesOut}
 use Rattle.mmtel_run_laws.specs.Stood.{ReachedIn, StoodIn}
 
 -- ---- what is seen of a call
@@ -107,6 +109,14 @@ pub record CallComesToOutcome (directory : Directory) (token : List ℕ) (loaded
       sign_of_result (outcome_after life.start life.events).result
   -- and the server transaction of the INVITE that opened it is live, and of the peer who sent that, as long as no final was offered in it; so that final is offered to them
   pub awaited : AwaitsItsFinal (world_after directory token loaded fuel happened) life.start
+  -- and while it is offered none was, by itself, by another call, by a room or by the server; so that transaction is live then, without condition
+  pub replied : is_offered (call_after life.start life.events).phase ≡ true → IsAnswerable (world_after directory token loaded fuel happened) life.start
+  -- and whatever it brings forth goes out: each request and each ACK to its peer, and each answer to its transaction, by which it is offered to the peer of that where it is live
+  pub sent : Each (GoesOut (world_after directory token loaded fuel happened))
+      (emits_of (site_of directory) number (world_after directory token loaded fuel happened).deeds)
+  -- its final to its caller, where it has one, is offered to the peer who sent that INVITE
+  pub answered : Each (FinalComes (world_after directory token loaded fuel happened) life.start)
+      (emits_of (site_of directory) number (world_after directory token loaded fuel happened).deeds)
   -- how its attempts ended is what was seen of them: what went out, and what was heard
   pub seen : endings_after life.start life.events ≡ endings_seen life.start life.events
   -- while it is offered its attempt is the one that is on its way, and that one's deadlines went out, each at its moment, and no other; and else none is on its way

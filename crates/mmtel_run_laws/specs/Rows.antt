@@ -12,12 +12,13 @@ use Rattle.mmtel_focus_laws.specs.Charging.{Entry, Follows, IsBegun, among, rows
 use Rattle.mmtel_focus_laws.specs.Seated.{AreRowsDue, IsDue, IsMetered, moment_of, places}
 use Rattle.mmtel_in_force.specs.Texts.{Texts}
 use Rattle.mmtel_run.specs.Calls.{site_of}
-use Rattle.mmtel_run.specs.Events.{Happened}
+use Rattle.mmtel_run.specs.Events.{Happened, notices}
 use Rattle.mmtel_run.specs.Filed.{AreInOrder, rows_closed, rows_left}
 use Rattle.mmtel_run.specs.Rooms.{rooms_site}
 use Rattle.mmtel_run.specs.Run.{IsEnough, world_after}
 use Rattle.mmtel_run.specs.Short.{IsShortRun}
-use Rattle.mmtel_run.specs.World.{World, rooms_in}
+use Rattle.mmtel_run.specs.World.{World, beginning, rooms_in}
+use Rattle.mmtel_run_laws.specs.Timed.{AreTimed}
 
 -- ---- whose a row is
 
@@ -99,10 +100,11 @@ pub record RowsAreCharged (directory : Directory) (world : World) : Type 0 where
   pub named : (newer older : List Deed) (deed : Deed) → world.rooms ≡ newer ++ deed ∷ older →
       AreRowsDue (rooms_site directory) (deed ∷ older) (moment_of deed) (brought_after (rooms_site directory) older deed).desk.rows
 
--- whose all rows are, and in which order they stand: that of the steps in which the call was over or the seat was left
+-- whose all rows are; in which order they stand: that of the steps in which the call was over or the seat was left; and at which moments: those of these steps
 pub record AreCharged (directory : Directory) (token : List ℕ) (loaded : Texts) (fuel : ℕ) (happened : List Happened) : Type 0 where
   pub rows : RowsAreCharged directory (world_after directory token loaded fuel happened)
   pub order : AreInOrder directory token loaded fuel happened
+  pub timed : AreTimed directory token fuel (notices directory happened) (beginning loaded)
 
 abbrev pub SeatsAreChargedOnce : Directory → (token : List ℕ) → (loaded : Texts) → List Happened → Type 0
 SeatsAreChargedOnce directory token loaded happened =

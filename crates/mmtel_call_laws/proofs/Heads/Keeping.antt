@@ -41,6 +41,7 @@ use Rattle.mmtel_call.specs.declared.calls.Trial.{Trial}
 use Rattle.mmtel_call.specs.Closing.{Step, onward, over}
 use Rattle.mmtel_call.specs.Requests.{answered_to, unheard, unlisted}
 use Rattle.mmtel_call.specs.Sending.{relayed_to_caller, replied_to, told_caller, told_diversion}
+use Rattle.mmtel_call_laws.specs.Heads.Acks.{Acked}
 use Rattle.mmtel_call_laws.specs.Heads.Clean.{AreClean, AreCleanLines, IsClean}
 use Rattle.mmtel_call_laws.specs.Heads.Emits.{Each, IsCleanDesk}
 use Rattle.mmtel_call_laws.specs.Heads.Heard.{IsCleanSheet}
@@ -56,21 +57,21 @@ pub record IsCleanOpening (o : Opening) : Type 0 where
   pub tag_in : IsClean o.tag
   pub routes_in : AreClean o.routes
 
-abbrev pub IsCleanLoose : Loose → Type 0
-IsCleanLoose l = IsCleanInvitation l.invitation
+abbrev pub IsCleanLoose : (acks : List Acked) → Loose → Type 0
+IsCleanLoose acks l = IsCleanInvitation acks l.invitation
 
-abbrev pub IsCleanTaken : Taken → Type 0
-IsCleanTaken t = IsCleanInvitation t.invitation
+abbrev pub IsCleanTaken : (acks : List Acked) → Taken → Type 0
+IsCleanTaken acks t = IsCleanInvitation acks t.invitation
 
 -- of a call, but for where it stands
-pub record AreKept (o : Opening) (history : List Entry) (loose : List Loose) (taken : List Taken) : Type 0 where
+pub record AreKept (acks : List Acked) (o : Opening) (history : List Entry) (loose : List Loose) (taken : List Taken) : Type 0 where
   pub opening_in : IsCleanOpening o
   pub history_in : AreCleanEntries history
-  pub loose_in : Each IsCleanLoose loose
-  pub taken_in : Each IsCleanTaken taken
+  pub loose_in : Each (IsCleanLoose acks) loose
+  pub taken_in : Each (IsCleanTaken acks) taken
 
-abbrev pub IsKept : Call → Type 0
-IsKept c = AreKept c.opening c.diversions.history c.loose c.taken
+abbrev pub IsKept : (acks : List Acked) → Call → Type 0
+IsKept acks c = AreKept acks c.opening c.diversions.history c.loose c.taken
 
 abbrev pub has_clean_sheet : Service → Type 0
 has_clean_sheet service = IsCleanSheet service.sheet
@@ -82,61 +83,61 @@ Serves service = IfSome service has_clean_sheet
 abbrev pub IsCleanHere : Dialogue → Type 0
 IsCleanHere d = IsCleanDialogue d × IsClean d.local_tag
 
-pub record IsCleanTrial (x : Trial) : Type 0 where
+pub record IsCleanTrial (acks : List Acked) (x : Trial) : Type 0 where
   pub caller_in : IsCleanHere x.caller.dialogue
   pub callee_in : IsCleanHere x.callee.leg.dialogue
   pub service_in : Serves x.attempt.service
-  pub sent_in : IsCleanInvitation x.attempt.invitation
+  pub sent_in : IsCleanInvitation acks x.attempt.invitation
 
 pub record IsCleanPair (x : Pair) : Type 0 where
   pub caller_in : IsCleanHere x.caller.dialogue
   pub callee_in : IsCleanHere x.callee.dialogue
 
-pub record IsCleanReinvite (q : Reinvite) : Type 0 where
+pub record IsCleanReinvite (acks : List Acked) (q : Reinvite) : Type 0 where
   pub request_in : IsCleanHeard q.request.heard
-  pub sent_in : IsCleanInvitation q.invitation
+  pub sent_in : IsCleanInvitation acks q.invitation
 
-abbrev pub IsCleanStage : Stage → Type 0
-IsCleanStage (Answered side success) = Unit {0}
-IsCleanStage (Parting side success) = Unit {0}
-IsCleanStage Talking = Unit {0}
-IsCleanStage (Asking side q) = IsCleanReinvite q
+abbrev pub IsCleanStage : (acks : List Acked) → Stage → Type 0
+IsCleanStage acks (Answered side success) = Unit {0}
+IsCleanStage acks (Parting side success) = Unit {0}
+IsCleanStage acks Talking = Unit {0}
+IsCleanStage acks (Asking side q) = IsCleanReinvite acks q
 
-pub record IsCleanStood (x : Pair) (stage : Stage) : Type 0 where
+pub record IsCleanStood (acks : List Acked) (x : Pair) (stage : Stage) : Type 0 where
   pub pair_in : IsCleanPair x
-  pub stage_in : IsCleanStage stage
+  pub stage_in : IsCleanStage acks stage
 
-abbrev pub IsCleanPhase : Phase → Type 0
-IsCleanPhase (Offered x) = IsCleanTrial x
-IsCleanPhase (Stood x stage) = IsCleanStood x stage
-IsCleanPhase (Lent loan) = IsCleanHere (released_leg loan.left).dialogue
-IsCleanPhase (Over cause) = Unit {0}
+abbrev pub IsCleanPhase : (acks : List Acked) → Phase → Type 0
+IsCleanPhase acks (Offered x) = IsCleanTrial acks x
+IsCleanPhase acks (Stood x stage) = IsCleanStood acks x stage
+IsCleanPhase acks (Lent loan) = IsCleanHere (released_leg loan.left).dialogue
+IsCleanPhase acks (Over cause) = Unit {0}
 
 -- a step leaves a clean call and a clean desk
-pub record IsCleanStep (s : Step) : Type 0 where
-  pub kept : IsKept s.call
-  pub phase : IsCleanPhase s.call.phase
-  pub desk : IsCleanDesk s.desk
+pub record IsCleanStep (acks : List Acked) (s : Step) : Type 0 where
+  pub kept : IsKept acks s.call
+  pub phase : IsCleanPhase acks s.call.phase
+  pub desk : IsCleanDesk acks s.desk
 
-pub onward_clean : (c : Call) (desk : Desk) → IsKept c → IsCleanPhase c.phase → IsCleanDesk desk → IsCleanStep (onward c desk)
-onward_clean c desk k p had = record { kept = k; phase = p; desk = had }
+pub onward_clean : (acks : List Acked) (c : Call) (desk : Desk) → IsKept acks c → IsCleanPhase acks c.phase → IsCleanDesk acks desk → IsCleanStep acks (onward c desk)
+onward_clean acks c desk k p had = record { kept = k; phase = p; desk = had }
 
-pub over_clean : (at : ℕ) (cause : Cause) (first last : Option Noted) (c : Call) (desk : Desk) → IsKept c → IsCleanDesk desk → IsCleanStep (over at cause first last c desk)
-over_clean at cause first last c desk k had = record { kept = k; phase = tt; desk = record { token_in = had.token_in; out_in = had.out_in } }
+pub over_clean : (acks : List Acked) (at : ℕ) (cause : Cause) (first last : Option Noted) (c : Call) (desk : Desk) → IsKept acks c → IsCleanDesk acks desk → IsCleanStep acks (over at cause first last c desk)
+over_clean acks at cause first last c desk k had = record { kept = k; phase = tt; desk = record { token_in = had.token_in; out_in = had.out_in } }
 
-pub if_step : (b : Bool) (one two : Step) → IsCleanStep one → IsCleanStep two → IsCleanStep (if b then one else two)
-if_step true one two e f = e
-if_step false one two e f = f
+pub if_step : (acks : List Acked) (b : Bool) (one two : Step) → IsCleanStep acks one → IsCleanStep acks two → IsCleanStep acks (if b then one else two)
+if_step acks true one two e f = e
+if_step acks false one two e f = f
 
-pub once_clean : (i : Invitation) → IsCleanInvitation i → IsCleanInvitation (once_cancelled i)
-once_clean i is = by (is_cancellable i)
+pub once_clean : (acks : List Acked) (i : Invitation) → IsCleanInvitation acks i → IsCleanInvitation acks (once_cancelled i)
+once_clean acks i is = by (is_cancellable i)
   where
-    by : (t : Bool) → IsCleanInvitation (if t then record i { cancelled = true } else i)
+    by : (t : Bool) → IsCleanInvitation acks (if t then record i { cancelled = true } else i)
     by true = is
     by false = is
 
-pub early_clean : (said : Option Remote) (i : Invitation) → IfSome said IsCleanRemote → IsCleanInvitation i → IsCleanInvitation (with_early said i)
-early_clean said i e is = record { dialogue_in = is.dialogue_in; branch_in = is.branch_in; ack_in = is.ack_in; forks_in = is.forks_in; early_in = first i.early is.early_in }
+pub early_clean : (acks : List Acked) (said : Option Remote) (i : Invitation) → IfSome said IsCleanRemote → IsCleanInvitation acks i → IsCleanInvitation acks (with_early said i)
+early_clean acks said i e is = record { dialogue_in = is.dialogue_in; branch_in = is.branch_in; ack_in = is.ack_in; forks_in = is.forks_in; early_in = first i.early is.early_in }
   where
     first : (o : Option Remote) → IfSome o IsCleanRemote → IfSome (option_or o said) IsCleanRemote
     first None f = e
@@ -157,34 +158,34 @@ shown_to_clean site o d service side peer m e is = shown_clean (facing o service
 
 -- ---- answers
 
-pub replied_to_clean : (site : Site) (c : Call) (key : TKey) (m : Said) (code : ℕ) (desk : Desk) → IsKept c → IsCleanHeard m.heard → IsCleanDesk desk → IsCleanDesk (replied_to site c key m code desk)
-replied_to_clean site c key m code desk k is had = replied_clean site.sip key m c.opening.tag code desk is k.opening_in.tag_in had
+pub replied_to_clean : (acks : List Acked) (site : Site) (c : Call) (key : TKey) (m : Said) (code : ℕ) (desk : Desk) → IsKept acks c → IsCleanHeard m.heard → IsCleanDesk acks desk → IsCleanDesk acks (replied_to site c key m code desk)
+replied_to_clean acks site c key m code desk k is had = replied_clean acks site.sip key m c.opening.tag code desk is k.opening_in.tag_in had
 
-pub told_caller_clean : (site : Site) (c : Call) (code : ℕ) (desk : Desk) → IsKept c → IsCleanDesk desk → IsCleanDesk (told_caller site c code desk)
-told_caller_clean site c code desk k had = replied_to_clean site c c.opening.key c.opening.invite code desk k k.opening_in.invite_in had
+pub told_caller_clean : (acks : List Acked) (site : Site) (c : Call) (code : ℕ) (desk : Desk) → IsKept acks c → IsCleanDesk acks desk → IsCleanDesk acks (told_caller site c code desk)
+told_caller_clean acks site c code desk k had = replied_to_clean acks site c c.opening.key c.opening.invite code desk k k.opening_in.invite_in had
 
-pub told_diversion_clean : (site : Site) (c : Call) (desk : Desk) → IsKept c → IsCleanDesk desk → IsCleanDesk (told_diversion site c desk)
-told_diversion_clean site c desk k had =
+pub told_diversion_clean : (acks : List Acked) (site : Site) (c : Call) (desk : Desk) → IsKept acks c → IsCleanDesk acks desk → IsCleanDesk acks (told_diversion site c desk)
+told_diversion_clean acks site c desk k had =
     let h : List Entry = told_list c.diversions in
     let t : Bool = trusts site c.opening.invite.peer in
-    answered_clean site.sip c.opening.key c.opening.invite c.opening.tag 181 (history_lines (masks_all c.opening) t h) [] [] desk k.opening_in.invite_in k.opening_in.tag_in
+    answered_clean acks site.sip c.opening.key c.opening.invite c.opening.tag 181 (history_lines (masks_all c.opening) t h) [] [] desk k.opening_in.invite_in k.opening_in.tag_in
     (history_lines_clean (masks_all c.opening) t h (told_clean c.diversions.hides_diverting c.diversions.hides_target c.diversions.history k.history_in)) refl had
 
-pub relayed_to_caller_clean : (site : Site) (c : Call) (service : Option Service) (m : Said) (desk : Desk) → IsKept c → IsCleanHeard m.heard → IsCleanDesk desk → IsCleanDesk (relayed_to_caller site c service m desk)
-relayed_to_caller_clean site c service m desk k is had =
-    relayed_clean site.sip c.opening.key c.opening.invite c.opening.tag (shown_to site c.opening c.diversions service Callee c.opening.invite.peer m) m desk
+pub relayed_to_caller_clean : (acks : List Acked) (site : Site) (c : Call) (service : Option Service) (m : Said) (desk : Desk) → IsKept acks c → IsCleanHeard m.heard → IsCleanDesk acks desk → IsCleanDesk acks (relayed_to_caller site c service m desk)
+relayed_to_caller_clean acks site c service m desk k is had =
+    relayed_clean acks site.sip c.opening.key c.opening.invite c.opening.tag (shown_to site c.opening c.diversions service Callee c.opening.invite.peer m) m desk
     k.opening_in.invite_in k.opening_in.tag_in (shown_to_clean site c.opening c.diversions service Callee c.opening.invite.peer m k.history_in is) is had
 
-pub answered_to_clean : (site : Site) (c : Call) (key : TKey) (m : Said) (code : ℕ) (named : List Line) (desk : Desk) → IsKept c → IsCleanHeard m.heard → AreCleanLines named → IsCleanDesk desk → IsCleanDesk (answered_to site c key m code named desk)
-answered_to_clean site c key m code named desk k is e had = answered_clean site.sip key m c.opening.tag code [] named [] desk is k.opening_in.tag_in refl e had
+pub answered_to_clean : (acks : List Acked) (site : Site) (c : Call) (key : TKey) (m : Said) (code : ℕ) (named : List Line) (desk : Desk) → IsKept acks c → IsCleanHeard m.heard → AreCleanLines named → IsCleanDesk acks desk → IsCleanDesk acks (answered_to site c key m code named desk)
+answered_to_clean acks site c key m code named desk k is e had = answered_clean acks site.sip key m c.opening.tag code [] named [] desk is k.opening_in.tag_in refl e had
 
-pub unheard_clean : (site : Site) (c : Call) (key : TKey) (m : Said) (fault : DialogueFault) (desk : Desk) → IsKept c → IsCleanHeard m.heard → IsCleanDesk desk → IsCleanDesk (unheard site c key m fault desk)
-unheard_clean site c key m (OldCSeq last) desk k is had = replied_to_clean site c key m 500 desk k is had
-unheard_clean site c key m Pending desk k is had = replied_to_clean site c key m 491 desk k is had
-unheard_clean site c key m Unfinished desk k is had = answered_to_clean site c key m 500 retry_after desk k is refl had
+pub unheard_clean : (acks : List Acked) (site : Site) (c : Call) (key : TKey) (m : Said) (fault : DialogueFault) (desk : Desk) → IsKept acks c → IsCleanHeard m.heard → IsCleanDesk acks desk → IsCleanDesk acks (unheard site c key m fault desk)
+unheard_clean acks site c key m (OldCSeq last) desk k is had = replied_to_clean acks site c key m 500 desk k is had
+unheard_clean acks site c key m Pending desk k is had = replied_to_clean acks site c key m 491 desk k is had
+unheard_clean acks site c key m Unfinished desk k is had = answered_to_clean acks site c key m 500 retry_after desk k is refl had
 
-pub unlisted_clean : (site : Site) (c : Call) (key : TKey) (m : Said) (desk : Desk) → IsKept c → IsCleanHeard m.heard → IsCleanDesk desk → IsCleanDesk (unlisted site c key m desk)
-unlisted_clean site c key m desk k is had =
-    if_desk (is_method (codes "OPTIONS") m.heard.start) (answered_to site c key m 200 allowed desk) (if is_method (codes "REFER") m.heard.start then replied_to site c key m 403 desk else replied_to site c key m 481 desk)
-    (answered_to_clean site c key m 200 allowed desk k is refl had)
-    (if_desk (is_method (codes "REFER") m.heard.start) (replied_to site c key m 403 desk) (replied_to site c key m 481 desk) (replied_to_clean site c key m 403 desk k is had) (replied_to_clean site c key m 481 desk k is had))
+pub unlisted_clean : (acks : List Acked) (site : Site) (c : Call) (key : TKey) (m : Said) (desk : Desk) → IsKept acks c → IsCleanHeard m.heard → IsCleanDesk acks desk → IsCleanDesk acks (unlisted site c key m desk)
+unlisted_clean acks site c key m desk k is had =
+    if_desk acks (is_method (codes "OPTIONS") m.heard.start) (answered_to site c key m 200 allowed desk) (if is_method (codes "REFER") m.heard.start then replied_to site c key m 403 desk else replied_to site c key m 481 desk)
+    (answered_to_clean acks site c key m 200 allowed desk k is refl had)
+    (if_desk acks (is_method (codes "REFER") m.heard.start) (replied_to site c key m 403 desk) (replied_to site c key m 481 desk) (replied_to_clean acks site c key m 403 desk k is had) (replied_to_clean acks site c key m 481 desk k is had))

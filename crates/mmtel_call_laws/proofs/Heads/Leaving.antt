@@ -23,6 +23,7 @@ use Rattle.mmtel_call.specs.declared.calls.Call.{Call}
 use Rattle.mmtel_call.specs.declared.calls.Taken.{Taken}
 use Rattle.mmtel_call.specs.Closing.{onward}
 use Rattle.mmtel_call.specs.Leaving.{acked_again, answered_at, answered_loose, answered_other, answered_taken, answered_taken_at, as_loose, forked, is_fork, is_loose_key, is_success, is_taken, is_taken_key, is_talking, repeated, taken_again, with_rest, without, without_at, without_key, without_silent}
+use Rattle.mmtel_call_laws.specs.Heads.Acks.{Acked}
 use Rattle.mmtel_call_laws.specs.Heads.Emits.{Each, IsCleanDesk, IsTextOfAck}
 use Rattle.mmtel_call_laws.specs.Heads.Kept.{IsCleanDialogue}
 use Rattle.mmtel_call_laws.proofs.Heads.Going.{called_clean}
@@ -41,18 +42,18 @@ without_clean P (Some at) items e = without_at_clean P at items e
 
 -- ---- one that was left
 
-pub record IsCleanRest (rest : Rest) : Type 0 where
-  pub left_in : IfSome rest.left IsCleanLoose
-  pub desk_in : IsCleanDesk rest.desk
+pub record IsCleanRest (acks : List Acked) (rest : Rest) : Type 0 where
+  pub left_in : IfSome rest.left (IsCleanLoose acks)
+  pub desk_in : IsCleanDesk acks rest.desk
 
-if_rest : (b : Bool) (one two : Rest) → IsCleanRest one → IsCleanRest two → IsCleanRest (if b then one else two)
-if_rest true one two e f = e
-if_rest false one two e f = f
+if_rest : (acks : List Acked) (b : Bool) (one two : Rest) → IsCleanRest acks one → IsCleanRest acks two → IsCleanRest acks (if b then one else two)
+if_rest acks true one two e f = e
+if_rest acks false one two e f = f
 
-late_clean : (sip : Addr) (l : Loose) (desk : Desk) → IsCleanLoose l → IsCleanDesk desk → IsCleanRest (late_cancelled sip l desk)
-late_clean sip l desk is had =
-    if_rest l.invitation.cancelled (record { left = Some l; desk = desk }) (record { left = Some (with_invitation l (record l.invitation { cancelled = true })); desk = cancel_sent sip l.invitation desk })
-    (record { left_in = is; desk_in = had }) (record { left_in = is; desk_in = cancel_clean sip l.invitation desk is had })
+late_clean : (acks : List Acked) (sip : Addr) (l : Loose) (desk : Desk) → IsCleanLoose acks l → IsCleanDesk acks desk → IsCleanRest acks (late_cancelled sip l desk)
+late_clean acks sip l desk is had =
+    if_rest acks l.invitation.cancelled (record { left = Some l; desk = desk }) (record { left = Some (with_invitation l (record l.invitation { cancelled = true })); desk = cancel_sent sip l.invitation desk })
+    (record { left_in = is; desk_in = had }) (record { left_in = is; desk_in = cancel_clean acks sip l.invitation desk is had })
 
 begun_clean : (early : Option Remote) (tag : List ℕ) (d : Dialogue) → IfSome early IsCleanRemote → IsCleanDialogue d → IsCleanDialogue (begun early tag d)
 begun_clean None tag d e is = is
@@ -70,105 +71,105 @@ fork_clean : (forks : List Dialogue) (o : Option ℕ) → Each IsCleanDialogue f
 fork_clean forks None e = tt
 fork_clean forks (Some at) e = each_get IsCleanDialogue forks at e
 
-ended_clean : (sip : Addr) (l : Loose) (d : Dialogue) (desk : Desk) → IsCleanLoose l → IsCleanDialogue d → IsCleanDesk desk → IsCleanRest (acked_and_ended sip l d desk)
-ended_clean sip l d desk is e had = record {
+ended_clean : (acks : List Acked) (sip : Addr) (l : Loose) (d : Dialogue) (desk : Desk) → IsCleanLoose acks l → IsCleanDialogue d → IsCleanDesk acks desk → IsCleanRest acks (acked_and_ended sip l d desk)
+ended_clean acks sip l d desk is e had = record {
   left_in = record { dialogue_in = is.dialogue_in; branch_in = is.branch_in; ack_in = is.ack_in; forks_in = each_append IsCleanDialogue l.invitation.forks (after_request d (codes "BYE") ∷ []) is.forks_in (e, tt); early_in = is.early_in };
-  desk_in = bye_clean sip d (acked sip d desk) e (acked_clean sip d desk e had);
+  desk_in = bye_clean acks sip d (acked sip d desk) e (acked_clean acks sip d desk e had);
 }
 
-success_in_clean : (sip : Addr) (l : Loose) (remote : Remote) (o : Option Dialogue) (desk : Desk) → IsCleanLoose l → IsCleanRemote remote → IfSome o IsCleanDialogue → IsCleanDesk desk → IsCleanRest (on_success_in sip l remote o desk)
-success_in_clean sip l remote (Some d) desk is had_remote e had = record { left_in = is; desk_in = acked_clean sip d desk e had }
-success_in_clean sip l remote None desk is had_remote e had =
-    ended_clean sip l (made_from l.within l.invitation.early l.invitation.dialogue remote) desk is (made_clean l.within l.invitation.early l.invitation.dialogue remote is.early_in is.dialogue_in had_remote) had
+success_in_clean : (acks : List Acked) (sip : Addr) (l : Loose) (remote : Remote) (o : Option Dialogue) (desk : Desk) → IsCleanLoose acks l → IsCleanRemote remote → IfSome o IsCleanDialogue → IsCleanDesk acks desk → IsCleanRest acks (on_success_in sip l remote o desk)
+success_in_clean acks sip l remote (Some d) desk is had_remote e had = record { left_in = is; desk_in = acked_clean acks sip d desk e had }
+success_in_clean acks sip l remote None desk is had_remote e had =
+    ended_clean acks sip l (made_from l.within l.invitation.early l.invitation.dialogue remote) desk is (made_clean l.within l.invitation.early l.invitation.dialogue remote is.early_in is.dialogue_in had_remote) had
 
-success_clean : (sip : Addr) (l : Loose) (remote : Remote) (desk : Desk) → IsCleanLoose l → IsCleanRemote remote → IsCleanDesk desk → IsCleanRest (on_success sip l remote desk)
-success_clean sip l remote desk is had_remote had =
-    success_in_clean sip l remote (ended_before l remote.tag) desk is had_remote (fork_clean l.invitation.forks (position (is_ended l.within remote.tag) l.invitation.forks) is.forks_in) had
+success_clean : (acks : List Acked) (sip : Addr) (l : Loose) (remote : Remote) (desk : Desk) → IsCleanLoose acks l → IsCleanRemote remote → IsCleanDesk acks desk → IsCleanRest acks (on_success sip l remote desk)
+success_clean acks sip l remote desk is had_remote had =
+    success_in_clean acks sip l remote (ended_before l remote.tag) desk is had_remote (fork_clean l.invitation.forks (position (is_ended l.within remote.tag) l.invitation.forks) is.forks_in) had
 
 told_clean : (b : Bool) (remote : Remote) → IsCleanRemote remote → IfSome (if b then None else Some remote) IsCleanRemote
 told_clean true remote e = tt
 told_clean false remote e = e
 
-pub late_response_clean : (sip : Addr) (key : TKey) (m : HeardMessage) (l : Loose) (desk : Desk) → IsCleanHeard m → IsCleanLoose l → IsCleanDesk desk → IsCleanRest (on_response sip key m l desk)
-late_response_clean sip key m l desk heard is had =
+pub late_response_clean : (acks : List Acked) (sip : Addr) (key : TKey) (m : HeardMessage) (l : Loose) (desk : Desk) → IsCleanHeard m → IsCleanLoose acks l → IsCleanDesk acks desk → IsCleanRest acks (on_response sip key m l desk)
+late_response_clean acks sip key m l desk heard is had =
     let said = told_late key m l in
     let told : IfSome (early_said (status_of m.start) (remote_of Callee m.lines)) IsCleanRemote = told_clean (nat_lt (status_of m.start) 101 || length (remote_of Callee m.lines).tag == 0) (remote_of Callee m.lines) (remote_clean Callee m.lines heard.lines_in) in
     let known = with_invitation l (knows key l.invitation) in
-    if_rest (nat_lt (status_of m.start) 200) (late_cancelled sip said desk) (if nat_lt (status_of m.start) 300 then on_success sip known (remote_of Callee m.lines) desk else record { left = None; desk = final_acked sip key l.invitation m desk })
-    (late_clean sip said desk (early_clean (early_said (status_of m.start) (remote_of Callee m.lines)) (has_said key l.invitation) told is) had)
-    (if_rest (nat_lt (status_of m.start) 300) (on_success sip known (remote_of Callee m.lines) desk) (record { left = None; desk = final_acked sip key l.invitation m desk })
-    (success_clean sip known (remote_of Callee m.lines) desk is (remote_clean Callee m.lines heard.lines_in) had)
-    (record { left_in = tt; desk_in = final_acked_clean sip key l.invitation m desk is heard had }))
+    if_rest acks (nat_lt (status_of m.start) 200) (late_cancelled sip said desk) (if nat_lt (status_of m.start) 300 then on_success sip known (remote_of Callee m.lines) desk else record { left = None; desk = final_acked sip key l.invitation m desk })
+    (late_clean acks sip said desk (early_clean acks (early_said (status_of m.start) (remote_of Callee m.lines)) (has_said key l.invitation) told is) had)
+    (if_rest acks (nat_lt (status_of m.start) 300) (on_success sip known (remote_of Callee m.lines) desk) (record { left = None; desk = final_acked sip key l.invitation m desk })
+    (success_clean acks sip known (remote_of Callee m.lines) desk is (remote_clean Callee m.lines heard.lines_in) had)
+    (record { left_in = tt; desk_in = final_acked_clean acks sip key l.invitation m desk is heard had }))
 
 -- ---- in the call
 
-rest_row : (at : ℕ) (rest : Rest) (c : Call) → IsKept c → IsCleanPhase c.phase → IsCleanRest rest → IsCleanStep (with_rest at rest c)
-rest_row at rest c k p is = record {
-  kept = record { opening_in = k.opening_in; history_in = k.history_in; loose_in = each_append IsCleanLoose (without_at at c.loose) (option_to_list rest.left) (without_at_clean IsCleanLoose at c.loose k.loose_in) (each_option IsCleanLoose rest.left is.left_in); taken_in = k.taken_in };
+rest_row : (acks : List Acked) (at : ℕ) (rest : Rest) (c : Call) → IsKept acks c → IsCleanPhase acks c.phase → IsCleanRest acks rest → IsCleanStep acks (with_rest at rest c)
+rest_row acks at rest c k p is = record {
+  kept = record { opening_in = k.opening_in; history_in = k.history_in; loose_in = each_append (IsCleanLoose acks) (without_at at c.loose) (option_to_list rest.left) (without_at_clean (IsCleanLoose acks) at c.loose k.loose_in) (each_option (IsCleanLoose acks) rest.left is.left_in); taken_in = k.taken_in };
   phase = p;
   desk = is.desk_in;
 }
 
-loose_row : (site : Site) (key : TKey) (m : Said) (at : ℕ) (o : Option Loose) (c : Call) (desk : Desk) → IsCleanHeard m.heard → IfSome o IsCleanLoose → IsKept c → IsCleanPhase c.phase → IsCleanDesk desk → IsCleanStep (answered_loose site key m at o c desk)
-loose_row site key m at None c desk heard e k p had = onward_clean c desk k p had
-loose_row site key m at (Some l) c desk heard e k p had = rest_row at (on_response site.sip key m.heard l desk) c k p (late_response_clean site.sip key m.heard l desk heard e had)
+loose_row : (acks : List Acked) (site : Site) (key : TKey) (m : Said) (at : ℕ) (o : Option Loose) (c : Call) (desk : Desk) → IsCleanHeard m.heard → IfSome o (IsCleanLoose acks) → IsKept acks c → IsCleanPhase acks c.phase → IsCleanDesk acks desk → IsCleanStep acks (answered_loose site key m at o c desk)
+loose_row acks site key m at None c desk heard e k p had = onward_clean acks c desk k p had
+loose_row acks site key m at (Some l) c desk heard e k p had = rest_row acks at (on_response site.sip key m.heard l desk) c k p (late_response_clean acks site.sip key m.heard l desk heard e had)
 
-again_clean : (t : Taken) (o : Option Loose) → IfSome o IsCleanLoose → IfSome (taken_again t o) IsCleanTaken
-again_clean t None e = tt
-again_clean t (Some l) e = e
+again_clean : (acks : List Acked) (t : Taken) (o : Option Loose) → IfSome o (IsCleanLoose acks) → IfSome (taken_again t o) (IsCleanTaken acks)
+again_clean acks t None e = tt
+again_clean acks t (Some l) e = e
 
-forked_row : (site : Site) (key : TKey) (m : Said) (at : ℕ) (t : Taken) (c : Call) (desk : Desk) → IsCleanHeard m.heard → IsCleanTaken t → IsKept c → IsCleanPhase c.phase → IsCleanDesk desk → IsCleanStep (forked site key m at t c desk)
-forked_row site key m at t c desk heard e k p had =
+forked_row : (acks : List Acked) (site : Site) (key : TKey) (m : Said) (at : ℕ) (t : Taken) (c : Call) (desk : Desk) → IsCleanHeard m.heard → IsCleanTaken acks t → IsKept acks c → IsCleanPhase acks c.phase → IsCleanDesk acks desk → IsCleanStep acks (forked site key m at t c desk)
+forked_row acks site key m at t c desk heard e k p had =
     let rest = on_response site.sip key m.heard (as_loose t) desk in
-    let is : IsCleanRest rest = late_response_clean site.sip key m.heard (as_loose t) desk heard e had in
+    let is : IsCleanRest acks rest = late_response_clean acks site.sip key m.heard (as_loose t) desk heard e had in
     record {
-      kept = record { opening_in = k.opening_in; history_in = k.history_in; loose_in = k.loose_in; taken_in = each_append IsCleanTaken (without_at at c.taken) (option_to_list (taken_again t rest.left)) (without_at_clean IsCleanTaken at c.taken k.taken_in) (each_option IsCleanTaken (taken_again t rest.left) (again_clean t rest.left is.left_in)) };
+      kept = record { opening_in = k.opening_in; history_in = k.history_in; loose_in = k.loose_in; taken_in = each_append (IsCleanTaken acks) (without_at at c.taken) (option_to_list (taken_again t rest.left)) (without_at_clean (IsCleanTaken acks) at c.taken k.taken_in) (each_option (IsCleanTaken acks) (taken_again t rest.left) (again_clean acks t rest.left is.left_in)) };
       phase = p;
       desk = is.desk_in;
     }
 
-acked_again_clean : (t : Taken) (o : Option (List ℕ)) (desk : Desk) → IfSome o IsTextOfAck → IsCleanDesk desk → IsCleanDesk (acked_again t o desk)
-acked_again_clean t None desk e had = had
-acked_again_clean t (Some text) desk e had = emit_clean (emit.Plain t.invitation.dialogue.peer text) desk e had
+acked_again_clean : (acks : List Acked) (t : Taken) (o : Option (List ℕ)) (desk : Desk) → IfSome o (IsTextOfAck acks) → IsCleanDesk acks desk → IsCleanDesk acks (acked_again t o desk)
+acked_again_clean acks t None desk e had = had
+acked_again_clean acks t (Some text) desk e had = emit_clean acks (emit.Plain t.invitation.dialogue.peer text) desk e had
 
-repeated_row : (t : Taken) (c : Call) (desk : Desk) → IsCleanTaken t → IsKept c → IsCleanPhase c.phase → IsCleanDesk desk → IsCleanStep (repeated t c desk)
-repeated_row t c desk e k p had =
-    onward_clean c (if is_talking c.phase then acked_again t t.invitation.ack desk else desk) k p
-    (if_desk (is_talking c.phase) (acked_again t t.invitation.ack desk) desk (acked_again_clean t t.invitation.ack desk e.ack_in had) had)
+repeated_row : (acks : List Acked) (t : Taken) (c : Call) (desk : Desk) → IsCleanTaken acks t → IsKept acks c → IsCleanPhase acks c.phase → IsCleanDesk acks desk → IsCleanStep acks (repeated t c desk)
+repeated_row acks t c desk e k p had =
+    onward_clean acks c (if is_talking c.phase then acked_again t t.invitation.ack desk else desk) k p
+    (if_desk acks (is_talking c.phase) (acked_again t t.invitation.ack desk) desk (acked_again_clean acks t t.invitation.ack desk e.ack_in had) had)
 
-taken_row : (site : Site) (key : TKey) (m : Said) (at : ℕ) (o : Option Taken) (c : Call) (desk : Desk) → IsCleanHeard m.heard → IfSome o IsCleanTaken → IsKept c → IsCleanPhase c.phase → IsCleanDesk desk → IsCleanStep (answered_taken site key m at o c desk)
-taken_row site key m at None c desk heard e k p had = onward_clean c desk k p had
-taken_row site key m at (Some t) c desk heard e k p had =
-    if_step (not (is_success (status_of m.heard.start))) (onward c desk) (if is_fork t m then forked site key m at t c desk else repeated t c desk)
-    (onward_clean c desk k p had)
-    (if_step (is_fork t m) (forked site key m at t c desk) (repeated t c desk) (forked_row site key m at t c desk heard e k p had) (repeated_row t c desk e k p had))
+taken_row : (acks : List Acked) (site : Site) (key : TKey) (m : Said) (at : ℕ) (o : Option Taken) (c : Call) (desk : Desk) → IsCleanHeard m.heard → IfSome o (IsCleanTaken acks) → IsKept acks c → IsCleanPhase acks c.phase → IsCleanDesk acks desk → IsCleanStep acks (answered_taken site key m at o c desk)
+taken_row acks site key m at None c desk heard e k p had = onward_clean acks c desk k p had
+taken_row acks site key m at (Some t) c desk heard e k p had =
+    if_step acks (not (is_success (status_of m.heard.start))) (onward c desk) (if is_fork t m then forked site key m at t c desk else repeated t c desk)
+    (onward_clean acks c desk k p had)
+    (if_step acks (is_fork t m) (forked site key m at t c desk) (repeated t c desk) (forked_row acks site key m at t c desk heard e k p had) (repeated_row acks t c desk e k p had))
 
-taken_at_row : (site : Site) (key : TKey) (m : Said) (o : Option ℕ) (c : Call) (desk : Desk) → IsCleanHeard m.heard → IsKept c → IsCleanPhase c.phase → IsCleanDesk desk → IsCleanStep (answered_taken_at site key m o c desk)
-taken_at_row site key m None c desk heard k p had = onward_clean c desk k p had
-taken_at_row site key m (Some at) c desk heard k p had = taken_row site key m at (slice_get c.taken at) c desk heard (each_get IsCleanTaken c.taken at k.taken_in) k p had
+taken_at_row : (acks : List Acked) (site : Site) (key : TKey) (m : Said) (o : Option ℕ) (c : Call) (desk : Desk) → IsCleanHeard m.heard → IsKept acks c → IsCleanPhase acks c.phase → IsCleanDesk acks desk → IsCleanStep acks (answered_taken_at site key m o c desk)
+taken_at_row acks site key m None c desk heard k p had = onward_clean acks c desk k p had
+taken_at_row acks site key m (Some at) c desk heard k p had = taken_row acks site key m at (slice_get c.taken at) c desk heard (each_get (IsCleanTaken acks) c.taken at k.taken_in) k p had
 
-at_row : (site : Site) (key : TKey) (m : Said) (branch : List ℕ) (o : Option ℕ) (c : Call) (desk : Desk) → IsCleanHeard m.heard → IsKept c → IsCleanPhase c.phase → IsCleanDesk desk → IsCleanStep (answered_at site key m branch o c desk)
-at_row site key m branch None c desk heard k p had = taken_at_row site key m (position (is_taken branch) c.taken) c desk heard k p had
-at_row site key m branch (Some at) c desk heard k p had = loose_row site key m at (slice_get c.loose at) c desk heard (each_get IsCleanLoose c.loose at k.loose_in) k p had
+at_row : (acks : List Acked) (site : Site) (key : TKey) (m : Said) (branch : List ℕ) (o : Option ℕ) (c : Call) (desk : Desk) → IsCleanHeard m.heard → IsKept acks c → IsCleanPhase acks c.phase → IsCleanDesk acks desk → IsCleanStep acks (answered_at site key m branch o c desk)
+at_row acks site key m branch None c desk heard k p had = taken_at_row acks site key m (position (is_taken branch) c.taken) c desk heard k p had
+at_row acks site key m branch (Some at) c desk heard k p had = loose_row acks site key m at (slice_get c.loose at) c desk heard (each_get (IsCleanLoose acks) c.loose at k.loose_in) k p had
 
-pub other_row : (site : Site) (key : TKey) (m : Said) (branch : List ℕ) (c : Call) (desk : Desk) → IsCleanHeard m.heard → IsKept c → IsCleanPhase c.phase → IsCleanDesk desk → IsCleanStep (answered_other site key m branch c desk)
+pub other_row : (acks : List Acked) (site : Site) (key : TKey) (m : Said) (branch : List ℕ) (c : Call) (desk : Desk) → IsCleanHeard m.heard → IsKept acks c → IsCleanPhase acks c.phase → IsCleanDesk acks desk → IsCleanStep acks (answered_other site key m branch c desk)
 unfolding answered_other
-other_row site key m branch c desk heard k p had = at_row site key m branch (position (is_of branch) c.loose) c desk heard k p had
+other_row acks site key m branch c desk heard k p had = at_row acks site key m branch (position (is_of branch) c.loose) c desk heard k p had
 
-pub silent_row : (branch : List ℕ) (c : Call) (desk : Desk) → IsKept c → IsCleanPhase c.phase → IsCleanDesk desk → IsCleanStep (onward (without_silent branch c) desk)
-silent_row branch c desk k p had = record {
-  kept = record { opening_in = k.opening_in; history_in = k.history_in; loose_in = without_clean IsCleanLoose (position (is_of branch) c.loose) c.loose k.loose_in; taken_in = k.taken_in };
+pub silent_row : (acks : List Acked) (branch : List ℕ) (c : Call) (desk : Desk) → IsKept acks c → IsCleanPhase acks c.phase → IsCleanDesk acks desk → IsCleanStep acks (onward (without_silent branch c) desk)
+silent_row acks branch c desk k p had = record {
+  kept = record { opening_in = k.opening_in; history_in = k.history_in; loose_in = without_clean (IsCleanLoose acks) (position (is_of branch) c.loose) c.loose k.loose_in; taken_in = k.taken_in };
   phase = p;
   desk = had;
 }
 
-pub key_row : (key : TKey) (c : Call) (desk : Desk) → IsKept c → IsCleanPhase c.phase → IsCleanDesk desk → IsCleanStep (onward (without_key key c) desk)
-key_row key c desk k p had = record {
+pub key_row : (acks : List Acked) (key : TKey) (c : Call) (desk : Desk) → IsKept acks c → IsCleanPhase acks c.phase → IsCleanDesk acks desk → IsCleanStep acks (onward (without_key key c) desk)
+key_row acks key c desk k p had = record {
   kept = record {
     opening_in = k.opening_in;
     history_in = k.history_in;
-    loose_in = without_clean IsCleanLoose (position (is_loose_key key) c.loose) c.loose k.loose_in;
-    taken_in = without_clean IsCleanTaken (position (is_taken_key key) c.taken) c.taken k.taken_in;
+    loose_in = without_clean (IsCleanLoose acks) (position (is_loose_key key) c.loose) c.loose k.loose_in;
+    taken_in = without_clean (IsCleanTaken acks) (position (is_taken_key key) c.taken) c.taken k.taken_in;
   };
   phase = p;
   desk = had;

@@ -1,5 +1,5 @@
 -- What the server sends in a step is clean, where it is built of what is clean.
-use Rattle.std.proofs.Common.{◌≡◌, ◌==◌, Bool, true, false, ℕ, zero, suc, List, [], ◌∷◌, ◌++◌, take, drop, map, Option, Some, None, refl}
+use Rattle.std.proofs.Common.{◌≡◌, inl, ◌==◌, Bool, true, false, ℕ, zero, suc, List, [], ◌∷◌, ◌++◌, take, drop, map, Option, Some, None, refl}
 use Rattle.std.specs.Prelude.{IfSome, codes, decimal, if◌then◌else◌, slice_get, option_to_list}
 use Rattle.std.specs.Option.{unwrap_or}
 use Rattle.std.specs.List.{list_all}
@@ -41,6 +41,7 @@ use Rattle.mmtel_types.specs.declared.addrs.Addr.{Addr}
 use Rattle.mmtel_types.specs.declared.numbers.Peer.{Peer}
 use Rattle.mmtel_types.specs.declared.sides.Side.{Side}
 use Rattle.mmtel_types.specs.declared.sides.Side.TheVariants.{Caller, Callee}
+use Rattle.mmtel_call_laws.specs.Heads.Acks.{Acked, IsGivenTo}
 use Rattle.mmtel_call_laws.specs.Heads.Clean.{AreClean, AreCleanLines, IsClean}
 use Rattle.mmtel_call_laws.specs.Heads.Emits.{Each, IsCleanDesk, IsCleanEmit, IsTextOfAck}
 use Rattle.mmtel_call_laws.specs.Heads.Heard.{IsCleanUri}
@@ -55,6 +56,14 @@ use Rattle.mmtel_call_laws.proofs.Heads.Reading.{first_clean, name_clean, name_t
 pub each_append : {A : Type 0} (P : A → Type 0) (xs ys : List A) → Each P xs → Each P ys → Each P (xs ++ ys)
 each_append P [] ys e f = f
 each_append P (x ∷ xs) ys e f = (e.0, each_append P xs ys e.1 f)
+
+pub each_front : {A : Type 0} (P : A → Type 0) (xs ys : List A) → Each P (xs ++ ys) → Each P xs
+each_front P [] ys e = tt
+each_front P (x ∷ xs) ys e = (e.0, each_front P xs ys e.1)
+
+pub each_back : {A : Type 0} (P : A → Type 0) (xs ys : List A) → Each P (xs ++ ys) → Each P ys
+each_back P [] ys e = e
+each_back P (x ∷ xs) ys e = each_back P xs ys e.1
 
 pub each_take : {A : Type 0} (P : A → Type 0) (n : ℕ) (xs : List A) → Each P xs → Each P (take n xs)
 each_take P zero xs e = tt
@@ -81,17 +90,17 @@ each_option P (Some x) e = (e, tt)
 
 -- ---- tokens and what goes out
 
-pub token_clean : (desk : Desk) → IsCleanDesk desk → IsClean (token desk)
-token_clean desk is =
+pub token_clean : (acks : List Acked) (desk : Desk) → IsCleanDesk acks desk → IsClean (token desk)
+token_clean acks desk is =
     let n : ℕ = next_number desk.tokens.drawn in
     joined desk.tokens.token (45 ∷ decimal n) is.token_in (all_cons is_value_byte 45 (decimal n) refl (decimal_clean n))
 
-pub emit_clean : (e : Emit) (desk : Desk) → IsCleanEmit e → IsCleanDesk desk → IsCleanDesk (emitted e desk)
-emit_clean e desk f is = record { token_in = is.token_in; out_in = each_append IsCleanEmit desk.out (e ∷ []) is.out_in (f, tt) }
+pub emit_clean : (acks : List Acked) (e : Emit) (desk : Desk) → IsCleanEmit acks e → IsCleanDesk acks desk → IsCleanDesk acks (emitted e desk)
+emit_clean acks e desk f is = record { token_in = is.token_in; out_in = each_append (IsCleanEmit acks) desk.out (e ∷ []) is.out_in (f, tt) }
 
-pub if_desk : (b : Bool) (one two : Desk) → IsCleanDesk one → IsCleanDesk two → IsCleanDesk (if b then one else two)
-if_desk true one two e f = e
-if_desk false one two e f = f
+pub if_desk : (acks : List Acked) (b : Bool) (one two : Desk) → IsCleanDesk acks one → IsCleanDesk acks two → IsCleanDesk acks (if b then one else two)
+if_desk acks true one two e f = e
+if_desk acks false one two e f = f
 
 -- ---- phrases
 
@@ -113,21 +122,21 @@ phrase_clean code = phrase_in_clean (first_phrases ++ further_phrases) code refl
 
 -- ---- responses
 
-pub answered_clean : (sip : Addr) (key : TKey) (m : Said) (tag : List ℕ) (code : ℕ) (passed named : List Line) (body : List ℕ) (desk : Desk) →
-    IsCleanHeard m.heard → IsClean tag → AreCleanLines passed → AreCleanLines named → IsCleanDesk desk → IsCleanDesk (answered sip key m tag code passed named body desk)
-answered_clean sip key m tag code passed named body desk is e f g had =
+pub answered_clean : (acks : List Acked) (sip : Addr) (key : TKey) (m : Said) (tag : List ℕ) (code : ℕ) (passed named : List Line) (body : List ℕ) (desk : Desk) →
+    IsCleanHeard m.heard → IsClean tag → AreCleanLines passed → AreCleanLines named → IsCleanDesk acks desk → IsCleanDesk acks (answered sip key m tag code passed named body desk)
+answered_clean acks sip key m tag code passed named body desk is e f g had =
     let r = own_reply (contact_text sip) m.source tag code passed named body in
-    emit_clean (emit.Reply key (response m.heard.start m.heard.lines r)) desk
+    emit_clean acks (emit.Reply key (response m.heard.start m.heard.lines r)) desk
     (response_clean m.heard.start m.heard.lines r is.lines_in (record { phrase_in = phrase_clean code; tag_in = e; contact_in = contact_clean sip; passed_in = f; named_in = g })) had
 
-pub replied_clean : (sip : Addr) (key : TKey) (m : Said) (tag : List ℕ) (code : ℕ) (desk : Desk) → IsCleanHeard m.heard → IsClean tag → IsCleanDesk desk → IsCleanDesk (replied sip key m tag code desk)
-replied_clean sip key m tag code desk is e had = answered_clean sip key m tag code [] [] [] desk is e refl refl had
+pub replied_clean : (acks : List Acked) (sip : Addr) (key : TKey) (m : Said) (tag : List ℕ) (code : ℕ) (desk : Desk) → IsCleanHeard m.heard → IsClean tag → IsCleanDesk acks desk → IsCleanDesk acks (replied sip key m tag code desk)
+replied_clean acks sip key m tag code desk is e had = answered_clean acks sip key m tag code [] [] [] desk is e refl refl had
 
-pub relayed_clean : (sip : Addr) (key : TKey) (m : Said) (tag : List ℕ) (passed : List Line) (r : Said) (desk : Desk) →
-    IsCleanHeard m.heard → IsClean tag → AreCleanLines passed → IsCleanHeard r.heard → IsCleanDesk desk → IsCleanDesk (relayed sip key m tag passed r desk)
-relayed_clean sip key m tag passed r desk is e f heard had =
+pub relayed_clean : (acks : List Acked) (sip : Addr) (key : TKey) (m : Said) (tag : List ℕ) (passed : List Line) (r : Said) (desk : Desk) →
+    IsCleanHeard m.heard → IsClean tag → AreCleanLines passed → IsCleanHeard r.heard → IsCleanDesk acks desk → IsCleanDesk acks (relayed sip key m tag passed r desk)
+relayed_clean acks sip key m tag passed r desk is e f heard had =
     let reply = relayed_reply (contact_text sip) m.source tag passed r.heard in
-    emit_clean (emit.Reply key (response m.heard.start m.heard.lines reply)) desk
+    emit_clean acks (emit.Reply key (response m.heard.start m.heard.lines reply)) desk
     (response_clean m.heard.start m.heard.lines reply is.lines_in (record { phrase_in = heard.phrase_clean; tag_in = e; contact_in = contact_clean sip; passed_in = f; named_in = refl })) had
 
 -- ---- requests in a dialog
@@ -135,42 +144,44 @@ relayed_clean sip key m tag passed r desk is e f heard had =
 given_clean : (given : Given) → IsClean given.branch → AreCleanLines given.shown → IsCleanGiven given
 given_clean given e f = record { branch_in = e; shown_in = f }
 
-pub asked_clean : (sip : Addr) (method : List ℕ) (d : Dialogue) (named : List Line) (body : List ℕ) (desk : Desk) →
-    IsCleanDialogue d → IsClean method → AreCleanLines named → IsCleanDesk desk → IsCleanDesk (asked_with sip method d named body desk)
-asked_clean sip method d named body desk is e f had =
+pub asked_clean : (acks : List Acked) (sip : Addr) (method : List ℕ) (d : Dialogue) (named : List Line) (body : List ℕ) (desk : Desk) →
+    IsCleanDialogue d → IsClean method → AreCleanLines named → IsCleanDesk acks desk → IsCleanDesk acks (asked_with sip method d named body desk)
+asked_clean acks sip method d named body desk is e f had =
     let given = bringing sip (token desk) named body in
-    emit_clean (emit.Ask d.peer (request_of d method given)) (drew desk)
-    (request_clean d (next_number d.own) method given is e (given_clean given (token_clean desk had) f)) had
+    emit_clean acks (emit.Ask d.peer (request_of d method given)) (drew desk)
+    (request_clean d (next_number d.own) method given is e (given_clean given (token_clean acks desk had) f)) had
 
-pub bye_clean : (sip : Addr) (d : Dialogue) (desk : Desk) → IsCleanDialogue d → IsCleanDesk desk → IsCleanDesk (bye sip d desk)
-bye_clean sip d desk is had = asked_clean sip (codes "BYE") d [] [] desk is refl refl had
+pub bye_clean : (acks : List Acked) (sip : Addr) (d : Dialogue) (desk : Desk) → IsCleanDialogue d → IsCleanDesk acks desk → IsCleanDesk acks (bye sip d desk)
+bye_clean acks sip d desk is had = asked_clean acks sip (codes "BYE") d [] [] desk is refl refl had
 
-pub asked_for_clean : (sip : Addr) (method : List ℕ) (d : Dialogue) (passed : List Line) (m : HeardMessage) (desk : Desk) →
-    IsCleanDialogue d → IsClean method → AreCleanLines passed → IsCleanDesk desk → IsCleanDesk (asked_for sip method d passed m desk)
-asked_for_clean sip method d passed m desk is e f had =
+pub asked_for_clean : (acks : List Acked) (sip : Addr) (method : List ℕ) (d : Dialogue) (passed : List Line) (m : HeardMessage) (desk : Desk) →
+    IsCleanDialogue d → IsClean method → AreCleanLines passed → IsCleanDesk acks desk → IsCleanDesk acks (asked_for sip method d passed m desk)
+asked_for_clean acks sip method d passed m desk is e f had =
     let given = relaying sip (token desk) passed m in
-    emit_clean (emit.Ask d.peer (request_of d method given)) (drew desk)
-    (request_clean d (next_number d.own) method given is e (given_clean given (token_clean desk had) f)) had
+    emit_clean acks (emit.Ask d.peer (request_of d method given)) (drew desk)
+    (request_clean d (next_number d.own) method given is e (given_clean given (token_clean acks desk had) f)) had
 
 -- ---- ACKs of a 2xx
 
-ack_clean : (d : Dialogue) (given : Given) → IsCleanDialogue d → IsCleanGiven given → IsTextOfAck (message_text (ack_of d given))
-ack_clean d given is had = record { dialogue = d; given = given; clean = request_clean d (unwrap_or d.invited 0) (codes "ACK") given is refl had; is = refl }
+ack_clean : (acks : List Acked) (d : Dialogue) (given : Given) → IsGivenTo acks d given → IsCleanDialogue d → IsCleanGiven given → IsTextOfAck acks (message_text (ack_of d given))
+ack_clean acks d given passes is had = record { dialogue = d; given = given; passes = passes; clean = request_clean d (unwrap_or d.invited 0) (codes "ACK") given is refl had; is = refl }
 
-pub ack_text_clean : (sip : Addr) (d : Dialogue) (branch : List ℕ) → IsCleanDialogue d → IsClean branch → IsTextOfAck (ack_text sip d branch)
+pub ack_text_clean : (acks : List Acked) (sip : Addr) (d : Dialogue) (branch : List ℕ) → IsCleanDialogue d → IsClean branch → IsTextOfAck acks (ack_text sip d branch)
 unfolding ack_text
-ack_text_clean sip d branch is e = ack_clean d (bare sip branch) is (given_clean (bare sip branch) e refl)
+ack_text_clean acks sip d branch is e = ack_clean acks d (bare sip branch) (inl refl) is (given_clean (bare sip branch) e refl)
 
-pub relayed_ack_clean : (sip : Addr) (d : Dialogue) (branch : List ℕ) (passed : List Line) (m : HeardMessage) → IsCleanDialogue d → IsClean branch → AreCleanLines passed → IsTextOfAck (relayed_ack_text sip d branch passed m)
+pub relayed_ack_clean : (acks : List Acked) (sip : Addr) (d : Dialogue) (branch : List ℕ) (passed : List Line) (m : HeardMessage) →
+    IsGivenTo acks d (relaying sip branch passed m) → IsCleanDialogue d → IsClean branch → AreCleanLines passed → IsTextOfAck acks (relayed_ack_text sip d branch passed m)
 unfolding relayed_ack_text
-relayed_ack_clean sip d branch passed m is e f = ack_clean d (relaying sip branch passed m) is (given_clean (relaying sip branch passed m) e f)
+relayed_ack_clean acks sip d branch passed m passes is e f = ack_clean acks d (relaying sip branch passed m) passes is (given_clean (relaying sip branch passed m) e f)
 
-pub acked_clean : (sip : Addr) (d : Dialogue) (desk : Desk) → IsCleanDialogue d → IsCleanDesk desk → IsCleanDesk (acked sip d desk)
-acked_clean sip d desk is had = emit_clean (emit.Plain d.peer (ack_text sip d (token desk))) (drew desk) (ack_text_clean sip d (token desk) is (token_clean desk had)) had
+pub acked_clean : (acks : List Acked) (sip : Addr) (d : Dialogue) (desk : Desk) → IsCleanDialogue d → IsCleanDesk acks desk → IsCleanDesk acks (acked sip d desk)
+acked_clean acks sip d desk is had = emit_clean acks (emit.Plain d.peer (ack_text sip d (token desk))) (drew desk) (ack_text_clean acks sip d (token desk) is (token_clean acks desk had)) had
 
-pub acked_for_clean : (sip : Addr) (d : Dialogue) (passed : List Line) (m : HeardMessage) (desk : Desk) → IsCleanDialogue d → AreCleanLines passed → IsCleanDesk desk → IsCleanDesk (acked_for sip d passed m desk)
-acked_for_clean sip d passed m desk is f had =
-    emit_clean (emit.Plain d.peer (relayed_ack_text sip d (token desk) passed m)) (drew desk) (relayed_ack_clean sip d (token desk) passed m is (token_clean desk had) f) had
+pub acked_for_clean : (acks : List Acked) (sip : Addr) (d : Dialogue) (passed : List Line) (m : HeardMessage) (desk : Desk) →
+    IsGivenTo acks d (relaying sip (token desk) passed m) → IsCleanDialogue d → AreCleanLines passed → IsCleanDesk acks desk → IsCleanDesk acks (acked_for sip d passed m desk)
+acked_for_clean acks sip d passed m desk passes is f had =
+    emit_clean acks (emit.Plain d.peer (relayed_ack_text sip d (token desk) passed m)) (drew desk) (relayed_ack_clean acks sip d (token desk) passed m passes is (token_clean acks desk had) f) had
 
 -- ---- what repeats an INVITE
 
@@ -181,34 +192,34 @@ pub record IsCleanRemote (r : Remote) : Type 0 where
   pub routes_in : AreClean r.routes
 
 -- what of it is sent again
-pub record AreCleanSent (d : Dialogue) (branch : List ℕ) (ack : Option (List ℕ)) (forks : List Dialogue) (early : Option Remote) : Type 0 where
+pub record AreCleanSent (acks : List Acked) (d : Dialogue) (branch : List ℕ) (ack : Option (List ℕ)) (forks : List Dialogue) (early : Option Remote) : Type 0 where
   pub dialogue_in : IsCleanDialogue d
   pub branch_in : IsClean branch
-  pub ack_in : IfSome ack IsTextOfAck
+  pub ack_in : IfSome ack (IsTextOfAck acks)
   pub forks_in : Each IsCleanDialogue forks
   pub early_in : IfSome early IsCleanRemote
 
-abbrev pub IsCleanInvitation : Invitation → Type 0
-IsCleanInvitation i = AreCleanSent i.dialogue i.branch i.ack i.forks i.early
+abbrev pub IsCleanInvitation : (acks : List Acked) → Invitation → Type 0
+IsCleanInvitation acks i = AreCleanSent acks i.dialogue i.branch i.ack i.forks i.early
 
-pub cancel_clean : (sip : Addr) (i : Invitation) (desk : Desk) → IsCleanInvitation i → IsCleanDesk desk → IsCleanDesk (cancel_sent sip i desk)
-cancel_clean sip i desk is had =
-    emit_clean (emit.Ask i.dialogue.peer (numbered i.dialogue i.number (codes "CANCEL") (bare sip i.branch))) desk
+pub cancel_clean : (acks : List Acked) (sip : Addr) (i : Invitation) (desk : Desk) → IsCleanInvitation acks i → IsCleanDesk acks desk → IsCleanDesk acks (cancel_sent sip i desk)
+cancel_clean acks sip i desk is had =
+    emit_clean acks (emit.Ask i.dialogue.peer (numbered i.dialogue i.number (codes "CANCEL") (bare sip i.branch))) desk
     (request_clean i.dialogue i.number (codes "CANCEL") (bare sip i.branch) is.dialogue_in refl (given_clean (bare sip i.branch) is.branch_in refl)) had
 
-pub cancelled_clean : (sip : Addr) (i : Invitation) (desk : Desk) → IsCleanInvitation i → IsCleanDesk desk → IsCleanDesk (cancelled sip i desk)
-cancelled_clean sip i desk is had = if_desk (is_cancellable i) (cancel_sent sip i desk) desk (cancel_clean sip i desk is had) had
+pub cancelled_clean : (acks : List Acked) (sip : Addr) (i : Invitation) (desk : Desk) → IsCleanInvitation acks i → IsCleanDesk acks desk → IsCleanDesk acks (cancelled sip i desk)
+cancelled_clean acks sip i desk is had = if_desk acks (is_cancellable i) (cancel_sent sip i desk) desk (cancel_clean acks sip i desk is had) had
 
 pub field_clean : (name : List ℕ) (ls : List Line) → AreCleanLines ls → IsClean (field name ls)
 unfolding field
 field_clean name ls e = or_clean (first_value name ls) (first_clean name ls e)
 
-pub final_acked_clean : (sip : Addr) (key : TKey) (i : Invitation) (m : HeardMessage) (desk : Desk) → IsCleanInvitation i → IsCleanHeard m → IsCleanDesk desk → IsCleanDesk (final_acked sip key i m desk)
-final_acked_clean sip key i m desk is heard had =
+pub final_acked_clean : (acks : List Acked) (sip : Addr) (key : TKey) (i : Invitation) (m : HeardMessage) (desk : Desk) → IsCleanInvitation acks i → IsCleanHeard m → IsCleanDesk acks desk → IsCleanDesk acks (final_acked sip key i m desk)
+final_acked_clean acks sip key i m desk is heard had =
     let to : List ℕ = field (codes "To") m.lines in
     let d : Dialogue = towards i.dialogue to in
     let had_parts = is.dialogue_in in
-    emit_clean (emit.Ack key (numbered d i.number (codes "ACK") (bare sip i.branch))) desk
+    emit_clean acks (emit.Ack key (numbered d i.number (codes "ACK") (bare sip i.branch))) desk
     (request_clean d i.number (codes "ACK") (bare sip i.branch)
     (record { call_id_in = had_parts.call_id_in; local_in = had_parts.local_in; remote_in = field_clean (codes "To") m.lines heard.lines_in; tag_in = refl; target_in = had_parts.target_in; routes_in = had_parts.routes_in })
     refl (given_clean (bare sip i.branch) is.branch_in refl)) had
@@ -298,10 +309,10 @@ diverted_aim_clean peer routes target cause e f = record {
   routes_in = e;
 }
 
-pub attempt_clean : (aim : Aim) (m : HeardMessage) (restricted : Bool) (desk : Desk) → IsCleanAim aim → IsCleanHeard m → IsCleanDesk desk → IsCleanDialogue (attempt_dialog aim m restricted desk)
-attempt_clean aim m restricted desk is heard had = record {
-  call_id_in = token_clean desk had;
-  local_in = from_clean restricted (token (drew desk)) m.lines (token_clean (drew desk) had) heard.lines_in;
+pub attempt_clean : (acks : List Acked) (aim : Aim) (m : HeardMessage) (restricted : Bool) (desk : Desk) → IsCleanAim aim → IsCleanHeard m → IsCleanDesk acks desk → IsCleanDialogue (attempt_dialog aim m restricted desk)
+attempt_clean acks aim m restricted desk is heard had = record {
+  call_id_in = token_clean acks desk had;
+  local_in = from_clean restricted (token (drew desk)) m.lines (token_clean acks (drew desk) had) heard.lines_in;
   remote_in = is.to_in;
   tag_in = refl;
   target_in = is.uri_in;
@@ -312,11 +323,11 @@ alert_clean : (waiting : Bool) → AreCleanLines (alert_lines waiting)
 alert_clean true = refl
 alert_clean false = refl
 
-pub offered_clean : (sip : Addr) (aim : Aim) (m : HeardMessage) (restricted : Bool) (passed : List Line) (waiting : Bool) (desk : Desk) →
-    IsCleanAim aim → IsCleanHeard m → AreCleanLines passed → IsCleanDesk desk → IsCleanDesk (offered sip aim m restricted passed waiting desk)
-offered_clean sip aim m restricted passed waiting desk is heard e had =
+pub offered_clean : (acks : List Acked) (sip : Addr) (aim : Aim) (m : HeardMessage) (restricted : Bool) (passed : List Line) (waiting : Bool) (desk : Desk) →
+    IsCleanAim aim → IsCleanHeard m → AreCleanLines passed → IsCleanDesk acks desk → IsCleanDesk acks (offered sip aim m restricted passed waiting desk)
+offered_clean acks sip aim m restricted passed waiting desk is heard e had =
     let d : Dialogue = attempt_dialog aim m restricted desk in
     let given = relaying sip (token (drew (drew desk))) (passed ++ alert_lines waiting) m in
-    emit_clean (emit.Ask aim.peer (numbered d 1 (codes "INVITE") given)) (drew (drew (drew desk)))
-    (request_clean d 1 (codes "INVITE") given (attempt_clean aim m restricted desk is heard had) refl
-    (given_clean given (token_clean (drew (drew desk)) had) (lines_joined passed (alert_lines waiting) e (alert_clean waiting)))) had
+    emit_clean acks (emit.Ask aim.peer (numbered d 1 (codes "INVITE") given)) (drew (drew (drew desk)))
+    (request_clean d 1 (codes "INVITE") given (attempt_clean acks aim m restricted desk is heard had) refl
+    (given_clean given (token_clean acks (drew (drew desk)) had) (lines_joined passed (alert_lines waiting) e (alert_clean waiting)))) had

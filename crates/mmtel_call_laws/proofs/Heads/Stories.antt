@@ -1,5 +1,5 @@
 -- Every step of a story keeps the call clean, and sends what is clean.
-use Rattle.std.proofs.Common.{Bool, true, false, ℕ, List, [], ◌∷◌, drop, Option, Some, None, refl}
+use Rattle.std.proofs.Common.{◌++◌, inl, inr, Bool, true, false, ℕ, List, [], ◌∷◌, drop, Option, Some, None, refl}
 use Rattle.std.specs.Prelude.{IfSome, codes, if◌then◌else◌, is_ok}
 use Rattle.mmtel_answers.specs.Said.{Said, status_of}
 use Rattle.mmtel_desk.specs.Desks.{drew, token}
@@ -43,6 +43,7 @@ use Rattle.mmtel_call.specs.Sending.{replied_to, told_caller}
 use Rattle.mmtel_call.specs.Table.{ack_in, answer_to, cancel_in, due_in, is_current, request_in, response_in, silence_in, silence_of, step}
 use Rattle.mmtel_call.specs.declared.signals.Signal.{Signal}
 use Rattle.mmtel_call.specs.declared.signals.Signal.TheVariants as signal
+use Rattle.mmtel_call_laws.specs.Heads.Acks.{Acked, acked_after, acked_by, acked_in}
 use Rattle.mmtel_call_laws.specs.Story.{Heard, Start, call_after, first_step, next_step}
 use Rattle.mmtel_message.specs.Message.{Message}
 use Rattle.mmtel_message.specs.declared.messages.Start.{Start as StartLine}
@@ -53,7 +54,7 @@ use Rattle.mmtel_call_laws.specs.Heads.Emits.{Each, IsCleanDesk, IsCleanEmit}
 use Rattle.mmtel_call_laws.specs.Heads.Heard.{IsOfClean}
 use Rattle.mmtel_call_laws.specs.Heads.Kept.{AreCleanEntries, IsCleanLeg}
 use Rattle.mmtel_call_laws.specs.Heads.Stories as stories
-use Rattle.mmtel_call_laws.specs.Heads.Stories.{EmitsAreClean, EmitsHaveTheirLines, FinishedEmitsAreClean, IsCleanSignal, IsCleanStart, SendsOwnLines, desk_after}
+use Rattle.mmtel_call_laws.specs.Heads.Stories.{AreAmong, EmitsAreClean, EmitsHaveTheirLines, FinishedEmitsAreClean, IsCleanSignal, IsCleanStart, SendsOwnLines, desk_after}
 use Rattle.mmtel_call_laws.proofs.Heads.Bytes.{all_drop}
 use Rattle.mmtel_call_laws.proofs.Heads.Deciding.{first_target_clean}
 use Rattle.mmtel_call_laws.proofs.Heads.Going.{IsGood, reach_clean, refused_clean}
@@ -61,78 +62,95 @@ use Rattle.mmtel_call_laws.proofs.Heads.Hearing.{IsCleanHeard, heard_clean}
 use Rattle.mmtel_call_laws.proofs.Heads.Keeping.{IsCleanHere, IsCleanOpening, IsCleanPair, IsCleanPhase, IsCleanStep, IsCleanStood, IsKept, if_step, onward_clean, over_clean, replied_to_clean, told_caller_clean}
 use Rattle.mmtel_call_laws.proofs.Heads.Leaving.{key_row, other_row, silent_row}
 use Rattle.mmtel_call_laws.proofs.Heads.Ringing as ringing
-use Rattle.mmtel_call_laws.proofs.Heads.Sending.{bye_clean, opened_clean, token_clean}
+use Rattle.mmtel_call_laws.proofs.Heads.Sending.{bye_clean, each_back, each_front, opened_clean, token_clean}
 use Rattle.mmtel_call_laws.proofs.Heads.Splitting.{cleans, splits}
 use Rattle.mmtel_call_laws.proofs.Heads.Talking as talking
 use Rattle.mmtel_message.specs.Headers.{is_value_byte}
+use Rattle.mmtel_trust.specs.Members.{IsIn}
 use Rattle.std.specs.List.{list_all}
+
+-- ---- ACKs that were heard, among others
+
+pub front_among : (acks some more : List Acked) → AreAmong (some ++ more) acks → AreAmong some acks
+front_among acks some more among = each_front (λ (acked : Acked). IsIn acked acks) some more among
+
+pub back_among : (acks some more : List Acked) → AreAmong (some ++ more) acks → AreAmong more acks
+back_among acks some more among = each_back (λ (acked : Acked). IsIn acked acks) some more among
+
+one_more : (acked : Acked) (some acks : List Acked) → AreAmong some acks → AreAmong some (acked ∷ acks)
+one_more acked [] acks among = tt
+one_more acked (x ∷ some) acks among = (inr among.0, one_more acked some acks among.1)
+
+pub own_among : (acks : List Acked) → AreAmong acks acks
+own_among [] = tt
+own_among (acked ∷ acks) = (inl refl, one_more acked acks acks (own_among acks))
 
 -- ---- the table, by phase
 
 abbrev at_phase : Phase → Call → Call
 at_phase phase c = record c { phase = phase }
 
-response_clean : (phase : Phase) (site : Site) (now : Standing) (key : TKey) (m : Said) (c : Call) (desk : Desk) →
-    IsGood site now → IsCleanHeard m.heard → IsCleanPhase phase → IsKept c → IsCleanDesk desk → IsCleanStep (response_in phase site now key m (at_phase phase c) desk)
-response_clean (Offered x) site now key m c desk good heard p k had = ringing.response_row site now x key m (status_of m.heard.start) (at_phase (Offered x) c) desk good heard p k had
-response_clean (Stood x stage) site now key m c desk good heard p k had = talking.response_row stage site now.at x key m c desk heard p.pair_in p.stage_in k had
-response_clean (Lent loan) site now key m c desk good heard p k had = onward_clean (at_phase (Lent loan) c) desk k p had
-response_clean (Over cause) site now key m c desk good heard p k had = onward_clean (at_phase (Over cause) c) desk k p had
+response_clean : (acks : List Acked) (phase : Phase) (site : Site) (now : Standing) (key : TKey) (m : Said) (c : Call) (desk : Desk) →
+    IsGood site now → IsCleanHeard m.heard → IsCleanPhase acks phase → IsKept acks c → IsCleanDesk acks desk → IsCleanStep acks (response_in phase site now key m (at_phase phase c) desk)
+response_clean acks (Offered x) site now key m c desk good heard p k had = ringing.response_row acks site now x key m (status_of m.heard.start) (at_phase (Offered x) c) desk good heard p k had
+response_clean acks (Stood x stage) site now key m c desk good heard p k had = talking.response_row acks stage site now.at x key m c desk heard p.pair_in p.stage_in k had
+response_clean acks (Lent loan) site now key m c desk good heard p k had = onward_clean acks (at_phase (Lent loan) c) desk k p had
+response_clean acks (Over cause) site now key m c desk good heard p k had = onward_clean acks (at_phase (Over cause) c) desk k p had
 
-silence_clean : (phase : Phase) (site : Site) (now : Standing) (c : Call) (desk : Desk) → IsGood site now → IsCleanPhase phase → IsKept c → IsCleanDesk desk → IsCleanStep (silence_in phase site now (at_phase phase c) desk)
-silence_clean (Offered x) site now c desk good p k had = ringing.silence_row site now x c desk good p k had
-silence_clean (Stood x stage) site now c desk good p k had = talking.silence_row stage site now.at x c desk p.pair_in p.stage_in k had
-silence_clean (Lent loan) site now c desk good p k had = onward_clean (at_phase (Lent loan) c) desk k p had
-silence_clean (Over cause) site now c desk good p k had = onward_clean (at_phase (Over cause) c) desk k p had
+silence_clean : (acks : List Acked) (phase : Phase) (site : Site) (now : Standing) (c : Call) (desk : Desk) → IsGood site now → IsCleanPhase acks phase → IsKept acks c → IsCleanDesk acks desk → IsCleanStep acks (silence_in phase site now (at_phase phase c) desk)
+silence_clean acks (Offered x) site now c desk good p k had = ringing.silence_row acks site now x c desk good p k had
+silence_clean acks (Stood x stage) site now c desk good p k had = talking.silence_row acks stage site now.at x c desk p.pair_in p.stage_in k had
+silence_clean acks (Lent loan) site now c desk good p k had = onward_clean acks (at_phase (Lent loan) c) desk k p had
+silence_clean acks (Over cause) site now c desk good p k had = onward_clean acks (at_phase (Over cause) c) desk k p had
 
-request_clean : (phase : Phase) (site : Site) (at : ℕ) (side : Side) (key : TKey) (m : Said) (c : Call) (desk : Desk) → IsCleanHeard m.heard → IsCleanPhase phase → IsKept c → IsCleanDesk desk → IsCleanStep (request_in phase site at side key m (at_phase phase c) desk)
-request_clean (Offered x) site at side key m c desk heard p k had = ringing.request_row site at x side key m c desk heard p k had
-request_clean (Stood x stage) site at side key m c desk heard p k had = talking.request_row stage site at x side key m c desk heard p.pair_in p.stage_in k had
-request_clean (Lent loan) site at side key m c desk heard p k had = onward_clean (at_phase (Lent loan) c) desk k p had
-request_clean (Over cause) site at side key m c desk heard p k had = onward_clean (at_phase (Over cause) c) desk k p had
+request_clean : (acks : List Acked) (phase : Phase) (site : Site) (at : ℕ) (side : Side) (key : TKey) (m : Said) (c : Call) (desk : Desk) → IsCleanHeard m.heard → IsCleanPhase acks phase → IsKept acks c → IsCleanDesk acks desk → IsCleanStep acks (request_in phase site at side key m (at_phase phase c) desk)
+request_clean acks (Offered x) site at side key m c desk heard p k had = ringing.request_row acks site at x side key m c desk heard p k had
+request_clean acks (Stood x stage) site at side key m c desk heard p k had = talking.request_row acks stage site at x side key m c desk heard p.pair_in p.stage_in k had
+request_clean acks (Lent loan) site at side key m c desk heard p k had = onward_clean acks (at_phase (Lent loan) c) desk k p had
+request_clean acks (Over cause) site at side key m c desk heard p k had = onward_clean acks (at_phase (Over cause) c) desk k p had
 
-ack_clean : (phase : Phase) (site : Site) (at : ℕ) (side : Side) (m : Said) (c : Call) (desk : Desk) → IsCleanHeard m.heard → IsCleanPhase phase → IsKept c → IsCleanDesk desk → IsCleanStep (ack_in phase site at side m (at_phase phase c) desk)
-ack_clean (Offered x) site at side m c desk heard p k had = onward_clean (at_phase (Offered x) c) desk k p had
-ack_clean (Stood x stage) site at side m c desk heard p k had = talking.ack_row stage site at x side m c desk heard p.pair_in p.stage_in k had
-ack_clean (Lent loan) site at side m c desk heard p k had = onward_clean (at_phase (Lent loan) c) desk k p had
-ack_clean (Over cause) site at side m c desk heard p k had = onward_clean (at_phase (Over cause) c) desk k p had
+ack_clean : (acks : List Acked) (phase : Phase) (site : Site) (at : ℕ) (side : Side) (m : Said) (c : Call) (desk : Desk) → AreAmong (acked_in site phase c side m) acks → IsCleanHeard m.heard → IsCleanPhase acks phase → IsKept acks c → IsCleanDesk acks desk → IsCleanStep acks (ack_in phase site at side m (at_phase phase c) desk)
+ack_clean acks (Offered x) site at side m c desk among heard p k had = onward_clean acks (at_phase (Offered x) c) desk k p had
+ack_clean acks (Stood x stage) site at side m c desk among heard p k had = talking.ack_row acks stage site at x side m c desk among heard p.pair_in p.stage_in k had
+ack_clean acks (Lent loan) site at side m c desk among heard p k had = onward_clean acks (at_phase (Lent loan) c) desk k p had
+ack_clean acks (Over cause) site at side m c desk among heard p k had = onward_clean acks (at_phase (Over cause) c) desk k p had
 
-cancel_clean : (phase : Phase) (site : Site) (at : ℕ) (key : TKey) (m : Said) (invite : TKey) (c : Call) (desk : Desk) → IsCleanHeard m.heard → IsCleanPhase phase → IsKept c → IsCleanDesk desk → IsCleanStep (cancel_in phase site at key m invite (at_phase phase c) desk)
-cancel_clean (Offered x) site at key m invite c desk heard p k had = ringing.cancel_row site at x key m invite c desk heard p k had
-cancel_clean (Stood x stage) site at key m invite c desk heard p k had =
-    talking.cancel_row stage site x invite c (replied_to site (at_phase (Stood x stage) c) key m 200 desk) p.pair_in p.stage_in k (replied_to_clean site (at_phase (Stood x stage) c) key m 200 desk k heard had)
-cancel_clean (Lent loan) site at key m invite c desk heard p k had = onward_clean (at_phase (Lent loan) c) desk k p had
-cancel_clean (Over cause) site at key m invite c desk heard p k had = onward_clean (at_phase (Over cause) c) desk k p had
+cancel_clean : (acks : List Acked) (phase : Phase) (site : Site) (at : ℕ) (key : TKey) (m : Said) (invite : TKey) (c : Call) (desk : Desk) → IsCleanHeard m.heard → IsCleanPhase acks phase → IsKept acks c → IsCleanDesk acks desk → IsCleanStep acks (cancel_in phase site at key m invite (at_phase phase c) desk)
+cancel_clean acks (Offered x) site at key m invite c desk heard p k had = ringing.cancel_row acks site at x key m invite c desk heard p k had
+cancel_clean acks (Stood x stage) site at key m invite c desk heard p k had =
+    talking.cancel_row acks stage site x invite c (replied_to site (at_phase (Stood x stage) c) key m 200 desk) p.pair_in p.stage_in k (replied_to_clean acks site (at_phase (Stood x stage) c) key m 200 desk k heard had)
+cancel_clean acks (Lent loan) site at key m invite c desk heard p k had = onward_clean acks (at_phase (Lent loan) c) desk k p had
+cancel_clean acks (Over cause) site at key m invite c desk heard p k had = onward_clean acks (at_phase (Over cause) c) desk k p had
 
-due_clean : (phase : Phase) (site : Site) (now : Standing) (what : DueWord) (c : Call) (desk : Desk) → IsGood site now → IsCleanPhase phase → IsKept c → IsCleanDesk desk → IsCleanStep (due_in phase site now what (at_phase phase c) desk)
-due_clean (Offered x) site now what c desk good p k had = ringing.due_row site now x what c desk good p k had
-due_clean (Stood x stage) site now what c desk good p k had = talking.due_row stage site now.at x what c desk p.pair_in p.stage_in k had
-due_clean (Lent loan) site now what c desk good p k had = onward_clean (at_phase (Lent loan) c) desk k p had
-due_clean (Over cause) site now what c desk good p k had = onward_clean (at_phase (Over cause) c) desk k p had
+due_clean : (acks : List Acked) (phase : Phase) (site : Site) (now : Standing) (what : DueWord) (c : Call) (desk : Desk) → IsGood site now → IsCleanPhase acks phase → IsKept acks c → IsCleanDesk acks desk → IsCleanStep acks (due_in phase site now what (at_phase phase c) desk)
+due_clean acks (Offered x) site now what c desk good p k had = ringing.due_row acks site now x what c desk good p k had
+due_clean acks (Stood x stage) site now what c desk good p k had = talking.due_row acks stage site now.at x what c desk p.pair_in p.stage_in k had
+due_clean acks (Lent loan) site now what c desk good p k had = onward_clean acks (at_phase (Lent loan) c) desk k p had
+due_clean acks (Over cause) site now what c desk good p k had = onward_clean acks (at_phase (Over cause) c) desk k p had
 
 -- ---- the table
 
-answer_clean : (branch : Option (List ℕ)) (site : Site) (now : Standing) (key : TKey) (m : Said) (c : Call) (desk : Desk) → IsGood site now → IsCleanHeard m.heard → IsCleanPhase c.phase → IsKept c → IsCleanDesk desk → IsCleanStep (answer_to branch site now key m c desk)
-answer_clean None site now key m c desk good heard p k had = onward_clean c desk k p had
-answer_clean (Some branch) site now key m c desk good heard p k had =
-    if_step (is_current branch c) (response_in c.phase site now key m c desk) (answered_other site key m branch c desk)
-    (response_clean c.phase site now key m c desk good heard p k had) (other_row site key m branch c desk heard k p had)
+answer_clean : (acks : List Acked) (branch : Option (List ℕ)) (site : Site) (now : Standing) (key : TKey) (m : Said) (c : Call) (desk : Desk) → IsGood site now → IsCleanHeard m.heard → IsCleanPhase acks c.phase → IsKept acks c → IsCleanDesk acks desk → IsCleanStep acks (answer_to branch site now key m c desk)
+answer_clean acks None site now key m c desk good heard p k had = onward_clean acks c desk k p had
+answer_clean acks (Some branch) site now key m c desk good heard p k had =
+    if_step acks (is_current branch c) (response_in c.phase site now key m c desk) (answered_other site key m branch c desk)
+    (response_clean acks c.phase site now key m c desk good heard p k had) (other_row acks site key m branch c desk heard k p had)
 
-silence_of_clean : (branch : Option (List ℕ)) (site : Site) (now : Standing) (c : Call) (desk : Desk) → IsGood site now → IsCleanPhase c.phase → IsKept c → IsCleanDesk desk → IsCleanStep (silence_of branch site now c desk)
-silence_of_clean None site now c desk good p k had = onward_clean c desk k p had
-silence_of_clean (Some branch) site now c desk good p k had =
-    if_step (is_current branch c) (silence_in c.phase site now c desk) (onward (without_silent branch c) desk)
-    (silence_clean c.phase site now c desk good p k had) (silent_row branch c desk k p had)
+silence_of_clean : (acks : List Acked) (branch : Option (List ℕ)) (site : Site) (now : Standing) (c : Call) (desk : Desk) → IsGood site now → IsCleanPhase acks c.phase → IsKept acks c → IsCleanDesk acks desk → IsCleanStep acks (silence_of branch site now c desk)
+silence_of_clean acks None site now c desk good p k had = onward_clean acks c desk k p had
+silence_of_clean acks (Some branch) site now c desk good p k had =
+    if_step acks (is_current branch c) (silence_in c.phase site now c desk) (onward (without_silent branch c) desk)
+    (silence_clean acks c.phase site now c desk good p k had) (silent_row acks branch c desk k p had)
 
-pub step_clean : (site : Site) (now : Standing) (heard : Signal) (c : Call) (desk : Desk) → IsGood site now → IsCleanSignal heard → IsCleanPhase c.phase → IsKept c → IsCleanDesk desk → IsCleanStep (step site now heard c desk)
+pub step_clean : (acks : List Acked) (site : Site) (now : Standing) (heard : Signal) (c : Call) (desk : Desk) → IsGood site now → IsCleanSignal heard → AreAmong (acked_by site heard c) acks → IsCleanPhase acks c.phase → IsKept acks c → IsCleanDesk acks desk → IsCleanStep acks (step site now heard c desk)
 unfolding step
-step_clean site now (signal.Request side key request) c desk good is p k had = request_clean c.phase site now.at side key request c desk (heard_clean request.heard is) p k had
-step_clean site now (signal.Ack side ack) c desk good is p k had = ack_clean c.phase site now.at side ack c desk (heard_clean ack.heard is) p k had
-step_clean site now (signal.Cancel key cancel invite) c desk good is p k had = cancel_clean c.phase site now.at key cancel invite c desk (heard_clean cancel.heard is) p k had
-step_clean site now (signal.Answer key response) c desk good is p k had = answer_clean (invite_answered response) site now key response c desk good (heard_clean response.heard is) p k had
-step_clean site now (signal.Silent branch method) c desk good is p k had = silence_of_clean (invite_silent branch method) site now c desk good p k had
-step_clean site now (signal.Due what) c desk good is p k had = due_clean c.phase site now what c desk good p k had
-step_clean site now (signal.Ended key) c desk good is p k had = key_row key c desk k p had
+step_clean acks site now (signal.Request side key request) c desk good is among p k had = request_clean acks c.phase site now.at side key request c desk (heard_clean request.heard is) p k had
+step_clean acks site now (signal.Ack side ack) c desk good is among p k had = ack_clean acks c.phase site now.at side ack c desk among (heard_clean ack.heard is) p k had
+step_clean acks site now (signal.Cancel key cancel invite) c desk good is among p k had = cancel_clean acks c.phase site now.at key cancel invite c desk (heard_clean cancel.heard is) p k had
+step_clean acks site now (signal.Answer key response) c desk good is among p k had = answer_clean acks (invite_answered response) site now key response c desk good (heard_clean response.heard is) p k had
+step_clean acks site now (signal.Silent branch method) c desk good is among p k had = silence_of_clean acks (invite_silent branch method) site now c desk good p k had
+step_clean acks site now (signal.Due what) c desk good is among p k had = due_clean acks c.phase site now what c desk good p k had
+step_clean acks site now (signal.Ended key) c desk good is among p k had = key_row acks key c desk k p had
 
 -- ---- as it opens
 
@@ -153,44 +171,44 @@ received_clean m is = by (is_ok (reading (line_texts (codes "History-Info") m.he
 opening_clean : (site : Site) (now : Standing) (tag : List ℕ) (a : Arrival) → IsCleanHeard a.invite.heard → IsClean (request_uri a.invite.heard.start) → IsClean tag → IsCleanOpening (opening_of site now tag a)
 opening_clean site now tag a is uri e = record { invite_in = is; uri_in = uri; tag_in = e; routes_in = kept_routes_clean site.sip a.invite.heard.routes is.routes_in }
 
-new_kept : (site : Site) (o : Opening) → IsCleanOpening o → IsKept (new_call site o)
-new_kept site o is = record { opening_in = is; history_in = received_clean o.invite is.invite_in; loose_in = tt; taken_in = tt }
+new_kept : (acks : List Acked) (site : Site) (o : Opening) → IsCleanOpening o → IsKept acks (new_call site o)
+new_kept acks site o is = record { opening_in = is; history_in = received_clean o.invite is.invite_in; loose_in = tt; taken_in = tt }
 
-unless_refused_clean : (cause : Option Cause) (site : Site) (now : Standing) (caller : Leg) (c : Call) (desk : Desk) →
-    IsGood site now → IsCleanHere caller.dialogue → IsKept c → IsCleanDesk desk → IsCleanStep (unless_refused cause site now caller c desk)
-unless_refused_clean None site now caller c desk good first k had =
-    reach_clean site now caller None (first_of c.opening) c desk good (first_target_clean (request_uri c.opening.invite.heard.start) nowhere refl) first k had
-unless_refused_clean (Some cause) site now caller c desk good first k had = refused_clean site now.at caller cause c desk k had
+unless_refused_clean : (acks : List Acked) (cause : Option Cause) (site : Site) (now : Standing) (caller : Leg) (c : Call) (desk : Desk) →
+    IsGood site now → IsCleanHere caller.dialogue → IsKept acks c → IsCleanDesk acks desk → IsCleanStep acks (unless_refused cause site now caller c desk)
+unless_refused_clean acks None site now caller c desk good first k had =
+    reach_clean acks site now caller None (first_of c.opening) c desk good (first_target_clean (request_uri c.opening.invite.heard.start) nowhere refl) first k had
+unless_refused_clean acks (Some cause) site now caller c desk good first k had = refused_clean acks site now.at caller cause c desk k had
 
-begins_clean : (site : Site) (now : Standing) (c : Call) (desk : Desk) → IsGood site now → IsKept c → IsCleanDesk desk → IsCleanStep (begins site now c desk)
-begins_clean site now c desk good k had =
-    unless_refused_clean (refusal_of now.at c.opening) site now (caller_of now.at c) c (told_caller site c 100 desk) good
-    (opened_clean c.opening.invite.peer c.opening.invite.heard.lines c.opening.tag k.opening_in.invite_in.lines_in k.opening_in.tag_in, k.opening_in.tag_in) k (told_caller_clean site c 100 desk k had)
+begins_clean : (acks : List Acked) (site : Site) (now : Standing) (c : Call) (desk : Desk) → IsGood site now → IsKept acks c → IsCleanDesk acks desk → IsCleanStep acks (begins site now c desk)
+begins_clean acks site now c desk good k had =
+    unless_refused_clean acks (refusal_of now.at c.opening) site now (caller_of now.at c) c (told_caller site c 100 desk) good
+    (opened_clean c.opening.invite.peer c.opening.invite.heard.lines c.opening.tag k.opening_in.invite_in.lines_in k.opening_in.tag_in, k.opening_in.tag_in) k (told_caller_clean acks site c 100 desk k had)
 
-pub opened_step_clean : (site : Site) (now : Standing) (a : Arrival) (desk : Desk) → IsGood site now → IsOfClean a.invite.heard → IsClean (request_uri a.invite.heard.start) → IsCleanDesk desk → IsCleanStep (opened site now a desk)
+pub opened_step_clean : (acks : List Acked) (site : Site) (now : Standing) (a : Arrival) (desk : Desk) → IsGood site now → IsOfClean a.invite.heard → IsClean (request_uri a.invite.heard.start) → IsCleanDesk acks desk → IsCleanStep acks (opened site now a desk)
 unfolding opened
-opened_step_clean site now a desk good is uri had =
+opened_step_clean acks site now a desk good is uri had =
     let o : Opening = opening_of site now (token desk) a in
-    begins_clean site now (new_call site o) (drew desk) good (new_kept site o (opening_clean site now (token desk) a (heard_clean a.invite.heard is) uri (token_clean desk had))) had
+    begins_clean acks site now (new_call site o) (drew desk) good (new_kept acks site o (opening_clean site now (token desk) a (heard_clean a.invite.heard is) uri (token_clean acks desk had))) had
 
 -- ---- a leg is taken out, and the call ends without it
 
-pub record IsCleanSoFar (c : Call) : Type 0 where
-  pub kept : IsKept c
-  pub phase : IsCleanPhase c.phase
+pub record IsCleanSoFar (acks : List Acked) (c : Call) : Type 0 where
+  pub kept : IsKept acks c
+  pub phase : IsCleanPhase acks c.phase
 
-lent_at_clean : (stage : Stage) (side : Side) (x : Pair) (c : Call) → IsCleanStood x stage → IsKept c → IsCleanSoFar (lent_at stage side x (at_phase (Stood x stage) c))
-lent_at_clean (Answered waiting success) side x c p k = record { kept = k; phase = p }
-lent_at_clean (Parting waiting success) side x c p k = record { kept = k; phase = p }
-lent_at_clean Talking Caller x c p k = record { kept = k; phase = p.pair_in.callee_in }
-lent_at_clean Talking Callee x c p k = record { kept = k; phase = p.pair_in.caller_in }
-lent_at_clean (Asking asking q) side x c p k = record { kept = k; phase = p }
+lent_at_clean : (acks : List Acked) (stage : Stage) (side : Side) (x : Pair) (c : Call) → IsCleanStood acks x stage → IsKept acks c → IsCleanSoFar acks (lent_at stage side x (at_phase (Stood x stage) c))
+lent_at_clean acks (Answered waiting success) side x c p k = record { kept = k; phase = p }
+lent_at_clean acks (Parting waiting success) side x c p k = record { kept = k; phase = p }
+lent_at_clean acks Talking Caller x c p k = record { kept = k; phase = p.pair_in.callee_in }
+lent_at_clean acks Talking Callee x c p k = record { kept = k; phase = p.pair_in.caller_in }
+lent_at_clean acks (Asking asking q) side x c p k = record { kept = k; phase = p }
 
-pub lent_clean : (phase : Phase) (side : Side) (c : Call) → IsCleanPhase phase → IsKept c → IsCleanSoFar (lent_in phase side (at_phase phase c))
-lent_clean (Offered x) side c p k = record { kept = k; phase = p }
-lent_clean (Stood x stage) side c p k = lent_at_clean stage side x c p k
-lent_clean (Lent loan) side c p k = record { kept = k; phase = p }
-lent_clean (Over cause) side c p k = record { kept = k; phase = p }
+pub lent_clean : (acks : List Acked) (phase : Phase) (side : Side) (c : Call) → IsCleanPhase acks phase → IsKept acks c → IsCleanSoFar acks (lent_in phase side (at_phase phase c))
+lent_clean acks (Offered x) side c p k = record { kept = k; phase = p }
+lent_clean acks (Stood x stage) side c p k = lent_at_clean acks stage side x c p k
+lent_clean acks (Lent loan) side c p k = record { kept = k; phase = p }
+lent_clean acks (Over cause) side c p k = record { kept = k; phase = p }
 
 -- the leg that is taken out
 taken_side_clean : (side : Side) (x : Pair) → IsCleanPair x → IsCleanLeg (taken_out side x)
@@ -203,73 +221,79 @@ taken_at_clean (Parting waiting success) side x is = tt
 taken_at_clean Talking side x is = taken_side_clean side x is
 taken_at_clean (Asking asking q) side x is = tt
 
-pub taken_out_clean : (phase : Phase) (side : Side) → IsCleanPhase phase → IfSome (taken_out_in phase side) IsCleanLeg
-taken_out_clean (Offered x) side p = tt
-taken_out_clean (Stood x stage) side p = taken_at_clean stage side x p.pair_in
-taken_out_clean (Lent loan) side p = tt
-taken_out_clean (Over cause) side p = tt
+pub taken_out_clean : (acks : List Acked) (phase : Phase) (side : Side) → IsCleanPhase acks phase → IfSome (taken_out_in phase side) IsCleanLeg
+taken_out_clean acks (Offered x) side p = tt
+taken_out_clean acks (Stood x stage) side p = taken_at_clean stage side x p.pair_in
+taken_out_clean acks (Lent loan) side p = tt
+taken_out_clean acks (Over cause) side p = tt
 
 -- the leg that is put back
 put_back_pair_clean : (away : Released) (loan : Loan) → IsCleanLeg away → IsCleanHere (released_leg loan.left).dialogue → IsCleanPair (pair_with away loan)
 put_back_pair_clean (released.Caller leg) loan is p = record { caller_in = (is.dialog, is.tag); callee_in = p }
 put_back_pair_clean (released.Callee leg) loan is p = record { caller_in = p; callee_in = (is.dialog, is.tag) }
 
-pub put_back_clean : (phase : Phase) (away : Released) (c : Call) → IsCleanLeg away → IsCleanPhase phase → IsKept c → IsCleanSoFar (put_back_in phase away (at_phase phase c))
-put_back_clean (Offered x) away c is p k = record { kept = k; phase = p }
-put_back_clean (Stood x stage) away c is p k = record { kept = k; phase = p }
-put_back_clean (Lent loan) away c is p k = record { kept = k; phase = record { pair_in = put_back_pair_clean away loan is p; stage_in = tt } }
-put_back_clean (Over cause) away c is p k = record { kept = k; phase = p }
+pub put_back_clean : (acks : List Acked) (phase : Phase) (away : Released) (c : Call) → IsCleanLeg away → IsCleanPhase acks phase → IsKept acks c → IsCleanSoFar acks (put_back_in phase away (at_phase phase c))
+put_back_clean acks (Offered x) away c is p k = record { kept = k; phase = p }
+put_back_clean acks (Stood x stage) away c is p k = record { kept = k; phase = p }
+put_back_clean acks (Lent loan) away c is p k = record { kept = k; phase = record { pair_in = put_back_pair_clean away loan is p; stage_in = tt } }
+put_back_clean acks (Over cause) away c is p k = record { kept = k; phase = p }
 
-finished_in_clean : (phase : Phase) (site : Site) (at : ℕ) (c : Call) (desk : Desk) → IsCleanPhase phase → IsKept c → IsCleanDesk desk → IsCleanStep (finished_in phase site at (at_phase phase c) desk)
-finished_in_clean (Offered x) site at c desk p k had = onward_clean (at_phase (Offered x) c) desk k p had
-finished_in_clean (Stood x stage) site at c desk p k had = onward_clean (at_phase (Stood x stage) c) desk k p had
-finished_in_clean (Lent loan) site at c desk p k had =
-    over_clean at Ended (lending.first_of loan.left loan.meter) (last_of loan.left loan.meter) (at_phase (Lent loan) c) (bye site.sip (released_leg loan.left).dialogue desk) k (bye_clean site.sip (released_leg loan.left).dialogue desk p.0 had)
-finished_in_clean (Over cause) site at c desk p k had = onward_clean (at_phase (Over cause) c) desk k p had
+finished_in_clean : (acks : List Acked) (phase : Phase) (site : Site) (at : ℕ) (c : Call) (desk : Desk) → IsCleanPhase acks phase → IsKept acks c → IsCleanDesk acks desk → IsCleanStep acks (finished_in phase site at (at_phase phase c) desk)
+finished_in_clean acks (Offered x) site at c desk p k had = onward_clean acks (at_phase (Offered x) c) desk k p had
+finished_in_clean acks (Stood x stage) site at c desk p k had = onward_clean acks (at_phase (Stood x stage) c) desk k p had
+finished_in_clean acks (Lent loan) site at c desk p k had =
+    over_clean acks at Ended (lending.first_of loan.left loan.meter) (last_of loan.left loan.meter) (at_phase (Lent loan) c) (bye site.sip (released_leg loan.left).dialogue desk) k (bye_clean acks site.sip (released_leg loan.left).dialogue desk p.0 had)
+finished_in_clean acks (Over cause) site at c desk p k had = onward_clean acks (at_phase (Over cause) c) desk k p had
 
-pub finished_clean : (site : Site) (at : ℕ) (c : Call) (desk : Desk) → IsCleanSoFar c → IsCleanDesk desk → IsCleanStep (finished site at c desk)
+pub finished_clean : (acks : List Acked) (site : Site) (at : ℕ) (c : Call) (desk : Desk) → IsCleanSoFar acks c → IsCleanDesk acks desk → IsCleanStep acks (finished site at c desk)
 unfolding finished
-finished_clean site at c desk is had = finished_in_clean c.phase site at c desk is.phase is.kept had
+finished_clean acks site at c desk is had = finished_in_clean acks c.phase site at c desk is.phase is.kept had
 
 -- ---- stories
 
-pub first_clean : (s : Start) → IsCleanStart s → IsCleanStep (first_step s)
-first_clean s is = opened_step_clean s.site s.now s.arrival s.desk (record { home_in = is.home; sheets_in = is.sheets }) is.invite is.uri is.desk
+pub first_clean : (acks : List Acked) (s : Start) → IsCleanStart acks s → IsCleanStep acks (first_step s)
+first_clean acks s is = opened_step_clean acks s.site s.now s.arrival s.desk (record { home_in = is.home; sheets_in = is.sheets }) is.invite is.uri is.desk
 
-next_clean : (s : Start) (x : Heard) (c : Call) → IsCleanStart s → stories.IsCleanHeard x → IsCleanSoFar c → IsCleanStep (next_step s x c)
-next_clean s x c is had so_far = step_clean s.site x.now x.signal c x.desk (record { home_in = is.home; sheets_in = had.sheets }) had.signal so_far.phase so_far.kept had.desk
+next_clean : (acks : List Acked) (s : Start) (x : Heard) (c : Call) → IsCleanStart acks s → stories.IsCleanHeard acks x → AreAmong (acked_by s.site x.signal c) acks → IsCleanSoFar acks c →
+    IsCleanStep acks (next_step s x c)
+next_clean acks s x c is had among so_far =
+    step_clean acks s.site x.now x.signal c x.desk (record { home_in = is.home; sheets_in = had.sheets }) had.signal among so_far.phase so_far.kept had.desk
 
-call_clean : (s : Start) (heard : List Heard) → IsCleanStart s → Each stories.IsCleanHeard heard → IsCleanSoFar (call_after s heard)
+call_clean : (acks : List Acked) (s : Start) (heard : List Heard) → IsCleanStart acks s → Each (stories.IsCleanHeard acks) heard → AreAmong (acked_after s heard) acks →
+    IsCleanSoFar acks (call_after s heard)
 unfolding call_after
-call_clean s [] is each = let one = first_clean s is in record { kept = one.kept; phase = one.phase }
-call_clean s (x ∷ earlier) is each = let one = next_clean s x (call_after s earlier) is each.0 (call_clean s earlier is each.1) in record { kept = one.kept; phase = one.phase }
+call_clean acks s [] is each among = let one = first_clean acks s is in record { kept = one.kept; phase = one.phase }
+call_clean acks s (x ∷ earlier) is each among =
+    let one = next_clean acks s x (call_after s earlier) is each.0 (front_among acks (acked_by s.site x.signal (call_after s earlier)) (acked_after s earlier) among) (call_clean acks s earlier is each.1 (back_among acks (acked_by s.site x.signal (call_after s earlier)) (acked_after s earlier) among)) in
+    record { kept = one.kept; phase = one.phase }
 
 pub emits_are_clean : EmitsAreClean
-emits_are_clean s [] is each = (first_clean s is).desk.out_in
-emits_are_clean s (x ∷ earlier) is each = (next_clean s x (call_after s earlier) is each.0 (call_clean s earlier is each.1)).desk.out_in
+emits_are_clean acks s [] is each among = (first_clean acks s is).desk.out_in
+emits_are_clean acks s (x ∷ earlier) is each among =
+    (next_clean acks s x (call_after s earlier) is each.0 (front_among acks (acked_by s.site x.signal (call_after s earlier)) (acked_after s earlier) among) (call_clean acks s earlier is each.1 (back_among acks (acked_by s.site x.signal (call_after s earlier)) (acked_after s earlier) among))).desk.out_in
 
 pub finished_are_clean : FinishedEmitsAreClean
-finished_are_clean s heard side at desk is each had =
+finished_are_clean acks s heard side at desk is each among had =
     let c : Call = call_after s heard in
-    let so_far = call_clean s heard is each in
-    (finished_clean s.site at (lent_in c.phase side c) desk (lent_clean c.phase side c so_far.phase so_far.kept) had).desk.out_in
+    let so_far = call_clean acks s heard is each among in
+    (finished_clean acks s.site at (lent_in c.phase side c) desk (lent_clean acks c.phase side c so_far.phase so_far.kept) had).desk.out_in
 
 -- ---- their texts
 
 own_lines : (m : Message StartLine) → IsCleanMessage m → HasOwnLines m
 own_lines m is = record { parted = splits m is; clean = cleans m is }
 
-emit_lines : (e : Emit) → IsCleanEmit e → SendsOwnLines e
-emit_lines (emit.Ask peer m) is = own_lines m is
-emit_lines (emit.Reply key m) is = own_lines m is
-emit_lines (emit.Plain peer text) is = (is.dialogue, is.given, is.is, own_lines (ack_of is.dialogue is.given) is.clean)
-emit_lines (emit.Ack key m) is = own_lines m is
-emit_lines (emit.Arm call what at) is = tt
-emit_lines (emit.ArmSeat room seat what at) is = tt
+emit_lines : (acks : List Acked) (e : Emit) → IsCleanEmit acks e → SendsOwnLines acks e
+emit_lines acks (emit.Ask peer m) is = own_lines m is
+emit_lines acks (emit.Reply key m) is = own_lines m is
+emit_lines acks (emit.Plain peer text) is = (is.dialogue, is.given, is.passes, is.is, own_lines (ack_of is.dialogue is.given) is.clean)
+emit_lines acks (emit.Ack key m) is = own_lines m is
+emit_lines acks (emit.Arm call what at) is = tt
+emit_lines acks (emit.ArmSeat room seat what at) is = tt
 
-pub each_lines : (out : List Emit) → Each IsCleanEmit out → Each SendsOwnLines out
-each_lines [] each = tt
-each_lines (e ∷ out) each = (emit_lines e each.0, each_lines out each.1)
+pub each_lines : (acks : List Acked) (out : List Emit) → Each (IsCleanEmit acks) out → Each (SendsOwnLines acks) out
+each_lines acks [] each = tt
+each_lines acks (e ∷ out) each = (emit_lines acks e each.0, each_lines acks out each.1)
 
 pub emits_have_their_lines : EmitsHaveTheirLines
-emits_have_their_lines s heard is each = each_lines (desk_after s heard).out (emits_are_clean s heard is each)
+emits_have_their_lines acks s heard is each among = each_lines acks (desk_after s heard).out (emits_are_clean acks s heard is each among)

@@ -3,6 +3,7 @@ use Rattle.std.specs.Prelude.{◌≡◌, ℕ, List, [], ◌∷◌}
 use Rattle.mmtel_desk.specs.declared.desks.Desk.{Desk}
 use Rattle.mmtel_leg.specs.Dialogues.{request_uri}
 use Rattle.mmtel_call.specs.Lending.{finished, lent_in}
+use Rattle.mmtel_trust.specs.Members.{IsIn}
 use Rattle.mmtel_types.specs.declared.sides.Side.{Side}
 use Rattle.mmtel_call.specs.declared.signals.Signal.{Signal}
 use Rattle.mmtel_call.specs.declared.signals.Signal.TheVariants as signal
@@ -12,6 +13,7 @@ use Rattle.mmtel_leg.specs.declared.dialogues.Dialogue.{Dialogue}
 use Rattle.mmtel_message.specs.Texts.{message_text}
 use Rattle.mmtel_transaction.specs.declared.words.Emit.{Emit}
 use Rattle.mmtel_transaction.specs.declared.words.Emit.TheVariants as emit
+use Rattle.mmtel_call_laws.specs.Heads.Acks.{Acked, IsGivenTo, acked_after}
 use Rattle.mmtel_call_laws.specs.Heads.Clean.{HasOwnLines, IsClean}
 use Rattle.mmtel_call_laws.specs.Heads.Emits.{Each, IsCleanDesk, IsCleanEmit}
 use Rattle.mmtel_call_laws.specs.Heads.Heard.{AreCleanSheets, IsOfClean}
@@ -29,18 +31,18 @@ IsCleanSignal (signal.Due what) = Unit {0}
 IsCleanSignal (signal.Ended key) = Unit {0}
 
 -- as the call opens: the home domain, the records as they stand, the INVITE with its Request-URI, and the desk
-pub record IsCleanStart (s : Start) : Type 0 where
+pub record IsCleanStart (acks : List Acked) (s : Start) : Type 0 where
   pub home : IsClean s.site.home
   pub sheets : AreCleanSheets s.now
   pub invite : IsOfClean s.arrival.invite.heard
   pub uri : IsClean (request_uri s.arrival.invite.heard.start)
-  pub desk : IsCleanDesk s.desk
+  pub desk : IsCleanDesk acks s.desk
 
 -- and in each later step
-pub record IsCleanHeard (x : Heard) : Type 0 where
+pub record IsCleanHeard (acks : List Acked) (x : Heard) : Type 0 where
   pub sheets : AreCleanSheets x.now
   pub signal : IsCleanSignal x.signal
-  pub desk : IsCleanDesk x.desk
+  pub desk : IsCleanDesk acks x.desk
 
 -- ---- what goes out of the last step of a story, as the desk has it
 
@@ -48,24 +50,32 @@ abbrev pub desk_after : Start → List Heard → Desk
 desk_after s [] = (first_step s).desk
 desk_after s (x ∷ earlier) = (next_step s x (call_after s earlier)).desk
 
--- each message of it is clean, whatever came before
+-- these ACKs are among those
+abbrev pub AreAmong : (some acks : List Acked) → Type 0
+AreAmong some acks = Each (λ (acked : Acked). IsIn acked acks) some
+
+-- each message of it is clean, whatever came before; and of an ACK of a 2xx no lines go out but those that are shown of an ACK that the call heard on the other side
 abbrev pub EmitsAreClean : Type 0
-EmitsAreClean = (s : Start) (heard : List Heard) → IsCleanStart s → Each IsCleanHeard heard → Each IsCleanEmit (desk_after s heard).out
+EmitsAreClean = (acks : List Acked) (s : Start) (heard : List Heard) → IsCleanStart acks s → Each (IsCleanHeard acks) heard → AreAmong (acked_after s heard) acks →
+    Each (IsCleanEmit acks) (desk_after s heard).out
 
 -- and so is what goes out where a leg is taken out of the call then, and the call ends without it
 abbrev pub FinishedEmitsAreClean : Type 0
-FinishedEmitsAreClean = (s : Start) (heard : List Heard) (side : Side) (at : ℕ) (desk : Desk) → IsCleanStart s → Each IsCleanHeard heard → IsCleanDesk desk →
-    Each IsCleanEmit (finished s.site at (lent_in (call_after s heard).phase side (call_after s heard)) desk).desk.out
+FinishedEmitsAreClean = (acks : List Acked) (s : Start) (heard : List Heard) (side : Side) (at : ℕ) (desk : Desk) → IsCleanStart acks s → Each (IsCleanHeard acks) heard →
+    AreAmong (acked_after s heard) acks → IsCleanDesk acks desk →
+    Each (IsCleanEmit acks) (finished s.site at (lent_in (call_after s heard).phase side (call_after s heard)) desk).desk.out
 
 -- ---- and its text has its own lines
 
-abbrev pub SendsOwnLines : Emit → Type 0
-SendsOwnLines (emit.Ask peer m) = HasOwnLines m
-SendsOwnLines (emit.Reply key m) = HasOwnLines m
-SendsOwnLines (emit.Plain peer text) = (dialogue : Dialogue) × (given : Given) × (text ≡ message_text (ack_of dialogue given)) × HasOwnLines (ack_of dialogue given)
-SendsOwnLines (emit.Ack key m) = HasOwnLines m
-SendsOwnLines (emit.Arm call what at) = Unit {0}
-SendsOwnLines (emit.ArmSeat room seat what at) = Unit {0}
+abbrev pub SendsOwnLines : (acks : List Acked) → Emit → Type 0
+SendsOwnLines acks (emit.Ask peer m) = HasOwnLines m
+SendsOwnLines acks (emit.Reply key m) = HasOwnLines m
+SendsOwnLines acks (emit.Plain peer text) =
+    (dialogue : Dialogue) × (given : Given) × IsGivenTo acks dialogue given × (text ≡ message_text (ack_of dialogue given)) × HasOwnLines (ack_of dialogue given)
+SendsOwnLines acks (emit.Ack key m) = HasOwnLines m
+SendsOwnLines acks (emit.Arm call what at) = Unit {0}
+SendsOwnLines acks (emit.ArmSeat room seat what at) = Unit {0}
 
 abbrev pub EmitsHaveTheirLines : Type 0
-EmitsHaveTheirLines = (s : Start) (heard : List Heard) → IsCleanStart s → Each IsCleanHeard heard → Each SendsOwnLines (desk_after s heard).out
+EmitsHaveTheirLines = (acks : List Acked) (s : Start) (heard : List Heard) → IsCleanStart acks s → Each (IsCleanHeard acks) heard → AreAmong (acked_after s heard) acks →
+    Each (SendsOwnLines acks) (desk_after s heard).out

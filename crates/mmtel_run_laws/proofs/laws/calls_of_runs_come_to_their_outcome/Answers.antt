@@ -7,7 +7,7 @@ returns c =
     let notices = c.calls_tell_of_their_diversions.ensures in
     record {
       law =
-          calls_come c.legs_go_back.ensures.law c.calls_take_their_steps.ensures.law c.calls_of_tables_are_exact.ensures.law c.rows_are_in_order.ensures.calls
-          c.participants_are_charged_once.ensures.charged c.rows_are_filed.ensures.all c.calls_take_their_steps.ensures.own c.calls_go_on.ensures.law c.charging_is_exact.ensures.law notices.told
-          notices.silent notices.ends c.diversions_stay_within_the_bound.ensures.law c.diversions_have_forwards.ensures.law kept.texts kept.last kept.told;
+          calls_come c.legs_go_back.ensures.law c.rooms_reply_in_their_own.ensures.law c.calls_take_their_steps.ensures.law c.calls_of_tables_are_exact.ensures.law c.rows_are_in_order.ensures.calls
+          c.participants_are_charged_once.ensures.charged c.rows_are_filed.ensures.all c.calls_take_their_steps.ensures.own c.calls_of_tables_reply_in_their_own.ensures.law c.nothing_is_of_nobody.ensures.law c.calls_go_on.ensures.law c.charging_is_exact.ensures.law notices.told
+          notices.silent notices.ends c.diversions_stay_within_the_bound.ensures.law c.diversions_have_forwards.ensures.law kept.texts kept.last kept.told c.deadlines_come_to_an_end_between_offers.ensures.begun;
     }

@@ -1,0 +1,213 @@
+-- In which server transactions was replied in a run: each reply is one that the calls brought forth, or is in a transaction by which no call was opened.
+use Rattle.std.proofs.Common.{◌≡◌, ◌<◌, ◌≤◌, ℕ, Bool, true, List, [], ◌∷◌, ◌++◌, refl, ap, arith, inl, inr, le_trans}
+use Rattle.std.specs.Prelude.{◌⊎◌}
+use Rattle.std.proofs.lemmas.Bool.{ne_eqb}
+use Rattle.mmtel_b2bua.specs.Histories.{Deed, Drops, Finishes, Hears, Releases, Restores, table_after}
+use Rattle.mmtel_b2bua.specs.declared.signals.Signal.{Signal}
+use Rattle.mmtel_b2bua.specs.declared.signals.Signal.TheVariants as signal
+use Rattle.mmtel_b2bua_laws.specs.Deeds.{IsOtherDeed, OpensOther, out_by}
+use Rattle.mmtel_call_decisions.specs.Site.{Site}
+use Rattle.mmtel_call_laws.specs.Heads.Emits.{Each}
+use Rattle.mmtel_call_laws.specs.Replies.{IsRepliedIn}
+use Rattle.mmtel_message.specs.Message.{Message}
+use Rattle.mmtel_message.specs.declared.messages.Start.{Start}
+use Rattle.mmtel_transaction.specs.Answers.{tkey}
+use Rattle.mmtel_transaction.specs.Calls.{Done, DidAck, DidAsk, DidBegin, DidFire, DidHear, DidReply}
+use Rattle.mmtel_transaction.specs.declared.words.Emit.{Emit}
+use Rattle.mmtel_transaction.specs.declared.words.Emit.TheVariants as emit
+use Rattle.mmtel_run_laws.proofs.Keyed.{HasKey, HasNoKey, IsBelow, all_below, keys, keys_grow}
+
+-- ---- a reply, of what goes out
+
+abbrev pub IsReply : ℕ → Message Start → Emit → Type 0
+IsReply k m (emit.Ask peer message) = ⊥
+IsReply k m (emit.Reply key message) = (key.0 ≡ k) × (message ≡ m)
+IsReply k m (emit.Plain peer text) = ⊥
+IsReply k m (emit.Ack key message) = ⊥
+IsReply k m (emit.Arm call what at) = ⊥
+IsReply k m (emit.ArmSeat room seat what at) = ⊥
+
+abbrev pub HasReply : ℕ → Message Start → List Emit → Type 0
+HasReply k m [] = ⊥
+HasReply k m (x ∷ xs) = IsReply k m x ⊎ HasReply k m xs
+
+-- the calls brought it forth, in one of these deeds
+abbrev pub IsBrought : Site → ℕ → Message Start → List Deed → Type 0
+IsBrought site k m [] = ⊥
+IsBrought site k m (deed ∷ older) = HasReply k m (out_by site deed (table_after site older)) ⊎ IsBrought site k m older
+
+-- in one of these deeds, each of a request of one of so many transactions
+pub record IsBroughtBy (site : Site) (n k : ℕ) (m : Message Start) (deeds : List Deed) : Type 0 where
+  pub newer : List Deed
+  pub older : List Deed
+  pub all : deeds ≡ newer ++ older
+  pub brought : IsBrought site k m older
+  pub below : Each (IsBelow n) older
+
+-- a transaction, of so many, by which no call was opened
+pub record IsElsewhere (n k : ℕ) (deeds : List Deed) : Type 0 where
+  pub below : k < n
+  pub other : Each (IsOtherDeed (tkey k)) deeds
+
+-- so may be replied, after these deeds
+abbrev pub MayReply : Site → ℕ → List Deed → ℕ → Message Start → Type 0
+MayReply site n deeds k m = IsBroughtBy site n k m deeds ⊎ IsElsewhere n k deeds
+
+abbrev pub IsAnswered : Site → ℕ → List Deed → Done → Type 0
+IsAnswered site n deeds (DidBegin step) = Unit {0}
+IsAnswered site n deeds (DidHear p m now taken) = Unit {0}
+IsAnswered site n deeds (DidAsk p m now) = Unit {0}
+IsAnswered site n deeds (DidReply k m now) = MayReply site n deeds k m
+IsAnswered site n deeds (DidAck k m) = Unit {0}
+IsAnswered site n deeds (DidFire k) = Unit {0}
+
+-- each reply, of the transactions that were opened before it
+abbrev pub AllAnswered : Site → List Deed → List Done → Type 0
+AllAnswered site deeds [] = Unit {0}
+AllAnswered site deeds (act ∷ older) = IsAnswered site (keys older) deeds act × AllAnswered site deeds older
+
+-- what goes out replies so
+abbrev pub RepliesSo : (ℕ → Message Start → Type 0) → Emit → Type 0
+RepliesSo P (emit.Ask peer message) = Unit {0}
+RepliesSo P (emit.Reply key message) = P key.0 message
+RepliesSo P (emit.Plain peer text) = Unit {0}
+RepliesSo P (emit.Ack key message) = Unit {0}
+RepliesSo P (emit.Arm call what at) = Unit {0}
+RepliesSo P (emit.ArmSeat room seat what at) = Unit {0}
+
+-- ---- of more transactions
+
+may-more : (site : Site) (n m : ℕ) (deeds : List Deed) (k : ℕ) (message : Message Start) → n ≤ m → MayReply site n deeds k message → MayReply site m deeds k message
+may-more site n m deeds k message le (inl by) =
+    inl (record { newer = by.newer; older = by.older; all = by.all; brought = by.brought; below = all_below n m by.older le by.below })
+may-more site n m deeds k message le (inr away) = inr (record { below = omega (arith, le, away.below); other = away.other })
+
+pub replies_more : (site : Site) (n m : ℕ) (deeds : List Deed) (x : Emit) → n ≤ m → RepliesSo (MayReply site n deeds) x → RepliesSo (MayReply site m deeds) x
+replies_more site n m deeds (emit.Ask peer message) le a = tt
+replies_more site n m deeds (emit.Reply key message) le a = may-more site n m deeds key.0 message le a
+replies_more site n m deeds (emit.Plain peer text) le a = tt
+replies_more site n m deeds (emit.Ack key message) le a = tt
+replies_more site n m deeds (emit.Arm call what at) le a = tt
+replies_more site n m deeds (emit.ArmSeat room seat what at) le a = tt
+
+-- ---- after one deed more
+
+-- which opens no call by one of so many transactions
+abbrev pub OpensFrom : ℕ → Signal → Type 0
+OpensFrom n (signal.Arrived key invite served registration identities) = n ≤ key.0
+OpensFrom n (signal.Request call side key request) = Unit {0}
+OpensFrom n (signal.Ack call side ack) = Unit {0}
+OpensFrom n (signal.Cancel call key cancel invite) = Unit {0}
+OpensFrom n (signal.Answer key response) = Unit {0}
+OpensFrom n (signal.Silent branch method) = Unit {0}
+OpensFrom n (signal.Due call what) = Unit {0}
+OpensFrom n (signal.Over key) = Unit {0}
+
+abbrev pub IsFrom : ℕ → Deed → Type 0
+IsFrom n (Hears x) = OpensFrom n x.signal
+IsFrom n (Releases number side) = Unit {0}
+IsFrom n (Restores number away) = Unit {0}
+IsFrom n (Finishes number at tokens) = Unit {0}
+IsFrom n (Drops count) = Unit {0}
+
+pub key_from : (n : ℕ) (s : Signal) → HasKey n s → OpensFrom n s
+key_from n (signal.Arrived key invite served registration identities) h = omega (arith, h)
+key_from n (signal.Request call side key request) h = tt
+key_from n (signal.Ack call side ack) h = tt
+key_from n (signal.Cancel call key cancel invite) h = tt
+key_from n (signal.Answer key response) h = tt
+key_from n (signal.Silent branch method) h = tt
+key_from n (signal.Due call what) h = tt
+key_from n (signal.Over key) h = tt
+
+pub no_from : (n : ℕ) (s : Signal) → HasNoKey s → OpensFrom n s
+no_from n (signal.Arrived key invite served registration identities) h = absurd h
+no_from n (signal.Request call side key request) h = tt
+no_from n (signal.Ack call side ack) h = tt
+no_from n (signal.Cancel call key cancel invite) h = tt
+no_from n (signal.Answer key response) h = tt
+no_from n (signal.Silent branch method) h = tt
+no_from n (signal.Due call what) h = tt
+no_from n (signal.Over key) h = tt
+
+signal-other : (n k : ℕ) (s : Signal) → k < n → OpensFrom n s → OpensOther (tkey k) s
+signal-other n k (signal.Arrived key invite served registration identities) less h = ne_eqb k key.0 (λ e. omega (arith, e, less, h))
+signal-other n k (signal.Request call side key request) less h = tt
+signal-other n k (signal.Ack call side ack) less h = tt
+signal-other n k (signal.Cancel call key cancel invite) less h = tt
+signal-other n k (signal.Answer key response) less h = tt
+signal-other n k (signal.Silent branch method) less h = tt
+signal-other n k (signal.Due call what) less h = tt
+signal-other n k (signal.Over key) less h = tt
+
+deed-other : (n k : ℕ) (deed : Deed) → k < n → IsFrom n deed → IsOtherDeed (tkey k) deed
+deed-other n k (Hears x) less h = signal-other n k x.signal less h
+deed-other n k (Releases number side) less h = tt
+deed-other n k (Restores number away) less h = tt
+deed-other n k (Finishes number at tokens) less h = tt
+deed-other n k (Drops count) less h = tt
+
+signal-less : (n m : ℕ) (s : Signal) → m ≤ n → OpensFrom n s → OpensFrom m s
+signal-less n m (signal.Arrived key invite served registration identities) le h = omega (arith, le, h)
+signal-less n m (signal.Request call side key request) le h = tt
+signal-less n m (signal.Ack call side ack) le h = tt
+signal-less n m (signal.Cancel call key cancel invite) le h = tt
+signal-less n m (signal.Answer key response) le h = tt
+signal-less n m (signal.Silent branch method) le h = tt
+signal-less n m (signal.Due call what) le h = tt
+signal-less n m (signal.Over key) le h = tt
+
+from-less : (n m : ℕ) (deed : Deed) → m ≤ n → IsFrom n deed → IsFrom m deed
+from-less n m (Hears x) le h = signal-less n m x.signal le h
+from-less n m (Releases number side) le h = tt
+from-less n m (Restores number away) le h = tt
+from-less n m (Finishes number at tokens) le h = tt
+from-less n m (Drops count) le h = tt
+
+may-later : (site : Site) (n : ℕ) (deed : Deed) (deeds : List Deed) (k : ℕ) (message : Message Start) → IsFrom n deed → MayReply site n deeds k message → MayReply site n (deed ∷ deeds) k message
+may-later site n deed deeds k message from (inl by) =
+    inl (record { newer = deed ∷ by.newer; older = by.older; all = ap (λ (deeds : List Deed). deed ∷ deeds) by.all; brought = by.brought; below = by.below })
+may-later site n deed deeds k message from (inr away) = inr (record { below = away.below; other = (deed-other n k deed away.below from, away.other) })
+
+act-later : (site : Site) (n : ℕ) (deed : Deed) (deeds : List Deed) (act : Done) → IsFrom n deed → IsAnswered site n deeds act → IsAnswered site n (deed ∷ deeds) act
+act-later site n deed deeds (DidBegin step) from a = tt
+act-later site n deed deeds (DidHear p message now taken) from a = tt
+act-later site n deed deeds (DidAsk p message now) from a = tt
+act-later site n deed deeds (DidReply k message now) from a = may-later site n deed deeds k message from a
+act-later site n deed deeds (DidAck k message) from a = tt
+act-later site n deed deeds (DidFire k) from a = tt
+
+pub acts_later : (site : Site) (n : ℕ) (deed : Deed) (deeds : List Deed) (acts : List Done) → keys acts ≤ n → IsFrom n deed → AllAnswered site deeds acts → AllAnswered site (deed ∷ deeds) acts
+acts_later site n deed deeds [] le from a = tt
+acts_later site n deed deeds (act ∷ acts) le from a =
+    let less : keys acts ≤ n = le_trans (keys_grow act acts) le in
+    (act-later site (keys acts) deed deeds act (from-less n (keys acts) deed less from) a.0, acts_later site n deed deeds acts less from a.1)
+
+-- ---- what goes out
+
+reply-so : (x : Emit) (P : ℕ → Message Start → Type 0) → ((k : ℕ) (m : Message Start) → IsReply k m x → P k m) → RepliesSo P x
+reply-so (emit.Ask peer message) P each = tt
+reply-so (emit.Reply key message) P each = each key.0 message (refl, refl)
+reply-so (emit.Plain peer text) P each = tt
+reply-so (emit.Ack key message) P each = tt
+reply-so (emit.Arm call what at) P each = tt
+reply-so (emit.ArmSeat room seat what at) P each = tt
+
+pub replies_so : (xs : List Emit) (P : ℕ → Message Start → Type 0) → ((k : ℕ) (m : Message Start) → HasReply k m xs → P k m) → Each (RepliesSo P) xs
+replies_so [] P each = tt
+replies_so (x ∷ xs) P each = (reply-so x P (λ k m is. each k m (inl is)), replies_so xs P (λ k m has. each k m (inr has)))
+
+-- in transactions by which no call was opened
+elsewhere-so : (own : ℕ → Bool) (site : Site) (n : ℕ) (deeds : List Deed) (x : Emit) → ((k : ℕ) → own k ≡ true → IsElsewhere n k deeds) → IsRepliedIn own x →
+    RepliesSo (MayReply site n deeds) x
+elsewhere-so own site n deeds (emit.Ask peer message) each is = tt
+elsewhere-so own site n deeds (emit.Reply key message) each is = inr (each key.0 is)
+elsewhere-so own site n deeds (emit.Plain peer text) each is = tt
+elsewhere-so own site n deeds (emit.Ack key message) each is = tt
+elsewhere-so own site n deeds (emit.Arm call what at) each is = tt
+elsewhere-so own site n deeds (emit.ArmSeat room seat what at) each is = tt
+
+pub replies_elsewhere : (own : ℕ → Bool) (site : Site) (n : ℕ) (deeds : List Deed) (xs : List Emit) → ((k : ℕ) → own k ≡ true → IsElsewhere n k deeds) → Each (IsRepliedIn own) xs →
+    Each (RepliesSo (MayReply site n deeds)) xs
+replies_elsewhere own site n deeds [] each is = tt
+replies_elsewhere own site n deeds (x ∷ xs) each is = (elsewhere-so own site n deeds x each is.0, replies_elsewhere own site n deeds xs each is.1)

@@ -1,0 +1,687 @@
+-- While a call is offered no final was offered in the server transaction of the INVITE that opened it: neither by that call nor by any other, nor by a room or the server itself.
+use Rattle.std.proofs.Common.{◌≡◌, ◌<◌, ℕ, ◌==◌, ◌&&◌, ◌||◌, not, Bool, true, false, cond, List, [], ◌∷◌, ◌++◌, Option, Some, None, refl, sym, ap, ◌∙◌, subst, IfSome, inl, inr, append_assoc, arith}
+use Rattle.std.specs.Prelude.{◌⊎◌, ◌^◌, ◌-◌, ◌+◌, if◌then◌else◌, find, min, nat_lt}
+use Rattle.std.specs.List.{list_any}
+use Rattle.std.specs.Option.{option_map}
+use Rattle.std.proofs.lemmas.Bool.Decides.{nat_tests}
+use Rattle.std.proofs.lemmas.Bool.{eq-eqb, eqb-true, ne_eqb}
+use Rattle.std.proofs.lemmas.Option.{none-some, same_Some}
+use Rattle.mmtel_answers.specs.Said.{status_of as status_in}
+use Rattle.mmtel_b2bua.specs.Entries.{is_numbered}
+use Rattle.mmtel_b2bua.specs.Histories.{Deed, Drops, Finishes, Heard, Hears, Releases, Restores, table_after}
+use Rattle.mmtel_b2bua.specs.Tables.{opened_after}
+use Rattle.mmtel_b2bua.specs.declared.entries.Entry.{Entry}
+use Rattle.mmtel_b2bua.specs.declared.signals.Signal.{Signal}
+use Rattle.mmtel_b2bua.specs.declared.signals.Signal.TheVariants as signal
+use Rattle.mmtel_b2bua_laws.specs.Deeds.{HasNumbers, IsOtherDeed, OpensOther, arrival_of, as_heard, call_of, emits_of, entry_in, event_by, event_heard, goes_on, is_number, life_of, met_by, number_by, number_of, opening_by, out_by, start_by, with_event}
+use Rattle.mmtel_b2bua_laws.specs.Laws.{CallsTakeTheirSteps, NothingIsOfNobody}
+use Rattle.mmtel_b2bua_laws.specs.Lives as lives
+use Rattle.mmtel_b2bua_laws.specs.Lives.{Event, Life, call_after, emits_after, emits_by}
+use Rattle.mmtel_b2bua_laws.specs.Replies.{CallsReplyInTheirOwn, EventIsOf, LifeIsOf}
+use Rattle.mmtel_b2bua_laws.specs.Watched.{shown_in, signs_after}
+use Rattle.mmtel_call_decisions.specs.Site.{Site}
+use Rattle.mmtel_call_decisions.specs.declared.openings.Opening.{Opening}
+use Rattle.mmtel_call_laws.specs.Heads.Emits.{Each}
+use Rattle.mmtel_call_laws.specs.Replies.{IsRepliedIn}
+use Rattle.mmtel_call_laws.specs.Shown.{Accepted, Invited, Refused, Sign, but_passed_on, final_sign, is_within, sign_if, sign_of, signs_of, signs_of_targets, asked_uri}
+use Rattle.mmtel_call_laws.specs.Story.{Start, added, first_step}
+use Rattle.mmtel_message.specs.Fields.{five_at}
+use Rattle.mmtel_message.specs.Message.{Message}
+use Rattle.mmtel_message.specs.declared.fields.Five.{Five}
+use Rattle.mmtel_message.specs.declared.messages.Start.{Start as StartLine}
+use Rattle.mmtel_message.specs.declared.messages.Start.TheVariants.{Request, Status}
+use Rattle.mmtel_precedence.specs.Calls.{NotOffered, Offer, Offered, Target}
+use Rattle.mmtel_transaction.specs.Answers.{tkey}
+use Rattle.mmtel_transaction.specs.Calls.{Done, DidAck, DidAsk, DidBegin, DidFire, DidHear, DidReply}
+use Rattle.mmtel_transaction.specs.Heads.{code_of, head_of, head_with, is_provisional}
+use Rattle.mmtel_transaction.specs.declared.words.Emit.{Emit}
+use Rattle.mmtel_transaction.specs.declared.words.Emit.TheVariants as emit
+use Rattle.mmtel_transaction.specs.declared.words.TKey.{TKey}
+use Rattle.mmtel_run_laws.specs.Awaited.{is_final_in}
+use Rattle.mmtel_run_laws.proofs.Keyed.{IsAbove, IsAboveOlder, IsBelow, OpensBelow, Rises, keys}
+use Rattle.mmtel_run_laws.proofs.Lived.{AllHold, HoldsBy, life_holds}
+use Rattle.mmtel_run_laws.proofs.Opened.{AllStart, life_starts}
+use Rattle.mmtel_run_laws.proofs.Replied.{AllAnswered, HasReply, IsAnswered, IsBrought, IsElsewhere, IsReply, MayReply}
+
+both-ways : {A : Type 0} (b : Bool) → b ≡ true → b ≡ false → A
+both-ways b is other = absurd (let f : true ≡ false = sym is ∙ other in cc)
+
+-- ---- a final among the replies is a final sign
+
+abbrev IsFinalSign : Sign → Type 0
+IsFinalSign (Invited uri) = ⊥
+IsFinalSign Accepted = Unit {0}
+IsFinalSign (Refused code) = Unit {0}
+
+abbrev HasFinal : List Sign → Type 0
+HasFinal [] = ⊥
+HasFinal (x ∷ xs) = IsFinalSign x ⊎ HasFinal xs
+
+final-left : (xs ys : List Sign) → HasFinal xs → HasFinal (xs ++ ys)
+final-left [] ys h = absurd h
+final-left (x ∷ xs) ys (inl h) = inl h
+final-left (x ∷ xs) ys (inr h) = inr (final-left xs ys h)
+
+final-right : (xs ys : List Sign) → HasFinal ys → HasFinal (xs ++ ys)
+final-right [] ys h = h
+final-right (x ∷ xs) ys h = inr (final-right xs ys h)
+
+final-code : (code : ℕ) → nat_lt code 200 ≡ false → HasFinal (final_sign code)
+final-code code final = subst (λ b. HasFinal (if b then [] else if nat_lt code 300 then Accepted ∷ [] else Refused code ∷ [])) (sym final) (go (nat_lt code 300))
+  where
+    go : (b : Bool) → HasFinal (if b then Accepted ∷ [] else Refused code ∷ [])
+    go true = inl tt
+    go false = inl tt
+
+-- the status that the transactions read
+status-same : (start : StartLine) → code_of start ≡ status_in start
+status-same (Request method uri) = refl
+status-same (Status code phrase) = refl
+
+status-with : (start : StartLine) (five : Option Five) → (head_with start five).status ≡ code_of start
+status-with start None = refl
+status-with start (Some five) = refl
+
+pub status_read : (m : Message StartLine) → (head_of m).status ≡ status_in m.start
+unfolding head_of
+status_read m = status-with m.start (five_at m.lines) ∙ status-same m.start
+
+module _ (key : TKey) (m : Message StartLine) (final : is_provisional (status_in m.start) ≡ false) where
+  sign-final : (x : Emit) → IsReply key.0 m x → HasFinal (sign_of key x)
+  sign-final (emit.Ask peer message) is = absurd is
+  sign-final (emit.Reply asked message) is =
+      let same : HasFinal (final_sign (status_in message.start)) =
+      subst (λ (m : Message StartLine). HasFinal (final_sign (status_in m.start))) (sym is.1) (final-code (status_in m.start) final) in
+      subst (λ b. HasFinal (if b then final_sign (status_in message.start) else [])) (sym (eq-eqb asked.0 key.0 is.0)) same
+  sign-final (emit.Plain peer text) is = absurd is
+  sign-final (emit.Ack asked message) is = absurd is
+  sign-final (emit.Arm call what at) is = absurd is
+  sign-final (emit.ArmSeat room seat what at) is = absurd is
+
+  signs-final : (xs : List Emit) → HasReply key.0 m xs → HasFinal (signs_of key xs)
+  signs-final [] has = absurd has
+  signs-final (x ∷ xs) (inl is) = final-left (sign_of key x) (signs_of key xs) (sign-final x is)
+  signs-final (x ∷ xs) (inr has) = final-right (sign_of key x) (signs_of key xs) (signs-final xs has)
+
+  but-final : (xs : List Sign) → HasFinal xs → HasFinal (but_passed_on xs)
+  but-final [] h = absurd h
+  but-final (Invited uri ∷ xs) (inl h) = absurd h
+  but-final (Invited uri ∷ xs) (inr h) = h
+  but-final (Accepted ∷ xs) h = inl tt
+  but-final (Refused code ∷ xs) h = inl tt
+
+  shown-final : (x : Event) (out : List Emit) → HasFinal (signs_of key out) → HasFinal (shown_in key x out)
+  shown-final (lives.Hears x) out h = go (is_within x.signal)
+    where
+      go : (b : Bool) → HasFinal (if b then but_passed_on (signs_of key out) else signs_of key out)
+      go true = but-final (signs_of key out) h
+      go false = h
+  shown-final (lives.Releases side) out h = h
+  shown-final (lives.Restores away) out h = h
+  shown-final (lives.Finishes at desk) out h = h
+
+has-apart : (k : ℕ) (m : Message StartLine) (xs ys : List Emit) → HasReply k m (xs ++ ys) → HasReply k m xs ⊎ HasReply k m ys
+has-apart k m [] ys has = inr has
+has-apart k m (x ∷ xs) ys (inl is) = inl (inl is)
+has-apart k m (x ∷ xs) ys (inr has) = go (has-apart k m xs ys has)
+  where
+    go : HasReply k m xs ⊎ HasReply k m ys → HasReply k m (x ∷ xs) ⊎ HasReply k m ys
+    go (inl h) = inl (inr h)
+    go (inr h) = inr h
+
+life-final : (s : Start) (events : List Event) (m : Message StartLine) → is_provisional (status_in m.start) ≡ false → HasReply s.arrival.key.0 m (emits_after s events) → HasFinal (signs_after s events)
+unfolding emits_after signs_after
+life-final s [] m final has = signs-final s.arrival.key m final (added s.desk.out (first_step s).desk.out) has
+life-final s (x ∷ earlier) m final has =
+    let out = emits_by s.site x (call_after s earlier) in
+    go (has-apart s.arrival.key.0 m (emits_after s earlier) out has) (life-final s earlier m final)
+  where
+    go : HasReply s.arrival.key.0 m (emits_after s earlier) ⊎ HasReply s.arrival.key.0 m (emits_by s.site x (call_after s earlier)) →
+        (HasReply s.arrival.key.0 m (emits_after s earlier) → HasFinal (signs_after s earlier)) →
+        HasFinal (signs_after s earlier ++ shown_in s.arrival.key x (emits_by s.site x (call_after s earlier)))
+    go (inl has) before = final-left (signs_after s earlier) _ (before has)
+    go (inr has) before =
+        final-right (signs_after s earlier) _
+        (shown-final s.arrival.key m final x (emits_by s.site x (call_after s earlier)) (signs-final s.arrival.key m final (emits_by s.site x (call_after s earlier)) has))
+
+-- there is none among the INVITEs to targets
+none-if : (offer : Offer) (uri : List ℕ) (later : List Sign) → HasFinal (sign_if offer uri ++ later) → HasFinal later
+none-if NotOffered uri later h = h
+none-if (Offered waiting) uri later (inl h) = absurd h
+none-if (Offered waiting) uri later (inr h) = h
+
+none-invited : (o : Opening) (targets : List Target) → HasFinal (signs_of_targets o targets ++ []) → ⊥
+none-invited o [] h = h
+none-invited o (target ∷ later) h =
+    let parted : HasFinal (sign_if target.offer (asked_uri o target.by target.uri) ++ (signs_of_targets o later ++ [])) =
+    subst HasFinal (append_assoc (sign_if target.offer (asked_uri o target.by target.uri)) (signs_of_targets o later) []) h in
+    none-invited o later (none-if target.offer (asked_uri o target.by target.uri) (signs_of_targets o later ++ []) parted)
+
+-- ---- the requests of other calls have other transactions
+
+-- a request has another than this one
+abbrev HasOther : ℕ → Signal → Type 0
+HasOther k (signal.Arrived key invite served registration identities) = (key.0 == k) ≡ false
+HasOther k (signal.Request call side key request) = (key.0 == k) ≡ false
+HasOther k (signal.Ack call side ack) = Unit {0}
+HasOther k (signal.Cancel call key cancel invite) = (key.0 == k) ≡ false
+HasOther k (signal.Answer key response) = Unit {0}
+HasOther k (signal.Silent branch method) = Unit {0}
+HasOther k (signal.Due call what) = Unit {0}
+HasOther k (signal.Over key) = Unit {0}
+
+abbrev IsOther : ℕ → Deed → Type 0
+IsOther k (Hears x) = HasOther k x.signal
+IsOther k (Releases number side) = Unit {0}
+IsOther k (Restores number away) = Unit {0}
+IsOther k (Finishes number at tokens) = Unit {0}
+IsOther k (Drops count) = Unit {0}
+
+signal-below : (k : ℕ) (s : Signal) → OpensBelow k s → HasOther k s
+signal-below k (signal.Arrived key invite served registration identities) h = ne_eqb key.0 k (λ e. omega (arith, e, h))
+signal-below k (signal.Request call side key request) h = ne_eqb key.0 k (λ e. omega (arith, e, h))
+signal-below k (signal.Ack call side ack) h = tt
+signal-below k (signal.Cancel call key cancel invite) h = ne_eqb key.0 k (λ e. omega (arith, e, h))
+signal-below k (signal.Answer key response) h = tt
+signal-below k (signal.Silent branch method) h = tt
+signal-below k (signal.Due call what) h = tt
+signal-below k (signal.Over key) h = tt
+
+deed-below : (k : ℕ) (deed : Deed) → IsBelow k deed → IsOther k deed
+deed-below k (Hears x) h = signal-below k x.signal h
+deed-below k (Releases number side) h = tt
+deed-below k (Restores number away) h = tt
+deed-below k (Finishes number at tokens) h = tt
+deed-below k (Drops count) h = tt
+
+-- where this one is below all that those before are below of
+signal-above : (k : ℕ) (s : Signal) (older : List Deed) → ((n : ℕ) → Each (IsBelow n) older → k < n) → IsAbove s older → HasOther k s
+signal-above k (signal.Arrived key invite served registration identities) older low h = ne_eqb key.0 k (λ e. omega (arith, e, low key.0 h))
+signal-above k (signal.Request call side key request) older low h = ne_eqb key.0 k (λ e. omega (arith, e, low key.0 h))
+signal-above k (signal.Ack call side ack) older low h = tt
+signal-above k (signal.Cancel call key cancel invite) older low h = ne_eqb key.0 k (λ e. omega (arith, e, low key.0 h))
+signal-above k (signal.Answer key response) older low h = tt
+signal-above k (signal.Silent branch method) older low h = tt
+signal-above k (signal.Due call what) older low h = tt
+signal-above k (signal.Over key) older low h = tt
+
+deed-above : (k : ℕ) (deed : Deed) (older : List Deed) → ((n : ℕ) → Each (IsBelow n) older → k < n) → IsAboveOlder deed older → IsOther k deed
+deed-above k (Hears x) older low h = signal-above k x.signal older low h
+deed-above k (Releases number side) older low h = tt
+deed-above k (Restores number away) older low h = tt
+deed-above k (Finishes number at tokens) older low h = tt
+deed-above k (Drops count) older low h = tt
+
+module _ (site : Site) where
+  -- ---- the INVITE that opened a call
+
+  starts-below : (n : ℕ) (x : Heard) (es : List Entry) (number : ℕ) (s : Signal) → OpensBelow n s →
+      IfSome (option_map (start_by site x es) (arrival_of number s)) (λ s. s.arrival.key.0 < n)
+  starts-below n x es number (signal.Arrived key invite served registration identities) h = h
+  starts-below n x es number (signal.Request call side key request) h = tt
+  starts-below n x es number (signal.Ack call side ack) h = tt
+  starts-below n x es number (signal.Cancel call key cancel invite) h = tt
+  starts-below n x es number (signal.Answer key response) h = tt
+  starts-below n x es number (signal.Silent branch method) h = tt
+  starts-below n x es number (signal.Due call what) h = tt
+  starts-below n x es number (signal.Over key) h = tt
+
+  deed-starts-below : (n : ℕ) (deed : Deed) (older : List Deed) → IsBelow n deed → IfSome (opening_by site deed (table_after site older)) (λ s. s.arrival.key.0 < n)
+  deed-starts-below n (Hears x) older h = starts-below n x (table_after site older).entries _ x.signal h
+  deed-starts-below n (Releases number side) older h = tt
+  deed-starts-below n (Restores number away) older h = tt
+  deed-starts-below n (Finishes number at tokens) older h = tt
+  deed-starts-below n (Drops count) older h = tt
+
+  all-start-below : (n number : ℕ) (deeds : List Deed) → Each (IsBelow n) deeds → AllStart site number (λ s. s.arrival.key.0 < n) deeds
+  all-start-below n number [] h = tt
+  all-start-below n number (deed ∷ older) h = (deed-starts-below n deed older h.0, all-start-below n number older h.1)
+
+  life-below : (n number : ℕ) (deeds : List Deed) (life : Life) → Each (IsBelow n) deeds → life_of site number deeds ≡ Some life → life.start.arrival.key.0 < n
+  life-below n number deeds life h is = life_starts site number (λ s. s.arrival.key.0 < n) deeds life (all-start-below n number deeds h) is
+
+  starts-other : (k : ℕ) (x : Heard) (es : List Entry) (number : ℕ) (s : Signal) → OpensOther (tkey k) s →
+      IfSome (option_map (start_by site x es) (arrival_of number s)) (λ s. (k == s.arrival.key.0) ≡ false)
+  starts-other k x es number (signal.Arrived key invite served registration identities) h = h
+  starts-other k x es number (signal.Request call side key request) h = tt
+  starts-other k x es number (signal.Ack call side ack) h = tt
+  starts-other k x es number (signal.Cancel call key cancel invite) h = tt
+  starts-other k x es number (signal.Answer key response) h = tt
+  starts-other k x es number (signal.Silent branch method) h = tt
+  starts-other k x es number (signal.Due call what) h = tt
+  starts-other k x es number (signal.Over key) h = tt
+
+  deed-starts-other : (k : ℕ) (deed : Deed) (older : List Deed) → IsOtherDeed (tkey k) deed → IfSome (opening_by site deed (table_after site older)) (λ s. (k == s.arrival.key.0) ≡ false)
+  deed-starts-other k (Hears x) older h = starts-other k x (table_after site older).entries _ x.signal h
+  deed-starts-other k (Releases number side) older h = tt
+  deed-starts-other k (Restores number away) older h = tt
+  deed-starts-other k (Finishes number at tokens) older h = tt
+  deed-starts-other k (Drops count) older h = tt
+
+  all-start-other : (k number : ℕ) (deeds : List Deed) → Each (IsOtherDeed (tkey k)) deeds → AllStart site number (λ s. (k == s.arrival.key.0) ≡ false) deeds
+  all-start-other k number [] h = tt
+  all-start-other k number (deed ∷ older) h = (deed-starts-other k deed older h.0, all-start-other k number older h.1)
+
+  -- ---- each deed of the transaction by which a call was opened is of that call
+
+  abbrev AllApart : (number k : ℕ) → List Deed → Type 0
+  AllApart number k [] = Unit {0}
+  AllApart number k (deed ∷ older) = (is_number number (call_of site deed (table_after site older)) ≡ false → IsOther k deed) × AllApart number k older
+
+  below-apart : (number k : ℕ) (deeds : List Deed) → Each (IsBelow k) deeds → AllApart number k deeds
+  below-apart number k [] h = tt
+  below-apart number k (deed ∷ older) h = ((λ other. deed-below k deed h.0), below-apart number k older h.1)
+
+  opens-above : (x : Heard) (es : List Entry) (number : ℕ) (older : List Deed) (s : Signal) → IsAbove s older →
+      IfSome (option_map (start_by site x es) (arrival_of number s)) (λ s. Each (IsBelow s.arrival.key.0) older)
+  opens-above x es number older (signal.Arrived key invite served registration identities) h = h
+  opens-above x es number older (signal.Request call side key request) h = tt
+  opens-above x es number older (signal.Ack call side ack) h = tt
+  opens-above x es number older (signal.Cancel call key cancel invite) h = tt
+  opens-above x es number older (signal.Answer key response) h = tt
+  opens-above x es number older (signal.Silent branch method) h = tt
+  opens-above x es number older (signal.Due call what) h = tt
+  opens-above x es number older (signal.Over key) h = tt
+
+  deed-opens-above : (deed : Deed) (older : List Deed) → IsAboveOlder deed older → IfSome (opening_by site deed (table_after site older)) (λ s. Each (IsBelow s.arrival.key.0) older)
+  deed-opens-above (Hears x) older h = opens-above x (table_after site older).entries _ older x.signal h
+  deed-opens-above (Releases number side) older h = tt
+  deed-opens-above (Restores number away) older h = tt
+  deed-opens-above (Finishes number at tokens) older h = tt
+  deed-opens-above (Drops count) older h = tt
+
+  abbrev IsApart : ℕ → Deed → List Deed → Life → Type 0
+  IsApart number deed older life = AllApart number life.start.arrival.key.0 (deed ∷ older)
+
+  goes-apart : (number : ℕ) (deed : Deed) (older : List Deed) (opens : Option Start) (came : Option Event) (was : Option Life) (life : Life) →
+      is_number number (call_of site deed (table_after site older)) ≡ true → IfSome opens (λ s. Each (IsBelow s.arrival.key.0) older) →
+      ((earlier : Life) → was ≡ Some earlier → AllApart number earlier.start.arrival.key.0 older) → goes_on opens came was ≡ Some life → IsApart number deed older life
+  goes-apart number deed older (Some s) came was life mine o before is =
+      subst (IsApart number deed older) (same_Some (record { start = s; events = [] }) life is)
+      ((λ other. both-ways (is_number number (call_of site deed (table_after site older))) mine other), below-apart number s.arrival.key.0 older o)
+  goes-apart number deed older None came None life mine o before is = absurd (none-some life is)
+  goes-apart number deed older None None (Some earlier) life mine o before is =
+      subst (IsApart number deed older) (same_Some earlier life is)
+      ((λ other. both-ways (is_number number (call_of site deed (table_after site older))) mine other), before earlier refl)
+  goes-apart number deed older None (Some x) (Some earlier) life mine o before is =
+      subst (IsApart number deed older) (same_Some (record earlier { events = x ∷ earlier.events }) life is)
+      ((λ other. both-ways (is_number number (call_of site deed (table_after site older))) mine other), before earlier refl)
+
+  apart : (number : ℕ) (deeds : List Deed) (life : Life) → Rises deeds → life_of site number deeds ≡ Some life → AllApart number life.start.arrival.key.0 deeds
+  unfolding life_of
+  apart number [] life r is = absurd (none-some life is)
+  apart number (deed ∷ older) life r is =
+      go (is_number number (call_of site deed (table_after site older))) refl is (λ life. apart number older life r.1) (λ n life. life-below n number older life)
+    where
+      go : (b : Bool) → is_number number (call_of site deed (table_after site older)) ≡ b →
+          (if b then goes_on (opening_by site deed (table_after site older)) (event_by deed number (table_after site older).entries) (life_of site number older) else life_of site number older) ≡ Some life →
+          ((life : Life) → life_of site number older ≡ Some life → AllApart number life.start.arrival.key.0 older) →
+          ((n : ℕ) (life : Life) → Each (IsBelow n) older → life_of site number older ≡ Some life → life.start.arrival.key.0 < n) → IsApart number deed older life
+      go true mine now before low =
+          goes-apart number deed older (opening_by site deed (table_after site older)) (event_by deed number (table_after site older).entries) (life_of site number older) life mine
+          (deed-opens-above deed older r.0) before now
+      go false mine now before low = ((λ other. deed-above life.start.arrival.key.0 deed older (λ n below. low n life below now) r.0), before life now)
+
+  -- ---- in which transactions a call replies
+
+  module _ (own : ℕ → Bool) where
+    -- a request is of these
+    abbrev HasIn : Signal → Type 0
+    HasIn (signal.Arrived key invite served registration identities) = own key.0 ≡ true
+    HasIn (signal.Request call side key request) = own key.0 ≡ true
+    HasIn (signal.Ack call side ack) = Unit {0}
+    HasIn (signal.Cancel call key cancel invite) = own key.0 ≡ true
+    HasIn (signal.Answer key response) = Unit {0}
+    HasIn (signal.Silent branch method) = Unit {0}
+    HasIn (signal.Due call what) = Unit {0}
+    HasIn (signal.Over key) = Unit {0}
+
+    abbrev DeedIn : Deed → Type 0
+    DeedIn (Hears x) = HasIn x.signal
+    DeedIn (Releases number side) = Unit {0}
+    DeedIn (Restores number away) = Unit {0}
+    DeedIn (Finishes number at tokens) = Unit {0}
+    DeedIn (Drops count) = Unit {0}
+
+    signal-opens : (x : Heard) (es : List Entry) (number : ℕ) (s : Signal) → HasIn s → IfSome (option_map (start_by site x es) (arrival_of number s)) (λ s. LifeIsOf own s [])
+    signal-opens x es number (signal.Arrived key invite served registration identities) h = record { opening = h; desk = tt; events_in = tt }
+    signal-opens x es number (signal.Request call side key request) h = tt
+    signal-opens x es number (signal.Ack call side ack) h = tt
+    signal-opens x es number (signal.Cancel call key cancel invite) h = tt
+    signal-opens x es number (signal.Answer key response) h = tt
+    signal-opens x es number (signal.Silent branch method) h = tt
+    signal-opens x es number (signal.Due call what) h = tt
+    signal-opens x es number (signal.Over key) h = tt
+
+    deed-opens : (deed : Deed) (older : List Deed) → DeedIn deed → IfSome (opening_by site deed (table_after site older)) (λ s. LifeIsOf own s [])
+    deed-opens (Hears x) older h = signal-opens x (table_after site older).entries _ x.signal h
+    deed-opens (Releases number side) older h = tt
+    deed-opens (Restores number away) older h = tt
+    deed-opens (Finishes number at tokens) older h = tt
+    deed-opens (Drops count) older h = tt
+
+    abbrev GoesOnSo : Event → Type 0
+    GoesOnSo x = (s : Start) (earlier : List Event) → LifeIsOf own s earlier → LifeIsOf own s (x ∷ earlier)
+
+    goes-so : (x : Event) → EventIsOf own x → GoesOnSo x
+    goes-so x is s earlier l = record { opening = l.opening; desk = l.desk; events_in = (is, l.events_in) }
+
+    signal-comes : (x : Heard) (es : List Entry) (number : ℕ) (s : Signal) → HasIn s → IfSome (option_map (event_heard x number es) (as_heard s)) GoesOnSo
+    signal-comes x es number (signal.Arrived key invite served registration identities) h = tt
+    signal-comes x es number (signal.Request call side key request) h = goes-so _ (h, tt)
+    signal-comes x es number (signal.Ack call side ack) h = goes-so _ (tt, tt)
+    signal-comes x es number (signal.Cancel call key cancel invite) h = goes-so _ (h, tt)
+    signal-comes x es number (signal.Answer key response) h = goes-so _ (tt, tt)
+    signal-comes x es number (signal.Silent branch method) h = goes-so _ (tt, tt)
+    signal-comes x es number (signal.Due call what) h = goes-so _ (tt, tt)
+    signal-comes x es number (signal.Over key) h = goes-so _ (tt, tt)
+
+    deed-comes : (deed : Deed) (number : ℕ) (es : List Entry) → DeedIn deed → IfSome (event_by deed number es) GoesOnSo
+    deed-comes (Hears x) number es h = signal-comes x es number x.signal h
+    deed-comes (Releases call side) number es h = goes-so (lives.Releases side) tt
+    deed-comes (Restores call away) number es h = goes-so (lives.Restores away) tt
+    deed-comes (Finishes call at tokens) number es h = goes-so _ tt
+    deed-comes (Drops count) number es h = tt
+
+    deed-holds : (number : ℕ) (deed : Deed) (older : List Deed) → DeedIn deed → HoldsBy site number (LifeIsOf own) deed older
+    deed-holds number deed older h = record { opens = deed-opens deed older h; comes = deed-comes deed number (table_after site older).entries h }
+
+  -- another call than that which was opened by this one
+  module _ (k : ℕ) where
+    abbrev own_but : ℕ → Bool
+    own_but j = not (j == k)
+
+    signal-but : (s : Signal) → HasOther k s → HasIn own_but s
+    signal-but (signal.Arrived key invite served registration identities) h = ap not h
+    signal-but (signal.Request call side key request) h = ap not h
+    signal-but (signal.Ack call side ack) h = tt
+    signal-but (signal.Cancel call key cancel invite) h = ap not h
+    signal-but (signal.Answer key response) h = tt
+    signal-but (signal.Silent branch method) h = tt
+    signal-but (signal.Due call what) h = tt
+    signal-but (signal.Over key) h = tt
+
+    deed-but : (deed : Deed) → IsOther k deed → DeedIn own_but deed
+    deed-but (Hears x) h = signal-but x.signal h
+    deed-but (Releases number side) h = tt
+    deed-but (Restores number away) h = tt
+    deed-but (Finishes number at tokens) h = tt
+    deed-but (Drops count) h = tt
+
+    other-number : (number n : ℕ) (o : Option ℕ) → (n == number) ≡ false → is_number n o ≡ true → is_number number o ≡ false
+    other-number number n None other is = refl
+    other-number number n (Some c) other is = ap (λ c. c == number) (eqb-true c n is) ∙ other
+
+    all-but : (number n : ℕ) (deeds : List Deed) → (n == number) ≡ false → AllApart number k deeds → AllHold site n (LifeIsOf own_but) deeds
+    all-but number n [] other a = tt
+    all-but number n (deed ∷ older) other a = (
+      (λ mine. deed-holds own_but n deed older (deed-but deed (a.0 (other-number number n (call_of site deed (table_after site older)) other mine)))),
+      all-but number n older other a.1,
+    )
+
+    other-of : (number n : ℕ) (deeds : List Deed) (life : Life) → (n == number) ≡ false → AllApart number k deeds → life_of site n deeds ≡ Some life → LifeIsOf own_but life.start life.events
+    other-of number n deeds life other a is = life_holds site n (LifeIsOf own_but) deeds life (all-but number n deeds other a) is
+
+  -- any call whose requests are of so many transactions
+  module _ (n : ℕ) where
+    abbrev own_below : ℕ → Bool
+    own_below j = nat_lt j n
+
+    below-in : (k : ℕ) → k < n → own_below k ≡ true
+    below-in k less = grind (arith, nat_tests, less)
+
+    signal-in : (s : Signal) → OpensBelow n s → HasIn own_below s
+    signal-in (signal.Arrived key invite served registration identities) h = below-in key.0 h
+    signal-in (signal.Request call side key request) h = below-in key.0 h
+    signal-in (signal.Ack call side ack) h = tt
+    signal-in (signal.Cancel call key cancel invite) h = below-in key.0 h
+    signal-in (signal.Answer key response) h = tt
+    signal-in (signal.Silent branch method) h = tt
+    signal-in (signal.Due call what) h = tt
+    signal-in (signal.Over key) h = tt
+
+    deed-in : (deed : Deed) → IsBelow n deed → DeedIn own_below deed
+    deed-in (Hears x) h = signal-in x.signal h
+    deed-in (Releases number side) h = tt
+    deed-in (Restores number away) h = tt
+    deed-in (Finishes number at tokens) h = tt
+    deed-in (Drops count) h = tt
+
+    all-in : (number : ℕ) (deeds : List Deed) → Each (IsBelow n) deeds → AllHold site number (LifeIsOf own_below) deeds
+    all-in number [] h = tt
+    all-in number (deed ∷ older) h = ((λ mine. deed-holds own_below number deed older (deed-in deed h.0)), all-in number older h.1)
+
+    below-of : (number : ℕ) (deeds : List Deed) (life : Life) → Each (IsBelow n) deeds → life_of site number deeds ≡ Some life → LifeIsOf own_below life.start life.events
+    below-of number deeds life h is = life_holds site number (LifeIsOf own_below) deeds life (all-in number deeds h) is
+
+  replied-in : (own : ℕ → Bool) (k : ℕ) (m : Message StartLine) (x : Emit) → IsReply k m x → IsRepliedIn own x → own k ≡ true
+  replied-in own k m (emit.Ask peer message) is in_own = absurd is
+  replied-in own k m (emit.Reply key message) is in_own = subst (λ j. own j ≡ true) is.0 in_own
+  replied-in own k m (emit.Plain peer text) is in_own = absurd is
+  replied-in own k m (emit.Ack key message) is in_own = absurd is
+  replied-in own k m (emit.Arm call what at) is in_own = absurd is
+  replied-in own k m (emit.ArmSeat room seat what at) is in_own = absurd is
+
+  has-own : (own : ℕ → Bool) (k : ℕ) (m : Message StartLine) (xs : List Emit) → HasReply k m xs → Each (IsRepliedIn own) xs → own k ≡ true
+  has-own own k m [] has each = absurd has
+  has-own own k m (x ∷ xs) (inl is) each = replied-in own k m x is each.0
+  has-own own k m (x ∷ xs) (inr has) each = has-own own k m xs has each.1
+
+  -- ---- of which call a reply is that the calls brought forth
+
+  has-left : (k : ℕ) (m : Message StartLine) (xs ys : List Emit) → HasReply k m xs → HasReply k m (xs ++ ys)
+  has-left k m [] ys has = absurd has
+  has-left k m (x ∷ xs) ys (inl is) = inl is
+  has-left k m (x ∷ xs) ys (inr has) = inr (has-left k m xs ys has)
+
+  has-right : (k : ℕ) (m : Message StartLine) (xs ys : List Emit) → HasReply k m ys → HasReply k m (xs ++ ys)
+  has-right k m [] ys has = has
+  has-right k m (x ∷ xs) ys has = inr (has-right k m xs ys has)
+
+  -- an entry is found by its number
+  found-numbered : (p : Entry → Bool) (es : List Entry) (e : Entry) → find p es ≡ Some e → (z : Entry) × (find (is_numbered (number_of e)) es ≡ Some z)
+  unfolding is_numbered
+  found-numbered p [] e is = absurd (none-some e is)
+  found-numbered p (x ∷ es) e is = go (p x) is (found-numbered p es e)
+    where
+      later-so : (b : Bool) → (z : Entry) × (find (is_numbered (number_of e)) es ≡ Some z) → (z : Entry) × (cond b (Some x) (find (is_numbered (number_of e)) es) ≡ Some z)
+      later-so true found = (x, refl)
+      later-so false found = found
+
+      go : (b : Bool) → cond b (Some x) (find p es) ≡ Some e → (find p es ≡ Some e → (z : Entry) × (find (is_numbered (number_of e)) es ≡ Some z)) →
+          (z : Entry) × (cond (is_numbered (number_of e) x) (Some x) (find (is_numbered (number_of e)) es) ≡ Some z)
+      go true is later =
+          let its : is_numbered (number_of e) x ≡ true = eq-eqb (number_of x) (number_of e) (ap number_of (same_Some x e is)) in
+          (x, ap (λ b. cond b (Some x) (find (is_numbered (number_of e)) es)) its)
+      go false is later = later-so (is_numbered (number_of e) x) (later is)
+
+  met-numbered : (deed : Deed) (es : List Entry) (e : Entry) → met_by deed es ≡ Some e → (z : Entry) × (find (is_numbered (number_of e)) es ≡ Some z)
+  met-numbered (Hears x) es e is = found-numbered _ es e is
+  met-numbered (Releases number side) es e is = found-numbered _ es e is
+  met-numbered (Restores number away) es e is = found-numbered _ es e is
+  met-numbered (Finishes number at tokens) es e is = found-numbered _ es e is
+  met-numbered (Drops count) es e is = absurd (none-some e is)
+
+  lived-in : (l : Option Life) (z : Entry) → entry_in l ≡ Some z → (life : Life) × (l ≡ Some life)
+  lived-in None z is = absurd (none-some z is)
+  lived-in (Some life) z is = (life, refl)
+
+  -- numbers only rise
+  fewer-before : (m n : ℕ) → min (n + 1) m < m → n < m
+  fewer-before m n h = omega (arith, h)
+
+  signal-before : (s : Signal) (n : ℕ) → opened_after s n < 2 ^ 64 - 1 → n < 2 ^ 64 - 1
+  signal-before (signal.Arrived key invite served registration identities) n h = fewer-before (2 ^ 64 - 1) n h
+  signal-before (signal.Request call side key request) n h = h
+  signal-before (signal.Ack call side ack) n h = h
+  signal-before (signal.Cancel call key cancel invite) n h = h
+  signal-before (signal.Answer key response) n h = h
+  signal-before (signal.Silent branch method) n h = h
+  signal-before (signal.Due call what) n h = h
+  signal-before (signal.Over key) n h = h
+
+  few-before : (deed : Deed) (older : List Deed) → HasNumbers site (deed ∷ older) → HasNumbers site older
+  few-before (Hears x) older few = signal-before x.signal (table_after site older).opened few
+  few-before (Releases number side) older few = few
+  few-before (Restores number away) older few = few
+  few-before (Finishes number at tokens) older few = few
+  few-before (Drops count) older few = few
+
+  module _ (steps : CallsTakeTheirSteps) (nobodys : NothingIsOfNobody) where
+    abbrev HasLife : ℕ → List Deed → Type 0
+    HasLife n deeds = (life : Life) × (life_of site n deeds ≡ Some life)
+
+    -- the call that a deed is of has a life
+    lives-by : (deed : Deed) (older : List Deed) (n : ℕ) → HasNumbers site older → call_of site deed (table_after site older) ≡ Some n → HasLife n (deed ∷ older)
+    unfolding life_of
+    lives-by deed older n few is = go (opening_by site deed (table_after site older)) (met_by deed (table_after site older).entries) refl refl is
+      where
+        came : Option Event
+        came = event_by deed n (table_after site older).entries
+
+        its : is_number n (call_of site deed (table_after site older)) ≡ true
+        its = ap (is_number n) is ∙ eq-eqb n n refl
+
+        -- by what opens it, and what its life was
+        so : (opens : Option Start) (was : Option Life) → opening_by site deed (table_after site older) ≡ opens → life_of site n older ≡ was → life_of site n (deed ∷ older) ≡ goes_on opens came was
+        so opens was o l =
+            ap (λ b. if b then goes_on (opening_by site deed (table_after site older)) came (life_of site n older) else life_of site n older) its
+            ∙ ap (λ opens. goes_on opens came (life_of site n older)) o ∙ ap (goes_on opens came) l
+
+        go : (opens : Option Start) (met : Option Entry) → opening_by site deed (table_after site older) ≡ opens → met_by deed (table_after site older).entries ≡ met →
+            number_by opens met ≡ Some n → HasLife n (deed ∷ older)
+        go (Some s) met o m is = (record { start = s; events = [] }, so (Some s) (life_of site n older) o refl)
+        go None None o m is = absurd (none-some n is)
+        go None (Some e) o m is =
+            let (z, found) = met-numbered deed (table_after site older).entries e m in
+            let same : number_of e ≡ n = same_Some (number_of e) n is in
+            let entry : entry_in (life_of site n older) ≡ Some z =
+            sym (steps site older n few) ∙ subst (λ n. find (is_numbered n) (table_after site older).entries ≡ Some z) same found in
+            let (life, l) = lived-in (life_of site n older) z entry in
+            (with_event came life, so None (Some life) o l)
+
+    -- and goes on to have one
+    lives-on : (deed : Deed) (older : List Deed) (n : ℕ) → HasLife n older → HasLife n (deed ∷ older)
+    unfolding life_of
+    lives-on deed older n (life, is) = go (is_number n (call_of site deed (table_after site older))) (opening_by site deed (table_after site older))
+      where
+        came : Option Event
+        came = event_by deed n (table_after site older).entries
+
+        go : (b : Bool) (opens : Option Start) → (life : Life) × ((if b then goes_on opens came (life_of site n older) else life_of site n older) ≡ Some life)
+        go true (Some s) = (record { start = s; events = [] }, refl)
+        go true None = (with_event came life, ap (goes_on None came) is)
+        go false opens = (life, is)
+
+    record IsFound (k : ℕ) (m : Message StartLine) (deeds : List Deed) : Type 0 where
+      n : ℕ
+      lives : HasLife n deeds
+      has : HasReply k m (emits_of site n deeds)
+
+    found : (k : ℕ) (m : Message StartLine) (deeds : List Deed) → HasNumbers site deeds → IsBrought site k m deeds → IsFound k m deeds
+    unfolding emits_of
+    found k m [] few brought = absurd brought
+    found k m (deed ∷ older) few (inl has) = go (call_of site deed (table_after site older)) refl
+      where
+        go : (o : Option ℕ) → call_of site deed (table_after site older) ≡ o → IsFound k m (deed ∷ older)
+        go None is = absurd (subst (HasReply k m) (nobodys site deed older is).0 has)
+        go (Some n) is =
+            let its : is_number n (call_of site deed (table_after site older)) ≡ true = ap (is_number n) is ∙ eq-eqb n n refl in
+            record {
+              n = n;
+              lives = lives-by deed older n (few-before deed older few) is;
+              has =
+                  has-right k m (emits_of site n older) _
+                  (subst (λ b. HasReply k m (if b then out_by site deed (table_after site older) else [])) (sym its) has);
+            }
+    found k m (deed ∷ older) few (inr brought) =
+        let f : IsFound k m older = found k m older (few-before deed older few) brought in
+        record { n = f.n; lives = lives-on deed older f.n f.lives; has = has-left k m (emits_of site f.n older) _ f.has }
+
+    -- ---- each reply is in a transaction that was opened before it
+
+    few-of : (newer older : List Deed) → HasNumbers site (newer ++ older) → HasNumbers site older
+    few-of [] older few = few
+    few-of (deed ∷ newer) older few = few-of newer older (few-before deed (newer ++ older) few)
+
+    brought-more : (k : ℕ) (m : Message StartLine) (newer older : List Deed) → IsBrought site k m older → IsBrought site k m (newer ++ older)
+    brought-more k m [] older brought = brought
+    brought-more k m (deed ∷ newer) older brought = inr (brought-more k m newer older brought)
+
+    brought-below : CallsReplyInTheirOwn → (n k : ℕ) (m : Message StartLine) (deeds : List Deed) → HasNumbers site deeds → Each (IsBelow n) deeds → IsBrought site k m deeds → k < n
+    brought-below own_law n k m deeds few below brought =
+        let f : IsFound k m deeds = found k m deeds few brought in
+        let of : LifeIsOf (own_below n) f.lives.0.start f.lives.0.events = below-of n f.n deeds f.lives.0 below f.lives.1 in
+        let in_own : own_below n k ≡ true = has-own (own_below n) k m (emits_of site f.n deeds) f.has (own_law (own_below n) site deeds f.n f.lives.0 few f.lives.1 of) in
+        grind (arith, nat_tests, in_own)
+
+    may-below : CallsReplyInTheirOwn → (n k : ℕ) (m : Message StartLine) (deeds : List Deed) → HasNumbers site deeds → MayReply site n deeds k m → k < n
+    may-below own_law n k m deeds few (inl by) =
+        brought-below own_law n k m by.older (few-of by.newer by.older (subst (HasNumbers site) by.all few)) by.below by.brought
+    may-below own_law n k m deeds few (inr away) = away.below
+
+    pub answered_below : CallsReplyInTheirOwn → (deeds : List Deed) → HasNumbers site deeds → (newer older : List Done) (k : ℕ) (m : Message StartLine) (at : ℕ) →
+        AllAnswered site deeds (newer ++ DidReply k m at ∷ older) → k < keys older
+    answered_below own_law deeds few [] older k m at a = may-below own_law (keys older) k m deeds few a.0
+    answered_below own_law deeds few (act ∷ newer) older k m at a = answered_below own_law deeds few newer older k m at a.1
+
+    -- ---- no final in the transaction of a call that is offered
+
+    module _ (own_law : CallsReplyInTheirOwn) (deeds : List Deed) (few : HasNumbers site deeds) (rises : Rises deeds) (number : ℕ) (life : Life) (is : life_of site number deeds ≡ Some life) where
+      abbrev key_in : ℕ
+      key_in = life.start.arrival.key.0
+
+      -- a reply in it that the calls brought forth is of this call,
+      its-own : (m : Message StartLine) → IsBrought site key_in m deeds → HasReply key_in m (emits_of site number deeds)
+      its-own m brought =
+          let f : IsFound key_in m deeds = found key_in m deeds few brought in
+          go f (f.n == number) refl
+        where
+          go : (f : IsFound key_in m deeds) (b : Bool) → (f.n == number) ≡ b → HasReply key_in m (emits_of site number deeds)
+          go f true same = subst (λ n. HasReply key_in m (emits_of site n deeds)) (eqb-true f.n number same) f.has
+          go f false other =
+              let of : LifeIsOf (own_but key_in) f.lives.0.start f.lives.0.events =
+              other-of key_in number f.n deeds f.lives.0 other (apart number deeds life rises is) f.lives.1 in
+              let in_own : own_but key_in key_in ≡ true =
+              has-own (own_but key_in) key_in m (emits_of site f.n deeds) f.has (own_law (own_but key_in) site deeds f.n f.lives.0 few f.lives.1 of) in
+              both-ways (own_but key_in key_in) in_own (ap not (eq-eqb key_in key_in refl))
+
+      -- and none is elsewhere
+      none-elsewhere : (n k : ℕ) → (k == key_in) ≡ true → IsElsewhere n k deeds → ⊥
+      none-elsewhere n k same away =
+          both-ways (k == key_in) same (life_starts site number (λ s. (k == s.arrival.key.0) ≡ false) deeds life (all-start-other k number deeds away.other) is)
+
+      may-own : (n k : ℕ) (m : Message StartLine) → (k == key_in) ≡ true → MayReply site n deeds k m → HasReply key_in m (emits_of site number deeds)
+      may-own n k m same (inl by) =
+          let whole : IsBrought site k m deeds = subst (IsBrought site k m) (sym by.all) (brought-more k m by.newer by.older by.brought) in
+          its-own m (subst (λ k. IsBrought site k m deeds) (eqb-true k key_in same) whole)
+      may-own n k m same (inr away) = absurd (none-elsewhere n k same away)
+
+      -- of each call on the transactions
+      pub answered_own : (newer older : List Done) (m : Message StartLine) (at : ℕ) → AllAnswered site deeds (newer ++ DidReply key_in m at ∷ older) → HasReply key_in m (emits_of site number deeds)
+      answered_own [] older m at a = may-own (keys older) key_in m (eq-eqb key_in key_in refl) a.0
+      answered_own (act ∷ newer) older m at a = answered_own newer older m at a.1
+
+      module _ (emits : emits_of site number deeds ≡ emits_after life.start life.events) (o : Opening) (targets : List Target)
+          (shown : signs_after life.start life.events ≡ signs_of_targets o targets ++ []) where
+        may-none : (n k : ℕ) (m : Message StartLine) → (k == key_in) ≡ true → is_provisional (head_of m).status ≡ false → MayReply site n deeds k m → ⊥
+        may-none n k m same final may =
+            none-invited o targets
+            (subst HasFinal shown (life-final life.start life.events m (ap is_provisional (sym (status_read m)) ∙ final) (subst (HasReply key_in m) emits (may-own n k m same may))))
+
+        act-none : (n : ℕ) (act : Done) → IsAnswered site n deeds act → is_final_in key_in act ≡ false
+        act-none n (DidBegin step) a = refl
+        act-none n (DidHear p m now taken) a = refl
+        act-none n (DidAsk p m now) a = refl
+        act-none n (DidReply k m now) a = go (k == key_in) (is_provisional (head_of m).status) refl refl
+          where
+            go : (b c : Bool) → (k == key_in) ≡ b → is_provisional (head_of m).status ≡ c → (b && not c) ≡ false
+            go false c same final = refl
+            go true true same final = refl
+            go true false same final = absurd (may-none n k m same final a)
+        act-none n (DidAck k m) a = refl
+        act-none n (DidFire k) a = refl
+
+        pub none_final : (acts : List Done) → AllAnswered site deeds acts → list_any (is_final_in key_in) acts ≡ false
+        none_final [] a = refl
+        none_final (act ∷ acts) a = ap (λ b. b || list_any (is_final_in key_in) acts) (act-none (keys acts) act a.0) ∙ none_final acts a.1

@@ -1,6 +1,7 @@
 -- What a deadline brings, once it is taken from the deadlines that are armed.
-use Rattle.std.proofs.Common.{◌≡◌, ◌≤◌, ℕ, List, [], ◌∷◌, ◌++◌, Option, Some, None, IfSome, append_assoc, length, refl, sym, ap, ◌∙◌, subst}
+use Rattle.std.proofs.Common.{◌≡◌, ◌≤◌, ℕ, List, [], ◌∷◌, ◌++◌, Option, Some, None, IfSome, append_assoc, refl, sym, ap, ◌∙◌, subst}
 use Rattle.std.specs.Prelude.{Bool, true, false, nat_le, if◌then◌else◌, is_some}
+use Rattle.std.specs.Option.{option_map}
 use Rattle.std.proofs.lemmas.Bool.{leb-true}
 use Rattle.mmtel_directory.specs.declared.directories.Directory.{Directory}
 use Rattle.mmtel_outside.specs.declared.events.Offer.{Offer}
@@ -17,8 +18,8 @@ use Rattle.mmtel_transaction.specs.declared.entries.Entry.{Entry}
 use Rattle.mmtel_transaction.specs.declared.transactions.Transactions.{Transactions}
 use Rattle.mmtel_transaction.specs.declared.words.Due.{Due}
 use Rattle.mmtel_transaction.specs.declared.words.Due.TheVariants as due
-use Rattle.mmtel_server_decisions.proofs.Arming.{deadline_is, first_due, first_of_due}
-use Rattle.mmtel_server_decisions.specs.Arming.{IsAmong, IsDueBy, deadline_in, queue_of}
+use Rattle.mmtel_server_decisions.proofs.Arming.{is_chosen, kind_is}
+use Rattle.mmtel_server_decisions.specs.Arming.{IsChosen, kind_of, queue_of}
 use Rattle.mmtel_server.specs.Follows.{Breaks, Follows, IsBy}
 use Rattle.mmtel_server.specs.Stands.{Did, IsCut}
 use Rattle.mmtel_server_decisions.specs.declared.armed.Armed.{Armed}
@@ -163,11 +164,11 @@ module _ (deed : Directory → List ℕ → World → World) (s : Server) (rest 
 
 -- the first of all, which the code found
 module _ (d : Directory) (token : List ℕ) (now : ℕ) (w : World) (armed : List Armed) (x : deadlines.Deadline) (same : queue_of armed ≡ w.armed)
-    (found : deadline_in x (queue_of armed) ≡ first_of (next_due now (live w.acts)) (first_armed now (queue_of armed))) (among : IsAmong (length armed) x) where
-  pub first_fires : (first : Deadline) × (deadline_in x (queue_of armed) ≡ Some first) × IsDueBy now first × (fire_one d token now w ≡ fired d token now first w)
+    (found : Some x ≡ option_map kind_of (first_of (next_due now (live w.acts)) (first_armed now (queue_of armed)))) where
+  pub first_fires : (first : Deadline) × (kind_of first ≡ x) × IsChosen (first_armed now (queue_of armed)) first × (fire_one d token now w ≡ fired d token now first w)
   first_fires =
       let next = next_due now (live w.acts) in
-      let one = deadline_is x armed among in
-      let is : due_in now w ≡ Some one.0 = sym (ap (λ (q : List run.Armed). first_of next (first_armed now q)) same) ∙ (sym found ∙ one.1) in
-      let due : IfSome (due_in now w) (IsDueBy now) = first_of_due now next (first_armed now w.armed) (first_due now w.armed) in
-      (one.0, one.1, subst (λ (o : Option Deadline). IfSome o (IsDueBy now)) is due, ap (λ (o : Option Deadline). fired_if d token now o w) is)
+      let one = kind_is (first_of next (first_armed now (queue_of armed))) x found in
+      let is : due_in now w ≡ Some one.0 = sym (ap (λ (q : List run.Armed). first_of next (first_armed now q)) same) ∙ one.1 in
+      let chosen : IfSome (Some one.0) (IsChosen (first_armed now (queue_of armed))) = subst (λ (o : Option Deadline). IfSome o (IsChosen (first_armed now (queue_of armed)))) one.1 (is_chosen next (first_armed now (queue_of armed))) in
+      (one.0, one.2, chosen, ap (λ (o : Option Deadline). fired_if d token now o w) is)

@@ -1,5 +1,5 @@
 -- What the keeper was asked, event after event, and what it holds then.
-use Rattle.std.proofs.Common.{◌≡◌, ◌≤◌, ℕ, suc, Bool, true, false, List, [], ◌∷◌, ◌++◌, length, refl, sym, ap, ◌∙◌, subst, append-nil, append_assoc, Option, Some, None, arith, inl}
+use Rattle.std.proofs.Common.{◌≡◌, ◌≤◌, ℕ, suc, Bool, true, false, List, [], ◌∷◌, ◌++◌, length, refl, sym, ap, ◌∙◌, subst, append-nil, append_assoc, Option, Some, None, Result, Ok, Err, OnErr, arith, inl}
 use Rattle.std.proofs.lemmas.Bool.{false≢true}
 use Rattle.std.specs.Option.{option_map, option_to_list}
 use Rattle.mmtel_charging.specs.declared.rows.Row.{Row}
@@ -15,7 +15,7 @@ use Rattle.mmtel_run.specs.InForce.{upload_at, uploads_of}
 use Rattle.mmtel_run.specs.Run.{after}
 use Rattle.mmtel_run.specs.Short.{IsShortRun}
 use Rattle.mmtel_run.specs.World.{World, beginning}
-use Rattle.mmtel_serving.specs.Calls.{Answers, Call, Counted, MayBeCalled, call_by, none, stores, asks}
+use Rattle.mmtel_serving.specs.Calls.{Answers, Call, Counted, MayBeCalled, Met, call_by, none, stores, asks}
 use Rattle.mmtel_types.specs.declared.numbers.Account.{Account}
 use Rattle.mmtel_web.specs.Answers.{Kept, made, failed, no_memory, web_of}
 use Rattle.mmtel_web.specs.Uploads.{kept_upload, upload_by}
@@ -74,6 +74,11 @@ lost_answers : (call : Call) (held : Option Held) (calls : Option KeeperCalls) �
 lost_answers none held calls = (λ same. cc, (refl, refl))
 lost_answers (stores account text) held calls = (refl, inl refl)
 lost_answers asks held calls = (refl, inl refl)
+
+-- and where memory runs out before anything was
+pub met_unasked : {T E : Type 0} (r : Result T E) (call : Call) (held : Option Held) (calls : Option KeeperCalls) (faults : ℕ) → OnErr r (Met call held held calls calls faults faults)
+met_unasked (Ok x) call held calls faults = tt
+met_unasked (Err e) call held calls faults = record { kept = no_memory; rows = []; answers = lost_answers call held calls; counted = refl }
 
 -- and no row was taken
 abbrev pub lost_event : Event → Happened

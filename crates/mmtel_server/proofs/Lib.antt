@@ -25,3 +25,4 @@ pub mod Keeping
 pub mod Made
 mod Drives
 mod ReadOut
+mod Replaced

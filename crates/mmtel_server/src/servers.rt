@@ -15,7 +15,7 @@ use mmtel_directory::Directory;
 use mmtel_focus::Rooms;
 use mmtel_in_force::Records;
 use mmtel_scan::List;
-use mmtel_server_decisions::Armed;
+use mmtel_server_decisions::Alarms;
 use mmtel_transaction::{Tokens, Transactions};
 use mmtel_types::Moment;
 
@@ -31,8 +31,8 @@ pub struct Server {
     calls: Calls,
     /// The conference rooms.
     rooms: Rooms,
-    /// The deadlines of calls and of seats that did not fire, in the order in which they were armed.
-    armed: List<Armed>,
+    /// The deadlines of calls and of seats that did not fire.
+    armed: Alarms,
     /// The charging rows that wait for the keeper, in the order in which they were closed: each is taken from the calls or the rooms as soon as they have closed it.
     waiting: List<Row>,
     /// The records in force, and the registrations.

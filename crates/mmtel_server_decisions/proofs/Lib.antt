@@ -1,1 +1,2 @@
 pub mod Arming
+mod Queueing

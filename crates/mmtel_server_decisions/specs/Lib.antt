@@ -1,3 +1,5 @@
 -- What public clauses cite: deadlines of calls and of seats, and the rows that wait.
 pub mod Arming
 pub mod Handed
+-- What private functions alone cite: the deadlines as they are kept.
+pub mod Queue

@@ -1,12 +1,15 @@
 //! What the server decides in a step: which deadline comes first, whose a message is, and what becomes of the charging rows that wait.
 #![tactic(auto)]
 
+mod alarms;
 mod armed;
 mod belonging;
 mod deadlines;
 mod rows;
+mod turns;
 
-pub use armed::{Alarm, Armed, first_armed};
+pub use alarms::Alarms;
+pub use armed::{Alarm, Armed};
 pub use belonging::{is_answer_of_calls, is_with};
 pub use deadlines::{Deadline, first_of, moment_by};
 pub use rows::hand_rows;

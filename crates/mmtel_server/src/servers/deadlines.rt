@@ -1,5 +1,6 @@
 //! Deadlines: those that are due fire, each at its own moment (RFC 3261 §17).
-ghost use Rattle.std.specs.Prelude.{◌≡◌, ◌<◌, ◌≤◌, ℕ, List, IfSome, OnErr, OnOk, Some, length};
+ghost use Rattle.std.specs.Prelude.{◌≡◌, ℕ, List, OnErr, OnOk, Some};
+ghost use Rattle.std.specs.Option.{option_map};
 ghost use Rattle.mmtel_outside.specs.declared.events.Offer.{Offer};
 ghost use Rattle.mmtel_run.specs.Deadlines as deadlines;
 ghost use Rattle.mmtel_run.specs.Deadlines.{Chosen, first_armed, first_of};
@@ -7,7 +8,7 @@ ghost use Rattle.mmtel_desk.specs.Invites.{invite_silent};
 ghost use Rattle.mmtel_run.specs.Rooms.{is_key_of_calls, is_of_calls};
 ghost use Rattle.mmtel_run.specs.Run.{settled};
 ghost use Rattle.mmtel_run.specs.World.{alarmed, begun, calls_in, ended_of, fired, fired_in, rung, silenced, struck};
-ghost use Rattle.mmtel_server_decisions.specs.Arming.{IsAmong, IsDueBy, alarm_in, chosen_at, deadline_by, deadline_in, queue_of};
+ghost use Rattle.mmtel_server_decisions.specs.Arming.{IsChosen, alarm_in, kind_of, queue_of};
 ghost use Rattle.mmtel_server.specs.Follows.{Breaks, BreaksTo, Follows, FollowsTo, IsBy, IsSettledBy};
 ghost use Rattle.mmtel_transaction.specs.Answers.{next_due};
 ghost use Rattle.mmtel_transaction.specs.Calls.{Done, live};
@@ -21,9 +22,7 @@ use mmtel_desk::invite_silent;
 use mmtel_focus::RoomSignal;
 use mmtel_outside::Offer;
 use mmtel_scan::{List, NoMemory, Text};
-use mmtel_server_decisions::{
-    Alarm, Deadline, first_armed, first_of, is_answer_of_calls, moment_by,
-};
+use mmtel_server_decisions::{Alarm, Deadline, first_of, is_answer_of_calls, moment_by};
 use mmtel_transaction::{Due, TKey};
 use mmtel_types::Moment;
 use std::alloc::Global;
@@ -149,22 +148,17 @@ impl Server {
         }
     }
 
-    /// The deadline of a call or of a seat at this place fires, at its own moment.
-    fn strike(
-        &mut self,
-        alloc: Global,
-        place: usize,
-        now: Moment,
-        out: &mut List<Offer>,
-    ) -> Result<(), NoMemory>
-        requires { place < length self.old.armed }
-        ensures done { OnOk result ((first : Chosen) → chosen_at (Some place) (queue_of self.old.armed) ≡ Some first → first.first.at ≤ now →
+    /// The deadline of a call or of a seat that comes first fires, at its own moment.
+    fn strike(&mut self, alloc: Global, now: Moment, out: &mut List<Offer>) -> Result<(), NoMemory>
+        ensures done { OnOk result ((first : Chosen) → first_armed now (queue_of self.old.armed) ≡ Some first →
             Follows self.old out.old self.new out.new (λ d token. struck d token first.first first.others)) }
-        ensures err { OnErr result ((first : Chosen) → chosen_at (Some place) (queue_of self.old.armed) ≡ Some first → first.first.at ≤ now →
+        ensures err { OnErr result ((first : Chosen) → first_armed now (queue_of self.old.armed) ≡ Some first →
             Breaks self.old out.old out.new (λ d token. struck d token first.first first.others)) }
     {
-        let armed = self.armed.remove(place);
-        self.sound(alloc, armed.alarm, moment_by(armed.at, now), out)
+        match self.armed.take(now.ms()) {
+            None => Ok(()),
+            Some(armed) => self.sound(alloc, armed.alarm, moment_by(armed.at, now), out),
+        }
     }
 
     /// A deadline that is due, the first of all, fires, at its own moment.
@@ -179,32 +173,25 @@ impl Server {
         deadline: Deadline,
         out: &mut List<Offer>,
     ) -> Result<(), NoMemory>
-        requires { IsAmong (length self.old.armed) deadline }
-        ensures done { OnOk result ((first : deadlines.Deadline) → deadline_in deadline (queue_of self.old.armed) ≡ Some first → IsDueBy now first →
+        ensures done { OnOk result ((first : deadlines.Deadline) → kind_of first ≡ deadline → IsChosen (first_armed now (queue_of self.old.armed)) first →
             Follows self.old out.old self.new out.new (λ d token. fired d token now first)) }
-        ensures err { OnErr result ((first : deadlines.Deadline) → deadline_in deadline (queue_of self.old.armed) ≡ Some first → IsDueBy now first →
+        ensures err { OnErr result ((first : deadlines.Deadline) → kind_of first ≡ deadline → IsChosen (first_armed now (queue_of self.old.armed)) first →
             Breaks self.old out.old out.new (λ d token. fired d token now first)) }
     {
         numbers_are_drawn_on();
         self.begin();
         match deadline {
             Deadline::OfMessage => self.fire_message(alloc, now, out),
-            Deadline::OfAlarm(place) => self.strike(alloc, place, now, out),
+            Deadline::OfAlarm => self.strike(alloc, now, out),
         }
     }
 
-    /// The deadline that comes first of those that are due.
+    /// Which deadline comes first of those that are due.
     fn next_deadline(&self, now: Moment) -> Option<Deadline>
-        ensures first { (h : List Done) → table.Stands self.now.transactions h →
-            deadline_by result (queue_of self.now.armed) ≡ first_of (next_due now (live h)) (first_armed now (queue_of self.now.armed)) }
-        ensures there { IfSome result (IsAmong (length self.now.armed)) }
+        ensures { (h : List Done) → table.Stands self.now.transactions h →
+            result ≡ option_map kind_of (first_of (next_due now (live h)) (first_armed now (queue_of self.now.armed))) }
     {
-        let armed = self.armed.items();
-        first_of(
-            self.transactions.upcoming(now),
-            first_armed(armed, now.ms()),
-            armed,
-        )
+        first_of(self.transactions.upcoming(now), self.armed.first(now.ms()))
     }
 
     /// All deadlines that are due fire, the first one first.

@@ -140,14 +140,13 @@ impl Server {
     }
 
     /// Arms a deadline, in this step.
-    fn arm(&mut self, alloc: Global, alarm: Alarm, at: u64) -> Result<(), NoMemory>
+    fn arm(&mut self, alarm: Alarm, at: u64) -> Result<(), NoMemory>
         ensures done { OnOk result ((out : List Offer) →
             Follows self.old out self.new out (λ d token world. arming (record { alarm = alarm_in alarm; at = at; step = world.steps - 1 }) world)) }
         ensures calls { self.new.calls ≡ self.old.calls }
     {
         let step = self.steps.saturating_sub(1);
-        self.armed.push(alloc, Armed { alarm, at, step })?;
-        Ok(())
+        self.armed.arm(Armed { alarm, at, step })
     }
 
     /// Does what a layer wants done.
@@ -176,7 +175,7 @@ impl Server {
                     call: *call,
                     what: *what,
                 };
-                self.arm(alloc, alarm, *when)
+                self.arm(alarm, *when)
             }
             Emit::ArmSeat {
                 room,
@@ -189,7 +188,7 @@ impl Server {
                     seat: *seat,
                     what: *what,
                 };
-                self.arm(alloc, alarm, *when)
+                self.arm(alarm, *when)
             }
         }
     }

@@ -1,5 +1,5 @@
 //! What is done with web requests.
-ghost use Rattle.std.specs.Prelude.{◌≡◌, ◌++◌, ◌∷◌, [], IfOk, OnErr, OnOk};
+ghost use Rattle.std.specs.Prelude.{◌≡◌, ◌<◌, ◌++◌, ◌∷◌, [], length, slice_set, IfOk, OnErr, OnOk};
 ghost use Rattle.mmtel_http.specs.Requests.{request_of};
 ghost use Rattle.mmtel_outside.specs.declared.events.Offer.TheVariants as offer;
 ghost use Rattle.mmtel_run.specs.World.{serving};
@@ -36,13 +36,22 @@ pub(super) fn unasked() -> Answered
     }
 }
 
-/// Adds a reply on a web connection.
-fn offer_web(alloc: Global, at: u64, text: Text, out: &mut List<Offer>) -> Result<(), NoMemory>
-    ensures done { OnOk result (out.new ≡ out.old ++ offer.Web at text ∷ []) }
+/// Makes room for a reply on a web connection, as the last of what is offered.
+fn make_room(alloc: Global, at: u64, out: &mut List<Offer>) -> Result<(), NoMemory>
+    ensures done { OnOk result (out.new ≡ out.old ++ offer.Web at [] ∷ []) }
     ensures err { OnErr result (out.new ≡ out.old) }
 {
+    let text = Text::new();
     out.push(alloc, Offer::Web { at, text })?;
     Ok(())
+}
+
+/// Puts a reply where room was made for it.
+fn put_reply(place: usize, at: u64, text: Text, out: &mut List<Offer>)
+    requires { place < length out.old }
+    ensures { out.new ≡ slice_set out.old place (offer.Web at text) }
+{
+    drop(out.replace(place, Offer::Web { at, text }));
 }
 
 impl Server {
@@ -50,7 +59,7 @@ impl Server {
     ///
     /// # Errors
     ///
-    /// Want of memory alone: no reply was then offered. A record may have been kept.
+    /// Want of memory alone: no reply was then offered, and the keeper was not called, since room for the reply is made first.
     pub(super) fn serve<K: Keeper>(
         &mut self,
         alloc: Global,
@@ -65,17 +74,27 @@ impl Server {
             (K.calls keeper.new)) }
         ensures counted { IfOk result (λ a. Counted (kept_in a.kept) (K.faults keeper.old) (K.faults keeper.new)) }
         ensures err { OnErr result (out.new ≡ out.old) }
+        ensures uncalled { OnErr result (keeper.new ≡ keeper.old) }
         ensures met { OnErr result (Met (call_in self.old.directory.names (request_of bytes.now)) (K.held keeper.old) (K.held keeper.new) (K.calls keeper.old)
             (K.calls keeper.new) (K.faults keeper.old) (K.faults keeper.new)) }
     {
-        let Served { reply, kept, rows } = serve(
+        let place = out.items().len();
+        make_room(alloc, at.ms(), out)?;
+        match serve(
             alloc,
             &self.directory.names,
             &mut self.records,
             keeper,
             bytes,
-        )?;
-        offer_web(alloc, at.ms(), reply, out)?;
-        Ok(Answered { kept, rows })
+        ) {
+            Ok(Served { reply, kept, rows }) => {
+                put_reply(place, at.ms(), reply, out);
+                Ok(Answered { kept, rows })
+            }
+            Err(NoMemory) => {
+                drop(out.pop());
+                Err(NoMemory)
+            }
+        }
     }
 }

@@ -31,7 +31,7 @@ use mmtel_outside::{Event, Offer};
 use mmtel_run::{enough_comes, rows_are_filed};
 use mmtel_run_laws::offers_are_added;
 use mmtel_scan::{List, NoMemory, Text};
-use mmtel_server_decisions::hand_rows;
+use mmtel_server_decisions::{Alarms, hand_rows};
 use mmtel_transaction::{Tokens, Transactions};
 use mmtel_trust::PeerTable;
 use mmtel_types::{Account, Addr, Moment};
@@ -116,7 +116,7 @@ impl Server {
             transactions: Transactions::new(),
             calls,
             rooms,
-            armed: List::new(),
+            armed: Alarms::new(alloc),
             waiting: List::new(),
             records,
             clock: first_moment(),
@@ -130,7 +130,7 @@ impl Server {
     ///
     /// # Errors
     ///
-    /// Want of memory alone, but for what a 507 answers. Of what the event makes the server offer a front may then have been added, a record may have been kept, and from
+    /// Want of memory alone, but for what a 507 answers. Of what the event makes the server offer a front may then have been added, a record may have been kept, its reply offered, and from
     /// then on nothing is done.
     pub fn step<K: Keeper>(
         &mut self,

@@ -1,56 +1,47 @@
-use Rattle.std.proofs.Common.{◌≡◌, ◌<◌, List, Some, length, subst, sym}
-use Rattle.std.proofs.lemmas.Option.{same_Some}
+use Rattle.std.proofs.Common.{List, ap, subst, ◌∙◌}
 use Rattle.std.proofs.lemmas.Result.{on_err_weaker, on_ok_weaker}
-use Rattle.mmtel_run.specs.Deadlines.{Deadline, OfMessage}
+use Rattle.mmtel_run.specs.Deadlines.{Deadline, first_armed}
 use Rattle.mmtel_run.specs.World.{begun, fired, fired_in, struck}
-use Rattle.mmtel_server_decisions.proofs.Arming.{alarm_is}
+use Rattle.mmtel_server_decisions.proofs.Arming.{of_alarm, of_message}
 use Rattle.mmtel_server.proofs.Grows.{begins, broken, followed}
 use Rattle.mmtel_server.proofs.Settling.{fires_in, strikes}
 use Rattle.mmtel_server.proofs.servers.Server.fire.Goals as goal
-use Rattle.mmtel_server_decisions.specs.Arming.{IsAmong, IsDueBy, chosen_at, deadline_in, queue_of}
+use Rattle.mmtel_server_decisions.specs.Arming.{queue_of}
 use Rattle.mmtel_server.specs.Follows.{Breaks, Follows}
 use Rattle.mmtel_server_decisions.specs.declared.armed.Armed.{Armed}
-use Rattle.mmtel_server_decisions.specs.declared.deadlines.Deadline as deadlines
 
 pub returns-in-OfMessage-clause-done : goal.returns-in-OfMessage-clause-done
-returns-in-OfMessage-clause-done c = on_ok_weaker c.fire_message.result (λ follows first is by.
+returns-in-OfMessage-clause-done c = on_ok_weaker c.fire_message.result (λ follows first is chosen.
     let s = c.args.self.now in
-    let e = same_Some OfMessage first (subst (λ (x : deadlines.Deadline). deadline_in x (queue_of s.armed) ≡ Some first) c.in-OfMessage.is is) in
-    subst (λ (x : Deadline). Follows s c.args.out.now c.fire_message.new.self c.fire_message.new.out (λ d token. fired d token c.args.now x)) e
+    subst (λ (x : Deadline). Follows s c.args.out.now c.fire_message.new.self c.fire_message.new.out (λ d token. fired d token c.args.now x)) (of_message first (is ∙ c.in-OfMessage.is))
     (followed (λ d token. begun) (λ d token. fired_in d token c.args.now) s c.begin.new.self c.fire_message.new.self c.args.out.now c.args.out.now c.fire_message.new.out
     (λ d token w. fires_in d token c.numbers_are_drawn_on.ensures c.args.now w) (c.begin.ensures.done c.args.out.now) follows)) c.fire_message.ensures.done
 
 pub returns-in-OfMessage-clause-err : goal.returns-in-OfMessage-clause-err
-returns-in-OfMessage-clause-err c = on_err_weaker c.fire_message.result (λ breaks first is by.
+returns-in-OfMessage-clause-err c = on_err_weaker c.fire_message.result (λ breaks first is chosen.
     let s = c.args.self.now in
-    let e = same_Some OfMessage first (subst (λ (x : deadlines.Deadline). deadline_in x (queue_of s.armed) ≡ Some first) c.in-OfMessage.is is) in
-    subst (λ (x : Deadline). Breaks s c.args.out.now c.fire_message.new.out (λ d token. fired d token c.args.now x)) e
+    subst (λ (x : Deadline). Breaks s c.args.out.now c.fire_message.new.out (λ d token. fired d token c.args.now x)) (of_message first (is ∙ c.in-OfMessage.is))
     (broken (λ d token. begun) (λ d token. fired_in d token c.args.now) s c.begin.new.self c.args.out.now c.args.out.now c.fire_message.new.out
     (λ d token w. begins w) (λ d token w. fires_in d token c.numbers_are_drawn_on.ensures c.args.now w) (c.begin.ensures.done c.args.out.now) breaks)) c.fire_message.ensures.err
 
-pub strike-requires : goal.strike-requires
-strike-requires c = subst (λ (l : List Armed). c.in-OfAlarm.place < length l) (sym c.begin.ensures.armed) (subst (IsAmong (length c.args.self.now.armed)) c.in-OfAlarm.is c.requires)
-
 pub returns-in-OfAlarm-clause-done : goal.returns-in-OfAlarm-clause-done
-returns-in-OfAlarm-clause-done c = on_ok_weaker c.strike.result (λ follows first is by.
+returns-in-OfAlarm-clause-done c = on_ok_weaker c.strike.result (λ follows first is chosen.
     let s = c.args.self.now in
-    let place = c.in-OfAlarm.place in
     let law = c.numbers_are_drawn_on.ensures in
-    let call = alarm_is (chosen_at (Some place) (queue_of s.armed)) first (subst (λ (x : deadlines.Deadline). deadline_in x (queue_of s.armed) ≡ Some first) c.in-OfAlarm.is is) in
-    let there = subst (λ (l : List Armed). chosen_at (Some place) (queue_of l) ≡ Some call.0) (sym c.begin.ensures.armed) call.1 in
+    let call = of_alarm first (first_armed c.args.now (queue_of s.armed)) (is ∙ c.in-OfAlarm.is) chosen in
+    let there = ap (λ (l : List Armed). first_armed c.args.now (queue_of l)) c.begin.ensures.armed ∙ call.1 in
     subst (λ (x : Deadline). Follows s c.args.out.now c.strike.new.self c.strike.new.out (λ d token. fired d token c.args.now x)) call.2
     (followed (λ d token. begun) (λ d token. struck d token call.0.first call.0.others) s c.begin.new.self c.strike.new.self c.args.out.now c.args.out.now c.strike.new.out
     (λ d token w. strikes d token law call.0.first call.0.others w) (c.begin.ensures.done c.args.out.now)
-    (follows call.0 there (subst (IsDueBy c.args.now) (sym call.2) by)))) c.strike.ensures.done
+    (follows call.0 there))) c.strike.ensures.done
 
 pub returns-in-OfAlarm-clause-err : goal.returns-in-OfAlarm-clause-err
-returns-in-OfAlarm-clause-err c = on_err_weaker c.strike.result (λ breaks first is by.
+returns-in-OfAlarm-clause-err c = on_err_weaker c.strike.result (λ breaks first is chosen.
     let s = c.args.self.now in
-    let place = c.in-OfAlarm.place in
     let law = c.numbers_are_drawn_on.ensures in
-    let call = alarm_is (chosen_at (Some place) (queue_of s.armed)) first (subst (λ (x : deadlines.Deadline). deadline_in x (queue_of s.armed) ≡ Some first) c.in-OfAlarm.is is) in
-    let there = subst (λ (l : List Armed). chosen_at (Some place) (queue_of l) ≡ Some call.0) (sym c.begin.ensures.armed) call.1 in
+    let call = of_alarm first (first_armed c.args.now (queue_of s.armed)) (is ∙ c.in-OfAlarm.is) chosen in
+    let there = ap (λ (l : List Armed). first_armed c.args.now (queue_of l)) c.begin.ensures.armed ∙ call.1 in
     subst (λ (x : Deadline). Breaks s c.args.out.now c.strike.new.out (λ d token. fired d token c.args.now x)) call.2
     (broken (λ d token. begun) (λ d token. struck d token call.0.first call.0.others) s c.begin.new.self c.args.out.now c.args.out.now c.strike.new.out
     (λ d token w. begins w) (λ d token w. strikes d token law call.0.first call.0.others w) (c.begin.ensures.done c.args.out.now)
-    (breaks call.0 there (subst (IsDueBy c.args.now) (sym call.2) by)))) c.strike.ensures.err
+    (breaks call.0 there))) c.strike.ensures.err

@@ -5,6 +5,8 @@ use Rattle.mmtel_run.specs.Short.{IsShort}
 use Rattle.mmtel_run.specs.World.{World, fired}
 use Rattle.mmtel_transaction.specs.Answers.{next_due}
 use Rattle.mmtel_transaction.specs.Calls.{live}
+use Rattle.mmtel_server_decisions.proofs.Arming.{unkind}
+use Rattle.mmtel_server_decisions.specs.Arming.{queue_of}
 use Rattle.mmtel_server.proofs.Firing.{first_fires}
 use Rattle.mmtel_server.proofs.Grows.{front_of, front_on, kept_of, on_err, short_of}
 use Rattle.mmtel_server.proofs.Settling.{enough_same, fired_steps, never_longer, settled_last, settles}
@@ -16,8 +18,8 @@ returns-in-None-clause-done c fuel d token before w did e s =
     let so_far = c.loop-i.invariant fuel d token before w did e s in
     let v : World = settled d token c.loop-i.i c.args.now w in
     let stands = so_far.0.stands in
-    let found = c.in-None.ensures.first v.acts stands.transactions in
-    let none : due_in c.args.now v ≡ None = sym (ap (λ (q : List Armed). first_of (next_due c.args.now (live v.acts)) (first_armed c.args.now q)) stands.armed) ∙ sym found in
+    let found = c.in-None.ensures v.acts stands.transactions in
+    let none : due_in c.args.now v ≡ None = sym (ap (λ (q : List Armed). first_of (next_due c.args.now (live v.acts)) (first_armed c.args.now q)) stands.armed) ∙ unkind (first_of (next_due c.args.now (live v.acts)) (first_armed c.args.now (queue_of c.loop-i.self.armed))) found in
     subst (λ (x : World). Did d token before c.loop-i.self c.loop-i.out x) (enough_same d token c.loop-i.i fuel c.args.now w none e) so_far.0
 
 pub loop-i-preserved : goal.loop-i-preserved
@@ -28,7 +30,7 @@ loop-i-preserved c fuel d token before w did e s =
     let so_far = c.loop-i.invariant fuel d token before w did e s in
     let v : World = settled d token i now w in
     let stands = so_far.0.stands in
-    let one = first_fires d token now v c.loop-i.self.armed c.in-Some.deadline stands.armed (c.in-Some.ensures.first v.acts stands.transactions) c.in-Some.ensures.there in
+    let one = first_fires d token now v c.loop-i.self.armed c.in-Some.deadline stands.armed (c.in-Some.ensures v.acts stands.transactions) in
     let last : settled d token (i + 1) now w ≡ fired d token now one.0 v = settled_last d token i now w ∙ one.3 in
     let few : IsShort (fired d token now one.0 v) =
     subst IsShort last (short_of (settled d token (i + 1) now w) (settled d token fuel now w) (never_longer d token law (i + 1) fuel now w e) s) in
@@ -46,7 +48,7 @@ returns-in_err-fire-in-Some-clause-err c = on_err c.from_residual.result _ (λ f
     let v : World = settled d token i now w in
     let all : World = settled d token fuel now w in
     let stands = so_far.0.stands in
-    let one = first_fires d token now v c.loop-i.self.armed c.in-Some.deadline stands.armed (c.in-Some.ensures.first v.acts stands.transactions) c.in-Some.ensures.there in
+    let one = first_fires d token now v c.loop-i.self.armed c.in-Some.deadline stands.armed (c.in-Some.ensures v.acts stands.transactions) in
     let next : World = fired d token now one.0 v in
     let last : settled d token (i + 1) now w ≡ next = settled_last d token i now w ∙ one.3 in
     let longer = never_longer d token law (i + 1) fuel now w e in

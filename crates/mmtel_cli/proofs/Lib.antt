@@ -2,6 +2,7 @@ pub mod Asking
 pub mod CleanWords
 pub mod Giving
 pub mod Linking
+pub mod Listed
 pub mod Running
 pub mod Saying
 pub mod Scripted

@@ -12,7 +12,7 @@ ghost use Rattle.mmtel_web.specs.Answers.{bare, not_allowed, by_upload, is_toml,
 ghost use Rattle.mmtel_web.specs.declared.answers.Web.TheVariants as web;
 
 use crate::parties::{identity_of, is_operator, may_ask};
-use mmtel_directory::{WebDirectory, is_account};
+use mmtel_directory::WebDirectory;
 use mmtel_http::{Asked, Method, Place, Request, look, method_of, place_of, reply_text};
 use mmtel_scan::{NoMemory, Text};
 use mmtel_sheet_texts::SheetTexts;
@@ -139,7 +139,7 @@ fn by_account(
     let Some(account) = account else {
         return bare(alloc, 404);
     };
-    if !is_account(d.accounts.identities(), account) {
+    if !d.accounts.has_account(account) {
         return bare(alloc, 404);
     }
     let identity = identity_of(alloc, asked.identity)?;

@@ -1,11 +1,14 @@
 //! The statements, each in a function of its own: the values that they are given and that they give have clauses, their text has none.
-ghost use Rattle.std.specs.Prelude.{◌≡◌, decimal, map, IfOk};
+ghost use Rattle.std.specs.Prelude.{◌≡◌, ◌<◌, ◌≤◌, ◌^◌, ℕ, List, Option, decimal, length, map, IfErr, IfOk, IfSome};
 ghost use Rattle.sqlite.specs.Values.{or_null};
 ghost use Rattle.sqlite_value.specs.Order.{column};
 ghost use Rattle.sqlite_value.specs.Value.{owned};
 ghost use Rattle.sqlite_value.specs.declared.value.Value.TheVariants as value;
-ghost use Rattle.mmtel_store.specs.Columns.{kind_number, nine_of, number, row_columns, sheet_columns, two_of};
+ghost use Rattle.mmtel_store.specs.Columns.{IsOutOfMemory, IsRow, IsSheet, kind_number, nine_of, number, row_columns, sheet_columns, two_of};
+ghost use Rattle.mmtel_charging.specs.declared.rows.Kind.{Kind as TheKind};
 ghost use Rattle.mmtel_types.specs.Causes.{status_of, word_of};
+ghost use Rattle.mmtel_types.specs.Moments.{last_moment};
+ghost use Rattle.mmtel_types.specs.declared.causes.Cause.{Cause as TheCause};
 
 use crate::values::{cause_of, kind_number, kind_of, millis, no_memory, unreadable};
 use mmtel_charging::{Kind, Row};
@@ -44,7 +47,8 @@ fn put_sheet<S: Alter>(
 }
 
 fn read_sheet(alloc: Global, row: &sqlite::Row) -> Result<(Account, Text), Error>
-    ensures { IfOk result (λ sheet. two_of row.now ≡ sheet_columns sheet.0 sheet.1) }
+    ensures same { IfOk result (λ sheet. two_of row.now ≡ sheet_columns sheet.0 sheet.1) }
+    ensures back { IsSheet row.now → IfErr result IsOutOfMemory }
 {
     let account: u32 = row.get(0)?;
     let body: Vec<u8> = row.get(1)?;
@@ -131,8 +135,20 @@ fn add_rows<S: Alter>(alloc: Global, conn: &mut Connection<S>, rows: &[Row]) -> 
     tx.commit()
 }
 
+/// The bytes of a column of text.
+fn text(row: &sqlite::Row, at: usize) -> Result<&[u8], Error>
+    ensures same { IfOk result (λ bytes. column row.now at ≡ value.Text bytes.now) }
+    ensures back { (bytes : List ℕ) → at < length row.now → column row.now at ≡ value.Text bytes → IfErr result (λ e. ⊥) }
+{
+    match row.get_ref(at)? {
+        ValueRef::Text(bytes) => Ok(bytes),
+        _ => Err(unreadable(at)),
+    }
+}
+
 fn moment(row: &sqlite::Row, at: usize) -> Result<Moment, Error>
-    ensures { IfOk result (λ moment. column row.now at ≡ number moment) }
+    ensures same { IfOk result (λ moment. column row.now at ≡ number moment) }
+    ensures back { (ms : ℕ) → at < length row.now → ms ≤ last_moment → column row.now at ≡ number ms → IfErr result IsOutOfMemory }
 {
     let ms: u64 = row.get(at)?;
     match Moment::new(ms) {
@@ -142,7 +158,8 @@ fn moment(row: &sqlite::Row, at: usize) -> Result<Moment, Error>
 }
 
 fn answered(row: &sqlite::Row) -> Result<Option<Moment>, Error>
-    ensures { IfOk result (λ moment. column row.now 4 ≡ or_null number moment) }
+    ensures same { IfOk result (λ moment. column row.now 4 ≡ or_null number moment) }
+    ensures back { (ms : Option ℕ) → 4 < length row.now → IfSome ms (λ m. m ≤ last_moment) → column row.now 4 ≡ or_null number ms → IfErr result IsOutOfMemory }
 {
     match row.get_ref(4)? {
         ValueRef::Null => Ok(None),
@@ -151,10 +168,10 @@ fn answered(row: &sqlite::Row) -> Result<Option<Moment>, Error>
 }
 
 fn call(row: &sqlite::Row) -> Result<CallNo, Error>
-    ensures { IfOk result (λ call. column row.now 2 ≡ value.Text (decimal call.0)) }
+    ensures same { IfOk result (λ call. column row.now 2 ≡ value.Text (decimal call.0)) }
+    ensures back { (n : ℕ) → 2 < length row.now → n < 2 ^ 64 → column row.now 2 ≡ value.Text (decimal n) → IfErr result (λ e. ⊥) }
 {
-    let call: String = row.get(2)?;
-    match plain_number(u64::MAX, call.as_bytes()) {
+    match plain_number(u64::MAX, text(row, 2)?) {
         Some(number) => Ok(CallNo(number)),
         None => Err(unreadable(2)),
     }
@@ -163,20 +180,22 @@ fn call(row: &sqlite::Row) -> Result<CallNo, Error>
 fn cause(row: &sqlite::Row) -> Result<Cause, Error>
     ensures word { IfOk result (λ cause. column row.now 7 ≡ value.Text (word_of cause)) }
     ensures status { IfOk result (λ cause. column row.now 8 ≡ number (status_of cause)) }
+    ensures back { (c : TheCause) → 8 < length row.now → status_of c < 2 ^ 16 → column row.now 7 ≡ value.Text (word_of c) → column row.now 8 ≡ number (status_of c) → IfErr result IsOutOfMemory }
 {
-    let word: String = row.get(7)?;
+    let word = text(row, 7)?;
     let status: u32 = row.get(8)?;
     let Ok(status) = u16::try_from(status) else {
         return Err(unreadable(8));
     };
-    match cause_of(word.as_bytes(), status) {
+    match cause_of(word, status) {
         Some(cause) => Ok(cause),
         None => Err(unreadable(7)),
     }
 }
 
 fn kind(row: &sqlite::Row) -> Result<Kind, Error>
-    ensures { IfOk result (λ kind. column row.now 0 ≡ number (kind_number kind)) }
+    ensures same { IfOk result (λ kind. column row.now 0 ≡ number (kind_number kind)) }
+    ensures back { (k : TheKind) → 0 < length row.now → column row.now 0 ≡ number (kind_number k) → IfErr result IsOutOfMemory }
 {
     let number: u32 = row.get(0)?;
     match kind_of(number) {
@@ -187,7 +206,8 @@ fn kind(row: &sqlite::Row) -> Result<Kind, Error>
 
 /// The charging row of these values, in the order of the columns.
 fn read_row(row: &sqlite::Row) -> Result<Row, Error>
-    ensures { IfOk result (λ read. nine_of row.now ≡ row_columns read) }
+    ensures same { IfOk result (λ read. nine_of row.now ≡ row_columns read) }
+    ensures back { IsRow row.now → IfErr result IsOutOfMemory }
 {
     let kind = kind(row)?;
     let account: u32 = row.get(1)?;

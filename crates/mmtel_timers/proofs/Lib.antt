@@ -1,9 +1,12 @@
+mod Arranged
 mod Choice
 mod Draining
+mod Foremost
+mod Keeping
 mod Keys
-mod Next
 mod Removal
 mod Sorting
+mod Turns
 mod Halving
 pub mod Ordered
 pub mod Indexed

@@ -1,5 +1,5 @@
 -- Lists of blocks, and of what lies in them.
-use Rattle.std.proofs.Common.{◌≡◌, ℕ, zero, suc, ◌<◌, List, [], ◌∷◌, length, refl, sym, ap, ◌∙◌, subst, arith, insert, remove}
+use Rattle.std.proofs.Common.{◌≡◌, ◌↔◌, ℕ, zero, suc, ◌<◌, ◌≤◌, List, [], ◌∷◌, length, refl, sym, ap, ◌∙◌, subst, arith, insert, remove, Option, Some, None, IsSome, OnSome, IfNone}
 use Rattle.std.specs.Prelude.{Box, slice_index_or}
 use Rattle.std.proofs.lemmas.List.{length-map}
 use Rattle.mmtel_timers.specs.Shelves.{unboxed}
@@ -35,3 +35,20 @@ put_in bs cs i b x xs same is put = ap unboxed put ∙ (insert_unboxed bs i b �
 
 pub taken_out : {X A : Type 0} (bs cs : List (Box X A)) (i : ℕ) (xs : List X) → unboxed bs ≡ xs → cs ≡ remove bs i → unboxed cs ≡ remove xs i
 taken_out bs cs i xs same out = ap unboxed out ∙ (remove_unboxed bs i ∙ ap (λ ys. remove ys i) same)
+
+pub unchanged : {X Y Z : Type 0} (f : X → Y) (out : Option Z) (a b : X) → IfNone out (a ≡ b) → IfNone out (f a ≡ f b)
+unchanged f (Some z) a b same = tt
+unchanged f None a b same = ap f same
+
+-- what is left where one block is taken out, if there is one
+pub left : {X A : Type 0} (bs cs : List (Box X A)) (i n : ℕ) (out : Option (Box X A)) (xs : List X) → n ≡ length bs → IsSome out ↔ (i < n) → OnSome out (cs ≡ remove bs i) → IfNone out (cs ≡ bs) → unboxed bs ≡ xs → unboxed cs ≡ remove xs i
+left bs cs i n (Some b) xs long there rest stays same = taken_out bs cs i xs same rest
+left bs cs i n None xs long there rest stays same =
+    let past : length bs ≤ i = grind (arith, long, there) in
+    taken_out bs cs i xs same (stays ∙ sym (remove_past bs i past))
+  where
+    remove_past : {X : Type 0} (xs : List X) (i : ℕ) → length xs ≤ i → remove xs i ≡ xs
+    remove_past [] zero l = refl
+    remove_past [] (suc i) l = refl
+    remove_past (x ∷ xs) zero l = absurd (omega (arith, l))
+    remove_past (x ∷ xs) (suc i) l = ap (λ ys. x ∷ ys) (remove_past xs i (omega (arith, l)))

@@ -5,14 +5,15 @@ ghost use Rattle.std.specs.List.Sorted.{IsPartitionedBy, IsPartitionPoint};
 use crate::steps::Steps;
 use mmtel_scan::NoMemory;
 use std::alloc::Global;
+use std::collections::VecDeque;
 use std::marker::Model;
 use std::sync::ledger::Ledger;
 
 /// A list of items that whoever keeps it keeps in an order of its own.
 ///
-/// Each item lies in a block of its own, so that putting one in or taking one out moves an address for each item behind it.
+/// Each item lies in a block of its own, so that putting one in or taking one out moves an address for each item on the shorter side of its place.
 pub struct Shelf<T> {
-    items: Vec<Box<T>>,
+    items: VecDeque<Box<T>>,
 }
 
 impl<T> Model for Shelf<T> {
@@ -52,7 +53,7 @@ impl<T> Shelf<T> {
         ensures { result ≡ [] }
     {
         Shelf {
-            items: Vec::new(alloc),
+            items: VecDeque::new(alloc),
         }
     }
 
@@ -101,10 +102,9 @@ impl<T> Shelf<T> {
         ensures item { result ≡ slice_get self.old place }
         ensures rest { self.new ≡ remove self.old place }
     {
-        if place < self.items.len() {
-            Some(Box::into_inner(self.items.remove(place)))
-        } else {
-            None
+        match self.items.remove(place) {
+            Some(block) => Some(Box::into_inner(block)),
+            None => None,
         }
     }
 
@@ -124,7 +124,10 @@ impl<T> Shelf<T> {
         ensures rest { self.new ≡ insert (remove self.old from) result.1 item }
         ensures rise { steps.old ≤ steps.new }
     {
-        let mut block = self.items.remove(from);
+        let mut block = match self.items.remove(from) {
+            Some(block) => block,
+            None => unreachable!(),
+        };
         let taken = Box::replace(&mut block, item);
         let place = self.seek(mark, steps).place;
         match self.items.insert(place, block) {

@@ -1,0 +1,269 @@
+-- Deadlines as they are kept, once a key is armed and once it is disarmed.
+use Rattle.std.proofs.Common.{◌≡◌, ℕ, ◌+◌, ◌<◌, ◌==◌, Bool, true, false, cond, not, List, [], ◌∷◌, ◌++◌, map, Option, Some, None, refl, sym, ap, ◌∙◌, subst, arith}
+use Rattle.std.specs.BTreeMap.{insert_entry, is_at}
+use Rattle.std.specs.List.{AllByRecursion, filter, list_any}
+use Rattle.std.specs.List.Sorted.{IsStrictlySortedBy}
+use Rattle.std.specs.Map.{keys_of, remove_entry}
+use Rattle.std.specs.Ordering.{is_eq, nat_cmp}
+use Rattle.std.specs.declared.cmp.Ordering.TheVariants.{Equal}
+use Rattle.std.proofs.lemmas.Bool.Decides.{nat_tests}
+use Rattle.std.proofs.lemmas.Bool.{or_parts}
+use Rattle.std.proofs.lemmas.Cmp.{ranked}
+use Rattle.std.proofs.lemmas.List.{map-append}
+use Rattle.std.proofs.lemmas.List.Elements.{filter-append}
+use Rattle.std.proofs.lemmas.Option.{same_Some}
+use Rattle.mmtel_timers.specs.Deadlines.{armed_last, Deadline, is_of, IsEachOnce, without}
+use Rattle.mmtel_timers.specs.Queues.{AreKept, Queued, by_arming, deadline_of, is_same, number_of, seen, taken_out, turn_at, turn_cmp, turn_of, Turns}
+use Rattle.mmtel_timers.specs.Shelves.{Rises}
+use Rattle.mmtel_timers.specs.declared.deadlines.Key.{Key}
+use Rattle.mmtel_timers.specs.declared.queues.Turn.{Turn}
+use Rattle.mmtel_timers.proofs.Arranged.{all_by_arming, all_filter, all_more, all_weaken, by_arming_filter, one_more, rises_filter, rises_last}
+use Rattle.mmtel_timers.proofs.Keys.{once-armed_last, once-filter}
+use Rattle.mmtel_timers.proofs.Removal.{filter-none}
+use Rattle.mmtel_timers.proofs.Turns.{equal_tested, is_own, is_turn, other_number, removed}
+
+-- ---- the keys
+
+same_is : (key other : Key) → is_same key other ≡ true → key.0 ≡ other.0
+same_is key other e = ranked key.0 other.0 Equal (sym (equal_tested (nat_cmp key.0 other.0) e))
+
+other_is : (key other : Key) → is_same key other ≡ false → key.0 ≡ other.0 → ⊥
+other_is key other e same =
+    let own : nat_cmp key.0 key.0 ≡ Equal = grind (arith, nat_tests) in
+    let f : is_eq (nat_cmp key.0 other.0) ≡ true = ap (λ n. is_eq (nat_cmp key.0 n)) (sym same) ∙ ap is_eq own in
+    let g : true ≡ false = sym f ∙ e in
+    cc
+
+-- ---- the deadlines of the other keys
+
+abbrev pub others : Key → List Queued → List Queued
+others key = filter (λ q. not (is_of key (deadline_of q)))
+
+seen_others : (key : Key) (qs : List Queued) → map (λ q. deadline_of q) (others key qs) ≡ without key (map (λ q. deadline_of q) qs)
+seen_others key [] = refl
+seen_others key (q ∷ qs) = by_test (is_of key (deadline_of q)) (seen_others key qs)
+  where
+    by_test : (b : Bool) → map (λ q. deadline_of q) (others key qs) ≡ without key (map (λ q. deadline_of q) qs)
+        → map (λ q. deadline_of q) (cond (not b) (q ∷ others key qs) (others key qs)) ≡ cond (not b) (deadline_of q ∷ without key (map (λ q. deadline_of q) qs)) (without key (map (λ q. deadline_of q) qs))
+    by_test true later = later
+    by_test false later = ap (λ (l : List Deadline). deadline_of q ∷ l) later
+
+none_armed : (key : Key) (qs : List Queued) → turn_of key qs ≡ None → others key qs ≡ qs
+none_armed key [] e = refl
+none_armed key (q ∷ qs) e = by_test (is_of key (deadline_of q)) (none_armed key qs) e
+  where
+    by_test : (b : Bool) → (turn_of key qs ≡ None → others key qs ≡ qs) → cond b (Some q.0) (turn_of key qs) ≡ None → cond (not b) (q ∷ others key qs) (others key qs) ≡ q ∷ qs
+    by_test true later f = absurd cc
+    by_test false later f = ap (λ (l : List Queued). q ∷ l) (later f)
+
+none_among : (key : Key) (qs : List Queued) → list_any (is_of key) (map (λ q. deadline_of q) qs) ≡ false → others key qs ≡ qs
+none_among key [] e = refl
+none_among key (q ∷ qs) e =
+    let n = or_parts (is_of key (deadline_of q)) (list_any (is_of key) (map (λ q. deadline_of q) qs)) e in
+    ap (λ (b : Bool). cond (not b) (q ∷ others key qs) (others key qs)) n.0 ∙ ap (λ (l : List Queued). q ∷ l) (none_among key qs n.1)
+
+none_of_turn : (turn : Turn) (qs : List Queued) → AllByRecursion (λ x. turn.number < number_of x) qs → list_any (is_turn turn) qs ≡ false
+none_of_turn turn [] all = refl
+none_of_turn turn (x ∷ xs) all =
+    let l : turn.number < x.0.number = all.0 in
+    rw (other_number turn x (λ e. let h : turn.number ≡ x.0.number = e in omega (arith, h, l))) (none_of_turn turn xs all.1)
+
+-- what holds of the numbers of all holds of that which was found
+found_number : (P : ℕ → Type 0) (key : Key) (turn : Turn) (qs : List Queued) → turn_of key qs ≡ Some turn → AllByRecursion (λ x. P (number_of x)) qs → P turn.number
+found_number P key turn [] f all = absurd cc
+found_number P key turn (q ∷ qs) f all = by_test (is_of key (deadline_of q)) (λ g. found_number P key turn qs g all.1) f
+  where
+    by_test : (b : Bool) → (turn_of key qs ≡ Some turn → P turn.number) → cond b (Some q.0) (turn_of key qs) ≡ Some turn → P turn.number
+    by_test true later g = subst (λ (t : Turn). P t.number) (same_Some q.0 turn g) all.0
+    by_test false later g = later g
+
+-- to leave out those of the key's turn is to leave out those of the key
+left_out : (key : Key) (turn : Turn) (qs : List Queued) → turn_of key qs ≡ Some turn → Rises (λ q. number_of q) qs → IsEachOnce (map (λ q. deadline_of q) qs) → filter (λ q. not (is_turn turn q)) qs ≡ others key qs
+left_out key turn [] f rises once = refl
+left_out key turn (q ∷ qs) f rises once = by_test (is_of key (deadline_of q)) refl (λ g. left_out key turn qs g rises.1 once.1) f
+  where
+    by_test : (b : Bool) → is_of key (deadline_of q) ≡ b → (turn_of key qs ≡ Some turn → filter (λ q. not (is_turn turn q)) qs ≡ others key qs) → cond b (Some q.0) (turn_of key qs) ≡ Some turn
+        → cond (not (is_turn turn q)) (q ∷ filter (λ q. not (is_turn turn q)) qs) (filter (λ q. not (is_turn turn q)) qs) ≡ cond (not b) (q ∷ others key qs) (others key qs)
+    by_test true e later g =
+        let same : q.0 ≡ turn = same_Some q.0 turn g in
+        let own : is_turn turn q ≡ true = subst (λ (t : Turn). is_turn t q ≡ true) same (is_own q) in
+        let behind : AllByRecursion (λ x. turn.number < number_of x) qs = subst (λ (t : Turn). AllByRecursion (λ x. t.number < number_of x) qs) same rises.0 in
+        let number : q.1.0 ≡ key.0 = grind (arith, nat_tests) in
+        let none : list_any (is_of key) (map (λ q. deadline_of q) qs) ≡ false = subst (λ n. list_any (λ (deadline : Deadline). deadline.1.0 == n) (map (λ q. deadline_of q) qs) ≡ false) number once.0 in
+        ap (λ (c : Bool). cond (not c) (q ∷ filter (λ q. not (is_turn turn q)) qs) (filter (λ q. not (is_turn turn q)) qs)) own
+        ∙ (filter-none (is_turn turn) qs (none_of_turn turn qs behind)
+        ∙ sym (none_among key qs none))
+    by_test false e later g =
+        let less : q.0.number < turn.number = found_number (λ n. q.0.number < n) key turn qs g rises.0 in
+        let other : is_turn turn q ≡ false = other_number turn q (λ s. let h : turn.number ≡ q.0.number = s in omega (arith, h, less)) in
+        ap (λ (c : Bool). cond (not c) (q ∷ filter (λ q. not (is_turn turn q)) qs) (filter (λ q. not (is_turn turn q)) qs)) other
+        ∙ ap (λ (l : List Queued). q ∷ l) (later g)
+
+-- ---- the turns of keys
+
+turn_of_others : (k key : Key) (qs : List Queued) → turn_of k (others key qs) ≡ cond (is_same key k) None (turn_of k qs)
+turn_of_others k key [] = by_test (is_same key k)
+  where
+    by_test : (c : Bool) → turn_of k [] ≡ cond c None (turn_of k [])
+    by_test true = refl
+    by_test false = refl
+turn_of_others k key (q ∷ qs) = by_tests (is_of key (deadline_of q)) (is_of k (deadline_of q)) (is_same key k) refl refl refl (turn_of_others k key qs)
+  where
+    here : (b : Bool) → is_of k (deadline_of q) ≡ b → turn_of k (q ∷ others key qs) ≡ cond b (Some q.0) (turn_of k (others key qs))
+    here b e = ap (λ (c : Bool). cond c (Some q.0) (turn_of k (others key qs))) e
+
+    by_tests : (a b c : Bool) → is_of key (deadline_of q) ≡ a → is_of k (deadline_of q) ≡ b → is_same key k ≡ c → turn_of k (others key qs) ≡ cond c None (turn_of k qs)
+        → turn_of k (cond (not a) (q ∷ others key qs) (others key qs)) ≡ cond c None (cond b (Some q.0) (turn_of k qs))
+    by_tests true true true e f s later = later
+    by_tests true true false e f s later =
+        let one : q.1.0 ≡ key.0 = grind (arith, nat_tests, e) in
+        let two : q.1.0 ≡ k.0 = grind (arith, nat_tests, f) in
+        absurd (other_is key k s (sym one ∙ two))
+    by_tests true false true e f s later = later
+    by_tests true false false e f s later = later
+    by_tests false true true e f s later =
+        let same : key.0 ≡ k.0 = same_is key k s in
+        let there : q.1.0 ≡ k.0 = grind (arith, nat_tests, f) in
+        let own : is_of key (deadline_of q) ≡ true = grind (arith, nat_tests, same, there) in
+        absurd (let g : true ≡ false = sym own ∙ e in cc)
+    by_tests false true false e f s later = here true f
+    by_tests false false true e f s later = here false f ∙ later
+    by_tests false false false e f s later = here false f ∙ later
+
+abbrev or_of : Option Turn → Option Turn → Option Turn
+or_of None o = o
+or_of (Some turn) o = Some turn
+
+or_none : (o : Option Turn) → or_of o None ≡ o
+or_none None = refl
+or_none (Some turn) = refl
+
+turn_of_last : (k : Key) (qs : List Queued) (q : Queued) → turn_of k (qs ++ q ∷ []) ≡ or_of (turn_of k qs) (cond (is_of k (deadline_of q)) (Some q.0) None)
+turn_of_last k [] q = refl
+turn_of_last k (x ∷ xs) q = by_test (is_of k (deadline_of x)) (turn_of_last k xs q)
+  where
+    by_test : (b : Bool) → turn_of k (xs ++ q ∷ []) ≡ or_of (turn_of k xs) (cond (is_of k (deadline_of q)) (Some q.0) None)
+        → cond b (Some x.0) (turn_of k (xs ++ q ∷ [])) ≡ or_of (cond b (Some x.0) (turn_of k xs)) (cond (is_of k (deadline_of q)) (Some q.0) None)
+    by_test true later = refl
+    by_test false later = later
+
+turn_of_armed : (k key : Key) (turn : Turn) (qs : List Queued) → turn_of k (others key qs ++ (turn, key) ∷ []) ≡ cond (is_same key k) (Some turn) (turn_of k qs)
+turn_of_armed k key turn qs =
+    turn_of_last k (others key qs) (turn, key)
+    ∙ (ap (λ (o : Option Turn). or_of o (cond (is_of k (turn.at, key)) (Some turn) None)) (turn_of_others k key qs)
+    ∙ by_test (is_same key k) refl)
+  where
+    by_test : (c : Bool) → is_same key k ≡ c → or_of (cond c None (turn_of k qs)) (cond (is_of k (turn.at, key)) (Some turn) None) ≡ cond c (Some turn) (turn_of k qs)
+    by_test true e =
+        let same : key.0 ≡ k.0 = same_is key k e in
+        let own : is_of k (turn.at, key) ≡ true = grind (arith, nat_tests, same) in
+        ap (λ (b : Bool). cond b (Some turn) None) own
+    by_test false e =
+        let other : is_of k (turn.at, key) ≡ false = not_of (key.0 == k.0) refl in
+        ap (λ (b : Bool). or_of (turn_of k qs) (cond b (Some turn) None)) other ∙ or_none (turn_of k qs)
+      where
+        not_of : (b : Bool) → (key.0 == k.0) ≡ b → b ≡ false
+        not_of false s = refl
+        not_of true s = absurd (other_is key k e (grind (arith, nat_tests, s)))
+
+-- ---- a key is armed
+
+module _ (next at : ℕ) (key : Key) (queue : List Queued) (turns : List (Key × Turn)) (are : AreKept next queue turns) where
+  abbrev turn : Turn
+  turn = record { at = at; number = next }
+
+  abbrev Armed : List Queued → Type 0
+  Armed later = by_arming later ≡ others key (by_arming queue) ++ (turn, key) ∷ []
+
+  abbrev more : List Queued
+  more = insert_entry turn_cmp queue turn key
+
+  armed_once : turn_of key (by_arming queue) ≡ None → Armed more
+  armed_once none = one_more turn key queue are.before ∙ ap (λ (l : List Queued). l ++ (turn, key) ∷ []) (sym (none_armed key (by_arming queue) none))
+
+  armed_again : (earlier : Turn) → turn_of key (by_arming queue) ≡ Some earlier → IsStrictlySortedBy turn_cmp (keys_of more) → Armed (remove_entry (is_at (turn_cmp earlier)) more)
+  armed_again earlier some sorted =
+      let less : earlier.number < next = found_number (λ n. n < next) key earlier (by_arming queue) some (all_by_arming (λ q. number_of q < next) queue are.before) in
+      let new : is_turn earlier (turn, key) ≡ false = other_number earlier (turn, key) (λ e. let h : earlier.number ≡ next = e in omega (arith, h, less)) in
+      ap by_arming (removed earlier more sorted)
+      ∙ (by_arming_filter (λ q. not (is_turn earlier q)) more
+      ∙ (ap (filter (λ q. not (is_turn earlier q))) (one_more turn key queue are.before)
+      ∙ (filter-append (λ q. not (is_turn earlier q)) (by_arming queue) ((turn, key) ∷ [])
+      ∙ (ap (λ (b : Bool). filter (λ q. not (is_turn earlier q)) (by_arming queue) ++ cond (not b) ((turn, key) ∷ []) []) new
+      ∙ ap (λ (l : List Queued). l ++ (turn, key) ∷ []) (left_out key earlier (by_arming queue) some are.numbered are.once)))))
+
+  counted_on : (qs : List Queued) → AllByRecursion (λ q. number_of q < next) qs → AllByRecursion (λ q. number_of q < next + 1) qs
+  counted_on qs all = all_weaken (λ q. number_of q < next) (λ q. number_of q < next + 1) (λ q l. let h : q.0.number < next = l in omega (arith, h)) qs all
+
+  before_more : AllByRecursion (λ q. number_of q < next + 1) more
+  before_more = all_more turn key (λ q. number_of q < next + 1) queue are.before (omega arith) (counted_on queue are.before)
+
+  module _ (earlier : Option Turn) (was : earlier ≡ turn_at key turns) (sorted : IsStrictlySortedBy turn_cmp (keys_of more)) where
+    armed : Armed (taken_out earlier more)
+    armed = by_cases earlier (sym (was ∙ are.turns_of key))
+      where
+        by_cases : (o : Option Turn) → turn_of key (by_arming queue) ≡ o → Armed (taken_out o more)
+        by_cases None none = armed_once none
+        by_cases (Some t) some = armed_again t some sorted
+
+    before_armed : AllByRecursion (λ q. number_of q < next + 1) (taken_out earlier more)
+    before_armed = by_cases earlier
+      where
+        by_cases : (o : Option Turn) → AllByRecursion (λ q. number_of q < next + 1) (taken_out o more)
+        by_cases None = before_more
+        by_cases (Some t) =
+            subst (λ (l : List Queued). AllByRecursion (λ q. number_of q < next + 1) l) (sym (removed t more sorted)) (all_filter (λ q. number_of q < next + 1) (λ q. not (is_turn t q)) more before_more)
+
+    pub seen_armed : seen (taken_out earlier more) ≡ armed_last at key (seen queue)
+    seen_armed =
+        ap (map (λ q. deadline_of q)) armed
+        ∙ (map-append (λ q. deadline_of q) (others key (by_arming queue)) ((turn, key) ∷ [])
+        ∙ ap (λ (l : List Deadline). l ++ (at, key) ∷ []) (seen_others key (by_arming queue)))
+
+    pub kept_armed : (again : List (Key × Turn)) → IsStrictlySortedBy turn_cmp (keys_of (taken_out earlier more)) → Turns key (Some turn) turns again → AreKept (next + 1) (taken_out earlier more) again
+    kept_armed again ordered says = record {
+      sorted = ordered;
+      before = before_armed;
+      numbered = subst (λ (l : List Queued). Rises (λ q. number_of q) l) (sym armed) (rises_last (others key (by_arming queue)) (turn, key)
+          (rises_filter (λ q. not (is_of key (deadline_of q))) (by_arming queue) are.numbered)
+          (all_filter (λ q. number_of q < next) (λ q. not (is_of key (deadline_of q))) (by_arming queue) (all_by_arming (λ q. number_of q < next) queue are.before)));
+      once = subst IsEachOnce (sym seen_armed) (once-armed_last at key (seen queue) are.once);
+      turns_of = λ k.
+          says k
+          ∙ (ap (cond (is_same key k) (Some turn)) (are.turns_of k)
+          ∙ (sym (turn_of_armed k key turn (by_arming queue))
+          ∙ ap (turn_of k) (sym armed)));
+    }
+
+-- ---- a key is disarmed
+
+module _ (next : ℕ) (key : Key) (queue : List Queued) (turns : List (Key × Turn)) (are : AreKept next queue turns) (turn : Option Turn) (was : turn ≡ turn_at key turns) where
+  arranged : by_arming (taken_out turn queue) ≡ others key (by_arming queue)
+  arranged = by_cases turn (sym (was ∙ are.turns_of key))
+    where
+      by_cases : (o : Option Turn) → turn_of key (by_arming queue) ≡ o → by_arming (taken_out o queue) ≡ others key (by_arming queue)
+      by_cases None none = sym (none_armed key (by_arming queue) none)
+      by_cases (Some t) some = ap by_arming (removed t queue are.sorted) ∙ (by_arming_filter (λ q. not (is_turn t q)) queue ∙ left_out key t (by_arming queue) some are.numbered are.once)
+
+  before_disarmed : AllByRecursion (λ q. number_of q < next) (taken_out turn queue)
+  before_disarmed = by_cases turn
+    where
+      by_cases : (o : Option Turn) → AllByRecursion (λ q. number_of q < next) (taken_out o queue)
+      by_cases None = are.before
+      by_cases (Some t) = subst (λ (l : List Queued). AllByRecursion (λ q. number_of q < next) l) (sym (removed t queue are.sorted)) (all_filter (λ q. number_of q < next) (λ q. not (is_turn t q)) queue are.before)
+
+  pub seen_disarmed : seen (taken_out turn queue) ≡ without key (seen queue)
+  seen_disarmed = ap (map (λ q. deadline_of q)) arranged ∙ seen_others key (by_arming queue)
+
+  pub kept_disarmed : (left : List (Key × Turn)) → IsStrictlySortedBy turn_cmp (keys_of (taken_out turn queue)) → Turns key None turns left → AreKept next (taken_out turn queue) left
+  kept_disarmed left ordered says = record {
+    sorted = ordered;
+    before = before_disarmed;
+    numbered = subst (λ (l : List Queued). Rises (λ q. number_of q) l) (sym arranged) (rises_filter (λ q. not (is_of key (deadline_of q))) (by_arming queue) are.numbered);
+    once = subst IsEachOnce (sym seen_disarmed) (once-filter (λ deadline. not (is_of key deadline)) (seen queue) are.once);
+    turns_of = λ k.
+        says k
+        ∙ (ap (cond (is_same key k) None) (are.turns_of k)
+        ∙ (sym (turn_of_others k key (by_arming queue))
+        ∙ ap (turn_of k) (sym arranged)));
+  }

@@ -1,0 +1,151 @@
+//! Deadlines as they are kept: in the order in which they are taken, and by key.
+ghost use Rattle.std.specs.Prelude.{◌≡◌, ◌<◌, [], IfOk, OnOk, OnErr, Some};
+ghost use Rattle.std.specs.BTreeMap.{insert_entry};
+ghost use Rattle.std.specs.List.{AllByRecursion};
+ghost use Rattle.std.specs.List.Sorted.{IsStrictlySortedBy};
+ghost use Rattle.std.specs.Map.{keys_of};
+ghost use Rattle.mmtel_timers.specs.Deadlines.{armed_last, IsEachOnce, soonest, without};
+ghost use Rattle.mmtel_timers.specs.Queues.{number_of, taken_out, turn_at, turn_cmp, Turns};
+
+use crate::deadlines::Key;
+use mmtel_scan::NoMemory;
+use std::alloc::Global;
+use std::collections::BTreeMap;
+use std::marker::Model;
+
+/// The turn of a deadline: by moment, and of one moment the one that was armed first.
+#[derive(Clone, Copy, Debug, PartialEq, Eq, PartialOrd, Ord)]
+pub struct Turn {
+    /// Its moment, in milliseconds since 1970-01-01T00:00:00Z.
+    pub at: u64,
+    /// How many were armed before it.
+    pub number: u64,
+}
+
+/// The deadlines that are armed, the first of which is taken first, and the turn of each key.
+///
+/// Contracts see them as the list of moments and keys in the order of arming.
+#[derive(Drop)]
+pub struct Queue {
+    queue: BTreeMap<Turn, Key>,
+    turns: BTreeMap<Key, Turn>,
+    armed: u64,
+}
+
+impl Model for Queue {
+    ghost use Rattle.std.specs.Prelude.{List};
+    ghost use Rattle.mmtel_timers.specs.Deadlines.{Deadline};
+    ghost use Rattle.mmtel_timers.specs.Queues.{AreKept, seen};
+
+    ghost Value = { List Deadline };
+
+    ghost view = { λ q. seen q.queue.entries };
+
+    ghost invariant = { λ q. AreKept q.armed q.queue.entries q.turns.entries };
+}
+
+impl Queue {
+    /// No deadlines. It takes no memory.
+    pub fn new(alloc: Global) -> Queue
+        ensures { result ≡ [] }
+    {
+        Queue {
+            queue: BTreeMap::new(alloc),
+            turns: BTreeMap::new(alloc),
+            armed: 0,
+        }
+    }
+
+    /// Arms the key for a moment, and no longer for an earlier choice of moment.
+    ///
+    /// # Errors
+    ///
+    /// Want of memory alone, for its place or for its number: 2^64 - 1 are armed in all. The deadlines are then as before.
+    pub fn arm(&mut self, at: u64, key: Key) -> Result<(), NoMemory>
+        ensures ok { OnOk result (self.new ≡ armed_last at key self.old) }
+        ensures err { OnErr result (self.new ≡ self.old) }
+    {
+        if self.armed == u64::MAX {
+            return Err(NoMemory);
+        }
+        let turn = Turn {
+            at,
+            number: self.armed,
+        };
+        let earlier = put(&mut self.queue, &mut self.turns, turn, key)?;
+        take_out(&mut self.queue, earlier);
+        self.armed += 1;
+        Ok(())
+    }
+
+    /// Disarms the key; nothing changes where it is not armed.
+    pub fn disarm(&mut self, key: Key)
+        ensures { self.new ≡ without key self.old }
+    {
+        let turn = self.turns.remove(&key);
+        take_out(&mut self.queue, turn);
+    }
+
+    /// The deadline that is taken before all others, whether or not it is due.
+    pub fn first(&self) -> Option<(u64, Key)>
+        ensures { result ≡ soonest self.now }
+    {
+        match self.queue.first_key_value() {
+            None => None,
+            Some((turn, key)) => Some((turn.at, *key)),
+        }
+    }
+
+    /// A law, and no code: no key is armed twice.
+    pub fn each_is_armed_once(&self)
+        ensures { IsEachOnce self.now }
+    {
+        let _ = &self.queue;
+    }
+}
+
+/// Puts a turn in, behind all of its moment, for a key that then has no other; the earlier turn of the key is given and stays in the queue.
+///
+/// # Errors
+///
+/// Want of memory alone; all is then as before.
+fn put(
+    queue: &mut BTreeMap<Turn, Key>,
+    turns: &mut BTreeMap<Key, Turn>,
+    turn: Turn,
+    key: Key,
+) -> Result<Option<Turn>, NoMemory>
+    requires { AllByRecursion (λ q. number_of q < turn.number) queue.old.entries }
+    ensures queue { OnOk result (queue.new.entries ≡ insert_entry turn_cmp queue.old.entries turn key) }
+    ensures sorted { OnOk result (IsStrictlySortedBy turn_cmp (keys_of queue.new.entries)) }
+    ensures turns { OnOk result (Turns key (Some turn) turns.old.entries turns.new.entries) }
+    ensures earlier { IfOk result (λ earlier. earlier ≡ turn_at key turns.old.entries) }
+    ensures err_queue { OnErr result (queue.new.entries ≡ queue.old.entries) }
+    ensures err_turns { OnErr result (turns.new.entries ≡ turns.old.entries) }
+{
+    match queue.insert(turn, key) {
+        Ok(_) => {}
+        Err(_) => return Err(NoMemory),
+    }
+    match turns.insert(key, turn) {
+        Ok(earlier) => Ok(earlier),
+        Err(_) => {
+            queue.remove(&turn);
+            Err(NoMemory)
+        }
+    }
+}
+
+/// Takes a turn out of the queue.
+fn take_out(queue: &mut BTreeMap<Turn, Key>, turn: Option<Turn>)
+    requires { IsStrictlySortedBy turn_cmp (keys_of queue.old.entries) }
+    ensures taken { queue.new.entries ≡ taken_out turn queue.old.entries }
+    ensures sorted { IsStrictlySortedBy turn_cmp (keys_of queue.new.entries) }
+{
+    match turn {
+        Some(turn) => {
+            queue.remove(&turn);
+        }
+        None => {}
+    }
+}

@@ -161,6 +161,11 @@ last_boxed bs b x at is =
     ap (λ n. slice_get (unboxed bs) (n - 1)) (length_unboxed bs)
     ∙ (slice_get-map (λ (c : Box Entry _). c.value) bs (length bs - 1) ∙ (ap (option_map (λ (c : Box Entry _). c.value)) (sym at) ∙ ap Some (sym is)))
 
+pub last_of_queue : {X : Type 0} (xs : List X) (x : X) (n : ℕ) → n ≡ length xs → 0 < n → x ≡ get_or xs (n - 1) x → Some x ≡ slice_get xs (length xs - 1)
+last_of_queue xs x n long some at =
+    let within : n - 1 < length xs = omega (arith, long, some) in
+    ap Some at ∙ (sym (slice_get-get_or xs (n - 1) x within) ∙ ap (λ m. slice_get xs (m - 1)) long)
+
 -- the last one has the greatest key
 later_last : (x y : Entry) (es : List Entry) (last : Entry) → slice_get (x ∷ y ∷ es) (length (x ∷ y ∷ es) - 1) ≡ Some last → slice_get (y ∷ es) (length (y ∷ es) - 1) ≡ Some last
 later_last x y es last q =

@@ -1,6 +1,6 @@
 //! The live transactions with what they are looked up by: their numbers, which rise, and shelves of their names and deadlines.
 ghost use Rattle.std.specs.Prelude.{◌≡◌, ◌-◌, ◌+◌, ◌*◌, ◌^◌, ◌≤◌, ◌<◌, true, false, List, [], ◌++◌, ◌∷◌};
-ghost use Rattle.std.specs.Prelude.{OnOk, OnErr, IfOk, IfErr, IsTrue, map, option_map, option_copied, position, Some, None};
+ghost use Rattle.std.specs.Prelude.{OnOk, OnErr, IfOk, IfErr, IsTrue, length, remove, map, option_map, option_copied, position, Some, None};
 ghost use Rattle.std.specs.List.{find, list_any};
 ghost use Rattle.mmtel_timers.specs.Shelves.{Has, IsIndex, Rises, unboxed};
 ghost use Rattle.mmtel_transaction.specs.declared.entries.Entry.{Entry};
@@ -20,6 +20,7 @@ use mmtel_scan::NoMemory;
 use mmtel_timers::{Shelf, Steps};
 use mmtel_types::limits::SERVER_TRANSACTIONS;
 use std::alloc::Global;
+use std::collections::VecDeque;
 use std::marker::Model;
 use std::sync::ledger::Ledger;
 
@@ -35,7 +36,7 @@ pub struct Found<'a> {
 /// The live transactions, the oldest first, which contracts see as their list.
 #[derive(Drop)]
 pub struct Tables {
-    entries: Vec<Box<Entry>>,
+    entries: VecDeque<Box<Entry>>,
     /// The branches of server transactions, with sent-by and method.
     servers: Shelf<Name>,
     /// The branches of client transactions, with the method.
@@ -66,7 +67,7 @@ impl Tables {
         ensures { result ≡ [] }
     {
         Tables {
-            entries: Vec::new(alloc),
+            entries: VecDeque::new(alloc),
             servers: Shelf::new(alloc),
             clients: Shelf::new(alloc),
             calls: Shelf::new(alloc),
@@ -223,7 +224,7 @@ impl Tables {
     fn is_above(&self, key: u64) -> bool
         ensures { IsTrue result → (e : Entry) → Has e self.now → e.key < key }
     {
-        match self.entries.last() {
+        match self.entries.back() {
             None => true,
             Some(last) => last.key < key,
         }
@@ -261,7 +262,7 @@ impl Tables {
                 return Err(fault);
             }
         };
-        match self.entries.push(entry) {
+        match self.entries.push_back(entry) {
             Ok(()) => {}
             Err(_) => {
                 self.due.remove(due);
@@ -296,7 +297,7 @@ impl Tables {
                 return Err(fault);
             }
         };
-        match self.entries.push(entry) {
+        match self.entries.push_back(entry) {
             Ok(()) => {}
             Err(_) => {
                 self.due.remove(due);
@@ -322,11 +323,11 @@ impl Tables {
                 take_waits(&mut self.due, &before, steps);
                 take_name(&mut self.servers, &server_mark(entry), steps);
                 take_name(&mut self.calls, &call_mark(entry), steps);
-                self.entries.remove(place);
+                let_go(&mut self.entries, place);
             } else {
                 take_waits(&mut self.due, &before, steps);
                 take_name(&mut self.clients, &client_mark(entry), steps);
-                self.entries.remove(place);
+                let_go(&mut self.entries, place);
             }
         }
     }
@@ -349,12 +350,20 @@ impl Tables {
 }
 
 /// Where the transaction of a key stands, or would stand.
-fn search(entries: &[Box<Entry>], key: u64) -> Result<usize, usize>
-    requires rises { Rises (λ e. e.key) (unboxed entries.now) }
-    ensures found { IfOk result (λ i. position (is_of key) (unboxed entries.now) ≡ Some i) }
-    ensures absent { IfErr result (λ i. position (is_of key) (unboxed entries.now) ≡ None) }
+fn search(entries: &VecDeque<Box<Entry>>, key: u64) -> Result<usize, usize>
+    requires rises { Rises (λ e. e.key) (unboxed entries.now.items) }
+    ensures found { IfOk result (λ i. position (is_of key) (unboxed entries.now.items) ≡ Some i) }
+    ensures absent { IfErr result (λ i. position (is_of key) (unboxed entries.now.items) ≡ None) }
 {
     entries.binary_search_by_key(&key, |e| e.key)
+}
+
+/// Takes the transaction at a place out.
+fn let_go(entries: &mut VecDeque<Box<Entry>>, place: usize)
+    requires { place < length entries.old.items }
+    ensures { entries.new.items ≡ remove entries.old.items place }
+{
+    drop(entries.remove(place));
 }
 
 /// A transaction in a block of its own, so that tables move little.
@@ -408,7 +417,7 @@ fn has_other<L: Ledger>(
 
 /// The ACK of a 2xx is heard by the transaction of a key, if it is of that one's.
 fn ack_key<L: Ledger>(
-    entries: &mut Vec<Box<Entry>>,
+    entries: &mut VecDeque<Box<Entry>>,
     due: &mut Shelf<Waits>,
     key: u64,
     step: u64,
@@ -431,7 +440,7 @@ fn ack_key<L: Ledger>(
 
 /// The ACK of a 2xx is heard by the INVITEs of its call and number, whose names stand from a place on.
 fn ack_from<L: Ledger>(
-    entries: &mut Vec<Box<Entry>>,
+    entries: &mut VecDeque<Box<Entry>>,
     due: &mut Shelf<Waits>,
     calls: &Shelf<Name>,
     from: usize,

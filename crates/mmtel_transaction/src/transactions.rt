@@ -21,8 +21,7 @@ use mmtel_scan::NoMemory;
 use mmtel_timers::Steps;
 use mmtel_types::{Moment, Peer};
 use std::alloc::Global;
-use std::marker::Brand;
-use std::sync::ledger::{Blank, Ledger};
+use std::sync::ledger::Ledger;
 
 /// The transactions of a server, which stand for the calls that were made of them.
 #[derive(Drop)]
@@ -62,11 +61,28 @@ impl Transactions {
     /// # Errors
     ///
     /// Want of memory alone; the transactions are then as before.
-    pub fn ask(&mut self, alloc: Global, p: Peer, m: &Msg, now: Moment) -> Result<TKey, NoMemory>
+    pub fn ask<L: Ledger>(
+        &mut self,
+        alloc: Global,
+        p: Peer,
+        m: &Msg,
+        now: Moment,
+        steps: &mut Steps<L>,
+    ) -> Result<TKey, NoMemory>
         ensures done { IfOk result (λ key. MayOpen self.old self.new (λ h. DidAsk p m.now now ∷ h) (λ h. key ≡ tkey (length (opened h)))) }
         ensures err { OnErr result ((h : List Done) → Stands self.old h → Stands self.new h) }
     {
-        self.ask_blank::<Brand>(alloc, p, m, now, Blank::new(1))
+        let asked = Head::of(alloc, m)?;
+        let text = m.text(alloc)?;
+        let key = self.next;
+        self.entries.push(
+            alloc,
+            asked_entry(self.step, self.offers, key, p, asked, text, now.ms()),
+            steps,
+        )?;
+        self.offers = self.offers.saturating_add(1);
+        self.next = self.next.saturating_add(1);
+        Ok(TKey(key))
     }
 
     /// An answer is offered in a live server transaction without a final answer; in any other nothing changes.
@@ -74,11 +90,23 @@ impl Transactions {
     /// # Errors
     ///
     /// Want of memory alone; the transactions are then as before.
-    pub fn reply(&mut self, alloc: Global, key: TKey, m: &Msg, now: Moment) -> Result<(), NoMemory>
+    pub fn reply<L: Ledger>(
+        &mut self,
+        alloc: Global,
+        key: TKey,
+        m: &Msg,
+        now: Moment,
+        steps: &mut Steps<L>,
+    ) -> Result<(), NoMemory>
         ensures done { OnOk result ((h : List Done) → Stands self.old h → Stands self.new (DidReply key.0 m.now now ∷ h)) }
         ensures err { OnErr result ((h : List Done) → Stands self.old h → Stands self.new h) }
     {
-        self.reply_blank::<Brand>(alloc, key, m, now, Blank::new(1))
+        let head = Head::of(alloc, m)?;
+        let text = m.text(alloc)?;
+        let change = reply_change(self.step, self.offers, head, text, now.ms());
+        self.entries.settle(key.0, change, steps);
+        self.offers = self.offers.saturating_add(1);
+        Ok(())
     }
 
     /// The ACK of the non-2xx final that this live client INVITE transaction heard is kept, to be sent again when that final is heard again; in any other nothing changes.
@@ -86,11 +114,19 @@ impl Transactions {
     /// # Errors
     ///
     /// Want of memory alone; the transactions are then as before.
-    pub fn ack(&mut self, alloc: Global, key: TKey, m: &Msg) -> Result<(), NoMemory>
+    pub fn ack<L: Ledger>(
+        &mut self,
+        alloc: Global,
+        key: TKey,
+        m: &Msg,
+        steps: &mut Steps<L>,
+    ) -> Result<(), NoMemory>
         ensures done { OnOk result ((h : List Done) → Stands self.old h → Stands self.new (DidAck key.0 m.now ∷ h)) }
         ensures err { OnErr result ((h : List Done) → Stands self.old h → Stands self.new h) }
     {
-        self.ack_blank::<Brand>(alloc, key, m, Blank::new(1))
+        let text = m.text(alloc)?;
+        self.entries.settle(key.0, Change::Keep(text), steps);
+        Ok(())
     }
 
     /// Hears a message: says which transaction it opens or belongs to, and what is sent again because of it.
@@ -98,11 +134,20 @@ impl Transactions {
     /// # Errors
     ///
     /// `Full`, which hands the message back, exactly where it would open a server transaction and 16,384 are live; and want of memory. The transactions are then as before.
-    pub fn hear(&mut self, alloc: Global, p: Peer, m: Msg, now: Moment) -> Result<Heard, HearFault>
+    pub fn hear<L: Ledger>(
+        &mut self,
+        alloc: Global,
+        p: Peer,
+        m: Msg,
+        now: Moment,
+        steps: &mut Steps<L>,
+    ) -> Result<Heard, HearFault>
         ensures done { IfOk result (λ said. MayOpen self.old self.new (λ h. hears h p m now) (λ h. Some said ≡ hear_says h p m)) }
         ensures refused { IfErr result (λ fault. Stays self.old self.new (λ h. IsRefusal (part_of (head_of m) (live h)) m fault)) }
     {
-        self.hear_blank::<Brand>(alloc, p, m, now, Blank::new(1))
+        let head = Head::of(alloc, &m)?;
+        let taken = take_part(&self.entries, &head, steps);
+        self.hear_as(alloc, p, m, head, now.ms(), taken, steps)
     }
 
     /// The first deadline that is not past now fires: by its moment, then the step that armed it, then the offer of its message.
@@ -110,32 +155,48 @@ impl Transactions {
     /// # Errors
     ///
     /// Want of memory alone; the transactions are then as before.
-    pub fn due(&mut self, alloc: Global, now: Moment) -> Result<Due, NoMemory>
+    pub fn due<L: Ledger>(
+        &mut self,
+        alloc: Global,
+        now: Moment,
+        steps: &mut Steps<L>,
+    ) -> Result<Due, NoMemory>
         ensures done { IfOk result (λ said. Does self.old self.new (λ h. fires h (next_due now (live h))) (λ h. said ≡ says_due (next_due now (live h)))) }
         ensures err { OnErr result ((h : List Done) → Stands self.old h → Stands self.new h) }
     {
-        self.due_blank::<Brand>(alloc, now, Blank::new(1))
+        match self.entries.next_of(now.ms(), steps) {
+            None => Ok(Due::Nothing),
+            Some(found) => {
+                let said = say_due(alloc, found)?;
+                let key = found.of.key;
+                self.entries.settle(key, Change::Fire(self.step), steps);
+                Ok(said)
+            }
+        }
     }
 
-    /// The moment and the step of the deadline that `due` would take; None exactly where there is none.
-    pub fn upcoming(&self, now: Moment) -> Option<(u64, u64)>
+    /// The moment and the step of the deadline that `due` would take; None exactly where there is none. It looks at one item at most.
+    pub fn upcoming<L: Ledger>(&self, now: Moment, steps: &mut Steps<L>) -> Option<(u64, u64)>
         ensures next { (h : List Done) → Stands self.now h → result ≡ upcoming_of (next_due now (live h)) }
+        ensures cost { steps.new ≤ steps.old + 1 }
+        ensures rise { steps.old ≤ steps.new }
     {
-        self.upcoming_blank::<Brand>(now, Blank::new(1))
+        next_at(&self.entries, now.ms(), steps)
     }
 
-    /// The peer from which a live server transaction was opened, or to which a live client transaction was asked; None exactly where the key's is not live.
-    pub fn peer(&self, key: TKey) -> Option<Peer>
+    /// The peer from which a live server transaction was opened, or to which a live client transaction was asked; None exactly where the key's is not live. It is found by its number, without a step.
+    pub fn peer<L: Ledger>(&self, key: TKey, steps: &mut Steps<L>) -> Option<Peer>
         ensures live { (h : List Done) → Stands self.now h → result ≡ peer_of key.0 (live h) }
+        ensures cost { steps.new ≡ steps.old }
     {
         peer_at(&self.entries, key.0)
     }
 
     /// Whether another live server transaction has the From tag, Call-ID and CSeq of this one (RFC 3261 §8.2.2.2).
-    pub fn merged(&self, key: TKey) -> bool
+    pub fn merged<L: Ledger>(&self, key: TKey, steps: &mut Steps<L>) -> bool
         ensures live { (h : List Done) → Stands self.now h → result ≡ is_merged key.0 (live h) }
     {
-        self.merged_blank::<Brand>(key, Blank::new(1))
+        twin_of(&self.entries, key.0, steps)
     }
 
     /// The live server transaction of this first Via branch, sent-by and method; None exactly where there is none.
@@ -175,266 +236,6 @@ impl Transactions {
             None => None,
             Some(first) => Some(TKey(first.key)),
         }
-    }
-}
-
-/// Each call again, which adds its looks at shelves to a counter.
-impl Transactions {
-    /// As `ask`.
-    ///
-    /// # Errors
-    ///
-    /// Want of memory alone; the transactions are then as before.
-    pub fn ask_counted<L: Ledger>(
-        &mut self,
-        alloc: Global,
-        p: Peer,
-        m: &Msg,
-        now: Moment,
-        steps: &mut Steps<L>,
-    ) -> Result<TKey, NoMemory>
-        ensures done { IfOk result (λ key. MayOpen self.old self.new (λ h. DidAsk p m.now now ∷ h) (λ h. key ≡ tkey (length (opened h)))) }
-        ensures err { OnErr result ((h : List Done) → Stands self.old h → Stands self.new h) }
-    {
-        let asked = Head::of(alloc, m)?;
-        let text = m.text(alloc)?;
-        let key = self.next;
-        self.entries.push(
-            alloc,
-            asked_entry(self.step, self.offers, key, p, asked, text, now.ms()),
-            steps,
-        )?;
-        self.offers = self.offers.saturating_add(1);
-        self.next = self.next.saturating_add(1);
-        Ok(TKey(key))
-    }
-
-    /// As `reply`.
-    ///
-    /// # Errors
-    ///
-    /// Want of memory alone; the transactions are then as before.
-    pub fn reply_counted<L: Ledger>(
-        &mut self,
-        alloc: Global,
-        key: TKey,
-        m: &Msg,
-        now: Moment,
-        steps: &mut Steps<L>,
-    ) -> Result<(), NoMemory>
-        ensures done { OnOk result ((h : List Done) → Stands self.old h → Stands self.new (DidReply key.0 m.now now ∷ h)) }
-        ensures err { OnErr result ((h : List Done) → Stands self.old h → Stands self.new h) }
-    {
-        let head = Head::of(alloc, m)?;
-        let text = m.text(alloc)?;
-        let change = reply_change(self.step, self.offers, head, text, now.ms());
-        self.entries.settle(key.0, change, steps);
-        self.offers = self.offers.saturating_add(1);
-        Ok(())
-    }
-
-    /// As `ack`.
-    ///
-    /// # Errors
-    ///
-    /// Want of memory alone; the transactions are then as before.
-    pub fn ack_counted<L: Ledger>(
-        &mut self,
-        alloc: Global,
-        key: TKey,
-        m: &Msg,
-        steps: &mut Steps<L>,
-    ) -> Result<(), NoMemory>
-        ensures done { OnOk result ((h : List Done) → Stands self.old h → Stands self.new (DidAck key.0 m.now ∷ h)) }
-        ensures err { OnErr result ((h : List Done) → Stands self.old h → Stands self.new h) }
-    {
-        let text = m.text(alloc)?;
-        self.entries.settle(key.0, Change::Keep(text), steps);
-        Ok(())
-    }
-
-    /// As `hear`.
-    ///
-    /// # Errors
-    ///
-    /// `Full`, which hands the message back, exactly where it would open a server transaction and 16,384 are live; and want of memory. The transactions are then as before.
-    pub fn hear_counted<L: Ledger>(
-        &mut self,
-        alloc: Global,
-        p: Peer,
-        m: Msg,
-        now: Moment,
-        steps: &mut Steps<L>,
-    ) -> Result<Heard, HearFault>
-        ensures done { IfOk result (λ said. MayOpen self.old self.new (λ h. hears h p m now) (λ h. Some said ≡ hear_says h p m)) }
-        ensures refused { IfErr result (λ fault. Stays self.old self.new (λ h. IsRefusal (part_of (head_of m) (live h)) m fault)) }
-    {
-        let head = Head::of(alloc, &m)?;
-        let taken = take_part(&self.entries, &head, steps);
-        self.hear_as(alloc, p, m, head, now.ms(), taken, steps)
-    }
-
-    /// As `due`.
-    ///
-    /// # Errors
-    ///
-    /// Want of memory alone; the transactions are then as before.
-    pub fn due_counted<L: Ledger>(
-        &mut self,
-        alloc: Global,
-        now: Moment,
-        steps: &mut Steps<L>,
-    ) -> Result<Due, NoMemory>
-        ensures done { IfOk result (λ said. Does self.old self.new (λ h. fires h (next_due now (live h))) (λ h. said ≡ says_due (next_due now (live h)))) }
-        ensures err { OnErr result ((h : List Done) → Stands self.old h → Stands self.new h) }
-    {
-        match self.entries.next_of(now.ms(), steps) {
-            None => Ok(Due::Nothing),
-            Some(found) => {
-                let said = say_due(alloc, found)?;
-                let key = found.of.key;
-                self.entries.settle(key, Change::Fire(self.step), steps);
-                Ok(said)
-            }
-        }
-    }
-
-    /// As `upcoming`, in at most one step.
-    pub fn upcoming_counted<L: Ledger>(
-        &self,
-        now: Moment,
-        steps: &mut Steps<L>,
-    ) -> Option<(u64, u64)>
-        ensures next { (h : List Done) → Stands self.now h → result ≡ upcoming_of (next_due now (live h)) }
-        ensures cost { steps.new ≤ steps.old + 1 }
-        ensures rise { steps.old ≤ steps.new }
-    {
-        next_at(&self.entries, now.ms(), steps)
-    }
-
-    /// As `peer`; a transaction's number is looked up without a step.
-    pub fn peer_counted<L: Ledger>(&self, key: TKey, steps: &mut Steps<L>) -> Option<Peer>
-        ensures live { (h : List Done) → Stands self.now h → result ≡ peer_of key.0 (live h) }
-        ensures cost { steps.new ≡ steps.old }
-    {
-        peer_at(&self.entries, key.0)
-    }
-
-    /// As `merged`.
-    pub fn merged_counted<L: Ledger>(&self, key: TKey, steps: &mut Steps<L>) -> bool
-        ensures live { (h : List Done) → Stands self.now h → result ≡ is_merged key.0 (live h) }
-    {
-        twin_of(&self.entries, key.0, steps)
-    }
-}
-
-/// Each call again, with a counter that is opened for it alone.
-impl Transactions {
-    fn ask_blank<L: Ledger>(
-        &mut self,
-        alloc: Global,
-        p: Peer,
-        m: &Msg,
-        now: Moment,
-        blank: Blank,
-    ) -> Result<TKey, NoMemory>
-        requires name { blank.name ≡ L.name }
-        requires parts { blank.parts ≡ L.parts }
-        requires some { 0 < L.parts }
-        ensures done { IfOk result (λ key. MayOpen self.old self.new (λ h. DidAsk p m.now now ∷ h) (λ h. key ≡ tkey (length (opened h)))) }
-        ensures err { OnErr result ((h : List Done) → Stands self.old h → Stands self.new h) }
-    {
-        let mut steps: Steps<L> = Steps::new(blank);
-        self.ask_counted(alloc, p, m, now, &mut steps)
-    }
-
-    fn reply_blank<L: Ledger>(
-        &mut self,
-        alloc: Global,
-        key: TKey,
-        m: &Msg,
-        now: Moment,
-        blank: Blank,
-    ) -> Result<(), NoMemory>
-        requires name { blank.name ≡ L.name }
-        requires parts { blank.parts ≡ L.parts }
-        requires some { 0 < L.parts }
-        ensures done { OnOk result ((h : List Done) → Stands self.old h → Stands self.new (DidReply key.0 m.now now ∷ h)) }
-        ensures err { OnErr result ((h : List Done) → Stands self.old h → Stands self.new h) }
-    {
-        let mut steps: Steps<L> = Steps::new(blank);
-        self.reply_counted(alloc, key, m, now, &mut steps)
-    }
-
-    fn ack_blank<L: Ledger>(
-        &mut self,
-        alloc: Global,
-        key: TKey,
-        m: &Msg,
-        blank: Blank,
-    ) -> Result<(), NoMemory>
-        requires name { blank.name ≡ L.name }
-        requires parts { blank.parts ≡ L.parts }
-        requires some { 0 < L.parts }
-        ensures done { OnOk result ((h : List Done) → Stands self.old h → Stands self.new (DidAck key.0 m.now ∷ h)) }
-        ensures err { OnErr result ((h : List Done) → Stands self.old h → Stands self.new h) }
-    {
-        let mut steps: Steps<L> = Steps::new(blank);
-        self.ack_counted(alloc, key, m, &mut steps)
-    }
-
-    fn hear_blank<L: Ledger>(
-        &mut self,
-        alloc: Global,
-        p: Peer,
-        m: Msg,
-        now: Moment,
-        blank: Blank,
-    ) -> Result<Heard, HearFault>
-        requires name { blank.name ≡ L.name }
-        requires parts { blank.parts ≡ L.parts }
-        requires some { 0 < L.parts }
-        ensures done { IfOk result (λ said. MayOpen self.old self.new (λ h. hears h p m now) (λ h. Some said ≡ hear_says h p m)) }
-        ensures refused { IfErr result (λ fault. Stays self.old self.new (λ h. IsRefusal (part_of (head_of m) (live h)) m fault)) }
-    {
-        let mut steps: Steps<L> = Steps::new(blank);
-        self.hear_counted(alloc, p, m, now, &mut steps)
-    }
-
-    fn due_blank<L: Ledger>(
-        &mut self,
-        alloc: Global,
-        now: Moment,
-        blank: Blank,
-    ) -> Result<Due, NoMemory>
-        requires name { blank.name ≡ L.name }
-        requires parts { blank.parts ≡ L.parts }
-        requires some { 0 < L.parts }
-        ensures done { IfOk result (λ said. Does self.old self.new (λ h. fires h (next_due now (live h))) (λ h. said ≡ says_due (next_due now (live h)))) }
-        ensures err { OnErr result ((h : List Done) → Stands self.old h → Stands self.new h) }
-    {
-        let mut steps: Steps<L> = Steps::new(blank);
-        self.due_counted(alloc, now, &mut steps)
-    }
-
-    fn upcoming_blank<L: Ledger>(&self, now: Moment, blank: Blank) -> Option<(u64, u64)>
-        requires name { blank.name ≡ L.name }
-        requires parts { blank.parts ≡ L.parts }
-        requires some { 0 < L.parts }
-        ensures next { (h : List Done) → Stands self.now h → result ≡ upcoming_of (next_due now (live h)) }
-    {
-        let mut steps: Steps<L> = Steps::new(blank);
-        self.upcoming_counted(now, &mut steps)
-    }
-
-    fn merged_blank<L: Ledger>(&self, key: TKey, blank: Blank) -> bool
-        requires name { blank.name ≡ L.name }
-        requires parts { blank.parts ≡ L.parts }
-        requires some { 0 < L.parts }
-        ensures live { (h : List Done) → Stands self.now h → result ≡ is_merged key.0 (live h) }
-    {
-        let mut steps: Steps<L> = Steps::new(blank);
-        self.merged_counted(key, &mut steps)
     }
 }
 

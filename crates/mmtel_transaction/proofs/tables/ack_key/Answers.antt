@@ -1,4 +1,4 @@
-use Rattle.std.proofs.Common.{◌≡◌, Some, None, sym, ap, ◌∙◌, subst}
+use Rattle.std.proofs.Common.{◌≡◌, Some, None, sym, ◌∙◌, subst}
 use Rattle.std.specs.List.{position}
 use Rattle.std.specs.Box.{with_value}
 use Rattle.mmtel_timers.specs.Shelves.{Has, IsIndex, unboxed}
@@ -17,7 +17,7 @@ rearm-requires-clause-there g c =
     let f = acked_2xx c.args.step c.args.m.now in
     let items = c.args.entries.now.items in
     let es = unboxed items in
-    let at : position (is_of k) es ≡ Some c.in-Ok.place = sym (ap (λ bs. position (is_of k) (unboxed bs)) c.deref.ensures.value) ∙ c.in-Ok.ensures.found in
+    let at : position (is_of k) es ≡ Some c.in-Ok.place = c.in-Ok.ensures.found in
     let is = box_at k items c.in-Ok.place c.index_mut.result.now c.deref_mut-entry.result.now at c.index_mut.ensures.value c.deref_mut-entry.ensures.value in
     subst (λ w. Has w c.args.due.now) (sym c.waits_of-before.ensures) (waits_there k f (keeps_acked_2xx c.args.step c.args.m.now) es c.args.due.now c.requires.rises c.requires.due c.in-Ok.place at c.deref_mut-entry.result.now is)
 
@@ -27,7 +27,7 @@ returns-in-Ok-clause-entries g c =
     let f = acked_2xx c.args.step c.args.m.now in
     let items = c.args.entries.now.items in
     let es = unboxed items in
-    let at : position (is_of k) es ≡ Some c.in-Ok.place = sym (ap (λ bs. position (is_of k) (unboxed bs)) c.deref.ensures.value) ∙ c.in-Ok.ensures.found in
+    let at : position (is_of k) es ≡ Some c.in-Ok.place = c.in-Ok.ensures.found in
     let is = box_at k items c.in-Ok.place c.index_mut.result.now c.deref_mut-entry.result.now at c.index_mut.ensures.value c.deref_mut-entry.ensures.value in
     set_unboxed items c.in-Ok.place (with_value c.index_mut.result.now c.ack_2xx_entry.new.e)
     ∙ was_set k f (keeps_acked_2xx c.args.step c.args.m.now) es c.args.due.now c.requires.rises c.requires.due c.in-Ok.place at c.deref_mut-entry.result.now is c.ack_2xx_entry.new.e c.ack_2xx_entry.ensures
@@ -38,7 +38,7 @@ returns-in-Ok-clause-due g c =
     let f = acked_2xx c.args.step c.args.m.now in
     let items = c.args.entries.now.items in
     let es = unboxed items in
-    let at : position (is_of k) es ≡ Some c.in-Ok.place = sym (ap (λ bs. position (is_of k) (unboxed bs)) c.deref.ensures.value) ∙ c.in-Ok.ensures.found in
+    let at : position (is_of k) es ≡ Some c.in-Ok.place = c.in-Ok.ensures.found in
     let is = box_at k items c.in-Ok.place c.index_mut.result.now c.deref_mut-entry.result.now at c.index_mut.ensures.value c.deref_mut-entry.ensures.value in
     let x = c.ack_2xx_entry.new.e in
     let m = subst (λ w. Moves waits_cmp w (waits x) c.args.due.now c.rearm.new.due) c.waits_of-before.ensures (subst (λ w. Moves waits_cmp c.waits_of-before.result w c.args.due.now c.rearm.new.due) c.waits_of-after.ensures c.rearm.ensures.moved) in
@@ -48,7 +48,7 @@ returns-in-Ok-clause-due g c =
 pub returns-in_default-clause-entries : goal.returns-in_default-clause-entries
 returns-in_default-clause-entries g c =
     let k = c.args.key in
-    let none : position (is_of k) (unboxed c.args.entries.now.items) ≡ None = sym (ap (λ bs. position (is_of k) (unboxed bs)) c.deref.ensures.value) ∙ c.in_default.ensures.absent in
+    let none : position (is_of k) (unboxed c.args.entries.now.items) ≡ None = c.in_default.ensures.absent in
     sym (not_hit k (acked_2xx c.args.step c.args.m.now) (unboxed c.args.entries.now.items) none)
 
 pub returns-in_default-clause-due : goal.returns-in_default-clause-due

@@ -1,4 +1,4 @@
-use Rattle.std.proofs.Common.{◌≡◌, Some, None, sym, ap, ◌∙◌, subst}
+use Rattle.std.proofs.Common.{◌≡◌, Some, None, ap, ◌∙◌, subst}
 use Rattle.std.specs.List.{position}
 use Rattle.mmtel_timers.specs.Shelves.{Rises, unboxed}
 use Rattle.mmtel_transaction.specs.declared.entries.Entry.{Entry}
@@ -10,13 +10,13 @@ pub returns-in-Ok-clause-found : goal.returns-in-Ok-clause-found
 returns-in-Ok-clause-found c =
     let k = c.args.key in
     let items = c.self.inside.entries.items in
-    let at : position (is_of k) (unboxed items) ≡ Some c.in-Ok.place = sym (ap (λ bs. position (is_of k) (unboxed bs)) c.deref.ensures.value) ∙ c.in-Ok.ensures.found in
+    let at : position (is_of k) (unboxed items) ≡ Some c.in-Ok.place = c.in-Ok.ensures.found in
     found_there k (unboxed items) c.in-Ok.place c.as_ref.result.now at (box_at k items c.in-Ok.place c.index.result.now c.as_ref.result.now at c.index.ensures c.as_ref.ensures) ∙ ap (by_key k) c.self.view_is
 
 pub returns-in-Err-clause-found : goal.returns-in-Err-clause-found
 returns-in-Err-clause-found c =
     let k = c.args.key in
-    let none : position (is_of k) (unboxed c.self.inside.entries.items) ≡ None = sym (ap (λ bs. position (is_of k) (unboxed bs)) c.deref.ensures.value) ∙ c.in-Err.ensures.absent in
+    let none : position (is_of k) (unboxed c.self.inside.entries.items) ≡ None = c.in-Err.ensures.absent in
     not_there k (unboxed c.self.inside.entries.items) none ∙ ap (by_key k) c.self.view_is
 
 pub returns-in-Ok-clause-rises : goal.returns-in-Ok-clause-rises

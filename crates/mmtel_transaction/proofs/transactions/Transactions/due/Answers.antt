@@ -1,7 +1,7 @@
 use Rattle.std.proofs.Common.{refl, ap, ◌∙◌}
 use Rattle.mmtel_transaction.specs.Answers.{next_due}
 use Rattle.mmtel_transaction.proofs.Standing.{fired_done}
-use Rattle.mmtel_transaction.proofs.transactions.Transactions.due_counted.Goals as goal
+use Rattle.mmtel_transaction.proofs.transactions.Transactions.due.Goals as goal
 
 pub returns-in_ok-said-in-Some-clause-done : goal.returns-in_ok-said-in-Some-clause-done
 returns-in_ok-said-in-Some-clause-done g c h st = fired_done c.args.self.now _ h c.args.now c.in-Some.found c.in_ok-said-in-Some.said st

@@ -6,7 +6,7 @@ use Rattle.mmtel_transaction.specs.Changes.{replied}
 use Rattle.mmtel_transaction.specs.Calls.{DidReply}
 use Rattle.mmtel_transaction.specs.Table.{settle}
 use Rattle.mmtel_transaction.proofs.Standing.{stands_hit}
-use Rattle.mmtel_transaction.proofs.transactions.Transactions.reply_counted.Goals as goal
+use Rattle.mmtel_transaction.proofs.transactions.Transactions.reply.Goals as goal
 
 pub returns-clause-done : goal.returns-clause-done
 returns-clause-done g c h st =

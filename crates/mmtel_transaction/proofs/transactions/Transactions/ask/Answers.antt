@@ -6,7 +6,7 @@ use Rattle.std.specs.Prelude.{◌+◌, ◌-◌, ◌^◌, length, min}
 use Rattle.mmtel_transaction.specs.Calls.{DidAsk, opened}
 use Rattle.mmtel_transaction.specs.Answers.{tkey}
 use Rattle.mmtel_transaction.proofs.Standing.{kept_few, stands_open}
-use Rattle.mmtel_transaction.proofs.transactions.Transactions.ask_counted.Goals as goal
+use Rattle.mmtel_transaction.proofs.transactions.Transactions.ask.Goals as goal
 
 pub returns-clause-done : goal.returns-clause-done
 returns-clause-done g c h st room =

@@ -5,6 +5,7 @@ pub mod Invitations
 pub mod Invites
 pub mod Sending
 pub mod Loose
+pub mod Marks
 -- Of the laws alone:
 pub mod Heads
 

@@ -1,0 +1,75 @@
+-- By what a call or a room is found without asking each: numbers told from the branches of its INVITEs and from the server's tags of its dialogs, and its transactions. Equal
+-- ones are told by one number; others may be too, so who finds one by a mark asks it whether it is the one.
+use Rattle.std.specs.Prelude.{ℕ, ◌+◌, ◌*◌, ◌%◌, ◌^◌, ◌≡◌, ◌<◌, ◌≤◌, Bool, true, not, ◌||◌, List, [], ◌∷◌, ◌⊎◌, ⊤}
+use Rattle.std.specs.Ordering.{nat_cmp, ordering_then}
+use Rattle.std.specs.declared.cmp.Ordering.{Ordering}
+use Rattle.std.specs.BTreeSet.{contains}
+use Rattle.mmtel_desk.specs.declared.index.Index.{Index}
+use Rattle.mmtel_desk.specs.declared.marks.Key.{Key}
+use Rattle.mmtel_desk.specs.declared.marks.Mark.{Mark}
+use Rattle.mmtel_desk.specs.declared.marks.Mark.TheVariants.{Asked, Heard, Named, Sent}
+
+-- ---- a number told from bytes
+
+abbrev pub told_on : ℕ → ℕ → ℕ
+told_on sum byte = ((sum * 1099511628211) % (2 ^ 64) + byte) % (2 ^ 64)
+
+abbrev pub told_from : ℕ → List ℕ → ℕ
+told_from sum [] = sum
+told_from sum (b ∷ bs) = told_from (told_on sum b) bs
+
+abbrev pub told_of : List ℕ → ℕ
+told_of bytes = told_from 0 bytes
+
+-- ---- marks as they are kept: by kind, by number, and by the number of their owner
+
+abbrev pub key_of : Mark → (owner : ℕ) → Key
+key_of (Sent told) owner = record { kind = 0; told = told; owner = owner }
+key_of (Heard told) owner = record { kind = 1; told = told; owner = owner }
+key_of (Asked told) owner = record { kind = 2; told = told; owner = owner }
+key_of (Named told) owner = record { kind = 3; told = told; owner = owner }
+
+abbrev pub key_cmp : Key → Key → Ordering
+key_cmp x y = ordering_then (nat_cmp x.kind y.kind) (ordering_then (nat_cmp x.told y.told) (nat_cmp x.owner y.owner))
+
+-- one that is no longer whole gives none away
+unfoldable pub holds : Index → Key → Bool
+holds index key = not index.is_whole || contains key_cmp index.keys key
+
+abbrev pub Holds : Index → Key → Type 0
+Holds index key = holds index key ≡ true
+
+abbrev pub Has : {X : Type 0} → X → List X → Type 0
+Has x [] = ⊥
+Has x (y ∷ ys) = (x ≡ y) ⊎ Has x ys
+
+abbrev pub HoldsAll : Index → (owner : ℕ) → List Mark → Type 0
+HoldsAll index owner marks = (m : Mark) → Has m marks → Holds index (key_of m owner)
+
+-- these marks of the owner of this number were put in, or taken out, and those of the others stay
+pub record Written (stays : Bool) (owner : ℕ) (marks : List Mark) (before after : Index) : Type 0 where
+  pub others : (k : Key) → (k.owner ≡ owner → ⊥) → Holds before k → Holds after k
+  pub kept : stays ≡ true → (k : Key) → Holds before k → Holds after k
+  pub noted : stays ≡ true → HoldsAll after owner marks
+
+-- ---- owners, each of which has a number and marks
+
+-- each number is above the one before it, the first above low, and the last not above high
+abbrev pub Ascend : {X : Type 0} → (number : X → ℕ) → (low : ℕ) → List X → (high : ℕ) → Type 0
+Ascend number low [] high = low ≤ high
+Ascend number low (x ∷ xs) high = (low < number x) × Ascend number (number x) xs high
+
+-- each is found by each of its marks
+abbrev pub AreMarked : {X : Type 0} → (number : X → ℕ) → (marks : X → List Mark) → Index → List X → Type 0
+AreMarked number marks index [] = ⊤
+AreMarked number marks index (x ∷ xs) = HoldsAll index (number x) (marks x) × AreMarked number marks index xs
+
+-- none of these has the mark
+abbrev pub Unmarked : {X : Type 0} → (marks : X → List Mark) → Mark → List X → Type 0
+Unmarked marks mark [] = ⊤
+Unmarked marks mark (x ∷ xs) = (Has mark (marks x) → ⊥) × Unmarked marks mark xs
+
+-- all of these have lower numbers
+abbrev pub AreBelow : {X : Type 0} → (number : X → ℕ) → ℕ → List X → Type 0
+AreBelow number high [] = ⊤
+AreBelow number high (x ∷ xs) = (number x < high) × AreBelow number high xs

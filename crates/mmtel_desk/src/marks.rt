@@ -1,0 +1,70 @@
+//! By what a call or a room is found without asking each: the branches and the transactions of its INVITEs, and the server's tags of its dialogs.
+ghost use Rattle.std.specs.Prelude.{◌≡◌};
+ghost use Rattle.mmtel_desk.specs.Marks.{key_of, told_of};
+
+/// By what a call or a room is found. Of bytes a number is told, which others may have too: who finds one by a mark asks it whether it is the one.
+#[derive(Clone, Copy)]
+pub enum Mark {
+    /// The branch of an INVITE that the server sent.
+    Sent(u64),
+    /// The client transaction of an INVITE that had an answer.
+    Heard(u64),
+    /// The server transaction of an INVITE that a side sent.
+    Asked(u64),
+    /// The server's tag in a dialog.
+    Named(u64),
+}
+
+/// A mark with the number of an owner, in the order in which they are kept.
+#[derive(Clone, Copy, Debug, PartialEq, Eq, PartialOrd, Ord)]
+pub struct Key {
+    /// The kind of the mark.
+    pub kind: u64,
+    /// Its number.
+    pub told: u64,
+    /// The number of the call or of the room that has it.
+    pub owner: u64,
+}
+
+impl Key {
+    /// The mark of the owner of this number.
+    pub fn of(mark: Mark, owner: u64) -> Key
+        ensures { result ≡ key_of mark owner }
+    {
+        match mark {
+            Mark::Sent(told) => Key {
+                kind: 0,
+                told,
+                owner,
+            },
+            Mark::Heard(told) => Key {
+                kind: 1,
+                told,
+                owner,
+            },
+            Mark::Asked(told) => Key {
+                kind: 2,
+                told,
+                owner,
+            },
+            Mark::Named(told) => Key {
+                kind: 3,
+                told,
+                owner,
+            },
+        }
+    }
+}
+
+/// A number that is told from bytes: equal ones have one number.
+pub fn told(bytes: &[u8]) -> u64
+    ensures { result ≡ told_of bytes.now }
+{
+    let mut sum = 0u64;
+    for byte in bytes {
+        sum = sum
+            .wrapping_mul(1_099_511_628_211)
+            .wrapping_add(u64::from(*byte));
+    }
+    sum
+}

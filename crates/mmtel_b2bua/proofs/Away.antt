@@ -1,5 +1,5 @@
 -- A leg that was taken out of a call has no meter, and fits into the call again, which stands where it stood.
-use Rattle.std.proofs.Common.{◌≡◌, ℕ, Bool, true, List, Option, Some, None, Ok, Err, Result, length, refl, sym, ap, cond, not, ◌∙◌, ◌==◌}
+use Rattle.std.proofs.Common.{◌≡◌, ℕ, ◌+◌, Bool, true, List, Option, Some, None, Ok, Err, Result, length, refl, sym, ap, cond, not, ◌∙◌, ◌==◌}
 use Rattle.std.proofs.Math.Seq.{lt-length-set}
 use Rattle.std.proofs.lemmas.List.{length-set, get_or-set_same}
 use Rattle.std.proofs.lemmas.List.Folds.{position_or_len-set}
@@ -17,9 +17,12 @@ use Rattle.mmtel_desk.specs.declared.desks.Desk.{Desk}
 use Rattle.mmtel_charging.specs.Meters.{Noted}
 use Rattle.mmtel_leg.specs.Releases.{released_leg}
 use Rattle.mmtel_leg.specs.declared.legs.Released.{Released}
+use Rattle.mmtel_leg.specs.declared.legs.Released.TheVariants as legs
 use Rattle.mmtel_types.specs.declared.sides.Side.{Side}
 use Rattle.mmtel_types.specs.declared.sides.Side.TheVariants.{Caller, Callee}
-use Rattle.mmtel_b2bua.specs.Entries.{is_live, is_numbered}
+use Rattle.mmtel_types.specs.declared.numbers.Account.{Account}
+use Rattle.mmtel_b2bua.specs.Entries.{is_live, is_numbered, origin_in, origin_of, served_in, served_of}
+use Rattle.mmtel_b2bua.specs.Kept.{keeps_busy, often}
 use Rattle.mmtel_b2bua.specs.Lending.{entry_at, entry_of, is_away, leg_of_entry, leg_out, lent, lent_at, lent_by, place_of, put_back, released, takes_back}
 use Rattle.mmtel_b2bua.specs.declared.entries.Entry.{Entry}
 
@@ -111,6 +114,50 @@ live_lent side e = ap not (lives_lent e.call.phase side e.call refl)
 pub live_back : (away : Released) (e : Entry) → is_live (put_back away e) ≡ is_live e
 unfolding is_live
 live_back away e = ap not (lives_back e.call.phase away e.call refl)
+
+-- and whom it keeps busy
+origin_lent : (phase : Phase) (side : Side) (c : Call) → c.phase ≡ phase → origin_in (lent_in phase side c).phase (lent_in phase side c).opening.served.origin ≡ origin_in c.phase c.opening.served.origin
+origin_lent (Offered x) side c h = refl
+origin_lent (Stood x (Answered waiting success)) side c h = refl
+origin_lent (Stood x (Parting waiting success)) side c h = refl
+origin_lent (Stood x Talking) side c h = sym (ap (λ (p : Phase). origin_in p c.opening.served.origin) h)
+origin_lent (Stood x (Asking asking q)) side c h = refl
+origin_lent (Lent loan) side c h = refl
+origin_lent (Over cause) side c h = refl
+
+served_lent : (phase : Phase) (side : Side) (c : Call) → c.phase ≡ phase → served_in (lent_in phase side c).phase ≡ served_in c.phase
+served_lent (Offered x) side c h = refl
+served_lent (Stood x (Answered waiting success)) side c h = refl
+served_lent (Stood x (Parting waiting success)) side c h = refl
+served_lent (Stood x Talking) side c h = sym (ap served_in h)
+served_lent (Stood x (Asking asking q)) side c h = refl
+served_lent (Lent loan) side c h = refl
+served_lent (Over cause) side c h = refl
+
+origin_back : (phase : Phase) (leg : Released) (c : Call) → c.phase ≡ phase → origin_in (put_back_in phase leg c).phase (put_back_in phase leg c).opening.served.origin ≡ origin_in c.phase c.opening.served.origin
+origin_back (Offered x) leg c h = refl
+origin_back (Stood x stage) leg c h = refl
+origin_back (Lent loan) leg c h = sym (ap (λ (p : Phase). origin_in p c.opening.served.origin) h)
+origin_back (Over cause) leg c h = refl
+
+served_back : (phase : Phase) (leg : Released) (c : Call) → c.phase ≡ phase → served_in (put_back_in phase leg c).phase ≡ served_in c.phase
+served_back (Offered x) leg c h = refl
+served_back (Stood x stage) leg c h = refl
+served_back (Lent loan) (legs.Caller leg) c h = sym (ap served_in h)
+served_back (Lent loan) (legs.Callee leg) c h = sym (ap served_in h)
+served_back (Over cause) leg c h = refl
+
+pub busy_lent : (n : ℕ) (side : Side) (e : Entry) → keeps_busy n (lent side e) ≡ keeps_busy n e
+unfolding origin_of served_of
+busy_lent n side e =
+    ap (λ (o : Option Account). often o n + often (served_in (lent side e).call.phase) n) (origin_lent e.call.phase side e.call refl)
+    ∙ ap (λ (o : Option Account). often (origin_in e.call.phase e.call.opening.served.origin) n + often o n) (served_lent e.call.phase side e.call refl)
+
+pub busy_back : (n : ℕ) (away : Released) (e : Entry) → keeps_busy n (put_back away e) ≡ keeps_busy n e
+unfolding origin_of served_of
+busy_back n away e =
+    ap (λ (o : Option Account). often o n + often (served_in (put_back away e).call.phase) n) (origin_back e.call.phase away e.call refl)
+    ∙ ap (λ (o : Option Account). often (origin_in e.call.phase e.call.opening.served.origin) n + often o n) (served_back e.call.phase away e.call refl)
 
 -- ---- of the table
 

@@ -2,23 +2,25 @@
 use Rattle.std.proofs.Common.{◌≡◌, ℕ, zero, suc, ◌+◌, ◌<◌, ◌≤◌, ◌^◌, Bool, true, false, not, cond, List, [], ◌∷◌, ◌++◌, length, get_or, set, Option, Some, None, refl, sym, ap, ◌∙◌, subst, arith, inl, inr, OnOk, IfOk, Result, Ok, Err, take, drop}
 use Rattle.std.proofs.lemmas.Bool.Decides.{nat_tests}
 use Rattle.std.proofs.lemmas.Bool.{cases_lt}
-use Rattle.std.proofs.lemmas.List.{length-map, length-set, map-append, map-set, take_more}
+use Rattle.std.proofs.lemmas.List.{length-map, length-set, map-set}
 use Rattle.std.proofs.lemmas.List.Sums.{count_by-le-length, sum_by-append, sum_by-cons, sum_by-set}
 use Rattle.std.proofs.lemmas.Option.{get_or_from_slice_get, none-some, slice_get-map, slice_get_read, slice_get_within}
-use Rattle.std.specs.Prelude.{Box, ◌==◌, ◌-◌, count_by, flat_map, if◌then◌else◌, min, nat_lt, position, remove, slice_get}
+use Rattle.std.specs.Prelude.{Box, ◌==◌, ◌-◌, count_by, if◌then◌else◌, min, nat_lt, position, remove, slice_get, sum_by}
 use Rattle.std.specs.List.{position_or_len}
 use Rattle.std.specs.Option.{option_map}
 use Rattle.std.specs.List.Sorted.{IsNonDecreasingBy, IsPartitionPoint}
 use Rattle.mmtel_call.specs.Settled.{is_settled}
+use Rattle.mmtel_call_decisions.specs.Busy.{Counts, calls_of}
 use Rattle.mmtel_scan.specs.Numbers.{next_number}
 use Rattle.mmtel_scan.specs.declared.memory.NoMemory.{NoMemory}
 use Rattle.mmtel_b2bua.specs.Entries.{is_live, is_numbered}
-use Rattle.mmtel_b2bua.specs.Kept.{AllBelow, AreKept, Ascend, is_gone, lives_on, number_of, one_if, unboxed}
+use Rattle.mmtel_b2bua.specs.Kept.{AllBelow, AreKept, Ascend, is_gone, keeps_busy, lives_on, number_of, one_if, unboxed}
 use Rattle.mmtel_b2bua.specs.Tables.{Table, put_at}
 use Rattle.mmtel_b2bua.specs.Marks.{AreMarked, Holds, HoldsAll, Written, marks_of}
 use Rattle.mmtel_b2bua.specs.declared.entries.Entry.{Entry}
 use Rattle.mmtel_b2bua.specs.declared.index.Index.{Index}
 use Rattle.mmtel_b2bua.specs.declared.marks.Key.{Key}
+use Rattle.mmtel_b2bua.proofs.Counting.{left_counted, numbered, one_more}
 use Rattle.mmtel_b2bua.proofs.Marking.{pushed_marked, removed_marked, same_marked, set_marked}
 
 -- ---- boxes
@@ -105,10 +107,6 @@ boxes_ascend low high (b ∷ bs) a (suc i) zero d e l = absurd (omega (arith, e)
 boxes_ascend low high (b ∷ bs) a (suc i) (suc j) d e l = boxes_ascend (number_of b.value) high bs a.1 i j d (omega (arith, e)) (omega (arith, l))
 
 -- ---- the place of a number
-
-numbered : (n : ℕ) (e : Entry) → is_numbered n e ≡ (number_of e == n)
-unfolding is_numbered
-numbered n e = refl
 
 at_len : (i m : ℕ) → i < m → nat_lt i m ≡ true
 at_len i m l = grind (arith, nat_tests)
@@ -222,7 +220,7 @@ counted_removed (x ∷ es) (suc k) e y is =
 abbrev pub left : (gone : Bool) → List Entry → ℕ → Entry → List Entry
 left gone es k y = if gone then remove (set es k y) k else set es k y
 
-module _ (es : List Entry) (opened alive : ℕ) (i : Index) (k : ℕ) (e y : Entry) (are : AreKept es opened alive i) (is : slice_get es k ≡ Some e) where
+module _ (es : List Entry) (opened alive : ℕ) (i : Index) (busy : Counts) (k : ℕ) (e y : Entry) (are : AreKept es opened alive i busy) (is : slice_get es k ≡ Some e) where
   counted_left : (gone : Bool) → count_by is_live (left gone es k y) + one_if (is_live e) ≡ alive + one_if (lives_on gone y)
   counted_left true = counted_removed es k e y is ∙ (sym are.alive ∙ (let z : alive ≡ alive + 0 = omega arith in z))
   counted_left false = counted_set es k e y is ∙ ap (λ (n : ℕ). n + one_if (is_live y)) (sym are.alive)
@@ -255,13 +253,15 @@ module _ (es : List Entry) (opened alive : ℕ) (i : Index) (k : ℕ) (e y : Ent
       let f = length_left gone in
       omega (arith, h, g, f, l)
 
-  -- its marks were taken out, and put in again where it stays
-  pub left_kept : (gone : Bool) (after : ℕ) (mid j : Index) → Written false (number_of e) (marks_of e) i mid → Written (not gone) (number_of e) (marks_of y) mid j → (gone ≡ false → number_of y ≡ number_of e)
-      → after + one_if (is_live e) ≡ alive + one_if (lives_on gone y) → AreKept (left gone es k y) opened after j
-  left_kept gone after mid j out into same counted = record {
+  -- its marks and its accounts were taken out, and put in again where it stays
+  pub left_kept : (gone : Bool) (after : ℕ) (mid j : Index) (now : Counts) → Written false (number_of e) (marks_of e) i mid → Written (not gone) (number_of e) (marks_of y) mid j
+      → (gone ≡ false → number_of y ≡ number_of e) → after + one_if (is_live e) ≡ alive + one_if (lives_on gone y)
+      → ((n : ℕ) → calls_of now n + keeps_busy n e ≡ sum_by (keeps_busy n) es + (if gone then 0 else keeps_busy n y)) → AreKept (left gone es k y) opened after j now
+  left_kept gone after mid j now out into same counted again = record {
     ascend = ascends_left gone same;
     alive = let h = counted_left gone in omega (arith, h, counted);
     marked = marked_left gone same (λ stays. into.noted (ap not stays));
+    counts = λ n. left_counted n es k e y is gone (calls_of now n) (again n);
   }
     where
       pass : (q : Key) → (q.call ≡ number_of e → ⊥) → Holds i q → Holds j q
@@ -274,16 +274,26 @@ module _ (es : List Entry) (opened alive : ℕ) (i : Index) (k : ℕ) (e y : Ent
 
 -- ---- a call more
 
--- its marks are put in first
-pub noted_kept : (es : List Entry) (opened alive : ℕ) (i j : Index) (e : Entry) → AreKept es opened alive i → Written true (number_of e) (marks_of e) i j → AreKept es opened alive j
-noted_kept es opened alive i j e are into = record { ascend = are.ascend; alive = are.alive; marked = same_marked i j es (into.kept refl) are.marked }
+-- its marks are put in first, and its accounts too, where they are not taken out again
+pub noted_kept : (es : List Entry) (opened alive : ℕ) (i j : Index) (busy now : Counts) (e : Entry) → AreKept es opened alive i busy → Written true (number_of e) (marks_of e) i j
+    → ((n : ℕ) → calls_of now n ≡ calls_of busy n) → AreKept es opened alive j now
+noted_kept es opened alive i j busy now e are into same = record {
+  ascend = are.ascend;
+  alive = are.alive;
+  marked = same_marked i j es (into.kept refl) are.marked;
+  counts = λ n. same n ∙ are.counts n;
+}
 
-module _ (es : List Entry) (opened alive : ℕ) (i : Index) (e : Entry) (are : AreKept es opened alive i) (number : number_of e ≡ next_number opened) (fits : opened < 2 ^ 64) where
+-- it was not opened after all
+pub same_kept : (es : List Entry) (opened alive : ℕ) (i : Index) (busy now : Counts) → AreKept es opened alive i busy → ((n : ℕ) → calls_of now n ≡ calls_of busy n) → AreKept es opened alive i now
+same_kept es opened alive i busy now are same = record { ascend = are.ascend; alive = are.alive; marked = are.marked; counts = λ n. same n ∙ are.counts n }
+
+module _ (es : List Entry) (opened alive : ℕ) (i : Index) (busy : Counts) (e : Entry) (are : AreKept es opened alive i busy) (number : number_of e ≡ next_number opened) (fits : opened < 2 ^ 64) where
   above : opened ≤ next_number opened
   above = let h : opened ≤ min (opened + 1) (2 ^ 64 - 1) = omega (arith, fits) in h
 
-  pub added_none : AreKept es (next_number opened) alive i
-  added_none = record { ascend = raised 0 opened (next_number opened) es above are.ascend; alive = are.alive; marked = are.marked }
+  pub added_none : AreKept es (next_number opened) alive i busy
+  added_none = record { ascend = raised 0 opened (next_number opened) es above are.ascend; alive = are.alive; marked = are.marked; counts = are.counts }
 
   counted_more : count_by is_live (es ++ e ∷ []) ≡ alive + one_if (is_live e)
   counted_more =
@@ -293,13 +303,15 @@ module _ (es : List Entry) (opened alive : ℕ) (i : Index) (e : Entry) (are : A
       let z : count_by is_live [] ≡ 0 = refl in
       omega (arith, h, s, o, z)
 
-  pub added_one : (after : ℕ) (j : Index) → Written true (number_of e) (marks_of e) i j → opened < 2 ^ 64 - 1 → after ≡ alive + one_if (is_live e) → AreKept (es ++ e ∷ []) (next_number opened) after j
-  added_one after j into below counted = record {
+  pub added_one : (after : ℕ) (j : Index) (now : Counts) → Written true (number_of e) (marks_of e) i j → opened < 2 ^ 64 - 1 → after ≡ alive + one_if (is_live e)
+      → ((n : ℕ) → calls_of now n ≡ calls_of busy n + keeps_busy n e) → AreKept (es ++ e ∷ []) (next_number opened) after j now
+  added_one after j now into below counted more = record {
     ascend =
         let h : opened < min (opened + 1) (2 ^ 64 - 1) = omega (arith, below) in
         pushed_ascends 0 opened (next_number opened) es e (omega (arith, h, number)) (omega (arith, number)) are.ascend;
     alive = counted ∙ sym counted_more;
     marked = pushed_marked i j es e (into.kept refl) (into.noted refl) are.marked;
+    counts = λ n. one_more n es e (calls_of busy n) (calls_of now n) (are.counts n) (more n);
   }
 
 -- ---- the box at a place
@@ -326,6 +338,15 @@ not_gone (Err fault) P p e = absurd (let f : true ≡ false = e in cc)
 pub recount : (r alive : ℕ) (b a p q : Bool) → b ≡ p → a ≡ q → r + one_if b ≡ alive + one_if a → r + one_if p ≡ alive + one_if q
 recount r alive b a p q e f h = sym (ap (λ (x : Bool). r + one_if x) e) ∙ (h ∙ ap (λ (x : Bool). alive + one_if x) f)
 
+-- what was so of the step is so of it, counted again
+pub still_on : (P : Type 0) (heard counted : Result Bool NoMemory) → IfOk counted (λ settled. heard ≡ Ok settled) → OnOk heard P → OnOk counted P
+still_on P heard (Ok settled) e p = subst (λ (r : Result Bool NoMemory). OnOk r P) e p
+still_on P heard (Err fault) e p = tt
+
+pub still_if : (P : Bool → Type 0) (heard counted : Result Bool NoMemory) → IfOk counted (λ settled. heard ≡ Ok settled) → IfOk heard P → IfOk counted P
+still_if P heard (Ok settled) e p = subst (λ (r : Result Bool NoMemory). IfOk r P) e p
+still_if P heard (Err fault) e p = tt
+
 -- a call leaves where it is settled
 pub left_put : (heard : Result Bool NoMemory) (gone : Bool) → gone ≡ is_gone heard → (es : List Entry) (k : ℕ) (y z : Entry) → OnOk heard (y ≡ z) → IfOk heard (λ settled. settled ≡ is_settled z.call)
     → OnOk heard (left gone es k y ≡ put_at k z es)
@@ -349,12 +370,3 @@ in_ok h x m y P e f p = subst (λ (r : Result _ _). OnOk r P) (sym f) (subst (λ
 
 pub in_err : {Y E : Type 0} (m : Result Y E) (e : E) (P : Type 0) → m ≡ Err e → OnOk m P
 in_err m e P f = subst (λ (r : Result _ _). OnOk r P) (sym f) tt
-
--- ---- over all boxes
-
-pub flat_boxes : {A Y : Type 0} (f : Entry → List Y) (bs : List (Box Entry A)) → flat_map (λ (b : Box Entry A). f b.value) bs ≡ flat_map f (unboxed bs)
-flat_boxes f [] = refl
-flat_boxes f (b ∷ bs) = ap (λ l. f b.value ++ l) (flat_boxes f bs)
-
-pub unboxed_more : {A : Type 0} (bs : List (Box Entry A)) (i : ℕ) (d : Box Entry A) → i < length bs → unboxed (take (i + 1) bs) ≡ unboxed (take i bs) ++ (get_or bs i d).value ∷ []
-unboxed_more bs i d l = ap unboxed (take_more bs i d l) ∙ map-append (λ (b : Box Entry _). b.value) (take i bs) (get_or bs i d ∷ [])

@@ -1,17 +1,12 @@
--- The table of calls as it is kept: each call in a box of its own, their numbers ascending, and those that live counted.
-use Rattle.std.specs.Prelude.{ℕ, ◌≡◌, ◌<◌, ◌≤◌, ◌&&◌, not, Bool, true, if◌then◌else◌, Option, Some, None, Result, Ok, Err, List, [], ◌∷◌, Box, count_by, map}
+-- The table of calls as it is kept: each call in a box of its own, their numbers ascending, those that live counted, and of each account the calls that keep it busy.
+use Rattle.std.specs.Prelude.{ℕ, ◌≡◌, ◌<◌, ◌≤◌, ◌+◌, ◌&&◌, not, Bool, true, if◌then◌else◌, Option, Some, None, Result, Ok, Err, List, [], ◌∷◌, Box, count_by, map, sum_by}
 use Rattle.std.specs.List.{AllByRecursion}
 use Rattle.mmtel_scan.specs.declared.memory.NoMemory.{NoMemory}
-use Rattle.mmtel_call.specs.declared.signals.Signal as calls
-use Rattle.mmtel_call_decisions.specs.Site.{Site}
-use Rattle.mmtel_desk.specs.declared.desks.Desk.{Desk}
-use Rattle.mmtel_sheet_values.specs.View.{InForce}
 use Rattle.mmtel_types.specs.declared.numbers.Account.{Account}
-use Rattle.mmtel_b2bua.specs.Entries.{is_live}
+use Rattle.mmtel_call_decisions.specs.Busy.{Counts, calls_of, one_of}
+use Rattle.mmtel_b2bua.specs.Entries.{is_live, origin_of, served_of}
 use Rattle.mmtel_b2bua.specs.Marks.{AreMarked}
-use Rattle.mmtel_b2bua.specs.Tables.{Moved, moved_by, step_of, unmoved}
 use Rattle.mmtel_b2bua.specs.declared.entries.Entry.{Entry}
-use Rattle.mmtel_b2bua.specs.declared.entries.InviteKey.{InviteKey}
 use Rattle.mmtel_b2bua.specs.declared.index.Index.{Index}
 
 abbrev pub unboxed : {X A : Type 0} → List (Box X A) → List X
@@ -25,11 +20,21 @@ abbrev pub Ascend : (low : ℕ) → List Entry → (high : ℕ) → Type 0
 Ascend low [] high = low ≤ high
 Ascend low (e ∷ es) high = (low < number_of e) × Ascend (number_of e) es high
 
--- so many live, the last that was opened had this number, and each is found by its marks
-pub record AreKept (es : List Entry) (opened living : ℕ) (index : Index) : Type 0 where
+-- how often the account of this number is kept busy, where this account is
+abbrev pub often : Option Account → ℕ → ℕ
+often None number = 0
+often (Some account) number = one_of account number
+
+-- the same of the accounts of a call
+abbrev pub keeps_busy : ℕ → Entry → ℕ
+keeps_busy number e = often (origin_of e) number + often (served_of e) number
+
+-- so many live, the last that was opened had this number, each is found by its marks, and so many keep each account busy
+pub record AreKept (es : List Entry) (opened living : ℕ) (index : Index) (busy : Counts) : Type 0 where
   pub ascend : Ascend 0 es opened
   pub alive : living ≡ count_by is_live es
   pub marked : AreMarked index es
+  pub counts : (number : ℕ) → calls_of busy number ≡ sum_by (keeps_busy number) es
 
 -- all of these have lower numbers
 abbrev pub AllBelow : ℕ → List Entry → Type 0
@@ -49,8 +54,3 @@ lives_on gone e = not gone && is_live e
 abbrev pub is_gone : Result Bool NoMemory → Bool
 is_gone (Ok settled) = settled
 is_gone (Err fault) = true
-
--- the call at this place takes a step, as others keep accounts busy, and has these INVITEs more
-abbrev pub heard_at : Site → (at : ℕ) → InForce → (busy : List Account) → calls.Signal → (invites : List InviteKey) → (place : ℕ) → Option Entry → List Entry → Desk → Moved
-heard_at site at view busy heard invites place None es desk = unmoved es desk
-heard_at site at view busy heard invites place (Some e) es desk = moved_by place invites e (step_of site at view busy heard desk e) es

@@ -1,20 +1,16 @@
 //! Whom the calls keep busy.
-ghost use Rattle.std.specs.Prelude.{◌≡◌, ◌≤◌, ◌++◌, IfOk, OnOk, count_by, option_to_list};
+ghost use Rattle.std.specs.Prelude.{◌≡◌, ◌+◌, ◌-◌, ℕ, IfOk, OnErr, OnOk, Ok, if◌then◌else◌};
 ghost use Rattle.std.specs.Option.{option_copied, option_map};
-ghost use Rattle.mmtel_call_decisions.specs.Site.{is_account};
+ghost use Rattle.mmtel_call_decisions.specs.Busy.{calls_of};
 ghost use Rattle.mmtel_call.specs.Closing.{account_in};
-ghost use Rattle.mmtel_b2bua.specs.Entries.{accounts_of, beside, busy_beside, origin_of, served_of};
-ghost use Rattle.mmtel_b2bua.specs.Kept.{unboxed};
-ghost use Rattle.mmtel_b2bua.specs.Names.{live};
-ghost use Rattle.mmtel_b2bua.specs.Tables.{busy_with};
+ghost use Rattle.mmtel_b2bua.specs.Entries.{origin_of, served_of};
+ghost use Rattle.mmtel_b2bua.specs.Kept.{is_gone, keeps_busy, often};
 
 use crate::entries::Entry;
 use mmtel_call::Phase;
-use mmtel_call_decisions::{Arrival, Service};
-use mmtel_desk::file;
-use mmtel_scan::{List, NoMemory};
-use mmtel_types::{Account, CallNo};
-use std::alloc::Global;
+use mmtel_call_decisions::{Busy, Service};
+use mmtel_scan::NoMemory;
+use mmtel_types::Account;
 
 /// The account that is served, where one is.
 pub fn account_of(service: Option<&Service>) -> Option<Account>
@@ -26,28 +22,52 @@ pub fn account_of(service: Option<&Service>) -> Option<Account>
     }
 }
 
-/// Adds an account to others, where there is one.
-fn add(
-    alloc: Global,
-    accounts: &mut List<Account>,
-    account: Option<Account>,
-) -> Result<(), NoMemory>
-    ensures { OnOk result (accounts.new ≡ accounts.old ++ option_to_list account) }
+/// One call more keeps this account busy, where there is one.
+pub fn add(busy: &mut Busy, account: Option<Account>) -> Result<(), NoMemory>
+    ensures more { OnOk result ((number : ℕ) → calls_of busy.new number ≡ calls_of busy.old number + often account number) }
+    ensures same { OnErr result (busy.new ≡ busy.old) }
 {
     match account {
         None => Ok(()),
-        Some(account) => file(alloc, accounts, account),
+        Some(account) => busy.add(account),
     }
 }
 
-/// One where it is the account that is looked for, and else none.
-fn counted(account: Option<Account>, wanted: Account) -> u32
-    ensures count { result ≡ count_by (is_account wanted.0) (option_to_list account) }
-    ensures few { result ≤ 1 }
+/// One call less keeps it busy.
+pub fn take(busy: &mut Busy, account: Option<Account>)
+    ensures { (number : ℕ) → calls_of busy.new number ≡ calls_of busy.old number - often account number }
 {
     match account {
-        None => 0,
-        Some(account) => { if account.0 == wanted.0 { 1 } else { 0 } }
+        None => {}
+        Some(account) => busy.take(account),
+    }
+}
+
+/// Whether a call leaves after its step.
+pub fn is_gone(heard: &Result<bool, NoMemory>) -> bool
+    ensures { result ≡ is_gone heard.now }
+{
+    match heard {
+        Ok(settled) => *settled,
+        Err(_) => true,
+    }
+}
+
+/// A call that stays after its step is counted again with the accounts that it keeps busy then. Where memory is short for that, it does not stay.
+pub fn count_again(
+    busy: &mut Busy,
+    entry: &Entry,
+    heard: Result<bool, NoMemory>,
+) -> Result<bool, NoMemory>
+    ensures counted { (number : ℕ) → calls_of busy.new number ≡ calls_of busy.old number + (if is_gone result then 0 else keeps_busy number entry.now) }
+    ensures heard { IfOk result (λ settled. heard ≡ Ok settled) }
+{
+    if is_gone(&heard) {
+        return heard;
+    }
+    match entry.add_to(busy) {
+        Ok(()) => heard,
+        Err(error) => Err(error),
     }
 }
 
@@ -78,101 +98,27 @@ impl Entry {
         }
     }
 
-    /// Adds the accounts that the call keeps busy, as a step of the call of this number sees them.
-    #[tactic(auto, unfolding(crate::specs::Entries::beside, crate::specs::Entries::accounts_of))]
-    fn add_beside(
-        &self,
-        alloc: Global,
-        number: CallNo,
-        accounts: &mut List<Account>,
-    ) -> Result<(), NoMemory>
-        ensures { OnOk result (accounts.new ≡ accounts.old ++ beside number.0 self.now) }
+    /// The call keeps its accounts busy from now on.
+    pub fn add_to(&self, busy: &mut Busy) -> Result<(), NoMemory>
+        ensures more { OnOk result ((number : ℕ) → calls_of busy.new number ≡ calls_of busy.old number + keeps_busy number self.now) }
+        ensures same { OnErr result ((number : ℕ) → calls_of busy.new number ≡ calls_of busy.old number) }
     {
-        add(alloc, accounts, self.origin())?;
-        if self.is_numbered(number) {
-            return Ok(());
-        }
-        add(alloc, accounts, self.served())
-    }
-
-    /// How often the call keeps the account busy.
-    #[tactic(auto, unfolding(crate::specs::Entries::accounts_of))]
-    fn count(&self, account: Account) -> u32
-        ensures count { result ≡ count_by (is_account account.0) (accounts_of self.now) }
-        ensures few { result ≤ 2 }
-    {
-        counted(self.origin(), account) + counted(self.served(), account)
-    }
-}
-
-/// The accounts that these calls keep busy, as a step of the call of this number sees them.
-#[tactic(auto, using(crate::proofs::Keeping::flat_boxes))]
-pub fn busy_beside(
-    alloc: Global,
-    number: CallNo,
-    entries: &[Box<Entry>],
-) -> Result<List<Account>, NoMemory>
-    ensures { IfOk result (λ accounts. accounts ≡ busy_beside number.0 (unboxed entries.now)) }
-{
-    let mut accounts = List::new();
-    for entry in entries {
-        match entry.add_beside(alloc, number, &mut accounts) {
-            Ok(()) => {}
+        let origin = self.origin();
+        add(busy, origin)?;
+        match add(busy, self.served()) {
+            Ok(()) => Ok(()),
             Err(error) => {
-                drop(accounts);
-                return Err(error);
+                take(busy, origin);
+                Err(error)
             }
         }
     }
-    Ok(accounts)
-}
 
-/// Adds the accounts that this INVITE, where it opens a call, and these calls keep busy.
-fn add_with(
-    alloc: Global,
-    arrival: &Arrival,
-    entries: &[Box<Entry>],
-    accounts: &mut List<Account>,
-) -> Result<(), NoMemory>
-    ensures { OnOk result (accounts.new ≡ (accounts.old ++ option_to_list arrival.now.served.origin) ++ busy_beside arrival.now.number.0 (unboxed entries.now)) }
-{
-    add(alloc, accounts, arrival.served.origin)?;
-    let others = busy_beside(alloc, arrival.number, entries)?;
-    match accounts.extend(alloc, others) {
-        Ok(()) => Ok(()),
-        Err((others, error)) => {
-            drop(others);
-            Err(error)
-        }
+    /// It keeps them busy no more.
+    pub fn take_from(&self, busy: &mut Busy)
+        ensures { (number : ℕ) → calls_of busy.new number ≡ calls_of busy.old number - keeps_busy number self.now }
+    {
+        take(busy, self.origin());
+        take(busy, self.served());
     }
-}
-
-/// The same where this INVITE opens a call.
-pub fn busy_with(
-    alloc: Global,
-    arrival: &Arrival,
-    entries: &[Box<Entry>],
-) -> Result<List<Account>, NoMemory>
-    ensures { IfOk result (λ accounts. accounts ≡ busy_with arrival.now (unboxed entries.now)) }
-{
-    let mut accounts = List::new();
-    match add_with(alloc, arrival, entries, &mut accounts) {
-        Ok(()) => Ok(accounts),
-        Err(error) => {
-            drop(accounts);
-            Err(error)
-        }
-    }
-}
-
-/// How many of the calls keep the account busy, in 32 bits.
-#[tactic(auto, using(crate::proofs::Counting::live_more, crate::proofs::Keeping::unboxed_more))]
-pub fn live_among(entries: &[Box<Entry>], account: Account) -> u32
-    ensures { result ≡ live account.0 (unboxed entries.now) }
-{
-    let mut total = 0u32;
-    for entry in entries {
-        total = total.saturating_add(entry.count(account));
-    }
-    total
 }

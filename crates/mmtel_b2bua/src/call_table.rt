@@ -1,5 +1,5 @@
-//! The table of calls as it is kept: each call in a box of its own, so that little moves when one leaves; in the order of their numbers; those that live are counted; each is
-//! found by its marks.
+//! The table of calls as it is kept: each call in a box of its own, so that little moves when one leaves; in the order of their numbers; those that live are counted, and of
+//! each account the calls that keep it busy; each is found by its marks.
 ghost use Rattle.std.specs.Prelude.{◌≡◌, ◌<◌, ◌≤◌, ◌+◌, ◌^◌, ◌++◌, true, None, IfOk, OnOk, MatchResult, Some, if◌then◌else◌};
 ghost use Rattle.std.specs.Prelude.{count_by, drop, length, nat_le, option_to_list, remove, slice_get, take, ℕ};
 ghost use Rattle.std.specs.Option.{option_copied, option_map};
@@ -7,22 +7,26 @@ ghost use Rattle.std.specs.List.Sorted.{IsNonDecreasingBy};
 ghost use Rattle.mmtel_leg.specs.Releases.{released_leg};
 ghost use Rattle.mmtel_scan.specs.Numbers.{next_number};
 ghost use Rattle.mmtel_b2bua.specs.Entries.{is_live, kept};
-ghost use Rattle.mmtel_b2bua.specs.Kept.{AllBelow, heard_at, is_gone, lives_on, number_of, one_if, unboxed};
+ghost use Rattle.mmtel_b2bua.specs.Kept.{AllBelow, lives_on, number_of, one_if, unboxed};
 ghost use Rattle.mmtel_b2bua.specs.Lending.{ended_at, is_away, leg_of_entry, lent_at, place_of, put_back_at, takes_back};
 ghost use Rattle.mmtel_b2bua.specs.Marks.{Unmarked};
-ghost use Rattle.mmtel_b2bua.specs.Tables.{most_calls, no_calls};
+ghost use Rattle.mmtel_b2bua.specs.Names.{live};
+ghost use Rattle.mmtel_b2bua.specs.Tables.{busy_with, most_calls, moved_at, no_calls, open_of};
 
+use crate::busy::{add, count_again, is_gone, take};
 use crate::entries::{Entry, InviteKey};
 use crate::index::Index;
 use crate::marks::Mark;
-use mmtel_call::{NotTalking, Signal as CallSignal};
-use mmtel_call_decisions::{Present, Setting};
+use mmtel_call::{Call, NotTalking, Signal as CallSignal};
+use mmtel_call_decisions::{Arrival, Busy, Present, Setting};
+use mmtel_call_laws::calls_go_on;
 use mmtel_charging::Row;
 use mmtel_decisions::drop_first;
 use mmtel_desk::Desk;
 use mmtel_leg::Released;
 use mmtel_scan::{List, NoMemory};
-use mmtel_types::{CallNo, Moment, Side};
+use mmtel_sheet_values::SheetView;
+use mmtel_types::{Account, CallNo, Moment, Side};
 use std::alloc::Global;
 use std::marker::Model;
 
@@ -35,6 +39,7 @@ pub struct CallTable {
     opened: u64,
     alive: usize,
     index: Index,
+    busy: Busy,
     rows: List<Row>,
 }
 
@@ -47,7 +52,7 @@ impl Model for CallTable {
 
     ghost view = { λ t. record { entries = unboxed t.entries.items; opened = t.opened; rows = t.rows } };
 
-    ghost invariant = { λ t. AreKept (unboxed t.entries.items) t.opened t.alive t.index };
+    ghost invariant = { λ t. AreKept (unboxed t.entries.items) t.opened t.alive t.index t.busy };
 }
 
 /// So many calls live, where one of them did or did not before, and does or does not now.
@@ -134,16 +139,6 @@ fn after(from: usize, places: usize, count: usize) -> Option<usize>
     if place < count { Some(place) } else { None }
 }
 
-/// Whether a call leaves after its step.
-fn is_gone(heard: &Result<bool, NoMemory>) -> bool
-    ensures { result ≡ is_gone heard.now }
-{
-    match heard {
-        Ok(settled) => *settled,
-        Err(_) => true,
-    }
-}
-
 /// The call at this place stays or leaves. Whether it stays, and lives.
 fn keep_at(entries: &mut Vec<Box<Entry>>, place: usize, gone: bool, at: Moment) -> bool
     requires { place < length entries.old.items }
@@ -167,15 +162,9 @@ impl CallTable {
             opened: 0,
             alive: 0,
             index: Index::new(alloc),
+            busy: Busy::new(alloc),
             rows: List::new(),
         }
-    }
-
-    /// The calls, in the order in which they were opened.
-    pub fn entries(&self) -> &[Box<Entry>]
-        ensures { unboxed result.now ≡ self.now.entries }
-    {
-        &self.entries
     }
 
     /// The number of the call that is opened next.
@@ -190,6 +179,13 @@ impl CallTable {
         ensures { result ≡ nat_le most_calls (count_by is_live self.now.entries) }
     {
         self.alive >= MOST_CALLS
+    }
+
+    /// How many of the calls keep the account busy, in 32 bits.
+    pub fn live(&self, account: Account) -> u32
+        ensures { result ≡ live account.0 self.now.entries }
+    {
+        self.busy.live(account)
     }
 
     /// The place of the call of this number.
@@ -262,6 +258,13 @@ impl CallTable {
         let is_live = entry.is_live();
         self.index.put_call(&entry, CallNo(number), true);
         let boxed = boxed(alloc, entry, at)?;
+        match boxed.add_to(&mut self.busy) {
+            Ok(()) => {}
+            Err(error) => {
+                give_up_entry(Box::into_inner(boxed), at);
+                return Err(error);
+            }
+        }
         match self.entries.push(boxed) {
             Ok(()) => {
                 self.opened = number;
@@ -269,8 +272,53 @@ impl CallTable {
                 Ok(())
             }
             Err(refused) => {
+                refused.value.take_from(&mut self.busy);
                 give_up_entry(Box::into_inner(refused.value), at);
                 Err(NoMemory)
+            }
+        }
+    }
+
+    /// The call that an INVITE opens beside these.
+    ///
+    /// # Errors
+    ///
+    /// Want of memory alone, also for its number: 2^64 - 1 are opened in all.
+    pub fn open(
+        &mut self,
+        alloc: Global,
+        setting: &Setting<'_>,
+        sheets: &SheetView,
+        at: Moment,
+        arrival: Arrival,
+        desk: &mut Desk,
+    ) -> Result<Call, NoMemory>
+        requires { arrival.number.0 ≡ next_number self.old.opened }
+        ensures call { IfOk result (λ call. call ≡ (open_of setting.now at sheets.now (busy_with arrival self.old.entries) arrival desk.old).call) }
+        ensures desk { OnOk result (desk.new ≡ (open_of setting.now at sheets.now (busy_with arrival self.old.entries) arrival desk.old).desk) }
+        ensures number { IfOk result (λ call. call.opening.number ≡ arrival.number) }
+        ensures same { self.new ≡ self.old }
+    {
+        calls_go_on();
+        if self.opened == u64::MAX {
+            drop(arrival);
+            return Err(NoMemory);
+        }
+        let origin = arrival.served.origin;
+        match add(&mut self.busy, origin) {
+            Ok(()) => {
+                let present = Present {
+                    at,
+                    sheets,
+                    busy: &self.busy,
+                };
+                let call = Call::open(alloc, setting, &present, arrival, desk);
+                take(&mut self.busy, origin);
+                call
+            }
+            Err(error) => {
+                drop(arrival);
+                Err(error)
             }
         }
     }
@@ -284,7 +332,8 @@ impl CallTable {
         &mut self,
         alloc: Global,
         setting: &Setting<'_>,
-        present: &Present<'_>,
+        sheets: &SheetView,
+        at: Moment,
         place: usize,
         signal: CallSignal,
         invite: Option<InviteKey>,
@@ -292,22 +341,31 @@ impl CallTable {
     ) -> Result<(), NoMemory>
         requires { place < length self.old.entries }
         ensures table { OnOk result (self.new ≡ record self.old {
-          entries = (heard_at setting.now present.now.at present.now.sheets.now present.now.busy.now
-              signal (option_to_list invite) place (slice_get self.old.entries place) self.old.entries desk.old).entries;
+          entries =
+              (moved_at setting.now at sheets.now signal (option_to_list invite) place (slice_get self.old.entries place) self.old.entries desk.old).entries;
         }) }
-        ensures desk { OnOk result (desk.new ≡ (heard_at setting.now present.now.at present.now.sheets.now present.now.busy.now
-            signal (option_to_list invite) place (slice_get self.old.entries place) self.old.entries desk.old).desk) }
+        ensures desk { OnOk result (desk.new
+            ≡ (moved_at setting.now at sheets.now signal (option_to_list invite) place (slice_get self.old.entries place) self.old.entries desk.old).desk) }
     {
         let entry = &mut *self.entries[place];
         let before = entry.is_live();
         let number = entry.call.opening.number;
+        let origin = entry.origin();
         self.index.put_call(entry, number, false);
-        let heard = entry.hear(alloc, setting, present, signal, invite, desk);
-        let gone = is_gone(&heard);
+        take(&mut self.busy, entry.served());
+        let present = Present {
+            at,
+            sheets,
+            busy: &self.busy,
+        };
+        let heard = entry.hear(alloc, setting, &present, signal, invite, desk);
+        let counted = count_again(&mut self.busy, entry, heard);
+        take(&mut self.busy, origin);
+        let gone = is_gone(&counted);
         self.index.put_call(entry, number, !gone);
-        let after = keep_at(&mut self.entries, place, gone, present.at);
+        let after = keep_at(&mut self.entries, place, gone, at);
         self.alive = recounted(self.alive, before, after);
-        match heard {
+        match counted {
             Ok(_) => Ok(()),
             Err(error) => Err(error),
         }
@@ -335,12 +393,14 @@ impl CallTable {
         let before = entry.is_live();
         let number = entry.call.opening.number;
         self.index.put_call(entry, number, false);
+        entry.take_from(&mut self.busy);
         let finished = entry.finish(alloc, setting, at, desk);
-        let left = is_gone(&finished);
+        let counted = count_again(&mut self.busy, entry, finished);
+        let left = is_gone(&counted);
         self.index.put_call(entry, number, !left);
         let after = keep_at(&mut self.entries, place, left, at);
         self.alive = recounted(self.alive, before, after);
-        match finished {
+        match counted {
             Ok(_) => Ok(()),
             Err(error) => Err(error),
         }
@@ -410,9 +470,11 @@ impl CallTable {
             opened: _,
             alive: _,
             index,
+            busy,
             rows,
         } = self;
         drop(index);
+        drop(busy);
         drop(rows);
         give_up_all(entries);
     }

@@ -3,13 +3,14 @@ ghost use Rattle.std.specs.Prelude.{◌≡◌, ◌<◌, ◌++◌, ◌∷◌, [],
 ghost use Rattle.std.specs.Option.{option_copied};
 ghost use Rattle.mmtel_desk.specs.Invites.{invite_answered, invite_silent};
 ghost use Rattle.mmtel_call.specs.Settled.{is_settled};
+ghost use Rattle.mmtel_call.specs.Table.{step};
+ghost use Rattle.mmtel_call_decisions.specs.Site.{standing};
 ghost use Rattle.mmtel_types.specs.declared.sides.Side.TheVariants.{Caller};
 ghost use Rattle.mmtel_b2bua.specs.Entries.{heard_by, is_numbered, kept, sent_it};
-ghost use Rattle.mmtel_b2bua.specs.Kept.{number_of, unboxed};
-ghost use Rattle.mmtel_b2bua.specs.Tables.{arrived, busy_with, entry_after, heard, invites_by, moved_at, moved_in, open_of, opened_after, step_of, taken};
+ghost use Rattle.mmtel_b2bua.specs.Kept.{number_of};
+ghost use Rattle.mmtel_b2bua.specs.Tables.{arrived, entry_after, heard, invites_by, moved_in, opened_after, taken};
 ghost use Rattle.mmtel_scan.specs.Numbers.{next_number};
 
-use crate::busy::{busy_beside, busy_with};
 use crate::call_table::CallTable;
 use crate::entries::{Entry, InviteKey};
 use crate::marks::{Mark, told};
@@ -17,7 +18,7 @@ use crate::signals::Signal;
 use mmtel_answers::Hearing;
 use mmtel_call::{Call, Signal as CallSignal};
 use mmtel_call_decisions::{Arrival, Present, Setting};
-use mmtel_call_laws::{alike_calls_go_on_alike, calls_go_on};
+use mmtel_call_laws::alike_calls_go_on_alike;
 use mmtel_desk::{Desk, file, invite_answered, invite_silent};
 use mmtel_message::is_method;
 use mmtel_scan::{List, NoMemory, Text};
@@ -38,7 +39,6 @@ impl Entry {
     }
 
     /// The call takes a step, and has this INVITE more. Tells whether nothing may be heard of it any more.
-    #[tactic(auto, unfolding(crate::specs::Tables::step_of))]
     pub fn hear(
         &mut self,
         alloc: Global,
@@ -48,11 +48,9 @@ impl Entry {
         invite: Option<InviteKey>,
         desk: &mut Desk,
     ) -> Result<bool, NoMemory>
-        ensures entry { OnOk result (self.new
-            ≡ entry_after (option_to_list invite) (step_of setting.now present.now.at present.now.sheets.now present.now.busy.now signal desk.old self.old) self.old) }
-        ensures desk { OnOk result (desk.new ≡ (step_of setting.now present.now.at present.now.sheets.now present.now.busy.now signal desk.old self.old).desk) }
-        ensures settled { IfOk result (λ settled. settled
-            ≡ is_settled (step_of setting.now present.now.at present.now.sheets.now present.now.busy.now signal desk.old self.old).call) }
+        ensures entry { OnOk result (self.new ≡ entry_after (option_to_list invite) (step setting.now (standing present.now) signal self.old.call desk.old) self.old) }
+        ensures desk { OnOk result (desk.new ≡ (step setting.now (standing present.now) signal self.old.call desk.old).desk) }
+        ensures settled { IfOk result (λ settled. settled ≡ is_settled (step setting.now (standing present.now) signal self.old.call desk.old).call) }
         ensures number { OnOk result (number_of self.new ≡ number_of self.old) }
     {
         alike_calls_go_on_alike();
@@ -60,44 +58,6 @@ impl Entry {
         self.add_invite(alloc, invite)?;
         Ok(self.call.is_settled())
     }
-}
-
-/// The call at this place takes its step, and has this INVITE more.
-fn step_at(
-    table: &mut CallTable,
-    alloc: Global,
-    setting: &Setting<'_>,
-    sheets: &SheetView,
-    at: Moment,
-    place: usize,
-    signal: CallSignal,
-    invite: Option<InviteKey>,
-    desk: &mut Desk,
-) -> Result<(), NoMemory>
-    requires { place < length table.old.entries }
-    ensures table { OnOk result (table.new ≡ record table.old {
-      entries =
-          (moved_at setting.now at sheets.now signal (option_to_list invite) place (slice_get table.old.entries place) table.old.entries desk.old).entries;
-    }) }
-    ensures desk { OnOk result (desk.new
-        ≡ (moved_at setting.now at sheets.now signal (option_to_list invite) place (slice_get table.old.entries place) table.old.entries desk.old).desk) }
-{
-    let number = table.entries()[place].call.opening.number;
-    let busy = match busy_beside(alloc, number, table.entries()) {
-        Ok(busy) => busy,
-        Err(error) => {
-            drop(signal);
-            return Err(error);
-        }
-    };
-    let present = Present {
-        at,
-        sheets,
-        busy: busy.items(),
-    };
-    let heard = table.hear_at(alloc, setting, &present, place, signal, invite, desk);
-    drop(busy);
-    heard
 }
 
 /// The call at a place takes its step, if there is one.
@@ -124,11 +84,7 @@ fn hear(
             drop(signal);
             Ok(())
         }
-        Some(place) => {
-            step_at(
-                table, alloc, setting, sheets, at, place, signal, invite, desk,
-            )
-        }
+        Some(place) => { table.hear_at(alloc, setting, sheets, at, place, signal, invite, desk) }
     }
 }
 
@@ -156,39 +112,6 @@ fn hear_numbered(
     )
 }
 
-/// The call that an INVITE opens beside these.
-#[tactic(auto, unfolding(crate::specs::Tables::open_of))]
-fn opened(
-    entries: &[Box<Entry>],
-    alloc: Global,
-    setting: &Setting<'_>,
-    sheets: &SheetView,
-    at: Moment,
-    arrival: Arrival,
-    desk: &mut Desk,
-) -> Result<Call, NoMemory>
-    ensures call { IfOk result (λ call. call ≡ (open_of setting.now at sheets.now (busy_with arrival (unboxed entries.now)) arrival desk.old).call) }
-    ensures desk { OnOk result (desk.new ≡ (open_of setting.now at sheets.now (busy_with arrival (unboxed entries.now)) arrival desk.old).desk) }
-    ensures number { IfOk result (λ call. call.opening.number ≡ arrival.number) }
-{
-    calls_go_on();
-    let busy = match busy_with(alloc, &arrival, entries) {
-        Ok(busy) => busy,
-        Err(error) => {
-            drop(arrival);
-            return Err(error);
-        }
-    };
-    let present = Present {
-        at,
-        sheets,
-        busy: busy.items(),
-    };
-    let call = Call::open(alloc, setting, &present, arrival, desk);
-    drop(busy);
-    call
-}
-
 /// An INVITE opens a call.
 fn open(
     table: &mut CallTable,
@@ -207,7 +130,7 @@ fn open(
     ensures desk { OnOk result (desk.new ≡ (arrived setting.now at sheets.now arrival table.old.entries desk.old).desk) }
 {
     let key = arrival.key;
-    let call = opened(table.entries(), alloc, setting, sheets, at, arrival, desk)?;
+    let call = table.open(alloc, setting, sheets, at, arrival, desk)?;
     keep_call(table, alloc, call, key, at)
 }
 

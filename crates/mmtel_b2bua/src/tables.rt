@@ -15,7 +15,6 @@ ghost use Rattle.mmtel_trust.specs.Peers.{Peers};
 ghost use Rattle.mmtel_trust.specs.declared.accounts.AccountIdentity.{AccountIdentity};
 
 use crate::asked::{self, DialogName};
-use crate::busy::live_among;
 use crate::call_table::CallTable;
 use crate::lending;
 use crate::moves::{place_heard, place_sent, take};
@@ -217,7 +216,7 @@ impl Calls {
         ensures { (peers : Peers) (accounts : List AccountIdentity) (deeds : List Deed) → Stands peers accounts self.now deeds →
             result ≡ live account.0 (table_after (site_of self.now peers accounts) deeds).entries }
     {
-        live_among(self.table.entries(), account)
+        self.table.live(account)
     }
 
     /// Whether as many calls live as may, so that an INVITE opens none and is handed back.

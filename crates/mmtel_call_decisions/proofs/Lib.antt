@@ -1,1 +1,2 @@
 mod Barrings
+mod Counting

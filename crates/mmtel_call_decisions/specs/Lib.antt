@@ -1,4 +1,5 @@
 -- What public clauses cite: what a decision is given, what is known of a call, and what is decided of it.
+pub mod Busy
 pub mod Diverted
 pub mod Site
 pub mod Decisions

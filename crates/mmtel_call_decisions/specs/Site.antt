@@ -7,6 +7,7 @@ use Rattle.mmtel_trust.specs.declared.accounts.AccountIdentity.{AccountIdentity}
 use Rattle.mmtel_types.specs.declared.addrs.Addr.{Addr}
 use Rattle.mmtel_types.specs.declared.numbers.Account.{Account}
 use Rattle.mmtel_types.specs.declared.numbers.Peer.{Peer}
+use Rattle.mmtel_call_decisions.specs.Busy.{live_of}
 use Rattle.mmtel_call_decisions.specs.declared.settings.Present.{Present}
 
 pub record Site : Type 0 where
@@ -30,4 +31,4 @@ calls_among busy number = min (count_by (is_account number) busy) (2 ^ 32 - 1)
 
 -- how things stand
 abbrev pub standing : Present → Standing
-standing present = record { at = present.at; sheets = sheet_in present.sheets.now; ends = end_in present.sheets.now; live = calls_among present.busy.now }
+standing present = record { at = present.at; sheets = sheet_in present.sheets.now; ends = end_in present.sheets.now; live = live_of present.busy.now }

@@ -10,7 +10,7 @@ ghost use Rattle.mmtel_trust.specs.Asserted.{or_no_uri, uri_in};
 ghost use Rattle.mmtel_trust.specs.Mask.{redirects};
 ghost use Rattle.mmtel_call_decisions.specs.Decisions.{account_by, account_for, aim_at, circumstances, decided_at, is_barred, its_sheet, of_target};
 ghost use Rattle.mmtel_call_decisions.specs.Decisions.{peer_for, reach_at, redirect_of, served_at, service_at, target_of, told_at};
-ghost use Rattle.mmtel_call_decisions.specs.Site.{calls_among, standing};
+ghost use Rattle.mmtel_call_decisions.specs.Site.{standing};
 
 use crate::openings::{Opening, Service};
 use crate::settings::{Present, Setting};
@@ -28,19 +28,6 @@ use mmtel_sheet_values::{SharedSheet, Sheet};
 use mmtel_targets::{RegistrationState, Target, diverted_target, is_registered};
 use mmtel_types::{Account, Moment, Peer};
 use std::alloc::Global;
-
-/// How many of the calls are of the account.
-fn calls_among(busy: &[Account], account: Account) -> u32
-    ensures { result ≡ calls_among busy.now account.0 }
-{
-    let mut count = 0u32;
-    for one in busy {
-        if one.0 == account.0 {
-            count = count.saturating_add(1);
-        }
-    }
-    count
-}
 
 impl Opening {
     /// What is known of the call, with these identities of the other party.
@@ -142,7 +129,7 @@ impl Opening {
         ServedAccount {
             sheet: service.sheet.sheet(),
             registered: is_registered(self.told_at(cause), known),
-            live: calls_among(present.busy, service.account),
+            live: present.busy.live(service.account),
         }
     }
 

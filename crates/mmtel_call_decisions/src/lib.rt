@@ -2,6 +2,7 @@
 //! 3261 §13.2.2.4, TS 32.260 §5).
 #![tactic(auto)]
 
+mod busy;
 mod deciding;
 mod diversions;
 mod ends;
@@ -12,6 +13,7 @@ mod settings;
 mod showing;
 mod uris;
 
+pub use busy::Busy;
 pub use deciding::redirect_of;
 pub use diversions::Diversions;
 pub use ends::{end_of, end_of_time, is_handed_on, time_of};

@@ -1,8 +1,9 @@
 //! What each step of a call is given.
 
+use crate::busy::Busy;
 use mmtel_sheet_values::SheetView;
 use mmtel_trust::{Accounts, PeerTable};
-use mmtel_types::{Account, Addr, Moment};
+use mmtel_types::{Addr, Moment};
 use std::marker::Model;
 
 /// The server's configuration, as calls need it.
@@ -38,6 +39,6 @@ pub struct Present<'a> {
     pub at: Moment,
     /// The records in force, and the registrations.
     pub sheets: &'a SheetView,
-    /// The accounts in calls that are not over: once for each call that an account makes, this one too, and once for each that is offered to it, this one never.
-    pub busy: &'a [Account],
+    /// How many calls keep each account busy: those that it makes, this one too, and those that are offered to it or that it answered, this one never.
+    pub busy: &'a Busy,
 }

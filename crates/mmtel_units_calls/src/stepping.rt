@@ -97,7 +97,7 @@ fn present(world: &World, at: Moment) -> Present<'_> {
     Present {
         at,
         sheets: &world.sheets,
-        busy: world.busy.items(),
+        busy: &world.busy,
     }
 }
 

@@ -1,10 +1,11 @@
-//! What stands round calls and rooms: the peers and accounts, the records in force, the accounts in calls, and the bound; and the words of tables.
+//! What stands round calls and rooms: the peers and accounts, the records in force, how many calls keep each account busy, and the bound; and the words of tables.
 
 use mmtel_answers::Hearing;
+use mmtel_call_decisions::Busy;
 use mmtel_lex::{Uri, read_uri};
 use mmtel_parties::Parties;
 use mmtel_rules::Identities2;
-use mmtel_scan::{List, plain_number};
+use mmtel_scan::plain_number;
 use mmtel_sheet_values::{Sheet, SheetView};
 use mmtel_told::{Told, cut};
 use mmtel_trust::{Accounts, Identities, PeerTable, asserted};
@@ -22,7 +23,7 @@ pub struct World {
     pub peers: PeerTable,
     pub accounts: Accounts,
     pub sheets: SheetView,
-    pub busy: List<Account>,
+    pub busy: Busy,
     pub bound: u16,
 }
 
@@ -136,7 +137,7 @@ pub fn quiet_world(told: &mut Told) -> World {
         peers: peers(told),
         accounts: accounts(told),
         sheets: SheetView::new(told.alloc),
-        busy: List::new(),
+        busy: Busy::new(told.alloc),
         bound: 5,
     }
 }
@@ -163,8 +164,8 @@ pub fn put(told: &mut Told, world: &mut World, account: u32, sheet: Sheet) {
 
 /// The account is in one more call.
 pub fn set_busy(told: &mut Told, world: &mut World, account: u32) {
-    let pushed = world.busy.push(told.alloc, Account(account));
-    told.noted(pushed);
+    let added = world.busy.add(Account(account));
+    told.noted(added);
 }
 
 /// The registration of the account has ended.

@@ -1,14 +1,14 @@
 use Rattle.std.proofs.Common.{None, MatchResult, ◌≡◌, ◌<◌, Bool, List, Option, Some, length, subst, sym, ap, ◌∙◌, false, ◌+◌}
-use Rattle.std.specs.Prelude.{slice_get, set}
+use Rattle.std.specs.Prelude.{ℕ, slice_get, set, sum_by}
 use Rattle.std.specs.Box.{with_value}
 use Rattle.mmtel_b2bua.specs.Entries.{is_live}
-use Rattle.mmtel_b2bua.specs.Kept.{AreKept, number_of, one_if, unboxed}
+use Rattle.mmtel_b2bua.specs.Kept.{AreKept, keeps_busy, number_of, one_if, unboxed}
 use Rattle.mmtel_b2bua.specs.Tables.{Table}
 use Rattle.mmtel_b2bua.specs.declared.entries.Entry.{Entry}
 use Rattle.mmtel_leg.specs.declared.legs.Released.{Released}
 use Rattle.mmtel_call.specs.declared.calls.Call.{Call}
 use Rattle.mmtel_b2bua.specs.Lending.{leg_of_entry, lent, lent_at}
-use Rattle.mmtel_b2bua.proofs.Away.{live_lent, same_number}
+use Rattle.mmtel_b2bua.proofs.Away.{busy_lent, live_lent, same_number}
 use Rattle.mmtel_b2bua.proofs.Keeping.{left_kept, said_after, set_boxes, stands_at, table_after}
 use Rattle.mmtel_b2bua.proofs.call_table.CallTable.release_at.Goals as goal
 
@@ -24,9 +24,10 @@ invariant_of-self c =
     let made : y ≡ lent c.args.side e = ap (λ (call : Call). let x : Entry = record { call = call; invites = e.invites } in x) c.release-leg.ensures.call in
     let now = set_boxes bs k (with_value c.index_mut.result.now y) in
     let live : is_live y ≡ is_live e = ap is_live made ∙ live_lent c.args.side e in
-    subst (λ (l : List Entry). AreKept l c.self.inside.opened c.self.inside.alive c.put_call-2.new.self) (sym now)
-    (left_kept es c.self.inside.opened c.self.inside.alive c.self.inside.index k e y c.self.invariant is false c.self.inside.alive c.put_call.new.self c.put_call-2.new.self c.put_call.ensures c.put_call-2.ensures (λ stays. ap number_of made ∙ same_number e.call.phase c.args.side e.call)
-    (ap (λ (b : Bool). c.self.inside.alive + one_if b) (sym live)))
+    let again = λ (n : ℕ). ap (λ (m : ℕ). m + keeps_busy n e) (c.self.invariant.counts n) ∙ ap (λ (m : ℕ). sum_by (keeps_busy n) es + m) (sym (ap (keeps_busy n) made ∙ busy_lent n c.args.side e)) in
+    subst (λ (l : List Entry). AreKept l c.self.inside.opened c.self.inside.alive c.put_call-2.new.self c.self.inside.busy) (sym now)
+    (left_kept es c.self.inside.opened c.self.inside.alive c.self.inside.index c.self.inside.busy k e y c.self.invariant is false c.self.inside.alive c.put_call.new.self c.put_call-2.new.self c.self.inside.busy c.put_call.ensures c.put_call-2.ensures (λ stays. ap number_of made ∙ same_number e.call.phase c.args.side e.call)
+    (ap (λ (b : Bool). c.self.inside.alive + one_if b) (sym live)) again)
 
 pub returns-clause-table : goal.returns-clause-table
 returns-clause-table c =

@@ -1,2 +1,5 @@
 mod Places
 mod Bids
+mod Marked
+mod Keeping
+mod Numbering

@@ -15,3 +15,4 @@ pub mod Histories
 -- What private functions alone cite.
 pub mod Private
 pub mod Lent
+pub mod Marks

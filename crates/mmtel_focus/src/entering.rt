@@ -8,8 +8,7 @@ ghost use Rattle.mmtel_focus.specs.Table.{access, is_provisional, notified, stay
 ghost use Rattle.mmtel_focus.specs.Texts.{own_status};
 
 use crate::faults::RoomFault;
-use crate::moves::place_of;
-use crate::rooms::Room;
+use crate::live::{LiveRooms, beginning, give_up_room};
 use crate::texts::own_status;
 use mmtel_answers::Hearing;
 use mmtel_leg::Released;
@@ -20,14 +19,14 @@ use mmtel_types::{Account, Moment, RoomNo};
 use std::alloc::Global;
 
 /// The place of the room of this number, where it takes another seat.
-pub fn access(live: &[Room], room: RoomNo) -> Result<usize, RoomFault>
-    ensures access { result ≡ access room.0 live.now }
-    ensures place { IfOk result (λ place. place < length live.now) }
+pub fn access(live: &LiveRooms, room: RoomNo) -> Result<usize, RoomFault>
+    ensures access { result ≡ access room.0 live.now.items }
+    ensures place { IfOk result (λ place. place < length live.now.items) }
 {
-    match place_of(live, room) {
+    match live.place_of(room) {
         None => Err(RoomFault::Gone),
         Some(place) => {
-            let asked = &live[place];
+            let asked = &live.rooms()[place];
             if has_no_seat(&asked.seats) {
                 return Err(RoomFault::RoomFull);
             }
@@ -41,8 +40,9 @@ pub fn access(live: &[Room], room: RoomNo) -> Result<usize, RoomFault>
 /// # Errors
 ///
 /// Want of memory alone; the leg is handed back, and the rooms are as before.
+#[tactic(auto, using(crate::proofs::Keeping::put_twice))]
 pub fn join_at(
-    live: &mut Vec<Room>,
+    live: &mut LiveRooms,
     alloc: Global,
     setting: &Setting<'_>,
     now: Moment,
@@ -56,15 +56,19 @@ pub fn join_at(
     requires unmetered { (released_leg leg).meter ≡ None }
     requires audio { offers_audio invite.now.heard.body ≡ true }
     requires place { place < length live.old.items }
-    ensures live { OnOk result (live.new.items
-        ≡ (stays_at (come setting.now now leg account key invite.now) place (slice_get live.old.items place) live.old.items effects.old).live) }
+    ensures live { OnOk result (live.new ≡ record live.old {
+      items = (stays_at (come setting.now now leg account key invite.now) place (slice_get live.old.items place) live.old.items effects.old).live;
+    }) }
     ensures effects { OnOk result (effects.new
         ≡ (stays_at (come setting.now now leg account key invite.now) place (slice_get live.old.items place) live.old.items effects.old).effects) }
     ensures loose { OnOk result (effects.new.loose ≡ effects.old.loose) }
     ensures rows { OnOk result (effects.new.desk.rows ≡ effects.old.desk.rows) }
     ensures handed_back { IfErr result (λ l. l ≡ leg) }
 {
-    live[place].come(alloc, setting, now, leg, account, key, invite, effects)
+    let mut room = live.take_out(alloc, place);
+    let come = room.come(alloc, setting, now, leg, account, key, invite, effects);
+    live.put_back(place, room);
+    come
 }
 
 /// A leg comes to the room at this place out of a call.
@@ -72,8 +76,9 @@ pub fn join_at(
 /// # Errors
 ///
 /// Want of memory alone; a leg of the same side without a meter is handed back.
+#[tactic(auto, using(crate::proofs::Keeping::put_twice))]
 pub fn adopt_at(
-    live: &mut Vec<Room>,
+    live: &mut LiveRooms,
     alloc: Global,
     setting: &Setting<'_>,
     now: Moment,
@@ -85,19 +90,25 @@ pub fn adopt_at(
 ) -> Result<(), Released>
     requires unmetered { (released_leg leg).meter ≡ None }
     requires place { place < length live.old.items }
-    ensures live { OnOk result (live.new.items ≡ (stays_at (adopted setting.now now leg account by) place (slice_get live.old.items place) live.old.items effects.old).live) }
+    ensures live { OnOk result (live.new ≡ record live.old {
+      items = (stays_at (adopted setting.now now leg account by) place (slice_get live.old.items place) live.old.items effects.old).live;
+    }) }
     ensures effects { OnOk result (effects.new ≡ (stays_at (adopted setting.now now leg account by) place (slice_get live.old.items place) live.old.items effects.old).effects) }
     ensures loose { OnOk result (effects.new.loose ≡ effects.old.loose) }
     ensures rows { OnOk result (effects.new.desk.rows ≡ effects.old.desk.rows) }
     ensures meter { IfErr result (λ l. (released_leg l).meter ≡ None) }
     ensures side { IfErr result (λ l. is_same_side l leg ≡ true) }
 {
-    live[place].adopt(alloc, setting, now, leg, account, by, effects)
+    let mut room = live.take_out(alloc, place);
+    let adopted = room.adopt(alloc, setting, now, leg, account, by, effects);
+    live.put_back(place, room);
+    adopted
 }
 
 /// Tells a seat of the room at this place a status line.
+#[tactic(auto, using(crate::proofs::Keeping::put_twice))]
 fn tell_at(
-    live: &mut Vec<Room>,
+    live: &mut LiveRooms,
     alloc: Global,
     setting: &Setting<'_>,
     place: usize,
@@ -107,17 +118,29 @@ fn tell_at(
     effects: &mut Effects,
 ) -> Result<(), NoMemory>
     requires { place < length live.old.items }
-    ensures live { OnOk result (live.new.items ≡ (stays_at (told_to setting.now goes_on line.now seat) place (slice_get live.old.items place) live.old.items effects.old).live) }
+    ensures live { OnOk result (live.new ≡ record live.old {
+      items = (stays_at (told_to setting.now goes_on line.now seat) place (slice_get live.old.items place) live.old.items effects.old).live;
+    }) }
     ensures effects { OnOk result (effects.new
         ≡ (stays_at (told_to setting.now goes_on line.now seat) place (slice_get live.old.items place) live.old.items effects.old).effects) }
 {
-    live[place].tell(alloc, setting, goes_on, line, seat, effects)
+    let mut room = live.take_out(alloc, place);
+    match room.tell(alloc, setting, goes_on, line, seat, effects) {
+        Err(error) => {
+            give_up_room(room, beginning());
+            Err(error)
+        }
+        Ok(()) => {
+            live.put_back(place, room);
+            Ok(())
+        }
+    }
 }
 
 /// Tells a seat the status of this code; nothing goes out once it has left.
 #[tactic(auto, unfolding(crate::specs::Table::notified))]
 pub fn notify(
-    live: &mut Vec<Room>,
+    live: &mut LiveRooms,
     alloc: Global,
     setting: &Setting<'_>,
     room: RoomNo,
@@ -125,11 +148,11 @@ pub fn notify(
     code: u16,
     effects: &mut Effects,
 ) -> Result<(), NoMemory>
-    ensures live { OnOk result (live.new.items ≡ (notified setting.now room.0 seat code live.old.items effects.old).live) }
+    ensures live { OnOk result (live.new ≡ record live.old { items = (notified setting.now room.0 seat code live.old.items effects.old).live }) }
     ensures effects { OnOk result (effects.new ≡ (notified setting.now room.0 seat code live.old.items effects.old).effects) }
 {
     let line = own_status(alloc, code)?;
-    match place_of(live, room) {
+    match live.place_of(room) {
         None => Ok(()),
         Some(place) => {
             let goes_on = code < 200;

@@ -3,8 +3,9 @@ ghost use Rattle.std.specs.Prelude.{◌≡◌, Some, position};
 ghost use Rattle.std.specs.Option.{option_copied};
 ghost use Rattle.mmtel_focus.specs.Names.{found, found_in, has_dialog, has_name, is_named, number_at, seat_named, seats_taken};
 
-use crate::moves::place_of;
+use crate::live::LiveRooms;
 use crate::rooms::Room;
+use mmtel_desk::{Mark, told};
 use mmtel_leg::Dialogue;
 use mmtel_seats::Seat;
 use mmtel_types::RoomNo;
@@ -64,10 +65,19 @@ fn has_dialog(room: &Room, name: DialogName<'_>) -> bool
     seat_named(room, name).is_some()
 }
 
-fn place_having(live: &[Room], name: DialogName<'_>) -> Option<usize>
-    ensures { result ≡ position (has_dialog name.entry.call_id.now name.entry.local.now name.entry.remote.now) live.now }
+fn having_in(rooms: &[Room], name: DialogName<'_>) -> Option<usize>
+    ensures { result ≡ position (has_dialog name.entry.call_id.now name.entry.local.now name.entry.remote.now) rooms.now }
 {
-    live.iter().position(|room| has_dialog(room, name))
+    rooms.iter().position(|room| has_dialog(room, name))
+}
+
+/// The place of the room that has a seat whose dialog has these names.
+fn place_having(live: &LiveRooms, name: DialogName<'_>) -> Option<usize>
+    ensures { result ≡ position (has_dialog name.entry.call_id.now name.entry.local.now name.entry.remote.now) live.now.items }
+{
+    let start = live.from(Mark::Named(told(name.local)));
+    let place = having_in(live.rooms_from(start), name);
+    live.later(start, place)
 }
 
 fn found_in(room: &Room, name: DialogName<'_>) -> Option<(RoomNo, u64)>
@@ -80,12 +90,12 @@ fn found_in(room: &Room, name: DialogName<'_>) -> Option<(RoomNo, u64)>
 }
 
 /// The room and the seat whose dialog has these names.
-pub fn find(live: &[Room], name: DialogName<'_>) -> Option<(RoomNo, u64)>
-    ensures { result ≡ found name.entry.call_id.now name.entry.local.now name.entry.remote.now live.now }
+pub fn find(live: &LiveRooms, name: DialogName<'_>) -> Option<(RoomNo, u64)>
+    ensures { result ≡ found name.entry.call_id.now name.entry.local.now name.entry.remote.now live.now.items }
 {
     match place_having(live, name) {
         None => None,
-        Some(place) => match live.get(place) {
+        Some(place) => match live.rooms().get(place) {
             None => None,
             Some(room) => found_in(room, name),
         },
@@ -93,13 +103,13 @@ pub fn find(live: &[Room], name: DialogName<'_>) -> Option<(RoomNo, u64)>
 }
 
 /// How many seats of a room are taken; none where it is not live.
-pub fn seats_taken(live: &[Room], room: RoomNo) -> u32
-    ensures { result ≡ seats_taken room.0 live.now }
+pub fn seats_taken(live: &LiveRooms, room: RoomNo) -> u32
+    ensures { result ≡ seats_taken room.0 live.now.items }
 {
-    match place_of(live, room) {
+    match live.place_of(room) {
         None => 0,
         Some(place) => {
-            let asked = &live[place];
+            let asked = &live.rooms()[place];
             u32::try_from(asked.seats.len()).unwrap_or(u32::MAX)
         }
     }

@@ -9,6 +9,8 @@ mod finding;
 mod inviting;
 mod joining;
 mod leaving;
+mod live;
+mod marks;
 mod moves;
 mod parting;
 mod referrals;

@@ -6,39 +6,18 @@ ghost use Rattle.mmtel_focus.specs.Rooms.{Room};
 ghost use Rattle.mmtel_focus.specs.Seats.{at_place, at_seat};
 ghost use Rattle.mmtel_desk.specs.Invites.{invite_answered, invite_silent};
 ghost use Rattle.mmtel_focus.specs.Table.{answered_at, answered_by, answered_loose, asks, heard_by, heard_in, heard_of, hears};
-ghost use Rattle.mmtel_focus.specs.Table.{is_asked, is_key, is_loose_key, place_of, silenced_at, silenced_by, stepped_at, stepped_in, taken, without};
+ghost use Rattle.mmtel_focus.specs.Table.{is_asked, is_key, is_loose_key, silenced_at, silenced_by, stepped_at, stepped_in, taken, without};
 
+use crate::live::{LiveRooms, give_up_room};
 use crate::rooms::Room;
 use crate::signals::{LentSignal, RoomSignal};
 use mmtel_answers::Hearing;
-use mmtel_desk::{Loose, file, invite_answered, invite_silent, loose_at};
+use mmtel_desk::{Loose, Mark, file, invite_answered, invite_silent, loose_at, told};
 use mmtel_scan::{List, NoMemory};
 use mmtel_seats::{self as seats, Effects, Seat, Setting};
 use mmtel_transaction::TKey;
 use mmtel_types::{Addr, Moment, RoomNo};
 use std::alloc::Global;
-
-/// The place of the room of this number.
-pub fn place_of(live: &[Room], number: RoomNo) -> Option<usize>
-    ensures { result ≡ place_of number.0 live.now }
-{
-    live.iter().position(|room| room.number.0 == number.0)
-}
-
-/// Spends a room and all its seats, without rows.
-pub fn give_up_room(room: Room, at: Moment) {
-    let Room {
-        number: _,
-        taken: _,
-        counted: _,
-        seats,
-    } = room;
-    let mut seats = seats;
-    'given: while let Some(seat) = seats.pop() {
-        seat.give_up(at);
-    }
-    seats.destroy_empty();
-}
 
 /// The place of the seat of a room to which the INVITE of this branch went.
 fn asked_at(seats: &[Seat], branch: &[u8]) -> Option<usize>
@@ -105,8 +84,9 @@ impl Room {
 }
 
 /// The room at this place hears, by its seat at that place; it leaves the table where it closes.
+#[tactic(auto, using(crate::proofs::Keeping::put_twice))]
 fn step_at(
-    live: &mut Vec<Room>,
+    live: &mut LiveRooms,
     alloc: Global,
     setting: &Setting<'_>,
     now: Moment,
@@ -117,21 +97,31 @@ fn step_at(
 ) -> Result<(), NoMemory>
     requires place { place < length live.old.items }
     requires seat { (room : Room) → slice_get live.old.items place ≡ Some room → (n : ℕ) → seat ≡ Some n → n < length room.seats }
-    ensures live { OnOk result (live.new.items
-        ≡ (stepped_at (at_place (hears setting.now now (lent signal.entry)) seat) place (slice_get live.old.items place) live.old.items effects.old).live) }
+    ensures live { OnOk result (live.new ≡ record live.old {
+      items = (stepped_at (at_place (hears setting.now now (lent signal.entry)) seat) place (slice_get live.old.items place) live.old.items effects.old).live;
+    }) }
     ensures effects { OnOk result (effects.new
         ≡ (stepped_at (at_place (hears setting.now now (lent signal.entry)) seat) place (slice_get live.old.items place) live.old.items effects.old).effects) }
 {
-    live[place].hear(alloc, setting, now, signal, seat, effects)?;
-    if effects.closes {
-        give_up_room(live.remove(place), now);
+    let mut room = live.take_out(alloc, place);
+    match room.hear(alloc, setting, now, signal, seat, effects) {
+        Err(error) => {
+            give_up_room(room, now);
+            Err(error)
+        }
+        Ok(()) => {
+            live.put_back(place, room);
+            if effects.closes {
+                give_up_room(live.remove(place), now);
+            }
+            Ok(())
+        }
     }
-    Ok(())
 }
 
 /// The seat of this number in the room of this number hears.
 fn hear_in(
-    live: &mut Vec<Room>,
+    live: &mut LiveRooms,
     alloc: Global,
     setting: &Setting<'_>,
     now: Moment,
@@ -140,29 +130,38 @@ fn hear_in(
     signal: LentSignal<'_>,
     effects: &mut Effects,
 ) -> Result<(), NoMemory>
-    ensures live { OnOk result (live.new.items ≡ (heard_in setting.now now room.0 seat (lent signal.entry) live.old.items effects.old).live) }
+    ensures live { OnOk result (live.new ≡ record live.old { items = (heard_in setting.now now room.0 seat (lent signal.entry) live.old.items effects.old).live }) }
     ensures effects { OnOk result (effects.new ≡ (heard_in setting.now now room.0 seat (lent signal.entry) live.old.items effects.old).effects) }
 {
-    match place_of(live, room) {
+    match live.place_of(room) {
         None => Ok(()),
         Some(place) => {
-            let asked = &live[place];
+            let asked = &live.rooms()[place];
             let seat = seats::place_of(&asked.seats, seat);
             step_at(live, alloc, setting, now, signal, place, seat, effects)
         }
     }
 }
 
-/// The place of the room to a seat of which the INVITE of this branch went.
-fn asking_at(live: &[Room], branch: &[u8]) -> Option<usize>
-    ensures { result ≡ position (asks branch.now) live.now }
+/// The place of the one of these rooms to a seat of which the INVITE of this branch went.
+fn asking_in(rooms: &[Room], branch: &[u8]) -> Option<usize>
+    ensures { result ≡ position (asks branch.now) rooms.now }
 {
-    live.iter().position(|room| room.asks(branch))
+    rooms.iter().position(|room| room.asks(branch))
+}
+
+/// The place of the room to a seat of which the INVITE of this branch went.
+fn asking_at(live: &LiveRooms, branch: &[u8]) -> Option<usize>
+    ensures { result ≡ position (asks branch.now) live.now.items }
+{
+    let start = live.from(Mark::Sent(told(branch)));
+    let place = asking_in(live.rooms_from(start), branch);
+    live.later(start, place)
 }
 
 /// The seat to which the INVITE of this branch went hears.
 fn hear_of(
-    live: &mut Vec<Room>,
+    live: &mut LiveRooms,
     alloc: Global,
     setting: &Setting<'_>,
     now: Moment,
@@ -170,13 +169,13 @@ fn hear_of(
     signal: LentSignal<'_>,
     effects: &mut Effects,
 ) -> Result<(), NoMemory>
-    ensures live { OnOk result (live.new.items ≡ (heard_of setting.now now branch.now (lent signal.entry) live.old.items effects.old).live) }
+    ensures live { OnOk result (live.new ≡ record live.old { items = (heard_of setting.now now branch.now (lent signal.entry) live.old.items effects.old).live }) }
     ensures effects { OnOk result (effects.new ≡ (heard_of setting.now now branch.now (lent signal.entry) live.old.items effects.old).effects) }
 {
     match asking_at(live, branch) {
         None => Ok(()),
         Some(place) => {
-            let asking = &live[place];
+            let asking = &live.rooms()[place];
             let seat = asked_at(&asking.seats, branch);
             step_at(live, alloc, setting, now, signal, place, seat, effects)
         }
@@ -206,7 +205,7 @@ fn hear_loose_at(
 
 /// A response to the INVITE of this branch: one that was left, or that of a seat.
 fn hear_answer(
-    live: &mut Vec<Room>,
+    live: &mut LiveRooms,
     loose: &mut List<Loose>,
     alloc: Global,
     setting: &Setting<'_>,
@@ -216,8 +215,9 @@ fn hear_answer(
     branch: &[u8],
     effects: &mut Effects,
 ) -> Result<(), NoMemory>
-    ensures live { OnOk result (live.new.items
-        ≡ (answered_at setting.now now key m.now branch.now (position (is_of branch.now) loose.old) live.old.items loose.old effects.old).live) }
+    ensures live { OnOk result (live.new ≡ record live.old {
+      items = (answered_at setting.now now key m.now branch.now (position (is_of branch.now) loose.old) live.old.items loose.old effects.old).live;
+    }) }
     ensures loose { OnOk result (loose.new
         ≡ (answered_at setting.now now key m.now branch.now (position (is_of branch.now) loose.old) live.old.items loose.old effects.old).loose) }
     ensures effects { OnOk result (effects.new
@@ -234,7 +234,7 @@ fn hear_answer(
 
 /// The INVITE of this branch had no response at all: one that was left has ended.
 fn hear_silence(
-    live: &mut Vec<Room>,
+    live: &mut LiveRooms,
     loose: &mut List<Loose>,
     alloc: Global,
     setting: &Setting<'_>,
@@ -242,7 +242,9 @@ fn hear_silence(
     branch: &[u8],
     effects: &mut Effects,
 ) -> Result<(), NoMemory>
-    ensures live { OnOk result (live.new.items ≡ (silenced_at setting.now now branch.now (position (is_of branch.now) loose.old) live.old.items loose.old effects.old).live) }
+    ensures live { OnOk result (live.new ≡ record live.old {
+      items = (silenced_at setting.now now branch.now (position (is_of branch.now) loose.old) live.old.items loose.old effects.old).live;
+    }) }
     ensures loose { OnOk result (loose.new ≡ (silenced_at setting.now now branch.now (position (is_of branch.now) loose.old) live.old.items loose.old effects.old).loose) }
     ensures effects { OnOk result (effects.new ≡ (silenced_at setting.now now branch.now (position (is_of branch.now) loose.old) live.old.items loose.old effects.old).effects) }
 {
@@ -265,7 +267,7 @@ fn hear_silence(
 
 /// A response: to an INVITE of the server's own, by its branch, or to another request, whose response is not awaited.
 fn hear_response(
-    live: &mut Vec<Room>,
+    live: &mut LiveRooms,
     loose: &mut List<Loose>,
     alloc: Global,
     setting: &Setting<'_>,
@@ -274,7 +276,9 @@ fn hear_response(
     m: &Hearing,
     effects: &mut Effects,
 ) -> Result<(), NoMemory>
-    ensures live { OnOk result (live.new.items ≡ (answered_by setting.now now key m.now (invite_answered m.now) live.old.items loose.old effects.old).live) }
+    ensures live { OnOk result (live.new ≡ record live.old {
+      items = (answered_by setting.now now key m.now (invite_answered m.now) live.old.items loose.old effects.old).live;
+    }) }
     ensures loose { OnOk result (loose.new ≡ (answered_by setting.now now key m.now (invite_answered m.now) live.old.items loose.old effects.old).loose) }
     ensures effects { OnOk result (effects.new ≡ (answered_by setting.now now key m.now (invite_answered m.now) live.old.items loose.old effects.old).effects) }
 {
@@ -289,7 +293,7 @@ fn hear_response(
 
 /// The request of this branch and this method had no response at all.
 fn hear_silent(
-    live: &mut Vec<Room>,
+    live: &mut LiveRooms,
     loose: &mut List<Loose>,
     alloc: Global,
     setting: &Setting<'_>,
@@ -298,8 +302,9 @@ fn hear_silent(
     method: &[u8],
     effects: &mut Effects,
 ) -> Result<(), NoMemory>
-    ensures live { OnOk result (live.new.items
-        ≡ (silenced_by setting.now now (invite_silent branch.now method.now) live.old.items loose.old effects.old).live) }
+    ensures live { OnOk result (live.new ≡ record live.old {
+      items = (silenced_by setting.now now (invite_silent branch.now method.now) live.old.items loose.old effects.old).live;
+    }) }
     ensures loose { OnOk result (loose.new ≡ (silenced_by setting.now now (invite_silent branch.now method.now) live.old.items loose.old effects.old).loose) }
     ensures effects { OnOk result (effects.new
         ≡ (silenced_by setting.now now (invite_silent branch.now method.now) live.old.items loose.old effects.old).effects) }
@@ -349,7 +354,7 @@ fn drop_ended(loose: &mut List<Loose>, key: TKey)
 /// The rooms once they heard a signal, and the INVITEs that were left.
 #[tactic(auto, unfolding(crate::specs::Table::taken))]
 pub fn take(
-    live: &mut Vec<Room>,
+    live: &mut LiveRooms,
     loose: &mut List<Loose>,
     alloc: Global,
     setting: &Setting<'_>,
@@ -357,7 +362,7 @@ pub fn take(
     signal: &RoomSignal,
     effects: &mut Effects,
 ) -> Result<(), NoMemory>
-    ensures live { OnOk result (live.new.items ≡ (taken setting.now now signal.now live.old.items loose.old effects.old).live) }
+    ensures live { OnOk result (live.new ≡ record live.old { items = (taken setting.now now signal.now live.old.items loose.old effects.old).live }) }
     ensures loose { OnOk result (loose.new ≡ (taken setting.now now signal.now live.old.items loose.old effects.old).loose) }
     ensures effects { OnOk result (effects.new ≡ (taken setting.now now signal.now live.old.items loose.old effects.old).effects) }
 {

@@ -2,9 +2,9 @@
 ghost use Rattle.std.specs.Prelude.{◌≡◌, ◌≤◌, ◌<◌, [], IfOk, OnErr, OnOk, length, map, remove, slice_get, vec_capacity};
 ghost use Rattle.mmtel_focus.specs.Names.{all_ended, ended, seats_in};
 ghost use Rattle.mmtel_focus.specs.Seats.{place_of};
-ghost use Rattle.mmtel_focus.specs.Table.{closed, left, left_at, room_left, row_by, row_in, row_in_room, row_left, row_of_seat, seat_left};
+ghost use Rattle.mmtel_focus.specs.Table.{closed, left, left_at, row_by, row_in, row_left, row_of_seat, seat_left};
 
-use crate::moves::place_of;
+use crate::live::LiveRooms;
 use crate::rooms::Room;
 use mmtel_charging::{Meter, Row};
 use mmtel_leg::Ended;
@@ -38,7 +38,7 @@ impl Room {
     }
 
     /// Leaves the seat of this number, where somebody is seated, and gives its row.
-    fn leave(&mut self, seat: u64, now: Moment) -> Option<Row>
+    pub fn leave(&mut self, seat: u64, now: Moment) -> Option<Row>
         ensures room { self.new ≡ seat_left seat self.old }
         ensures row { result ≡ row_in now (place_of seat self.old.seats) self.old.seats }
     {
@@ -49,24 +49,15 @@ impl Room {
     }
 }
 
-/// Leaves a seat of the room at this place.
-fn leave_at(live: &mut Vec<Room>, place: usize, seat: u64, now: Moment) -> Option<Row>
-    requires { place < length live.old.items }
-    ensures live { live.new.items ≡ room_left seat place (slice_get live.old.items place) live.old.items }
-    ensures row { result ≡ row_in_room now seat (slice_get live.old.items place) }
-{
-    live[place].leave(seat, now)
-}
-
 /// Leaves a seat, where somebody is seated, and gives its row.
 #[tactic(auto, unfolding(crate::specs::Table::left, crate::specs::Table::row_left))]
-pub fn leave(live: &mut Vec<Room>, room: RoomNo, seat: u64, now: Moment) -> Option<Row>
-    ensures live { live.new.items ≡ left room.0 seat live.old.items }
+pub fn leave(live: &mut LiveRooms, room: RoomNo, seat: u64, now: Moment) -> Option<Row>
+    ensures live { live.new ≡ record live.old { items = left room.0 seat live.old.items } }
     ensures row { result ≡ row_left now room.0 seat live.old.items }
 {
-    match place_of(live, room) {
+    match live.place_of(room) {
         None => None,
-        Some(place) => leave_at(live, place, seat, now),
+        Some(place) => live.leave_at(place, seat, now),
     }
 }
 
@@ -92,13 +83,13 @@ fn end_all(room: Room, blank: Vec<Ended>) -> Vec<Ended>
 }
 
 /// Closes the room at this place.
-fn close_at(live: &mut Vec<Room>, alloc: Global, place: usize) -> Result<Vec<Ended>, NoMemory>
+fn close_at(live: &mut LiveRooms, alloc: Global, place: usize) -> Result<Vec<Ended>, NoMemory>
     requires { place < length live.old.items }
     ensures ended { IfOk result (λ all. all.items ≡ map ended (seats_in (slice_get live.old.items place))) }
-    ensures live { OnOk result (live.new.items ≡ remove live.old.items place) }
-    ensures refused { OnErr result (live.new.items ≡ live.old.items) }
+    ensures live { OnOk result (live.new ≡ record live.old { items = remove live.old.items place }) }
+    ensures refused { OnErr result (live.new ≡ live.old) }
 {
-    let closing = &live[place];
+    let closing = &live.rooms()[place];
     let count = closing.seats.len();
     let mut blank = Vec::new(alloc);
     if blank.reserve(count).is_err() {
@@ -114,12 +105,12 @@ fn close_at(live: &mut Vec<Room>, alloc: Global, place: usize) -> Result<Vec<End
 ///
 /// Want of memory alone; the rooms are then as before.
 #[tactic(auto, unfolding(crate::specs::Table::closed))]
-pub fn close(live: &mut Vec<Room>, alloc: Global, room: RoomNo) -> Result<Vec<Ended>, NoMemory>
+pub fn close(live: &mut LiveRooms, alloc: Global, room: RoomNo) -> Result<Vec<Ended>, NoMemory>
     ensures ended { IfOk result (λ all. all.items ≡ all_ended room.0 live.old.items) }
-    ensures live { OnOk result (live.new.items ≡ closed room.0 live.old.items) }
-    ensures refused { OnErr result (live.new.items ≡ live.old.items) }
+    ensures live { OnOk result (live.new ≡ record live.old { items = closed room.0 live.old.items }) }
+    ensures refused { OnErr result (live.new ≡ live.old) }
 {
-    match place_of(live, room) {
+    match live.place_of(room) {
         None => Ok(Vec::new(alloc)),
         Some(place) => close_at(live, alloc, place),
     }

@@ -10,15 +10,15 @@ ghost use Rattle.mmtel_focus.specs.Histories.{is_offer, no_tokens, site_of, tabl
 ghost use Rattle.mmtel_focus.specs.Joining.{is_same_side};
 ghost use Rattle.mmtel_focus.specs.Names.{all_ended, found, seats_taken};
 ghost use Rattle.mmtel_focus.specs.Private.{arriving, caller_in};
-ghost use Rattle.mmtel_focus.specs.Table.{access, has_no_room, no_rooms, opened, row_left};
+ghost use Rattle.mmtel_focus.specs.Table.{access, has_no_room, no_rooms, row_left};
 ghost use Rattle.mmtel_focus.specs.declared.faults.RoomFault.TheVariants as fault;
 
 use crate::entering::{access, adopt_at, join_at, notify};
 use crate::faults::RoomFault;
 use crate::finding::{self, DialogName};
-use crate::moves::{give_up_room, take};
+use crate::live::LiveRooms;
+use crate::moves::take;
 use crate::parting;
-use crate::rooms::Room;
 use crate::signals::{Joining, RoomSignal};
 use mmtel_answers::Hearing;
 use mmtel_charging::Row;
@@ -39,8 +39,7 @@ use std::mem;
 pub struct Rooms {
     sip: Addr,
     mixer: Mixer,
-    live: Vec<Room>,
-    opened: u64,
+    live: LiveRooms,
     loose: List<Loose>,
     rows: List<Row>,
     has_failed: bool,
@@ -54,7 +53,7 @@ impl Model for Rooms {
     ghost view = { λ r. record {
       sip = r.sip;
       mixer = r.mixer;
-      table = record { live = r.live.items; opened = r.opened; loose = r.loose; rows = r.rows };
+      table = record { live = r.live.items; opened = r.live.opened; loose = r.loose; rows = r.rows };
       has_failed = r.has_failed;
     } };
 }
@@ -64,39 +63,6 @@ fn no_tokens() -> Tokens
     ensures { result ≡ no_tokens }
 {
     Tokens::new(Text::new())
-}
-
-/// A room of its own for a leg that comes by an INVITE which offers audio.
-///
-/// # Errors
-///
-/// Want of memory alone; the leg is handed back.
-#[tactic(auto, unfolding(crate::specs::Joining::come))]
-fn open(
-    alloc: Global,
-    setting: &Setting<'_>,
-    now: Moment,
-    number: RoomNo,
-    leg: Released,
-    account: Option<Account>,
-    key: TKey,
-    invite: &Hearing,
-    effects: &mut Effects,
-) -> Result<Room, Released>
-    requires unmetered { (released_leg leg).meter ≡ None }
-    requires audio { offers_audio invite.now.heard.body ≡ true }
-    ensures room { IfOk result (λ room. room ≡ (opened setting.now now leg account key invite.now number effects.old).room) }
-    ensures effects { OnOk result (effects.new ≡ (opened setting.now now leg account key invite.now number effects.old).effects) }
-    ensures handed_back { IfErr result (λ l. l ≡ leg) }
-{
-    let mut room = Room::new(alloc, number);
-    match room.come(alloc, setting, now, leg, account, key, invite, effects) {
-        Ok(()) => Ok(room),
-        Err(leg) => {
-            give_up_room(room, now);
-            Err(leg)
-        }
-    }
 }
 
 /// A caller's leg.
@@ -122,8 +88,7 @@ impl Rooms {
         Ok(Rooms {
             sip,
             mixer,
-            live: Vec::new(alloc),
-            opened: 0,
+            live: LiveRooms::new(alloc),
             loose: List::new(),
             rows: List::new(),
             has_failed: false,
@@ -327,22 +292,17 @@ impl Rooms {
         ensures refused { OnErr result (self.new ≡ self.old) }
         ensures handed_back { IfErr result (λ l. l ≡ leg) }
     {
-        if self.live.reserve(1).is_err() {
-            return Err(leg);
-        }
         let setting = Setting {
             sip: self.sip,
             mixer: self.mixer,
             peers,
             accounts,
         };
-        let number = RoomNo(self.opened.saturating_add(1));
         let mut effects = Effects::new(no_tokens());
-        match open(
+        match self.live.open(
             alloc,
             &setting,
             now,
-            number,
             leg,
             account,
             key,
@@ -350,11 +310,7 @@ impl Rooms {
             &mut effects,
         ) {
             Err(leg) => Err(leg),
-            Ok(room) => {
-                self.live.push_reserved(room);
-                self.opened = number.0;
-                Ok((number, effects.into_emits()))
-            }
+            Ok(number) => Ok((number, effects.into_emits())),
         }
     }
 
@@ -391,7 +347,7 @@ impl Rooms {
         if self.has_failed {
             return Err((leg, RoomFault::NoMemory));
         }
-        if self.live.len() >= ROOMS {
+        if self.live.rooms().len() >= ROOMS {
             return Err((leg, RoomFault::NoRoom));
         }
         let leg = Released::Caller(leg);
@@ -599,23 +555,12 @@ impl Rooms {
             sip: _,
             mixer: _,
             live,
-            opened: _,
-            loose: _,
-            rows: _,
+            loose,
+            rows,
             has_failed: _,
         } = self;
-        let mut live = live;
-        'given: while let Some(room) = live.pop() {
-            give_up_room(room, beginning());
-        }
-        live.destroy_empty();
-    }
-}
-
-/// The first of all moments: of rows that nobody keeps.
-fn beginning() -> Moment {
-    match Moment::new(0) {
-        Some(moment) => moment,
-        None => unreachable!(),
+        drop(loose);
+        drop(rows);
+        live.give_up();
     }
 }

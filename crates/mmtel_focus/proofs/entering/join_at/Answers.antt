@@ -1,0 +1,18 @@
+use Rattle.std.proofs.Common.{◌≡◌, Some, subst, sym}
+use Rattle.std.specs.Prelude.{slice_get}
+use Rattle.mmtel_focus.specs.Joining.{come, new_room}
+use Rattle.mmtel_focus.specs.Marks.{Kept}
+use Rattle.mmtel_focus.specs.Rooms.{Step}
+use Rattle.mmtel_focus.proofs.Keeping.{same_number, waits}
+use Rattle.mmtel_focus.proofs.Numbering.{come_keeps}
+use Rattle.mmtel_focus.proofs.entering.join_at.Goals as goal
+
+pub put_back-requires : goal.put_back-requires
+put_back-requires c =
+    let k = c.args.place in
+    let x = c.take_out-room.result in
+    let y = c.come-come.new.self in
+    let s : Step = record { room = x; effects = c.args.effects.now } in
+    let after = come c.args.setting.now c.args.now c.args.leg c.args.account c.args.key c.args.invite.now s in
+    let same = same_number c.come-come.result y x after.room c.come-come.ensures.room c.come-come.ensures.refused (come_keeps c.args.setting.now c.args.now c.args.leg c.args.account c.args.key c.args.invite.now s) in
+    subst (λ (t : Kept). slice_get t.items k ≡ Some (new_room y.number)) (sym c.take_out-room.ensures.live) (waits c.args.live.now.items k x y c.take_out-room.ensures.room same)

@@ -1,0 +1,302 @@
+//! The rooms that are live, as they are kept: in the order of their numbers, and each is found by its marks.
+ghost use Rattle.std.specs.Prelude.{◌≡◌, ◌≤◌, ◌<◌, ◌+◌, ◌++◌, ◌∷◌, [], ℕ, IfErr, IfOk, None, OnErr, OnOk, Some, drop, length, remove};
+ghost use Rattle.std.specs.Prelude.{slice_get, slice_set, take, true};
+ghost use Rattle.std.specs.List.Sorted.{IsNonDecreasingBy};
+ghost use Rattle.std.specs.Option.{option_map};
+ghost use Rattle.mmtel_desk.specs.Marks.{AreBelow, Unmarked};
+ghost use Rattle.mmtel_leg.specs.Releases.{released_leg};
+ghost use Rattle.mmtel_scan.specs.Numbers.{next_number};
+ghost use Rattle.mmtel_sdp.specs.Offers.{offers_audio};
+ghost use Rattle.mmtel_focus.specs.Joining.{new_room};
+ghost use Rattle.mmtel_focus.specs.Marks.{marks_of, number_of};
+ghost use Rattle.mmtel_focus.specs.Table.{opened, place_of, room_left, row_in_room};
+
+use crate::marks::put_room;
+use crate::rooms::Room;
+use mmtel_answers::Hearing;
+use mmtel_charging::Row;
+use mmtel_desk::{Index, Mark};
+use mmtel_leg::Released;
+use mmtel_seats::{Effects, Setting};
+use mmtel_transaction::TKey;
+use mmtel_types::{Account, Moment, RoomNo};
+use std::alloc::Global;
+use std::marker::Model;
+use std::mem;
+
+/// The rooms that are live. They must be spent.
+pub struct LiveRooms {
+    rooms: Vec<Room>,
+    opened: u64,
+    index: Index,
+}
+
+impl Model for LiveRooms {
+    ghost use Rattle.mmtel_focus.specs.Marks.{Kept};
+
+    ghost Value = { Kept };
+
+    ghost use Rattle.mmtel_focus.specs.Marks.{AreKept};
+
+    ghost view = { λ r. record { items = r.rooms.items; opened = r.opened } };
+
+    ghost invariant = { λ r. AreKept r.rooms.items r.opened r.index };
+}
+
+/// Spends a room and all its seats, without rows.
+pub fn give_up_room(room: Room, at: Moment) {
+    let Room {
+        number: _,
+        taken: _,
+        counted: _,
+        seats,
+    } = room;
+    let mut seats = seats;
+    'given: while let Some(seat) = seats.pop() {
+        seat.give_up(at);
+    }
+    seats.destroy_empty();
+}
+
+/// The first of all moments: of rows that nobody keeps.
+pub fn beginning() -> Moment {
+    match Moment::new(0) {
+        Some(moment) => moment,
+        None => unreachable!(),
+    }
+}
+
+/// The place of the room of this number.
+fn place_in(rooms: &[Room], number: RoomNo) -> Option<usize>
+    requires { IsNonDecreasingBy number_of rooms.now }
+    ensures { result ≡ place_of number.0 rooms.now }
+{
+    let place = rooms.partition_point(|room| room.number.0 < number.0);
+    if place == rooms.len() {
+        return None;
+    }
+    let found = &rooms[place];
+    if found.number.0 == number.0 {
+        Some(place)
+    } else {
+        None
+    }
+}
+
+/// From which place on no room has a lower number.
+fn below(rooms: &[Room], number: u64) -> usize
+    requires { IsNonDecreasingBy number_of rooms.now }
+    ensures within { result ≤ length rooms.now }
+    ensures lower { AreBelow number_of number (take result rooms.now) }
+{
+    rooms.partition_point(|room| room.number.0 < number)
+}
+
+/// So many places after another one, where so many rooms are kept.
+fn after(from: usize, places: usize, count: usize) -> Option<usize>
+    requires { from + places < count }
+    ensures { result ≡ Some (from + places) }
+{
+    let place = from + places;
+    if place < count { Some(place) } else { None }
+}
+
+/// A room of its own for a leg that comes by an INVITE which offers audio.
+///
+/// # Errors
+///
+/// Want of memory alone; the leg is handed back.
+#[tactic(auto, unfolding(crate::specs::Joining::come))]
+fn open(
+    alloc: Global,
+    setting: &Setting<'_>,
+    now: Moment,
+    number: RoomNo,
+    leg: Released,
+    account: Option<Account>,
+    key: TKey,
+    invite: &Hearing,
+    effects: &mut Effects,
+) -> Result<Room, Released>
+    requires unmetered { (released_leg leg).meter ≡ None }
+    requires audio { offers_audio invite.now.heard.body ≡ true }
+    ensures room { IfOk result (λ room. room ≡ (opened setting.now now leg account key invite.now number effects.old).room) }
+    ensures effects { OnOk result (effects.new ≡ (opened setting.now now leg account key invite.now number effects.old).effects) }
+    ensures handed_back { IfErr result (λ l. l ≡ leg) }
+{
+    let mut room = Room::new(alloc, number);
+    match room.come(alloc, setting, now, leg, account, key, invite, effects) {
+        Ok(()) => Ok(room),
+        Err(leg) => {
+            give_up_room(room, now);
+            Err(leg)
+        }
+    }
+}
+
+impl LiveRooms {
+    /// None yet. It takes no memory.
+    pub fn new(alloc: Global) -> LiveRooms
+        ensures { result ≡ record { items = []; opened = 0 } }
+    {
+        LiveRooms {
+            rooms: Vec::new(alloc),
+            opened: 0,
+            index: Index::new(alloc),
+        }
+    }
+
+    /// The rooms, in the order in which they were opened.
+    pub fn rooms(&self) -> &[Room]
+        ensures { result.now ≡ self.now.items }
+    {
+        &self.rooms
+    }
+
+    /// The place of the room of this number.
+    pub fn place_of(&self, number: RoomNo) -> Option<usize>
+        ensures { result ≡ place_of number.0 self.now.items }
+    {
+        place_in(&self.rooms, number)
+    }
+
+    /// From which place on a room may have this mark.
+    pub fn from(&self, mark: Mark) -> usize
+        ensures within { result ≤ length self.now.items }
+        ensures none { Unmarked marks_of mark (take result self.now.items) }
+    {
+        match self.index.first(mark) {
+            None => self.rooms.len(),
+            Some(number) => below(&self.rooms, number),
+        }
+    }
+
+    /// The rooms from this place on.
+    pub fn rooms_from(&self, from: usize) -> &[Room]
+        requires { from ≤ length self.now.items }
+        ensures { result.now ≡ drop from self.now.items }
+    {
+        let rooms: &[Room] = &self.rooms;
+        &rooms[from..]
+    }
+
+    /// The place of a room that stands at this one among those from another place on.
+    pub fn later(&self, from: usize, place: Option<usize>) -> Option<usize>
+        requires { (n : ℕ) → place ≡ Some n → from + n < length self.now.items }
+        ensures { result ≡ option_map (λ n. from + n) place }
+    {
+        match place {
+            None => None,
+            Some(place) => after(from, place, self.rooms.len()),
+        }
+    }
+
+    /// Opens a room for a leg that comes by an INVITE which offers audio. It has the next number.
+    ///
+    /// # Errors
+    ///
+    /// Want of memory alone, for the room or for its number: 2^64 - 1 are opened in all; the leg is handed back.
+    pub fn open(
+        &mut self,
+        alloc: Global,
+        setting: &Setting<'_>,
+        now: Moment,
+        leg: Released,
+        account: Option<Account>,
+        key: TKey,
+        invite: &Hearing,
+        effects: &mut Effects,
+    ) -> Result<RoomNo, Released>
+        requires unmetered { (released_leg leg).meter ≡ None }
+        requires audio { offers_audio invite.now.heard.body ≡ true }
+        ensures number { IfOk result (λ number. number.0 ≡ next_number self.old.opened) }
+        ensures live { OnOk result (self.new ≡ record {
+          items = self.old.items ++ (opened setting.now now leg account key invite.now (record { 0 = next_number self.old.opened }) effects.old).room ∷ [];
+          opened = next_number self.old.opened;
+        }) }
+        ensures effects { OnOk result (effects.new
+            ≡ (opened setting.now now leg account key invite.now (record { 0 = next_number self.old.opened }) effects.old).effects) }
+        ensures refused { OnErr result (self.new ≡ self.old) }
+        ensures handed_back { IfErr result (λ l. l ≡ leg) }
+    {
+        if self.opened == u64::MAX {
+            return Err(leg);
+        }
+        if self.rooms.reserve(1).is_err() {
+            return Err(leg);
+        }
+        let number = RoomNo(self.opened.saturating_add(1));
+        match open(
+            alloc, setting, now, number, leg, account, key, invite, effects,
+        ) {
+            Err(leg) => Err(leg),
+            Ok(room) => {
+                put_room(&mut self.index, &room, true);
+                self.rooms.push_reserved(room);
+                self.opened = number.0;
+                Ok(number)
+            }
+        }
+    }
+
+    /// Takes the room at this place out, for a step of it: an empty room of its number stands there until it is put back.
+    pub fn take_out(&mut self, alloc: Global, place: usize) -> Room
+        requires { place < length self.old.items }
+        ensures room { slice_get self.old.items place ≡ Some result }
+        ensures live { self.new ≡ record self.old { items = slice_set self.old.items place (new_room result.number) } }
+    {
+        let room = &mut self.rooms[place];
+        put_room(&mut self.index, room, false);
+        let blank = Room::new(alloc, room.number);
+        mem::replace(room, blank)
+    }
+
+    /// Puts the room back that was taken out at this place.
+    pub fn put_back(&mut self, place: usize, room: Room)
+        requires { slice_get self.old.items place ≡ Some (new_room room.number) }
+        ensures { self.new ≡ record self.old { items = slice_set self.old.items place room } }
+    {
+        put_room(&mut self.index, &room, true);
+        let blank = mem::replace(&mut self.rooms[place], room);
+        give_up_room(blank, beginning());
+    }
+
+    /// Takes the room at this place away.
+    pub fn remove(&mut self, place: usize) -> Room
+        requires { place < length self.old.items }
+        ensures room { slice_get self.old.items place ≡ Some result }
+        ensures live { self.new ≡ record self.old { items = remove self.old.items place } }
+    {
+        let room = self.rooms.remove(place);
+        put_room(&mut self.index, &room, false);
+        room
+    }
+
+    /// Leaves a seat of the room at this place.
+    pub fn leave_at(&mut self, place: usize, seat: u64, now: Moment) -> Option<Row>
+        requires { place < length self.old.items }
+        ensures live { self.new ≡ record self.old { items = room_left seat place (slice_get self.old.items place) self.old.items } }
+        ensures row { result ≡ row_in_room now seat (slice_get self.old.items place) }
+    {
+        let room = &mut self.rooms[place];
+        put_room(&mut self.index, room, false);
+        let row = room.leave(seat, now);
+        put_room(&mut self.index, room, true);
+        row
+    }
+
+    /// Spends all of them, without rows. It takes no memory.
+    pub fn give_up(self) {
+        let LiveRooms {
+            rooms,
+            opened: _,
+            index,
+        } = self;
+        drop(index);
+        let mut rooms = rooms;
+        'given: while let Some(room) = rooms.pop() {
+            give_up_room(room, beginning());
+        }
+        rooms.destroy_empty();
+    }
+}

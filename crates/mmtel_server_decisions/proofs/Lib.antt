@@ -1,2 +1,5 @@
 pub mod Arming
+mod Leading
 mod Queueing
+mod Ranking
+mod Sooner

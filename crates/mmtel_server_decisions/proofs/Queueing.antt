@@ -1,312 +1,311 @@
--- The deadlines as they are kept: the first one is the one that is chosen, the others stand as they stood, and one that is armed stands behind them.
-use Rattle.std.proofs.Common.{◌≡◌, ℕ, ◌+◌, ◌≤◌, List, [], ◌∷◌, ◌++◌, ◌⊎◌, inl, inr, length, map, refl, sym, ap, ◌∙◌, arith, Option, Some, None, IfSome, IsSome, ◌↔◌, ◌<◌, suc, subst}
-use Rattle.std.specs.Prelude.{Bool, true, false, ◌==◌, ◌&&◌, ◌||◌, nat_le, nat_lt, slice_get, if◌then◌else◌}
-use Rattle.std.specs.BTreeMap.{insert_entry}
-use Rattle.std.specs.List.{All, AllByRecursion}
-use Rattle.std.specs.List.Sorted.{IsStrictlySortedBy}
-use Rattle.std.specs.Map.{keys_of}
-use Rattle.std.specs.Ordering.{match_ordering, nat_cmp, ordering_then}
+-- The deadlines as they are kept: the foremost one is the one that is chosen, one that is armed stands behind the others, and one that is taken out leaves the others as they stood.
+use Rattle.std.proofs.Common.{◌≡◌, ℕ, ◌+◌, ◌≤◌, ◌<◌, ◌⊎◌, inl, inr, Bool, true, false, cond, not, List, [], ◌∷◌, ◌++◌, append-nil, map, Option, Some, None, refl, sym, ap, ◌∙◌, subst, arith}
+use Rattle.std.specs.Prelude.{◌==◌, nat_le}
+use Rattle.std.specs.BTreeMap.{insert_entry, is_at}
+use Rattle.std.specs.List.{AllByRecursion, filter}
+use Rattle.std.specs.Map.{lookup, remove_entry, values_of}
+use Rattle.std.specs.Option.{option_map}
+use Rattle.std.specs.Ordering.{match_ordering, nat_cmp}
 use Rattle.std.specs.declared.cmp.Ordering.{Ordering}
-use Rattle.std.specs.declared.cmp.Ordering.TheVariants.{Less, Equal, Greater}
-use Rattle.std.proofs.lemmas.Bool.{cases_lt, le-leb, lt-leb}
+use Rattle.std.specs.declared.cmp.Ordering.TheVariants.{Greater}
 use Rattle.std.proofs.lemmas.Bool.Decides.{nat_tests}
 use Rattle.std.proofs.lemmas.Cmp.{ranked}
 use Rattle.std.proofs.lemmas.List.{map-append}
-use Rattle.std.proofs.lemmas.Map.Keys.{sorted_head}
+use Rattle.std.proofs.lemmas.List.Elements.{filter-append}
 use Rattle.std.proofs.lemmas.Option.{none-some, same_Some}
-use Rattle.mmtel_run.specs.Deadlines.{Armed, Chosen, choose, chosen, first_armed, is_sooner, rank}
+use Rattle.mmtel_timers.specs.Deadlines.{Deadline, armed_last, soonest, without}
+use Rattle.mmtel_run.specs.Deadlines as run
+use Rattle.mmtel_run.specs.Deadlines.{choose, chosen, first_armed, is_sooner, rank}
 use Rattle.mmtel_server_decisions.specs.Arming.{alarm_in, armed_in, first_in, queue_of}
-use Rattle.mmtel_server_decisions.specs.Queue.{AreQueued, IsQueued, Queued, armed_of, by_order, placed, seen}
-use Rattle.mmtel_server_decisions.specs.declared.armed.Alarm.{Alarm}
-use Rattle.mmtel_server_decisions.specs.declared.armed.Armed as declared
-use Rattle.mmtel_server_decisions.specs.declared.turns.Turn.{Turn}
+use Rattle.mmtel_server_decisions.specs.Queue.{AreKept, Follow, Numbered, armed_at, deadline_of, due_by, foremost, in_rank, in_ranks, key_of, of_rank, rank_of, run_of, sooner_of}
+use Rattle.mmtel_server_decisions.specs.declared.armed.Armed.{Armed}
+use Rattle.mmtel_server_decisions.specs.declared.ranks.Ranks.{Ranks}
+use Rattle.mmtel_server_decisions.proofs.Leading.{Beats, Leads, Led, OfRank, all_weaken, both_led, found_number, is_number, other_number, own_number, rank_led, same_number}
+use Rattle.mmtel_server_decisions.proofs.Ranking.{Ranked, rank_is}
+use Rattle.mmtel_server_decisions.proofs.Sooner.{behind_one, in_front, is_late, none_due, not_earlier}
 
--- ---- turns
+abbrev pub runs : List Numbered → List run.Armed
+runs es = queue_of (values_of es)
 
-abbrev pub turn_cmp : Turn → Turn → Ordering
-turn_cmp x y = ordering_then (nat_cmp x.at y.at) (ordering_then (nat_cmp x.step y.step) (ordering_then (nat_cmp x.rank y.rank) (nat_cmp x.order y.order)))
+-- ---- the one that leads all is chosen
 
-then_less : (o p : Ordering) → ordering_then o p ≡ Less → (o ≡ Less) ⊎ ((o ≡ Equal) × (p ≡ Less))
-then_less Less p e = inl refl
-then_less Equal p e = inr (refl, e)
-then_less Greater p e = absurd (let f : Greater ≡ Less = e in cc)
+abbrev without_number : ℕ → List Numbered → List Numbered
+without_number n = remove_entry (is_number n)
 
-then_equal : (o p : Ordering) → ordering_then o p ≡ Equal → p ≡ Equal
-then_equal Less p e = absurd (let f : Less ≡ Equal = e in cc)
-then_equal Equal p e = e
-then_equal Greater p e = absurd (let f : Greater ≡ Equal = e in cc)
+all_runs : (P : run.Armed → Type 0) (es : List Numbered) → AllByRecursion (λ e. P (run_of e)) es → AllByRecursion P (runs es)
+all_runs P [] all = tt
+all_runs P (e ∷ es) all = (all.0, all_runs P es all.1)
 
-same_order : (x y : Turn) → turn_cmp x y ≡ Equal → x.order ≡ y.order
-same_order x y e =
-    let f = then_equal (nat_cmp x.at y.at) _ e in
-    let g = then_equal (nat_cmp x.step y.step) _ f in
-    ranked x.order y.order Equal (sym (then_equal (nat_cmp x.rank y.rank) _ g))
-
--- one comes before another
-abbrev Comes : Turn → Turn → Type 0
-Comes x y = (x.at < y.at) ⊎ ((x.at ≡ y.at) × ((x.step < y.step) ⊎ ((x.step ≡ y.step) × ((x.rank < y.rank) ⊎ ((x.rank ≡ y.rank) × (x.order < y.order))))))
-
-comes : (x y : Turn) → turn_cmp x y ≡ Less → Comes x y
-comes x y e = elim (then_less (nat_cmp x.at y.at) _ e) [
-  | inl a ↦ inl (ranked x.at y.at Less (sym a))
-  | inr p ↦ inr (
-    ranked x.at y.at Equal (sym p.0),
-    elim (then_less (nat_cmp x.step y.step) _ p.1) [
-      | inl s ↦ inl (ranked x.step y.step Less (sym s))
-      | inr q ↦ inr (
-        ranked x.step y.step Equal (sym q.0),
-        elim (then_less (nat_cmp x.rank y.rank) _ q.1) [
-          | inl r ↦ inl (ranked x.rank y.rank Less (sym r))
-          | inr u ↦ inr (ranked x.rank y.rank Equal (sym u.0), ranked x.order y.order Less (sym u.1))
-        ],
-      )
-    ],
-  )
-]
-
--- ---- sooner, by numbers
-
-abbrev sooner_by : (a s r b t u : ℕ) → Bool
-sooner_by a s r b t u = nat_lt a b || (a == b && (nat_lt s t || (s == t && nat_lt r u)))
-
-module _ (a s r b t u : ℕ) where
-  late_at : a < b → sooner_by b t u a s r ≡ false
-  late_at l = grind (arith, nat_tests)
-
-  late_step : a ≡ b → s < t → sooner_by b t u a s r ≡ false
-  late_step e l = grind (arith, nat_tests)
-
-  late_rank : a ≡ b → s ≡ t → r ≤ u → sooner_by b t u a s r ≡ false
-  late_rank e f l = grind (arith, nat_tests)
-
-  soon_at : a < b → sooner_by a s r b t u ≡ true
-  soon_at l = grind (arith, nat_tests)
-
-  soon_step : a ≡ b → s < t → sooner_by a s r b t u ≡ true
-  soon_step e l = grind (arith, nat_tests)
-
-  soon_rank : a ≡ b → s ≡ t → r < u → sooner_by a s r b t u ≡ true
-  soon_rank e f l = grind (arith, nat_tests)
-
--- ---- one that comes before another in the queue
-
-abbrev pub run_of : Queued → Armed
-run_of q = armed_in (armed_of q)
-
-abbrev pub runs : List Queued → List Armed
-runs qs = queue_of (map (λ q. armed_of q) qs)
-
--- the other is not sooner, and is later where it was armed before
-abbrev Behind : Queued → Queued → Type 0
-Behind q x = (is_sooner (run_of x) (run_of q) ≡ false) × (x.0.order ≤ q.0.order → is_sooner (run_of q) (run_of x) ≡ true)
-
-behind : (next : ℕ) (q x : Queued) → IsQueued next q → IsQueued next x → turn_cmp q.0 x.0 ≡ Less → Behind q x
-behind next q x one other less =
-    let a = q.0.at in
-    let s = q.0.step in
-    let r = rank (alarm_in q.1) in
-    let b = x.0.at in
-    let t = x.0.step in
-    let u = rank (alarm_in x.1) in
-    let e = one.ranked in
-    let f = other.ranked in
-    elim (comes q.0 x.0 less) [
-      | inl l ↦ (late_at a s r b t u l, λ o. soon_at a s r b t u l)
-      | inr p ↦ elim p.1 [
-        | inl l ↦ (late_step a s r b t u p.0 l, λ o. soon_step a s r b t u p.0 l)
-        | inr m ↦ elim m.1 [
-          | inl l ↦ (late_rank a s r b t u p.0 m.0 (omega (arith, e, f, l)), λ o. soon_rank a s r b t u p.0 m.0 (omega (arith, e, f, l)))
-          | inr n ↦ (let h = n.0 in late_rank a s r b t u p.0 m.0 (omega (arith, e, f, h)), λ o. let h = n.1 in absurd (omega (arith, h, o)))
-        ]
-      ]
-    ]
-
-not_before : (q x : Turn) → turn_cmp q x ≡ Less → q.at ≤ x.at
-not_before q x less = elim (comes q x less) [
-  | inl l ↦ omega (arith, l)
-  | inr p ↦ let h = p.0 in omega (arith, h)
-]
-
--- ---- all of those that are kept
-
-all_placed : (P : Queued → Type 0) (q : Queued) (qs : List Queued) → P q → AllByRecursion P qs → AllByRecursion P (placed q qs)
-all_placed P q [] one all = (one, tt)
-all_placed P q (x ∷ xs) one all = go (all_placed P q xs one all.1) (nat_lt q.0.order x.0.order)
-  where
-    go : AllByRecursion P (placed q xs) → (b : Bool) → AllByRecursion P (if b then q ∷ x ∷ xs else x ∷ placed q xs)
-    go later true = (one, all)
-    go later false = (all.0, later)
-
-all_by_order : (P : Queued → Type 0) (qs : List Queued) → AllByRecursion P qs → AllByRecursion P (by_order qs)
-all_by_order P [] all = tt
-all_by_order P (q ∷ qs) all = all_placed P q (by_order qs) all.0 (all_by_order P qs all.1)
-
-all_run : (P : Armed → Type 0) (qs : List Queued) → AllByRecursion (λ q. P (run_of q)) qs → AllByRecursion P (runs qs)
-all_run P [] all = tt
-all_run P (q ∷ qs) all = (all.0, all_run P qs all.1)
-
--- what holds of all holds of the one that is chosen
-first_is : (P : Armed → Type 0) (now : ℕ) (queue : List Armed) → AllByRecursion P queue → IfSome (first_armed now queue) (λ c. P c.first)
-first_is P now [] all = tt
-first_is P now (x ∷ others) all = go (nat_le x.at now) (first_armed now others) (first_is P now others all.1)
-  where
-    tested : (behind : Chosen) (b : Bool) → P behind.first → P (if b then choose behind.first (x ∷ behind.others) else choose x others).first
-    tested behind true there = there
-    tested behind false there = all.0
-
-    go : (b : Bool) (o : Option Chosen) → IfSome o (λ c. P c.first) → IfSome (chosen b x others o) (λ c. P c.first)
-    go false None there = tt
-    go false (Some behind) there = there
-    go true None there = all.0
-    go true (Some behind) there = tested behind (is_sooner behind.first x) there
-
-none_due : (now : ℕ) (queue : List Armed) → AllByRecursion (λ (a : Armed). now < a.at) queue → first_armed now queue ≡ None
-none_due now [] all = refl
-none_due now (x ∷ others) all =
-    ap (λ (b : Bool). chosen b x others (first_armed now others)) (lt-leb x.at now all.0) ∙ ap (chosen false x others) (none_due now others all.1)
-
--- ---- the first one is chosen
-
-module _ (now : ℕ) (q : Queued) (due : q.0.at ≤ now) where
-  is_due : nat_le q.0.at now ≡ true
-  is_due = le-leb q.0.at now due
-
-  in_front : (xs : List Queued) → AllByRecursion (λ x. is_sooner (run_of x) (run_of q) ≡ false) xs → first_armed now (runs (q ∷ xs)) ≡ Some (choose (run_of q) (runs xs))
-  in_front xs all =
-      ap (λ (b : Bool). chosen b (run_of q) (runs xs) (first_armed now (runs xs))) is_due
-      ∙ go (first_armed now (runs xs)) (first_is (λ (a : Armed). is_sooner a (run_of q) ≡ false) now (runs xs) (all_run (λ (a : Armed). is_sooner a (run_of q) ≡ false) xs all))
+module _ (now : ℕ) (q : Numbered) where
+  chosen_leads : (es : List Numbered) → q.1.at ≤ now → lookup (is_number q.0) es ≡ Some q.1 → AllByRecursion (Beats q) es → Follow es
+      → first_armed now (runs es) ≡ Some (choose (run_of q) (runs (without_number q.0 es)))
+  chosen_leads [] due there beats follow = absurd (none-some q.1 there)
+  chosen_leads (x ∷ xs) due there beats follow = by_test (is_number q.0 x.0) refl there (λ t. chosen_leads xs due t beats.1 follow.1)
     where
-      go : (o : Option Chosen) → IfSome o (λ c. is_sooner c.first (run_of q) ≡ false) → chosen true (run_of q) (runs xs) o ≡ Some (choose (run_of q) (runs xs))
-      go None late = refl
-      go (Some behind) late = ap (λ (b : Bool). Some (if b then choose behind.first (run_of q ∷ behind.others) else choose (run_of q) (runs xs))) late
+      by_test : (b : Bool) → is_number q.0 x.0 ≡ b → cond b (Some x.1) (lookup (is_number q.0) xs) ≡ Some q.1
+          → (lookup (is_number q.0) xs ≡ Some q.1 → first_armed now (runs xs) ≡ Some (choose (run_of q) (runs (without_number q.0 xs))))
+          → first_armed now (run_of x ∷ runs xs) ≡ Some (choose (run_of q) (runs (cond b xs (x ∷ without_number q.0 xs))))
+      by_test true e t later =
+          let same : run_of x ≡ run_of q = ap armed_in (same_Some x.1 q.1 t) in
+          ap (λ (a : run.Armed). first_armed now (a ∷ runs xs)) same
+          ∙ in_front now (run_of q) due (runs xs) (all_runs (λ (a : run.Armed). is_sooner a (run_of q) ≡ false) xs (all_weaken (Beats q) (λ e. is_sooner (run_of e) (run_of q) ≡ false) (λ e b. b.0) xs beats.1))
+      by_test false e t later =
+          let numbers : AllByRecursion (λ e. x.0 < e.0) xs = all_weaken (λ e. (x.0 < e.0) × (x.1.step ≤ e.1.step)) (λ e. x.0 < e.0) (λ e l. l.0) xs follow.0 in
+          let l : x.0 < q.0 = found_number x.0 q.0 q.1 xs t numbers in
+          ap (chosen (nat_le x.1.at now) (run_of x) (runs xs)) (later t)
+          ∙ behind_one (nat_le x.1.at now) (run_of q) (run_of x) (runs xs) (runs (without_number q.0 xs)) (beats.0.1 l)
 
-  not_sooner : (xs : List Queued) → AllByRecursion (Behind q) xs → AllByRecursion (λ x. is_sooner (run_of x) (run_of q) ≡ false) xs
-  not_sooner [] all = tt
-  not_sooner (x ∷ xs) all = (all.0.0, not_sooner xs all.1)
+  late_leads : (es : List Numbered) → now < q.1.at → AllByRecursion (Beats q) es → first_armed now (runs es) ≡ None
+  late_leads es late beats =
+      none_due now (runs es) (all_runs (λ (a : run.Armed). now < a.at) es (all_weaken (Beats q) (λ e. now < e.1.at) (λ e b.
+      let l : q.1.at ≤ e.1.at = not_earlier (run_of q) (run_of e) (is_late (run_of q) (run_of e) b.0) in omega (arith, late, l)) es beats))
 
-  pub chosen_placed : (xs : List Queued) → AllByRecursion (Behind q) xs → first_armed now (runs (placed q xs)) ≡ Some (choose (run_of q) (runs xs))
-  chosen_placed [] all = in_front [] tt
-  chosen_placed (x ∷ xs) all = go (chosen_placed xs all.1) (nat_lt q.0.order x.0.order) refl
-    where
-      sooner_one : (b : Bool) → is_sooner (run_of q) (run_of x) ≡ true → chosen b (run_of x) (runs (placed q xs)) (Some (choose (run_of q) (runs xs))) ≡ Some (choose (run_of q) (runs (x ∷ xs)))
-      sooner_one false soon = refl
-      sooner_one true soon = ap (λ (c : Bool). Some (if c then choose (run_of q) (run_of x ∷ runs xs) else choose (run_of x) (runs (placed q xs)))) soon
+-- ---- the foremost one leads all
 
-      go : first_armed now (runs (placed q xs)) ≡ Some (choose (run_of q) (runs xs)) → (b : Bool) → nat_lt q.0.order x.0.order ≡ b
-          → first_armed now (runs (if b then q ∷ x ∷ xs else x ∷ placed q xs)) ≡ Some (choose (run_of q) (runs (x ∷ xs)))
-      go later true e = in_front (x ∷ xs) (not_sooner (x ∷ xs) all)
-      go later false e =
-          let before : x.0.order ≤ q.0.order = grind (arith, nat_tests) in
-          ap (chosen (nat_le x.0.at now) (run_of x) (runs (placed q xs))) later ∙ sooner_one (nat_le x.0.at now) (all.0.1 before)
+module _ (next step : ℕ) (ranks : Ranks) (es : List Numbered) (are : AreKept next step ranks es) where
+  abbrev LowRanks : Numbered → Type 0
+  LowRanks e = OfRank 0 e ⊎ OfRank 1 e
 
-module _ (now next : ℕ) (q : Queued) (qs : List Queued) (less : AllByRecursion (λ (y : Turn). turn_cmp q.0 y ≡ Less) (keys_of qs)) (are : AreQueued next (q ∷ qs)) where
-  behinds : (xs : List Queued) → AllByRecursion (λ (y : Turn). turn_cmp q.0 y ≡ Less) (keys_of xs) → AreQueued next xs → AllByRecursion (Behind q) xs
-  behinds [] l a = tt
-  behinds (x ∷ xs) l a = (behind next q x are.0 a.0 l.0, behinds xs l.1 a.1)
+  abbrev AnyRank : Numbered → Type 0
+  AnyRank e = LowRanks e ⊎ OfRank 2 e
 
-  all_late : now < q.0.at → (xs : List Queued) → AllByRecursion (λ (y : Turn). turn_cmp q.0 y ≡ Less) (keys_of xs) → AllByRecursion (λ (x : Queued). now < x.0.at) xs
-  all_late late [] l = tt
-  all_late late (x ∷ xs) l = (let h = not_before q.0 x.0 l.0 in omega (arith, late, h), all_late late xs l.1)
-
-  pub first_taken : q.0.at ≤ now → first_armed now (queue_of (seen (q ∷ qs))) ≡ Some (choose (run_of q) (queue_of (seen qs)))
-  first_taken due = chosen_placed now q due (by_order qs) (all_by_order (Behind q) qs (behinds qs less are.1))
-
-  pub none_taken : now < q.0.at → first_armed now (queue_of (seen (q ∷ qs))) ≡ None
-  none_taken late =
-      none_due now (queue_of (seen (q ∷ qs))) (all_run (λ (a : Armed). now < a.at) (by_order (q ∷ qs)) (all_by_order (λ (x : Queued). now < x.0.at) (q ∷ qs) (late, all_late late qs less)))
-
-pub first_found : (now next : ℕ) (qs : List Queued) (q : Queued) → slice_get qs 0 ≡ Some q → IsStrictlySortedBy turn_cmp (keys_of qs) → AreQueued next qs → q.0.at ≤ now
-    → Some (run_of q) ≡ first_in (first_armed now (queue_of (seen qs)))
-first_found now next [] q is sorted are due = absurd (none-some q is)
-first_found now next (x ∷ xs) q is sorted are due =
-    let e : x ≡ q = same_Some x q is in
-    ap (λ (z : Queued). Some (run_of z)) (sym e) ∙ sym (ap first_in (first_taken now next x xs (sorted_head turn_cmp x.0 (keys_of xs) sorted) are (let h = ap (λ (z : Queued). z.0.at) e in omega (arith, h, due))))
-
-pub none_found : (now next : ℕ) (qs : List Queued) (q : Queued) → slice_get qs 0 ≡ Some q → IsStrictlySortedBy turn_cmp (keys_of qs) → AreQueued next qs → now < q.0.at
-    → None ≡ first_in (first_armed now (queue_of (seen qs)))
-none_found now next [] q is sorted are late = absurd (none-some q is)
-none_found now next (x ∷ xs) q is sorted are late =
-    let e : x ≡ q = same_Some x q is in
-    sym (ap first_in (none_taken now next x xs (sorted_head turn_cmp x.0 (keys_of xs) sorted) are (let h = ap (λ (z : Queued). z.0.at) e in omega (arith, h, late))))
-
--- one that was found is due, so it is the one that leaves
-by_recursion : {X : Type 0} (P : X → Type 0) (xs : List X) → All P xs → AllByRecursion P xs
-by_recursion P [] all = tt
-by_recursion P (x ∷ xs) all = (all 0 x (omega arith), by_recursion P xs (λ k d l. all (suc k) d (omega (arith, l))))
-
-module _ (now next : ℕ) (rest : List Queued) (a : declared.Armed) where
-  taken_out : (q : Queued) → AllByRecursion (λ (y : Turn). turn_cmp q.0 y ≡ Less) (keys_of rest) → AreQueued next (q ∷ rest) → Some (armed_in a) ≡ first_in (first_armed now (queue_of (seen (q ∷ rest))))
-      → Some (choose (armed_in a) (queue_of (seen rest))) ≡ first_armed now (queue_of (seen (q ∷ rest)))
-  taken_out q less are found = elim (cases_lt now q.0.at) [
-    | inl late ↦ absurd (none-some (armed_in a) (sym (found ∙ ap first_in (none_taken now next q rest less are late))))
-    | inr due ↦
-        let e : first_armed now (queue_of (seen (q ∷ rest))) ≡ Some (choose (run_of q) (queue_of (seen rest))) = first_taken now next q rest less are due in
-        let same : armed_in a ≡ run_of q = same_Some (armed_in a) (run_of q) (found ∙ ap first_in e) in
-        ap (λ (x : Armed). Some (choose x (queue_of (seen rest)))) same ∙ sym e
+  any_rank : (e : Numbered) → AnyRank e
+  any_rank e = elim (rank_is (alarm_in e.1.alarm)) [
+    | inl z ↦ inl (inl z)
+    | inr k ↦ elim k [ inl o ↦ inl (inr o) | inr t ↦ inr t ]
   ]
 
-  pub popped : (qs : List Queued) (r : Option Queued) → IfSome r (λ q. qs ≡ q ∷ rest) → IfSome r (λ q. All (λ (y : Turn). turn_cmp q.0 y ≡ Less) (keys_of rest)) → (IsSome r ↔ (0 < length qs)) → AreQueued next qs
-      → Some (armed_in a) ≡ first_in (first_armed now (queue_of (seen qs))) → Some (choose (armed_in a) (queue_of (seen rest))) ≡ first_armed now (queue_of (seen qs))
-  popped qs (Some q) is less some are found =
-      let f : Some (armed_in a) ≡ first_in (first_armed now (queue_of (seen (q ∷ rest)))) = found ∙ ap (λ (l : List Queued). first_in (first_armed now (queue_of (seen l)))) is in
-      taken_out q (by_recursion (λ (y : Turn). turn_cmp q.0 y ≡ Less) (keys_of rest) less) (subst (λ (l : List Queued). AreQueued next l) is are) f
-      ∙ sym (ap (λ (l : List Queued). first_armed now (queue_of (seen l))) is)
-  popped [] None is less some are found = absurd (none-some (armed_in a) (sym found))
-  popped (x ∷ xs) None is less some are found = absurd (let e : false ≡ true = some.1 (omega arith) in cc)
+  abbrev ranks_of : (no_replies caps no_acks : List Deadline) → Ranks
+  ranks_of no_replies caps no_acks = record { no_replies = no_replies; caps = caps; no_acks = no_acks }
+
+  foremost_led : Led AnyRank (foremost ranks es) es
+  foremost_led =
+      subst (λ (r : Ranks). Led AnyRank (foremost r es) es) ranks_are (
+      both_led LowRanks (OfRank 2) (λ a b p q s. elim p [ inl z ↦ absurd (omega (arith, z, q, s)) | inr o ↦ absurd (omega (arith, o, q, s)) ]) es
+      (sooner_of (armed_at (soonest (of_rank 0 es)) es) (armed_at (soonest (of_rank 1 es)) es)) (armed_at (soonest (of_rank 2 es)) es)
+      (both_led (OfRank 0) (OfRank 1) (λ a b p q s. absurd (omega (arith, p, q, s))) es (armed_at (soonest (of_rank 0 es)) es) (armed_at (soonest (of_rank 1 es)) es)
+      (rank_led 0 es are.in_order) (rank_led 1 es are.in_order))
+      (rank_led 2 es are.in_order))
+    where
+      ranks_are : ranks_of (of_rank 0 es) (of_rank 1 es) (of_rank 2 es) ≡ ranks
+      ranks_are =
+          ap (λ (l : List Deadline). ranks_of l (of_rank 1 es) (of_rank 2 es)) (sym are.no_replies)
+          ∙ (ap (λ (l : List Deadline). ranks_of ranks.no_replies l (of_rank 2 es)) (sym are.caps)
+          ∙ ap (λ (l : List Deadline). ranks_of ranks.no_replies ranks.caps l) (sym are.no_acks))
+
+  beats_all : (q : Numbered) → Leads AnyRank q es → AllByRecursion (Beats q) es
+  beats_all q leads = all_weaken (λ e. AnyRank e → Beats q e) (Beats q) (λ e b. b (any_rank e)) es leads.beats
+
+  none_kept : (xs : List Numbered) → AllByRecursion (λ e. AnyRank e → ⊥) xs → xs ≡ []
+  none_kept [] all = refl
+  none_kept (x ∷ xs) all = absurd (all.0 (any_rank x))
+
+  -- what is said of the one that is due
+  abbrev Says : ℕ → Option Numbered → Type 0
+  Says now None = first_armed now (runs es) ≡ None
+  Says now (Some q) = (first_armed now (runs es) ≡ Some (choose (run_of q) (runs (without_number q.0 es)))) × (lookup (is_number q.0) es ≡ Some q.1)
+
+  pub says : (now : ℕ) → Says now (due_by now (foremost ranks es))
+  says now = by_cases (foremost ranks es) foremost_led
+    where
+      by_due : (q : Numbered) (b : Bool) → nat_le q.1.at now ≡ b → Leads AnyRank q es → Says now (cond b (Some q) None)
+      by_due q true e leads = (chosen_leads now q es (grind (arith, nat_tests)) leads.there (beats_all q leads) are.in_order, leads.there)
+      by_due q false e leads = late_leads now q es (grind (arith, nat_tests)) (beats_all q leads)
+
+      by_cases : (o : Option Numbered) → Led AnyRank o es → Says now (due_by now o)
+      by_cases None none = ap (λ (l : List Numbered). first_armed now (runs l)) (none_kept es none)
+      by_cases (Some q) leads = by_due q (nat_le q.1.at now) refl leads
+
+  pub first_found : (now : ℕ) → option_map (λ q. run_of q) (due_by now (foremost ranks es)) ≡ first_in (first_armed now (runs es))
+  first_found now = by_cases (due_by now (foremost ranks es)) (says now)
+    where
+      by_cases : (o : Option Numbered) → Says now o → option_map (λ q. run_of q) o ≡ first_in (first_armed now (runs es))
+      by_cases None none = sym (ap first_in none)
+      by_cases (Some q) says = sym (ap first_in says.0)
+
+  pub none_found : (now : ℕ) → None ≡ due_by now (foremost ranks es) → None ≡ first_armed now (runs es)
+  none_found now e = sym (subst (Says now) (sym e) (says now))
+
+  pub taken_out : (now : ℕ) (q : Numbered) → Some q ≡ due_by now (foremost ranks es) → Some (choose (run_of q) (runs (without_number q.0 es))) ≡ first_armed now (runs es)
+  taken_out now q e = let said : Says now (Some q) = subst (Says now) (sym e) (says now) in sym said.0
+
+-- ---- those of a rank once one is armed or taken out
+
+all_last : {X : Type 0} (P : X → Type 0) (xs : List X) (x : X) → AllByRecursion P xs → P x → AllByRecursion P (xs ++ x ∷ [])
+all_last P [] x all one = (one, tt)
+all_last P (y ∷ ys) x all one = (all.0, all_last P ys x all.1 one)
+
+all_out : (P : Numbered → Type 0) (n : ℕ) (es : List Numbered) → AllByRecursion P es → AllByRecursion P (without_number n es)
+all_out P n [] all = tt
+all_out P n (x ∷ xs) all = by_test (is_number n x.0) (all_out P n xs all.1)
+  where
+    by_test : (b : Bool) → AllByRecursion P (without_number n xs) → AllByRecursion P (cond b xs (x ∷ without_number n xs))
+    by_test true later = all.1
+    by_test false later = (all.0, later)
+
+module _ (r n : ℕ) where
+  -- no number of these
+  none_of : (es : List Numbered) → AllByRecursion (λ e. e.0 ≡ n → ⊥) es → without (key_of n) (of_rank r es) ≡ of_rank r es
+  none_of [] all = refl
+  none_of (x ∷ xs) all = by_test (rank_of x == r) (none_of xs all.1)
+    where
+      other : (x.0 == n) ≡ false
+      other = not_of (x.0 == n) refl
+        where
+          not_of : (b : Bool) → (x.0 == n) ≡ b → b ≡ false
+          not_of false e = refl
+          not_of true e = absurd (all.0 (grind (arith, nat_tests)))
+
+      by_test : (b : Bool) → without (key_of n) (of_rank r xs) ≡ of_rank r xs
+          → without (key_of n) (map (λ e. deadline_of e) (cond b (x ∷ filter (λ e. rank_of e == r) xs) (filter (λ e. rank_of e == r) xs)))
+          ≡ map (λ e. deadline_of e) (cond b (x ∷ filter (λ e. rank_of e == r) xs) (filter (λ e. rank_of e == r) xs))
+      by_test true later =
+          ap (λ (t : Bool). cond (not t) (deadline_of x ∷ without (key_of n) (of_rank r xs)) (without (key_of n) (of_rank r xs))) other ∙ ap (λ (l : List Deadline). deadline_of x ∷ l) later
+      by_test false later = later
+
+  of_rank_out : (es : List Numbered) → Follow es → of_rank r (without_number n es) ≡ without (key_of n) (of_rank r es)
+  of_rank_out [] follow = refl
+  of_rank_out (x ∷ xs) follow = by_tests (is_number n x.0) (rank_of x == r) refl refl (of_rank_out xs follow.1)
+    where
+      left : List Numbered
+      left = without_number n xs
+
+      of_xs : List Deadline
+      of_xs = without (key_of n) (of_rank r xs)
+
+      none : n ≡ x.0 → of_xs ≡ of_rank r xs
+      none e = none_of xs (all_weaken (λ y. (x.0 < y.0) × (x.1.step ≤ y.1.step)) (λ y. y.0 ≡ n → ⊥) (λ y l s. let h = l.0 in omega (arith, e, h, s)) xs follow.0)
+
+      here : (c : Bool) → (rank_of x == r) ≡ c → of_rank r (x ∷ left) ≡ map (λ e. deadline_of e) (cond c (x ∷ filter (λ e. rank_of e == r) left) (filter (λ e. rank_of e == r) left))
+      here c f = ap (λ (t : Bool). map (λ e. deadline_of e) (cond t (x ∷ filter (λ e. rank_of e == r) left) (filter (λ e. rank_of e == r) left))) f
+
+      tested : (t : Bool) → (x.0 == n) ≡ t → without (key_of n) (deadline_of x ∷ of_rank r xs) ≡ cond (not t) (deadline_of x ∷ of_xs) of_xs
+      tested t g = ap (λ (t : Bool). cond (not t) (deadline_of x ∷ of_xs) of_xs) g
+
+      by_tests : (b c : Bool) → is_number n x.0 ≡ b → (rank_of x == r) ≡ c → of_rank r left ≡ of_xs
+          → of_rank r (cond b xs (x ∷ left)) ≡ without (key_of n) (map (λ e. deadline_of e) (cond c (x ∷ filter (λ e. rank_of e == r) xs) (filter (λ e. rank_of e == r) xs)))
+      by_tests true true e f later =
+          let s : n ≡ x.0 = same_number n x.0 e in
+          let t : (x.0 == n) ≡ true = grind (arith, nat_tests, s) in
+          sym (tested true t ∙ none s)
+      by_tests true false e f later = sym (none (same_number n x.0 e))
+      by_tests false true e f later = here true f ∙ (ap (λ (l : List Deadline). deadline_of x ∷ l) later ∙ sym (tested false (not_of (x.0 == n) refl)))
+        where
+          not_of : (b : Bool) → (x.0 == n) ≡ b → b ≡ false
+          not_of false g = refl
+          not_of true g =
+              let s : n ≡ x.0 = grind (arith, nat_tests, g) in
+              absurd (let t : true ≡ false = sym (subst (λ (m : ℕ). is_number n m ≡ true) s (own_number n)) ∙ e in cc)
+      by_tests false false e f later = here false f ∙ later
+
+  of_rank_more : (es : List Numbered) (x : Numbered) → of_rank r (es ++ x ∷ []) ≡ of_rank r es ++ cond (rank_of x == r) (deadline_of x ∷ []) []
+  of_rank_more es x =
+      ap (map (λ e. deadline_of e)) (filter-append (λ e. rank_of e == r) es (x ∷ []))
+      ∙ (map-append (λ e. deadline_of e) (filter (λ e. rank_of e == r) es) (cond (rank_of x == r) (x ∷ []) [])
+      ∙ ap (λ (l : List Deadline). of_rank r es ++ l) (by_test (rank_of x == r)))
+    where
+      by_test : (b : Bool) → map (λ e. deadline_of e) (cond b (x ∷ []) []) ≡ cond b (deadline_of x ∷ []) []
+      by_test true = refl
+      by_test false = refl
+
+-- ---- one is taken out
+
+follow_out : (n : ℕ) (es : List Numbered) → Follow es → Follow (without_number n es)
+follow_out n [] follow = tt
+follow_out n (x ∷ xs) follow = by_test (is_number n x.0) (follow_out n xs follow.1)
+  where
+    by_test : (b : Bool) → Follow (without_number n xs) → Follow (cond b xs (x ∷ without_number n xs))
+    by_test true later = follow.1
+    by_test false later = (all_out (λ y. (x.0 < y.0) × (x.1.step ≤ y.1.step)) n xs follow.0, later)
+
+pub kept_out : (next step : ℕ) (ranks : Ranks) (es : List Numbered) (n : ℕ) → AreKept next step ranks es → AreKept next step (in_ranks (without (key_of n)) ranks) (remove_entry (is_at (nat_cmp n)) es)
+kept_out next step ranks es n are = record {
+  in_order = follow_out n es are.in_order;
+  before = all_out (λ e. (e.0 < next) × (e.1.step ≤ step)) n es are.before;
+  no_replies = ap (without (key_of n)) are.no_replies ∙ sym (of_rank_out 0 n es are.in_order);
+  caps = ap (without (key_of n)) are.caps ∙ sym (of_rank_out 1 n es are.in_order);
+  no_acks = ap (without (key_of n)) are.no_acks ∙ sym (of_rank_out 2 n es are.in_order);
+}
 
 -- ---- one more
 
-placed_last : (q : Queued) (xs : List Queued) → AllByRecursion (λ (x : Queued). x.0.order < q.0.order) xs → placed q xs ≡ xs ++ q ∷ []
-placed_last q [] all = refl
-placed_last q (x ∷ xs) all =
-    let l = all.0 in
-    let e : nat_lt q.0.order x.0.order ≡ false = grind (arith, nat_tests) in
-    ap (λ (b : Bool). if b then q ∷ x ∷ xs else x ∷ placed q xs) e ∙ ap (λ (l : List Queued). x ∷ l) (placed_last q xs all.1)
+one_more : (n : ℕ) (a : Armed) (es : List Numbered) → AllByRecursion (λ e. e.0 < n) es → insert_entry nat_cmp es n a ≡ es ++ (n, a) ∷ []
+one_more n a [] all = refl
+one_more n a (x ∷ xs) all =
+    let l : x.0 < n = all.0 in
+    let greater : nat_cmp n x.0 ≡ Greater = grind (arith, nat_tests, l) in
+    ap (λ (o : Ordering). match_ordering o ((n, a) ∷ x ∷ xs) ((x.0, a) ∷ xs) (x ∷ insert_entry nat_cmp xs n a)) greater ∙ ap (λ (l : List Numbered). x ∷ l) (one_more n a xs all.1)
 
-placed_before : (e q : Queued) (xs : List Queued) → e.0.order < q.0.order → placed e (xs ++ q ∷ []) ≡ placed e xs ++ q ∷ []
-placed_before e q [] l = let t : nat_lt e.0.order q.0.order ≡ true = grind (arith, nat_tests) in ap (λ (b : Bool). if b then e ∷ q ∷ [] else q ∷ e ∷ []) t
-placed_before e q (x ∷ xs) l = go (placed_before e q xs l) (nat_lt e.0.order x.0.order)
-  where
-    go : placed e (xs ++ q ∷ []) ≡ placed e xs ++ q ∷ [] → (b : Bool) → (if b then e ∷ x ∷ (xs ++ q ∷ []) else x ∷ placed e (xs ++ q ∷ [])) ≡ (if b then e ∷ x ∷ xs else x ∷ placed e xs) ++ q ∷ []
-    go later true = refl
-    go later false = ap (λ (l : List Queued). x ∷ l) later
+last_out : (n : ℕ) (a : Armed) (es : List Numbered) → AllByRecursion (λ e. e.0 < n) es → without_number n (es ++ (n, a) ∷ []) ≡ es
+last_out n a [] all = ap (λ (b : Bool). cond b [] ((n, a) ∷ [])) (own_number n)
+last_out n a (x ∷ xs) all =
+    let l : x.0 < n = all.0 in
+    ap (λ (b : Bool). cond b (xs ++ (n, a) ∷ []) (x ∷ without_number n (xs ++ (n, a) ∷ []))) (other_number n x.0 (λ e. omega (arith, e, l))) ∙ ap (λ (l : List Numbered). x ∷ l) (last_out n a xs all.1)
 
-module _ (k : Turn) (v : Alarm) where
-  abbrev Earlier : Queued → Type 0
-  Earlier x = x.0.order < k.order
+follow_last : (x : Numbered) (es : List Numbered) → Follow es → AllByRecursion (λ e. (e.0 < x.0) × (e.1.step ≤ x.1.step)) es → Follow (es ++ x ∷ [])
+follow_last x [] follow all = (tt, tt)
+follow_last x (y ∷ ys) follow all = (all_last (λ z. (y.0 < z.0) × (y.1.step ≤ z.1.step)) ys x follow.0 all.0, follow_last x ys follow.1 all.1)
 
-  not_same : (x : Queued) → Earlier x → turn_cmp k x.0 ≡ Equal → ⊥
-  not_same x l e = let h = same_order k x.0 e in omega (arith, h, l)
+module _ (next step : ℕ) (ranks : Ranks) (es : List Numbered) (are : AreKept next step ranks es) (a : Armed) where
+  abbrev new : Numbered
+  new = (next, a)
 
-  one_more : (xs : List Queued) → AllByRecursion Earlier xs → by_order (insert_entry turn_cmp xs k v) ≡ by_order xs ++ (k, v) ∷ []
-  one_more [] all = refl
-  one_more (x ∷ xs) all = go (one_more xs all.1) (turn_cmp k x.0) refl
+  numbers : AllByRecursion (λ e. e.0 < next) es
+  numbers = all_weaken (λ e. (e.0 < next) × (e.1.step ≤ step)) (λ e. e.0 < next) (λ e l. l.0) es are.before
+
+  pub put_back : remove_entry (is_at (nat_cmp next)) (insert_entry nat_cmp es next a) ≡ es
+  put_back = ap (without_number next) (one_more next a es numbers) ∙ last_out next a es numbers
+
+  pub seen_more : values_of (insert_entry nat_cmp es next a) ≡ values_of es ++ a ∷ []
+  seen_more = ap values_of (one_more next a es numbers) ∙ map-append (λ e. e.1) es (new ∷ [])
+
+  -- those of its rank have it behind them, and those of other ranks stay
+  ranked_more : (k r : ℕ) (l : List Deadline) → k ≡ rank_of new → l ≡ of_rank r es → cond (k == r) (armed_last a.at (key_of next) l) l ≡ of_rank r (es ++ new ∷ [])
+  ranked_more k r l is e =
+      ap (λ (l : List Deadline). cond (k == r) (armed_last a.at (key_of next) l) l) e
+      ∙ (by_test (k == r) refl
+      ∙ sym (of_rank_more r next es new))
     where
-      go : by_order (insert_entry turn_cmp xs k v) ≡ by_order xs ++ (k, v) ∷ [] → (o : Ordering) → turn_cmp k x.0 ≡ o → by_order (match_ordering o ((k, v) ∷ x ∷ xs) ((x.0, v) ∷ xs) (x ∷ insert_entry turn_cmp xs k v)) ≡ by_order (x ∷ xs) ++ (k, v) ∷ []
-      go later Less e = placed_last (k, v) (by_order (x ∷ xs)) (all_by_order Earlier (x ∷ xs) all)
-      go later Equal e = absurd (not_same x all.0 e)
-      go later Greater e = ap (placed x) later ∙ placed_before x (k, v) (by_order xs) all.0
+      others : without (key_of next) (of_rank r es) ≡ of_rank r es
+      others = none_of r next es (all_weaken (λ e. e.0 < next) (λ e. e.0 ≡ next → ⊥) (λ e l s. omega (arith, l, s)) es numbers)
 
-  all_more : (P : Queued → Type 0) (xs : List Queued) → AllByRecursion Earlier xs → P (k, v) → AllByRecursion P xs → AllByRecursion P (insert_entry turn_cmp xs k v)
-  all_more P [] early one all = (one, tt)
-  all_more P (x ∷ xs) early one all = go (all_more P xs early.1 one all.1) (turn_cmp k x.0) refl
+      by_test : (b : Bool) → (k == r) ≡ b → cond b (armed_last a.at (key_of next) (of_rank r es)) (of_rank r es) ≡ of_rank r es ++ cond (rank_of new == r) (deadline_of new ∷ []) []
+      by_test true t =
+          ap (λ (l : List Deadline). l ++ (a.at, key_of next) ∷ []) others
+          ∙ ap (λ (c : Bool). of_rank r es ++ cond c (deadline_of new ∷ []) []) (sym (subst (λ (m : ℕ). (m == r) ≡ true) is t))
+      by_test false t =
+          sym (append-nil (of_rank r es))
+          ∙ ap (λ (c : Bool). of_rank r es ++ cond c (deadline_of new ∷ []) []) (sym (subst (λ (m : ℕ). (m == r) ≡ false) is t))
+
+  pub kept_more : (k : ℕ) → k ≡ rank (alarm_in a.alarm) → step ≤ a.step → AreKept (next + 1) a.step (in_rank k (armed_last a.at (key_of next)) ranks) (insert_entry nat_cmp es next a)
+  kept_more k is later = subst (λ (l : List Numbered). AreKept (next + 1) a.step (in_rank k (armed_last a.at (key_of next)) ranks) l) (sym (one_more next a es numbers)) (by_rank (rank_is (alarm_in a.alarm)))
     where
-      go : AllByRecursion P (insert_entry turn_cmp xs k v) → (o : Ordering) → turn_cmp k x.0 ≡ o → AllByRecursion P (match_ordering o ((k, v) ∷ x ∷ xs) ((x.0, v) ∷ xs) (x ∷ insert_entry turn_cmp xs k v))
-      go later Less e = (one, all)
-      go later Equal e = absurd (not_same x early.0 e)
-      go later Greater e = (all.0, later)
+      in_order : Follow (es ++ new ∷ [])
+      in_order = follow_last new es are.in_order (all_weaken (λ e. (e.0 < next) × (e.1.step ≤ step)) (λ e. (e.0 < next) × (e.1.step ≤ a.step)) (λ e l. (l.0, let h = l.1 in omega (arith, h, later))) es are.before)
 
-  early : (next : ℕ) (xs : List Queued) → k.order ≡ next → AreQueued next xs → AllByRecursion Earlier xs
-  early next [] e are = tt
-  early next (x ∷ xs) e are = (let h = are.0.before in omega (arith, h, e), early next xs e are.1)
+      before : AllByRecursion (λ e. (e.0 < next + 1) × (e.1.step ≤ a.step)) (es ++ new ∷ [])
+      before = all_last (λ e. (e.0 < next + 1) × (e.1.step ≤ a.step)) es new
+          (all_weaken (λ e. (e.0 < next) × (e.1.step ≤ step)) (λ e. (e.0 < next + 1) × (e.1.step ≤ a.step)) (λ e l. (let h = l.0 in omega (arith, h), let h = l.1 in omega (arith, h, later))) es are.before)
+          (omega arith, omega arith)
 
-  counted_on : (next : ℕ) (xs : List Queued) → AreQueued next xs → AreQueued (next + 1) xs
-  counted_on next [] are = tt
-  counted_on next (x ∷ xs) are = (record { ranked = are.0.ranked; before = let h = are.0.before in omega (arith, h) }, counted_on next xs are.1)
+      at_rank : (n : ℕ) → n ≡ rank_of new → in_rank n (armed_last a.at (key_of next)) ranks ≡ record {
+        no_replies = cond (n == 0) (armed_last a.at (key_of next) ranks.no_replies) ranks.no_replies;
+        caps = cond (n == 1) (armed_last a.at (key_of next) ranks.caps) ranks.caps;
+        no_acks = cond (n == 2) (armed_last a.at (key_of next) ranks.no_acks) ranks.no_acks;
+      } → AreKept (next + 1) a.step (in_rank n (armed_last a.at (key_of next)) ranks) (es ++ new ∷ [])
+      at_rank n e parts = subst (λ (r : Ranks). AreKept (next + 1) a.step r (es ++ new ∷ [])) (sym parts) (record {
+        in_order = in_order;
+        before = before;
+        no_replies = ranked_more n 0 ranks.no_replies e are.no_replies;
+        caps = ranked_more n 1 ranks.caps e are.caps;
+        no_acks = ranked_more n 2 ranks.no_acks e are.no_acks;
+      })
 
-  module _ (next : ℕ) (xs : List Queued) (numbered : k.order ≡ next) (are : AreQueued next xs) where
-    pub armed_last : seen (insert_entry turn_cmp xs k v) ≡ seen xs ++ armed_of (k, v) ∷ []
-    armed_last = ap (map (λ q. armed_of q)) (one_more xs (early next xs numbered are)) ∙ map-append (λ q. armed_of q) (by_order xs) ((k, v) ∷ [])
-
-    pub queued_more : k.rank ≡ rank (alarm_in v) → AreQueued (next + 1) (insert_entry turn_cmp xs k v)
-    queued_more ranked = all_more (IsQueued (next + 1)) xs (early next xs numbered are) (record { ranked = ranked; before = omega (arith, numbered) }) (counted_on next xs are)
+      by_rank : Ranked (alarm_in a.alarm) → AreKept (next + 1) a.step (in_rank k (armed_last a.at (key_of next)) ranks) (es ++ new ∷ [])
+      by_rank ranked = elim ranked [
+        | inl z ↦ subst (λ (n : ℕ). AreKept (next + 1) a.step (in_rank n (armed_last a.at (key_of next)) ranks) (es ++ new ∷ [])) (sym (is ∙ z)) (at_rank 0 (sym z) refl)
+        | inr m ↦ elim m [
+          | inl o ↦ subst (λ (n : ℕ). AreKept (next + 1) a.step (in_rank n (armed_last a.at (key_of next)) ranks) (es ++ new ∷ [])) (sym (is ∙ o)) (at_rank 1 (sym o) refl)
+          | inr t ↦ subst (λ (n : ℕ). AreKept (next + 1) a.step (in_rank n (armed_last a.at (key_of next)) ranks) (es ++ new ∷ [])) (sym (is ∙ t)) (at_rank 2 (sym t) refl)
+        ]
+      ]

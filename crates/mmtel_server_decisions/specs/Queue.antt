@@ -1,35 +1,82 @@
--- The deadlines of calls and of seats of rooms as they are kept: in the order in which they fire. They are seen in the order in which they were armed.
-use Rattle.std.specs.Prelude.{ℕ, ◌≡◌, ◌<◌, nat_lt, if◌then◌else◌, List, [], ◌∷◌, map}
-use Rattle.std.specs.List.{AllByRecursion}
-use Rattle.mmtel_run.specs.Deadlines.{rank}
-use Rattle.mmtel_server_decisions.specs.Arming.{alarm_in}
-use Rattle.mmtel_server_decisions.specs.declared.armed.Alarm.{Alarm}
+-- The deadlines of calls and of seats of rooms as they are kept: by the number of their arming, and their moments by rank.
+use Rattle.std.specs.Prelude.{ℕ, ◌≡◌, ◌<◌, ◌≤◌, ◌==◌, nat_le, if◌then◌else◌, List, [], ◌∷◌, map, Option, Some, None}
+use Rattle.std.specs.BTreeMap.{is_at}
+use Rattle.std.specs.List.{AllByRecursion, filter}
+use Rattle.std.specs.Map.{lookup}
+use Rattle.std.specs.Option.{option_map}
+use Rattle.std.specs.Ordering.{nat_cmp}
+use Rattle.mmtel_timers.specs.Deadlines.{Deadline, soonest}
+use Rattle.mmtel_timers.specs.declared.deadlines.Key.{Key}
+use Rattle.mmtel_run.specs.Deadlines as run
+use Rattle.mmtel_run.specs.Deadlines.{is_sooner, rank}
+use Rattle.mmtel_server_decisions.specs.Arming.{alarm_in, armed_in}
 use Rattle.mmtel_server_decisions.specs.declared.armed.Armed.{Armed}
-use Rattle.mmtel_server_decisions.specs.declared.turns.Turn.{Turn}
+use Rattle.mmtel_server_decisions.specs.declared.ranks.Ranks.{Ranks}
 
--- its turn, and what is due
-abbrev pub Queued : Type 0
-Queued = Turn × Alarm
+-- one that is armed, with the number of its arming
+abbrev pub Numbered : Type 0
+Numbered = ℕ × Armed
 
-abbrev pub armed_of : Queued → Armed
-armed_of q = record { alarm = q.1; at = q.0.at; step = q.0.step }
+abbrev pub run_of : Numbered → run.Armed
+run_of e = armed_in e.1
 
--- one among others, by the order in which they were armed
-abbrev pub placed : Queued → List Queued → List Queued
-placed q [] = q ∷ []
-placed q (x ∷ xs) = if nat_lt q.0.order x.0.order then q ∷ x ∷ xs else x ∷ placed q xs
+abbrev pub rank_of : Numbered → ℕ
+rank_of e = rank (alarm_in e.1.alarm)
 
-abbrev pub by_order : List Queued → List Queued
-by_order [] = []
-by_order (q ∷ qs) = placed q (by_order qs)
+-- ---- those of one rank
 
-abbrev pub seen : List Queued → List Armed
-seen qs = map (λ q. armed_of q) (by_order qs)
+-- a number as it is armed
+abbrev pub key_of : ℕ → Key
+key_of number = record { 0 = number }
 
--- it has the rank of what is due, and was armed before the next one
-pub record IsQueued (next : ℕ) (q : Queued) : Type 0 where
-  pub ranked : q.0.rank ≡ rank (alarm_in q.1)
-  pub before : q.0.order < next
+abbrev pub deadline_of : Numbered → Deadline
+deadline_of e = (e.1.at, key_of e.0)
 
-abbrev pub AreQueued : ℕ → List Queued → Type 0
-AreQueued next qs = AllByRecursion (λ q. IsQueued next q) qs
+abbrev pub of_rank : ℕ → List Numbered → List Deadline
+of_rank r entries = map (λ e. deadline_of e) (filter (λ e. rank_of e == r) entries)
+
+-- the deadlines of one rank are changed, and those of the others stay
+abbrev pub in_rank : ℕ → (List Deadline → List Deadline) → Ranks → Ranks
+in_rank r change ranks =
+    if r == 0 then record ranks { no_replies = change ranks.no_replies } else if r == 1 then record ranks { caps = change ranks.caps } else record ranks { no_acks = change ranks.no_acks }
+
+-- those of all ranks are changed
+abbrev pub in_ranks : (List Deadline → List Deadline) → Ranks → Ranks
+in_ranks change ranks = record { no_replies = change ranks.no_replies; caps = change ranks.caps; no_acks = change ranks.no_acks }
+
+-- ---- the first one
+
+-- the one whose deadline this is
+abbrev pub armed_at : Option Deadline → List Numbered → Option Numbered
+armed_at None entries = None
+armed_at (Some deadline) entries = option_map (λ a. (deadline.1.0, a)) (lookup (is_at (nat_cmp deadline.1.0)) entries)
+
+-- the other one where that is sooner
+abbrev pub sooner_of : Option Numbered → Option Numbered → Option Numbered
+sooner_of None other = other
+sooner_of (Some one) None = Some one
+sooner_of (Some one) (Some other) = if is_sooner (run_of other) (run_of one) then Some other else Some one
+
+-- of the first ones of each rank, the one that comes first
+abbrev pub foremost : Ranks → List Numbered → Option Numbered
+foremost ranks entries = sooner_of (sooner_of (armed_at (soonest ranks.no_replies) entries) (armed_at (soonest ranks.caps) entries)) (armed_at (soonest ranks.no_acks) entries)
+
+-- one that is due
+abbrev pub due_by : ℕ → Option Numbered → Option Numbered
+due_by now None = None
+due_by now (Some e) = if nat_le e.1.at now then Some e else None
+
+-- ---- what is kept
+
+-- numbers rise, and steps do not fall
+abbrev pub Follow : List Numbered → Type 0
+Follow [] = Unit {0}
+Follow (e ∷ es) = AllByRecursion (λ x. (e.0 < x.0) × (e.1.step ≤ x.1.step)) es × Follow es
+
+-- each was armed before the next one and in no later step than the last one, and each stands among those of its rank
+pub record AreKept (next step : ℕ) (ranks : Ranks) (entries : List Numbered) : Type 0 where
+  pub in_order : Follow entries
+  pub before : AllByRecursion (λ e. (e.0 < next) × (e.1.step ≤ step)) entries
+  pub no_replies : ranks.no_replies ≡ of_rank 0 entries
+  pub caps : ranks.caps ≡ of_rank 1 entries
+  pub no_acks : ranks.no_acks ≡ of_rank 2 entries

@@ -3,10 +3,10 @@ ghost use Rattle.std.specs.Prelude.{◌≡◌, ◌++◌, ◌∷◌, [], OnErr, O
 ghost use Rattle.std.specs.Option.{option_map};
 ghost use Rattle.mmtel_run.specs.Deadlines.{first_armed};
 ghost use Rattle.mmtel_server_decisions.specs.Arming.{armed_in, chosen_of, first_in, queue_of};
-ghost use Rattle.mmtel_server_decisions.specs.Queue.{armed_of};
 
-use crate::armed::{Alarm, Armed, rank};
-use crate::turns::Turn;
+use crate::armed::{Armed, rank};
+use crate::foremost::{due_by, foremost};
+use crate::ranks::Ranks;
 use mmtel_scan::NoMemory;
 use std::alloc::Global;
 use std::collections::BTreeMap;
@@ -15,21 +15,24 @@ use std::marker::Model;
 /// The deadlines that did not fire, which contracts see in the order in which they were armed.
 #[derive(Drop)]
 pub struct Alarms {
-    queue: BTreeMap<Turn, Alarm>,
-    armed: u64,
+    alloc: Global,
+    armed: BTreeMap<u64, Armed>,
+    ranks: Ranks,
+    next: u64,
+    step: u64,
 }
 
 impl Model for Alarms {
     ghost use Rattle.std.specs.Prelude.{List};
+    ghost use Rattle.std.specs.Map.{values_of};
     ghost use Rattle.mmtel_server_decisions.specs.declared.armed.Armed.{Armed};
+    ghost use Rattle.mmtel_server_decisions.specs.Queue.{AreKept};
 
     ghost Value = { List Armed };
 
-    ghost use Rattle.mmtel_server_decisions.specs.Queue.{AreQueued, seen};
+    ghost view = { λ a. values_of a.armed.entries };
 
-    ghost view = { λ a. seen a.queue.entries };
-
-    ghost invariant = { λ a. AreQueued a.armed a.queue.entries };
+    ghost invariant = { λ a. AreKept a.next a.step a.ranks a.armed.entries };
 }
 
 impl Alarms {
@@ -38,8 +41,11 @@ impl Alarms {
         ensures { result ≡ [] }
     {
         Alarms {
-            queue: BTreeMap::new(alloc),
-            armed: 0,
+            alloc,
+            armed: BTreeMap::new(alloc),
+            ranks: Ranks::new(),
+            next: 0,
+            step: 0,
         }
     }
 
@@ -47,45 +53,44 @@ impl Alarms {
     ///
     /// # Errors
     ///
-    /// Want of memory alone, for its place or for its number: 2^64 - 1 are armed in all. The deadlines are then as before.
+    /// Want of memory alone, or that of numbers: 2^64 - 1 are armed in all, and steps do not fall from one that is armed to the next. The deadlines are then as before.
     pub fn arm(&mut self, armed: Armed) -> Result<(), NoMemory>
         ensures ok { OnOk result (self.new ≡ self.old ++ armed ∷ []) }
         ensures err { OnErr result (self.new ≡ self.old) }
     {
-        if self.armed == u64::MAX {
+        let number = self.next;
+        if number == u64::MAX {
             return Err(NoMemory);
         }
-        let turn = Turn {
-            at: armed.at,
-            step: armed.step,
-            rank: rank(armed.alarm),
-            order: self.armed,
-        };
-        match self.queue.insert(turn, armed.alarm) {
-            Ok(_) => {
-                self.armed += 1;
-                Ok(())
-            }
-            Err(_) => Err(NoMemory),
+        if armed.step < self.step {
+            return Err(NoMemory);
         }
+        match self.armed.insert(number, armed) {
+            Ok(_) => {}
+            Err(_) => return Err(NoMemory),
+        }
+        match self
+            .ranks
+            .arm(self.alloc, rank(armed.alarm), armed.at, number)
+        {
+            Ok(()) => {}
+            Err(NoMemory) => {
+                self.armed.remove(&number);
+                return Err(NoMemory);
+            }
+        }
+        self.next += 1;
+        self.step = armed.step;
+        Ok(())
     }
 
     /// The one that comes first of those that are due by a moment, and of equal ones the one that was armed first; None where none is due.
     pub fn first(&self, now: u64) -> Option<Armed>
         ensures { option_map (λ a. armed_in a) result ≡ first_in (first_armed now (queue_of self.now)) }
     {
-        if self.queue.len() == 0 {
-            return None;
-        }
-        match self.queue.first_key_value() {
+        match due_by(foremost(&self.ranks, &self.armed), now) {
+            Some((_, armed)) => Some(armed),
             None => None,
-            Some((turn, alarm)) => {
-                if turn.at <= now {
-                    Some(turn.armed(*alarm))
-                } else {
-                    None
-                }
-            }
         }
     }
 
@@ -94,21 +99,13 @@ impl Alarms {
         ensures first { chosen_of result (queue_of self.new) ≡ first_armed now (queue_of self.old) }
         ensures none { IfNone result (self.new ≡ self.old) }
     {
-        let first = self.first(now)?;
-        self.queue.pop_first();
-        Some(first)
-    }
-}
-
-impl Turn {
-    /// The deadline whose turn it is.
-    fn armed(&self, alarm: Alarm) -> Armed
-        ensures { result ≡ armed_of (self.now, alarm) }
-    {
-        Armed {
-            alarm,
-            at: self.at,
-            step: self.step,
+        match due_by(foremost(&self.ranks, &self.armed), now) {
+            None => None,
+            Some((number, armed)) => {
+                self.ranks.disarm(number);
+                self.armed.remove(&number);
+                Some(armed)
+            }
         }
     }
 }

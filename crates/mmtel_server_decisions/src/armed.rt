@@ -1,7 +1,7 @@
 //! The deadlines of calls and of seats of rooms (RFC 3261 §13.3.1.4, TS 24.604 §4.8, RFC 3515 §2.4.5).
 ghost use Rattle.std.specs.Prelude.{◌≡◌};
-ghost use Rattle.mmtel_run.specs.Deadlines.{rank};
-ghost use Rattle.mmtel_server_decisions.specs.Arming.{alarm_in};
+ghost use Rattle.mmtel_run.specs.Deadlines.{is_sooner, rank};
+ghost use Rattle.mmtel_server_decisions.specs.Arming.{alarm_in, armed_in};
 
 use mmtel_transaction::{DueWord, RoomWord};
 use mmtel_types::{CallNo, RoomNo};
@@ -36,6 +36,18 @@ pub struct Armed {
     pub at: u64,
     /// The step in which it was armed.
     pub step: u64,
+}
+
+impl Armed {
+    /// Whether it fires before another one: by moment, then by the step that armed them, then no reply before the longest time before a missing ACK.
+    pub fn is_sooner(&self, other: &Armed) -> bool
+        ensures { result ≡ is_sooner (armed_in self.now) (armed_in other.now) }
+    {
+        self.at < other.at
+            || (self.at == other.at
+                && (self.step < other.step
+                    || (self.step == other.step && rank(self.alarm) < rank(other.alarm))))
+    }
 }
 
 /// The order of those that were armed in one step for one moment.

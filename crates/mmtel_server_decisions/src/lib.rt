@@ -5,8 +5,9 @@ mod alarms;
 mod armed;
 mod belonging;
 mod deadlines;
+mod foremost;
+mod ranks;
 mod rows;
-mod turns;
 
 pub use alarms::Alarms;
 pub use armed::{Alarm, Armed};

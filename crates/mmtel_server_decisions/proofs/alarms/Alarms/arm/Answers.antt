@@ -1,19 +1,38 @@
-use Rattle.std.proofs.Common.{◌+◌, ◌++◌, ◌∷◌, [], List, ap, ◌∙◌, refl, subst, sym}
-use Rattle.mmtel_server_decisions.specs.Queue.{AreQueued, Queued, seen}
+use Rattle.std.proofs.Common.{◌+◌, ◌++◌, ◌∷◌, [], List, ap, ◌∙◌, subst, sym}
+use Rattle.std.specs.BTreeMap.{is_at}
+use Rattle.std.specs.Map.{remove_entry, values_of}
+use Rattle.std.specs.Ordering.{nat_cmp}
+use Rattle.mmtel_timers.specs.Deadlines.{armed_last}
+use Rattle.mmtel_server_decisions.specs.Queue.{AreKept, Numbered, in_rank, key_of}
 use Rattle.mmtel_server_decisions.specs.declared.armed.Armed.{Armed}
-use Rattle.mmtel_server_decisions.specs.declared.turns.Turn.{Turn}
-use Rattle.mmtel_server_decisions.proofs.Queueing.{armed_last, queued_more}
+use Rattle.mmtel_server_decisions.specs.declared.ranks.Ranks.{Ranks}
+use Rattle.mmtel_server_decisions.proofs.Queueing.{kept_more, put_back, seen_more}
 use Rattle.mmtel_server_decisions.proofs.alarms.Alarms.arm.Goals as goal
 
-pub invariant_of-self : goal.invariant_of-self
-invariant_of-self c =
-    let turn : Turn = record { at = c.args.armed.at; step = c.args.armed.step; rank = c.rank.result; order = c.self.inside.armed } in
-    subst (λ (qs : List Queued). AreQueued (c.self.inside.armed + 1) qs) (sym c.in-Ok.ensures.entries)
-    (queued_more turn c.args.armed.alarm c.self.inside.armed c.self.inside.queue.entries refl c.self.invariant c.rank.ensures)
+pub invariant_of-self-in-Err-arm : goal.invariant_of-self-in-Err-arm
+invariant_of-self-in-Err-arm c =
+    subst (λ (r : Ranks). AreKept c.self.inside.next c.self.inside.step r c.remove.new.self.entries) (sym c.in-Err-arm.ensures.err)
+    (subst (λ (l : List Numbered). AreKept c.self.inside.next c.self.inside.step c.self.inside.ranks l)
+    (sym (c.remove.ensures.entries
+    ∙ (ap (remove_entry (is_at (nat_cmp c.self.inside.next))) c.in-Ok.ensures.entries
+    ∙ put_back c.self.inside.next c.self.inside.step c.self.inside.ranks c.self.inside.armed.entries c.self.invariant c.args.armed)))
+    c.self.invariant)
 
-pub returns-in-Ok-clause-ok : goal.returns-in-Ok-clause-ok
-returns-in-Ok-clause-ok c =
-    let turn : Turn = record { at = c.args.armed.at; step = c.args.armed.step; rank = c.rank.result; order = c.self.inside.armed } in
-    ap (λ (qs : List Queued). seen qs) c.in-Ok.ensures.entries
-    ∙ (armed_last turn c.args.armed.alarm c.self.inside.armed c.self.inside.queue.entries refl c.self.invariant
+pub returns-in-Err-arm-clause-err : goal.returns-in-Err-arm-clause-err
+returns-in-Err-arm-clause-err c =
+    ap values_of (c.remove.ensures.entries
+    ∙ (ap (remove_entry (is_at (nat_cmp c.self.inside.next))) c.in-Ok.ensures.entries
+    ∙ put_back c.self.inside.next c.self.inside.step c.self.inside.ranks c.self.inside.armed.entries c.self.invariant c.args.armed))
+    ∙ c.self.view_is
+
+pub invariant_of-self-2 : goal.invariant_of-self-2
+invariant_of-self-2 c =
+    subst (λ (r : Ranks). AreKept (c.self.inside.next + 1) c.args.armed.step r c.insert.new.self.entries) (sym c.in-Ok-arm.ensures.ok)
+    (subst (λ (l : List Numbered). AreKept (c.self.inside.next + 1) c.args.armed.step (in_rank c.rank.result (armed_last c.args.armed.at (key_of c.self.inside.next)) c.self.inside.ranks) l) (sym c.in-Ok.ensures.entries)
+    (kept_more c.self.inside.next c.self.inside.step c.self.inside.ranks c.self.inside.armed.entries c.self.invariant c.args.armed c.rank.result c.rank.ensures c.if-armed-self.false))
+
+pub returns-clause-ok : goal.returns-clause-ok
+returns-clause-ok c =
+    ap values_of c.in-Ok.ensures.entries
+    ∙ (seen_more c.self.inside.next c.self.inside.step c.self.inside.ranks c.self.inside.armed.entries c.self.invariant c.args.armed
     ∙ ap (λ (l : List Armed). l ++ c.args.armed ∷ []) c.self.view_is)

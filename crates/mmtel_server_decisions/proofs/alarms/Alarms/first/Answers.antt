@@ -1,17 +1,20 @@
-use Rattle.std.proofs.Common.{List, Some, ap, ◌∙◌}
+use Rattle.std.proofs.Common.{List, ap, ◌∙◌, sym}
+use Rattle.std.specs.Option.{option_map}
 use Rattle.mmtel_run.specs.Deadlines.{first_armed}
-use Rattle.mmtel_server_decisions.specs.Arming.{armed_in, first_in, queue_of}
+use Rattle.mmtel_server_decisions.specs.Arming.{first_in, queue_of}
+use Rattle.mmtel_server_decisions.specs.Queue.{Numbered, due_by, run_of}
 use Rattle.mmtel_server_decisions.specs.declared.armed.Armed.{Armed}
-use Rattle.mmtel_server_decisions.proofs.Queueing.{first_found, none_found}
+use Rattle.mmtel_server_decisions.proofs.Queueing.{first_found}
 use Rattle.mmtel_server_decisions.proofs.alarms.Alarms.first.Goals as goal
 
-pub returns-then-turn-now : goal.returns-then-turn-now
-returns-then-turn-now c =
-    ap (λ (a : Armed). Some (armed_in a)) c.armed.ensures
-    ∙ (first_found c.args.now c.self.inside.armed c.self.inside.queue.entries (c.in-Some.turn.now, c.in-Some.alarm.now) c.in-Some.ensures.first c.len.ensures.ordered c.self.invariant c.if-turn-now.true
+pub returns-in-Some : goal.returns-in-Some
+returns-in-Some c =
+    ap (option_map (λ (q : Numbered). run_of q)) (sym c.in-Some.is ∙ (c.due_by.ensures ∙ ap (due_by c.args.now) c.foremost.ensures))
+    ∙ (first_found c.self.inside.next c.self.inside.step c.self.inside.ranks c.self.inside.armed.entries c.self.invariant c.args.now
     ∙ ap (λ (l : List Armed). first_in (first_armed c.args.now (queue_of l))) c.self.view_is)
 
-pub returns-else-turn-now : goal.returns-else-turn-now
-returns-else-turn-now c =
-    none_found c.args.now c.self.inside.armed c.self.inside.queue.entries (c.in-Some.turn.now, c.in-Some.alarm.now) c.in-Some.ensures.first c.len.ensures.ordered c.self.invariant c.if-turn-now.false
-    ∙ ap (λ (l : List Armed). first_in (first_armed c.args.now (queue_of l))) c.self.view_is
+pub returns-in-None : goal.returns-in-None
+returns-in-None c =
+    ap (option_map (λ (q : Numbered). run_of q)) (sym c.in-None.is ∙ (c.due_by.ensures ∙ ap (due_by c.args.now) c.foremost.ensures))
+    ∙ (first_found c.self.inside.next c.self.inside.step c.self.inside.ranks c.self.inside.armed.entries c.self.invariant c.args.now
+    ∙ ap (λ (l : List Armed). first_in (first_armed c.args.now (queue_of l))) c.self.view_is)

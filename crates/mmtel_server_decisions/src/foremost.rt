@@ -1,0 +1,61 @@
+//! Which of the deadlines of calls and of seats comes first.
+ghost use Rattle.std.specs.Prelude.{◌≡◌};
+ghost use Rattle.mmtel_server_decisions.specs.Queue.{armed_at, due_by, foremost, sooner_of};
+
+use crate::armed::Armed;
+use crate::ranks::Ranks;
+use mmtel_timers::Key;
+use std::collections::BTreeMap;
+
+/// One that is armed, with the number of its arming.
+type Numbered = (u64, Armed);
+
+/// The second where that is sooner, and else the first.
+fn sooner_of(one: Option<Numbered>, other: Option<Numbered>) -> Option<Numbered>
+    ensures { result ≡ sooner_of one other }
+{
+    match (one, other) {
+        (None, other) => other,
+        (Some(one), None) => Some(one),
+        (Some(one), Some(other)) => {
+            if other.1.is_sooner(&one.1) {
+                Some(other)
+            } else {
+                Some(one)
+            }
+        }
+    }
+}
+
+/// The one whose deadline this is.
+fn armed_at(armed: &BTreeMap<u64, Armed>, deadline: Option<(u64, Key)>) -> Option<Numbered>
+    ensures { result ≡ armed_at deadline armed.now.entries }
+{
+    match deadline {
+        None => None,
+        Some((_, key)) => match armed.get(&key.0) {
+            Some(one) => Some((key.0, *one)),
+            None => None,
+        },
+    }
+}
+
+/// The one that comes first of all, due or not.
+pub fn foremost(ranks: &Ranks, armed: &BTreeMap<u64, Armed>) -> Option<Numbered>
+    ensures { result ≡ foremost ranks.now armed.now.entries }
+{
+    let no_reply = armed_at(armed, ranks.no_replies.first());
+    let cap = armed_at(armed, ranks.caps.first());
+    let no_ack = armed_at(armed, ranks.no_acks.first());
+    sooner_of(sooner_of(no_reply, cap), no_ack)
+}
+
+/// The one, where it is due by a moment.
+pub fn due_by(first: Option<Numbered>, now: u64) -> Option<Numbered>
+    ensures { result ≡ due_by now first }
+{
+    match first {
+        Some(first) if first.1.at <= now => Some(first),
+        _ => None,
+    }
+}

@@ -1,0 +1,56 @@
+//! The moments of the deadlines of calls and of seats, by rank: of one rank they fire in the order of moments, and of one moment in the order of arming.
+ghost use Rattle.std.specs.Prelude.{◌≡◌, [], OnErr, OnOk};
+ghost use Rattle.mmtel_timers.specs.Deadlines.{armed_last, without};
+ghost use Rattle.mmtel_server_decisions.specs.Queue.{in_rank, in_ranks, key_of};
+
+use mmtel_timers::{Deadlines, Key, NoMemory};
+use std::alloc::Global;
+
+/// The moments of each rank, by the numbers of those that are armed.
+#[derive(Drop)]
+pub struct Ranks {
+    /// Rank 0: that there is no reply.
+    pub no_replies: Deadlines,
+    /// Rank 1: that the longest time is over.
+    pub caps: Deadlines,
+    /// Rank 2: that an ACK is missing.
+    pub no_acks: Deadlines,
+}
+
+impl Ranks {
+    /// None of any rank. It takes no memory.
+    pub fn new() -> Ranks
+        ensures { result ≡ record { no_replies = []; caps = []; no_acks = [] } }
+    {
+        Ranks {
+            no_replies: Deadlines::new(),
+            caps: Deadlines::new(),
+            no_acks: Deadlines::new(),
+        }
+    }
+
+    /// Arms a number of a rank, behind the others.
+    ///
+    /// # Errors
+    ///
+    /// Want of memory alone; all is then as before.
+    pub fn arm(&mut self, alloc: Global, rank: u64, at: u64, number: u64) -> Result<(), NoMemory>
+        ensures ok { OnOk result (self.new ≡ in_rank rank (armed_last at (key_of number)) self.old) }
+        ensures err { OnErr result (self.new ≡ self.old) }
+    {
+        match rank {
+            0 => self.no_replies.arm(alloc, at, Key(number)),
+            1 => self.caps.arm(alloc, at, Key(number)),
+            _ => self.no_acks.arm(alloc, at, Key(number)),
+        }
+    }
+
+    /// Disarms a number, of whatever rank it is.
+    pub fn disarm(&mut self, number: u64)
+        ensures { self.new ≡ in_ranks (without (key_of number)) self.old }
+    {
+        self.no_replies.disarm(Key(number));
+        self.caps.disarm(Key(number));
+        self.no_acks.disarm(Key(number));
+    }
+}

@@ -169,19 +169,19 @@ kind_hears records t now role (signal.Silent branch method) es kept asks h = cal
 kind_hears records t now role (signal.Due call what) es kept asks h = call_hears records t (is_numbered call.0) (of_call.Due what) role es kept h
 kind_hears records t now role (signal.Over key) es kept asks h = call_hears records t (heard_it key) (of_call.Ended key) role es kept h
 
-abbrev KindLooks : (one other : Site) → Kind → Type 0
-KindLooks one other (Opens key invite served registration identities) = LooksUpAlike one other (requested invite).uri
-KindLooks one other (OfCall whose x invites) = SignalsAlike one other x
+abbrev KindLooks : (one other : Site) → Role → Kind → Type 0
+KindLooks one other role (Opens key invite served registration identities) = LooksUpAlike one other (requested invite).uri
+KindLooks one other role (OfCall whose x invites) = SignalsAlike one other role x
 
-kind_looks : (one other : Site) (x : Signal) → LooksAlike one other x → KindLooks one other (kind_of x)
-kind_looks one other (signal.Arrived key invite served registration identities) l = l
-kind_looks one other (signal.Request call side key request) l = tt
-kind_looks one other (signal.Ack call side ack) l = tt
-kind_looks one other (signal.Cancel call key cancel invite) l = tt
-kind_looks one other (signal.Answer key response) l = l
-kind_looks one other (signal.Silent branch method) l = tt
-kind_looks one other (signal.Due call what) l = tt
-kind_looks one other (signal.Over key) l = tt
+kind_looks : (one other : Site) (role : Role) (x : Signal) → LooksAlike one other role x → KindLooks one other role (kind_of x)
+kind_looks one other role (signal.Arrived key invite served registration identities) l = l
+kind_looks one other role (signal.Request call side key request) l = tt
+kind_looks one other role (signal.Ack call side ack) l = tt
+kind_looks one other role (signal.Cancel call key cancel invite) l = tt
+kind_looks one other role (signal.Answer key response) l = l
+kind_looks one other role (signal.Silent branch method) l = tt
+kind_looks one other role (signal.Due call what) l = tt
+kind_looks one other role (signal.Over key) l = tt
 
 abbrev caller_kind : Kind → Option Identities2
 caller_kind (Opens key invite served registration identities) = Some identities
@@ -261,7 +261,7 @@ module _ (laws : OfCalls) (records : List Sheet) (site far : Site) (keys : TKey 
   -- ---- a signal of a call
 
   module _ (at : ℕ) (view : InForce) (stand : (busy : List Account) → AreAsked records (standing at view busy)) (role second : Role) where
-    steps-alike : (busy : List Account) (x y : calls.Signal) (e f : Entry) (one other : Desk) → public_heard role x ≡ public_heard second y → SignalsAlike site far y →
+    steps-alike : (busy : List Account) (x y : calls.Signal) (e f : Entry) (one other : Desk) → public_heard role x ≡ public_heard second y → SignalsAlike site far second y →
         AlikeEntry records known e f → IsHeard records T x role e.call → IsHeard records T y second f.call → AlikeDesks T one other →
         AlikeSteps T (step_of site at view busy x one e) (step_of far at view busy y other f) × AlikeCalls records known (step_of site at view busy x one e).call (step_of far at view busy y other f).call
     unfolding step_of
@@ -271,7 +271,7 @@ module _ (laws : OfCalls) (records : List Sheet) (site far : Site) (keys : TKey 
           laws.stay records site far keys now x y role second e.call f.call one other configured.equal configured.lead looks (stand busy) b.calls said first then d,
         )
 
-    at-alike : (x y : calls.Signal) (invites : List InviteKey) (place : ℕ) (g h : Option Entry) (es fs : List Entry) (one other : Desk) → public_heard role x ≡ public_heard second y → SignalsAlike site far y →
+    at-alike : (x y : calls.Signal) (invites : List InviteKey) (place : ℕ) (g h : Option Entry) (es fs : List Entry) (one other : Desk) → public_heard role x ≡ public_heard second y → SignalsAlike site far second y →
         AlikeAt records known g h → AlikeEntries records known es fs → ((e : Entry) → g ≡ Some e → IsHeard records T x role e.call) → ((f : Entry) → h ≡ Some f → IsHeard records T y second f.call) → AlikeDesks T one other →
         AlikeMoves (moved_at site at view x invites place g es one) (moved_at far at view y invites place h fs other)
     at-alike x y invites place None None es fs one other said looks b a first then d = record { entries = a; desk = d }
@@ -285,14 +285,14 @@ module _ (laws : OfCalls) (records : List Sheet) (site far : Site) (keys : TKey 
         subst (λ (l : List Account). AlikeMoves (moved_by place invites e (step_of site at view busy x one e) es) (moved_by place invites f (step_of far at view l y other f) fs)) same
         (moved-alike place invites e f (step_of site at view busy x one e) (step_of far at view busy y other f) es fs b a both.0 both.1)
 
-    in-alike : (x y : calls.Signal) (invites : List InviteKey) (o : Option ℕ) (es fs : List Entry) (one other : Desk) → public_heard role x ≡ public_heard second y → SignalsAlike site far y → AlikeEntries records known es fs →
+    in-alike : (x y : calls.Signal) (invites : List InviteKey) (o : Option ℕ) (es fs : List Entry) (one other : Desk) → public_heard role x ≡ public_heard second y → SignalsAlike site far second y → AlikeEntries records known es fs →
         ((place : ℕ) (e : Entry) → o ≡ Some place → slice_get es place ≡ Some e → IsHeard records T x role e.call) → ((place : ℕ) (f : Entry) → o ≡ Some place → slice_get fs place ≡ Some f → IsHeard records T y second f.call) → AlikeDesks T one other →
         AlikeMoves (moved_in site at view x invites o es one) (moved_in far at view y invites o fs other)
     in-alike x y invites None es fs one other said looks a first then d = record { entries = a; desk = d }
     in-alike x y invites (Some place) es fs one other said looks a first then d =
         at-alike x y invites place (slice_get es place) (slice_get fs place) es fs one other said looks (get-alike records known es fs a place) a (λ e is. first place e refl is) (λ f is. then place f refl is) d
 
-    heard-alike : (w : Whose) (x y : calls.Signal) (invites : List InviteKey) (es fs : List Entry) (one other : Desk) → public_heard role x ≡ public_heard second y → SignalsAlike site far y → AlikeEntries records known es fs →
+    heard-alike : (w : Whose) (x y : calls.Signal) (invites : List InviteKey) (es fs : List Entry) (one other : Desk) → public_heard role x ≡ public_heard second y → SignalsAlike site far second y → AlikeEntries records known es fs →
         IsHeardBy records T (is_whose w) x role es → IsHeardBy records T (is_whose w) y second fs → AlikeDesks T one other →
         AlikeMoves (heard site at view (is_whose w) x invites es one) (heard far at view (is_whose w) y invites fs other)
     heard-alike w x y invites es fs one other said looks a first then d =
@@ -322,7 +322,7 @@ module _ (laws : OfCalls) (records : List Sheet) (site far : Site) (keys : TKey 
 
     -- ---- any signal
 
-    kinds-alike : (j k : Kind) (number : ℕ) (es fs : List Entry) (one other : Desk) → public_kind role j ≡ public_kind second k → KindCallers records j k → KindLooks site far k → AlikeEntries records known es fs →
+    kinds-alike : (j k : Kind) (number : ℕ) (es fs : List Entry) (one other : Desk) → public_kind role j ≡ public_kind second k → KindCallers records j k → KindLooks site far second k → AlikeEntries records known es fs →
         KindHears records T (standing at view []) role j es → KindHears records T (standing at view []) second k fs → AlikeDesks T one other →
         AlikeMoves (taken_kind j site at view number es one) (taken_kind k far at view number fs other)
     kinds-alike (Opens key invite served registration identities) (Opens key2 invite2 served2 registration2 identities2) number es fs one other same callers looks a first then d =
@@ -343,14 +343,14 @@ module _ (laws : OfCalls) (records : List Sheet) (site far : Site) (keys : TKey 
         (subst (λ (l : List InviteKey). AlikeMoves (heard site at view (is_whose v) x invites es one) (heard far at view (is_whose v) y l fs other)) added
         (heard-alike v x y invites es fs one other said looks a first (subst (λ (z : Whose). IsHeardBy records T (is_whose z) y second fs) (sym whose) then) d))
 
-    taken-alike : (x y : Signal) (number : ℕ) (es fs : List Entry) (one other : Desk) → public_signal role x ≡ public_signal second y → CallersAlike records x y → LooksAlike site far y → AlikeEntries records known es fs →
+    taken-alike : (x y : Signal) (number : ℕ) (es fs : List Entry) (one other : Desk) → public_signal role x ≡ public_signal second y → CallersAlike records x y → LooksAlike site far second y → AlikeEntries records known es fs →
         KindHears records T (standing at view []) role (kind_of x) es → KindHears records T (standing at view []) second (kind_of y) fs → AlikeDesks T one other →
         AlikeMoves (taken site at view number x es one) (taken far at view number y fs other)
     taken-alike x y number es fs one other said callers looks a first then d =
         subst (λ (m : Moved). AlikeMoves m (taken far at view number y fs other)) (sym (taken_as x site at view number es one))
         (subst (λ (m : Moved). AlikeMoves (taken_kind (kind_of x) site at view number es one) m) (sym (taken_as y far at view number fs other))
         (kinds-alike (kind_of x) (kind_of y) number es fs one other (kinds_same role second x y said)
-        (λ who whose e f. callers who whose (sym (caller_told x) ∙ e) (sym (caller_told y) ∙ f)) (kind_looks site far y looks) a first then d))
+        (λ who whose e f. callers who whose (sym (caller_told x) ∙ e) (sym (caller_told y) ∙ f)) (kind_looks site far second y looks) a first then d))
 
   pub same_desk : (desk : Desk) → AlikeDesks T desk desk
   same_desk desk = record { tokens = refl; rows = refl; out = refl }

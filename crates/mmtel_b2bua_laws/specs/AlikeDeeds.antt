@@ -39,7 +39,7 @@ pub record HearAlike (records : List Sheet) (site far : Site) (keys : TKey → B
   pub tokens : one.heard.tokens ≡ other.heard.tokens
   pub said : public_signal one.role one.heard.signal ≡ public_signal other.role other.heard.signal
   pub callers : CallersAlike records one.heard.signal other.heard.signal
-  pub looks : LooksAlike site far other.heard.signal
+  pub looks : LooksAlike site far other.role other.heard.signal
   -- the records in force are among those that the callers are asked by
   pub stand : AllStand records one.heard
   -- and each is asked as it should be of the table that hears it

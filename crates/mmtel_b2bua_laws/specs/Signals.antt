@@ -47,17 +47,17 @@ caller_in (signal.Over key) = None
 abbrev pub CallersAlike : (records : List Sheet) → (one other : Signal) → Type 0
 CallersAlike records one other = (who second : Identities2) → caller_in one ≡ Some who → caller_in other ≡ Some second → DecideAlike records who second
 
--- ---- the accounts that are looked up with a signal: that of a Request-URI, and that of a target to which a response redirects
+-- ---- the accounts that are looked up with a signal: that of a Request-URI, and that of a target to which a response redirects where that is not private in this role
 
-abbrev pub LooksAlike : (one other : Site) → Signal → Type 0
-LooksAlike one other (signal.Arrived key invite served registration identities) = LooksUpAlike one other (requested invite).uri
-LooksAlike one other (signal.Request call side key request) = Unit {0}
-LooksAlike one other (signal.Ack call side ack) = Unit {0}
-LooksAlike one other (signal.Cancel call key cancel invite) = Unit {0}
-LooksAlike one other (signal.Answer key response) = RedirectsAlike one other response
-LooksAlike one other (signal.Silent branch method) = Unit {0}
-LooksAlike one other (signal.Due call what) = Unit {0}
-LooksAlike one other (signal.Over key) = Unit {0}
+abbrev pub LooksAlike : (one other : Site) → Role → Signal → Type 0
+LooksAlike one other role (signal.Arrived key invite served registration identities) = LooksUpAlike one other (requested invite).uri
+LooksAlike one other role (signal.Request call side key request) = Unit {0}
+LooksAlike one other role (signal.Ack call side ack) = Unit {0}
+LooksAlike one other role (signal.Cancel call key cancel invite) = Unit {0}
+LooksAlike one other role (signal.Answer key response) = RedirectsAlike one other (without_private role response)
+LooksAlike one other role (signal.Silent branch method) = Unit {0}
+LooksAlike one other role (signal.Due call what) = Unit {0}
+LooksAlike one other role (signal.Over key) = Unit {0}
 
 -- ---- what is asked of a signal
 

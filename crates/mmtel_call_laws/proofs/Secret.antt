@@ -16,6 +16,7 @@ pub mod Staying
 pub mod Keeping
 pub mod Beginning
 pub mod Telling
+pub mod Renamed
 pub mod Leading
 pub mod LookingUp
 pub mod Both

@@ -9,6 +9,7 @@ pub mod Table
 pub mod Alike
 pub mod Opening
 pub mod Stories
+pub mod Renamed
 pub mod Directories
 pub mod Lending
 pub mod Kept

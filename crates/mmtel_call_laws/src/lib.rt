@@ -23,9 +23,10 @@ pub use outcome_laws::{
 pub use reply_laws::calls_reply_in_their_own;
 pub use secret_laws::{
     alike_calls_go_on_alike, answers_to_attempts_see_public_parts, calls_are_alike_in_both,
-    lent_calls_stay_alike, look_ups_alone_are_seen, messages_are_whole, openings_see_public_parts,
-    other_invites_see_public_parts, public_parts_are_once, public_parts_tell_what_is_asked,
-    requests_while_offered_see_public_parts, rows_once_answered_see_public_parts,
-    steps_see_public_parts, stories_stay_alike, ways_on_see_public_parts, what_calls_keep,
+    lent_calls_stay_alike, look_ups_alone_are_seen, look_ups_pass_over, messages_are_whole,
+    openings_see_public_parts, other_invites_see_public_parts, public_parts_are_once,
+    public_parts_tell_what_is_asked, requests_while_offered_see_public_parts,
+    rows_once_answered_see_public_parts, steps_see_public_parts, stories_stay_alike,
+    ways_on_see_public_parts, what_calls_keep,
 };
 pub use trace_laws::calls_are_what_is_seen;

@@ -6,6 +6,7 @@ ghost use Rattle.mmtel_call_laws.specs.Secret.Directories.{StepsKeepAlikeInBoth,
 ghost use Rattle.mmtel_call_laws.specs.Secret.Kept.{CallsKeep};
 ghost use Rattle.mmtel_call_laws.specs.Secret.Lending.{LendingKeepsAlike};
 ghost use Rattle.mmtel_call_laws.specs.Secret.Opening.{OpeningsGiveAlike, OpeningsKeepAlike, OpeningsSeePublicParts};
+ghost use Rattle.mmtel_call_laws.specs.Secret.Renamed.{LookUpsAgree, LookUpsPassOver, NoneAreNamed};
 ghost use Rattle.mmtel_call_laws.specs.Secret.Rows.{AcksOnceAnswered, AnswersAcross, AnswersOfOthers, AnswersToAttempt, AnswersWhileOffered, CancelsOnceAnswered};
 ghost use Rattle.mmtel_call_laws.specs.Secret.Rows.{CancelsWhileOffered, DeadlinesOnceAnswered, DeadlinesWhileOffered, EndsOfAttempts, ProvisionalToAttempt};
 ghost use Rattle.mmtel_call_laws.specs.Secret.Rows.{RequestsOnceAnswered, RequestsWhileOffered, SilenceOnceAnswered, SilenceWhileOffered};
@@ -130,6 +131,14 @@ pub fn look_ups_alone_are_seen()
     ensures steps { StepsSeeLookUpsAlone }
     ensures openings { OpeningsSeeLookUpsAlone }
     ensures ends { EndsLookUpNone }
+{}
+
+/// Where accounts have other identities in another configuration, a URI that names none of these is of the same account in both, or of none: the look-up passes over theirs.
+/// Without such accounts each URI names none.
+pub fn look_ups_pass_over()
+    ensures over { LookUpsPassOver }
+    ensures agree { LookUpsAgree }
+    ensures none { NoneAreNamed }
 {}
 
 /// So two alike calls, each under its configuration, go on alike and stay alike, through every two stories, and two INVITEs that are the same but for private places open

@@ -3,8 +3,10 @@
 //! A script may begin with `settings`, which say what the devices are, and what of them fails.
 
 use crate::links::{link, tell_link};
-use crate::pages::{Page, add_script};
-use crate::settings::{behind_settings, bytes_of, config, first_setting, named, numbers, setting};
+use crate::pages::{Page, add_script, add_short};
+use crate::settings::{
+    behind_settings, bytes_of, config, first_setting, named, numbers, of_pair, setting,
+};
 use mmtel_cli::{Keeper, MemoryFiles, MemoryKeeper, MemorySink, run};
 use mmtel_scan::{List, Text, part, plain_number, skip_text};
 use mmtel_types::Account;
@@ -45,9 +47,10 @@ fn add_named(page: &mut Page, files: &mut List<(Text, Text)>, script: &[u8]) {
     }
 }
 
-/// Adds the configuration.
-fn add_config(page: &mut Page, files: &mut List<(Text, Text)>, script: &[u8]) {
-    let config = config(page, script);
+/// Adds the configuration, with what it has in the first or in the second of two runs.
+fn add_config(page: &mut Page, files: &mut List<(Text, Text)>, script: &[u8], first: bool) {
+    let mut config = config(page, script);
+    add_short(&mut config, of_pair(script, first));
     add_file(page, files, b"server.cfg", &config);
     drop(config);
 }
@@ -55,7 +58,7 @@ fn add_config(page: &mut Page, files: &mut List<(Text, Text)>, script: &[u8]) {
 /// Adds the files that are there.
 fn add_files(page: &mut Page, files: &mut List<(Text, Text)>, script: &[u8], first: bool) {
     if setting(script, b"no-config").is_none() {
-        add_config(page, files, script);
+        add_config(page, files, script, first);
     }
     if setting(script, b"no-script").is_none() {
         add_script_file(page, files, script, first);

@@ -1,4 +1,5 @@
-//! Pairs of runs of calls and rooms that differ in who asks for privacy, and what the peer that is not trusted is offered in both, moments included (RFC 3323 §4, RFC 3325 §7).
+//! Pairs of runs of calls and rooms that differ in who asks for privacy, also under two configurations that name that person otherwise, and what the peer that is not trusted
+//! is offered in both, moments included (RFC 3323 §4, RFC 3325 §7).
 
 use crate::asserting::assert_right;
 use crate::pairs::wrong_pair;
@@ -455,6 +456,127 @@ at 200 peer 1|REFER sip:room-1@127.0.0.1:5060 SIP/2.0|Via: SIP/2.0/UDP 127.0.0.1
 |Refer-To: <sip:{bob^carol}@far.example>|Content-Length: 0|
 "#;
 
+/// They differ in private places alone, and in how the configuration names who is hidden there: nothing by which an account is looked up names her.
+const RENAMED: &[u8] =
+    br#"~ The operator's records have her under another name in the other configuration; she asks for privacy, is answered, and hangs up, and her phone names her as phones do.
+=config:sip 127.0.0.1:5060;web 127.0.0.1:8080;home home.example;peer 1 127.0.0.1:5071 trusted;peer 2 127.0.0.1:5072 untrusted;route home.example 1;route far.example 2;
+=further:account 2 sip:bob@home.example;operator sip:op@home.example;mixer 127.0.0.1 40000;factory sip:conf@home.example;
+=one:account 1 sip:alice@home.example tel:+4930111;
+=other:account 1 sip:ann@home.example tel:+4930999;
+at 0 peer 1|INVITE sip:bob@far.example SIP/2.0|Via: SIP/2.0/UDP 127.0.0.1:5071;branch=z9hG4bKa1|Max-Forwards: 68
+|From: "{Alice^Ann}" <sip:{alice^ann}@home.example>;tag=a|To: <sip:bob@far.example>|Call-ID: c1|CSeq: 7 INVITE|Contact: <sip:{alice^ann}@127.0.0.1:5071>
+|P-Asserted-Identity: <sip:{alice^ann}@home.example>, <tel:{+4930111^+4930999}>|Privacy: id|User-Agent: {one^another}|Content-Length: 0|
+at 100 peer 2|SIP/2.0 180 Ringing|Via: SIP/2.0/UDP 127.0.0.1:5060;branch=z9hG4bK0123456789abcdef-4
+|From: "Anonymous" <sip:anonymous@anonymous.invalid>;tag=0123456789abcdef-3|To: <sip:bob@far.example>;tag=bt|Call-ID: 0123456789abcdef-2|CSeq: 1 INVITE|Content-Length: 0|
+at 200 peer 2|SIP/2.0 200 OK|Via: SIP/2.0/UDP 127.0.0.1:5060;branch=z9hG4bK0123456789abcdef-4|From: "Anonymous" <sip:anonymous@anonymous.invalid>;tag=0123456789abcdef-3
+|To: <sip:bob@far.example>;tag=bt|Call-ID: 0123456789abcdef-2|CSeq: 1 INVITE|Contact: <sip:bob@127.0.0.1:5072>|Content-Length: 0|
+at 300 peer 1|ACK sip:127.0.0.1:5060 SIP/2.0|Via: SIP/2.0/UDP 127.0.0.1:5071;branch=z9hG4bKk|Max-Forwards: 68|From: "{Alice^Ann}" <sip:{alice^ann}@home.example>;tag=a
+|To: <sip:bob@far.example>;tag=0123456789abcdef-1|Call-ID: c1|CSeq: 7 ACK|Subject: {one^another}|Contact: <sip:{alice^ann}@127.0.0.1:5071>|Content-Length: 0|
+at 400 peer 1|BYE sip:127.0.0.1:5060 SIP/2.0|Via: SIP/2.0/UDP 127.0.0.1:5071;branch=z9hG4bKy|Max-Forwards: 68|From: "{Alice^Ann}" <sip:{alice^ann}@home.example>;tag=a
+|To: <sip:bob@far.example>;tag=0123456789abcdef-1|Call-ID: c1|CSeq: 8 BYE|User-Agent: {one^another}|P-Asserted-Identity: <sip:{alice^ann}@home.example>, <tel:{+4930111^+4930999}>
+|Content-Length: 0|
+~ So it is where the callee hangs up, and her phone answers in her name.
+=config:sip 127.0.0.1:5060;web 127.0.0.1:8080;home home.example;peer 1 127.0.0.1:5071 trusted;peer 2 127.0.0.1:5072 untrusted;route home.example 1;route far.example 2;
+=further:account 2 sip:bob@home.example;operator sip:op@home.example;mixer 127.0.0.1 40000;factory sip:conf@home.example;
+=one:account 1 sip:alice@home.example tel:+4930111;
+=other:account 1 sip:ann@home.example tel:+4930999;
+at 0 peer 1|INVITE sip:bob@far.example SIP/2.0|Via: SIP/2.0/UDP 127.0.0.1:5071;branch=z9hG4bKa1|Max-Forwards: 68
+|From: "{Alice^Ann}" <sip:{alice^ann}@home.example>;tag=a|To: <sip:bob@far.example>|Call-ID: c1|CSeq: 7 INVITE|Contact: <sip:{alice^ann}@127.0.0.1:5071>
+|P-Asserted-Identity: <sip:{alice^ann}@home.example>, <tel:{+4930111^+4930999}>|Privacy: id|User-Agent: {one^another}|Content-Length: 0|
+at 100 peer 2|SIP/2.0 180 Ringing|Via: SIP/2.0/UDP 127.0.0.1:5060;branch=z9hG4bK0123456789abcdef-4
+|From: "Anonymous" <sip:anonymous@anonymous.invalid>;tag=0123456789abcdef-3|To: <sip:bob@far.example>;tag=bt|Call-ID: 0123456789abcdef-2|CSeq: 1 INVITE|Content-Length: 0|
+at 200 peer 2|SIP/2.0 200 OK|Via: SIP/2.0/UDP 127.0.0.1:5060;branch=z9hG4bK0123456789abcdef-4|From: "Anonymous" <sip:anonymous@anonymous.invalid>;tag=0123456789abcdef-3
+|To: <sip:bob@far.example>;tag=bt|Call-ID: 0123456789abcdef-2|CSeq: 1 INVITE|Contact: <sip:bob@127.0.0.1:5072>|Content-Length: 0|
+at 300 peer 1|ACK sip:127.0.0.1:5060 SIP/2.0|Via: SIP/2.0/UDP 127.0.0.1:5071;branch=z9hG4bKk|Max-Forwards: 68|From: "{Alice^Ann}" <sip:{alice^ann}@home.example>;tag=a
+|To: <sip:bob@far.example>;tag=0123456789abcdef-1|Call-ID: c1|CSeq: 7 ACK|Subject: {one^another}|Contact: <sip:{alice^ann}@127.0.0.1:5071>|Content-Length: 0|
+at 400 peer 2|BYE sip:127.0.0.1:5060 SIP/2.0|Via: SIP/2.0/UDP 127.0.0.1:5072;branch=z9hG4bKy|Max-Forwards: 68|From: <sip:bob@far.example>;tag=bt
+|To: "Anonymous" <sip:anonymous@anonymous.invalid>;tag=0123456789abcdef-3|Call-ID: 0123456789abcdef-2|CSeq: 1 BYE|Content-Length: 0|
+at 410 peer 1|SIP/2.0 200 OK|Via: SIP/2.0/UDP 127.0.0.1:5060;branch=z9hG4bK0123456789abcdef-6|From: <sip:bob@far.example>;tag=0123456789abcdef-1
+|To: "{Alice^Ann}" <sip:{alice^ann}@home.example>;tag=a|Call-ID: c1|CSeq: 1 BYE|Contact: <sip:{alice^ann}@127.0.0.1:5071>
+|P-Asserted-Identity: <sip:{alice^ann}@home.example>, <tel:{+4930111^+4930999}>|Server: {one^another}|Content-Length: 0|
+~ Where he asks again in the call her phone sends him on to her own name: nobody looks that up.
+=config:sip 127.0.0.1:5060;web 127.0.0.1:8080;home home.example;peer 1 127.0.0.1:5071 trusted;peer 2 127.0.0.1:5072 untrusted;route home.example 1;route far.example 2;
+=further:account 2 sip:bob@home.example;operator sip:op@home.example;mixer 127.0.0.1 40000;factory sip:conf@home.example;
+=one:account 1 sip:alice@home.example tel:+4930111;
+=other:account 1 sip:ann@home.example tel:+4930999;
+at 0 peer 1|INVITE sip:bob@far.example SIP/2.0|Via: SIP/2.0/UDP 127.0.0.1:5071;branch=z9hG4bKa1|Max-Forwards: 68
+|From: "{Alice^Ann}" <sip:{alice^ann}@home.example>;tag=a|To: <sip:bob@far.example>|Call-ID: c1|CSeq: 7 INVITE|Contact: <sip:{alice^ann}@127.0.0.1:5071>
+|P-Asserted-Identity: <sip:{alice^ann}@home.example>, <tel:{+4930111^+4930999}>|Privacy: id|User-Agent: {one^another}|Content-Length: 0|
+at 200 peer 2|SIP/2.0 200 OK|Via: SIP/2.0/UDP 127.0.0.1:5060;branch=z9hG4bK0123456789abcdef-4|From: "Anonymous" <sip:anonymous@anonymous.invalid>;tag=0123456789abcdef-3
+|To: <sip:bob@far.example>;tag=bt|Call-ID: 0123456789abcdef-2|CSeq: 1 INVITE|Contact: <sip:bob@127.0.0.1:5072>|Content-Length: 0|
+at 300 peer 1|ACK sip:127.0.0.1:5060 SIP/2.0|Via: SIP/2.0/UDP 127.0.0.1:5071;branch=z9hG4bKk|Max-Forwards: 68|From: "{Alice^Ann}" <sip:{alice^ann}@home.example>;tag=a
+|To: <sip:bob@far.example>;tag=0123456789abcdef-1|Call-ID: c1|CSeq: 7 ACK|Subject: {one^another}|Contact: <sip:{alice^ann}@127.0.0.1:5071>|Content-Length: 0|
+at 1000 peer 2|INVITE sip:127.0.0.1:5060 SIP/2.0|Via: SIP/2.0/UDP 127.0.0.1:5072;branch=z9hG4bKr|Max-Forwards: 68|From: <sip:bob@far.example>;tag=bt
+|To: "Anonymous" <sip:anonymous@anonymous.invalid>;tag=0123456789abcdef-3|Call-ID: 0123456789abcdef-2|CSeq: 1 INVITE|Contact: <sip:bob@127.0.0.1:5072>|Content-Length: 0|
+at 1010 peer 1|SIP/2.0 302 Moved Temporarily|Via: SIP/2.0/UDP 127.0.0.1:5060;branch=z9hG4bK0123456789abcdef-6|From: <sip:bob@far.example>;tag=0123456789abcdef-1
+|To: "{Alice^Ann}" <sip:{alice^ann}@home.example>;tag=a|Call-ID: c1|CSeq: 1 INVITE|Contact: <sip:{alice^ann}@home.example>
+|P-Asserted-Identity: <sip:{alice^ann}@home.example>, <tel:{+4930111^+4930999}>|Content-Length: 0|
+~ She opens a room, has bob of the other network called into it, and closes it.
+=config:sip 127.0.0.1:5060;web 127.0.0.1:8080;home home.example;peer 1 127.0.0.1:5071 trusted;peer 2 127.0.0.1:5072 untrusted;route home.example 1;route far.example 2;
+=further:account 2 sip:bob@home.example;operator sip:op@home.example;mixer 127.0.0.1 40000;factory sip:conf@home.example;
+=one:account 1 sip:alice@home.example tel:+4930111;
+=other:account 1 sip:ann@home.example tel:+4930999;
+at 0 peer 1|INVITE sip:conf@home.example SIP/2.0|Via: SIP/2.0/UDP 127.0.0.1:5071;branch=z9hG4bKf1|Max-Forwards: 68
+|From: "{Alice^Ann}" <sip:{alice^ann}@home.example>;tag=a|To: <sip:conf@home.example>|Call-ID: c1|CSeq: 7 INVITE|Contact: <sip:{alice^ann}@127.0.0.1:5071>
+|P-Asserted-Identity: <sip:{alice^ann}@home.example>, <tel:{+4930111^+4930999}>|Privacy: id|Content-Type: application/sdp|Content-Length: 123||v=0|o=- 1 1 IN IP4 127.0.0.1|s=-
+|c=IN IP4 127.0.0.1|t=0 0|m=audio 5004 RTP/AVP 8 0|a=rtpmap:8 PCMA/8000|a=sendrecv
+at 100 peer 1|ACK sip:room-1@127.0.0.1:5060 SIP/2.0|Via: SIP/2.0/UDP 127.0.0.1:5071;branch=z9hG4bKk1|Max-Forwards: 68
+|From: "{Alice^Ann}" <sip:{alice^ann}@home.example>;tag=a|To: <sip:conf@home.example>;tag=0123456789abcdef-1|Call-ID: c1|CSeq: 7 ACK|Content-Length: 0|
+at 200 peer 1|REFER sip:room-1@127.0.0.1:5060 SIP/2.0|Via: SIP/2.0/UDP 127.0.0.1:5071;branch=z9hG4bKr1|Max-Forwards: 68
+|From: "{Alice^Ann}" <sip:{alice^ann}@home.example>;tag=a|To: <sip:conf@home.example>;tag=0123456789abcdef-1|Call-ID: c1|CSeq: 8 REFER|Refer-To: <sip:bob@far.example>
+|Contact: <sip:{alice^ann}@127.0.0.1:5071>|Content-Length: 0|
+at 210 peer 1|SIP/2.0 200 OK|Via: SIP/2.0/UDP 127.0.0.1:5060;branch=z9hG4bK0123456789abcdef-2|From: <sip:conf@home.example>;tag=0123456789abcdef-1
+|To: "{Alice^Ann}" <sip:{alice^ann}@home.example>;tag=a|Call-ID: c1|CSeq: 1 NOTIFY|Contact: <sip:{alice^ann}@127.0.0.1:5071>|Content-Length: 0|
+at 400 peer 2|SIP/2.0 200 OK|Via: SIP/2.0/UDP 127.0.0.1:5060;branch=z9hG4bK0123456789abcdef-5|From: <sip:room-1@127.0.0.1:5060>;tag=0123456789abcdef-4
+|To: <sip:bob@far.example>;tag=bt|Call-ID: 0123456789abcdef-3|CSeq: 1 INVITE|Contact: <sip:bob@127.0.0.1:5072>|Content-Type: application/sdp|Content-Length: 123||v=0
+|o=- 1 1 IN IP4 127.0.0.1|s=-|c=IN IP4 127.0.0.1|t=0 0|m=audio 5004 RTP/AVP 8 0|a=rtpmap:8 PCMA/8000|a=sendrecv
+at 500 peer 1|BYE sip:room-1@127.0.0.1:5060 SIP/2.0|Via: SIP/2.0/UDP 127.0.0.1:5071;branch=z9hG4bKy1|Max-Forwards: 68
+|From: "{Alice^Ann}" <sip:{alice^ann}@home.example>;tag=a|To: <sip:conf@home.example>;tag=0123456789abcdef-1|Call-ID: c1|CSeq: 9 BYE|Content-Length: 0|
+"#;
+
+/// She is named where an account is looked up, or is not hidden.
+const NAMED: &[u8] = br#"~ Bob diverts her by the name that she has in one configuration alone.
+=config:sip 127.0.0.1:5060;web 127.0.0.1:8080;home home.example;peer 1 127.0.0.1:5071 trusted;peer 2 127.0.0.1:5072 untrusted;route home.example 1;route far.example 2;
+=further:account 2 sip:bob@home.example;operator sip:op@home.example;mixer 127.0.0.1 40000;factory sip:conf@home.example;
+=one:account 1 sip:alice@home.example tel:+4930111;
+=other:account 1 sip:ann@home.example tel:+4930999;
+# [[communication-diversion.rule]]
+# one = ["sip:alice@home.example"]
+# target = "sip:vm@far.example"
+at 0 web|PUT /simservs/2 HTTP/1.1|X-3GPP-Asserted-Identity: "sip:bob@home.example"|Content-Type: application/toml|Content-Length: 96|
+x5b5b636f6d6d756e69636174696f6e2d646976657273696f6e2e72756c655d5d0a6f6e65203d205b227369703a616c69636540686f6d652e6578616d706c65225d0a746172676574203d20227369703\
+a766d406661722e6578616d706c65220a
+at 0 peer 1|INVITE sip:bob@home.example SIP/2.0|Via: SIP/2.0/UDP 127.0.0.1:5071;branch=z9hG4bKa1|Max-Forwards: 68
+|From: "{Alice^Ann}" <sip:{alice^ann}@home.example>;tag=a|To: <sip:bob@home.example>|Call-ID: c1|CSeq: 7 INVITE|Contact: <sip:{alice^ann}@127.0.0.1:5071>
+|P-Asserted-Identity: <sip:{alice^ann}@home.example>, <tel:{+4930111^+4930999}>|Privacy: id|User-Agent: {one^another}|Content-Length: 0|
+~ Bob diverts to the name that she has in one configuration alone: in the other it is nobody's.
+=config:sip 127.0.0.1:5060;web 127.0.0.1:8080;home home.example;peer 1 127.0.0.1:5071 trusted;peer 2 127.0.0.1:5072 untrusted;route home.example 1;route far.example 2;
+=further:account 2 sip:bob@home.example;operator sip:op@home.example;mixer 127.0.0.1 40000;factory sip:conf@home.example;
+=one:account 1 sip:alice@home.example tel:+4930111;
+=other:account 1 sip:ann@home.example tel:+4930999;
+# [[communication-diversion.rule]]
+# target = "sip:alice@home.example"
+at 0 web|PUT /simservs/2 HTTP/1.1|X-3GPP-Asserted-Identity: "sip:bob@home.example"|Content-Type: application/toml|Content-Length: 67|
+x5b5b636f6d6d756e69636174696f6e2d646976657273696f6e2e72756c655d5d0a746172676574203d20227369703a616c69636540686f6d652e6578616d706c65220a
+at 0 peer 2|INVITE sip:bob@home.example SIP/2.0|Via: SIP/2.0/UDP 127.0.0.1:5072;branch=z9hG4bKa1|Max-Forwards: 68|From: "Eve" <sip:eve@far.example>;tag=e
+|To: <sip:bob@home.example>|Call-ID: c1|CSeq: 7 INVITE|Contact: <sip:eve@127.0.0.1:5072>|Content-Length: 0|
+~ Somebody calls her by that name.
+=config:sip 127.0.0.1:5060;web 127.0.0.1:8080;home home.example;peer 1 127.0.0.1:5071 trusted;peer 2 127.0.0.1:5072 untrusted;route home.example 1;route far.example 2;
+=further:account 2 sip:bob@home.example;operator sip:op@home.example;mixer 127.0.0.1 40000;factory sip:conf@home.example;
+=one:account 1 sip:alice@home.example tel:+4930111;
+=other:account 1 sip:ann@home.example tel:+4930999;
+at 0 peer 2|INVITE sip:alice@home.example SIP/2.0|Via: SIP/2.0/UDP 127.0.0.1:5072;branch=z9hG4bKa1|Max-Forwards: 68|From: "Eve" <sip:eve@far.example>;tag=e
+|To: <sip:alice@home.example>|Call-ID: c1|CSeq: 7 INVITE|Contact: <sip:eve@127.0.0.1:5072>|Content-Length: 0|
+~ She is shown as who she is where she asks for nothing.
+=config:sip 127.0.0.1:5060;web 127.0.0.1:8080;home home.example;peer 1 127.0.0.1:5071 trusted;peer 2 127.0.0.1:5072 untrusted;route home.example 1;route far.example 2;
+=further:account 2 sip:bob@home.example;operator sip:op@home.example;mixer 127.0.0.1 40000;factory sip:conf@home.example;
+=one:account 1 sip:alice@home.example tel:+4930111;
+=other:account 1 sip:ann@home.example tel:+4930999;
+at 0 peer 1|INVITE sip:bob@far.example SIP/2.0|Via: SIP/2.0/UDP 127.0.0.1:5071;branch=z9hG4bKa1|Max-Forwards: 68
+|From: "{Alice^Ann}" <sip:{alice^ann}@home.example>;tag=a|To: <sip:bob@far.example>|Call-ID: c1|CSeq: 7 INVITE|Contact: <sip:{alice^ann}@127.0.0.1:5071>
+|P-Asserted-Identity: <sip:{alice^ann}@home.example>, <tel:{+4930111^+4930999}>|User-Agent: {one^another}|Content-Length: 0|
+"#;
+
 #[test]
 fn secrets(rt: HostRuntime) {
     assert_right(&rt, "ALIKE", wrong_pair(rt.alloc(), ALIKE, true));
@@ -463,4 +585,14 @@ fn secrets(rt: HostRuntime) {
 #[test]
 fn what_is_no_secret(rt: HostRuntime) {
     assert_right(&rt, "APART", wrong_pair(rt.alloc(), APART, false));
+}
+
+#[test]
+fn secrets_of_renamed_accounts(rt: HostRuntime) {
+    assert_right(&rt, "RENAMED", wrong_pair(rt.alloc(), RENAMED, true));
+}
+
+#[test]
+fn renamed_accounts_that_are_named(rt: HostRuntime) {
+    assert_right(&rt, "NAMED", wrong_pair(rt.alloc(), NAMED, false));
 }

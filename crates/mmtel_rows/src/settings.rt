@@ -1,7 +1,7 @@
 //! What a script may begin with, a line each, and what they say of the devices of a run.
 //!
-//! `=words:` the words of the run, parted by `|`; `=config:` another configuration, and `=further:` lines behind it, each ended by `;` (LF) or `^;` (CR LF); `=no-config` and
-//! `=no-script` where that file is not there; `=file:NAME LINES` one more; `=record:ACCOUNT LINES` what the keeper holds before; `=reads:`, `=keeps:`, `=writes:` and
+//! `=words:` the words of the run, parted by `|`; `=config:` another configuration, and `=further:` lines behind it, each ended by `;` (LF) or `^;` (CR LF), and of a pair of
+//! runs `=one:` those behind the one and `=other:` behind the other; `=no-config` and `=no-script` where that file is not there; `=file:NAME LINES` one more; `=record:ACCOUNT LINES` what the keeper holds before; `=reads:`, `=keeps:`, `=writes:` and
 //! `=link:` the numbers of the reads, of the keeper's calls, of the writes and of the link's calls that fail; `=room:` and `=most:` how many bytes the sink takes in all
 //! and in one write; `=then:` the words of a second run over the same keeper, and `=before:` the status of the first one, 0 where it is not there.
 //!
@@ -106,6 +106,15 @@ pub fn config(page: &Page, script: &[u8]) -> Page {
     }
     add_short(&mut text, value(script, b"further:"));
     text
+}
+
+/// The lines that the configuration of the first or of the second of two runs has behind it.
+pub fn of_pair(script: &[u8], first: bool) -> &[u8] {
+    if first {
+        value(script, b"one:")
+    } else {
+        value(script, b"other:")
+    }
 }
 
 /// The name or number that a setting begins with, and its lines behind it.

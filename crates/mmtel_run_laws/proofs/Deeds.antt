@@ -305,7 +305,7 @@ module _ (law : TextsDecideNothing) (tables : TablesStayAlike) (told : CallsAreT
   pub record Says (at : ℕ) (x y : Signal) (r s : Role) (v w : World) : Type 0 where
     pub said : public_signal r x ≡ public_signal s y
     pub callers : CallersAlike records x y
-    pub looks : LooksAlike (site_of d) (site_of e) y
+    pub looks : LooksAlike (site_of d) (site_of e) s y
     pub first : TableHears S (standing at (view_in v) []) r x (calls_in d v).entries
     pub second : TableHears S (standing at (view_in w) []) s y (calls_in e w).entries
     pub asks : AsksWell S x

@@ -52,4 +52,5 @@ mod Sides
 mod Sources
 mod Speaking
 mod TellingAlike
+mod Testing
 mod Tied

@@ -10,11 +10,10 @@ use Rattle.mmtel_run.specs.InForce.{uploads_of}
 use Rattle.mmtel_run.specs.Short.{IsShort, IsShortRun}
 use Rattle.mmtel_run.specs.View.{view}
 use Rattle.mmtel_run.specs.World.{World, beginning, begun, came}
-use Rattle.mmtel_run_laws.specs.Alike.{AllEarly, SiteAlike}
-use Rattle.mmtel_run_laws.specs.Secret.{KeepsTheSecretInBoth, Masks, MasksOnce, OffersKeepItInOne, OffersKeepTheSecret, SeenByNotices}
+use Rattle.mmtel_run_laws.specs.Alike.{AllEarly, AllLookUp}
+use Rattle.mmtel_run_laws.specs.Secret.{KeepsTheSecretInBoth, Masks, MasksOnce, OffersKeepItInOne, OffersKeepTheSecret, RenamedAreLookedUpAlike, SeenByNotices}
 use Rattle.mmtel_run_laws.specs.Mask.{Mask, MaskedDigest, asked_by, coming, mask, mask_all, mask_digest, records_in, records_of}
-use Rattle.mmtel_run_laws.proofs.Looking.{all_look_up}
-use Rattle.mmtel_run_laws.proofs.Secret.{of_one}
+use Rattle.mmtel_run_laws.specs.Wider.{Neutral, NobodyIsRenamed}
 use Rattle.mmtel_run_laws.proofs.SentOnce.{Once, begins, early_in}
 
 -- ---- more firings change nothing
@@ -68,7 +67,7 @@ masks_once d token loaded happened masked other is too =
 
 -- ---- the run whose offers are seen
 
-module _ (once : Once) (secret : KeepsTheSecretInBoth) where
+module _ (once : Once) (secret : KeepsTheSecretInBoth) (looks : RenamedAreLookedUpAlike) where
   -- where few numbers are drawn by so many firings as are enough, so it is by more
   early_by : (d : Directory) (token : List ℕ) (loaded : Texts) (happened : List Happened) (n more : ℕ) → IsEnough d token loaded n happened → IsShortRun d token loaded happened → AllEarly d token (n + more) (notices d happened) (beginning loaded)
   early_by d token loaded happened n more enough short =
@@ -77,7 +76,7 @@ module _ (once : Once) (secret : KeepsTheSecretInBoth) where
       (subst (λ (w : World). w.drawn < 2 ^ 60) (sym (world_same d token n more (notices d happened) (beginning loaded) enough)) few)
 
   pub offers_keep : OffersKeepTheSecret
-  offers_keep d token loaded happened offers given e run others masked seer read short sites looks strange is too other =
+  offers_keep d token loaded happened offers given e renamed run others masked seer read short strange renames neutral is too other =
       -- all four counts together
       let a : ℕ = given.fuel in
       let b : ℕ = is.fuel in
@@ -89,8 +88,9 @@ module _ (once : Once) (secret : KeepsTheSecretInBoth) where
       ap (λ (n : ℕ). gives e token loaded n run) (last a b c f) ∙ gives_same e token loaded run f (a + (b + c)) other.enough in
       let one : masked ≡ mask d token loaded all happened = masked_by d token loaded happened masked (a + (c + f)) is ∙ ap (λ (n : ℕ). mask d token loaded n happened) (second a b c f) in
       let two : masked ≡ mask e token loaded all run = masked_by e token loaded run masked (a + (b + f)) too ∙ ap (λ (n : ℕ). mask e token loaded n run) (third a b c f) in
+      let alike = looks d e renamed (records_in d loaded happened) masked renames neutral in
       ap (view seer) (given.exact ∙ sym of_given)
-      ∙ (secret d e token loaded all happened run seer read sites looks (early_by d token loaded happened a (b + (c + f)) given.enough short) strange (sym one ∙ two)
+      ∙ (secret d e token loaded all happened run seer read alike.0 (subst (λ (x : Mask). AllLookUp d e x.events) two alike.1) (early_by d token loaded happened a (b + (c + f)) given.enough short) strange (sym one ∙ two)
       ∙ ap (view seer) (of_other ∙ sym other.exact))
     where
       last : (a b c f : ℕ) → a + (b + (c + f)) ≡ f + (a + (b + c))
@@ -102,9 +102,10 @@ module _ (once : Once) (secret : KeepsTheSecretInBoth) where
       third : (a b c f : ℕ) → c + (a + (b + f)) ≡ a + (b + (c + f))
       third a b c f = omega arith
 
-  pub offers_keep_in_one : OffersKeepItInOne
-  offers_keep_in_one d token loaded happened offers given run others masked seer read short strange is too other =
-      offers_keep d token loaded happened offers given d run others masked seer read short (of_one (records_in d loaded happened) d) (all_look_up d (notices d run)) strange is too other
+  pub offers_keep_in_one : NobodyIsRenamed → OffersKeepItInOne
+  offers_keep_in_one nobody d token loaded happened offers given run others masked seer read short strange is too other =
+      let none = nobody d (records_in d loaded happened) masked in
+      offers_keep d token loaded happened offers given d [] run others masked seer read short strange none.0 none.1 is too other
 
 -- ---- runs of which the same is noticed
 
@@ -119,9 +120,9 @@ mask_by d token loaded fuel xs uploads = record {
 }
 
 pub seen_by_notices : SeenByNotices
-seen_by_notices d token loaded happened whole offers same kept sees other run others masked seer read short sites looks strange is too given =
-    sees other run others masked seer read (subst (λ (l : List Notice). IsShortBy d token loaded l) (sym same) short)
-    (subst (λ (u : Texts). SiteAlike (records_of (loaded ++ u)) d other) (sym kept) sites) looks strange
+seen_by_notices d token loaded happened whole offers same kept sees other renamed run others masked seer read short strange renames neutral is too given =
+    sees other renamed run others masked seer read (subst (λ (l : List Notice). IsShortBy d token loaded l) (sym same) short) strange renames
+    (subst (λ (u : Texts). Neutral renamed d other (records_of (loaded ++ u)) masked) (sym kept) neutral)
     (record {
       fuel = is.fuel;
       enough = subst (λ (l : List Notice). IsEnoughAfter d token is.fuel l (beginning loaded)) (sym same) is.enough;

@@ -38,18 +38,17 @@ use Rattle.mmtel_run.specs.Answers.{completed_reply, tag_for, tags_due, to_tag_i
 use Rattle.mmtel_run.specs.Events as Events
 use Rattle.mmtel_run.specs.Events.{Digest, Happened, Notice, digest, digest_datagram, digest_from, digest_read, notice_of, notices, refused_by}
 use Rattle.mmtel_run.specs.InForce.{upload_at, uploads_of}
-use Rattle.mmtel_run.specs.Refusals.{registrant}
 use Rattle.mmtel_run.specs.Run.{after, clock_at, one_more, settled, world_after}
 use Rattle.mmtel_run.specs.World.{World, beginning, begun, came, ended, filing, handing, keeping, met, refusing, serving}
 use Rattle.mmtel_run_laws.specs.Alike.{AllEarly, AllLookUp, AllTied, AreAmong, DigestIsTied, DigestLooksUp, IsEarly, SiteAlike}
 use Rattle.mmtel_run_laws.specs.Belonging.{role_of}
-use Rattle.mmtel_run_laws.specs.Secret.{KeepsTheSecret, KeepsTheSecretInBoth, RunsAreTied}
-use Rattle.mmtel_run_laws.specs.Mask.{Asked, Heard, Mask, MaskedDigest, Nothing, Refused, Tests, asked_by, coming, mask_all, mask_digest, records_in, tests_beside}
+use Rattle.mmtel_run_laws.specs.Secret.{KeepsTheSecret, KeepsTheSecretInBoth, RenamedAreLookedUpAlike, RunsAreTied}
+use Rattle.mmtel_run_laws.specs.Mask.{Asked, Heard, Mask, MaskedDigest, Nothing, Refused, Tests, asked_by, coming, mask, mask_all, mask_digest, records_in, tests_beside}
+use Rattle.mmtel_run_laws.specs.Wider.{NobodyIsRenamed}
 use Rattle.mmtel_run_laws.proofs.Deeds.{begun-alike, settled-alike}
 use Rattle.mmtel_run_laws.proofs.Emitting.{Knows, Pair, drawing-alike, offering-alike, plain-alike}
 use Rattle.mmtel_run_laws.proofs.Growing.{after_before, begun_before, handing_before, met_before}
 use Rattle.mmtel_run_laws.proofs.Keys.{IsLast, keys_in, knows, older}
-use Rattle.mmtel_run_laws.proofs.Looking.{all_look_up}
 use Rattle.mmtel_run_laws.proofs.TellingAlike.{Below, told-alike, trusts_same}
 
 -- ---- masked digests
@@ -57,50 +56,44 @@ use Rattle.mmtel_run_laws.proofs.TellingAlike.{Below, told-alike, trusts_same}
 abbrev pub left_of : Said → MaskedDigest → Said
 left_of other Nothing = other
 left_of other (Refused peer source reply) = other
-left_of other (Heard left tests registrant) = left
+left_of other (Heard left tests) = left
 left_of other (Asked put) = other
 
 abbrev tests_in : Option Tests → MaskedDigest → Option Tests
 tests_in other Nothing = other
 tests_in other (Refused peer source reply) = other
-tests_in other (Heard left tests registrant) = tests
+tests_in other (Heard left tests) = tests
 tests_in other (Asked put) = other
-
-abbrev registrant_in : Option Account → MaskedDigest → Option Account
-registrant_in other Nothing = other
-registrant_in other (Refused peer source reply) = other
-registrant_in other (Heard left tests registrant) = registrant
-registrant_in other (Asked put) = other
 
 abbrev peer_in : Peer → MaskedDigest → Peer
 peer_in other Nothing = other
 peer_in other (Refused peer source reply) = peer
-peer_in other (Heard left tests registrant) = other
+peer_in other (Heard left tests) = other
 peer_in other (Asked put) = other
 
 abbrev source_in : Addr → MaskedDigest → Addr
 source_in other Nothing = other
 source_in other (Refused peer source reply) = source
-source_in other (Heard left tests registrant) = other
+source_in other (Heard left tests) = other
 source_in other (Asked put) = other
 
 abbrev reply_in : Message Start → MaskedDigest → Message Start
 reply_in other Nothing = other
 reply_in other (Refused peer source reply) = reply
-reply_in other (Heard left tests registrant) = other
+reply_in other (Heard left tests) = other
 reply_in other (Asked put) = other
 
 abbrev put_in : Option (Account × List ℕ) → MaskedDigest → Option (Account × List ℕ)
 put_in other Nothing = other
 put_in other (Refused peer source reply) = other
-put_in other (Heard left tests registrant) = other
+put_in other (Heard left tests) = other
 put_in other (Asked put) = put
 
 -- the kinds are apart
 abbrev kind_of : MaskedDigest → ℕ
 kind_of Nothing = 0
 kind_of (Refused peer source reply) = 1
-kind_of (Heard left tests registrant) = 2
+kind_of (Heard left tests) = 2
 kind_of (Asked put) = 3
 
 abbrev first_of : ℕ × MaskedDigest → List (ℕ × MaskedDigest) → ℕ × MaskedDigest
@@ -292,7 +285,7 @@ module _ (below : Below) (its : PutIts) (others : PutOthers) (records : List She
   apart : (x y : MaskedDigest) → x ≡ y → kind_of x ≡ kind_of y
   apart x y same = ap kind_of same
 
-  met-alike : (at : ℕ) (x y : Digest) (v w : World) → mask_digest d whos v x ≡ mask_digest e whos w y → TrustedAs d x → TrustedAs e y → DigestIsAmong records d x → DigestLooksUp d e y → DigestIsTied d v x → DigestIsTied e w y
+  met-alike : (at : ℕ) (x y : Digest) (v w : World) → mask_digest d whos v x ≡ mask_digest e whos w y → TrustedAs d x → TrustedAs e y → DigestIsAmong records d x → DigestLooksUp d e (mask_digest e whos w y) → DigestIsTied d v x → DigestIsTied e w y
       → K w.acts → K (met e token at y w).acts → Two v w → Two (met d token at x v) (met e token at y w)
   met-alike at Events.Nothing Events.Nothing v w same trusted too among looks tied tied_too kw km z = z
   met-alike at Events.Nothing (Events.Refused q y s) v w same trusted too among looks tied tied_too kw km z = let o = apart _ _ same in absurd (omega (arith, o))
@@ -307,9 +300,8 @@ module _ (below : Below) (its : PutIts) (others : PutOthers) (records : List She
   met-alike at (Events.Heard m) (Events.Heard n) v w same trusted too among looks tied tied_too kw km z =
       told-alike below records d e token keys sites K before kn at m n v w z
       (ap (left_of (without_private (role_of d v m) m)) same)
-      (ap (tests_in (tests_beside d.names.accounts whos m.heard)) same)
-      (ap (registrant_in (registrant d.names.accounts m.heard)) same)
-      trusted (too ∙ sym (trusts_same below records d e token keys sites K before kn n.peer)) looks tied tied_too kw km
+      (ap (tests_in (tests_beside d.names.accounts whos (role_of d v m) m.heard)) same)
+      trusted (too ∙ sym (trusts_same below records d e token keys sites K before kn n.peer)) looks.0 looks.1 tied tied_too kw km
   met-alike at (Events.Heard m) (Events.Asked s l more) v w same trusted too among looks tied tied_too kw km z = let o = apart _ _ same in absurd (omega (arith, o))
   met-alike at (Events.Asked r k rows) Events.Nothing v w same trusted too among looks tied tied_too kw km z = let o = apart _ _ same in absurd (omega (arith, o))
   met-alike at (Events.Asked r k rows) (Events.Refused q y s) v w same trusted too among looks tied tied_too kw km z = let o = apart _ _ same in absurd (omega (arith, o))
@@ -400,11 +392,11 @@ module _ (below : Below) (its : PutIts) (others : PutOthers) (records : List She
 
   abbrev Comes : (fuel i j : ℕ) → Notice → Notice → World → World → Type 0
   Comes fuel i j x y v w =
-      mask_digest d whos (coming_at d fuel i v) x.digest ≡ mask_digest e whos (coming_at e fuel j w) y.digest → (IsEarly (coming_at d fuel i v) → DigestIsTied d (coming_at d fuel i v) x.digest) → (IsEarly (coming_at e fuel j w) → DigestIsTied e (coming_at e fuel j w) y.digest) →
+      mask_digest d whos (coming_at d fuel i v) x.digest ≡ mask_digest e whos (coming_at e fuel j w) y.digest → DigestLooksUp d e (mask_digest e whos (coming_at e fuel j w) y.digest) → (IsEarly (coming_at d fuel i v) → DigestIsTied d (coming_at d fuel i v) x.digest) → (IsEarly (coming_at e fuel j w) → DigestIsTied e (coming_at e fuel j w) y.digest) →
       IsEarly (coming_at d fuel i v) → K (came e token j y.digest y.took (settled e token fuel j w)).acts → Two (came d token i x.digest x.took (settled d token fuel i v)) (came e token j y.digest y.took (settled e token fuel j w))
 
-  came-alike : (fuel at : ℕ) (x y : Notice) (v w : World) → TrustedAs d x.digest → TrustedAs e y.digest → DigestIsAmong records d x.digest → DigestLooksUp d e y.digest → Two v w → Comes fuel at at x y v w
-  came-alike fuel at x y v w trusted too among looks a same tied tied_too early k =
+  came-alike : (fuel at : ℕ) (x y : Notice) (v w : World) → TrustedAs d x.digest → TrustedAs e y.digest → DigestIsAmong records d x.digest → Two v w → Comes fuel at at x y v w
+  came-alike fuel at x y v w trusted too among a same looks tied tied_too early k =
       let left : World = met e token at y.digest (coming_at e fuel at w) in
       let km : K left.acts = handing_before K before y.took left.waiting left k in
       let kc : K (coming_at e fuel at w).acts = met_before K before e token at y.digest (coming_at e fuel at w) km in
@@ -417,14 +409,14 @@ module _ (below : Below) (its : PutIts) (others : PutOthers) (records : List She
       (met-alike at x.digest y.digest (coming_at d fuel at v) (coming_at e fuel at w) same trusted too among looks (tied early) (tied_too (subst (λ (n : ℕ). n < 2 ^ 60) z.alike.drawn early)) kc km z)
 
   one_more-alike : (fuel : ℕ) (x y : Notice) (v w : World) → x.at ≡ y.at → mask_digest d whos (coming d token fuel x v) x.digest ≡ mask_digest e whos (coming e token fuel y w) y.digest
-      → TrustedAs d x.digest → TrustedAs e y.digest → DigestIsAmong records d x.digest → DigestLooksUp d e y.digest
+      → TrustedAs d x.digest → TrustedAs e y.digest → DigestIsAmong records d x.digest → DigestLooksUp d e (mask_digest e whos (coming e token fuel y w) y.digest)
       → (IsEarly (coming d token fuel x v) → DigestIsTied d (coming d token fuel x v) x.digest) → (IsEarly (coming e token fuel y w) → DigestIsTied e (coming e token fuel y w) y.digest)
       → IsEarly (coming d token fuel x v) → K (one_more e token fuel y w).acts → Two v w → Two (one_more d token fuel x v) (one_more e token fuel y w)
   one_more-alike fuel x y v w moment same trusted too among looks tied tied_too early k a =
       let clock : clock_at v x.at ≡ clock_at w y.at = ap (λ (n : ℕ). max n x.at) a.alike.clock ∙ ap (λ (n : ℕ). max w.clock n) moment in
-      subst (λ (n : ℕ). Comes fuel n (clock_at w y.at) x y v w) (sym clock) (came-alike fuel (clock_at w y.at) x y v w trusted too among looks a) same tied tied_too early k
+      subst (λ (n : ℕ). Comes fuel n (clock_at w y.at) x y v w) (sym clock) (came-alike fuel (clock_at w y.at) x y v w trusted too among a) same looks tied tied_too early k
 
-  after-alike : (fuel : ℕ) (xs ys : List Notice) (v w : World) → mask_all d token fuel whos xs v ≡ mask_all e token fuel whos ys w → AllTrusted d xs → AllTrusted e ys → AllAmong records d xs → AllLookUp d e ys
+  after-alike : (fuel : ℕ) (xs ys : List Notice) (v w : World) → mask_all d token fuel whos xs v ≡ mask_all e token fuel whos ys w → AllTrusted d xs → AllTrusted e ys → AllAmong records d xs → AllLookUp d e (mask_all e token fuel whos ys w)
       → AllTied d token fuel xs v → AllTied e token fuel ys w → AllEarly d token fuel xs v → K (after e token fuel ys w).acts → Two v w → Two (after d token fuel xs v) (after e token fuel ys w)
   after-alike fuel [] [] v w same t u m l i j early k a = a
   after-alike fuel [] (y ∷ ys) v w same t u m l i j early k a = absurd cc
@@ -458,13 +450,6 @@ module _ (below : Below) (its : PutIts) (others : PutOthers) (records : List She
 
 -- ---- two runs
 
--- one configuration is as itself
-pub of_one : (records : List Sheet) (x : Directory) → SiteAlike records x x
-of_one records x = record {
-  equal = record { sip = refl; home = refl; factory = refl; mixer = refl; peers = refl };
-  configured = record { equal = record { sip = refl; home = refl; bound = refl; peers = refl }; lead = λ sheet is forward does. refl };
-}
-
 -- where each client transaction and each INVITE that is acknowledged is tied to the peer that was asked
 module _ (below : Below) (keeps : KeepsPeers) (its : PutIts) (others : PutOthers) (tied : RunsAreTied) where
   pub both : KeepsTheSecretInBoth
@@ -476,7 +461,8 @@ module _ (below : Below) (keeps : KeepsPeers) (its : PutIts) (others : PutOthers
       let among : AreAmong records (beginning loaded).texts = loaded_all its others records loaded [] (λ s is. inr (in_left loaded (uploads_of d.names happened) s is)) (record { each = λ account text is. absurd (no_text text is); none = inl refl }) in
       (after-alike below its others records d e token keys sites (IsLast final) (older final) (knows keeps d final) fuel (notices d happened) (notices e run) (beginning loaded) (beginning loaded)
       (ap (λ (x : Mask). x.events) same ∙ ap (λ (z : List Who). mask_all e token fuel z (notices e run) (beginning loaded)) (sym asked))
-      (all_trusted d happened) (all_trusted e run) (all_among records d happened (λ s is. inr (in_right loaded (uploads_of d.names happened) s is))) looks
+      (all_trusted d happened) (all_trusted e run) (all_among records d happened (λ s is. inr (in_right loaded (uploads_of d.names happened) s is)))
+      (subst (λ (z : List Who). AllLookUp d e (mask_all e token fuel z (notices e run) (beginning loaded))) (sym asked) looks)
       (tied d token loaded fuel happened read)
       (tied e token loaded fuel run (record { text = read.text; source = subst IsSource sites.equal.sip read.source; port = subst (λ (a : Addr). 0 < a.port) sites.equal.sip read.port })) early ([], refl)
       (beginning-alike below its others records d e token keys sites (IsLast final) (older final) (knows keeps d final) loaded among)).alike.seen seer strange
@@ -485,6 +471,8 @@ module _ (below : Below) (keeps : KeepsPeers) (its : PutIts) (others : PutOthers
       no_text text x = cc
 
   -- under one configuration
-  pub one : KeepsTheSecret
-  one d token loaded fuel happened run seer read early strange same =
-      both d d token loaded fuel happened run seer read (of_one (records_in d loaded happened) d) (all_look_up d (notices d run)) early strange same
+  pub one : RenamedAreLookedUpAlike → NobodyIsRenamed → KeepsTheSecret
+  one looks nobody d token loaded fuel happened run seer read early strange same =
+      let none = nobody d (records_in d loaded happened) (mask d token loaded fuel run) in
+      let alike = looks d d [] (records_in d loaded happened) (mask d token loaded fuel run) none.0 none.1 in
+      both d d token loaded fuel happened run seer read alike.0 alike.1 early strange same

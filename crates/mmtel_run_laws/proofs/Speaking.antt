@@ -18,7 +18,7 @@ use Rattle.mmtel_message.specs.Addresses.{contact_text}
 use Rattle.mmtel_message.specs.Faults.{is_request}
 use Rattle.mmtel_message.specs.Message.{Line}
 use Rattle.mmtel_message.specs.Responses.{Reply, response}
-use Rattle.mmtel_parties.specs.Parties.{believed_user, parties_by, parties_of, registration_by, sides_of}
+use Rattle.mmtel_parties.specs.Parties.{believed_user, parties_by, parties_of, registration_by, sides_of, target_from}
 use Rattle.mmtel_parties.specs.declared.parties.Parties.{Parties}
 use Rattle.mmtel_transaction.specs.Heads.{head_of}
 use Rattle.mmtel_trust.proofs.Masked.{hidden_once}
@@ -36,7 +36,6 @@ use Rattle.mmtel_run.specs.Events.{message_in}
 use Rattle.mmtel_run.specs.Mask.{mask_said}
 use Rattle.mmtel_run.specs.Refusals.{course, registrant}
 use Rattle.mmtel_run.specs.Rooms.{Holder, leg_by, seat_by}
-use Rattle.mmtel_run_laws.specs.Alike.{LooksUp}
 use Rattle.mmtel_run_laws.specs.Belonging.{is_opening}
 use Rattle.mmtel_run_laws.proofs.Fits.{true_false}
 
@@ -100,6 +99,10 @@ module _ (heads : HeardAlikeHaveOneHead) (responses : AlikeResponsesHaveOneHead)
 
     -- ---- what is decided
 
+    -- for whom a peer registers is never private
+    pub registered_same : registrant d.names.accounts n.heard ≡ registrant e.names.accounts n.heard → registrant d.names.accounts m.heard ≡ registrant e.names.accounts n.heard
+    registered_same looks = ap (λ (h : HeardMessage). registrant d.names.accounts h) public_same ∙ looks
+
     module _ (registered : registrant d.names.accounts m.heard ≡ registrant e.names.accounts n.heard) where
       kin_public : Kin d e m.peer m.source (public_part m.heard) (public_part n.heard)
       kin_public = kin d e m.peer m.source (public_part m.heard) (public_part n.heard) equal (ap (mask_said (trusts d m.peer)) public_same) registered
@@ -147,11 +150,13 @@ module _ (heads : HeardAlikeHaveOneHead) (responses : AlikeResponsesHaveOneHead)
 
     -- ---- who takes part
 
-    pub parties_same : caller_account d.names.accounts m.heard ≡ caller_account e.names.accounts n.heard → LooksUp d e n → parties_of d.names.accounts m.heard ≡ parties_of e.names.accounts n.heard
-    parties_same caller looks =
+    pub parties_same : caller_account d.names.accounts m.heard ≡ caller_account e.names.accounts n.heard →
+        target_from d.names.accounts n.heard.start (believed_user n.heard).user ≡ target_from e.names.accounts n.heard.start (believed_user n.heard).user →
+        parties_of d.names.accounts m.heard ≡ parties_of e.names.accounts n.heard
+    parties_same caller target =
         ap (λ (h : HeardMessage). parties_by d.names.accounts (caller_account d.names.accounts m.heard) h.start (believed_user h)) public_same
         ∙ (ap (λ (c : Option Account). parties_by d.names.accounts c n.heard.start (believed_user n.heard)) caller
-        ∙ ap (by_target (caller_account e.names.accounts n.heard)) looks.target)
+        ∙ ap (by_target (caller_account e.names.accounts n.heard)) target)
       where
         by_target : Option Account → Option Account → Parties
         by_target c t = record { origin = c; target = t; served = sides_of (believed_user n.heard).session_case; registration = registration_by (believed_user n.heard).session_case (believed_user n.heard).regstate }

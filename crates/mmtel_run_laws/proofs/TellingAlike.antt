@@ -71,7 +71,7 @@ use Rattle.mmtel_run.specs.Refusals.{Course, Enter, EnterRoom, JoinRoom, Open, O
 use Rattle.mmtel_run.specs.Rooms.{Holder, InCall, InRoom, accepts, find_seat, in_call_or, in_room, is_accepted, is_of_calls, leg_by, replacement_in, replaces_by, seat_by, status_by}
 use Rattle.mmtel_run.specs.View.{view}
 use Rattle.mmtel_run.specs.World.{World, acknowledging, acknowledging_by, answering, calls_in, cancelling, cancelling_call, comes_of, drawing, emit_one, entering_room, heard_in_rooms, hearing, holder_in, housed, joining_room, lodging, next_tag, offering, opening_room, registering, repeating, replacing, replying, replying_plainly, responding, responding_to, room_joined, room_opened, rooms_in, seated, taking, taking_fresh, told, tokens_now, turned_away}
-use Rattle.mmtel_run_laws.specs.Alike.{LooksUp, MessageIsTied, SiteAlike}
+use Rattle.mmtel_run_laws.specs.Alike.{CallerLooksUp, LooksUp, MessageIsTied, SiteAlike}
 use Rattle.mmtel_run_laws.specs.Belonging.{is_opening, role_of}
 use Rattle.mmtel_run_laws.specs.Mask.{Tests, asked_by as asked_in, tests_beside, tests_of}
 use Rattle.mmtel_run_laws.proofs.Adopting.{access_same, find_same, replacing-alike}
@@ -82,7 +82,8 @@ use Rattle.mmtel_run_laws.proofs.Emitting.{Knows, Pair, acting-alike, drawing-al
 use Rattle.mmtel_run_laws.proofs.Fits.{true_false}
 use Rattle.mmtel_run_laws.proofs.Growing.{answering_before, replacing_before}
 use Rattle.mmtel_run_laws.proofs.Sides.{ack_hears, answer_hears, opening_is, request_hears, seat_hears}
-use Rattle.mmtel_run_laws.proofs.Speaking.{decided_same, head_same, leg_same, named_same, parties_same, peer_same, refer_same, reply_head, reply_whole, seated_same, start_same, tag_same}
+use Rattle.mmtel_run_laws.proofs.Speaking.{decided_same, head_same, leg_same, named_same, parties_same, peer_same, refer_same, registered_same, reply_head, reply_whole, seated_same, start_same, tag_same}
+use Rattle.mmtel_run_laws.proofs.Testing.{tests_same}
 
 -- what is proved below
 pub record Below : Type 0 where
@@ -198,9 +199,9 @@ module _ (below : Below) (records : List Sheet) (d e : Directory) (token : List 
   -- ---- two messages
 
   module _ (at : ℕ) (m n : Said) (v w : World) (a : Two v w) (same : without_private (role_of d v m) m ≡ without_private (role_of e w n) n)
-      (tests : tests_beside d.names.accounts (asked_in records) m.heard ≡ tests_beside e.names.accounts (asked_in records) n.heard)
-      (registered : registrant d.names.accounts m.heard ≡ registrant e.names.accounts n.heard)
-      (told_one : m.heard.trusted ≡ trusts d m.peer) (told_two : n.heard.trusted ≡ trusts d n.peer) (looks : LooksUp d e n)
+      (tests : tests_beside d.names.accounts (asked_in records) (role_of d v m) m.heard ≡ tests_beside e.names.accounts (asked_in records) (role_of e w n) n.heard)
+      (told_one : m.heard.trusted ≡ trusts d m.peer) (told_two : n.heard.trusted ≡ trusts d n.peer) (looks : LooksUp d e (without_private (role_of e w n) n))
+      (caller_looks : CallerLooksUp d e (without_private (role_of e w n) n) (tests_beside e.names.accounts (asked_in records) (role_of e w n) n.heard))
       (tied : MessageIsTied d v m) (tied_too : MessageIsTied e w n) (kw : K w.acts) where
     abbrev r : Role
     r = role_of d v m
@@ -297,15 +298,11 @@ module _ (below : Below) (records : List Sheet) (d e : Directory) (token : List 
     }
 
     -- an INVITE that opens a call: who takes part, and what is decided of the caller
-    abbrev tests_or : Tests → Option Tests → Tests
-    tests_or other None = other
-    tests_or other (Some t) = t
+    openings_same : is_opening m.heard ≡ true → is_opening n.heard ≡ true → tests_of d.names.accounts (asked_in records) m.heard ≡ tests_of e.names.accounts (asked_in records) n.heard
+    openings_same i j = tests_same d e (asked_in records) m n r s same tests caller_looks i j
 
-    tests_same : is_opening m.heard ≡ true → is_opening n.heard ≡ true → tests_of d.names.accounts (asked_in records) m.heard ≡ tests_of e.names.accounts (asked_in records) n.heard
-    tests_same i j =
-        let one : Tests = tests_of d.names.accounts (asked_in records) m.heard in
-        let two : Tests = tests_of e.names.accounts (asked_in records) n.heard in
-        ap (tests_or one) (sym (ap (λ (b : Bool). if b then Some one else None) i) ∙ (tests ∙ ap (λ (b : Bool). if b then Some two else None) j))
+    registered : registrant d.names.accounts m.heard ≡ registrant e.names.accounts n.heard
+    registered = registered_same below.heads below.responses below.kin d e sites.equal m n r s same looks.registrant
 
     arrived_said : (key : TKey) → parties_of d.names.accounts m.heard ≡ parties_of e.names.accounts n.heard →
         public_signal r (arrived d.names.accounts key m) ≡ public_signal s (arrived e.names.accounts key n)
@@ -317,14 +314,14 @@ module _ (below : Below) (records : List Sheet) (d e : Directory) (token : List 
         part_of (head_of N) (live w.acts) ≡ part.Fresh → is_opening m.heard ≡ true → is_opening n.heard ≡ true
         → Says below.texts below.tables below.told below.laws records d e token keys sites K older knows at (arrived d.names.accounts key m) (arrived e.names.accounts key n) r s (record v { acts = x.acts }) (record w { acts = y.acts })
     arrived_says key x y asked asked_too p q i j =
-        let t = tests_same i j in
+        let t = openings_same i j in
         let decided : DecideAlike records (caller_of m.heard) (caller_of n.heard) = decide-alike records (caller_of m.heard) (caller_of n.heard) (ap (λ (z : Tests). z.somebody) t) (ap (λ (z : Tests). z.answers) t) in
         record {
-          said = arrived_said key (parties_same below.heads below.responses below.kin d e sites.equal m n r s same (ap (λ (z : Tests). z.caller) t) looks);
+          said = arrived_said key (parties_same below.heads below.responses below.kin d e sites.equal m n r s same (ap (λ (z : Tests). z.caller) t) (looks.target j));
           callers = λ who second f g.
               subst (λ (z : Identities2). DecideAlike records z second) (some_same Identities2 (caller_of m.heard) who f)
               (subst (λ (z : Identities2). DecideAlike records (caller_of m.heard) z) (some_same Identities2 (caller_of n.heard) second g) decided);
-          looks = looks.requested;
+          looks = looks.requested j;
           first = opening_is below.wholes d keys d (λ peer. refl) v knows_one m told_one tied p i;
           second = opening_is below.wholes d keys e trusts_same w (knows w.acts kw) n told_two tied_too q j;
           asks = asked;
@@ -429,7 +426,7 @@ module _ (below : Below) (records : List Sheet) (d e : Directory) (token : List 
       }
 
       caller_same : is_opening m.heard ≡ true → is_opening n.heard ≡ true → caller_account d.names.accounts m.heard ≡ caller_account e.names.accounts n.heard
-      caller_same i j = ap (λ (z : Tests). z.caller) (tests_same i j)
+      caller_same i j = ap (λ (z : Tests). z.caller) (openings_same i j)
 
       -- a room of its own
       abbrev opened_by : (tag : List ℕ) → Option Account → World → World

@@ -2,7 +2,7 @@
 use Rattle.std.proofs.Common.{◌≡◌, ℕ, Bool, true, false, List, [], ◌∷◌, ◌++◌, length, refl, ap, sym, ◌∙◌, ◌+◌, Option, Some, None, codes, map, arith, inl, inr}
 use Rattle.std.proofs.lemmas.Bool.{cases_Bool}
 use Rattle.std.proofs.lemmas.Slice.Eq.{bytes_eq-Decides}
-use Rattle.std.specs.Prelude.{if◌then◌else◌, position, slice_get}
+use Rattle.std.specs.Prelude.{◌&&◌, if◌then◌else◌, position, slice_get}
 use Rattle.std.specs.List.{find, list_any}
 use Rattle.std.specs.Option.{option_map, unwrap_or}
 use Rattle.std.specs.Str.{bytes_eq, str_eq_ignore_ascii_case}
@@ -30,7 +30,7 @@ use Rattle.mmtel_call.specs.declared.calls.Trial.{Trial}
 use Rattle.mmtel_call_decisions.specs.Decisions.{its_sheet}
 use Rattle.mmtel_call_decisions.specs.Opening.{origin_sheet}
 use Rattle.mmtel_call_decisions.specs.Showing.{facing}
-use Rattle.mmtel_call_laws.specs.Secret.Roles.{Opens, Plain, Role, Says, opening_role, without_private}
+use Rattle.mmtel_call_laws.specs.Secret.Roles.{Opens, Plain, Role, Says, hides, opening_role, without_private}
 use Rattle.mmtel_desk.specs.Invites.{invite_answered}
 use Rattle.mmtel_desk.specs.Loose.{is_of}
 use Rattle.mmtel_directory.specs.declared.directories.Directory.{Directory}
@@ -73,7 +73,7 @@ use Rattle.mmtel_run.specs.Calls.{named_by}
 use Rattle.mmtel_run.specs.Records.{in_force}
 use Rattle.mmtel_run.specs.World.{World, beginning, calls_in, rooms_in}
 use Rattle.mmtel_run_laws.specs.Belonging.{answer_role_by, answered_role, awaited_role, comes_from, dialog_role, hides_caller, is_opening, loose_at, named_role, other_role, request_role_in, request_role_of, role_as, role_in_seat_answer, role_of, said_by, side_role, taken_at, unshown_request}
-use Rattle.mmtel_run_laws.specs.Mask.{Heard, Tests, tests_beside, tests_of}
+use Rattle.mmtel_run_laws.specs.Mask.{Heard, MaskedDigest, Tests, tests_beside, tests_of}
 use Rattle.mmtel_run_laws.proofs.Secret.{left_of as left_in}
 use Rattle.mmtel_run_laws.specs.Worked.{Erin, Frank, IsAwaited, IsOfStanding, IsTaken, IsTargets, LooksApart, Person, PublicLookApart, RestrictedLookAlike, Saying, TheyCome, UnshownLookAlike, ack, bye, cancel, moved_to, name_of, ok_named, ok_of_target, ok_to_bye, ok_to_cancel, ok_to_invite, ok_to_notify, phone, plain_later, plain_opening, private_later, private_opening, server_bye, tells_marked, tells_unmarked, user_of}
 
@@ -272,33 +272,36 @@ module _ (d : Directory) (w : World) where
 -- ---- what is left of two
 
 module _ (d : Directory) (asked : List Who) (w : World) where
-  abbrev beside : Said → Option Tests
-  beside m = tests_beside d.names.accounts asked m.heard
+  abbrev beside : Role → Said → Option Tests
+  beside r m = tests_beside d.names.accounts asked r m.heard
 
-  abbrev left_of : Said → Said
-  left_of m = without_private (role_of d w m) m
+  -- what is compared of it, in a role
+  abbrev left_as : Said → Role → MaskedDigest
+  left_as m r = Heard (without_private r m) (beside r m)
 
-  -- by a role that both have, where nobody is registered
-  looks : (m : Saying) (r : Role) → ((p : Person) → role_of d w (m p) ≡ r) → without_private r (m Erin) ≡ without_private r (m Frank) → beside (m Erin) ≡ beside (m Frank) →
-      Heard (left_of (m Erin)) (beside (m Erin)) None ≡ Heard (left_of (m Frank)) (beside (m Frank)) None
+  -- by a role that both have
+  looks : (m : Saying) (r : Role) → ((p : Person) → role_of d w (m p) ≡ r) → without_private r (m Erin) ≡ without_private r (m Frank) → beside r (m Erin) ≡ beside r (m Frank) →
+      left_as (m Erin) (role_of d w (m Erin)) ≡ left_as (m Frank) (role_of d w (m Frank))
   looks m r roles same tests =
-      ap (λ (x : Said). Heard x (beside (m Erin)) None)
-      (ap (λ (x : Role). without_private x (m Erin)) (roles Erin) ∙ (same ∙ sym (ap (λ (x : Role). without_private x (m Frank)) (roles Frank))))
-      ∙ ap (λ (x : Option Tests). Heard (left_of (m Frank)) x None) tests
+      ap (left_as (m Erin)) (roles Erin)
+      ∙ (ap (λ (x : Said). Heard x (beside r (m Erin))) same
+      ∙ (ap (Heard (without_private r (m Frank))) tests ∙ sym (ap (left_as (m Frank)) (roles Frank))))
 
-  -- the tests that stand beside an opening, and beside no other message
+  -- the tests that stand beside an opening that hides its caller, and beside no other message
   tested : (m : Saying) → ((p : Person) → is_opening (m p).heard ≡ true) → tests_of d.names.accounts asked (m Erin).heard ≡ tests_of d.names.accounts asked (m Frank).heard →
-      beside (m Erin) ≡ beside (m Frank)
+      beside Opens (m Erin) ≡ beside Opens (m Frank)
   tested m opens tests = beside_it Erin ∙ (ap (λ (t : Tests). Some t) tests ∙ sym (beside_it Frank))
     where
-      beside_it : (p : Person) → beside (m p) ≡ Some (tests_of d.names.accounts asked (m p).heard)
-      beside_it p = ap (λ (b : Bool). if b then Some (tests_of d.names.accounts asked (m p).heard) else None) (opens p)
+      beside_it : (p : Person) → beside Opens (m p) ≡ Some (tests_of d.names.accounts asked (m p).heard)
+      beside_it p = ap (λ (b : Bool). if b && hides Opens then Some (tests_of d.names.accounts asked (m p).heard) else None) (opens p)
 
-  untested : (m : Saying) → ((p : Person) → is_opening (m p).heard ≡ false) → beside (m Erin) ≡ beside (m Frank)
-  untested m opens = beside_it Erin ∙ sym (beside_it Frank)
+  untested : (m : Saying) (r : Role) (opens : Bool) → opens && hides r ≡ false → ((p : Person) → is_opening (m p).heard ≡ opens) → beside r (m Erin) ≡ beside r (m Frank)
+  untested m r opens none is = beside_it Erin ∙ sym (beside_it Frank)
     where
-      beside_it : (p : Person) → beside (m p) ≡ None
-      beside_it p = ap (λ (b : Bool). if b then Some (tests_of d.names.accounts asked (m p).heard) else None) (opens p)
+      beside_it : (p : Person) → beside r (m p) ≡ None
+      beside_it p =
+          ap (λ (b : Bool). if b && hides r then Some (tests_of d.names.accounts asked (m p).heard) else None) (is p)
+          ∙ ap (λ (b : Bool). if b then Some (tests_of d.names.accounts asked (m p).heard) else None) none
 
   -- an answer to a request that is no INVITE
   answers_other : (m : Said) (key : ℕ) → part_of (head_of (message_in m.heard)) (live w.acts) ≡ part.Answer key → invite_answered m ≡ None → role_of d w m ≡ Says Caller
@@ -356,7 +359,7 @@ module _ (d : Directory) (asked : List Who) (w : World) where
     caller_asks = λ e x stage call of known.
         looks plain_later (Says Caller)
         (λ p. asks_of Caller plain_later e x stage call of p refl (is_later p) ∙ says_own e.call.opening.restricted x.caller.dialogue.peer Caller (plain_later p) known of.own refl)
-        asked_left (untested plain_later is_later);
+        asked_left (untested plain_later (Says Caller) false refl is_later);
     caller_answers = λ e x q branch key place of stands own known.
         looks ok_to_invite (Says Caller)
         (λ p. answers_as ok_to_invite e branch key place of p
@@ -368,12 +371,12 @@ module _ (d : Directory) (asked : List Who) (w : World) where
         (λ p. asks_of Callee private_later e x stage call of p refl (is_later_too p)
         ∙ says_own (facing e.call.opening x.service Callee (private_later p)).restricted x.callee.dialogue.peer Callee (private_later p)
         (callee_restricted (private_later p).heard.wants (its_sheet x.service) (asks_id (private_later p).heard.lines refl)) of.own refl)
-        callee_left (untested private_later is_later_too);
+        callee_left (untested private_later (Says Callee) false refl is_later_too);
     callee_answers = λ e x branch key place of.
         looks ok_of_target (Says Callee) (λ p. target_as ok_of_target e x branch key place of p refl (asks_id (ok_of_target p).heard.lines refl)) target_left refl;
     history = λ taken shown.
         looks tells_marked Plain (λ p. opens_as d w (tells_marked p) false (taken p) (opens_marked p) (shown p))
-        history_left (tested tells_marked opens_marked refl);
+        history_left (untested tells_marked Plain true refl opens_marked);
   }
     where
       -- the record of whoever is served as the caller

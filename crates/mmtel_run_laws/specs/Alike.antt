@@ -38,6 +38,7 @@ use Rattle.mmtel_transaction.specs.Calls.{live}
 use Rattle.mmtel_transaction.specs.Heads.{head_of}
 use Rattle.mmtel_transaction.specs.declared.parts.Part.TheVariants as part
 use Rattle.mmtel_transaction.specs.declared.words.TKey.{TKey}
+use Rattle.mmtel_trust.specs.Digest.{caller_account}
 use Rattle.mmtel_types.specs.declared.numbers.Account.{Account}
 use Rattle.mmtel_types.specs.declared.numbers.Peer.{Peer}
 use Rattle.mmtel_types.specs.declared.sides.Side.{Side}
@@ -50,7 +51,9 @@ use Rattle.mmtel_run.specs.Rooms.{rooms_site}
 use Rattle.mmtel_run.specs.Run.{one_more}
 use Rattle.mmtel_run.specs.View.{view}
 use Rattle.mmtel_run.specs.World.{World, calls_in, rooms_in}
-use Rattle.mmtel_run_laws.specs.Mask.{coming}
+use Rattle.mmtel_run.specs.Refusals.{registrant}
+use Rattle.mmtel_run_laws.specs.Belonging.{is_opening}
+use Rattle.mmtel_run_laws.specs.Mask.{Asked, Heard, MaskedDigest, Nothing, Refused, Tests, coming}
 
 -- ---- two configurations
 
@@ -59,23 +62,30 @@ pub record SiteAlike (records : List Sheet) (one other : Directory) : Type 0 whe
   pub equal : EqualButForAccounts one other
   pub configured : Configured records (site_of one) (site_of other)
 
--- a message names the same accounts in both, where that is no matter of who the caller is: the target of an INVITE, where a response redirects to,
--- and whom a REFER asks a room to invite
-pub record LooksUp (one other : Directory) (m : Said) : Type 0 where
-  pub target : target_from one.names.accounts m.heard.start (believed_user m.heard).user ≡ target_from other.names.accounts m.heard.start (believed_user m.heard).user
-  pub requested : LooksUpAlike (site_of one) (site_of other) (requested m).uri
-  pub redirect : RedirectsAlike (site_of one) (site_of other) m
-  pub refer : RefersAlike (rooms_site one) (rooms_site other) m
+-- a message, without what is private of it, names the same accounts in both: the target of an INVITE without To tag, where a response redirects to, whom a REFER asks a room to
+-- invite, and for whom a trusted peer registers
+pub record LooksUp (one other : Directory) (left : Said) : Type 0 where
+  pub target : is_opening left.heard ≡ true →
+      target_from one.names.accounts left.heard.start (believed_user left.heard).user ≡ target_from other.names.accounts left.heard.start (believed_user left.heard).user
+  pub requested : is_opening left.heard ≡ true → LooksUpAlike (site_of one) (site_of other) (requested left).uri
+  pub redirect : RedirectsAlike (site_of one) (site_of other) left
+  pub refer : RefersAlike (rooms_site one) (rooms_site other) left
+  pub registrant : registrant one.names.accounts left.heard ≡ registrant other.names.accounts left.heard
 
-abbrev pub DigestLooksUp : (one other : Directory) → Digest → Type 0
-DigestLooksUp one other Events.Nothing = Unit {0}
-DigestLooksUp one other (Events.Refused peer source reply) = Unit {0}
-DigestLooksUp one other (Events.Heard said) = LooksUp one other said
-DigestLooksUp one other (Events.Asked request kept rows) = Unit {0}
+-- and so does the caller of such an INVITE, where no tests stand beside it
+abbrev pub CallerLooksUp : (one other : Directory) → Said → Option Tests → Type 0
+CallerLooksUp one other left None = is_opening left.heard ≡ true → caller_account one.names.accounts left.heard ≡ caller_account other.names.accounts left.heard
+CallerLooksUp one other left (Some tests) = Unit {0}
 
-abbrev pub AllLookUp : (one other : Directory) → List Notice → Type 0
+abbrev pub DigestLooksUp : (one other : Directory) → MaskedDigest → Type 0
+DigestLooksUp one other Nothing = Unit {0}
+DigestLooksUp one other (Refused peer source reply) = Unit {0}
+DigestLooksUp one other (Heard left tests) = LooksUp one other left × CallerLooksUp one other left tests
+DigestLooksUp one other (Asked put) = Unit {0}
+
+abbrev pub AllLookUp : (one other : Directory) → List (ℕ × MaskedDigest) → Type 0
 AllLookUp one other [] = Unit {0}
-AllLookUp one other (notice ∷ others) = DigestLooksUp one other notice.digest × AllLookUp one other others
+AllLookUp one other (event ∷ events) = DigestLooksUp one other event.1 × AllLookUp one other events
 
 -- ---- worlds
 

@@ -16,6 +16,7 @@ pub mod Seen
 pub mod Belonging
 pub mod Mask
 pub mod Worked
+pub mod Wider
 pub mod Alike
 pub mod Invited
 pub mod Secret

@@ -1,10 +1,10 @@
 -- A run without its private places, event by event, by what was done before each: what two runs are compared by
 -- (RFC 3323 §4.1, RFC 3325 §7, RFC 7044 §10.1, TS 24.607 §4.5.2, TS 24.608 §4.5.2).
-use Rattle.std.specs.Prelude.{ℕ, Bool, if◌then◌else◌, Option, Some, None, List, [], ◌∷◌, ◌++◌, map}
+use Rattle.std.specs.Prelude.{ℕ, Bool, ◌&&◌, if◌then◌else◌, Option, Some, None, List, [], ◌∷◌, ◌++◌, map}
 use Rattle.std.specs.List.{flat_map}
 use Rattle.mmtel_answers.specs.Said.{Said}
 use Rattle.mmtel_barring.specs.Barring.{rules_of}
-use Rattle.mmtel_call_laws.specs.Secret.Roles.{without_private}
+use Rattle.mmtel_call_laws.specs.Secret.Roles.{Role, hides, without_private}
 use Rattle.mmtel_directory.specs.declared.directories.Directory.{Directory}
 use Rattle.mmtel_in_force.specs.Texts.{Texts}
 use Rattle.mmtel_message.specs.Message.{Message}
@@ -26,7 +26,6 @@ use Rattle.mmtel_run.specs.Calls.{caller_of}
 use Rattle.mmtel_run.specs.Events as Events
 use Rattle.mmtel_run.specs.Events.{Digest, Happened, Notice, notices}
 use Rattle.mmtel_run.specs.InForce.{uploads_of}
-use Rattle.mmtel_run.specs.Refusals.{registrant}
 use Rattle.mmtel_run.specs.Run.{clock_at, one_more, settled}
 use Rattle.mmtel_run.specs.World.{World, beginning, begun}
 use Rattle.mmtel_run_laws.specs.Belonging.{is_opening, role_of}
@@ -48,7 +47,7 @@ parts_of sheet = identity_parts (diversion_rules sheet.diversion) ++ identity_pa
 abbrev pub asked_by : List Sheet → List Who
 asked_by records = flat_map parts_of records
 
--- ---- the tests beside an INVITE that opens a call or a room, or asks for a seat
+-- ---- the tests beside an INVITE that opens a call or a room, or asks for a seat, where it hides its caller
 
 pub record Tests : Type 0 where
   -- the account of the caller
@@ -65,16 +64,17 @@ tests_of accounts asked message = record {
   answers = map (identity_holds (caller_of message)) asked;
 }
 
-abbrev pub tests_beside : List AccountIdentity → List Who → HeardMessage → Option Tests
-tests_beside accounts asked message = if is_opening message then Some (tests_of accounts asked message) else None
+-- of one that hides nobody the message tells all of it
+abbrev pub tests_beside : List AccountIdentity → List Who → Role → HeardMessage → Option Tests
+tests_beside accounts asked role message = if is_opening message && hides role then Some (tests_of accounts asked message) else None
 
 -- ---- what is compared
 
 pub data MaskedDigest : Type 0 where
   Nothing : MaskedDigest
   Refused : (peer : Peer) → (source : Addr) → (reply : Message Start) → MaskedDigest
-  -- a message without what is private of it, the tests beside it, and the account for which a trusted peer registers
-  Heard : (left : Said) → (tests : Option Tests) → (registrant : Option Account) → MaskedDigest
+  -- a message without what is private of it, and the tests beside it
+  Heard : (left : Said) → (tests : Option Tests) → MaskedDigest
   -- what a web request put in force: what else is asked and replied on the web shows to no peer
   Asked : (put : Option (Account × List ℕ)) → MaskedDigest
 
@@ -83,7 +83,7 @@ abbrev pub mask_digest : Directory → (asked : List Who) → World → Digest �
 mask_digest directory asked world Events.Nothing = Nothing
 mask_digest directory asked world (Events.Refused peer source reply) = Refused peer source reply
 mask_digest directory asked world (Events.Heard said) =
-    Heard (without_private (role_of directory world said) said) (tests_beside directory.names.accounts asked said.heard) (registrant directory.names.accounts said.heard)
+    Heard (without_private (role_of directory world said) said) (tests_beside directory.names.accounts asked (role_of directory world said) said.heard)
 mask_digest directory asked world (Events.Asked request kept rows) = Asked (kept_upload kept (upload_in directory.names request))
 
 -- the world in which an event comes: after the deadlines that are due by then, in a step of its own

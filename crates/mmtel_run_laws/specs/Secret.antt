@@ -9,6 +9,8 @@ use Rattle.mmtel_in_force.specs.Texts.{Texts}
 use Rattle.mmtel_lex.specs.Grammar.{IsToken}
 use Rattle.mmtel_message.specs.Vias.{IsSource}
 use Rattle.mmtel_outside.specs.declared.events.Offer.{Offer}
+use Rattle.mmtel_sheet_values.specs.declared.values.Sheet.{Sheet}
+use Rattle.mmtel_types.specs.declared.numbers.Account.{Account}
 use Rattle.mmtel_types.specs.declared.numbers.Peer.{Peer}
 use Rattle.mmtel_run.specs.Alike.{trusts}
 use Rattle.mmtel_run.specs.Events.{Happened, notices}
@@ -20,6 +22,7 @@ use Rattle.mmtel_run.specs.View.{view}
 use Rattle.mmtel_run.specs.World.{beginning}
 use Rattle.mmtel_run_laws.specs.Alike.{AllEarly, AllLookUp, AllTied, SiteAlike}
 use Rattle.mmtel_run_laws.specs.Mask.{Mask, mask, records_in}
+use Rattle.mmtel_run_laws.specs.Wider.{Neutral, Renames}
 
 -- the branches that the server draws are read as they are written: the text of its tokens is a token, and its address is one that messages come from (RFC 3261 §25.1, §20.42)
 pub record BranchesAreRead (directory : Directory) (token : List ℕ) : Type 0 where
@@ -38,15 +41,20 @@ ConfigurationsAreRead = (text : List ℕ) (directory : Directory) (token : List 
 
 -- ---- by so many firings
 
--- of runs in which fewer than 2^60 numbers are drawn: under two configurations that are equal but for the URIs of accounts, where accounts are looked up alike
+-- of runs in which fewer than 2^60 numbers are drawn: under two configurations that are equal but for the URIs of accounts, where accounts are looked up alike in the masked run
 abbrev pub KeepsTheSecretInBoth : Type 0
 KeepsTheSecretInBoth = (directory far : Directory) (token : List ℕ) (loaded : Texts) (fuel : ℕ) (happened run : List Happened) (seer : Peer) →
-    BranchesAreRead directory token → SiteAlike (records_in directory loaded happened) directory far → AllLookUp directory far (notices far run) →
+    BranchesAreRead directory token → SiteAlike (records_in directory loaded happened) directory far → AllLookUp directory far (mask far token loaded fuel run).events →
     AllEarly directory token fuel (notices directory happened) (beginning loaded) → trusts directory seer ≡ false →
     mask directory token loaded fuel happened ≡ mask far token loaded fuel run →
     view seer (gives directory token loaded fuel happened) ≡ view seer (gives far token loaded fuel run)
 
--- under one configuration they are
+-- so they are where one renames accounts that nothing names by which one is looked up
+abbrev pub RenamedAreLookedUpAlike : Type 0
+RenamedAreLookedUpAlike = (directory other : Directory) (renamed : List Account) (records : List Sheet) (masked : Mask) →
+    Renames renamed directory other → Neutral renamed directory other records masked → SiteAlike records directory other × AllLookUp directory other masked.events
+
+-- and under one configuration
 abbrev pub KeepsTheSecret : Type 0
 KeepsTheSecret = (directory : Directory) (token : List ℕ) (loaded : Texts) (fuel : ℕ) (happened run : List Happened) (seer : Peer) →
     BranchesAreRead directory token → AllEarly directory token fuel (notices directory happened) (beginning loaded) → trusts directory seer ≡ false →
@@ -71,13 +79,13 @@ abbrev pub MasksOnce : Type 0
 MasksOnce = (directory : Directory) (token : List ℕ) (loaded : Texts) (happened : List Happened) (masked other : Mask) →
     Masks directory token loaded happened masked → Masks directory token loaded happened other → masked ≡ other
 
--- of these offers an untrusted peer sees what it would see of any other run that is the same without its private places, also under a configuration that is equal but for
--- the URIs of accounts, where accounts are looked up alike
+-- of these offers an untrusted peer sees what it would see of any other run that is the same without its private places, also under a configuration that renames accounts, where
+-- nothing by which an account is looked up in these runs names one of them
 abbrev pub SeesAlike : Directory → (token : List ℕ) → (loaded : Texts) → List Happened → List Offer → Type 0
 SeesAlike directory token loaded happened offers =
-    (other : Directory) (run : List Happened) (others : List Offer) (masked : Mask) (seer : Peer) →
-    BranchesAreRead directory token → IsShortRun directory token loaded happened →
-    SiteAlike (records_in directory loaded happened) directory other → AllLookUp directory other (notices other run) → trusts directory seer ≡ false →
+    (other : Directory) (renamed : List Account) (run : List Happened) (others : List Offer) (masked : Mask) (seer : Peer) →
+    BranchesAreRead directory token → IsShortRun directory token loaded happened → trusts directory seer ≡ false →
+    Renames renamed directory other → Neutral renamed directory other (records_in directory loaded happened) masked →
     Masks directory token loaded happened masked → Masks other token loaded run masked →
     Gives other token loaded run others → view seer offers ≡ view seer others
 
@@ -86,7 +94,7 @@ abbrev pub OffersKeepTheSecret : Type 0
 OffersKeepTheSecret = (directory : Directory) (token : List ℕ) (loaded : Texts) (happened : List Happened) (offers : List Offer) →
     Gives directory token loaded happened offers → SeesAlike directory token loaded happened offers
 
--- and under one configuration, where nothing is left to be asked of it
+-- and under one configuration, which renames nobody
 abbrev pub SeesAlikeInOne : Directory → (token : List ℕ) → (loaded : Texts) → List Happened → List Offer → Type 0
 SeesAlikeInOne directory token loaded happened offers =
     (run : List Happened) (others : List Offer) (masked : Mask) (seer : Peer) →

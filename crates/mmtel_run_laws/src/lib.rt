@@ -12,6 +12,6 @@ pub use laws::{
 };
 pub use offered::{bytes_are_seen, offers_are_added};
 pub use secrecy::{
-    configurations_are_read, masks_compute, one_configuration_looks_up_alike, rooms_send_once,
+    configurations_are_read, masks_compute, renamed_are_looked_up_alike, rooms_send_once,
     runs_are_tied, runs_keep_the_secret,
 };

@@ -1,15 +1,12 @@
 //! What nobody may learn from a run with calls and conference rooms. These are laws, and no code.
-ghost use Rattle.std.specs.Prelude.{ℕ, List};
-ghost use Rattle.mmtel_directory.specs.declared.directories.Directory.{Directory};
-ghost use Rattle.mmtel_run.specs.Events.{Notice};
-ghost use Rattle.mmtel_run_laws.specs.Alike.{AllLookUp};
 ghost use Rattle.mmtel_run_laws.specs.Invited.{RoomsSendOnce};
 ghost use Rattle.mmtel_run_laws.specs.Secret.{ConfigurationsAreRead, KeepsTheSecret, KeepsTheSecretInBoth, MasksOnce, OffersKeepItInOne, OffersKeepTheSecret};
-ghost use Rattle.mmtel_run_laws.specs.Secret.{RunsAreTied, SeenByNotices};
+ghost use Rattle.mmtel_run_laws.specs.Secret.{RenamedAreLookedUpAlike, RunsAreTied, SeenByNotices};
+ghost use Rattle.mmtel_run_laws.specs.Wider.{NobodyIsRenamed};
 ghost use Rattle.mmtel_run_laws.specs.Worked.{EachComes, PublicAreShown, RestrictedAreHidden, UnshownAreHidden};
 
 use mmtel_b2bua_laws::{alike_tables_answer_alike, tables_stay_alike};
-use mmtel_call_laws::{calls_send_once, messages_are_whole};
+use mmtel_call_laws::{calls_send_once, look_ups_pass_over, messages_are_whole};
 use mmtel_focus_laws::{alike_rooms_answer_alike, rooms_stay_alike};
 use mmtel_masks::{heads_see_no_private_place, responses_are_masked};
 use mmtel_message::laws::{fields_are_read, fields_stand_on_lines};
@@ -20,10 +17,15 @@ use mmtel_transaction::laws::{
     transactions_are_of_one_peer,
 };
 
-/// Under one configuration each account is looked up as it is.
-pub fn one_configuration_looks_up_alike()
-    ensures each { (directory : Directory) (notices : List Notice) → AllLookUp directory directory notices }
-{}
+/// Under a configuration that renames accounts each account is looked up alike in two runs that are the same without their private places, where nothing by which one is
+/// looked up names one of these (RFC 3325 §9.1, RFC 5502 §6, TS 24.604 §4.5.2.6).
+pub fn renamed_are_looked_up_alike()
+    ensures looks { RenamedAreLookedUpAlike }
+    // One configuration renames nobody, and then nothing is asked.
+    ensures nobody { NobodyIsRenamed }
+{
+    look_ups_pass_over();
+}
 
 /// Of each configuration that was read, with a token of hexadecimal digits, branches are read as they are written.
 pub fn configurations_are_read()
@@ -50,7 +52,8 @@ pub fn runs_are_tied()
 }
 
 /// What an untrusted peer is offered, moments included, is equal in two runs that are the same without their private places and answer every test of their callers alike
-/// (RFC 3323, RFC 3325 §7, RFC 7044 §10.1): of the definitions, with as many firings in both, and of whatever is offered exactly by them.
+/// (RFC 3323, RFC 3325 §7, RFC 7044 §10.1): of the definitions, with as many firings in both, and of whatever is offered exactly by them. The other run may have a
+/// configuration that renames accounts which nothing names by which one is looked up.
 pub fn runs_keep_the_secret()
     ensures both { KeepsTheSecretInBoth }
     ensures one { KeepsTheSecret }
@@ -66,6 +69,7 @@ pub fn runs_keep_the_secret()
     calls_send_once();
     equal_masks_are_kin();
     heads_see_no_private_place();
+    look_ups_pass_over();
     messages_are_whole();
     puts_change_one_account();
     records_are_those_kept();

@@ -66,7 +66,7 @@ use Rattle.mmtel_call.specs.Stages.{busy_in, has_left, is_due_at, left_by, on_ac
 use Rattle.mmtel_call.specs.Table.{ack_in, answer_to, cancel_in, due_in, is_current, request_in, response_in, silence_in, silence_of, step}
 use Rattle.mmtel_call.specs.declared.signals.Signal.{Signal}
 use Rattle.mmtel_call.specs.declared.signals.Signal.TheVariants as signal
-use Rattle.mmtel_call_laws.specs.Secret.Directories.{ArrivesAlike, EndsLookUpNone, EqualButForAccounts, OpeningsSeeLookUpsAlone, RecordsLeadAlike, RedirectsAlike, SignalsAlike, StepsSeeLookUpsAlone}
+use Rattle.mmtel_call_laws.specs.Secret.Directories.{AnswerLeads, ArrivesAlike, EndsLookUpNone, EqualButForAccounts, OpeningsSeeLookUpsAlone, PhaseLeads, RecordsLeadAlike, RedirectsAlike, StepLeads, StepsSeeLookUpsAlone}
 use Rattle.mmtel_call_laws.specs.Secret.Premises.{AreAsked, IsAmong, ServiceIsAsked}
 use Rattle.mmtel_call_laws.specs.Secret.Table.{ServedIn}
 use Rattle.mmtel_call_laws.proofs.Secret.Leading.{DueLeads, TurnLeads, due-leads, turn-leads}
@@ -74,6 +74,11 @@ use Rattle.mmtel_call_laws.proofs.Secret.Leading.{DueLeads, TurnLeads, due-leads
 if-same : (b : Bool) (p q v w : Step) → p ≡ v → q ≡ w → cond b p q ≡ cond b v w
 if-same true p q v w e f = e
 if-same false p q v w e f = f
+
+-- the first is asked where it counts
+if-where : (b : Bool) (p q v w : Step) → (b ≡ true → p ≡ v) → q ≡ w → cond b p q ≡ cond b v w
+if-where true p q v w e f = e refl
+if-where false p q v w e f = f
 
 -- ---- rows that look no account up
 
@@ -378,7 +383,7 @@ module _ (records : List Sheet) (site : Site) (accounts : List AccountIdentity) 
 
   -- ---- by phase
 
-  in-response : (p : Phase) (key : TKey) (m : Said) (c : Call) (desk : Desk) → ServedIn p records → RedirectsAlike site far2 m → response_in p site now key m c desk ≡ response_in p far2 now key m c desk
+  in-response : (p : Phase) (key : TKey) (m : Said) (c : Call) (desk : Desk) → ServedIn p records → PhaseLeads p site far2 m → response_in p site now key m c desk ≡ response_in p far2 now key m c desk
   in-response (Offered x) key m c desk its e = offered-response x key m (status_of m.heard.start) c desk its e
   in-response (Stood x stage) key m c desk its e = response-same site accounts now stage x key m c desk
   in-response (Lent loan) key m c desk its e = refl
@@ -396,17 +401,17 @@ module _ (records : List Sheet) (site : Site) (accounts : List AccountIdentity) 
   in-due (Lent loan) what c desk its = refl
   in-due (Over cause) what c desk its = refl
 
-  to-answer : (o : Option (List ℕ)) (key : TKey) (m : Said) (c : Call) (desk : Desk) → ServedIn c.phase records → RedirectsAlike site far2 m → answer_to o site now key m c desk ≡ answer_to o far2 now key m c desk
+  to-answer : (o : Option (List ℕ)) (key : TKey) (m : Said) (c : Call) (desk : Desk) → ServedIn c.phase records → AnswerLeads o site far2 m c → answer_to o site now key m c desk ≡ answer_to o far2 now key m c desk
   to-answer None key m c desk its e = refl
   to-answer (Some branch) key m c desk its e =
-      if-same (is_current branch c) (response_in c.phase site now key m c desk) (answered_other site key m branch c desk) (response_in c.phase far2 now key m c desk) (answered_other far2 key m branch c desk)
-      (in-response c.phase key m c desk its e) (other-same site accounts now key m branch c desk)
+      if-where (is_current branch c) (response_in c.phase site now key m c desk) (answered_other site key m branch c desk) (response_in c.phase far2 now key m c desk) (answered_other far2 key m branch c desk)
+      (λ current. in-response c.phase key m c desk its (e current)) (other-same site accounts now key m branch c desk)
 
   to-silence : (o : Option (List ℕ)) (c : Call) (desk : Desk) → ServedIn c.phase records → silence_of o site now c desk ≡ silence_of o far2 now c desk
   to-silence None c desk its = refl
   to-silence (Some branch) c desk its = ap (λ (s : Step). cond (is_current branch c) s (onward (without_silent branch c) desk)) (in-silence c.phase c desk its)
 
-  step-same : (x : Signal) (c : Call) (desk : Desk) → ServedIn c.phase records → SignalsAlike site far2 x → step site now x c desk ≡ step far2 now x c desk
+  step-same : (x : Signal) (c : Call) (desk : Desk) → ServedIn c.phase records → StepLeads site far2 x c → step site now x c desk ≡ step far2 now x c desk
   unfolding step
   step-same (signal.Request side key request) c desk its e = in-request site accounts now c.phase side key request c desk
   step-same (signal.Ack side ack) c desk its e = in-ack site accounts now c.phase side ack c desk
@@ -438,19 +443,29 @@ whole one other e =
     ∙ (ap (λ (v : ℕ). record other { bound = v; peers = one.peers }) e.bound
     ∙ ap (λ (v : Peers). record other { peers = v }) e.peers))
 
-signals-same : (one other : Site) (x : Signal) → SignalsAlike one other x → SignalsAlike one (record one { accounts = other.accounts }) x
-signals-same one other (signal.Request side key request) a = tt
-signals-same one other (signal.Ack side ack) a = tt
-signals-same one other (signal.Cancel key cancel invite) a = tt
-signals-same one other (signal.Answer key response) a = a
-signals-same one other (signal.Silent branch method) a = tt
-signals-same one other (signal.Due what) a = tt
-signals-same one other (signal.Ended key) a = tt
+phase-leads : (p : Phase) (one other : Site) (m : Said) → PhaseLeads p one other m → PhaseLeads p one (record one { accounts = other.accounts }) m
+phase-leads (Offered x) one other m a = a
+phase-leads (Stood x stage) one other m a = tt
+phase-leads (Lent loan) one other m a = tt
+phase-leads (Over cause) one other m a = tt
+
+answer-leads : (o : Option (List ℕ)) (one other : Site) (m : Said) (c : Call) → AnswerLeads o one other m c → AnswerLeads o one (record one { accounts = other.accounts }) m c
+answer-leads None one other m c a = tt
+answer-leads (Some branch) one other m c a = λ current. phase-leads c.phase one other m (a current)
+
+step-leads : (one other : Site) (x : Signal) (c : Call) → StepLeads one other x c → StepLeads one (record one { accounts = other.accounts }) x c
+step-leads one other (signal.Request side key request) c a = tt
+step-leads one other (signal.Ack side ack) c a = tt
+step-leads one other (signal.Cancel key cancel invite) c a = tt
+step-leads one other (signal.Answer key response) c a = answer-leads (invite_answered response) one other response c a
+step-leads one other (signal.Silent branch method) c a = tt
+step-leads one other (signal.Due what) c a = tt
+step-leads one other (signal.Ended key) c a = tt
 
 pub steps_see_look_ups_alone : StepsSeeLookUpsAlone
 steps_see_look_ups_alone records one other now x c desk equal lead stand its e =
     subst (λ (s : Site). step one now x c desk ≡ step s now x c desk) (whole one other equal)
-    (step-same records one other.accounts now stand (λ sheet is forward does. lead sheet is forward does) x c desk its (signals-same one other x e))
+    (step-same records one other.accounts now stand (λ sheet is forward does. lead sheet is forward does) x c desk its (step-leads one other x c e))
 
 pub openings_see_look_ups_alone : OpeningsSeeLookUpsAlone
 openings_see_look_ups_alone records one other now a desk equal lead stand e =

@@ -1,8 +1,9 @@
 -- Two configurations that are equal but for the URIs of accounts. Of these URIs a call sees the answers alone where it looks an account up: at its Request-URI, at the targets
 -- to which records divert it, and at those to which responses redirect it (TS 24.604 §4.5.2.6, RFC 3261 §21.3).
-use Rattle.std.specs.Prelude.{◌≡◌, ℕ, Bool, Some, List, [], ◌∷◌, slice_get}
+use Rattle.std.specs.Prelude.{◌≡◌, ℕ, Bool, true, Option, Some, None, List, [], ◌∷◌, slice_get}
 use Rattle.std.specs.Option.{unwrap_or}
 use Rattle.mmtel_answers.specs.Said.{Said}
+use Rattle.mmtel_desk.specs.Invites.{invite_answered}
 use Rattle.mmtel_desk.specs.declared.desks.Desk.{Desk}
 use Rattle.mmtel_diversion.specs.Diversion.{forward_of}
 use Rattle.mmtel_leg.specs.Dialogues.{request_uri}
@@ -21,16 +22,18 @@ use Rattle.mmtel_call_decisions.specs.Opening.{nowhere}
 use Rattle.mmtel_call_decisions.specs.Site.{Site, trusts}
 use Rattle.mmtel_call_decisions.specs.declared.openings.Arrival.{Arrival}
 use Rattle.mmtel_call.specs.declared.calls.Call.{Call}
+use Rattle.mmtel_call.specs.declared.calls.Phase.{Phase}
+use Rattle.mmtel_call.specs.declared.calls.Phase.TheVariants.{Lent, Offered, Over, Stood}
 use Rattle.mmtel_call.specs.Lending.{finished}
 use Rattle.mmtel_call.specs.Opening.{opened}
-use Rattle.mmtel_call.specs.Table.{step}
+use Rattle.mmtel_call.specs.Table.{is_current, step}
 use Rattle.mmtel_call.specs.declared.signals.Signal.{Signal}
 use Rattle.mmtel_call.specs.declared.signals.Signal.TheVariants as signal
 use Rattle.mmtel_call_laws.specs.Secret.Alike.{AlikeCalls, IsHeard}
 use Rattle.mmtel_call_laws.specs.Secret.Opening.{public_arrival}
 use Rattle.mmtel_call_laws.specs.Secret.Parts.{nobody}
 use Rattle.mmtel_call_laws.specs.Secret.Premises.{AreAsked, DecideAlike, IsAmong, IsAsked}
-use Rattle.mmtel_call_laws.specs.Secret.Roles.{Role}
+use Rattle.mmtel_call_laws.specs.Secret.Roles.{Role, without_private}
 use Rattle.mmtel_call_laws.specs.Secret.Seen.{AlikeDesks, AlikeSteps, trust_of}
 use Rattle.mmtel_call_laws.specs.Secret.Stories.{Both, HearAlike, next, one_after, other_after}
 use Rattle.mmtel_call_laws.specs.Secret.Table.{ServedIn, public_signal}
@@ -66,15 +69,35 @@ RecordsLeadAlike records one other = (sheet : Sheet) → IsAmong records sheet �
 abbrev pub RedirectsAlike : (one other : Site) → Said → Type 0
 RedirectsAlike one other m = (uri : Uri) → redirect_of m ≡ Some uri → LeadsAlike one other uri
 
--- so with any signal
-abbrev pub SignalsAlike : (one other : Site) → Signal → Type 0
-SignalsAlike one other (signal.Request side key request) = Unit {0}
-SignalsAlike one other (signal.Ack side ack) = Unit {0}
-SignalsAlike one other (signal.Cancel key cancel invite) = Unit {0}
-SignalsAlike one other (signal.Answer key response) = RedirectsAlike one other response
-SignalsAlike one other (signal.Silent branch method) = Unit {0}
-SignalsAlike one other (signal.Due what) = Unit {0}
-SignalsAlike one other (signal.Ended key) = Unit {0}
+-- what is private of a response is looked up by nobody: of one with this role that to which it redirects without it
+abbrev pub SignalsAlike : (one other : Site) → Role → Signal → Type 0
+SignalsAlike one other role (signal.Request side key request) = Unit {0}
+SignalsAlike one other role (signal.Ack side ack) = Unit {0}
+SignalsAlike one other role (signal.Cancel key cancel invite) = Unit {0}
+SignalsAlike one other role (signal.Answer key response) = RedirectsAlike one other (without_private role response)
+SignalsAlike one other role (signal.Silent branch method) = Unit {0}
+SignalsAlike one other role (signal.Due what) = Unit {0}
+SignalsAlike one other role (signal.Ended key) = Unit {0}
+
+-- by the call: only while it is offered a response to the INVITE that it waits on redirects it
+abbrev pub PhaseLeads : Phase → (one other : Site) → Said → Type 0
+PhaseLeads (Offered x) one other m = RedirectsAlike one other m
+PhaseLeads (Stood x stage) one other m = Unit {0}
+PhaseLeads (Lent loan) one other m = Unit {0}
+PhaseLeads (Over cause) one other m = Unit {0}
+
+abbrev pub AnswerLeads : Option (List ℕ) → (one other : Site) → Said → Call → Type 0
+AnswerLeads None one other m c = Unit {0}
+AnswerLeads (Some branch) one other m c = is_current branch c ≡ true → PhaseLeads c.phase one other m
+
+abbrev pub StepLeads : (one other : Site) → Signal → Call → Type 0
+StepLeads one other (signal.Request side key request) c = Unit {0}
+StepLeads one other (signal.Ack side ack) c = Unit {0}
+StepLeads one other (signal.Cancel key cancel invite) c = Unit {0}
+StepLeads one other (signal.Answer key response) c = AnswerLeads (invite_answered response) one other response c
+StepLeads one other (signal.Silent branch method) c = Unit {0}
+StepLeads one other (signal.Due what) c = Unit {0}
+StepLeads one other (signal.Ended key) c = Unit {0}
 
 -- and with the Request-URI of an INVITE that opens a call
 abbrev pub requested : Said → Target
@@ -87,14 +110,14 @@ ArrivesAlike one other a = LooksUpAlike one other (requested a.invite).uri
 pub record OneIsAlike : Type 0 where
   pub equal : (site : Site) → EqualButForAccounts site site
   pub lead : (records : List Sheet) (site : Site) → RecordsLeadAlike records site site
-  pub signals : (site : Site) (x : Signal) → SignalsAlike site site x
+  pub signals : (site : Site) (role : Role) (x : Signal) → SignalsAlike site site role x
   pub arrives : (site : Site) (a : Arrival) → ArrivesAlike site site a
 
 -- ---- of the URIs of accounts a call sees the answers to its look-ups alone
 
 abbrev pub StepsSeeLookUpsAlone : Type 0
 StepsSeeLookUpsAlone = (records : List Sheet) (one other : Site) (now : Standing) (x : Signal) (c : Call) (desk : Desk) →
-    EqualButForAccounts one other → RecordsLeadAlike records one other → AreAsked records now → ServedIn c.phase records → SignalsAlike one other x →
+    EqualButForAccounts one other → RecordsLeadAlike records one other → AreAsked records now → ServedIn c.phase records → StepLeads one other x c →
     step one now x c desk ≡ step other now x c desk
 
 abbrev pub OpeningsSeeLookUpsAlone : Type 0
@@ -110,7 +133,7 @@ EndsLookUpNone = (one other : Site) (at : ℕ) (c : Call) (desk : Desk) → Equa
 
 abbrev pub StepsKeepAlikeInBoth : Type 0
 StepsKeepAlikeInBoth = (records : List Sheet) (site far : Site) (keys : TKey → Bool) (now : Standing) (x y : Signal) (role second : Role) (c d : Call) (one other : Desk) →
-    EqualButForAccounts site far → RecordsLeadAlike records site far → SignalsAlike site far y →
+    EqualButForAccounts site far → RecordsLeadAlike records site far → SignalsAlike site far second y →
     AreAsked records now → AlikeCalls records (trusts site) c d → public_signal role x ≡ public_signal second y →
     IsHeard records (trust_of site keys) x role c → IsHeard records (trust_of site keys) y second d → AlikeDesks (trust_of site keys) one other →
     AlikeSteps (trust_of site keys) (step site now x c one) (step far now y d other)
@@ -118,7 +141,7 @@ StepsKeepAlikeInBoth = (records : List Sheet) (site far : Site) (keys : TKey →
 -- and stay alike calls
 abbrev pub CallsStayAlikeInBoth : Type 0
 CallsStayAlikeInBoth = (records : List Sheet) (site far : Site) (keys : TKey → Bool) (now : Standing) (x y : Signal) (role second : Role) (c d : Call) (one other : Desk) →
-    EqualButForAccounts site far → RecordsLeadAlike records site far → SignalsAlike site far y →
+    EqualButForAccounts site far → RecordsLeadAlike records site far → SignalsAlike site far second y →
     AreAsked records now → AlikeCalls records (trusts site) c d → public_signal role x ≡ public_signal second y →
     IsHeard records (trust_of site keys) x role c → IsHeard records (trust_of site keys) y second d → AlikeDesks (trust_of site keys) one other →
     AlikeCalls records (trusts site) (step site now x c one).call (step far now y d other).call
@@ -133,7 +156,7 @@ OpeningsKeepAlikeInBoth = (records : List Sheet) (site far : Site) (keys : TKey 
 
 -- through every two stories, each under its configuration, alike calls stay alike, and each step is seen alike
 abbrev pub HearAlikeInBoth : (records : List Sheet) → (site far : Site) → (keys : TKey → Bool) → Both → Call → Call → Type 0
-HearAlikeInBoth records site far keys both c d = HearAlike records site keys both c d × SignalsAlike site far both.other.signal
+HearAlikeInBoth records site far keys both c d = HearAlike records site keys both c d × SignalsAlike site far both.other.role both.other.signal
 
 abbrev pub AllHearAlikeInBoth : (records : List Sheet) → (site far : Site) → (keys : TKey → Bool) → Call → Call → List Both → Type 0
 AllHearAlikeInBoth records site far keys c d [] = Unit {0}

@@ -1,3 +1,4 @@
+use Rattle.mmtel_run_laws.proofs.Looking.{nobody_is_renamed, renamed_are_looked_up_alike}
 use Rattle.mmtel_run_laws.proofs.Offers.{masks_once, offers_keep, offers_keep_in_one, seen_by_notices}
 use Rattle.mmtel_run_laws.proofs.Secret.{both, one}
 use Rattle.mmtel_run_laws.proofs.SentOnce.{Once}
@@ -27,13 +28,15 @@ returns c =
     let others = c.puts_change_one_account.ensures.others in
     let tied = c.runs_are_tied.ensures.tied in
     let secret = both below keeps its others tied in
+    let looks = renamed_are_looked_up_alike c.look_ups_pass_over.ensures.agree in
+    let nobody = nobody_is_renamed c.look_ups_pass_over.ensures.none in
     let calls = c.calls_send_once.ensures in
     let once : Once = record { steps = calls.step; openings = calls.opening; ends = calls.end; lent = calls.lent; returned = calls.returned; rooms = c.rooms_send_once.ensures.once } in
     record {
       both = secret;
-      one = one below keeps its others tied;
+      one = one below keeps its others tied looks nobody;
       masked = masks_once;
-      offers = offers_keep once secret;
-      offers_in_one = offers_keep_in_one once secret;
+      offers = offers_keep once secret looks;
+      offers_in_one = offers_keep_in_one once secret looks nobody;
       seen = seen_by_notices;
     }

@@ -18,8 +18,10 @@ use mmtel_run_laws::runs_keep_the_secret;
 use mmtel_scan::{List, NoMemory, Text};
 use mmtel_script::{ScriptLink, listing};
 use mmtel_server::{DriveFault, Server, connections_are_read_out, drive};
+use mmtel_timers::Steps;
 use mmtel_types::Account;
 use std::alloc::Global;
+use std::sync::ledger::Ledger;
 
 /// Binds a keeper to the place of that name, and loads what it holds there.
 pub fn open<K: Keeper>(
@@ -39,13 +41,14 @@ pub fn open<K: Keeper>(
 }
 
 /// Drives the server over a link of so many events, none of whose calls fails, with a turn for each of them and one for the end.
-fn drive_over<L: Link, K: Keeper>(
+fn drive_over<L: Link, K: Keeper, C: Ledger>(
     alloc: Global,
     server: &mut Server,
     link: &mut L,
     events: u64,
     keeper: &mut K,
     out: &mut List<Offer>,
+    steps: &mut Steps<C>,
 ) -> Result<(), NoMemory>
     requires unfailing { NeverFails L.taking L.giving }
     requires unheard { IsUnheard events (L.ear link.old) }
@@ -59,7 +62,7 @@ fn drive_over<L: Link, K: Keeper>(
     connections_are_read_out();
     runs_keep_the_secret();
     let turns = events.saturating_add(1);
-    match drive(alloc, server, link, keeper, turns, out) {
+    match drive(alloc, server, link, keeper, turns, out, steps) {
         Ok(_) => Ok(()),
         Err(DriveFault::NoMemory) => Err(NoMemory),
         Err(DriveFault::LinkFault) => unreachable!(),
@@ -67,7 +70,7 @@ fn drive_over<L: Link, K: Keeper>(
 }
 
 /// What a server of this configuration offers over these texts in the run of the events of a link, of which there are so many. No call of the link fails.
-pub fn offered<L: Link, K: Keeper>(
+pub fn offered<L: Link, K: Keeper, C: Ledger>(
     alloc: Global,
     directory: Directory,
     token: &[u8],
@@ -75,6 +78,7 @@ pub fn offered<L: Link, K: Keeper>(
     link: &mut L,
     events: u64,
     keeper: &mut K,
+    steps: &mut Steps<C>,
 ) -> Result<List<Offer>, NoMemory>
     requires bounded { directory.bound ≤ 16 }
     requires unfailing { NeverFails L.taking L.giving }
@@ -94,20 +98,21 @@ pub fn offered<L: Link, K: Keeper>(
     };
     let mut server = Server::new(alloc, directory, token, loaded)?;
     let mut out = List::new();
-    let driven = drive_over(alloc, &mut server, link, events, keeper, &mut out);
+    let driven = drive_over(alloc, &mut server, link, events, keeper, &mut out, steps);
     server.give_up();
     driven?;
     Ok(out)
 }
 
 /// The listing of what it offers then.
-fn listed_over<K: Keeper>(
+fn listed_over<K: Keeper, C: Ledger>(
     alloc: Global,
     directory: Directory,
     token: &[u8],
     loaded: &[(Account, Text)],
     script: &mut ScriptLink,
     keeper: &mut K,
+    steps: &mut Steps<C>,
 ) -> Result<Text, NoMemory>
     requires bounded { directory.bound ≤ 16 }
     requires unheard { script.old ≡ unheard script.old.events }
@@ -117,7 +122,9 @@ fn listed_over<K: Keeper>(
         (seen (K.held keeper.new) (K.calls keeper.new) (K.faults keeper.new))) }
 {
     let events = script.len();
-    let offers = offered(alloc, directory, token, loaded, script, events, keeper)?;
+    let offers = offered(
+        alloc, directory, token, loaded, script, events, keeper, steps,
+    )?;
     listing(alloc, &offers)
 }
 
@@ -127,12 +134,13 @@ fn listed_over<K: Keeper>(
 /// # Errors
 ///
 /// `Failed` where the keeper could not be bound or not be loaded, and else want of memory alone.
-pub fn listed<K: Keeper>(
+pub fn listed<K: Keeper, C: Ledger>(
     alloc: Global,
     directory: Directory,
     token: &[u8],
     script: &mut ScriptLink,
     keeper: &mut K,
+    steps: &mut Steps<C>,
 ) -> Result<Text, KeepFault>
     requires bounded { directory.bound ≤ 16 }
     requires unheard { script.old ≡ unheard script.old.events }
@@ -145,7 +153,15 @@ pub fn listed<K: Keeper>(
 {
     match open(alloc, keeper, directory.store.bytes()) {
         Ok(loaded) => {
-            let listed = listed_over(alloc, directory, token, loaded.items(), script, keeper);
+            let listed = listed_over(
+                alloc,
+                directory,
+                token,
+                loaded.items(),
+                script,
+                keeper,
+                steps,
+            );
             drop(loaded);
             let text = listed?;
             Ok(text)

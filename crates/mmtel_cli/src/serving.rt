@@ -18,9 +18,11 @@ use mmtel_reports::Report;
 use mmtel_scan::{NoMemory, Text};
 use mmtel_serve::serve;
 use mmtel_server::{DriveFault, Server};
+use mmtel_timers::Steps;
 use mmtel_types::{Account, Failed};
 use mmtel_words::Serve;
 use std::alloc::Global;
+use std::sync::ledger::Ledger;
 
 /// Binds a link to the addresses of the configuration: that for datagrams and that for web connections.
 fn listen<L: Link>(directory: &Directory, link: &mut L) -> Result<(), Failed>
@@ -34,12 +36,13 @@ fn listen<L: Link>(directory: &Directory, link: &mut L) -> Result<(), Failed>
 
 /// What is due once so many turns were made, the link was closed, or one failed: of a server of this configuration that was just made, over a link that was bound and a keeper
 /// that was loaded.
-fn over_server<L: Link, K: Keeper>(
+fn over_server<L: Link, K: Keeper, C: Ledger>(
     alloc: Global,
     server: &mut Server,
     turns: u64,
     link: &mut L,
     keeper: &mut K,
+    steps: &mut Steps<C>,
 ) -> Report
     ensures served { (directory : Directory) (token : List ℕ) (loaded : Texts) (line : LinkSeen) (kept : KeeperSeen) → Serves directory token loaded [] server.old →
         IsLinked directory line (line_seen (L.ear link.old) (L.given link.old) (L.calls link.old) (L.taking link.old) (L.giving link.old)) →
@@ -49,7 +52,7 @@ fn over_server<L: Link, K: Keeper>(
     ensures serving { IsServing result }
     ensures taking { CountsLink result (L.taking link.old) (L.taking link.new) }
 {
-    match serve(alloc, server, link, keeper, turns) {
+    match serve(alloc, server, link, keeper, turns, steps) {
         Ok(_) => Report::Served,
         Err(DriveFault::LinkFault) => Report::Link,
         Err(DriveFault::NoMemory) => Report::Memory,
@@ -57,13 +60,14 @@ fn over_server<L: Link, K: Keeper>(
 }
 
 /// What is due once the link was bound: a server of the configuration hears it.
-fn over_link<L: Link, K: Keeper>(
+fn over_link<L: Link, K: Keeper, C: Ledger>(
     alloc: Global,
     directory: Directory,
     asked: Serve,
     loaded: &[(Account, Text)],
     link: &mut L,
     keeper: &mut K,
+    steps: &mut Steps<C>,
 ) -> Report
     requires bounded { directory.bound ≤ 16 }
     ensures served { (line : LinkSeen) (kept : KeeperSeen) →
@@ -82,7 +86,7 @@ fn over_link<L: Link, K: Keeper>(
     drop(config);
     match Server::new(alloc, directory, token, loaded) {
         Ok(mut server) => {
-            let due = over_server(alloc, &mut server, turns, link, keeper);
+            let due = over_server(alloc, &mut server, turns, link, keeper, steps);
             server.give_up();
             due
         }
@@ -91,13 +95,14 @@ fn over_link<L: Link, K: Keeper>(
 }
 
 /// What is due once the keeper was loaded: the link is bound to the addresses of the configuration.
-fn over_loaded<L: Link, K: Keeper>(
+fn over_loaded<L: Link, K: Keeper, C: Ledger>(
     alloc: Global,
     directory: Directory,
     asked: Serve,
     loaded: &[(Account, Text)],
     link: &mut L,
     keeper: &mut K,
+    steps: &mut Steps<C>,
 ) -> Report
     requires bounded { directory.bound ≤ 16 }
     ensures served { (kept : KeeperSeen) → IsLoaded directory.store loaded.now kept (seen (K.held keeper.old) (K.calls keeper.old) (K.faults keeper.old)) →
@@ -108,7 +113,7 @@ fn over_loaded<L: Link, K: Keeper>(
     ensures taking { CountsLink result (L.taking link.old) (L.taking link.new) }
 {
     match listen(&directory, link) {
-        Ok(()) => over_link(alloc, directory, asked, loaded, link, keeper),
+        Ok(()) => over_link(alloc, directory, asked, loaded, link, keeper, steps),
         Err(Failed) => {
             drop(directory);
             drop(asked);
@@ -118,12 +123,13 @@ fn over_loaded<L: Link, K: Keeper>(
 }
 
 /// What is due once the configuration was read: the keeper is bound to its store and loaded, the link is bound to its addresses, and then the turns are made.
-fn over_directory<L: Link, K: Keeper>(
+fn over_directory<L: Link, K: Keeper, C: Ledger>(
     alloc: Global,
     directory: Directory,
     asked: Serve,
     link: &mut L,
     keeper: &mut K,
+    steps: &mut Steps<C>,
 ) -> Report
     requires bounded { directory.bound ≤ 16 }
     ensures served { IsServedBy directory asked.token asked.turns (line_seen (L.ear link.old) (L.given link.old) (L.calls link.old) (L.taking link.old) (L.giving link.old))
@@ -136,7 +142,7 @@ fn over_directory<L: Link, K: Keeper>(
 {
     match open(alloc, keeper, directory.store.bytes()) {
         Ok(loaded) => {
-            let due = over_loaded(alloc, directory, asked, loaded.items(), link, keeper);
+            let due = over_loaded(alloc, directory, asked, loaded.items(), link, keeper, steps);
             drop(loaded);
             due
         }
@@ -154,12 +160,13 @@ fn over_directory<L: Link, K: Keeper>(
 }
 
 /// What is due once the configuration's text is there.
-fn over_config<L: Link, K: Keeper>(
+fn over_config<L: Link, K: Keeper, C: Ledger>(
     alloc: Global,
     asked: Serve,
     config: &Text,
     link: &mut L,
     keeper: &mut K,
+    steps: &mut Steps<C>,
 ) -> Report
     ensures due { ServesConfig (Some config.now) asked.token asked.turns
         (line_seen (L.ear link.old) (L.given link.old) (L.calls link.old) (L.taking link.old) (L.giving link.old))
@@ -171,7 +178,7 @@ fn over_config<L: Link, K: Keeper>(
     ensures taking { CountsLink result (L.taking link.old) (L.taking link.new) }
 {
     match read_directory(alloc, config.bytes()) {
-        Ok(directory) => over_directory(alloc, directory, asked, link, keeper),
+        Ok(directory) => over_directory(alloc, directory, asked, link, keeper, steps),
         Err(DirectoryFault::BadLine { line }) => {
             drop(asked);
             Report::Line(line)
@@ -184,12 +191,13 @@ fn over_config<L: Link, K: Keeper>(
 }
 
 /// What is due of `serve`. The next call of the files is for the configuration.
-pub fn over_serve<F: Files, L: Link, K: Keeper>(
+pub fn over_serve<F: Files, L: Link, K: Keeper, C: Ledger>(
     alloc: Global,
     asked: Serve,
     files: &mut F,
     link: &mut L,
     keeper: &mut K,
+    steps: &mut Steps<C>,
 ) -> Report
     ensures gives { GivesServe (F.told files.old)
         (line_seen (L.ear link.old) (L.given link.old) (L.calls link.old) (L.taking link.old) (L.giving link.old))
@@ -205,7 +213,7 @@ pub fn over_serve<F: Files, L: Link, K: Keeper>(
 {
     match files.read(alloc, asked.config.bytes()) {
         Ok(config) => {
-            let due = over_config(alloc, asked, &config, link, keeper);
+            let due = over_config(alloc, asked, &config, link, keeper, steps);
             drop(config);
             due
         }

@@ -1,5 +1,5 @@
 //! The top call.
-ghost use Rattle.std.specs.Prelude.{◌≡◌, ◌≤◌, ◌≢◌, IfSome, Ok, Some};
+ghost use Rattle.std.specs.Prelude.{◌≡◌, ◌<◌, ◌≤◌, ◌≢◌, IfSome, Ok, Some};
 ghost use Rattle.std.specs.Process.{exit_status};
 ghost use Rattle.mmtel_cli.specs.Asks.{asked_by};
 ghost use Rattle.mmtel_words.specs.CommandLine as line;
@@ -30,17 +30,21 @@ use mmtel_run_laws::{
 };
 use mmtel_scan::{NoMemory, Text};
 use mmtel_script::{ScriptFault, ScriptLink};
+use mmtel_timers::Steps;
 use mmtel_words::{Replay, Wanted, command};
 use std::alloc::Global;
+use std::marker::Brand;
 use std::process::ExitCode;
+use std::sync::ledger::{Blank, Ledger};
 
 /// What is due once both files were read and the script's grammar holds.
-fn over_events<K: Keeper>(
+fn over_events<K: Keeper, C: Ledger>(
     alloc: Global,
     directory: Directory,
     token: &[u8],
     script: &mut ScriptLink,
     keeper: &mut K,
+    steps: &mut Steps<C>,
 ) -> Report
     requires bounded { directory.bound ≤ 16 }
     requires unheard { script.old ≡ unheard script.old.events }
@@ -49,7 +53,7 @@ fn over_events<K: Keeper>(
     ensures read { IsRead result }
     ensures spares { Spares result keeper.old keeper.new }
 {
-    match listed(alloc, directory, token, script, keeper) {
+    match listed(alloc, directory, token, script, keeper, steps) {
         Ok(text) => Report::Listing(text),
         Err(KeepFault::Failed) => Report::Keeper,
         Err(KeepFault::NoMemory) => Report::Memory,
@@ -57,12 +61,13 @@ fn over_events<K: Keeper>(
 }
 
 /// What is due once both files were read.
-fn over_script<K: Keeper>(
+fn over_script<K: Keeper, C: Ledger>(
     alloc: Global,
     directory: Directory,
     token: &[u8],
     script: &Text,
     keeper: &mut K,
+    steps: &mut Steps<C>,
 ) -> Report
     requires bounded { directory.bound ≤ 16 }
     ensures due { IsDue (seen (K.held keeper.old) (K.calls keeper.old) (K.faults keeper.old))
@@ -72,7 +77,7 @@ fn over_script<K: Keeper>(
 {
     match ScriptLink::read(alloc, script.bytes(), &directory.peers) {
         Ok(mut script) => {
-            let due = over_events(alloc, directory, token, &mut script, keeper);
+            let due = over_events(alloc, directory, token, &mut script, keeper, steps);
             drop(script);
             due
         }
@@ -88,12 +93,13 @@ fn over_script<K: Keeper>(
 }
 
 /// What is due once the configuration was read. The next call is for the script.
-fn over_directory<F: Files, K: Keeper>(
+fn over_directory<F: Files, K: Keeper, C: Ledger>(
     alloc: Global,
     replay: Replay,
     directory: Directory,
     files: &mut F,
     keeper: &mut K,
+    steps: &mut Steps<C>,
 ) -> Report
     requires bounded { directory.bound ≤ 16 }
     ensures gives { GivesScript (F.told files.old) (seen (K.held keeper.old) (K.calls keeper.old) (K.faults keeper.old))
@@ -105,7 +111,14 @@ fn over_directory<F: Files, K: Keeper>(
 {
     match files.read(alloc, replay.script.bytes()) {
         Ok(script) => {
-            let due = over_script(alloc, directory, replay.token.bytes(), &script, keeper);
+            let due = over_script(
+                alloc,
+                directory,
+                replay.token.bytes(),
+                &script,
+                keeper,
+                steps,
+            );
             drop(script);
             drop(replay);
             due
@@ -124,12 +137,13 @@ fn over_directory<F: Files, K: Keeper>(
 }
 
 /// What is due once the configuration's text is there. The next call, if any, is for the script.
-fn over_config<F: Files, K: Keeper>(
+fn over_config<F: Files, K: Keeper, C: Ledger>(
     alloc: Global,
     replay: Replay,
     config: &Text,
     files: &mut F,
     keeper: &mut K,
+    steps: &mut Steps<C>,
 ) -> Report
     ensures gives { GivesScript (F.told files.old) (seen (K.held keeper.old) (K.calls keeper.old) (K.faults keeper.old))
         (seen (K.held keeper.new) (K.calls keeper.new) (K.faults keeper.new)) (asked_by replay) (directory_of config.now) result }
@@ -139,7 +153,7 @@ fn over_config<F: Files, K: Keeper>(
     ensures spares { Spares result keeper.old keeper.new }
 {
     match read_directory(alloc, config.bytes()) {
-        Ok(directory) => over_directory(alloc, replay, directory, files, keeper),
+        Ok(directory) => over_directory(alloc, replay, directory, files, keeper, steps),
         Err(DirectoryFault::BadLine { line }) => {
             drop(replay);
             Report::Line(line)
@@ -152,11 +166,12 @@ fn over_config<F: Files, K: Keeper>(
 }
 
 /// What is due over the files of a `replay`. The next call is for the configuration.
-fn over_replay<F: Files, K: Keeper>(
+fn over_replay<F: Files, K: Keeper, C: Ledger>(
     alloc: Global,
     replay: Replay,
     files: &mut F,
     keeper: &mut K,
+    steps: &mut Steps<C>,
 ) -> Report
     ensures gives { GivesBoth (F.told files.old) (seen (K.held keeper.old) (K.calls keeper.old) (K.faults keeper.old))
         (seen (K.held keeper.new) (K.calls keeper.new) (K.faults keeper.new)) (asked_by replay) result }
@@ -167,7 +182,7 @@ fn over_replay<F: Files, K: Keeper>(
 {
     match files.read(alloc, replay.config.bytes()) {
         Ok(config) => {
-            let due = over_config(alloc, replay, &config, files, keeper);
+            let due = over_config(alloc, replay, &config, files, keeper, steps);
             drop(config);
             due
         }
@@ -183,12 +198,13 @@ fn over_replay<F: Files, K: Keeper>(
 }
 
 /// What is due of what is wanted, over these files, this link and this keeper.
-fn over_wanted<F: Files, L: Link, K: Keeper>(
+fn over_wanted<F: Files, L: Link, K: Keeper, C: Ledger>(
     alloc: Global,
     wanted: Wanted,
     files: &mut F,
     link: &mut L,
     keeper: &mut K,
+    steps: &mut Steps<C>,
 ) -> Report
     ensures gives { GivesCommand (F.told files.old)
         (line_seen (L.ear link.old) (L.given link.old) (L.calls link.old) (L.taking link.old) (L.giving link.old))
@@ -204,22 +220,26 @@ fn over_wanted<F: Files, L: Link, K: Keeper>(
     ensures taking { TakingBy (Some (command_in wanted)) result (L.taking link.old) (L.taking link.new) }
 {
     match wanted {
-        Wanted::Replay(replay) => over_replay(alloc, replay, files, keeper),
+        Wanted::Replay(replay) => over_replay(alloc, replay, files, keeper, steps),
         Wanted::Check(records) => over_records(alloc, records.bytes(), files),
         Wanted::Charges(config) => over_charges(alloc, config.bytes(), files, keeper),
-        Wanted::Workload { calls, salt } => over_workload(alloc, calls, salt),
-        Wanted::Serve(asked) => over_serve(alloc, asked, files, link, keeper),
+        Wanted::Workload { calls, salt } => over_workload(alloc, calls, salt, steps),
+        Wanted::Serve(asked) => over_serve(alloc, asked, files, link, keeper, steps),
     }
 }
 
-/// What is due by these words over these files, this link and this keeper.
-fn prepare<F: Files, L: Link, K: Keeper>(
+/// What is due by these words over these files, this link and this keeper; the counter of steps begins here.
+fn prepare<F: Files, L: Link, K: Keeper, C: Ledger>(
     alloc: Global,
     words: &[Text],
     files: &mut F,
     link: &mut L,
     keeper: &mut K,
+    blank: Blank,
 ) -> Report
+    requires name { blank.name ≡ C.name }
+    requires parts { blank.parts ≡ C.parts }
+    requires some { 0 < C.parts }
     ensures prepares { Prepares words.now (F.told files.old) (F.told files.new)
         (line_seen (L.ear link.old) (L.given link.old) (L.calls link.old) (L.taking link.old) (L.giving link.old))
         (line_seen (L.ear link.new) (L.given link.new) (L.calls link.new) (L.taking link.new) (L.giving link.new))
@@ -228,8 +248,9 @@ fn prepare<F: Files, L: Link, K: Keeper>(
     ensures count { CountsFiles result (F.faults files.old) (F.faults files.new) }
     ensures spares { Spares result keeper.old keeper.new }
 {
+    let mut steps: Steps<C> = Steps::new(blank);
     match command(alloc, words) {
-        Ok(Some(wanted)) => over_wanted(alloc, wanted, files, link, keeper),
+        Ok(Some(wanted)) => over_wanted(alloc, wanted, files, link, keeper, &mut steps),
         Ok(None) => Report::Usage,
         Err(NoMemory) => Report::Memory,
     }
@@ -285,7 +306,7 @@ pub fn run<F: Files, L: Link, K: Keeper, S: Sink>(
     homes_of_configurations_are_clean();
     configurations_are_read();
     bytes_are_seen();
-    let due = prepare(alloc, words, files, link, keeper);
+    let due = prepare::<F, L, K, Brand>(alloc, words, files, link, keeper, Blank::new(1));
     let status = write_report(&due, out);
     drop(due);
     status

@@ -14,9 +14,11 @@ use mmtel_keeper::{KeepFault, Keeper};
 use mmtel_outside::Offer;
 use mmtel_reports::Report;
 use mmtel_scan::{List, NoMemory, Text, add_number};
+use mmtel_timers::Steps;
 use mmtel_types::Account;
 use mmtel_workload::{WorkKeeper, WorkLink};
 use std::alloc::Global;
+use std::sync::ledger::Ledger;
 
 /// The configuration: a trusted core and another network, and three subscribers.
 const CONFIG: &[u8] = b"sip 127.0.0.1:5060
@@ -42,11 +44,12 @@ const CAROL: &[u8] =
     b"[communication-diversion]\nactive = true\n\n[[communication-diversion.rule]]\ntarget = \"sip:vm@far.example\"\n";
 
 /// What a server of this configuration, which has carol's record in force, offers in the run of the calls.
-fn offered_for_calls(
+fn offered_for_calls<C: Ledger>(
     alloc: Global,
     directory: Directory,
     work: &mut WorkLink,
     keeper: &mut WorkKeeper,
+    steps: &mut Steps<C>,
 ) -> Result<List<Offer>, NoMemory>
     requires bounded { directory.bound ≤ 16 }
     requires unheard { work.old ≡ unheard work.old.events }
@@ -61,7 +64,9 @@ fn offered_for_calls(
     };
     let loaded = [(Account(3), carol)];
     let events = work.len();
-    offered(alloc, directory, TOKEN, &loaded, work, events, keeper)
+    offered(
+        alloc, directory, TOKEN, &loaded, work, events, keeper, steps,
+    )
 }
 
 /// How many rows are of a diversion.
@@ -112,7 +117,13 @@ fn rows_of(alloc: Global, keeper: &mut WorkKeeper) -> Result<List<Row>, NoMemory
 }
 
 /// Makes so many calls by this salt, and tells what they came to.
-fn worked(alloc: Global, directory: Directory, calls: u32, salt: u32) -> Result<Text, NoMemory>
+fn worked<C: Ledger>(
+    alloc: Global,
+    directory: Directory,
+    calls: u32,
+    salt: u32,
+    steps: &mut Steps<C>,
+) -> Result<Text, NoMemory>
     requires bounded { directory.bound ≤ 16 }
     ensures counts { IfOk result (λ text. Counts directory calls salt text) }
 {
@@ -124,7 +135,7 @@ fn worked(alloc: Global, directory: Directory, calls: u32, salt: u32) -> Result<
         }
     };
     let mut keeper = WorkKeeper::new();
-    let offers = offered_for_calls(alloc, directory, &mut work, &mut keeper)?;
+    let offers = offered_for_calls(alloc, directory, &mut work, &mut keeper, steps)?;
     let rows = rows_of(alloc, &mut keeper)?;
     told(
         alloc,
@@ -135,12 +146,17 @@ fn worked(alloc: Global, directory: Directory, calls: u32, salt: u32) -> Result<
 }
 
 /// What is due of `workload`.
-pub fn over_workload(alloc: Global, calls: u32, salt: u32) -> Report
+pub fn over_workload<C: Ledger>(
+    alloc: Global,
+    calls: u32,
+    salt: u32,
+    steps: &mut Steps<C>,
+) -> Report
     ensures gives { GivesWork calls salt result }
     ensures read { IsRead result }
 {
     match read_directory(alloc, CONFIG) {
-        Ok(directory) => match worked(alloc, directory, calls, salt) {
+        Ok(directory) => match worked(alloc, directory, calls, salt, steps) {
             Ok(text) => Report::Listing(text),
             Err(NoMemory) => Report::Memory,
         },

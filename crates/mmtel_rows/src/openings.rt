@@ -1,5 +1,7 @@
 //! Openings: the INVITE of a caller who asks for privacy, from a trusted peer to one that is not.
 
+ghost use Rattle.std.specs.Prelude.{◌≡◌, ◌<◌};
+
 use crate::asserting::assert_right;
 use crate::cases::{two, wrong_run};
 use crate::links::heard;
@@ -7,7 +9,10 @@ use crate::pages::{Page, add_lines, are_alike};
 use crate::serving::{add_listing, server};
 use mmtel_cli::{MemoryKeeper, ScriptLink, Server, drive};
 use mmtel_scan::List;
+use mmtel_timers::Steps;
 use std::alloc::Global;
+use std::marker::Brand;
+use std::sync::ledger::{Blank, Ledger};
 
 /// RFC 3323 §4.1 and RFC 3325 §9.3: who asks for privacy is anonymous towards a network that is not trusted.
 const OPENINGS: &[u8] = br#"~ Erin calls bob, and asks that her identity be kept private.
@@ -76,11 +81,30 @@ fn restricted_openings(rt: HostRuntime) {
 }
 
 /// Adds what a server offers in so many turns, by the calls right below the top call; the link has ended after the second.
-fn add_driven(page: &mut Page, server: Server, link: &mut ScriptLink, turns: u64) {
+fn add_driven<L: Ledger>(
+    page: &mut Page,
+    server: Server,
+    link: &mut ScriptLink,
+    turns: u64,
+    blank: Blank,
+)
+    requires name { blank.name ≡ L.name }
+    requires parts { blank.parts ≡ L.parts }
+    requires some { 0 < L.parts }
+{
+    let mut steps: Steps<L> = Steps::new(blank);
     let mut server = server;
     let mut keeper = MemoryKeeper::new(List::new());
     let mut out = List::new();
-    let driven = drive(page.alloc, &mut server, link, &mut keeper, turns, &mut out);
+    let driven = drive(
+        page.alloc,
+        &mut server,
+        link,
+        &mut keeper,
+        turns,
+        &mut out,
+        &mut steps,
+    );
     server.give_up();
     drop(keeper);
     page.keep(match driven {
@@ -94,7 +118,7 @@ fn add_driven(page: &mut Page, server: Server, link: &mut ScriptLink, turns: u64
 fn add_turns(page: &mut Page, link: &mut ScriptLink, turns: u64) {
     match server(page, b"") {
         None => page.fail(),
-        Some(server) => add_driven(page, server, link, turns),
+        Some(server) => add_driven::<Brand>(page, server, link, turns, Blank::new(1)),
     }
 }
 

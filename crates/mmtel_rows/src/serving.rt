@@ -6,7 +6,7 @@
 //! the link was given: each datagram behind the port that it goes to, and then the replies; else it takes a step for each event. Then the listing, how many rows wait, and
 //! the records that the keeper holds are told, CR as `^`.
 
-ghost use Rattle.std.specs.Prelude.{◌≤◌, IfSome};
+ghost use Rattle.std.specs.Prelude.{◌≡◌, ◌<◌, ◌≤◌, IfSome};
 
 use crate::links::{heard, link_of, tell_link};
 use crate::pages::Page;
@@ -18,8 +18,11 @@ use mmtel_cli::{
 use mmtel_link::MemoryLink;
 use mmtel_scan::{List, Text, plain_number, skip_text};
 use mmtel_serve::serve;
+use mmtel_timers::Steps;
 use mmtel_types::Account;
 use std::alloc::Global;
+use std::marker::Brand;
+use std::sync::ledger::{Blank, Ledger};
 
 fn add_record(page: &mut Page, texts: &mut List<(Account, Text)>, record: &[u8]) {
     let (digits, text) = named(page, record);
@@ -85,15 +88,16 @@ pub fn server(page: &mut Page, script: &[u8]) -> Option<Server> {
 }
 
 /// Drives for so many turns, and tells how that ended and how many offers there are then.
-fn drive_on(
+fn drive_on<L: Ledger>(
     page: &mut Page,
     server: &mut Server,
     link: &mut MemoryLink,
     keeper: &mut MemoryKeeper,
     turns: u64,
     out: &mut List<Offer>,
+    steps: &mut Steps<L>,
 ) {
-    match drive(page.alloc, server, link, keeper, turns, out) {
+    match drive(page.alloc, server, link, keeper, turns, out, steps) {
         Ok(true) => page.add(b"closed "),
         Ok(false) => page.add(b"open "),
         Err(DriveFault::LinkFault) => page.add(b"fault "),
@@ -104,35 +108,37 @@ fn drive_on(
 }
 
 /// Drives the server each time.
-fn drive_all(
+fn drive_all<L: Ledger>(
     page: &mut Page,
     script: &[u8],
     events: &[Event],
     server: &mut Server,
     keeper: &mut MemoryKeeper,
     out: &mut List<Offer>,
+    steps: &mut Steps<L>,
 ) {
     let mut link = link_of(page, script, events);
     let turns = numbers(page, script, b"turns:");
     for turn in turns.items() {
-        drive_on(page, server, &mut link, keeper, *turn, out);
+        drive_on(page, server, &mut link, keeper, *turn, out, steps);
     }
     drop(turns);
     drop(link);
 }
 
 /// Serves a link for so many turns.
-fn serve_on(
+fn serve_on<L: Ledger>(
     page: &mut Page,
     script: &[u8],
     turns: &[u8],
     events: &[Event],
     server: &mut Server,
     keeper: &mut MemoryKeeper,
+    steps: &mut Steps<L>,
 ) {
     let mut link = link_of(page, script, events);
     let turns = plain_number(99, turns).unwrap_or(0);
-    match serve(page.alloc, server, &mut link, keeper, turns) {
+    match serve(page.alloc, server, &mut link, keeper, turns, steps) {
         Ok(true) => page.add(b"closed\n"),
         Ok(false) => page.add(b"open\n"),
         Err(DriveFault::LinkFault) => page.add(b"fault\n"),
@@ -143,15 +149,16 @@ fn serve_on(
 }
 
 /// Takes a step for each event.
-fn step_all(
+fn step_all<L: Ledger>(
     page: &mut Page,
     events: &[Event],
     server: &mut Server,
     keeper: &mut MemoryKeeper,
     out: &mut List<Offer>,
+    steps: &mut Steps<L>,
 ) {
     for event in events {
-        if server.step(page.alloc, event, keeper, out).is_err() {
+        if server.step(page.alloc, event, keeper, out, steps).is_err() {
             page.fail();
         }
     }
@@ -188,21 +195,27 @@ fn add_kept(page: &mut Page, keeper: &mut MemoryKeeper) {
     }
 }
 
-/// The server hears these events, as the settings say.
-fn hear(
+/// The server hears these events, as the settings say; the counter of steps begins here.
+fn hear<L: Ledger>(
     page: &mut Page,
     script: &[u8],
     events: &[Event],
     server: &mut Server,
     keeper: &mut MemoryKeeper,
     out: &mut List<Offer>,
-) {
+    blank: Blank,
+)
+    requires name { blank.name ≡ L.name }
+    requires parts { blank.parts ≡ L.parts }
+    requires some { 0 < L.parts }
+{
+    let mut steps: Steps<L> = Steps::new(blank);
     if setting(script, b"turns:").is_some() {
-        drive_all(page, script, events, server, keeper, out);
+        drive_all(page, script, events, server, keeper, out, &mut steps);
     } else if let Some(turns) = setting(script, b"serve:") {
-        serve_on(page, script, turns, events, server, keeper);
+        serve_on(page, script, turns, events, server, keeper, &mut steps);
     } else {
-        step_all(page, events, server, keeper, out);
+        step_all(page, events, server, keeper, out, &mut steps);
     }
 }
 
@@ -215,7 +228,15 @@ fn tell_heard(
     keeper: &mut MemoryKeeper,
 ) {
     let mut out = List::new();
-    hear(page, script, events, server, keeper, &mut out);
+    hear::<Brand>(
+        page,
+        script,
+        events,
+        server,
+        keeper,
+        &mut out,
+        Blank::new(1),
+    );
     add_listing(page, &out);
     drop(out);
     page.add(b"rows ");

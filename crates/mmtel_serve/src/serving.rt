@@ -12,30 +12,33 @@ use mmtel_link::{Event, Link};
 use mmtel_run_laws::{bytes_are_seen, runs_keep_the_secret};
 use mmtel_scan::{List, NoMemory};
 use mmtel_server::{DriveFault, Server, laws_of_runs_hold, next_event};
+use mmtel_timers::Steps;
 use std::alloc::Global;
+use std::sync::ledger::Ledger;
 
 /// Does an event, and gives the link what the server offers then, in order.
-fn serve_event<L: Link, K: Keeper>(
+fn serve_event<N: Link, K: Keeper, L: Ledger>(
     alloc: Global,
     server: &mut Server,
-    link: &mut L,
+    link: &mut N,
     keeper: &mut K,
     event: &Event,
+    steps: &mut Steps<L>,
 ) -> Result<(), NoMemory>
-    ensures done { OnOk result (EventServed server.old server.new event.now (L.given link.old) (L.given link.new)
+    ensures done { OnOk result (EventServed server.old server.new event.now (N.given link.old) (N.given link.new)
         (K.held keeper.old) (K.held keeper.new) (K.calls keeper.old) (K.calls keeper.new) (K.faults keeper.old) (K.faults keeper.new) result) }
-    ensures stopped { OnErr result (EventStopped server.old event.now (L.given link.old) (L.given link.new)
+    ensures stopped { OnErr result (EventStopped server.old event.now (N.given link.old) (N.given link.new)
         (K.held keeper.old) (K.held keeper.new) (K.calls keeper.old) (K.calls keeper.new) (K.faults keeper.old) (K.faults keeper.new)
-        ⊎ EventServed server.old server.new event.now (L.given link.old) (L.given link.new)
+        ⊎ EventServed server.old server.new event.now (N.given link.old) (N.given link.new)
         (K.held keeper.old) (K.held keeper.new) (K.calls keeper.old) (K.calls keeper.new) (K.faults keeper.old) (K.faults keeper.new) result) }
-    ensures lost { LostOnlyWhereRose (L.given link.old) (L.given link.new) (L.giving link.old) (L.giving link.new) }
-    ensures counted { RoseBy (lost_more (L.given link.old) (L.given link.new)) (L.giving link.old) (L.giving link.new) }
-    ensures heard { L.ear link.new ≡ L.ear link.old }
-    ensures bound { IsBoundStill (L.calls link.old) (L.calls link.new) }
-    ensures taking { L.taking link.new ≡ L.taking link.old }
+    ensures lost { LostOnlyWhereRose (N.given link.old) (N.given link.new) (N.giving link.old) (N.giving link.new) }
+    ensures counted { RoseBy (lost_more (N.given link.old) (N.given link.new)) (N.giving link.old) (N.giving link.new) }
+    ensures heard { N.ear link.new ≡ N.ear link.old }
+    ensures bound { IsBoundStill (N.calls link.old) (N.calls link.new) }
+    ensures taking { N.taking link.new ≡ N.taking link.old }
 {
     let mut out = List::new();
-    match server.step(alloc, event, keeper, &mut out) {
+    match server.step(alloc, event, keeper, &mut out, steps) {
         Ok(()) => give_each(alloc, server.peers(), link, out.items()),
         Err(NoMemory) => Err(NoMemory),
     }
@@ -43,31 +46,32 @@ fn serve_event<L: Link, K: Keeper>(
 
 /// Takes events of a link and does each of them over a keeper, until the link is closed or so many turns were made, and gives the link after each event what the server
 /// offers then: each datagram at the address of its peer, and each reply on the web connection that came. What was given is not kept, so it takes no more memory the longer
-/// it runs. What the link loses is lost. A turn is one call of the link's `next`, of a web connection the reads until its request is whole, and what is given then. True
-/// exactly where the link is closed, and false exactly where each turn took an event.
+/// it runs. What the link loses is lost. What is looked at of the transactions is added to the counter. A turn is one call of the link's `next`, of a web connection the
+/// reads until its request is whole, and what is given then. True exactly where the link is closed, and false exactly where each turn took an event.
 ///
 /// # Errors
 ///
 /// `LinkFault` only where the link's count of taking in rose: the first `next` that fails ends it, and the server, the keeper and what was given stand as after the events
 /// that were taken before. `NoMemory` where memory ran out in the link, in reading a connection, in a step or in giving; of what the last event makes the server offer a
 /// front was given then.
-pub fn serve<L: Link, K: Keeper>(
+pub fn serve<N: Link, K: Keeper, L: Ledger>(
     alloc: Global,
     server: &mut Server,
-    link: &mut L,
+    link: &mut N,
     keeper: &mut K,
     turns: u64,
+    steps: &mut Steps<L>,
 ) -> Result<bool, DriveFault>
-    ensures served { Served (L.ear link.old) (L.ear link.new) (L.giving link.old) (L.giving link.new) (L.given link.old) (L.given link.new)
+    ensures served { Served (N.ear link.old) (N.ear link.new) (N.giving link.old) (N.giving link.new) (N.given link.old) (N.given link.new)
         (K.held keeper.old) (K.held keeper.new) (K.calls keeper.old) (K.calls keeper.new) (K.faults keeper.old) (K.faults keeper.new)
         turns server.old server.new result }
     // Something is lost only where the count of giving out rose.
-    ensures lost { LostNoMore (L.given link.old) (L.given link.new) ⊎ Rose (L.giving link.old) (L.giving link.new) }
-    ensures giving { StandsOrRose (L.giving link.old) (L.giving link.new) }
-    ensures bound { IsBoundStill (L.calls link.old) (L.calls link.new) }
+    ensures lost { LostNoMore (N.given link.old) (N.given link.new) ⊎ Rose (N.giving link.old) (N.giving link.new) }
+    ensures giving { StandsOrRose (N.giving link.old) (N.giving link.new) }
+    ensures bound { IsBoundStill (N.calls link.old) (N.calls link.new) }
     // At a fault of taking in the last call of the link, where it tells its calls, has the number of one that fails.
-    ensures number { HasFailedByNumber (L.calls link.new) result }
-    ensures cause { HasDriveCause (L.taking link.old) (L.taking link.new) result }
+    ensures number { HasFailedByNumber (N.calls link.new) result }
+    ensures cause { HasDriveCause (N.taking link.old) (N.taking link.new) result }
 {
     laws_of_runs_hold();
     parts_are_given();
@@ -75,7 +79,7 @@ pub fn serve<L: Link, K: Keeper>(
     bytes_are_seen();
     'turns: for _turn in 0..turns {
         match next_event(alloc, link) {
-            Ok(Some(event)) => match serve_event(alloc, server, link, keeper, &event) {
+            Ok(Some(event)) => match serve_event(alloc, server, link, keeper, &event, steps) {
                 Ok(()) => {}
                 Err(NoMemory) => return Err(DriveFault::NoMemory),
             },

@@ -14,8 +14,10 @@ use mmtel_keeper::Keeper;
 use mmtel_link::{Arrival, Event, Link};
 use mmtel_outside::Offer;
 use mmtel_scan::{List, NoMemory, Text};
+use mmtel_timers::Steps;
 use mmtel_types::Failed;
 use std::alloc::Global;
+use std::sync::ledger::Ledger;
 
 /// How many bytes one read takes at most.
 const ROOM: usize = 4096;
@@ -44,14 +46,14 @@ impl From<NoMemory> for DriveFault {
 }
 
 /// Reads once of the connection that came last, behind what was read of it. False at its end, and where the read fails, which ends it too.
-fn read_more<L: Link>(alloc: Global, link: &mut L, bytes: &mut Text) -> Result<bool, NoMemory>
-    ensures read { (ear : Option Ear) → IsReading ear (L.ear link.old) bytes.old → ReadsOn ear (L.ear link.new) (L.giving link.old) (L.giving link.new) bytes.new result }
+fn read_more<N: Link>(alloc: Global, link: &mut N, bytes: &mut Text) -> Result<bool, NoMemory>
+    ensures read { (ear : Option Ear) → IsReading ear (N.ear link.old) bytes.old → ReadsOn ear (N.ear link.new) (N.giving link.old) (N.giving link.new) bytes.new result }
     ensures grows { IfOk result (Grows bytes.old bytes.new) }
-    ensures stands { IfOk result (λ more. more ≡ true → L.giving link.new ≡ L.giving link.old) }
-    ensures giving { StandsOrRose (L.giving link.old) (L.giving link.new) }
-    ensures given { L.given link.new ≡ L.given link.old }
-    ensures calls { CalledTimes (L.calls link.old) (L.calls link.new) 1 }
-    ensures taking { L.taking link.new ≡ L.taking link.old }
+    ensures stands { IfOk result (λ more. more ≡ true → N.giving link.new ≡ N.giving link.old) }
+    ensures giving { StandsOrRose (N.giving link.old) (N.giving link.new) }
+    ensures given { N.given link.new ≡ N.given link.old }
+    ensures calls { CalledTimes (N.calls link.old) (N.calls link.new) 1 }
+    ensures taking { N.taking link.new ≡ N.taking link.old }
 {
     let mut room = [0; ROOM];
     match link.web_read(&mut room) {
@@ -72,13 +74,13 @@ fn is_unfinished(bytes: &[u8]) -> bool
 }
 
 /// Reads the connection that came last: until its bytes are a request, or can be none, or it is at its end, or a read fails (RFC 9112 §6.3); and no further.
-fn read_request<L: Link>(alloc: Global, link: &mut L) -> Result<Text, NoMemory>
+fn read_request<N: Link>(alloc: Global, link: &mut N) -> Result<Text, NoMemory>
     ensures needed { IfOk result (λ bytes. IsNeeded (length bytes) bytes) }
-    ensures read { (ear : Option Ear) → IsReading ear (L.ear link.old) [] → HasRead ear (L.ear link.new) (L.giving link.old) (L.giving link.new) result }
-    ensures giving { StandsOrRose (L.giving link.old) (L.giving link.new) }
-    ensures given { L.given link.new ≡ L.given link.old }
-    ensures calls { CalledWithin (L.calls link.old) (L.calls link.new) reads_a_turn }
-    ensures taking { L.taking link.new ≡ L.taking link.old }
+    ensures read { (ear : Option Ear) → IsReading ear (N.ear link.old) [] → HasRead ear (N.ear link.new) (N.giving link.old) (N.giving link.new) result }
+    ensures giving { StandsOrRose (N.giving link.old) (N.giving link.new) }
+    ensures given { N.given link.new ≡ N.given link.old }
+    ensures calls { CalledWithin (N.calls link.old) (N.calls link.new) reads_a_turn }
+    ensures taking { N.taking link.new ≡ N.taking link.old }
 {
     whole_requests_stand();
     let mut bytes = Text::new();
@@ -94,17 +96,17 @@ fn read_request<L: Link>(alloc: Global, link: &mut L) -> Result<Text, NoMemory>
 }
 
 /// The event that an arrival is, if it is one. Of a web connection it has the bytes that are read.
-fn event_of<L: Link>(
+fn event_of<N: Link>(
     alloc: Global,
-    link: &mut L,
+    link: &mut N,
     arrival: Arrival,
 ) -> Result<Option<Event>, DriveFault>
-    ensures heard { (ear : Option Ear) → NextTold ear (L.ear link.old) (Ok arrival) → Takes ear (L.ear link.new) (L.giving link.old) (L.giving link.new) result }
-    ensures giving { StandsOrRose (L.giving link.old) (L.giving link.new) }
-    ensures given { L.given link.new ≡ L.given link.old }
-    ensures calls { CalledWithin (L.calls link.old) (L.calls link.new) reads_a_turn }
-    ensures number { HasFailedByNumber (L.calls link.new) result }
-    ensures cause { HasDriveCause (L.taking link.old) (L.taking link.new) result }
+    ensures heard { (ear : Option Ear) → NextTold ear (N.ear link.old) (Ok arrival) → Takes ear (N.ear link.new) (N.giving link.old) (N.giving link.new) result }
+    ensures giving { StandsOrRose (N.giving link.old) (N.giving link.new) }
+    ensures given { N.given link.new ≡ N.given link.old }
+    ensures calls { CalledWithin (N.calls link.old) (N.calls link.new) reads_a_turn }
+    ensures number { HasFailedByNumber (N.calls link.new) result }
+    ensures cause { HasDriveCause (N.taking link.old) (N.taking link.new) result }
 {
     match arrival {
         Arrival::Datagram { from, at, bytes } => Ok(Some(Event::Datagram { from, at, bytes })),
@@ -125,13 +127,13 @@ fn event_of<L: Link>(
 ///
 /// `LinkFault` only where the link's count of taking in rose. `NoMemory` where memory ran out in the link or in reading a connection; the event is lost then. A read that
 /// fails is no error: it ends its connection, of which the bytes before it count.
-pub fn next_event<L: Link>(alloc: Global, link: &mut L) -> Result<Option<Event>, DriveFault>
-    ensures heard { Takes (L.ear link.old) (L.ear link.new) (L.giving link.old) (L.giving link.new) result }
-    ensures giving { StandsOrRose (L.giving link.old) (L.giving link.new) }
-    ensures given { L.given link.new ≡ L.given link.old }
-    ensures calls { CalledWithin (L.calls link.old) (L.calls link.new) calls_a_turn }
-    ensures number { HasFailedByNumber (L.calls link.new) result }
-    ensures cause { HasDriveCause (L.taking link.old) (L.taking link.new) result }
+pub fn next_event<N: Link>(alloc: Global, link: &mut N) -> Result<Option<Event>, DriveFault>
+    ensures heard { Takes (N.ear link.old) (N.ear link.new) (N.giving link.old) (N.giving link.new) result }
+    ensures giving { StandsOrRose (N.giving link.old) (N.giving link.new) }
+    ensures given { N.given link.new ≡ N.given link.old }
+    ensures calls { CalledWithin (N.calls link.old) (N.calls link.new) calls_a_turn }
+    ensures number { HasFailedByNumber (N.calls link.new) result }
+    ensures cause { HasDriveCause (N.taking link.old) (N.taking link.new) result }
 {
     match link.next(alloc) {
         Ok(arrival) => event_of(alloc, link, arrival),
@@ -140,53 +142,55 @@ pub fn next_event<L: Link>(alloc: Global, link: &mut L) -> Result<Option<Event>,
 }
 
 /// Does an event.
-fn meet<K: Keeper>(
+fn meet<K: Keeper, L: Ledger>(
     alloc: Global,
     server: &mut Server,
     event: Event,
     keeper: &mut K,
     out: &mut List<Offer>,
+    steps: &mut Steps<L>,
 ) -> Result<(), NoMemory>
     ensures done { OnOk result (Stepped server.old out.old server.new out.new event
         (K.held keeper.old) (K.held keeper.new) (K.calls keeper.old) (K.calls keeper.new) (K.faults keeper.old) (K.faults keeper.new)) }
     ensures met { OnErr result (Stopped server.old out.old out.new event
         (K.held keeper.old) (K.held keeper.new) (K.calls keeper.old) (K.calls keeper.new) (K.faults keeper.old) (K.faults keeper.new)) }
 {
-    let done = server.step(alloc, &event, keeper, out);
+    let done = server.step(alloc, &event, keeper, out, steps);
     drop(event);
     done
 }
 
 /// Takes events of a link and does each of them, until the link is closed or so many turns were made; a turn is one call of the link's `next`, and of a web connection the
 /// reads until its request is whole. What the server offers, replies on web connections among it, is added behind what stands in `out`; nothing is sent. Records are kept
-/// by the keeper. True exactly where the link is closed, and false exactly where each turn took an event.
+/// by the keeper. What is looked at of the transactions is added to the counter. True exactly where the link is closed, and false exactly where each turn took an event.
 ///
 /// # Errors
 ///
 /// `LinkFault` only where the link's count of taking in rose: the first `next` that fails ends it, and the server, the keeper and the offers stand as after the events that
 /// were taken before. `NoMemory` where memory ran out in the link, in reading a connection or in a step; a front of the last event's offers may then have been added, and
 /// its record kept. A read that fails is no error: it ends its connection, of which the bytes before it count.
-pub fn drive<L: Link, K: Keeper>(
+pub fn drive<N: Link, K: Keeper, L: Ledger>(
     alloc: Global,
     server: &mut Server,
-    link: &mut L,
+    link: &mut N,
     keeper: &mut K,
     turns: u64,
     out: &mut List<Offer>,
+    steps: &mut Steps<L>,
 ) -> Result<bool, DriveFault>
-    ensures driven { Driven (L.ear link.old) (L.ear link.new) (L.giving link.old) (L.giving link.new)
+    ensures driven { Driven (N.ear link.old) (N.ear link.new) (N.giving link.old) (N.giving link.new)
         (K.held keeper.old) (K.held keeper.new) (K.calls keeper.old) (K.calls keeper.new) (K.faults keeper.old) (K.faults keeper.new)
         turns server.old out.old server.new out.new result }
-    ensures given { L.given link.new ≡ L.given link.old }
-    ensures giving { StandsOrRose (L.giving link.old) (L.giving link.new) }
-    ensures calls { CalledWithin (L.calls link.old) (L.calls link.new) (turns * calls_a_turn) }
-    ensures cause { HasDriveCause (L.taking link.old) (L.taking link.new) result }
+    ensures given { N.given link.new ≡ N.given link.old }
+    ensures giving { StandsOrRose (N.giving link.old) (N.giving link.new) }
+    ensures calls { CalledWithin (N.calls link.old) (N.calls link.new) (turns * calls_a_turn) }
+    ensures cause { HasDriveCause (N.taking link.old) (N.taking link.new) result }
 {
     laws_of_runs_hold();
     servers_offer_what_runs_give();
     'turns: for _turn in 0..turns {
         match next_event(alloc, link) {
-            Ok(Some(event)) => match meet(alloc, server, event, keeper, out) {
+            Ok(Some(event)) => match meet(alloc, server, event, keeper, out, steps) {
                 Ok(()) => {}
                 Err(NoMemory) => return Err(DriveFault::NoMemory),
             },

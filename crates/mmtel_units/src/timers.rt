@@ -1,15 +1,29 @@
 //! Deadlines, and the moments at which messages are sent again.
+ghost use Rattle.std.specs.Prelude.{◌≡◌, ◌<◌};
 
 use crate::asserting::assert_right;
 use mmtel_scan::number_up_to;
-use mmtel_timers::{Deadlines, Key, Schedule, Shelf};
+use mmtel_timers::{Deadlines, Key, Schedule, Shelf, Steps};
 use mmtel_told::{Rows, Told, cut, wrong_line};
 use mmtel_types::Moment;
 use std::alloc::Global;
+use std::marker::Brand;
+use std::sync::ledger::{Blank, Ledger};
+
+/// Tells the moment and the key of a deadline, or `-`.
+fn tell_deadline(told: &mut Told, deadline: Option<(u64, Key)>) {
+    match deadline {
+        None => told.add(b"-"),
+        Some((at, key)) => {
+            told.add_spaced_number(at);
+            told.add_spaced_number(key.0);
+        }
+    }
+}
 
 /// The deadlines that the rows so far have left.
 #[derive(Drop)]
-struct Steps {
+struct Armed {
     deadlines: Deadlines,
 }
 
@@ -17,7 +31,7 @@ fn number(digits: &[u8]) -> u64 {
     number_up_to(u64::MAX, digits).unwrap_or(0)
 }
 
-impl Steps {
+impl Armed {
     fn arm(&mut self, told: &mut Told, deadline: &[u8]) {
         let (at, key) = cut(b' ', deadline);
         if self
@@ -34,13 +48,7 @@ impl Steps {
     }
 
     fn look_up(&self, told: &mut Told, now: u64) {
-        match self.due_at(now) {
-            None => told.add(b"-"),
-            Some((at, key)) => {
-                told.add_spaced_number(at);
-                told.add_spaced_number(key.0);
-            }
-        }
+        tell_deadline(told, self.due_at(now));
         told.add(b"\n");
     }
 }
@@ -57,7 +65,7 @@ fn add_moments(told: &mut Told, schedule: Schedule) {
 
 /// `+` with a moment and a key arms the key, `-` with a key disarms it. `?` with a moment tells the moment and the key that are due then, or `-`. `I` and `O` tell the
 /// schedules of an INVITE and of other messages.
-impl Rows for Steps {
+impl Rows for Armed {
     fn tell(&mut self, told: &mut Told, asked: &[u8]) {
         match asked {
             [b'+', deadline @ ..] => self.arm(told, deadline),
@@ -152,10 +160,50 @@ const STEPS: &[u8] = b"> ?250000000000000
 
 #[test]
 fn deadlines_and_schedules(rt: HostRuntime) {
-    let mut steps = Steps {
+    let mut armed = Armed {
         deadlines: Deadlines::new(),
     };
-    assert_right(&rt, "STEPS", wrong_line(rt.alloc(), &mut steps, STEPS));
+    assert_right(&rt, "STEPS", wrong_line(rt.alloc(), &mut armed, STEPS));
+}
+
+/// Tells the first deadline of all, and the one that is due beside a counter.
+fn tell_first<L: Ledger>(told: &mut Told, deadlines: &Deadlines, steps: &mut Steps<L>) {
+    tell_deadline(told, deadlines.first());
+    told.add(b"/");
+    if let Some(now) = Moment::new(7) {
+        tell_deadline(told, deadlines.next_due_counted(now, steps));
+    }
+    told.add(b"\n");
+}
+
+/// Arms and disarms beside a counter of looks; 0 where the first of all and what is due are told as they should be.
+fn wrong_counted<L: Ledger>(alloc: Global, blank: Blank) -> usize
+    requires name { blank.name ≡ L.name }
+    requires parts { blank.parts ≡ L.parts }
+    requires some { 0 < L.parts }
+{
+    let mut steps: Steps<L> = Steps::new(blank);
+    let mut told = Told::new(alloc);
+    let mut deadlines = Deadlines::new();
+    tell_first(&mut told, &deadlines, &mut steps);
+    for (at, key) in [(9, 1), (5, 2), (8, 3), (8, 2)] {
+        let armed = deadlines.arm_counted(alloc, at, Key(key), &mut steps);
+        told.keep(armed.is_ok());
+        tell_first(&mut told, &deadlines, &mut steps);
+    }
+    deadlines.disarm_counted(Key(3), &mut steps);
+    tell_first(&mut told, &deadlines, &mut steps);
+    told.wrong_line(b"-/-\n 9 1/-\n 5 2/ 5 2\n 5 2/ 5 2\n 8 3/-\n 8 2/-\n")
+}
+
+/// The same with a counter of its own.
+fn wrong_deadlines(alloc: Global) -> usize {
+    wrong_counted::<Brand>(alloc, Blank::new(1))
+}
+
+#[test]
+fn deadlines_beside_a_counter(rt: HostRuntime) {
+    assert_right(&rt, "counted", wrong_deadlines(rt.alloc()));
 }
 
 /// Puts an item before the one at a place, or at the end.

@@ -25,9 +25,11 @@ use mmtel_outside::Offer;
 use mmtel_run::records_are_those_kept;
 use mmtel_scan::{List, NoMemory, Text};
 use mmtel_server_decisions::is_answer_of_calls;
+use mmtel_timers::Steps;
 use mmtel_transaction::{Emits, TKey};
 use mmtel_types::{CallNo, Moment};
 use std::alloc::Global;
+use std::sync::ledger::Ledger;
 
 /// The bytes of a text, where there is one.
 fn bytes_of(text: &Option<Text>) -> Option<&[u8]>
@@ -70,12 +72,13 @@ impl Server {
     /// # Errors
     ///
     /// Want of memory alone; a front of what is to be offered is then offered.
-    fn bring(
+    fn bring<L: Ledger>(
         &mut self,
         alloc: Global,
         signal: Signal,
         at: Moment,
         out: &mut List<Offer>,
+        steps: &mut Steps<L>,
     ) -> Result<(), NoMemory>
         requires { is_full signal self.old.calls.table.entries ≡ false }
         ensures done { OnOk result (Follows self.old out.old self.new out.new (λ d token. signalled d token at signal)) }
@@ -83,7 +86,7 @@ impl Server {
     {
         numbers_are_drawn_on();
         let emits = self.tell_calls(alloc, signal, at)?;
-        let done = self.emit_all(alloc, emits.items(), at, out);
+        let done = self.emit_all(alloc, emits.items(), at, out, steps);
         drop(emits);
         done
     }
@@ -93,18 +96,19 @@ impl Server {
     /// # Errors
     ///
     /// Want of memory alone; a front of what is to be offered is then offered.
-    pub(super) fn signal(
+    pub(super) fn signal<L: Ledger>(
         &mut self,
         alloc: Global,
         signal: Signal,
         at: Moment,
         out: &mut List<Offer>,
+        steps: &mut Steps<L>,
     ) -> Result<(), NoMemory>
         requires { is_opening signal ≡ false }
         ensures done { OnOk result (Follows self.old out.old self.new out.new (λ d token. signalled d token at signal)) }
         ensures err { OnErr result (Breaks self.old out.old out.new (λ d token. signalled d token at signal)) }
     {
-        self.bring(alloc, signal, at, out)
+        self.bring(alloc, signal, at, out, steps)
     }
 
     /// Opens a call, where fewer live than may.
@@ -112,13 +116,14 @@ impl Server {
     /// # Errors
     ///
     /// Want of memory alone; a front of what is to be offered is then offered.
-    pub(super) fn open(
+    pub(super) fn open<L: Ledger>(
         &mut self,
         alloc: Global,
         key: TKey,
         invite: Hearing,
         at: Moment,
         out: &mut List<Offer>,
+        steps: &mut Steps<L>,
     ) -> Result<(), NoMemory>
         requires { are_full self.old.calls.table.entries ≡ false }
         ensures done { OnOk result (Follows self.old out.old self.new out.new (λ d token. signalled d token at (arrived d.names.accounts key invite))) }
@@ -126,7 +131,7 @@ impl Server {
     {
         numbers_are_drawn_on();
         let signal = arrived(alloc, &self.directory.names.accounts, key, invite)?;
-        self.bring(alloc, signal, at, out)
+        self.bring(alloc, signal, at, out, steps)
     }
 
     /// What the calls bring forth where one of them, whose leg is away, ends; their rows are taken from them.
@@ -152,12 +157,13 @@ impl Server {
     /// # Errors
     ///
     /// Want of memory alone; a front of what is to be offered is then offered.
-    pub(super) fn finish(
+    pub(super) fn finish<L: Ledger>(
         &mut self,
         alloc: Global,
         call: CallNo,
         at: Moment,
         out: &mut List<Offer>,
+        steps: &mut Steps<L>,
     ) -> Result<(), NoMemory>
         requires { is_away (entry_of call.0 self.old.calls.table.entries) ≡ true }
         ensures done { OnOk result (Follows self.old out.old self.new out.new (λ d token. finishing d token at call)) }
@@ -165,7 +171,7 @@ impl Server {
     {
         numbers_are_drawn_on();
         let emits = self.end_call(alloc, call, at)?;
-        let done = self.emit_all(alloc, emits.items(), at, out);
+        let done = self.emit_all(alloc, emits.items(), at, out, steps);
         drop(emits);
         done
     }
@@ -205,41 +211,43 @@ impl Server {
     }
 
     /// Whoever has the dialog of an ACK of a 2xx hears it.
-    fn hear_ack_of(
+    fn hear_ack_of<L: Ledger>(
         &mut self,
         alloc: Global,
         holder: Holder,
         ack: Hearing,
         at: Moment,
         out: &mut List<Offer>,
+        steps: &mut Steps<L>,
     ) -> Result<(), NoMemory>
         ensures done { OnOk result (Follows self.old out.old self.new out.new (λ d token. acknowledging_by d token at ack (Some (holder_in holder)))) }
         ensures err { OnErr result (Breaks self.old out.old out.new (λ d token. acknowledging_by d token at ack (Some (holder_in holder)))) }
     {
         match holder {
             Holder::InCall { call, side } => {
-                self.signal(alloc, Signal::Ack { call, side, ack }, at, out)
+                self.signal(alloc, Signal::Ack { call, side, ack }, at, out, steps)
             }
             Holder::InRoom { room, seat } => {
-                self.seat_signal(alloc, RoomSignal::Ack { room, seat, ack }, at, out)
+                self.seat_signal(alloc, RoomSignal::Ack { room, seat, ack }, at, out, steps)
             }
         }
     }
 
     /// Does what is due of an ACK of a 2xx: it is of the dialog that it names (RFC 3261 §13.2.2.4).
-    pub(super) fn hear_ack(
+    pub(super) fn hear_ack<L: Ledger>(
         &mut self,
         alloc: Global,
         ack: Hearing,
         at: Moment,
         out: &mut List<Offer>,
+        steps: &mut Steps<L>,
     ) -> Result<(), NoMemory>
         ensures done { OnOk result (Follows self.old out.old self.new out.new (λ d token. acknowledging d token at ack)) }
         ensures err { OnErr result (Breaks self.old out.old out.new (λ d token. acknowledging d token at ack)) }
     {
         numbers_are_drawn_on();
         match self.named(alloc, &ack) {
-            Ok(Some(holder)) => self.hear_ack_of(alloc, holder, ack, at, out),
+            Ok(Some(holder)) => self.hear_ack_of(alloc, holder, ack, at, out, steps),
             Ok(None) => {
                 drop(ack);
                 Ok(())
@@ -252,13 +260,14 @@ impl Server {
     }
 
     /// Does what is due of a response: it is of the calls where an INVITE of one has the branch that it answers, and else of the rooms (RFC 3261 §17.1.3).
-    pub(super) fn hear_answer(
+    pub(super) fn hear_answer<L: Ledger>(
         &mut self,
         alloc: Global,
         key: TKey,
         response: Hearing,
         at: Moment,
         out: &mut List<Offer>,
+        steps: &mut Steps<L>,
     ) -> Result<(), NoMemory>
         ensures done { OnOk result (Follows self.old out.old self.new out.new (λ d token. responding d token at key response)) }
         ensures err { OnErr result (Breaks self.old out.old out.new (λ d token. responding d token at key response)) }
@@ -274,14 +283,14 @@ impl Server {
         let is_of_calls = is_answer_of_calls(&self.calls, bytes_of(&branch));
         drop(branch);
         if is_of_calls {
-            self.signal(alloc, Signal::Answer { key, response }, at, out)
+            self.signal(alloc, Signal::Answer { key, response }, at, out, steps)
         } else {
-            self.seat_signal(alloc, RoomSignal::Answer { key, response }, at, out)
+            self.seat_signal(alloc, RoomSignal::Answer { key, response }, at, out, steps)
         }
     }
 
     /// Does what is due of a CANCEL, by the live INVITE transaction that it is of, if there is one (RFC 3261 §9.2).
-    pub(super) fn hear_cancel(
+    pub(super) fn hear_cancel<L: Ledger>(
         &mut self,
         alloc: Global,
         key: TKey,
@@ -289,6 +298,7 @@ impl Server {
         cancel: Hearing,
         at: Moment,
         out: &mut List<Offer>,
+        steps: &mut Steps<L>,
     ) -> Result<(), NoMemory>
         ensures done { OnOk result (Follows self.old out.old self.new out.new (λ d token. cancelling d token at key cancel invite)) }
         ensures err { OnErr result (Breaks self.old out.old out.new (λ d token. cancelling d token at key cancel invite)) }
@@ -296,16 +306,16 @@ impl Server {
         numbers_are_drawn_on();
         match invite {
             None => {
-                let done = self.replying(alloc, key, &cancel, &plainly(481), at, out);
+                let done = self.replying(alloc, key, &cancel, &plainly(481), at, out, steps);
                 drop(cancel);
                 done
             }
-            Some(invite) => self.cancel_invite(alloc, key, invite, cancel, at, out),
+            Some(invite) => self.cancel_invite(alloc, key, invite, cancel, at, out, steps),
         }
     }
 
     /// Does what is due of a CANCEL of this INVITE transaction: it is of the call whose INVITE that is, or is answered alone.
-    fn cancel_invite(
+    fn cancel_invite<L: Ledger>(
         &mut self,
         alloc: Global,
         key: TKey,
@@ -313,6 +323,7 @@ impl Server {
         cancel: Hearing,
         at: Moment,
         out: &mut List<Offer>,
+        steps: &mut Steps<L>,
     ) -> Result<(), NoMemory>
         ensures done { OnOk result (Follows self.old out.old self.new out.new (λ d token. cancelling d token at key cancel (Some invite))) }
         ensures err { OnErr result (Breaks self.old out.old out.new (λ d token. cancelling d token at key cancel (Some invite))) }
@@ -320,7 +331,7 @@ impl Server {
         numbers_are_drawn_on();
         match self.calls.asked_by(invite) {
             None => {
-                let done = self.replying(alloc, key, &cancel, &plainly(200), at, out);
+                let done = self.replying(alloc, key, &cancel, &plainly(200), at, out, steps);
                 drop(cancel);
                 done
             }
@@ -331,7 +342,7 @@ impl Server {
                     cancel,
                     invite,
                 };
-                self.signal(alloc, signal, at, out)
+                self.signal(alloc, signal, at, out, steps)
             }
         }
     }

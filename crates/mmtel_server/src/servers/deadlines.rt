@@ -23,9 +23,11 @@ use mmtel_focus::RoomSignal;
 use mmtel_outside::Offer;
 use mmtel_scan::{List, NoMemory, Text};
 use mmtel_server_decisions::{Alarm, Deadline, first_of, is_answer_of_calls, moment_by};
+use mmtel_timers::Steps;
 use mmtel_transaction::{Due, TKey};
 use mmtel_types::Moment;
 use std::alloc::Global;
+use std::sync::ledger::Ledger;
 
 /// The deadlines that fire before one event, at most: more than the steps of any run that numbers count.
 const FIRINGS: u64 = 1 << 60;
@@ -42,13 +44,14 @@ impl Server {
     }
 
     /// A request was given up: the calls hear of an INVITE of theirs, and the rooms of all others.
-    fn silence(
+    fn silence<L: Ledger>(
         &mut self,
         alloc: Global,
         branch: Text,
         method: Text,
         at: Moment,
         out: &mut List<Offer>,
+        steps: &mut Steps<L>,
     ) -> Result<(), NoMemory>
         ensures done { OnOk result (Follows self.old out.old self.new out.new
             (λ d token world. silenced d token at branch method (is_of_calls (invite_silent branch method) (calls_in d world).entries) world)) }
@@ -60,28 +63,29 @@ impl Server {
             invite_silent(branch.bytes(), method.bytes()),
         );
         if is_of_calls {
-            self.signal(alloc, Signal::Silent { branch, method }, at, out)
+            self.signal(alloc, Signal::Silent { branch, method }, at, out, steps)
         } else {
-            self.seat_signal(alloc, RoomSignal::Silent { branch, method }, at, out)
+            self.seat_signal(alloc, RoomSignal::Silent { branch, method }, at, out, steps)
         }
     }
 
     /// The client transaction of a request that was answered has ended: the calls hear of an INVITE of theirs, and the rooms of all others.
-    fn end_transaction(
+    fn end_transaction<L: Ledger>(
         &mut self,
         alloc: Global,
         key: TKey,
         at: Moment,
         out: &mut List<Offer>,
+        steps: &mut Steps<L>,
     ) -> Result<(), NoMemory>
         ensures done { OnOk result (Follows self.old out.old self.new out.new (λ d token world. ended_of d token at key (is_key_of_calls key (calls_in d world).entries) world)) }
         ensures err { OnErr result (Breaks self.old out.old out.new (λ d token world. ended_of d token at key (is_key_of_calls key (calls_in d world).entries) world)) }
     {
         let is_of_calls = self.calls.has_heard(key);
         if is_of_calls {
-            self.signal(alloc, Signal::Over { key }, at, out)
+            self.signal(alloc, Signal::Over { key }, at, out, steps)
         } else {
-            self.seat_signal(alloc, RoomSignal::Over { key }, at, out)
+            self.seat_signal(alloc, RoomSignal::Over { key }, at, out, steps)
         }
     }
 
@@ -90,12 +94,13 @@ impl Server {
     /// # Errors
     ///
     /// Want of memory alone; a front of what is to be offered is then offered.
-    fn ring(
+    fn ring<L: Ledger>(
         &mut self,
         alloc: Global,
         due: Due,
         now: Moment,
         out: &mut List<Offer>,
+        steps: &mut Steps<L>,
     ) -> Result<(), NoMemory>
         ensures done { OnOk result (IsBy now due → Follows self.old out.old self.new out.new (λ d token. rung d token due)) }
         ensures err { OnErr result (IsBy now due → Breaks self.old out.old out.new (λ d token. rung d token due)) }
@@ -108,48 +113,62 @@ impl Server {
                 branch,
                 method,
                 at,
-            } => self.silence(alloc, branch, method, moment_by(at, now), out),
-            Due::Over(key, at) => self.end_transaction(alloc, key, moment_by(at, now), out),
+            } => self.silence(alloc, branch, method, moment_by(at, now), out, steps),
+            Due::Over(key, at) => self.end_transaction(alloc, key, moment_by(at, now), out, steps),
             Due::Nothing => Ok(()),
         }
     }
 
     /// The first deadline of messages that is due fires, at its own moment.
-    fn fire_message(
+    fn fire_message<L: Ledger>(
         &mut self,
         alloc: Global,
         now: Moment,
         out: &mut List<Offer>,
+        steps: &mut Steps<L>,
     ) -> Result<(), NoMemory>
         ensures done { OnOk result (Follows self.old out.old self.new out.new (λ d token. fired_in d token now)) }
         ensures err { OnErr result (Breaks self.old out.old out.new (λ d token. fired_in d token now)) }
     {
         numbers_are_drawn_on();
-        let said = self.transactions.due(alloc, now)?;
-        self.ring(alloc, said, now, out)
+        let said = self.transactions.due(alloc, now, steps)?;
+        self.ring(alloc, said, now, out, steps)
     }
 
     /// A deadline of a call or of a seat comes.
-    fn sound(
+    fn sound<L: Ledger>(
         &mut self,
         alloc: Global,
         alarm: Alarm,
         at: Moment,
         out: &mut List<Offer>,
+        steps: &mut Steps<L>,
     ) -> Result<(), NoMemory>
         ensures done { OnOk result (Follows self.old out.old self.new out.new (λ d token. alarmed d token at (alarm_in alarm))) }
         ensures err { OnErr result (Breaks self.old out.old out.new (λ d token. alarmed d token at (alarm_in alarm))) }
     {
         match alarm {
-            Alarm::OfCall { call, what } => self.signal(alloc, Signal::Due { call, what }, at, out),
+            Alarm::OfCall { call, what } => self.signal(
+                alloc,
+                Signal::Due { call, what },
+                at,
+                out,
+                steps,
+            ),
             Alarm::OfSeat { room, seat, what } => {
-                self.seat_signal(alloc, RoomSignal::Due { room, seat, what }, at, out)
+                self.seat_signal(alloc, RoomSignal::Due { room, seat, what }, at, out, steps)
             }
         }
     }
 
     /// The deadline of a call or of a seat that comes first fires, at its own moment.
-    fn strike(&mut self, alloc: Global, now: Moment, out: &mut List<Offer>) -> Result<(), NoMemory>
+    fn strike<L: Ledger>(
+        &mut self,
+        alloc: Global,
+        now: Moment,
+        out: &mut List<Offer>,
+        steps: &mut Steps<L>,
+    ) -> Result<(), NoMemory>
         ensures done { OnOk result ((first : Chosen) → first_armed now (queue_of self.old.armed) ≡ Some first →
             Follows self.old out.old self.new out.new (λ d token. struck d token first.first first.others)) }
         ensures err { OnErr result ((first : Chosen) → first_armed now (queue_of self.old.armed) ≡ Some first →
@@ -157,7 +176,7 @@ impl Server {
     {
         match self.armed.take(now.ms()) {
             None => Ok(()),
-            Some(armed) => self.sound(alloc, armed.alarm, moment_by(armed.at, now), out),
+            Some(armed) => self.sound(alloc, armed.alarm, moment_by(armed.at, now), out, steps),
         }
     }
 
@@ -166,12 +185,13 @@ impl Server {
     /// # Errors
     ///
     /// Want of memory alone; a front of what it brings is then offered.
-    fn fire(
+    fn fire<L: Ledger>(
         &mut self,
         alloc: Global,
         now: Moment,
         deadline: Deadline,
         out: &mut List<Offer>,
+        steps: &mut Steps<L>,
     ) -> Result<(), NoMemory>
         ensures done { OnOk result ((first : deadlines.Deadline) → kind_of first ≡ deadline → IsChosen (first_armed now (queue_of self.old.armed)) first →
             Follows self.old out.old self.new out.new (λ d token. fired d token now first)) }
@@ -181,17 +201,20 @@ impl Server {
         numbers_are_drawn_on();
         self.begin();
         match deadline {
-            Deadline::OfMessage => self.fire_message(alloc, now, out),
-            Deadline::OfAlarm => self.strike(alloc, now, out),
+            Deadline::OfMessage => self.fire_message(alloc, now, out, steps),
+            Deadline::OfAlarm => self.strike(alloc, now, out, steps),
         }
     }
 
     /// Which deadline comes first of those that are due.
-    fn next_deadline(&self, now: Moment) -> Option<Deadline>
+    fn next_deadline<L: Ledger>(&self, now: Moment, steps: &mut Steps<L>) -> Option<Deadline>
         ensures { (h : List Done) → table.Stands self.now.transactions h →
             result ≡ option_map kind_of (first_of (next_due now (live h)) (first_armed now (queue_of self.now.armed))) }
     {
-        first_of(self.transactions.upcoming(now), self.armed.first(now.ms()))
+        first_of(
+            self.transactions.upcoming(now, steps),
+            self.armed.first(now.ms()),
+        )
     }
 
     /// All deadlines that are due fire, the first one first.
@@ -199,20 +222,21 @@ impl Server {
     /// # Errors
     ///
     /// Want of memory alone; a front of what they bring is then offered.
-    pub(super) fn settle(
+    pub(super) fn settle<L: Ledger>(
         &mut self,
         alloc: Global,
         now: Moment,
         out: &mut List<Offer>,
+        steps: &mut Steps<L>,
     ) -> Result<(), NoMemory>
         ensures done { OnOk result ((fuel : ℕ) → FollowsTo self.old out.old self.new out.new (IsSettledBy fuel now) (λ d token. settled d token fuel now)) }
         ensures err { OnErr result ((fuel : ℕ) → BreaksTo self.old out.old out.new (IsSettledBy fuel now) (λ d token. settled d token fuel now)) }
     {
         numbers_are_drawn_on();
         for i in 0..FIRINGS {
-            match self.next_deadline(now) {
+            match self.next_deadline(now, steps) {
                 None => return Ok(()),
-                Some(deadline) => self.fire(alloc, now, deadline, out)?,
+                Some(deadline) => self.fire(alloc, now, deadline, out, steps)?,
             }
         }
         Ok(())

@@ -14,10 +14,12 @@ use mmtel_message::Msg;
 use mmtel_outside::Offer;
 use mmtel_scan::{List, NoMemory, Text};
 use mmtel_server_decisions::{Alarm, Armed};
+use mmtel_timers::Steps;
 use mmtel_transaction::laws::numbers_are_distinct;
 use mmtel_transaction::{Emit, TKey, Tokens};
 use mmtel_types::{Moment, Peer};
 use std::alloc::Global;
+use std::sync::ledger::Ledger;
 
 /// Adds an offer to a peer.
 pub(super) fn offer_to(
@@ -66,13 +68,14 @@ pub(super) fn drawn_tag(alloc: Global, tokens: &mut Tokens, message: &Msg) -> Re
 /// What a layer wants done. Each deed offers all that it has to; for want of memory nothing, and of several deeds a front, and the server has then failed.
 impl Server {
     /// Sends a request in a client transaction of its own.
-    pub(super) fn ask(
+    pub(super) fn ask<L: Ledger>(
         &mut self,
         alloc: Global,
         peer: Peer,
         message: &Msg,
         at: Moment,
         out: &mut List<Offer>,
+        steps: &mut Steps<L>,
     ) -> Result<(), NoMemory>
         ensures done { OnOk result (Follows self.old out.old self.new out.new (λ d token. emit_one at (emit.Ask peer message.now))) }
         ensures err { OnErr result (out.new ≡ out.old) }
@@ -80,45 +83,47 @@ impl Server {
     {
         numbers_are_distinct();
         let text = message.text(alloc)?;
-        self.transactions.ask(alloc, peer, message, at)?;
+        self.transactions.ask(alloc, peer, message, at, steps)?;
         offer_to(alloc, peer, at.ms(), text, out)
     }
 
     /// Answers a server transaction.
-    pub(super) fn reply(
+    pub(super) fn reply<L: Ledger>(
         &mut self,
         alloc: Global,
         key: TKey,
         message: &Msg,
         at: Moment,
         out: &mut List<Offer>,
+        steps: &mut Steps<L>,
     ) -> Result<(), NoMemory>
         ensures done { OnOk result (Follows self.old out.old self.new out.new (λ d token. emit_one at (emit.Reply key message.now))) }
         ensures err { OnErr result (out.new ≡ out.old) }
         ensures calls { self.new.calls ≡ self.old.calls }
     {
         let text = message.text(alloc)?;
-        let peer = self.transactions.peer(key);
-        self.transactions.reply(alloc, key, message, at)?;
+        let peer = self.transactions.peer(key, steps);
+        self.transactions.reply(alloc, key, message, at, steps)?;
         offer_to_peer(alloc, peer, at.ms(), text, out)
     }
 
     /// Acknowledges the non-2xx final that a client transaction heard.
-    pub(super) fn acknowledge(
+    pub(super) fn acknowledge<L: Ledger>(
         &mut self,
         alloc: Global,
         key: TKey,
         message: &Msg,
         at: Moment,
         out: &mut List<Offer>,
+        steps: &mut Steps<L>,
     ) -> Result<(), NoMemory>
         ensures done { OnOk result (Follows self.old out.old self.new out.new (λ d token. emit_one at (emit.Ack key message.now))) }
         ensures err { OnErr result (out.new ≡ out.old) }
         ensures calls { self.new.calls ≡ self.old.calls }
     {
         let text = message.text(alloc)?;
-        let peer = self.transactions.peer(key);
-        self.transactions.ack(alloc, key, message)?;
+        let peer = self.transactions.peer(key, steps);
+        self.transactions.ack(alloc, key, message, steps)?;
         offer_to_peer(alloc, peer, at.ms(), text, out)
     }
 
@@ -150,22 +155,23 @@ impl Server {
     }
 
     /// Does what a layer wants done.
-    pub(super) fn emit(
+    pub(super) fn emit<L: Ledger>(
         &mut self,
         alloc: Global,
         emit: &Emit,
         at: Moment,
         out: &mut List<Offer>,
+        steps: &mut Steps<L>,
     ) -> Result<(), NoMemory>
         ensures done { OnOk result (Follows self.old out.old self.new out.new (λ d token. emit_one at emit.now)) }
         ensures err { OnErr result (out.new ≡ out.old) }
         ensures calls { self.new.calls ≡ self.old.calls }
     {
         match emit {
-            Emit::Ask { peer, msg } => self.ask(alloc, *peer, msg, at, out),
-            Emit::Reply { key, msg } => self.reply(alloc, *key, msg, at, out),
+            Emit::Ask { peer, msg } => self.ask(alloc, *peer, msg, at, out, steps),
+            Emit::Reply { key, msg } => self.reply(alloc, *key, msg, at, out, steps),
             Emit::Plain { peer, text } => self.send(alloc, *peer, text.bytes(), at, out),
-            Emit::Ack { key, msg } => self.acknowledge(alloc, *key, msg, at, out),
+            Emit::Ack { key, msg } => self.acknowledge(alloc, *key, msg, at, out, steps),
             Emit::Arm {
                 call,
                 what,
@@ -194,19 +200,20 @@ impl Server {
     }
 
     /// Does all that a layer wants done, in order.
-    pub(super) fn emit_all(
+    pub(super) fn emit_all<L: Ledger>(
         &mut self,
         alloc: Global,
         emits: &[Emit],
         at: Moment,
         out: &mut List<Offer>,
+        steps: &mut Steps<L>,
     ) -> Result<(), NoMemory>
         ensures done { OnOk result (Follows self.old out.old self.new out.new (λ d token. emitted at emits.now)) }
         ensures err { OnErr result (Breaks self.old out.old out.new (λ d token. emitted at emits.now)) }
         ensures calls { self.new.calls ≡ self.old.calls }
     {
         for emit in emits {
-            self.emit(alloc, emit, at, out)?;
+            self.emit(alloc, emit, at, out, steps)?;
         }
         Ok(())
     }

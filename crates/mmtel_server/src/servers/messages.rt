@@ -22,11 +22,13 @@ use mmtel_intake::{Answer, Course, Standing, Told, completed_reply, course, plai
 use mmtel_message::Msg;
 use mmtel_outside::Offer;
 use mmtel_scan::{List, NoMemory, Text};
+use mmtel_timers::Steps;
 use mmtel_transaction::laws::numbers_are_distinct;
 use mmtel_transaction::{HearFault, Heard, TKey};
 use mmtel_types::limits::LAST_MOMENT;
 use mmtel_types::{Account, Addr, Moment, Peer};
 use std::alloc::Global;
+use std::sync::ledger::Ledger;
 
 /// The moment so many seconds from now, or the last one that there is.
 fn until(now: Moment, seconds: u64) -> Moment
@@ -64,7 +66,7 @@ impl Whence {
 /// Answers of the server's own.
 impl Server {
     /// Answers a request in its transaction, with a tag of the server where To has none (RFC 3261 §8.2.6).
-    pub(super) fn replying(
+    pub(super) fn replying<L: Ledger>(
         &mut self,
         alloc: Global,
         key: TKey,
@@ -72,6 +74,7 @@ impl Server {
         answer: &Answer,
         at: Moment,
         out: &mut List<Offer>,
+        steps: &mut Steps<L>,
     ) -> Result<(), NoMemory>
         ensures done { OnOk result (Follows self.old out.old self.new out.new (λ d token. replying d token at key request.now (answer_in answer.now))) }
         ensures err { OnErr result (out.new ≡ out.old) }
@@ -80,7 +83,7 @@ impl Server {
         let made = response_to(alloc, self.directory.sip, tag.bytes(), request, answer);
         drop(tag);
         let response = made?;
-        let done = self.reply(alloc, key, &response, at, out);
+        let done = self.reply(alloc, key, &response, at, out, steps);
         drop(response);
         done
     }
@@ -134,7 +137,7 @@ impl Server {
 /// What is done with a request that opens a transaction.
 impl Server {
     /// Registers an account for so many seconds, and answers (RFC 3261 §10.3).
-    fn register(
+    fn register<L: Ledger>(
         &mut self,
         alloc: Global,
         key: TKey,
@@ -143,16 +146,17 @@ impl Server {
         seconds: u64,
         at: Moment,
         out: &mut List<Offer>,
+        steps: &mut Steps<L>,
     ) -> Result<(), NoMemory>
         ensures done { OnOk result (Follows self.old out.old self.new out.new (λ d token. registered d token at key request.now account seconds)) }
         ensures err { OnErr result (out.new ≡ out.old) }
     {
         self.records.register(account, until(at, seconds))?;
-        self.replying(alloc, key, request, &plainly(200), at, out)
+        self.replying(alloc, key, request, &plainly(200), at, out, steps)
     }
 
     /// Does with a request what is decided of it; a call is opened only where fewer live than may, and a room or a seat asked for only by whoever offers audio.
-    fn take(
+    fn take<L: Ledger>(
         &mut self,
         alloc: Global,
         key: TKey,
@@ -160,6 +164,7 @@ impl Server {
         course: Course,
         at: Moment,
         out: &mut List<Offer>,
+        steps: &mut Steps<L>,
     ) -> Result<(), NoMemory>
         requires below { course_in course ≡ Open → are_full self.old.calls.table.entries ≡ false }
         requires audio { is_for_room (course_in course) ≡ true → offers_audio request.heard.body ≡ true }
@@ -169,7 +174,7 @@ impl Server {
         numbers_are_drawn_on();
         match course {
             Course::Refuse(answer) => {
-                let done = self.replying(alloc, key, &request, &answer, at, out);
+                let done = self.replying(alloc, key, &request, &answer, at, out, steps);
                 drop(answer);
                 drop(request);
                 done
@@ -181,24 +186,24 @@ impl Server {
                     key,
                     request,
                 };
-                self.signal(alloc, signal, at, out)
+                self.signal(alloc, signal, at, out, steps)
             }
             Course::EnterRoom { room, seat } => {
-                self.enter_room(alloc, key, request, room, seat, at, out)
+                self.enter_room(alloc, key, request, room, seat, at, out, steps)
             }
-            Course::Open => self.open(alloc, key, request, at, out),
+            Course::Open => self.open(alloc, key, request, at, out, steps),
             Course::OpenRoom => {
-                let done = self.open_room(alloc, key, &request, at, out);
+                let done = self.open_room(alloc, key, &request, at, out, steps);
                 drop(request);
                 done
             }
             Course::JoinRoom { room } => {
-                let done = self.join_room(alloc, key, &request, room, at, out);
+                let done = self.join_room(alloc, key, &request, room, at, out, steps);
                 drop(request);
                 done
             }
             Course::Register { account, seconds } => {
-                let done = self.register(alloc, key, &request, account, seconds, at, out);
+                let done = self.register(alloc, key, &request, account, seconds, at, out, steps);
                 drop(request);
                 done
             }
@@ -206,19 +211,20 @@ impl Server {
     }
 
     /// Does what is due of a request that opened a transaction.
-    fn take_fresh(
+    fn take_fresh<L: Ledger>(
         &mut self,
         alloc: Global,
         key: TKey,
         request: Hearing,
         at: Moment,
         out: &mut List<Offer>,
+        steps: &mut Steps<L>,
     ) -> Result<(), NoMemory>
         ensures done { OnOk result (Follows self.old out.old self.new out.new (λ d token. taking_fresh d token at key request)) }
         ensures err { OnErr result (Breaks self.old out.old out.new (λ d token. taking_fresh d token at key request)) }
     {
         numbers_are_drawn_on();
-        let merged = self.transactions.merged(key);
+        let merged = self.transactions.merged(key, steps);
         let full = self.calls.is_full();
         let named = match self.named(alloc, &request) {
             Ok(named) => named,
@@ -239,7 +245,7 @@ impl Server {
                 return Err(error);
             }
         };
-        self.take(alloc, key, request, course, at, out)
+        self.take(alloc, key, request, course, at, out, steps)
     }
 }
 
@@ -263,7 +269,7 @@ impl Server {
     }
 
     /// Does what is due of a message of a peer, by what the transactions say of it.
-    fn answer(
+    fn answer<L: Ledger>(
         &mut self,
         alloc: Global,
         peer: Peer,
@@ -272,6 +278,7 @@ impl Server {
         taken: Heard,
         at: Moment,
         out: &mut List<Offer>,
+        steps: &mut Steps<L>,
     ) -> Result<(), NoMemory>
         ensures done { OnOk result ((message : Message Start) → IsTaken message taken →
             Follows self.old out.old self.new out.new (λ d token. answering d token at (said peer source trusted message) (Some taken))) }
@@ -291,16 +298,23 @@ impl Server {
                 heard.hearing(message),
                 at,
                 out,
+                steps,
             ),
             Heard::Answer(key, message) => {
-                self.hear_answer(alloc, key, heard.hearing(message), at, out)
+                self.hear_answer(alloc, key, heard.hearing(message), at, out, steps)
             }
             Heard::Repeat(sent) => self.repeat(alloc, sent, at, out),
             Heard::Acked(_) => Ok(()),
             Heard::Cancel(key, invite, message) => {
-                self.hear_cancel(alloc, key, invite, heard.hearing(message), at, out)
+                self.hear_cancel(alloc, key, invite, heard.hearing(message), at, out, steps)
             }
-            Heard::AckOf2xx(message) => self.hear_ack(alloc, heard.hearing(message), at, out),
+            Heard::AckOf2xx(message) => self.hear_ack(
+                alloc,
+                heard.hearing(message),
+                at,
+                out,
+                steps,
+            ),
             Heard::Stray => Ok(()),
         }
     }
@@ -320,12 +334,13 @@ impl Server {
     }
 
     /// Hears a message of a peer.
-    fn hear(
+    fn hear<L: Ledger>(
         &mut self,
         alloc: Global,
         heard: Hearing,
         at: Moment,
         out: &mut List<Offer>,
+        steps: &mut Steps<L>,
     ) -> Result<(), NoMemory>
         ensures done { OnOk result (Follows self.old out.old self.new out.new (λ d token. told d token at heard)) }
         ensures err { OnErr result (Breaks self.old out.old out.new (λ d token. told d token at heard)) }
@@ -338,8 +353,8 @@ impl Server {
             trusted,
             message,
         } = heard;
-        match self.transactions.hear(alloc, peer, message, at) {
-            Ok(taken) => self.answer(alloc, peer, source, trusted, taken, at, out),
+        match self.transactions.hear(alloc, peer, message, at, steps) {
+            Ok(taken) => self.answer(alloc, peer, source, trusted, taken, at, out, steps),
             Err(HearFault::Full(message)) => {
                 let request = Hearing {
                     peer,
@@ -360,12 +375,13 @@ impl Server {
     /// # Errors
     ///
     /// Want of memory alone: a front of what it has to offer is then offered, and the server has failed.
-    pub(crate) fn meet(
+    pub(crate) fn meet<L: Ledger>(
         &mut self,
         alloc: Global,
         told: Told,
         at: Moment,
         out: &mut List<Offer>,
+        steps: &mut Steps<L>,
     ) -> Result<(), NoMemory>
         ensures done { OnOk result (Follows self.old out.old self.new out.new (λ d token. met d token at (digest_in told))) }
         ensures err { OnErr result (Breaks self.old out.old out.new (λ d token. met d token at (digest_in told))) }
@@ -382,7 +398,7 @@ impl Server {
                 drop(reply);
                 done
             }
-            Told::Heard(heard) => self.hear(alloc, heard, at, out),
+            Told::Heard(heard) => self.hear(alloc, heard, at, out, steps),
         }
     }
 }

@@ -31,9 +31,11 @@ use mmtel_message::is_method;
 use mmtel_outside::Offer;
 use mmtel_scan::{List, NoMemory, Text};
 use mmtel_server_decisions::is_with;
+use mmtel_timers::Steps;
 use mmtel_transaction::{Emit, Emits, TKey, Tokens};
 use mmtel_types::{Account, CallNo, Moment, Peer, RoomNo, Side};
 use std::alloc::Global;
+use std::sync::ledger::Ledger;
 
 /// Whether the first of these accepts a request: it is a 202 (RFC 3515 §2.4.2).
 fn is_accepted(emits: &[Emit]) -> bool
@@ -297,19 +299,20 @@ impl Server {
     /// # Errors
     ///
     /// Want of memory alone; a front of what is to be offered is then offered.
-    pub(super) fn seat_signal(
+    pub(super) fn seat_signal<L: Ledger>(
         &mut self,
         alloc: Global,
         signal: RoomSignal,
         at: Moment,
         out: &mut List<Offer>,
+        steps: &mut Steps<L>,
     ) -> Result<(), NoMemory>
         ensures done { OnOk result (Follows self.old out.old self.new out.new (λ d token. seated d token at signal)) }
         ensures err { OnErr result (Breaks self.old out.old out.new (λ d token. seated d token at signal)) }
     {
         numbers_are_drawn_on();
         let emits = self.tell_rooms(alloc, signal, at)?;
-        let done = self.emit_all(alloc, emits.items(), at, out);
+        let done = self.emit_all(alloc, emits.items(), at, out, steps);
         drop(emits);
         done
     }
@@ -319,7 +322,7 @@ impl Server {
     /// # Errors
     ///
     /// Want of memory alone; a front of what is to be offered is then offered.
-    fn notice(
+    fn notice<L: Ledger>(
         &mut self,
         alloc: Global,
         room: RoomNo,
@@ -327,13 +330,14 @@ impl Server {
         code: u16,
         at: Moment,
         out: &mut List<Offer>,
+        steps: &mut Steps<L>,
     ) -> Result<(), NoMemory>
         ensures done { OnOk result (Follows self.old out.old self.new out.new (λ d token. noticed d token at room seat code)) }
         ensures err { OnErr result (Breaks self.old out.old out.new (λ d token. noticed d token at room seat code)) }
     {
         numbers_are_drawn_on();
         let emits = self.tell_seat(alloc, room, seat, code)?;
-        let done = self.emit_all(alloc, emits.items(), at, out);
+        let done = self.emit_all(alloc, emits.items(), at, out, steps);
         drop(emits);
         done
     }
@@ -343,7 +347,7 @@ impl Server {
     /// # Errors
     ///
     /// Want of memory alone; a front of what is to be offered is then offered.
-    pub(super) fn enter_room(
+    pub(super) fn enter_room<L: Ledger>(
         &mut self,
         alloc: Global,
         key: TKey,
@@ -352,6 +356,7 @@ impl Server {
         seat: u64,
         at: Moment,
         out: &mut List<Offer>,
+        steps: &mut Steps<L>,
     ) -> Result<(), NoMemory>
         ensures done { OnOk result (Follows self.old out.old self.new out.new (λ d token. entering_room d token at key request room seat)) }
         ensures err { OnErr result (Breaks self.old out.old out.new (λ d token. entering_room d token at key request room seat)) }
@@ -379,17 +384,17 @@ impl Server {
             }
         };
         let accepted = where_accepted(asked, emits.items());
-        let emitted = self.emit_all(alloc, emits.items(), at, out);
+        let emitted = self.emit_all(alloc, emits.items(), at, out, steps);
         drop(emits);
         emitted?;
-        self.replace(alloc, peer, room, seat, accepted, at, out)
+        self.replace(alloc, peer, room, seat, accepted, at, out, steps)
     }
 }
 
 /// Who comes to a room.
 impl Server {
     /// Turns away, with this status and tag, whoever finds no seat.
-    fn turn_from_room(
+    fn turn_from_room<L: Ledger>(
         &mut self,
         alloc: Global,
         key: TKey,
@@ -398,18 +403,19 @@ impl Server {
         code: u16,
         at: Moment,
         out: &mut List<Offer>,
+        steps: &mut Steps<L>,
     ) -> Result<(), NoMemory>
         ensures done { OnOk result (Follows self.old out.old self.new out.new (λ d token. turned_away d at key invite.now tag.now code)) }
         ensures err { OnErr result (out.new ≡ out.old) }
     {
         let response = response_to(alloc, self.directory.sip, tag, invite, &plainly(code))?;
-        let done = self.reply(alloc, key, &response, at, out);
+        let done = self.reply(alloc, key, &response, at, out, steps);
         drop(response);
         done
     }
 
     /// Whoever comes to the factory, and is answered with this tag, has a room of its own, unless as many are live as may.
-    fn open_room_for(
+    fn open_room_for<L: Ledger>(
         &mut self,
         alloc: Global,
         key: TKey,
@@ -417,6 +423,7 @@ impl Server {
         tag: &Text,
         at: Moment,
         out: &mut List<Offer>,
+        steps: &mut Steps<L>,
     ) -> Result<(), NoMemory>
         requires { offers_audio invite.now.heard.body ≡ true }
         ensures done { OnOk result (Follows self.old out.old self.new out.new
@@ -429,11 +436,11 @@ impl Server {
         let made = self.create_room(alloc, leg, account, key, invite, at)?;
         match made {
             Some(emits) => {
-                let done = self.emit_all(alloc, emits.items(), at, out);
+                let done = self.emit_all(alloc, emits.items(), at, out, steps);
                 drop(emits);
                 done
             }
-            None => self.turn_from_room(alloc, key, invite, tag.bytes(), 503, at, out),
+            None => self.turn_from_room(alloc, key, invite, tag.bytes(), 503, at, out, steps),
         }
     }
 
@@ -442,13 +449,14 @@ impl Server {
     /// # Errors
     ///
     /// Want of memory alone; a front of what is to be offered is then offered.
-    pub(super) fn open_room(
+    pub(super) fn open_room<L: Ledger>(
         &mut self,
         alloc: Global,
         key: TKey,
         invite: &Hearing,
         at: Moment,
         out: &mut List<Offer>,
+        steps: &mut Steps<L>,
     ) -> Result<(), NoMemory>
         requires { offers_audio invite.now.heard.body ≡ true }
         ensures done { OnOk result (Follows self.old out.old self.new out.new (λ d token. opening_room d token at key invite.now)) }
@@ -456,11 +464,11 @@ impl Server {
     {
         numbers_are_drawn_on();
         let tag = next_tag(alloc, &mut self.tokens)?;
-        self.open_room_for(alloc, key, invite, &tag, at, out)
+        self.open_room_for(alloc, key, invite, &tag, at, out, steps)
     }
 
     /// Whoever comes to a room, and is answered with this tag, has a seat in it, where it is live and has one.
-    fn join_room_for(
+    fn join_room_for<L: Ledger>(
         &mut self,
         alloc: Global,
         key: TKey,
@@ -469,6 +477,7 @@ impl Server {
         tag: &Text,
         at: Moment,
         out: &mut List<Offer>,
+        steps: &mut Steps<L>,
     ) -> Result<(), NoMemory>
         requires { offers_audio invite.now.heard.body ≡ true }
         ensures done { OnOk result (Follows self.old out.old self.new out.new
@@ -483,13 +492,22 @@ impl Server {
         let seated = self.seat_leg(alloc, room, Released::Caller(leg), account, how, at)?;
         match seated {
             Ok(emits) => {
-                let done = self.emit_all(alloc, emits.items(), at, out);
+                let done = self.emit_all(alloc, emits.items(), at, out, steps);
                 drop(emits);
                 done
             }
             Err((leg, fault)) => {
                 let_go(leg.leave());
-                self.turn_from_room(alloc, key, invite, tag.bytes(), status_by(fault), at, out)
+                self.turn_from_room(
+                    alloc,
+                    key,
+                    invite,
+                    tag.bytes(),
+                    status_by(fault),
+                    at,
+                    out,
+                    steps,
+                )
             }
         }
     }
@@ -499,7 +517,7 @@ impl Server {
     /// # Errors
     ///
     /// Want of memory alone; a front of what is to be offered is then offered.
-    pub(super) fn join_room(
+    pub(super) fn join_room<L: Ledger>(
         &mut self,
         alloc: Global,
         key: TKey,
@@ -507,6 +525,7 @@ impl Server {
         room: RoomNo,
         at: Moment,
         out: &mut List<Offer>,
+        steps: &mut Steps<L>,
     ) -> Result<(), NoMemory>
         requires { offers_audio invite.now.heard.body ≡ true }
         ensures done { OnOk result (Follows self.old out.old self.new out.new (λ d token. joining_room d token at key invite.now room)) }
@@ -514,7 +533,7 @@ impl Server {
     {
         numbers_are_drawn_on();
         let tag = next_tag(alloc, &mut self.tokens)?;
-        self.join_room_for(alloc, key, invite, room, &tag, at, out)
+        self.join_room_for(alloc, key, invite, room, &tag, at, out, steps)
     }
 }
 
@@ -538,7 +557,7 @@ impl Server {
     }
 
     /// The seat is told that it is tried, and then what came of it, where something was asked.
-    fn replace(
+    fn replace<L: Ledger>(
         &mut self,
         alloc: Global,
         peer: Peer,
@@ -547,6 +566,7 @@ impl Server {
         replaces: Option<Replaces>,
         at: Moment,
         out: &mut List<Offer>,
+        steps: &mut Steps<L>,
     ) -> Result<(), NoMemory>
         ensures done { OnOk result (Follows self.old out.old self.new out.new (λ d token. replacing d token at peer room seat replaces)) }
         ensures err { OnErr result (Breaks self.old out.old out.new (λ d token. replacing d token at peer room seat replaces)) }
@@ -554,7 +574,7 @@ impl Server {
         match replaces {
             None => Ok(()),
             Some(replaces) => {
-                let done = self.replace_by(alloc, peer, room, seat, &replaces, at, out);
+                let done = self.replace_by(alloc, peer, room, seat, &replaces, at, out, steps);
                 drop(replaces);
                 done
             }
@@ -562,7 +582,7 @@ impl Server {
     }
 
     /// The seat is told that it is tried, and then what came of it.
-    fn replace_by(
+    fn replace_by<L: Ledger>(
         &mut self,
         alloc: Global,
         peer: Peer,
@@ -571,17 +591,18 @@ impl Server {
         replaces: &Replaces,
         at: Moment,
         out: &mut List<Offer>,
+        steps: &mut Steps<L>,
     ) -> Result<(), NoMemory>
         ensures done { OnOk result (Follows self.old out.old self.new out.new (λ d token. replacing d token at peer room seat (Some replaces.now))) }
         ensures err { OnErr result (Breaks self.old out.old out.new (λ d token. replacing d token at peer room seat (Some replaces.now))) }
     {
         numbers_are_drawn_on();
-        self.notice(alloc, room, seat, 100, at, out)?;
-        self.replace_dialog(alloc, peer, room, seat, replaces, at, out)
+        self.notice(alloc, room, seat, 100, at, out, steps)?;
+        self.replace_dialog(alloc, peer, room, seat, replaces, at, out, steps)
     }
 
     /// The dialog has to be of a call that lives.
-    fn replace_dialog(
+    fn replace_dialog<L: Ledger>(
         &mut self,
         alloc: Global,
         peer: Peer,
@@ -590,19 +611,22 @@ impl Server {
         replaces: &Replaces,
         at: Moment,
         out: &mut List<Offer>,
+        steps: &mut Steps<L>,
     ) -> Result<(), NoMemory>
         ensures done { OnOk result (Follows self.old out.old self.new out.new (λ d token. replaced d token at peer room seat replaces.now)) }
         ensures err { OnErr result (Breaks self.old out.old out.new (λ d token. replaced d token at peer room seat replaces.now)) }
     {
         numbers_are_drawn_on();
         match self.side_replaced(replaces) {
-            None => self.notice(alloc, room, seat, 481, at, out),
-            Some((call, side)) => self.replace_side(alloc, peer, room, seat, call, side, at, out),
+            None => self.notice(alloc, room, seat, 481, at, out, steps),
+            Some((call, side)) => self.replace_side(
+                alloc, peer, room, seat, call, side, at, out, steps,
+            ),
         }
     }
 
     /// It has to be of the peer that asks; then the leg across from it is taken.
-    fn replace_side(
+    fn replace_side<L: Ledger>(
         &mut self,
         alloc: Global,
         peer: Peer,
@@ -612,20 +636,21 @@ impl Server {
         side: Side,
         at: Moment,
         out: &mut List<Offer>,
+        steps: &mut Steps<L>,
     ) -> Result<(), NoMemory>
         ensures done { OnOk result (Follows self.old out.old self.new out.new (λ d token. replaced_by d token at peer room seat (Some (call, side)))) }
         ensures err { OnErr result (Breaks self.old out.old out.new (λ d token. replaced_by d token at peer room seat (Some (call, side)))) }
     {
         numbers_are_drawn_on();
         if is_with(peer, self.calls.party(call, side)) {
-            self.take_out(alloc, room, seat, call, side.other(), at, out)
+            self.take_out(alloc, room, seat, call, side.other(), at, out, steps)
         } else {
-            self.notice(alloc, room, seat, 481, at, out)
+            self.notice(alloc, room, seat, 481, at, out, steps)
         }
     }
 
     /// The leg of this side is taken out of its call, where that talks.
-    fn take_out(
+    fn take_out<L: Ledger>(
         &mut self,
         alloc: Global,
         room: RoomNo,
@@ -634,6 +659,7 @@ impl Server {
         side: Side,
         at: Moment,
         out: &mut List<Offer>,
+        steps: &mut Steps<L>,
     ) -> Result<(), NoMemory>
         ensures done { OnOk result (Follows self.old out.old self.new out.new
             (λ d token world. taken_out d token at room seat call side (account_of_side call side (calls_in d world).entries)
@@ -645,13 +671,13 @@ impl Server {
         numbers_are_drawn_on();
         let account = account_at(self.calls.party(call, side));
         match self.calls.release(call, side) {
-            Ok(leg) => self.adopt(alloc, room, seat, call, leg, account, at, out),
-            Err(NotTalking) => self.notice(alloc, room, seat, 491, at, out),
+            Ok(leg) => self.adopt(alloc, room, seat, call, leg, account, at, out, steps),
+            Err(NotTalking) => self.notice(alloc, room, seat, 491, at, out, steps),
         }
     }
 
     /// A leg that was taken out of its call has a seat, and the call ends; or none is free, and it is put back.
-    fn adopt(
+    fn adopt<L: Ledger>(
         &mut self,
         alloc: Global,
         room: RoomNo,
@@ -661,6 +687,7 @@ impl Server {
         account: Option<Account>,
         at: Moment,
         out: &mut List<Offer>,
+        steps: &mut Steps<L>,
     ) -> Result<(), NoMemory>
         requires unmetered { (released_leg leg).meter ≡ None }
         requires fits { takes_back leg (entry_of call.0 self.old.calls.table.entries) ≡ true }
@@ -675,14 +702,14 @@ impl Server {
         let seated = self.seat_leg(alloc, room, leg, account, how, at)?;
         match seated {
             Ok(emits) => {
-                let emitted = self.emit_all(alloc, emits.items(), at, out);
+                let emitted = self.emit_all(alloc, emits.items(), at, out, steps);
                 drop(emits);
                 emitted?;
-                self.finish(alloc, call, at, out)
+                self.finish(alloc, call, at, out, steps)
             }
             Err((leg, _)) => {
                 self.calls.restore(call, leg);
-                self.notice(alloc, room, seat, 503, at, out)
+                self.notice(alloc, room, seat, 503, at, out, steps)
             }
         }
     }

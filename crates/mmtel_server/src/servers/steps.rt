@@ -32,10 +32,12 @@ use mmtel_run::{enough_comes, rows_are_filed};
 use mmtel_run_laws::offers_are_added;
 use mmtel_scan::{List, NoMemory, Text};
 use mmtel_server_decisions::{Alarms, hand_rows};
+use mmtel_timers::Steps;
 use mmtel_transaction::{Tokens, Transactions};
 use mmtel_trust::PeerTable;
 use mmtel_types::{Account, Addr, Moment};
 use std::alloc::Global;
+use std::sync::ledger::Ledger;
 
 /// The moment at which the clock begins.
 fn first_moment() -> Moment
@@ -126,18 +128,19 @@ impl Server {
     }
 
     /// One event: the deadlines that are due by then fire, each at its own moment; then the event is met when the clock, the greatest moment so far, stands so (RFC 3261
-    /// §17). An upload is kept by the keeper, and in force from then on exactly where it was kept (3GPP TS 24.623 §5).
+    /// §17). An upload is kept by the keeper, and in force from then on exactly where it was kept (3GPP TS 24.623 §5). What is looked at of the transactions is added to the counter.
     ///
     /// # Errors
     ///
     /// Want of memory alone, but for what a 507 answers. Of what the event makes the server offer a front may then have been added, a record may have been kept, its reply offered, and from
     /// then on nothing is done.
-    pub fn step<K: Keeper>(
+    pub fn step<K: Keeper, L: Ledger>(
         &mut self,
         alloc: Global,
         event: &Event,
         keeper: &mut K,
         out: &mut List<Offer>,
+        steps: &mut Steps<L>,
     ) -> Result<(), NoMemory>
         ensures done { OnOk result (Stepped self.old out.old self.new out.new event.now (K.held keeper.old) (K.held keeper.new) (K.calls keeper.old) (K.calls keeper.new)
             (K.faults keeper.old) (K.faults keeper.new)) }
@@ -153,7 +156,7 @@ impl Server {
         enough_comes();
         rows_are_filed();
         offers_are_added();
-        let done = self.step_on(alloc, event, keeper, out);
+        let done = self.step_on(alloc, event, keeper, out, steps);
         self.failed = done.is_err();
         match done {
             Ok(_) => Ok(()),
@@ -203,30 +206,32 @@ impl Server {
     }
 
     /// Meets a datagram.
-    fn meet_datagram(
+    fn meet_datagram<L: Ledger>(
         &mut self,
         alloc: Global,
         at: Moment,
         from: Addr,
         bytes: &[u8],
         out: &mut List<Offer>,
+        steps: &mut Steps<L>,
     ) -> Result<(), NoMemory>
         ensures done { OnOk result (Follows self.old out.old self.new out.new (λ d token. met d token at (digest_datagram d from bytes.now))) }
         ensures err { OnErr result (Breaks self.old out.old out.new (λ d token. met d token at (digest_datagram d from bytes.now))) }
     {
         numbers_are_drawn_on();
         let told = digest(alloc, &self.directory, from, bytes)?;
-        self.meet(alloc, told, at, out)
+        self.meet(alloc, told, at, out, steps)
     }
 
     /// Meets an event at a moment of the clock: what it makes the server offer, and what the keeper answered to it.
-    fn meet_event<K: Keeper>(
+    fn meet_event<K: Keeper, L: Ledger>(
         &mut self,
         alloc: Global,
         at: Moment,
         event: &Event,
         keeper: &mut K,
         out: &mut List<Offer>,
+        steps: &mut Steps<L>,
     ) -> Result<Answered, NoMemory>
         ensures done { IfOk result (λ a. Follows self.old out.old self.new out.new (λ d token. met d token at (digest_event d event.now (kept_in a.kept) a.rows))) }
         ensures err { OnErr result ((kept : Kept) (rows : List Row) → Breaks self.old out.old out.new (λ d token. met d token at (digest_event d event.now kept rows))) }
@@ -239,7 +244,7 @@ impl Server {
         numbers_are_drawn_on();
         match event {
             Event::Datagram { from, bytes, .. } => {
-                self.meet_datagram(alloc, at, *from, bytes.bytes(), out)?;
+                self.meet_datagram(alloc, at, *from, bytes.bytes(), out, steps)?;
                 Ok(unasked())
             }
             Event::Web { bytes, .. } => self.serve(alloc, bytes.bytes(), at, keeper, out),
@@ -262,13 +267,14 @@ impl Server {
     }
 
     /// An event comes when the clock stands so: what it makes the server offer, and what the keeper answered in it.
-    fn come_at<K: Keeper>(
+    fn come_at<K: Keeper, L: Ledger>(
         &mut self,
         alloc: Global,
         at: Moment,
         event: &Event,
         keeper: &mut K,
         out: &mut List<Offer>,
+        steps: &mut Steps<L>,
     ) -> Result<(Answered, bool), NoMemory>
         ensures done { IfOk result (λ a.
             Came self.old out.old self.new out.new at event.now (kept_in a.0.kept) a.0.rows a.1 (K.held keeper.old) (K.held keeper.new) (K.calls keeper.old)
@@ -280,18 +286,19 @@ impl Server {
         numbers_are_drawn_on();
         self.begin();
         self.clock = at;
-        let answered = self.meet_event(alloc, at, event, keeper, out)?;
+        let answered = self.meet_event(alloc, at, event, keeper, out, steps)?;
         let took = self.hand_rows(alloc, keeper)?;
         Ok((answered, took))
     }
 
     /// One event, where no step has failed.
-    fn step_on<K: Keeper>(
+    fn step_on<K: Keeper, L: Ledger>(
         &mut self,
         alloc: Global,
         event: &Event,
         keeper: &mut K,
         out: &mut List<Offer>,
+        steps: &mut Steps<L>,
     ) -> Result<(Answered, bool), NoMemory>
         ensures done { IfOk result (λ a. (fuel : ℕ) →
             FollowsTo self.old out.old self.new out.new (IsReady fuel (happened_in event.now (kept_in a.0.kept) a.0.rows a.1))
@@ -307,7 +314,7 @@ impl Server {
     {
         numbers_are_drawn_on();
         let clock = later(self.clock, moment(event));
-        self.settle(alloc, clock, out)?;
-        self.come_at(alloc, clock, event, keeper, out)
+        self.settle(alloc, clock, out, steps)?;
+        self.come_at(alloc, clock, event, keeper, out, steps)
     }
 }

@@ -1,12 +1,17 @@
 //! Sequences of calls, and what each gives: a table is one text, a call a line, with what it gives behind `>`.
 
+ghost use Rattle.std.specs.Prelude.{◌≡◌, ◌<◌};
+
 use crate::transactions::messages::message;
 use mmtel_message::Msg;
 use mmtel_scan::{NoMemory, Text, number_up_to};
+use mmtel_timers::Steps;
 use mmtel_told::{Told, cut, next_line};
 use mmtel_transaction::{Due, HearFault, Heard, TKey, Transactions};
 use mmtel_types::{Moment, Peer};
 use std::alloc::Global;
+use std::marker::Brand;
+use std::sync::ledger::{Blank, Ledger};
 
 /// A number in digits; 0 where there are none.
 fn number(word: &[u8]) -> u64 {
@@ -114,8 +119,15 @@ fn write_done(told: &mut Told, done: Result<(), NoMemory>) {
 }
 
 /// `hear PEER MOMENT MESSAGE`.
-fn hear(told: &mut Told, transactions: &mut Transactions, peer: Peer, m: Msg, now: Moment) {
-    match transactions.hear(told.alloc, peer, m, now) {
+fn hear<L: Ledger>(
+    told: &mut Told,
+    transactions: &mut Transactions,
+    peer: Peer,
+    m: Msg,
+    now: Moment,
+    steps: &mut Steps<L>,
+) {
+    match transactions.hear(told.alloc, peer, m, now, steps) {
         Ok(said) => {
             write_heard(told, &said);
             drop(said);
@@ -128,15 +140,28 @@ fn hear(told: &mut Told, transactions: &mut Transactions, peer: Peer, m: Msg, no
 }
 
 /// `ask PEER MOMENT MESSAGE`.
-fn ask(told: &mut Told, transactions: &mut Transactions, peer: Peer, m: &Msg, now: Moment) {
-    match transactions.ask(told.alloc, peer, m, now) {
+fn ask<L: Ledger>(
+    told: &mut Told,
+    transactions: &mut Transactions,
+    peer: Peer,
+    m: &Msg,
+    now: Moment,
+    steps: &mut Steps<L>,
+) {
+    match transactions.ask(told.alloc, peer, m, now, steps) {
         Ok(key) => write_key(told, b"asked", key),
         Err(NoMemory) => told.fail(),
     }
 }
 
 /// A call with a peer or a key, a moment and a message; `reply KEY MOMENT MESSAGE` and `ack KEY MOMENT MESSAGE` write whether they are done.
-fn with_message(told: &mut Told, transactions: &mut Transactions, name: &[u8], words: &[u8]) {
+fn with_message<L: Ledger>(
+    told: &mut Told,
+    transactions: &mut Transactions,
+    name: &[u8],
+    words: &[u8],
+    steps: &mut Steps<L>,
+) {
     let (peer, now, word) = addressed(words);
     let Some(now) = now else {
         return;
@@ -145,18 +170,18 @@ fn with_message(told: &mut Told, transactions: &mut Transactions, name: &[u8], w
         return;
     };
     match name {
-        b"hear" => hear(told, transactions, peer, m, now),
+        b"hear" => hear(told, transactions, peer, m, now, steps),
         b"ask" => {
-            ask(told, transactions, peer, &m, now);
+            ask(told, transactions, peer, &m, now, steps);
             drop(m);
         }
         b"reply" => {
-            let done = transactions.reply(told.alloc, TKey(peer.0 as u64), &m, now);
+            let done = transactions.reply(told.alloc, TKey(peer.0 as u64), &m, now, steps);
             drop(m);
             write_done(told, done);
         }
         _ => {
-            let done = transactions.ack(told.alloc, TKey(peer.0 as u64), &m);
+            let done = transactions.ack(told.alloc, TKey(peer.0 as u64), &m, steps);
             drop(m);
             write_done(told, done);
         }
@@ -164,8 +189,13 @@ fn with_message(told: &mut Told, transactions: &mut Transactions, name: &[u8], w
 }
 
 /// `due MOMENT`.
-fn due(told: &mut Told, transactions: &mut Transactions, now: Moment) {
-    match transactions.due(told.alloc, now) {
+fn due<L: Ledger>(
+    told: &mut Told,
+    transactions: &mut Transactions,
+    now: Moment,
+    steps: &mut Steps<L>,
+) {
+    match transactions.due(told.alloc, now, steps) {
         Ok(said) => {
             write_due(told, &said);
             drop(said);
@@ -175,8 +205,13 @@ fn due(told: &mut Told, transactions: &mut Transactions, now: Moment) {
 }
 
 /// `upcoming MOMENT`.
-fn upcoming(told: &mut Told, transactions: &Transactions, now: Moment) {
-    match transactions.upcoming(now) {
+fn upcoming<L: Ledger>(
+    told: &mut Told,
+    transactions: &Transactions,
+    now: Moment,
+    steps: &mut Steps<L>,
+) {
+    match transactions.upcoming(now, steps) {
         None => told.add(b"nothing"),
         Some((at, step)) => {
             told.add(b"at");
@@ -187,8 +222,8 @@ fn upcoming(told: &mut Told, transactions: &Transactions, now: Moment) {
 }
 
 /// `peer KEY`.
-fn peer(told: &mut Told, transactions: &Transactions, key: TKey) {
-    match transactions.peer(key) {
+fn peer<L: Ledger>(told: &mut Told, transactions: &Transactions, key: TKey, steps: &mut Steps<L>) {
+    match transactions.peer(key, steps) {
         None => told.add(b"none"),
         Some(peer) => {
             told.add(b"of");
@@ -215,14 +250,19 @@ pub fn with_via(told: &mut Told, via: Text) -> Option<Msg> {
 }
 
 /// `numbered NUMBER`: the request whose branch is this number is heard.
-fn hear_numbered(told: &mut Told, transactions: &mut Transactions, branch: u64) {
+fn hear_numbered<L: Ledger>(
+    told: &mut Told,
+    transactions: &mut Transactions,
+    branch: u64,
+    steps: &mut Steps<L>,
+) {
     let Some(now) = Moment::new(0) else {
         return;
     };
     let Some(m) = numbered(told, branch) else {
         return;
     };
-    hear(told, transactions, Peer(1), m, now);
+    hear(told, transactions, Peer(1), m, now, steps);
 }
 
 /// Whether a fresh request opened the transaction of this key.
@@ -234,14 +274,15 @@ fn is_fresh(said: &Heard, wanted: u64) -> bool {
 }
 
 /// Whether a request opens the transaction of this key.
-pub fn opens(
+pub fn opens<L: Ledger>(
     told: &Told,
     transactions: &mut Transactions,
     m: Msg,
     wanted: u64,
     now: Moment,
+    steps: &mut Steps<L>,
 ) -> bool {
-    match transactions.hear(told.alloc, Peer(1), m, now) {
+    match transactions.hear(told.alloc, Peer(1), m, now, steps) {
         Ok(said) => {
             let opened = is_fresh(&said, wanted);
             drop(said);
@@ -255,26 +296,32 @@ pub fn opens(
 }
 
 /// Whether the request whose branch is this number opens the transaction of this key.
-fn opens_numbered(
+fn opens_numbered<L: Ledger>(
     told: &mut Told,
     transactions: &mut Transactions,
     branch: u64,
     now: Moment,
+    steps: &mut Steps<L>,
 ) -> bool {
     match numbered(told, branch) {
         None => false,
-        Some(m) => opens(told, transactions, m, branch, now),
+        Some(m) => opens(told, transactions, m, branch, now, steps),
     }
 }
 
 /// `many NUMBER`: requests are heard whose branches are the numbers from 0 on; how many of them open the transaction whose key is their branch.
-fn many(told: &mut Told, transactions: &mut Transactions, most: u64) {
+fn many<L: Ledger>(
+    told: &mut Told,
+    transactions: &mut Transactions,
+    most: u64,
+    steps: &mut Steps<L>,
+) {
     let Some(now) = Moment::new(0) else {
         return;
     };
     let mut count: u64 = 0;
     for branch in 0..most {
-        if opens_numbered(told, transactions, branch, now) {
+        if opens_numbered(told, transactions, branch, now, steps) {
             count = count.saturating_add(1);
         }
     }
@@ -283,14 +330,20 @@ fn many(told: &mut Told, transactions: &mut Transactions, most: u64) {
 }
 
 /// A call with a moment alone.
-fn at_moment(told: &mut Told, transactions: &mut Transactions, is_taken: bool, word: u64) {
+fn at_moment<L: Ledger>(
+    told: &mut Told,
+    transactions: &mut Transactions,
+    is_taken: bool,
+    word: u64,
+    steps: &mut Steps<L>,
+) {
     let Some(now) = Moment::new(word) else {
         return;
     };
     if is_taken {
-        due(told, transactions, now);
+        due(told, transactions, now, steps);
     } else {
-        upcoming(told, transactions, now);
+        upcoming(told, transactions, now, steps);
     }
 }
 
@@ -301,8 +354,13 @@ fn begin(told: &mut Told, transactions: &mut Transactions, step: u64) {
 }
 
 /// `merged KEY`.
-fn merged(told: &mut Told, transactions: &Transactions, key: TKey) {
-    if transactions.merged(key) {
+fn merged<L: Ledger>(
+    told: &mut Told,
+    transactions: &Transactions,
+    key: TKey,
+    steps: &mut Steps<L>,
+) {
+    if transactions.merged(key, steps) {
         told.add(b"yes");
     } else {
         told.add(b"no");
@@ -310,31 +368,46 @@ fn merged(told: &mut Told, transactions: &Transactions, key: TKey) {
 }
 
 /// Writes what a call gives.
-fn play(told: &mut Told, transactions: &mut Transactions, call: &[u8]) {
+fn play<L: Ledger>(
+    told: &mut Told,
+    transactions: &mut Transactions,
+    call: &[u8],
+    steps: &mut Steps<L>,
+) {
     let (name, words) = cut(b' ', call);
     match name {
         b"begin" => begin(told, transactions, number(words)),
-        b"due" => at_moment(told, transactions, true, number(words)),
-        b"upcoming" => at_moment(told, transactions, false, number(words)),
-        b"peer" => peer(told, transactions, TKey(number(words))),
-        b"merged" => merged(told, transactions, TKey(number(words))),
-        b"many" => many(told, transactions, number(words)),
-        b"numbered" => hear_numbered(told, transactions, number(words)),
-        _ => with_message(told, transactions, name, words),
+        b"due" => at_moment(told, transactions, true, number(words), steps),
+        b"upcoming" => at_moment(told, transactions, false, number(words), steps),
+        b"peer" => peer(told, transactions, TKey(number(words)), steps),
+        b"merged" => merged(told, transactions, TKey(number(words)), steps),
+        b"many" => many(told, transactions, number(words), steps),
+        b"numbered" => hear_numbered(told, transactions, number(words), steps),
+        _ => with_message(told, transactions, name, words, steps),
     }
 }
 
 /// Plays the call of a line, and writes the line with what it gave in truth.
-fn play_line(told: &mut Told, transactions: &mut Transactions, line: &[u8]) {
+fn play_line<L: Ledger>(
+    told: &mut Told,
+    transactions: &mut Transactions,
+    line: &[u8],
+    steps: &mut Steps<L>,
+) {
     let (call, _) = cut(b'>', line);
     told.add(call);
     told.add(b"> ");
-    play(told, transactions, call);
+    play(told, transactions, call, steps);
     told.add(b"\n");
 }
 
 /// The number of the first of these calls, from 1, that gives something else than stands behind it; 0 where none does.
-pub fn wrong_call(alloc: Global, table: &[u8]) -> usize {
+fn wrong_counted<L: Ledger>(alloc: Global, table: &[u8], blank: Blank) -> usize
+    requires name { blank.name ≡ L.name }
+    requires parts { blank.parts ≡ L.parts }
+    requires some { 0 < L.parts }
+{
+    let mut steps: Steps<L> = Steps::new(blank);
     let mut told = Told::new(alloc);
     let mut transactions = Transactions::new();
     let mut rest = table;
@@ -342,9 +415,14 @@ pub fn wrong_call(alloc: Global, table: &[u8]) -> usize {
         if !rest.is_empty() {
             let (line, after) = next_line(rest);
             rest = after;
-            play_line(&mut told, &mut transactions, line);
+            play_line(&mut told, &mut transactions, line, &mut steps);
         }
     }
     drop(transactions);
     told.wrong_line(table)
+}
+
+/// The number of the first of these calls, from 1, that gives something else than stands behind it; 0 where none does. Their looks are counted together.
+pub fn wrong_call(alloc: Global, table: &[u8]) -> usize {
+    wrong_counted::<Brand>(alloc, table, Blank::new(1))
 }

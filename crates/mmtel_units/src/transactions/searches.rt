@@ -37,11 +37,12 @@ fn request(told: &mut Told, number: u64) -> Option<Msg> {
 }
 
 /// Whether the request of a number is heard and answered at that number's moment, so that its transaction ends 32,000 ms later.
-fn is_answered(
+fn is_answered<L: Ledger>(
     told: &mut Told,
     transactions: &mut Transactions,
     answer: &Msg,
     number: u64,
+    steps: &mut Steps<L>,
 ) -> bool {
     let Some(now) = Moment::new(number) else {
         return false;
@@ -49,20 +50,24 @@ fn is_answered(
     let Some(m) = request(told, number) else {
         return false;
     };
-    opens(told, transactions, m, number, now)
+    opens(told, transactions, m, number, now, steps)
         && transactions
-            .reply(told.alloc, TKey(number), answer, now)
+            .reply(told.alloc, TKey(number), answer, now, steps)
             .is_ok()
 }
 
 /// Opens as many as may be and answers them; how many of them did not go so.
-fn fill(told: &mut Told, transactions: &mut Transactions) -> usize {
+fn fill<L: Ledger>(
+    told: &mut Told,
+    transactions: &mut Transactions,
+    steps: &mut Steps<L>,
+) -> usize {
     let Some(answer) = message(told, b"200/OPTIONS/a") else {
         return 1;
     };
     let mut wrong: usize = 0;
     for number in 0..MOST {
-        if !is_answered(told, transactions, &answer, number) {
+        if !is_answered(told, transactions, &answer, number, steps) {
             wrong = wrong.saturating_add(1);
         }
     }
@@ -98,39 +103,29 @@ fn is_found<L: Ledger>(
 }
 
 /// How many of so many look-ups, of all branches in turn, find another transaction or none.
-fn lost_counted<L: Ledger>(
+fn lost<L: Ledger>(
     transactions: &Transactions,
     branches: &[Text],
     calls: u64,
-    blank: Blank,
-) -> usize
-    requires name { blank.name ≡ L.name }
-    requires parts { blank.parts ≡ L.parts }
-    requires some { 0 < L.parts }
-{
-    let mut steps: Steps<L> = Steps::new(blank);
+    steps: &mut Steps<L>,
+) -> usize {
     let mut wrong: usize = 0;
     for call in 0..calls {
-        if !is_found(transactions, branches, call % MOST, &mut steps) {
+        if !is_found(transactions, branches, call % MOST, steps) {
             wrong = wrong.saturating_add(1);
         }
     }
     wrong
 }
 
-/// How many of so many look-ups, of all branches in turn, find another transaction or none.
-fn lost(transactions: &Transactions, branches: &[Text], calls: u64) -> usize {
-    lost_counted::<Brand>(transactions, branches, calls, Blank::new(1))
-}
-
 /// How many of so many calls give another deadline than the first, which is that of moment 32,000.
-fn mistaken(transactions: &Transactions, calls: u64) -> usize {
+fn mistaken<L: Ledger>(transactions: &Transactions, calls: u64, steps: &mut Steps<L>) -> usize {
     let Some(now) = Moment::new(250000) else {
         return 1;
     };
     let mut wrong: usize = 0;
     for _ in 0..calls {
-        match transactions.upcoming(now) {
+        match transactions.upcoming(now, steps) {
             Some((32000, 0)) => {}
             _ => wrong = wrong.saturating_add(1),
         }
@@ -139,8 +134,14 @@ fn mistaken(transactions: &Transactions, calls: u64) -> usize {
 }
 
 /// Whether what is due next is the end of the transaction of this number.
-fn is_end(told: &Told, transactions: &mut Transactions, number: u64, now: Moment) -> bool {
-    match transactions.due(told.alloc, now) {
+fn is_end<L: Ledger>(
+    told: &Told,
+    transactions: &mut Transactions,
+    number: u64,
+    now: Moment,
+    steps: &mut Steps<L>,
+) -> bool {
+    match transactions.due(told.alloc, now, steps) {
         Err(_) => false,
         Ok(said) => {
             let ended = is_over(&said, number);
@@ -158,13 +159,13 @@ fn is_over(said: &Due, number: u64) -> bool {
 }
 
 /// How many of all do not end when it is their turn, the oldest first.
-fn unended(told: &Told, transactions: &mut Transactions) -> usize {
+fn unended<L: Ledger>(told: &Told, transactions: &mut Transactions, steps: &mut Steps<L>) -> usize {
     let Some(now) = Moment::new(250000) else {
         return 1;
     };
     let mut wrong: usize = 0;
     for number in 0..MOST {
-        if !is_end(told, transactions, number, now) {
+        if !is_end(told, transactions, number, now, steps) {
             wrong = wrong.saturating_add(1);
         }
     }
@@ -172,48 +173,71 @@ fn unended(told: &Told, transactions: &mut Transactions) -> usize {
 }
 
 /// How many of 4,000,000 look-ups go wrong among as many server transactions as may be live.
-fn wrong_look_ups(alloc: Global) -> usize {
+fn wrong_look_ups<L: Ledger>(alloc: Global, blank: Blank) -> usize
+    requires name { blank.name ≡ L.name }
+    requires parts { blank.parts ≡ L.parts }
+    requires some { 0 < L.parts }
+{
+    let mut steps: Steps<L> = Steps::new(blank);
     let mut told = Told::new(alloc);
     let mut transactions = Transactions::new();
-    let unfilled = fill(&mut told, &mut transactions);
+    let unfilled = fill(&mut told, &mut transactions, &mut steps);
     let all = branches(&mut told);
-    let wrong = lost(&transactions, &all, 4_000_000);
+    let wrong = lost(&transactions, &all, 4_000_000, &mut steps);
     drop(all);
     drop(transactions);
     wrong.saturating_add(unfilled)
 }
 
 /// How many of 20,000,000 calls give another deadline than the first.
-fn wrong_deadlines(alloc: Global) -> usize {
+fn wrong_deadlines<L: Ledger>(alloc: Global, blank: Blank) -> usize
+    requires name { blank.name ≡ L.name }
+    requires parts { blank.parts ≡ L.parts }
+    requires some { 0 < L.parts }
+{
+    let mut steps: Steps<L> = Steps::new(blank);
     let mut told = Told::new(alloc);
     let mut transactions = Transactions::new();
-    let unfilled = fill(&mut told, &mut transactions);
-    let wrong = mistaken(&transactions, 20_000_000);
+    let unfilled = fill(&mut told, &mut transactions, &mut steps);
+    let wrong = mistaken(&transactions, 20_000_000, &mut steps);
     drop(transactions);
     wrong.saturating_add(unfilled)
 }
 
 /// How many of as many transactions as may be live do not end in their turn.
-fn wrong_ends(alloc: Global) -> usize {
+fn wrong_ends<L: Ledger>(alloc: Global, blank: Blank) -> usize
+    requires name { blank.name ≡ L.name }
+    requires parts { blank.parts ≡ L.parts }
+    requires some { 0 < L.parts }
+{
+    let mut steps: Steps<L> = Steps::new(blank);
     let mut told = Told::new(alloc);
     let mut transactions = Transactions::new();
-    let unfilled = fill(&mut told, &mut transactions);
-    let wrong = unended(&told, &mut transactions);
+    let unfilled = fill(&mut told, &mut transactions, &mut steps);
+    let wrong = unended(&told, &mut transactions, &mut steps);
     drop(transactions);
     wrong.saturating_add(unfilled)
 }
 
 #[test]
 fn look_ups_walk_nothing(rt: HostRuntime) {
-    assert_right(&rt, "look-ups", wrong_look_ups(rt.alloc()));
+    assert_right(
+        &rt,
+        "look-ups",
+        wrong_look_ups::<Brand>(rt.alloc(), Blank::new(1)),
+    );
 }
 
 #[test]
 fn first_deadlines_walk_nothing(rt: HostRuntime) {
-    assert_right(&rt, "deadlines", wrong_deadlines(rt.alloc()));
+    assert_right(
+        &rt,
+        "deadlines",
+        wrong_deadlines::<Brand>(rt.alloc(), Blank::new(1)),
+    );
 }
 
 #[test]
 fn ends_move_little(rt: HostRuntime) {
-    assert_right(&rt, "ends", wrong_ends(rt.alloc()));
+    assert_right(&rt, "ends", wrong_ends::<Brand>(rt.alloc(), Blank::new(1)));
 }

@@ -1,4 +1,4 @@
-use Rattle.mmtel_cli.proofs.Asking.{prepares_none, prepares_one, prepares_short}
+use Rattle.mmtel_cli.proofs.Asking.{prepares_none, prepares_one}
 use Rattle.mmtel_cli.proofs.top.prepare.Goals as goal
 
 pub returns-in-Ok-Some-clause-prepares : goal.returns-in-Ok-Some-clause-prepares
@@ -9,6 +9,3 @@ returns-in-Ok-Some-clause-prepares g c =
 
 pub returns-in-Ok-None-clause-prepares : goal.returns-in-Ok-None-clause-prepares
 returns-in-Ok-None-clause-prepares g c = prepares_none _ _ _ _ _ _ _ (rw c.in-Ok-None.field-0-is at c.in-Ok-None.ensures.only)
-
-pub returns-in-Err-clause-prepares : goal.returns-in-Err-clause-prepares
-returns-in-Err-clause-prepares g c = prepares_short _ _ _ _ _ _

@@ -8,12 +8,12 @@ use Rattle.mmtel_serve.proofs.serving.serve.Given as goal
 
 abbrev pub invariant-turns : goal.invariant-turns
 invariant-turns g l = record {
-  served : ServedSoFar (g.L.Link.ear l.fn.link) (g.L.Link.ear l.link) (g.L.Link.giving l.fn.link) (g.L.Link.giving l.link)
-      (g.L.Link.given l.fn.link) (g.L.Link.given l.link)
+  served : ServedSoFar (g.N.Link.ear l.fn.link) (g.N.Link.ear l.link) (g.N.Link.giving l.fn.link) (g.N.Link.giving l.link)
+      (g.N.Link.given l.fn.link) (g.N.Link.given l.link)
       (g.K.Keeper.held l.fn.keeper) (g.K.Keeper.held l.keeper) (g.K.Keeper.calls l.fn.keeper) (g.K.Keeper.calls l.keeper)
       (g.K.Keeper.faults l.fn.keeper) (g.K.Keeper.faults l.keeper) l._turn l.fn.server l.server;
-  lost : LostNoMore (g.L.Link.given l.fn.link) (g.L.Link.given l.link) ⊎ Rose (g.L.Link.giving l.fn.link) (g.L.Link.giving l.link);
-  giving : StandsOrRose (g.L.Link.giving l.fn.link) (g.L.Link.giving l.link);
-  bound : IsBoundStill (g.L.Link.calls l.fn.link) (g.L.Link.calls l.link);
-  taking : g.L.Link.taking l.link ≡ g.L.Link.taking l.fn.link;
+  lost : LostNoMore (g.N.Link.given l.fn.link) (g.N.Link.given l.link) ⊎ Rose (g.N.Link.giving l.fn.link) (g.N.Link.giving l.link);
+  giving : StandsOrRose (g.N.Link.giving l.fn.link) (g.N.Link.giving l.link);
+  bound : IsBoundStill (g.N.Link.calls l.fn.link) (g.N.Link.calls l.link);
+  taking : g.N.Link.taking l.link ≡ g.N.Link.taking l.fn.link;
 }

@@ -12,7 +12,7 @@ use Rattle.mmtel_server.proofs.servers.Server.cancel_invite.Goals as goal
 use Rattle.mmtel_server.specs.Follows.{Breaks, Follows}
 
 pub returns-in-None-clause-done : goal.returns-in-None-clause-done
-returns-in-None-clause-done c = on_ok_weaker c.replying-done.result (λ follows.
+returns-in-None-clause-done g c = on_ok_weaker c.replying-done.result (λ follows.
     let s = c.args.self.now in
     let out = c.args.out.now in
     follows_so c.asked_by.result (λ d w. asked_by c.args.invite (calls_in d w).entries) (λ o d token. cancelling_call d token c.args.at c.args.key c.args.cancel c.args.invite o) s out
@@ -22,11 +22,11 @@ returns-in-None-clause-done c = on_ok_weaker c.replying-done.result (λ follows.
     c.replying-done.ensures.done
 
 pub returns-in-None-clause-err : goal.returns-in-None-clause-err
-returns-in-None-clause-err c = stops_on c.replying-done.result (λ d token. cancelling d token c.args.at c.args.key c.args.cancel (Some c.args.invite)) c.args.self.now c.args.out.now c.replying-done.new.out
+returns-in-None-clause-err g c = stops_on c.replying-done.result (λ d token. cancelling d token c.args.at c.args.key c.args.cancel (Some c.args.invite)) c.args.self.now c.args.out.now c.replying-done.new.out
     (λ d token w. cancels c.numbers_are_drawn_on.ensures d token c.args.at c.args.key c.args.cancel (Some c.args.invite) w) c.replying-done.ensures.err
 
 pub returns-in-Some-clause-done : goal.returns-in-Some-clause-done
-returns-in-Some-clause-done c = on_ok_weaker c.signal.result (λ follows.
+returns-in-Some-clause-done g c = on_ok_weaker c.signal.result (λ follows.
     let s = c.args.self.now in
     let out = c.args.out.now in
     follows_so c.asked_by.result (λ d w. asked_by c.args.invite (calls_in d w).entries) (λ o d token. cancelling_call d token c.args.at c.args.key c.args.cancel c.args.invite o) s out
@@ -35,7 +35,7 @@ returns-in-Some-clause-done c = on_ok_weaker c.signal.result (λ follows.
     c.signal.ensures.done
 
 pub returns-in-Some-clause-err : goal.returns-in-Some-clause-err
-returns-in-Some-clause-err c = on_err_weaker c.signal.result (λ breaks.
+returns-in-Some-clause-err g c = on_err_weaker c.signal.result (λ breaks.
     let s = c.args.self.now in
     let out = c.args.out.now in
     breaks_so c.asked_by.result (λ d w. asked_by c.args.invite (calls_in d w).entries) (λ o d token. cancelling_call d token c.args.at c.args.key c.args.cancel c.args.invite o) s out

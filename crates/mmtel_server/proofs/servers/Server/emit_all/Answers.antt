@@ -7,14 +7,14 @@ use Rattle.mmtel_server.proofs.servers.Server.emit_all.Goals as goal
 use Rattle.mmtel_server.specs.Stands.{Did, IsCut}
 
 pub returns-in_err-emit-clause-err : goal.returns-in_err-emit-clause-err
-returns-in_err-emit-clause-err c = on_err c.from_residual.result _ (λ d token before w did short.
+returns-in_err-emit-clause-err g c = on_err c.from_residual.result _ (λ d token before w did short.
     let inv = c.loop-emit.invariant.1 d token before w did short in
     let rest = drop c.loop-emit.emit-index c.args.emits.now in
     subst (λ (x : World). IsCut c.args.out.now c.emit.new.out (before ++ x.offers)) inv.3
     (cut_of before c.args.out.now c.emit.new.out w inv.0 (emitted c.args.at rest inv.0) inv.1 (emits_all c.args.at rest inv.0) did.offered (c.in_err-emit.ensures.err ∙ inv.2.offered)))
 
 pub loop-emit-preserved : goal.loop-emit-preserved
-loop-emit-preserved c = (
+loop-emit-preserved g c = (
   c.emit.ensures.calls ∙ c.loop-emit.invariant.0,
   λ d token before w did short.
       let inv = c.loop-emit.invariant.1 d token before w did short in
@@ -26,13 +26,13 @@ loop-emit-preserved c = (
 )
 
 pub returns-clause-done : goal.returns-clause-done
-returns-clause-done c d token before w did short =
+returns-clause-done g c d token before w did short =
     let inv = c.loop-emit.invariant.1 d token before w did short in
     subst (λ (x : World). Did d token before c.loop-emit.self c.loop-emit.out x)
     (sym (no_emit c.args.at c.loop-emit.emit-index c.args.emits.now inv.0 (omega (arith, c.loop-emit-test.false))) ∙ inv.3) inv.2
 
 pub returns-in_err-emit-clause-calls : goal.returns-in_err-emit-clause-calls
-returns-in_err-emit-clause-calls c = c.emit.ensures.calls ∙ c.loop-emit.invariant.0
+returns-in_err-emit-clause-calls g c = c.emit.ensures.calls ∙ c.loop-emit.invariant.0
 
 pub returns-clause-calls : goal.returns-clause-calls
-returns-clause-calls c = c.loop-emit.invariant.0
+returns-clause-calls g c = c.loop-emit.invariant.0

@@ -8,12 +8,12 @@ use Rattle.mmtel_server.proofs.servers.Server.finish.Goals as goal
 use Rattle.mmtel_server.specs.Follows.{brought_in, desk_at_end}
 
 pub returns-in_err-emits-clause-err : goal.returns-in_err-emits-clause-err
-returns-in_err-emits-clause-err c =
+returns-in_err-emits-clause-err g c =
     on_err c.from_residual.result _
     (stops (λ d token. finishing d token c.args.at c.args.call) c.args.self.now c.args.out.now c.args.out.now (λ d token w. finishes c.numbers_are_drawn_on.ensures d token c.args.at c.args.call w) refl)
 
 pub returns-clause-done : goal.returns-clause-done
-returns-clause-done c =
+returns-clause-done g c =
     let at = c.args.at in
     let call = c.args.call in
     on_ok_weaker c.emit_all-done.result
@@ -22,7 +22,7 @@ returns-clause-done c =
     c.emit_all-done.ensures.done
 
 pub returns-clause-err : goal.returns-clause-err
-returns-clause-err c =
+returns-clause-err g c =
     let at = c.args.at in
     let call = c.args.call in
     on_err_weaker c.emit_all-done.result

@@ -11,21 +11,21 @@ use Rattle.mmtel_server.specs.Follows.{Breaks, Follows}
 use Rattle.mmtel_server_decisions.specs.declared.armed.Armed.{Armed}
 
 pub returns-in-OfMessage-clause-done : goal.returns-in-OfMessage-clause-done
-returns-in-OfMessage-clause-done c = on_ok_weaker c.fire_message.result (λ follows first is chosen.
+returns-in-OfMessage-clause-done g c = on_ok_weaker c.fire_message.result (λ follows first is chosen.
     let s = c.args.self.now in
     subst (λ (x : Deadline). Follows s c.args.out.now c.fire_message.new.self c.fire_message.new.out (λ d token. fired d token c.args.now x)) (of_message first (is ∙ c.in-OfMessage.is))
     (followed (λ d token. begun) (λ d token. fired_in d token c.args.now) s c.begin.new.self c.fire_message.new.self c.args.out.now c.args.out.now c.fire_message.new.out
     (λ d token w. fires_in d token c.numbers_are_drawn_on.ensures c.args.now w) (c.begin.ensures.done c.args.out.now) follows)) c.fire_message.ensures.done
 
 pub returns-in-OfMessage-clause-err : goal.returns-in-OfMessage-clause-err
-returns-in-OfMessage-clause-err c = on_err_weaker c.fire_message.result (λ breaks first is chosen.
+returns-in-OfMessage-clause-err g c = on_err_weaker c.fire_message.result (λ breaks first is chosen.
     let s = c.args.self.now in
     subst (λ (x : Deadline). Breaks s c.args.out.now c.fire_message.new.out (λ d token. fired d token c.args.now x)) (of_message first (is ∙ c.in-OfMessage.is))
     (broken (λ d token. begun) (λ d token. fired_in d token c.args.now) s c.begin.new.self c.args.out.now c.args.out.now c.fire_message.new.out
     (λ d token w. begins w) (λ d token w. fires_in d token c.numbers_are_drawn_on.ensures c.args.now w) (c.begin.ensures.done c.args.out.now) breaks)) c.fire_message.ensures.err
 
 pub returns-in-OfAlarm-clause-done : goal.returns-in-OfAlarm-clause-done
-returns-in-OfAlarm-clause-done c = on_ok_weaker c.strike.result (λ follows first is chosen.
+returns-in-OfAlarm-clause-done g c = on_ok_weaker c.strike.result (λ follows first is chosen.
     let s = c.args.self.now in
     let law = c.numbers_are_drawn_on.ensures in
     let call = of_alarm first (first_armed c.args.now (queue_of s.armed)) (is ∙ c.in-OfAlarm.is) chosen in
@@ -36,7 +36,7 @@ returns-in-OfAlarm-clause-done c = on_ok_weaker c.strike.result (λ follows firs
     (follows call.0 there))) c.strike.ensures.done
 
 pub returns-in-OfAlarm-clause-err : goal.returns-in-OfAlarm-clause-err
-returns-in-OfAlarm-clause-err c = on_err_weaker c.strike.result (λ breaks first is chosen.
+returns-in-OfAlarm-clause-err g c = on_err_weaker c.strike.result (λ breaks first is chosen.
     let s = c.args.self.now in
     let law = c.numbers_are_drawn_on.ensures in
     let call = of_alarm first (first_armed c.args.now (queue_of s.armed)) (is ∙ c.in-OfAlarm.is) chosen in

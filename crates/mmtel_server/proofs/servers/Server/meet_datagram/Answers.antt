@@ -8,16 +8,16 @@ use Rattle.mmtel_server.proofs.Runs.{told_breaks, told_follows}
 use Rattle.mmtel_server.proofs.servers.Server.meet_datagram.Goals as goal
 
 pub returns-in_err-told-clause-err : goal.returns-in_err-told-clause-err
-returns-in_err-told-clause-err c = on_err c.from_residual.result _
+returns-in_err-told-clause-err g c = on_err c.from_residual.result _
     (stops (λ d token. met d token c.args.at (digest_datagram d c.args.from c.args.bytes.now)) c.args.self.now c.args.out.now c.args.out.now
     (λ d token w. met_grows c.numbers_are_drawn_on.ensures d token c.args.at (digest_datagram d c.args.from c.args.bytes.now) w) refl)
 
 pub returns-clause-done : goal.returns-clause-done
-returns-clause-done c = on_ok_weaker c.meet.result
+returns-clause-done g c = on_ok_weaker c.meet.result
     (told_follows c.args.self.now (digest_in c.in_ok-told.told) (λ d. digest_datagram d c.args.from c.args.bytes.now) c.in_ok-told.ensures.told c.args.out.now c.meet.new.self c.meet.new.out c.args.at)
     c.meet.ensures.done
 
 pub returns-clause-err : goal.returns-clause-err
-returns-clause-err c = on_err_weaker c.meet.result
+returns-clause-err g c = on_err_weaker c.meet.result
     (told_breaks c.args.self.now (digest_in c.in_ok-told.told) (λ d. digest_datagram d c.args.from c.args.bytes.now) c.in_ok-told.ensures.told c.args.out.now c.meet.new.out c.args.at)
     c.meet.ensures.err

@@ -7,16 +7,16 @@ use Rattle.mmtel_server.proofs.Seating.{housed_breaks, housed_follows}
 use Rattle.mmtel_server.proofs.servers.Server.notice.Goals as goal
 
 pub returns-in_err-emits-clause-err : goal.returns-in_err-emits-clause-err
-returns-in_err-emits-clause-err c = on_err c.from_residual.result _
+returns-in_err-emits-clause-err g c = on_err c.from_residual.result _
     (stops (λ d token. noticed d token c.args.at c.args.room c.args.seat c.args.code) c.args.self.now c.args.out.now c.args.out.now
     (λ d token w. notices c.numbers_are_drawn_on.ensures d token c.args.at c.args.room c.args.seat c.args.code w) refl)
 
 pub returns-clause-done : goal.returns-clause-done
-returns-clause-done c = on_ok_weaker c.emit_all-done.result (λ follows.
+returns-clause-done g c = on_ok_weaker c.emit_all-done.result (λ follows.
     housed_follows (λ d token w. Notifies c.args.room.0 c.args.seat c.args.code (tokens_now token w)) c.args.self.now c.tell_seat.new.self c.in_ok-emits.emits c.items.result.now c.args.at c.args.out.now c.emit_all-done.new.out
     c.items.ensures c.in_ok-emits.ensures c.emit_all-done.new.self follows) c.emit_all-done.ensures.done
 
 pub returns-clause-err : goal.returns-clause-err
-returns-clause-err c = on_err_weaker c.emit_all-done.result (λ breaks.
+returns-clause-err g c = on_err_weaker c.emit_all-done.result (λ breaks.
     housed_breaks (λ d token w. Notifies c.args.room.0 c.args.seat c.args.code (tokens_now token w)) c.args.self.now c.tell_seat.new.self c.in_ok-emits.emits c.items.result.now c.args.at c.args.out.now c.emit_all-done.new.out
     c.items.ensures c.in_ok-emits.ensures breaks) c.emit_all-done.ensures.err

@@ -9,7 +9,7 @@ use Rattle.mmtel_server.proofs.servers.Server.register.Goals as goal
 use Rattle.mmtel_server.specs.Follows.{Follows}
 
 pub returns-clause-done : goal.returns-clause-done
-returns-clause-done c =
+returns-clause-done g c =
     let f : Directory → List ℕ → World → World = λ d token. replying d token c.args.at c.args.key c.args.request.now (plainly 200) in
     let replied = subst (λ (x : Answer). OnOk c.replying.result (Follows (record c.args.self.now { records = c.register.new.self }) c.args.out.now c.replying.new.self c.replying.new.out
     (λ d token. replying d token c.args.at c.args.key c.args.request.now x))) c.plainly.ensures.answer c.replying.ensures.done in

@@ -11,7 +11,7 @@ use Rattle.mmtel_server.proofs.servers.Server.replace_side.Goals as goal
 use Rattle.mmtel_server.specs.Follows.{Breaks, Follows}
 
 pub returns-then-is_with-clause-done : goal.returns-then-is_with-clause-done
-returns-then-is_with-clause-done c = on_ok_weaker c.take_out.result (λ holds.
+returns-then-is_with-clause-done g c = on_ok_weaker c.take_out.result (λ holds.
     let P = Follows c.args.self.now c.args.out.now c.take_out.new.self c.take_out.new.out in
     side_so c.args.self.now P (follows_reads c.args.self.now c.args.out.now c.take_out.new.self c.take_out.new.out) c.args.at c.args.room c.args.seat c.args.peer c.args.call c.args.side c.party.result c.is_with.result
     c.is_with.ensures (asked c.args.self.now c.party.result (party c.args.call.0 c.args.side) c.party.ensures)
@@ -20,7 +20,7 @@ returns-then-is_with-clause-done c = on_ok_weaker c.take_out.result (λ holds.
     c.take_out.ensures.done
 
 pub returns-then-is_with-clause-err : goal.returns-then-is_with-clause-err
-returns-then-is_with-clause-err c = on_err_weaker c.take_out.result (λ holds.
+returns-then-is_with-clause-err g c = on_err_weaker c.take_out.result (λ holds.
     let P = Breaks c.args.self.now c.args.out.now c.take_out.new.out in
     side_so c.args.self.now P (breaks_reads c.args.self.now c.args.out.now c.take_out.new.out) c.args.at c.args.room c.args.seat c.args.peer c.args.call c.args.side c.party.result c.is_with.result
     c.is_with.ensures (asked c.args.self.now c.party.result (party c.args.call.0 c.args.side) c.party.ensures)
@@ -29,7 +29,7 @@ returns-then-is_with-clause-err c = on_err_weaker c.take_out.result (λ holds.
     c.take_out.ensures.err
 
 pub returns-else-is_with-clause-done : goal.returns-else-is_with-clause-done
-returns-else-is_with-clause-done c = on_ok_weaker c.notice.result (λ holds.
+returns-else-is_with-clause-done g c = on_ok_weaker c.notice.result (λ holds.
     let P = Follows c.args.self.now c.args.out.now c.notice.new.self c.notice.new.out in
     side_so c.args.self.now P (follows_reads c.args.self.now c.args.out.now c.notice.new.self c.notice.new.out) c.args.at c.args.room c.args.seat c.args.peer c.args.call c.args.side c.party.result c.is_with.result
     c.is_with.ensures (asked c.args.self.now c.party.result (party c.args.call.0 c.args.side) c.party.ensures)
@@ -38,7 +38,7 @@ returns-else-is_with-clause-done c = on_ok_weaker c.notice.result (λ holds.
     c.notice.ensures.done
 
 pub returns-else-is_with-clause-err : goal.returns-else-is_with-clause-err
-returns-else-is_with-clause-err c = on_err_weaker c.notice.result (λ holds.
+returns-else-is_with-clause-err g c = on_err_weaker c.notice.result (λ holds.
     let P = Breaks c.args.self.now c.args.out.now c.notice.new.out in
     side_so c.args.self.now P (breaks_reads c.args.self.now c.args.out.now c.notice.new.out) c.args.at c.args.room c.args.seat c.args.peer c.args.call c.args.side c.party.result c.is_with.result
     c.is_with.ensures (asked c.args.self.now c.party.result (party c.args.call.0 c.args.side) c.party.ensures)

@@ -10,7 +10,7 @@ use Rattle.mmtel_server.proofs.Deeds.{tagged_one}
 use Rattle.mmtel_server.proofs.servers.Server.replying.Goals as goal
 
 pub returns-clause-done : goal.returns-clause-done
-returns-clause-done c =
+returns-clause-done g c =
     let m = c.args.request.now in
     let a = answer_in c.args.answer.now in
     on_ok_weaker c.reply-done.result (tagged_one (λ d tag. emit.Reply c.args.key (response_to d.sip tag m a))

@@ -14,7 +14,7 @@ use Rattle.mmtel_server.proofs.servers.Server.settle.Goals as goal
 use Rattle.mmtel_server.specs.Stands.{Did}
 
 pub returns-in-None-clause-done : goal.returns-in-None-clause-done
-returns-in-None-clause-done c fuel d token before w did e s =
+returns-in-None-clause-done g c fuel d token before w did e s =
     let so_far = c.loop-i.invariant fuel d token before w did e s in
     let v : World = settled d token c.loop-i.i c.args.now w in
     let stands = so_far.0.stands in
@@ -23,7 +23,7 @@ returns-in-None-clause-done c fuel d token before w did e s =
     subst (λ (x : World). Did d token before c.loop-i.self c.loop-i.out x) (enough_same d token c.loop-i.i fuel c.args.now w none e) so_far.0
 
 pub loop-i-preserved : goal.loop-i-preserved
-loop-i-preserved c fuel d token before w did e s =
+loop-i-preserved g c fuel d token before w did e s =
     let law = c.numbers_are_drawn_on.ensures in
     let now = c.args.now in
     let i = c.loop-i.i in
@@ -40,7 +40,7 @@ loop-i-preserved c fuel d token before w did e s =
     )
 
 pub returns-in_err-fire-in-Some-clause-err : goal.returns-in_err-fire-in-Some-clause-err
-returns-in_err-fire-in-Some-clause-err c = on_err c.from_residual.result _ (λ fuel d token before w did e s.
+returns-in_err-fire-in-Some-clause-err g c = on_err c.from_residual.result _ (λ fuel d token before w did e s.
     let law = c.numbers_are_drawn_on.ensures in
     let now = c.args.now in
     let i = c.loop-i.i in
@@ -59,6 +59,6 @@ returns-in_err-fire-in-Some-clause-err c = on_err c.from_residual.result _ (λ f
     ))
 
 pub returns-clause-done : goal.returns-clause-done
-returns-clause-done c fuel d token before w did e s =
+returns-clause-done g c fuel d token before w did e s =
     let so_far = c.loop-i.invariant fuel d token before w did e s in
     absurd (omega (arith, c.loop-i-test.false, so_far.1, s.steps, (never_longer d token c.numbers_are_drawn_on.ensures c.loop-i.i fuel c.args.now w e).steps))

@@ -9,6 +9,6 @@ use Rattle.mmtel_server.proofs.servers.Server.settle.Given as goal
 
 -- so many deadlines fired
 abbrev pub invariant-loop-i : goal.invariant-loop-i
-invariant-loop-i l =
+invariant-loop-i g l =
     (fuel : ℕ) (d : Directory) (token : List ℕ) (before : List Offer) (w : World) → Did d token before l.fn.self l.fn.out w → IsSettled d token fuel l.now w → IsShort (settled d token fuel l.now w) →
     Did d token before l.self l.out (settled d token l.i l.now w) × ((settled d token l.i l.now w).steps ≡ w.steps + l.i)

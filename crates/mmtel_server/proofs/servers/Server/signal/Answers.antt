@@ -5,4 +5,4 @@ use Rattle.mmtel_b2bua.specs.Tables.{most_calls}
 use Rattle.mmtel_server.proofs.servers.Server.signal.Goals as goal
 
 pub bring-requires : goal.bring-requires
-bring-requires c = ap (λ (b : Bool). if b then nat_le most_calls (count_by is_live c.args.self.now.calls.table.entries) else false) c.requires
+bring-requires g c = ap (λ (b : Bool). if b then nat_le most_calls (count_by is_live c.args.self.now.calls.table.entries) else false) c.requires

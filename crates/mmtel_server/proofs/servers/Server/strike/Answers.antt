@@ -11,11 +11,11 @@ use Rattle.mmtel_server.specs.Follows.{Breaks, Follows}
 use Rattle.mmtel_server.specs.declared.servers.Server.{Server}
 
 pub returns-in-None-clause-done : goal.returns-in-None-clause-done
-returns-in-None-clause-done c first is =
+returns-in-None-clause-done g c first is =
     absurd (none-some first (c.in-None.ensures.first ∙ (ap (λ (n : ℕ). first_armed n (queue_of c.args.self.now.armed)) c.ms.ensures.number ∙ is)))
 
 pub returns-in-Some-clause-done : goal.returns-in-Some-clause-done
-returns-in-Some-clause-done c = on_ok_weaker c.sound.result (λ follows first is.
+returns-in-Some-clause-done g c = on_ok_weaker c.sound.result (λ follows first is.
     let s = c.args.self.now in
     let rest = c.take.new.self in
     let armed = c.in-Some.armed in
@@ -30,7 +30,7 @@ returns-in-Some-clause-done c = on_ok_weaker c.sound.result (λ follows first is
     (subst (λ (n : ℕ). Follows mid c.args.out.now c.sound.new.self c.sound.new.out (λ d token. alarmed d token n due)) at follows))) c.sound.ensures.done
 
 pub returns-in-Some-clause-err : goal.returns-in-Some-clause-err
-returns-in-Some-clause-err c = on_err_weaker c.sound.result (λ breaks first is.
+returns-in-Some-clause-err g c = on_err_weaker c.sound.result (λ breaks first is.
     let s = c.args.self.now in
     let rest = c.take.new.self in
     let armed = c.in-Some.armed in

@@ -16,22 +16,22 @@ use Rattle.mmtel_server.proofs.Grows.{stops, takes_fresh}
 use Rattle.mmtel_server.proofs.servers.Server.take_fresh.Goals as goal
 
 pub returns-in-Err-clause-err : goal.returns-in-Err-clause-err
-returns-in-Err-clause-err c = stops (λ d token. taking_fresh d token c.args.at c.args.key c.args.request) c.args.self.now c.args.out.now c.args.out.now
+returns-in-Err-clause-err g c = stops (λ d token. taking_fresh d token c.args.at c.args.key c.args.request) c.args.self.now c.args.out.now c.args.out.now
     (λ d token w. takes_fresh c.numbers_are_drawn_on.ensures d token c.args.at c.args.key c.args.request w) refl
 
 pub returns-in-Err-course-clause-err : goal.returns-in-Err-course-clause-err
-returns-in-Err-course-clause-err c = stops (λ d token. taking_fresh d token c.args.at c.args.key c.args.request) c.args.self.now c.args.out.now c.args.out.now
+returns-in-Err-course-clause-err g c = stops (λ d token. taking_fresh d token c.args.at c.args.key c.args.request) c.args.self.now c.args.out.now c.args.out.now
     (λ d token w. takes_fresh c.numbers_are_drawn_on.ensures d token c.args.at c.args.key c.args.request w) refl
 
 pub take-requires : goal.take-requires
-take-requires c = record {
+take-requires g c = record {
   below = λ opens. sym c.is_full-full.ensures
       ∙ opened_below c.args.self.now.directory c.merged-merged.result c.is_full-full.result (option_map holder_of c.in-Ok.named) c.args.request.heard (sym c.in-Ok-course.ensures.course ∙ opens);
   audio = c.in-Ok-course.ensures.audio;
 }
 
 pub returns-clause-done : goal.returns-clause-done
-returns-clause-done c = on_ok_weaker c.take.result (λ follows.
+returns-clause-done g c = on_ok_weaker c.take.result (λ follows.
     let m = c.args.request.heard in
     let s = c.args.self.now in
     let merged : World → Bool = λ w. is_merged c.args.key.0 (live w.acts) in
@@ -46,7 +46,7 @@ returns-clause-done c = on_ok_weaker c.take.result (λ follows.
     c.take.ensures.done
 
 pub returns-clause-err : goal.returns-clause-err
-returns-clause-err c = on_err_weaker c.take.result (λ breaks.
+returns-clause-err g c = on_err_weaker c.take.result (λ breaks.
     let m = c.args.request.heard in
     let s = c.args.self.now in
     let merged : World → Bool = λ w. is_merged c.args.key.0 (live w.acts) in

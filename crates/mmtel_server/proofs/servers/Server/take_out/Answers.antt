@@ -11,7 +11,7 @@ use Rattle.mmtel_server.proofs.servers.Server.take_out.Goals as goal
 use Rattle.mmtel_server.specs.Follows.{Breaks, Follows}
 
 pub returns-in-Ok-clause-done : goal.returns-in-Ok-clause-done
-returns-in-Ok-clause-done c = on_ok_weaker c.adopt.result (λ follows.
+returns-in-Ok-clause-done g c = on_ok_weaker c.adopt.result (λ follows.
     taken_so c.args.self.now (Follows c.args.self.now c.args.out.now c.adopt.new.self c.adopt.new.out) (follows_reads c.args.self.now c.args.out.now c.adopt.new.self c.adopt.new.out) c.args.at c.args.room c.args.seat c.args.call c.args.side
     c.party.result c.account_at-account.result (Some c.in-Ok.leg) c.account_at-account.ensures (asked c.args.self.now c.party.result (party c.args.call.0 c.args.side) c.party.ensures) c.in-Ok.ensures.leg
     (follows_lent (Releases c.args.call.0 c.args.side) (λ site table. refl) c.args.self.now c.release.new.self c.release.ensures.done c.release.ensures.site
@@ -20,7 +20,7 @@ returns-in-Ok-clause-done c = on_ok_weaker c.adopt.result (λ follows.
     c.adopt.ensures.done
 
 pub returns-in-Ok-clause-err : goal.returns-in-Ok-clause-err
-returns-in-Ok-clause-err c = on_err_weaker c.adopt.result (λ breaks.
+returns-in-Ok-clause-err g c = on_err_weaker c.adopt.result (λ breaks.
     taken_so c.args.self.now (Breaks c.args.self.now c.args.out.now c.adopt.new.out) (breaks_reads c.args.self.now c.args.out.now c.adopt.new.out) c.args.at c.args.room c.args.seat c.args.call c.args.side
     c.party.result c.account_at-account.result (Some c.in-Ok.leg) c.account_at-account.ensures (asked c.args.self.now c.party.result (party c.args.call.0 c.args.side) c.party.ensures) c.in-Ok.ensures.leg
     (breaks_lent (Releases c.args.call.0 c.args.side) (λ site table. refl) c.args.self.now c.release.new.self c.release.ensures.done c.release.ensures.site
@@ -29,7 +29,7 @@ returns-in-Ok-clause-err c = on_err_weaker c.adopt.result (λ breaks.
     c.adopt.ensures.err
 
 pub returns-in-Err-clause-done : goal.returns-in-Err-clause-done
-returns-in-Err-clause-done c = on_ok_weaker c.notice.result (λ follows.
+returns-in-Err-clause-done g c = on_ok_weaker c.notice.result (λ follows.
     taken_so c.args.self.now (Follows c.args.self.now c.args.out.now c.notice.new.self c.notice.new.out) (follows_reads c.args.self.now c.args.out.now c.notice.new.self c.notice.new.out) c.args.at c.args.room c.args.seat c.args.call c.args.side
     c.party.result c.account_at-account.result None c.account_at-account.ensures (asked c.args.self.now c.party.result (party c.args.call.0 c.args.side) c.party.ensures) c.in-Err.ensures.leg
     (follows_unlent c.args.call.0 c.args.side c.args.self.now c.release.new.self c.in-Err.ensures.leg c.release.ensures.done c.release.ensures.site
@@ -37,7 +37,7 @@ returns-in-Err-clause-done c = on_ok_weaker c.notice.result (λ follows.
     c.notice.ensures.done
 
 pub returns-in-Err-clause-err : goal.returns-in-Err-clause-err
-returns-in-Err-clause-err c = on_err_weaker c.notice.result (λ breaks.
+returns-in-Err-clause-err g c = on_err_weaker c.notice.result (λ breaks.
     taken_so c.args.self.now (Breaks c.args.self.now c.args.out.now c.notice.new.out) (breaks_reads c.args.self.now c.args.out.now c.notice.new.out) c.args.at c.args.room c.args.seat c.args.call c.args.side
     c.party.result c.account_at-account.result None c.account_at-account.ensures (asked c.args.self.now c.party.result (party c.args.call.0 c.args.side) c.party.ensures) c.in-Err.ensures.leg
     (breaks_unlent c.args.call.0 c.args.side c.args.self.now c.release.new.self c.in-Err.ensures.leg c.release.ensures.done c.release.ensures.site

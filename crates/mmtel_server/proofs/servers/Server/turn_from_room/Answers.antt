@@ -10,7 +10,7 @@ use Rattle.mmtel_server.proofs.Asked.{follows_so}
 use Rattle.mmtel_server.proofs.servers.Server.turn_from_room.Goals as goal
 
 pub returns-clause-done : goal.returns-clause-done
-returns-clause-done c = on_ok_weaker c.reply-done.result (λ follows.
+returns-clause-done g c = on_ok_weaker c.reply-done.result (λ follows.
     let s = c.args.self.now in
     let said = c.args.invite.now in
     follows_so c.in_ok-response.response (λ d w. response_to d.sip c.args.tag.now said (plainly c.args.code)) (λ (m : Message Start) d token. emit_one c.args.at (emit.Reply c.args.key m)) s c.args.out.now

@@ -8,9 +8,11 @@ use crate::armed::{Armed, rank};
 use crate::foremost::{due_by, foremost};
 use crate::ranks::Ranks;
 use mmtel_scan::NoMemory;
+use mmtel_timers::Steps;
 use std::alloc::Global;
 use std::collections::BTreeMap;
 use std::marker::Model;
+use std::sync::ledger::Ledger;
 
 /// The deadlines that did not fire, which contracts see in the order in which they were armed.
 #[derive(Drop)]
@@ -49,14 +51,15 @@ impl Alarms {
         }
     }
 
-    /// Arms a deadline, behind the others.
+    /// Arms a deadline, behind the others, without a step.
     ///
     /// # Errors
     ///
     /// Want of memory alone, or that of numbers: 2^64 - 1 are armed in all, and steps do not fall from one that is armed to the next. The deadlines are then as before.
-    pub fn arm(&mut self, armed: Armed) -> Result<(), NoMemory>
+    pub fn arm<L: Ledger>(&mut self, armed: Armed, steps: &mut Steps<L>) -> Result<(), NoMemory>
         ensures ok { OnOk result (self.new ≡ self.old ++ armed ∷ []) }
         ensures err { OnErr result (self.new ≡ self.old) }
+        ensures cost { steps.new ≡ steps.old }
     {
         let number = self.next;
         if number == u64::MAX {
@@ -71,7 +74,7 @@ impl Alarms {
         }
         match self
             .ranks
-            .arm(self.alloc, rank(armed.alarm), armed.at, number)
+            .arm(self.alloc, rank(armed.alarm), armed.at, number, steps)
         {
             Ok(()) => {}
             Err(NoMemory) => {
@@ -94,15 +97,16 @@ impl Alarms {
         }
     }
 
-    /// Takes that one out; the others stand as they stood.
-    pub fn take(&mut self, now: u64) -> Option<Armed>
+    /// Takes that one out, without a step; the others stand as they stood.
+    pub fn take<L: Ledger>(&mut self, now: u64, steps: &mut Steps<L>) -> Option<Armed>
         ensures first { chosen_of result (queue_of self.new) ≡ first_armed now (queue_of self.old) }
         ensures none { IfNone result (self.new ≡ self.old) }
+        ensures cost { steps.new ≡ steps.old }
     {
         match due_by(foremost(&self.ranks, &self.armed), now) {
             None => None,
             Some((number, armed)) => {
-                self.ranks.disarm(number);
+                self.ranks.disarm(number, steps);
                 self.armed.remove(&number);
                 Some(armed)
             }

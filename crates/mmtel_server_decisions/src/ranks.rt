@@ -3,8 +3,9 @@ ghost use Rattle.std.specs.Prelude.{◌≡◌, [], OnErr, OnOk};
 ghost use Rattle.mmtel_timers.specs.Deadlines.{armed_last, without};
 ghost use Rattle.mmtel_server_decisions.specs.Queue.{in_rank, in_ranks, key_of};
 
-use mmtel_timers::{Deadlines, Key, NoMemory};
+use mmtel_timers::{Deadlines, Key, NoMemory, Steps};
 use std::alloc::Global;
+use std::sync::ledger::Ledger;
 
 /// The moments of each rank, by the numbers of those that are armed.
 #[derive(Drop)]
@@ -29,28 +30,37 @@ impl Ranks {
         }
     }
 
-    /// Arms a number of a rank, behind the others.
+    /// Arms a number of a rank, behind the others, without a step.
     ///
     /// # Errors
     ///
     /// Want of memory alone; all is then as before.
-    pub fn arm(&mut self, alloc: Global, rank: u64, at: u64, number: u64) -> Result<(), NoMemory>
+    pub fn arm<L: Ledger>(
+        &mut self,
+        alloc: Global,
+        rank: u64,
+        at: u64,
+        number: u64,
+        steps: &mut Steps<L>,
+    ) -> Result<(), NoMemory>
         ensures ok { OnOk result (self.new ≡ in_rank rank (armed_last at (key_of number)) self.old) }
         ensures err { OnErr result (self.new ≡ self.old) }
+        ensures cost { steps.new ≡ steps.old }
     {
         match rank {
-            0 => self.no_replies.arm(alloc, at, Key(number)),
-            1 => self.caps.arm(alloc, at, Key(number)),
-            _ => self.no_acks.arm(alloc, at, Key(number)),
+            0 => self.no_replies.arm(alloc, at, Key(number), steps),
+            1 => self.caps.arm(alloc, at, Key(number), steps),
+            _ => self.no_acks.arm(alloc, at, Key(number), steps),
         }
     }
 
-    /// Disarms a number, of whatever rank it is.
-    pub fn disarm(&mut self, number: u64)
-        ensures { self.new ≡ in_ranks (without (key_of number)) self.old }
+    /// Disarms a number, of whatever rank it is, without a step.
+    pub fn disarm<L: Ledger>(&mut self, number: u64, steps: &mut Steps<L>)
+        ensures rest { self.new ≡ in_ranks (without (key_of number)) self.old }
+        ensures cost { steps.new ≡ steps.old }
     {
-        self.no_replies.disarm(Key(number));
-        self.caps.disarm(Key(number));
-        self.no_acks.disarm(Key(number));
+        self.no_replies.disarm(Key(number), steps);
+        self.caps.disarm(Key(number), steps);
+        self.no_acks.disarm(Key(number), steps);
     }
 }

@@ -150,7 +150,8 @@ module _ (turn : Turn) (key : Key) where
   all_more P [] early one all = (one, tt)
   all_more P (x ∷ xs) early one all = by_order (all_more P xs early.1 one all.1) (turn_cmp turn x.0) refl
     where
-      by_order : AllByRecursion P (insert_entry turn_cmp xs turn key) → (o : Ordering) → turn_cmp turn x.0 ≡ o → AllByRecursion P (match_ordering o ((turn, key) ∷ x ∷ xs) ((x.0, key) ∷ xs) (x ∷ insert_entry turn_cmp xs turn key))
+      by_order : AllByRecursion P (insert_entry turn_cmp xs turn key) → (o : Ordering) → turn_cmp turn x.0 ≡ o
+          → AllByRecursion P (match_ordering o ((turn, key) ∷ x ∷ xs) ((x.0, key) ∷ xs) (x ∷ insert_entry turn_cmp xs turn key))
       by_order later Less e = (one, all)
       by_order later Equal e = absurd (not_same x early.0 e)
       by_order later Greater e = (all.0, later)

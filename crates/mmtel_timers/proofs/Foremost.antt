@@ -85,12 +85,20 @@ next_is_first now (first ∷ rest) = by_rest (soonest rest) (nat_le first.0 now)
         → soonest (cond b (first ∷ due now rest) (due now rest)) ≡ within now (Some (cond d later first))
     both later true true true e f g h =
         ap (λ (o : Option Deadline). Some (sooner first o)) h ∙ (ap (λ (t : Bool). Some (cond t later first)) g ∙ ap (λ (t : Bool). cond t (Some later) None) (sym f))
-    both later true false true e f g h = absurd (let l : later.0 < first.0 = grind (arith, nat_tests, g) in let m : first.0 ≤ now = grind (arith, nat_tests, e) in let n : now < later.0 = grind (arith, nat_tests, f) in omega (arith, l, m, n))
+    both later true false true e f g h =
+        let l : later.0 < first.0 = grind (arith, nat_tests, g) in
+        let m : first.0 ≤ now = grind (arith, nat_tests, e) in
+        let n : now < later.0 = grind (arith, nat_tests, f) in
+        absurd (omega (arith, l, m, n))
     both later false c true e f g h = h ∙ ap (λ (t : Bool). cond t (Some later) None) (sym f)
     both later true true false e f g h =
         ap (λ (o : Option Deadline). Some (sooner first o)) h ∙ (ap (λ (t : Bool). Some (cond t later first)) g ∙ ap (λ (t : Bool). cond t (Some first) None) (sym e))
     both later true false false e f g h = ap (λ (o : Option Deadline). Some (sooner first o)) h ∙ ap (λ (t : Bool). cond t (Some first) None) (sym e)
-    both later false true false e f g h = absurd (let l : first.0 ≤ later.0 = grind (arith, nat_tests, g) in let m : now < first.0 = grind (arith, nat_tests, e) in let n : later.0 ≤ now = grind (arith, nat_tests, f) in omega (arith, l, m, n))
+    both later false true false e f g h =
+        let l : first.0 ≤ later.0 = grind (arith, nat_tests, g) in
+        let m : now < first.0 = grind (arith, nat_tests, e) in
+        let n : later.0 ≤ now = grind (arith, nat_tests, f) in
+        absurd (omega (arith, l, m, n))
     both later false false false e f g h = h ∙ ap (λ (t : Bool). cond t (Some first) None) (sym e)
 
     by_rest : (o : Option Deadline) (b : Bool) → nat_le first.0 now ≡ b → next_due now rest ≡ within now o → soonest (cond b (first ∷ due now rest) (due now rest)) ≡ within now (Some (sooner first o))

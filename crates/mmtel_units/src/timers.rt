@@ -19,37 +19,35 @@ fn tell_deadline(told: &mut Told, deadline: Option<(u64, Key)>) {
             told.add_spaced_number(key.0);
         }
     }
+    told.add(b"\n");
 }
 
-/// The deadlines that the rows so far have left.
+/// The deadlines that the rows so far have left, and the counter of looks beside them.
 #[derive(Drop)]
-struct Armed {
+struct Armed<L: Ledger> {
     deadlines: Deadlines,
+    steps: Steps<L>,
 }
 
 fn number(digits: &[u8]) -> u64 {
     number_up_to(u64::MAX, digits).unwrap_or(0)
 }
 
-impl Armed {
+impl<L: Ledger> Armed<L> {
     fn arm(&mut self, told: &mut Told, deadline: &[u8]) {
         let (at, key) = cut(b' ', deadline);
-        if self
+        let armed = self
             .deadlines
-            .arm(told.alloc, number(at), Key(number(key)))
-            .is_err()
-        {
-            told.fail();
-        }
+            .arm(told.alloc, number(at), Key(number(key)), &mut self.steps);
+        told.keep(armed.is_ok());
     }
 
-    fn due_at(&self, now: u64) -> Option<(u64, Key)> {
-        self.deadlines.next_due(Moment::new(now)?)
+    fn disarm(&mut self, key: &[u8]) {
+        self.deadlines.disarm(Key(number(key)), &mut self.steps);
     }
 
-    fn look_up(&self, told: &mut Told, now: u64) {
-        tell_deadline(told, self.due_at(now));
-        told.add(b"\n");
+    fn due_at(&mut self, now: u64) -> Option<(u64, Key)> {
+        self.deadlines.next_due(Moment::new(now)?, &mut self.steps)
     }
 }
 
@@ -63,14 +61,15 @@ fn add_moments(told: &mut Told, schedule: Schedule) {
     told.add(b"\n");
 }
 
-/// `+` with a moment and a key arms the key, `-` with a key disarms it. `?` with a moment tells the moment and the key that are due then, or `-`. `I` and `O` tell the
-/// schedules of an INVITE and of other messages.
-impl Rows for Armed {
+/// `+` with a moment and a key arms the key, `-` with a key disarms it. `?` with a moment tells the moment and the key that are due then, or `-`; `^` tells the first of all.
+/// `I` and `O` tell the schedules of an INVITE and of other messages.
+impl<L: Ledger> Rows for Armed<L> {
     fn tell(&mut self, told: &mut Told, asked: &[u8]) {
         match asked {
             [b'+', deadline @ ..] => self.arm(told, deadline),
-            [b'-', key @ ..] => self.deadlines.disarm(Key(number(key))),
-            [b'?', now @ ..] => self.look_up(told, number(now)),
+            [b'-', key @ ..] => self.disarm(key),
+            [b'?', now @ ..] => tell_deadline(told, self.due_at(number(now))),
+            [b'^'] => tell_deadline(told, self.deadlines.first()),
             [b'I'] => add_moments(told, Schedule::Invite),
             _ => add_moments(told, Schedule::Other),
         }
@@ -158,52 +157,61 @@ const STEPS: &[u8] = b"> ?250000000000000
  500 1500 3500 7500 11500 15500 19500 23500 27500 31500
 ";
 
-#[test]
-fn deadlines_and_schedules(rt: HostRuntime) {
-    let mut armed = Armed {
-        deadlines: Deadlines::new(),
-    };
-    assert_right(&rt, "STEPS", wrong_line(rt.alloc(), &mut armed, STEPS));
-}
+/// The first of all, whether or not it is due, and what is due at 7: after each of what is armed, and after a disarming.
+const FIRST: &[u8] = b"> ^
+-
+> ?7
+-
+> +9 1
+> ^
+ 9 1
+> ?7
+-
+> +5 2
+> ^
+ 5 2
+> ?7
+ 5 2
+> +8 3
+> ^
+ 5 2
+> ?7
+ 5 2
+> +8 2
+> ^
+ 8 3
+> ?7
+-
+> -3
+> ^
+ 8 2
+> ?7
+-
+";
 
-/// Tells the first deadline of all, and the one that is due beside a counter.
-fn tell_first<L: Ledger>(told: &mut Told, deadlines: &Deadlines, steps: &mut Steps<L>) {
-    tell_deadline(told, deadlines.first());
-    told.add(b"/");
-    if let Some(now) = Moment::new(7) {
-        tell_deadline(told, deadlines.next_due_counted(now, steps));
-    }
-    told.add(b"\n");
-}
-
-/// Arms and disarms beside a counter of looks; 0 where the first of all and what is due are told as they should be.
-fn wrong_counted<L: Ledger>(alloc: Global, blank: Blank) -> usize
+/// The number of the first line of the table, from 1, that is not told again; 0 where each is. Its looks are counted from nothing.
+fn wrong_counted<L: Ledger>(alloc: Global, table: &[u8], blank: Blank) -> usize
     requires name { blank.name ≡ L.name }
     requires parts { blank.parts ≡ L.parts }
     requires some { 0 < L.parts }
 {
-    let mut steps: Steps<L> = Steps::new(blank);
-    let mut told = Told::new(alloc);
-    let mut deadlines = Deadlines::new();
-    tell_first(&mut told, &deadlines, &mut steps);
-    for (at, key) in [(9, 1), (5, 2), (8, 3), (8, 2)] {
-        let armed = deadlines.arm_counted(alloc, at, Key(key), &mut steps);
-        told.keep(armed.is_ok());
-        tell_first(&mut told, &deadlines, &mut steps);
-    }
-    deadlines.disarm_counted(Key(3), &mut steps);
-    tell_first(&mut told, &deadlines, &mut steps);
-    told.wrong_line(b"-/-\n 9 1/-\n 5 2/ 5 2\n 5 2/ 5 2\n 8 3/-\n 8 2/-\n")
+    let steps: Steps<L> = Steps::new(blank);
+    let mut armed = Armed {
+        deadlines: Deadlines::new(),
+        steps,
+    };
+    wrong_line(alloc, &mut armed, table)
 }
 
 /// The same with a counter of its own.
-fn wrong_deadlines(alloc: Global) -> usize {
-    wrong_counted::<Brand>(alloc, Blank::new(1))
+fn wrong_deadlines(alloc: Global, table: &[u8]) -> usize {
+    wrong_counted::<Brand>(alloc, table, Blank::new(1))
 }
 
 #[test]
-fn deadlines_beside_a_counter(rt: HostRuntime) {
-    assert_right(&rt, "counted", wrong_deadlines(rt.alloc()));
+fn deadlines_and_schedules(rt: HostRuntime) {
+    assert_right(&rt, "STEPS", wrong_deadlines(rt.alloc(), STEPS));
+    assert_right(&rt, "FIRST", wrong_deadlines(rt.alloc(), FIRST));
 }
 
 /// Puts an item before the one at a place, or at the end.

@@ -1,9 +1,9 @@
 -- What a request asks to keep rests on no text that there is, and what is put in force is what its text says.
-use Rattle.std.proofs.Common.{◌≡◌, ◌∙◌, Bool, true, false, ℕ, List, [], Option, Some, None, Ok, Err, cond, refl, sym, ap, subst}
+use Rattle.std.proofs.Common.{◌≡◌, ◌∙◌, Bool, true, false, ℕ, List, [], Option, Some, None, Ok, Err, cond, refl, sym, ap}
 use Rattle.mmtel_directory.specs.Directory.{is_account}
 use Rattle.mmtel_directory.specs.declared.directories.WebDirectory.{WebDirectory}
 use Rattle.mmtel_http.specs.Places.{method_of, place_of}
-use Rattle.mmtel_http.specs.Requests.{Asking, Request, asked, bad, large, unfinished}
+use Rattle.mmtel_http.specs.Requests.{Asking, asked, bad, large, unfinished}
 use Rattle.mmtel_http.specs.declared.places.Method.{Method}
 use Rattle.mmtel_http.specs.declared.places.Method.TheVariants as method
 use Rattle.mmtel_http.specs.declared.places.Place.{Place}

@@ -143,7 +143,7 @@ fn by_account(
         return bare(alloc, 404);
     }
     let identity = identity_of(alloc, asked.identity)?;
-    if may_ask(d.accounts.identities(), account, &identity) {
+    if may_ask(&d.accounts, account, &identity) {
         by_method(alloc, texts, asked, account, method)
     } else {
         bare(alloc, 403)

@@ -6,7 +6,7 @@ ghost use Rattle.mmtel_web.specs.Parties.{identity_of, quoted, is_own, may_ask, 
 use mmtel_directory::readable_uri;
 use mmtel_lex::{Uri, same_identity};
 use mmtel_scan::{NoMemory, part, skip_byte};
-use mmtel_trust::AccountIdentity;
+use mmtel_trust::{AccountIdentity, Accounts};
 use mmtel_types::Account;
 use std::alloc::Global;
 
@@ -32,21 +32,36 @@ pub fn identity_of(alloc: Global, value: Option<&[u8]>) -> Result<Option<Uri>, N
     }
 }
 
-/// Whether the URI is an identity of the account's own.
-fn is_own(identities: &[AccountIdentity], account: Account, uri: &Uri) -> bool
+/// Whether one of these is an identity of the account's own that is equal to the URI.
+fn has_own(identities: &[AccountIdentity], account: Account, uri: &Uri) -> bool
     ensures { result ≡ is_own identities.now account uri.now }
 {
     identities.iter().any(|identity| identity.account.0 == account.0
         && same_identity(&identity.uri, uri))
 }
 
+/// Whether the URI is an identity of the account's own. All of them are asked only where it is one of another account.
+fn is_own(accounts: &Accounts, account: Account, uri: &Uri) -> bool
+    ensures { result ≡ is_own accounts.now account uri.now }
+{
+    match accounts.find(uri) {
+        None => false,
+        Some(first) => {
+            if first.0 == account.0 {
+                return true;
+            }
+            has_own(accounts.identities(), account, uri)
+        }
+    }
+}
+
 /// Whether the identity was asserted, and is one of the account's own.
-pub fn may_ask(identities: &[AccountIdentity], account: Account, identity: &Option<Uri>) -> bool
-    ensures { result ≡ may_ask identities.now account identity.now }
+pub fn may_ask(accounts: &Accounts, account: Account, identity: &Option<Uri>) -> bool
+    ensures { result ≡ may_ask accounts.now account identity.now }
 {
     match identity {
         None => false,
-        Some(uri) => is_own(identities, account, uri),
+        Some(uri) => is_own(accounts, account, uri),
     }
 }
 

@@ -1,4 +1,4 @@
--- Whom the server trusts and believes (RFC 3325 §2.3, RFC 5502 §7.2), and whose identity is shown (RFC 3325 §5 and §7, RFC 3323 §4.1).
+-- Whom the server trusts and believes (RFC 3324 §2.3, RFC 5502 §7.2), and whose identity is shown (RFC 3325 §5 and §7, RFC 3323 §4.1).
 use Rattle.std.specs.Prelude.{◌==◌, ◌&&◌, ◌||◌, not, Bool, if◌then◌else◌, Option, None}
 use Rattle.mmtel_types.specs.declared.numbers.Peer.{Peer}
 use Rattle.mmtel_types.specs.declared.sides.Side.{Side}

@@ -4,7 +4,7 @@ ghost use Rattle.mmtel_decisions.specs.Trusting.{if_trusted, is_trusted, restric
 
 use mmtel_types::{Peer, Side};
 
-/// Whether a peer of the configuration is this one and is of the trust domain (RFC 3325 §2.3).
+/// Whether a peer of the configuration is this one and is of the trust domain (RFC 3324 §2.3).
 pub fn is_trusted(known: Peer, trusted: bool, peer: Peer) -> bool
     ensures exact { result ≡ is_trusted known trusted peer }
 {
@@ -39,7 +39,7 @@ pub fn restricted_in(side: Side, caller: bool, callee: bool) -> bool
     }
 }
 
-/// What a peer says of somebody, which is believed of a trusted one alone (RFC 3325 §2.3, RFC 5502 §7.2).
+/// What a peer says of somebody, which is believed of a trusted one alone (RFC 3324 §2.3, RFC 5502 §7.2).
 pub fn if_trusted<T: Drop>(trusted: bool, said: Option<T>) -> Option<T>
     ensures exact { result ≡ if_trusted trusted said }
 {

@@ -10,7 +10,7 @@ pub struct KnownPeer {
     pub peer: Peer,
     /// Where it is reached, and where its datagrams come from.
     pub addr: Addr,
-    /// Whether it is of the trust domain (RFC 3325 §2.3).
+    /// Whether it is of the trust domain (RFC 3324 §2.3).
     pub trusted: bool,
 }
 

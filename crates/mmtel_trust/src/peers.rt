@@ -312,7 +312,7 @@ impl PeerTable {
         is_there(&self.by_name, self.routes.items(), &RouteName { name })
     }
 
-    /// Adds a peer: its number, its address, and whether it is of the trust domain (RFC 3325 §2.3).
+    /// Adds a peer: its number, its address, and whether it is of the trust domain (RFC 3324 §2.3).
     ///
     /// # Errors
     ///
@@ -389,7 +389,7 @@ impl PeerTable {
         addr_of(self.peers.items(), &self.by_number, p)
     }
 
-    /// Whether the peer is of the trust domain (RFC 3325 §2.3); false where it is not in the table.
+    /// Whether the peer is of the trust domain (RFC 3324 §2.3); false where it is not in the table.
     pub fn trusted(&self, p: Peer) -> bool
         ensures exact { result ≡ is_trusted p self.now.known }
     {

@@ -1,11 +1,12 @@
 -- The values at the keys of a record: what is read of a TOML value, or that it is wrong at its key.
-use Rattle.std.specs.Prelude.{◌≡◌, ℕ, ℤ, pos, negsuc, List, [], ◌∷◌, ◌++◌, Bool, true, false, ◌&&◌, ◌||◌, not, nat_le, nat_lt, Option, Some, None, Result, Ok, Err}
-use Rattle.std.specs.Prelude.{if◌then◌else◌, codes, length}
-use Rattle.std.specs.List.{list_all}
+use Rattle.std.specs.Prelude.{◌≡◌, ℕ, ◌+◌, ◌*◌, ◌==◌, ℤ, pos, negsuc, int_le, List, [], ◌∷◌, ◌++◌, Bool, true, false, ◌&&◌, ◌||◌, not, nat_le}
+use Rattle.std.specs.Prelude.{Option, Some, None, Result, Ok, Err, if◌then◌else◌, codes, length, slice_index_or, slice_set}
+use Rattle.std.specs.List.{list_all, list_any}
 use Rattle.std.specs.Str.{bytes_eq}
-use Rattle.toml.specs.Data.{Data, Items, no_items, item, Members, as_str, as_bool, as_integer, as_array, as_table}
+use Rattle.toml.specs.Data.{Data, Items, no_items, item, as_str, as_bool, as_integer, as_array}
 use Rattle.mmtel_scan.specs.Classes.{in_class}
 use Rattle.mmtel_scan.specs.declared.classes.Class.TheVariants.{Digit, Token, Host}
+use Rattle.mmtel_scan.specs.Numbers.{number_of}
 use Rattle.mmtel_lex.specs.Reading.{uri_of, Refusal}
 use Rattle.mmtel_lex.specs.declared.values.Uri.{Uri}
 use Rattle.mmtel_lex.specs.declared.values.Uri.TheVariants.{Sip, Tel}
@@ -91,3 +92,63 @@ uris_at at d = then_do (or_wrong at (as_array d)) (λ ds. items_from (uri_at at)
 -- an array of tokens
 abbrev pub tokens_at : List ℕ → Data → Read (List (List ℕ))
 tokens_at at d = then_do (or_wrong at (as_array d)) (λ ds. items_from (token_at at) [] ds)
+
+-- ---- hours of the week
+
+-- the place of a day in the week, from Monday on
+unfoldable pub day_of : List ℕ → Option ℕ
+day_of s =
+    if bytes_eq s (codes "mon") then Some 0
+    else if bytes_eq s (codes "tue") then Some 1
+    else if bytes_eq s (codes "wed") then Some 2
+    else if bytes_eq s (codes "thu") then Some 3
+    else if bytes_eq s (codes "fri") then Some 4
+    else if bytes_eq s (codes "sat") then Some 5
+    else if bytes_eq s (codes "sun") then Some 6
+    else None
+
+abbrev pub no_days : List Bool
+no_days = false ∷ false ∷ false ∷ false ∷ false ∷ false ∷ false ∷ []
+
+-- one more day, which was not named before
+abbrev pub with_day : List Bool → ℕ → Option (List Bool)
+with_day days n = if slice_index_or days n false then None else Some (slice_set days n true)
+
+abbrev pub day_read : List ℕ → List Bool → Data → Read (List Bool)
+day_read at days d = then_do (text_at at d) (λ s. then_do (or_wrong at (day_of s)) (λ n. or_wrong at (with_day days n)))
+
+-- days beside those that were named before
+abbrev pub days_from : List ℕ → List Bool → Items → Read (List Bool)
+days_from at days no_items = Ok days
+days_from at days (item d ds) = then_do (day_read at days d) (λ more. days_from at more ds)
+
+abbrev pub has_day : List Bool → Bool
+has_day days = list_any (λ day. day) days
+
+abbrev pub some_days : List ℕ → List Bool → Read (List Bool)
+some_days at days = if has_day days then Ok days else Err (Wrong at)
+
+-- an array of one day or more, each named once
+abbrev pub days_at : List ℕ → Data → Read (List Bool)
+days_at at d = then_do (or_wrong at (as_array d)) (λ ds. then_do (days_from at no_days ds) (λ days. some_days at days))
+
+-- the minutes since the day began, of at most this many
+abbrev pub minutes_by : ℕ → Option ℕ → Option ℕ → Option ℕ
+minutes_by most None minutes = None
+minutes_by most (Some hours) None = None
+minutes_by most (Some hours) (Some minutes) = if nat_le (hours * 60 + minutes) most then Some (hours * 60 + minutes) else None
+
+-- HH:MM
+abbrev pub clock_of : ℕ → List ℕ → Option ℕ
+clock_of most (a ∷ b ∷ colon ∷ c ∷ d ∷ []) = if colon == 58 then minutes_by most (number_of 24 (a ∷ b ∷ [])) (number_of 59 (c ∷ d ∷ [])) else None
+clock_of most _ = None
+
+abbrev pub clock_at : ℕ → List ℕ → Data → Read ℕ
+clock_at most at d = then_do (text_at at d) (λ s. or_wrong at (clock_of most s))
+
+-- the minutes by which a clock is ahead of UTC
+abbrev pub is_offset : ℤ → Bool
+is_offset z = int_le (negsuc 839) z && int_le z (pos 840)
+
+abbrev pub offset_at : List ℕ → Data → Read ℤ
+offset_at at d = then_do (or_wrong at (as_integer d)) (λ z. if is_offset z then Ok z else Err (Wrong at))

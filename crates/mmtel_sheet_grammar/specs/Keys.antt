@@ -1,10 +1,13 @@
 -- The keys of a record's rules, which service lists them, and how faults name them.
-use Rattle.std.specs.Prelude.{ℕ, List, ◌++◌, ◌∷◌, Bool, true, false, Option, Some, None, if◌then◌else◌, codes, decimal}
+use Rattle.std.specs.Prelude.{ℕ, List, ◌++◌, ◌∷◌, Bool, true, false, ◌&&◌, Option, Some, None, if◌then◌else◌, codes, decimal}
 use Rattle.std.specs.Str.{bytes_eq}
 use Rattle.mmtel_sheet_values.specs.declared.values.EventWord.{EventWord}
 use Rattle.mmtel_sheet_values.specs.declared.values.EventWord.TheVariants as event
 use Rattle.mmtel_sheet_grammar.specs.declared.keys.Service.{Service}
 use Rattle.mmtel_sheet_grammar.specs.declared.keys.Service.TheVariants.{Diversion, Incoming, Outgoing}
+use Rattle.mmtel_sheet_grammar.specs.declared.keys.Version.{Version}
+use Rattle.mmtel_sheet_grammar.specs.declared.keys.Version.TheVariants as version
+use Rattle.mmtel_sheet_grammar.specs.declared.keys.Schema.{Schema}
 use Rattle.mmtel_sheet_grammar.specs.declared.keys.Notice.{Notice}
 use Rattle.mmtel_sheet_grammar.specs.declared.keys.Notice.TheVariants as notice
 use Rattle.mmtel_sheet_grammar.specs.declared.keys.RuleKey.{RuleKey}
@@ -37,6 +40,17 @@ identity_key_of k =
     else if bytes_eq k (codes "one") then Some key.One
     else None
 
+-- the keys that came with the second version
+unfoldable pub second_key_of : List ℕ → Option RuleKey
+second_key_of k =
+    if bytes_eq k (codes "communication-diverted") then Some key.Diverted
+    else if bytes_eq k (codes "day-from") then Some key.DayFrom
+    else if bytes_eq k (codes "day-until") then Some key.DayUntil
+    else if bytes_eq k (codes "days") then Some key.Days
+    else if bytes_eq k (codes "international") then Some key.International
+    else if bytes_eq k (codes "offset") then Some key.Offset
+    else None
+
 -- the other keys of a rule
 unfoldable pub other_key_of : List ℕ → Option RuleKey
 other_key_of k =
@@ -48,9 +62,9 @@ other_key_of k =
     else if bytes_eq k (codes "until") then Some key.Until
     else None
 
-abbrev pub identity_or : Option RuleKey → Option RuleKey → Option RuleKey
-identity_or None other = other
-identity_or (Some k) other = Some k
+abbrev pub key_or : Option RuleKey → Option RuleKey → Option RuleKey
+key_or None other = other
+key_or (Some k) other = Some k
 
 abbrev pub notice_or : Option Notice → Option RuleKey → Option RuleKey
 notice_or None other = other
@@ -62,7 +76,7 @@ event_or (Some e) other = Some (key.Event e)
 
 -- the key of a name: no name is of two
 abbrev pub rule_key_of : List ℕ → Option RuleKey
-rule_key_of k = event_or (event_of k) (notice_or (notice_of k) (identity_or (identity_key_of k) (other_key_of k)))
+rule_key_of k = event_or (event_of k) (notice_or (notice_of k) (key_or (identity_key_of k) (key_or (second_key_of k) (other_key_of k))))
 
 -- only diversion has it
 abbrev pub is_diversion : Service → Bool
@@ -82,19 +96,35 @@ meets_callers Diversion = true
 meets_callers Incoming = true
 meets_callers Outgoing = false
 
--- whether the rules of the service have the key
-abbrev pub is_listed : Service → RuleKey → Bool
-is_listed s key.Allow = is_barring s
-is_listed s key.Anonymous = meets_callers s
-is_listed s (key.Event e) = is_diversion s
+-- only outgoing barring has it: where a call goes is asked there
+abbrev pub is_outgoing : Service → Bool
+is_outgoing Diversion = false
+is_outgoing Incoming = false
+is_outgoing Outgoing = true
+
+abbrev pub is_second : Version → Bool
+is_second version.One = false
+is_second version.Two = true
+
+-- whether the rules of the service have the key, in that version of records
+abbrev pub is_listed : Schema → RuleKey → Bool
+is_listed s key.Allow = is_barring s.service
+is_listed s key.Anonymous = meets_callers s.service
+is_listed s key.DayFrom = is_second s.version
+is_listed s key.DayUntil = is_second s.version
+is_listed s key.Days = is_second s.version
+is_listed s key.Diverted = is_second s.version && meets_callers s.service
+is_listed s (key.Event e) = is_diversion s.service
 is_listed s key.Except = true
 is_listed s key.From = true
 is_listed s key.Id = true
+is_listed s key.International = is_second s.version && is_outgoing s.service
 is_listed s key.Many = true
 is_listed s key.Media = true
-is_listed s (key.Notice n) = is_diversion s
+is_listed s (key.Notice n) = is_diversion s.service
+is_listed s key.Offset = is_second s.version
 is_listed s key.One = true
-is_listed s key.Target = is_diversion s
+is_listed s key.Target = is_diversion s.service
 is_listed s key.Until = true
 
 -- a key below another: path.key

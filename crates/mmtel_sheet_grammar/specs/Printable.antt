@@ -1,11 +1,11 @@
 -- Which sheets a record can say: the types, texts, ranges, limits and partners of the grammar, and each part only where the grammar lists its key.
-use Rattle.std.specs.Prelude.{◌≡◌, ◌≤◌, ◌+◌, ℕ, ℤ, pos, ◌≤ℤ◌, int_lt, List, [], Bool, true, None, Ok, length, IfSome, IsUtf8}
+use Rattle.std.specs.Prelude.{◌≡◌, ◌≤◌, ◌<◌, ◌+◌, ℕ, ℤ, pos, ◌≤ℤ◌, int_lt, List, [], Bool, true, None, Ok, length, IfSome, IsUtf8}
 use Rattle.std.specs.List.{AllByRecursion}
 use Rattle.mmtel_lex.specs.Grammar.{uri_text}
 use Rattle.mmtel_lex.specs.Reading.{uri_of}
 use Rattle.mmtel_lex.specs.declared.values.Uri.{Uri}
-use Rattle.mmtel_sheet_grammar.specs.Elements.{is_target, is_domain, is_token_text}
-use Rattle.mmtel_sheet_grammar.specs.Keys.{is_diversion, is_barring, meets_callers}
+use Rattle.mmtel_sheet_grammar.specs.Elements.{is_target, is_domain, is_token_text, has_day, is_offset}
+use Rattle.mmtel_sheet_grammar.specs.Keys.{is_diversion, is_barring, meets_callers, is_outgoing}
 use Rattle.mmtel_sheet_grammar.specs.Moments.{first_moment}
 use Rattle.mmtel_sheet_grammar.specs.declared.keys.Service.{Service}
 use Rattle.mmtel_sheet_grammar.specs.declared.keys.Service.TheVariants as service
@@ -16,6 +16,7 @@ use Rattle.mmtel_sheet_values.specs.declared.values.Condition.{Condition}
 use Rattle.mmtel_sheet_values.specs.declared.values.DiversionPart.{DiversionPart}
 use Rattle.mmtel_sheet_values.specs.declared.values.Rule.{Rule}
 use Rattle.mmtel_sheet_values.specs.declared.values.Sheet.{Sheet}
+use Rattle.mmtel_sheet_values.specs.declared.values.Weekly.{Weekly}
 use Rattle.mmtel_sheet_values.specs.declared.values.Who.{Who}
 use Rattle.mmtel_sheet_values.specs.declared.values.Window.{Window}
 
@@ -52,6 +53,14 @@ pub record IsWindow (w : Window) : Type 0 where
   pub until : IsMoment w.until
   pub order : int_lt w.from w.until ≡ true
 
+-- some hours of one day of the week or more, by a clock that is at most 14 hours ahead of UTC or behind it
+pub record IsWeekly (w : Weekly) : Type 0 where
+  pub whole : length w.days ≡ 7
+  pub days : has_day w.days ≡ true
+  pub order : w.from < w.until
+  pub within : w.until ≤ 1_440
+  pub offset : is_offset w.offset ≡ true
+
 -- what a rule of the service can ask
 pub record IsCondition (s : Service) (c : Condition) : Type 0 where
   pub identity : IfSome c.identity IsWho
@@ -59,6 +68,9 @@ pub record IsCondition (s : Service) (c : Condition) : Type 0 where
   pub window : IfSome c.window IsWindow
   pub media : IfSome c.media (λ tokens. AllByRecursion (λ t. is_token_text t ≡ true) tokens)
   pub event : IfSome c.event (λ e. is_diversion s ≡ true)
+  pub diverted : c.diverted ≡ true → meets_callers s ≡ true
+  pub abroad : c.abroad ≡ true → is_outgoing s ≡ true
+  pub weekly : IfSome c.weekly IsWeekly
 
 -- what a rule of the service can do
 abbrev pub IsAction : Service → Action → Type 0
@@ -78,6 +90,7 @@ pub record IsDiversion (p : DiversionPart) : Type 0 where
   pub rules : AreRules service.Diversion p.rules
   pub least : 5 ≤ p.no_reply
   pub most : p.no_reply ≤ 180
+  pub bound : IfSome p.bound (λ n. n ≤ 16)
 
 -- only incoming barring rejects anonymous callers
 abbrev pub CanReject : Service → Bool → Type 0

@@ -1,25 +1,28 @@
 -- The rules of a service (RFC 4745 §6 and §7; TS 24.604 §4.9.1, TS 24.611 §4.9.1): what is read of their keys, in byte order, and which fault is the first.
-use Rattle.std.specs.Prelude.{◌≡◌, ℕ, ℤ, int_lt, List, [], ◌∷◌, ◌++◌, Bool, true, false, ◌&&◌, not, nat_lt, ◌+◌, Option, Some, None, Result, Ok, Err, if◌then◌else◌, codes, length}
+use Rattle.std.specs.Prelude.{◌≡◌, ℕ, ℤ, pos, int_lt, List, [], ◌∷◌, ◌++◌, Bool, true, false, ◌&&◌, not, nat_lt, ◌+◌, Option, Some, None, Ok, Err, if◌then◌else◌, codes, length}
 use Rattle.std.specs.Option.{is_some}
 use Rattle.toml.specs.Data.{Data, Items, no_items, item, Members, no_members, member, get_member, as_array, as_table}
 use Rattle.mmtel_lex.specs.declared.values.Uri.{Uri}
 use Rattle.mmtel_sheet_grammar.specs.Answers.{Read, then_do, or_wrong}
-use Rattle.mmtel_sheet_grammar.specs.Elements.{truth_at, text_at, target_at, domain_at, time_at, uris_at, tokens_at}
+use Rattle.mmtel_sheet_grammar.specs.Elements.{truth_at, text_at, target_at, domain_at, time_at, uris_at, tokens_at, days_at, clock_at, offset_at}
 use Rattle.mmtel_sheet_grammar.specs.Keys.{rule_key_of, is_listed, dotted, rule_path}
 use Rattle.mmtel_sheet_grammar.specs.declared.faults.SheetFault.TheVariants.{Wrong, Unknown, Many}
 use Rattle.mmtel_sheet_grammar.specs.declared.keys.Service.{Service}
 use Rattle.mmtel_sheet_grammar.specs.declared.keys.Service.TheVariants as service
+use Rattle.mmtel_sheet_grammar.specs.declared.keys.Schema.{Schema}
 use Rattle.mmtel_sheet_grammar.specs.declared.keys.Notice.{Notice}
 use Rattle.mmtel_sheet_grammar.specs.declared.keys.Notice.TheVariants as notice
 use Rattle.mmtel_sheet_grammar.specs.declared.keys.RuleKey.{RuleKey}
 use Rattle.mmtel_sheet_grammar.specs.declared.keys.RuleKey.TheVariants as key
 use Rattle.mmtel_sheet_grammar.specs.declared.drafts.Notices.{Notices}
+use Rattle.mmtel_sheet_grammar.specs.declared.drafts.Hours.{Hours}
 use Rattle.mmtel_sheet_grammar.specs.declared.drafts.RuleDraft.{RuleDraft}
 use Rattle.mmtel_sheet_values.specs.declared.values.Action.{Action}
 use Rattle.mmtel_sheet_values.specs.declared.values.Action.TheVariants.{Forward, Allow}
 use Rattle.mmtel_sheet_values.specs.declared.values.Condition.{Condition}
 use Rattle.mmtel_sheet_values.specs.declared.values.EventWord.{EventWord}
 use Rattle.mmtel_sheet_values.specs.declared.values.Rule.{Rule}
+use Rattle.mmtel_sheet_values.specs.declared.values.Weekly.{Weekly}
 use Rattle.mmtel_sheet_values.specs.declared.values.Who.{Who}
 
 module _ {A : Type 0} where
@@ -38,16 +41,21 @@ all_told = record { notify_caller = true; reveal_to_caller = true; reveal_served
 
 abbrev pub no_keys : RuleDraft
 no_keys = record {
+  abroad = false;
   allow = None;
   anonymous = false;
+  day_from = None;
+  diverted = false;
   event = None;
   except = [];
   from = None;
+  hours = None;
   many = None;
   media = None;
   notices = all_told;
   one = None;
   target = None;
+  weekly = None;
   window = None;
 }
 
@@ -87,23 +95,48 @@ abbrev pub until_read : List ℕ → RuleDraft → ℤ → Option ℤ → Read R
 until_read at r t None = Err (Wrong at)
 until_read at r t (Some f) = if int_lt f t then Ok (record r { window = Some (record { from = f; until = t }) }) else Err (Wrong at)
 
+-- the start of some hours: not without their end and the days
+abbrev pub day_from_read : List ℕ → RuleDraft → Members → ℕ → Read RuleDraft
+day_from_read at r ms n = if has_key (codes "day-until") ms && has_key (codes "days") ms then Ok (record r { day_from = Some n }) else Err (Wrong at)
+
+-- their end: behind their start, which comes first in byte order
+abbrev pub day_until_read : List ℕ → RuleDraft → ℕ → Option ℕ → Read RuleDraft
+day_until_read at r n None = Err (Wrong at)
+day_until_read at r n (Some f) = if nat_lt f n then Ok (record r { hours = Some (record { from = f; until = n }) }) else Err (Wrong at)
+
+-- the days: not without the hours, which come first in byte order; the clock is that of UTC where no offset follows
+abbrev pub days_read : List ℕ → RuleDraft → List Bool → Option Hours → Read RuleDraft
+days_read at r days None = Err (Wrong at)
+days_read at r days (Some h) = Ok (record r { weekly = Some (record { days = days; from = h.from; until = h.until; offset = pos 0 }) })
+
+-- the offset of the clock: not without the days
+abbrev pub offset_read : List ℕ → RuleDraft → ℤ → Option Weekly → Read RuleDraft
+offset_read at r z None = Err (Wrong at)
+offset_read at r z (Some w) = Ok (record r { weekly = Some (record w { offset = z }) })
+
 -- the value at a key of a rule
 abbrev pub key_read : Members → List ℕ → RuleDraft → RuleKey → Data → Read RuleDraft
 key_read ms at r key.Allow d = then_do (truth_at at d) (λ b. Ok (record r { allow = Some b }))
 key_read ms at r key.Anonymous d = then_do (truth_at at d) (λ b. Ok (record r { anonymous = b }))
+key_read ms at r key.DayFrom d = then_do (clock_at 1_439 at d) (λ n. day_from_read at r ms n)
+key_read ms at r key.DayUntil d = then_do (clock_at 1_440 at d) (λ n. day_until_read at r n r.day_from)
+key_read ms at r key.Days d = then_do (days_at at d) (λ days. days_read at r days r.hours)
+key_read ms at r key.Diverted d = then_do (truth_at at d) (λ b. Ok (record r { diverted = b }))
 key_read ms at r (key.Event e) d = then_do (truth_at at d) (λ b. event_read at e r b)
 key_read ms at r key.Except d = then_do (uris_at at d) (λ uris. except_read at r ms uris)
 key_read ms at r key.From d = then_do (time_at at d) (λ t. from_read at r ms t)
 key_read ms at r key.Id d = then_do (text_at at d) (λ s. Ok r)
+key_read ms at r key.International d = then_do (truth_at at d) (λ b. Ok (record r { abroad = b }))
 key_read ms at r key.Many d = then_do (domain_at at d) (λ s. Ok (record r { many = Some s }))
 key_read ms at r key.Media d = then_do (tokens_at at d) (λ ts. Ok (record r { media = Some ts }))
 key_read ms at r (key.Notice n) d = then_do (truth_at at d) (λ b. Ok (record r { notices = with_notice n b r.notices }))
+key_read ms at r key.Offset d = then_do (offset_at at d) (λ z. offset_read at r z r.weekly)
 key_read ms at r key.One d = then_do (uris_at at d) (λ uris. one_read at r uris)
 key_read ms at r key.Target d = then_do (target_at at d) (λ u. Ok (record r { target = Some u }))
 key_read ms at r key.Until d = then_do (time_at at d) (λ t. until_read at r t r.from)
 
 -- the key, where the rules of the service have it
-abbrev pub listed : Service → Option RuleKey → Option RuleKey
+abbrev pub listed : Schema → Option RuleKey → Option RuleKey
 listed s None = None
 listed s (Some k) = if is_listed s k then Some k else None
 
@@ -112,7 +145,7 @@ listed_read ms at r None d = Err (Unknown at)
 listed_read ms at r (Some k) d = key_read ms at r k d
 
 -- a key of a rule of the service, in the table of these members
-abbrev pub rule_key_read : Service → Members → List ℕ → RuleDraft → List ℕ → Data → Read RuleDraft
+abbrev pub rule_key_read : Schema → Members → List ℕ → RuleDraft → List ℕ → Data → Read RuleDraft
 rule_key_read s ms at r k d = listed_read ms at r (listed s (rule_key_of k)) d
 
 -- ---- the rule of a table
@@ -124,7 +157,16 @@ who_of None (Some domain) except = Some (record { one = []; many = Some domain; 
 who_of (Some uris) many except = Some (record { one = uris; many = many; except = except })
 
 abbrev pub condition_of : RuleDraft → Condition
-condition_of r = record { identity = who_of r.one r.many r.except; anonymous = r.anonymous; window = r.window; media = r.media; event = r.event }
+condition_of r = record {
+  identity = who_of r.one r.many r.except;
+  anonymous = r.anonymous;
+  window = r.window;
+  media = r.media;
+  event = r.event;
+  diverted = r.diverted;
+  abroad = r.abroad;
+  weekly = r.weekly;
+}
 
 abbrev pub forward_to : Uri → Notices → Action
 forward_to u n = Forward (record {
@@ -153,15 +195,15 @@ abbrev pub rule_from : RuleDraft → Action → Rule
 rule_from r a = record { condition = condition_of r; action = a }
 
 -- keys of the table of these members, one after another, behind those that were read before
-abbrev pub keys_from : Service → Members → List ℕ → RuleDraft → Members → Read RuleDraft
+abbrev pub keys_from : Schema → Members → List ℕ → RuleDraft → Members → Read RuleDraft
 keys_from s ms path r rest = members_from path (λ at d k v. rule_key_read s ms at d k v) r rest
 
-abbrev pub keys_of_rule : Service → List ℕ → Members → Read RuleDraft
+abbrev pub keys_of_rule : Schema → List ℕ → Members → Read RuleDraft
 keys_of_rule s path ms = keys_from s ms path no_keys ms
 
 -- the rule of a table: the faults of its keys, then a required key that is absent
-abbrev pub rule_of : Service → List ℕ → Members → Read Rule
-rule_of s path ms = then_do (keys_of_rule s path ms) (λ r. then_do (action_of s path r.target r.notices r.allow) (λ a. Ok (rule_from r a)))
+abbrev pub rule_of : Schema → List ℕ → Members → Read Rule
+rule_of s path ms = then_do (keys_of_rule s path ms) (λ r. then_do (action_of s.service path r.target r.notices r.allow) (λ a. Ok (rule_from r a)))
 
 -- ---- the rules of an array
 
@@ -174,18 +216,18 @@ items_count no_items = 0
 items_count (item d ds) = items_count ds + 1
 
 -- rules behind those that were read before, numbered from 0
-abbrev pub rules_from : Service → List ℕ → List Rule → Items → Read (List Rule)
+abbrev pub rules_from : Schema → List ℕ → List Rule → Items → Read (List Rule)
 rules_from s path done no_items = Ok done
 rules_from s path done (item d ds) =
     then_do (or_wrong path (as_table d)) (λ ms. then_do (rule_of s (rule_path path (length done)) ms) (λ r. rules_from s path (done ++ r ∷ []) ds))
 
 -- at most 64
-abbrev pub rules_within : Service → List ℕ → Items → Read (List Rule)
+abbrev pub rules_within : Schema → List ℕ → Items → Read (List Rule)
 rules_within s path ds = if nat_lt 64 (items_count ds) then Err (Many path 64) else rules_from s path [] ds
 
 -- an array of tables
-abbrev pub rules_of : Service → List ℕ → Items → Read (List Rule)
+abbrev pub rules_of : Schema → List ℕ → Items → Read (List Rule)
 rules_of s path ds = if are_tables ds then rules_within s path ds else Err (Wrong path)
 
-abbrev pub rules_at : Service → List ℕ → Data → Read (List Rule)
+abbrev pub rules_at : Schema → List ℕ → Data → Read (List Rule)
 rules_at s at d = then_do (or_wrong at (as_array d)) (λ ds. rules_of s at ds)

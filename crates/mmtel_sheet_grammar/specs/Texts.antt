@@ -1,10 +1,12 @@
 -- What the text of a service record says, as one function of its bytes (3GPP TS 24.623 §5).
-use Rattle.std.specs.Prelude.{◌≡◌, ℕ, List, Option, Some, None, Result, Ok, Err, if◌then◌else◌}
+use Rattle.std.specs.Prelude.{◌≡◌, ℕ, List, Option, Some, None, Ok, Err, if◌then◌else◌}
 use Rattle.std.specs.Str.{is_utf8}
 use Rattle.toml.specs.Parse.{parse_document}
 use Rattle.toml.specs.Data.{Members}
 use Rattle.mmtel_sheet_grammar.specs.Answers.{Read}
-use Rattle.mmtel_sheet_grammar.specs.Walk.{sheet_of}
+use Rattle.mmtel_sheet_grammar.specs.Walk.{sheet_of, version_of}
+use Rattle.mmtel_sheet_grammar.specs.declared.keys.Version.{Version}
+use Rattle.mmtel_sheet_grammar.specs.declared.keys.Version.TheVariants as version
 use Rattle.mmtel_sheet_grammar.specs.declared.faults.SheetFault.{SheetFault}
 use Rattle.mmtel_sheet_grammar.specs.declared.faults.SheetFault.TheVariants.{NotToml, Unknown, Wrong, Many, NoMemory}
 use Rattle.mmtel_sheet_values.specs.declared.values.Sheet.{Sheet}
@@ -37,3 +39,21 @@ sheet_or_empty (Err e) = empty_sheet
 -- the sheet of a text that was kept: where it is no record, that of an account which never said anything
 abbrev pub kept_sheet : List ℕ → Sheet
 kept_sheet bytes = sheet_or_empty (sheet_read bytes)
+
+abbrev pub document_version : Option Members → Read Version
+document_version None = Err NotToml
+document_version (Some ms) = version_of ms
+
+-- the version of the document that the bytes are
+unfoldable pub version_read : List ℕ → Read Version
+version_read bytes = if is_utf8 bytes then document_version (parse_document bytes) else Err NotToml
+
+abbrev pub where_first : Read Version → Read Sheet → Option Sheet
+where_first (Ok version.One) (Ok s) = Some s
+where_first (Ok version.One) (Err e) = None
+where_first (Ok version.Two) read = None
+where_first (Err e) read = None
+
+-- the sheet of a record of the first version; none of a later one, and of a text that is no record
+abbrev pub old_sheet : List ℕ → Option Sheet
+old_sheet bytes = where_first (version_read bytes) (sheet_read bytes)

@@ -1,9 +1,9 @@
 -- A service record as a sheet (3GPP TS 24.623; TS 24.604, 24.607, 24.608, 24.611, 24.615): what is read of the tables of a TOML document, in byte order of their names, and
 -- which fault is the first.
-use Rattle.std.specs.Prelude.{◌≡◌, ℕ, List, [], Bool, true, false, ◌&&◌, Option, Some, None, Result, Ok, Err, if◌then◌else◌, codes, IsUtf8}
+use Rattle.std.specs.Prelude.{◌≡◌, ℕ, ◌==◌, List, [], Bool, true, false, ◌&&◌, Option, Some, None, Ok, Err, if◌then◌else◌, codes, IsUtf8}
 use Rattle.std.specs.Str.{bytes_eq}
 use Rattle.toml.specs.Parse.{parse_document}
-use Rattle.toml.specs.Data.{Data, Members, no_members, member, as_table}
+use Rattle.toml.specs.Data.{Data, Members, no_members, member, get_member, as_table}
 use Rattle.mmtel_sheet_grammar.specs.Answers.{Read, then_do, or_wrong}
 use Rattle.mmtel_sheet_grammar.specs.Elements.{truth_at, number_at, text_at}
 use Rattle.mmtel_sheet_grammar.specs.Rules.{members_from, rules_at}
@@ -11,6 +11,9 @@ use Rattle.mmtel_sheet_grammar.specs.declared.faults.SheetFault.{SheetFault}
 use Rattle.mmtel_sheet_grammar.specs.declared.faults.SheetFault.TheVariants.{NotToml, Unknown, Wrong, Many, NoMemory}
 use Rattle.mmtel_sheet_grammar.specs.declared.keys.Service.{Service}
 use Rattle.mmtel_sheet_grammar.specs.declared.keys.Service.TheVariants as service
+use Rattle.mmtel_sheet_grammar.specs.declared.keys.Version.{Version}
+use Rattle.mmtel_sheet_grammar.specs.declared.keys.Version.TheVariants as version
+use Rattle.mmtel_sheet_grammar.specs.declared.keys.Schema.{Schema}
 use Rattle.mmtel_sheet_grammar.specs.declared.keys.TableKey.{TableKey}
 use Rattle.mmtel_sheet_grammar.specs.declared.keys.TableKey.TheVariants as key
 use Rattle.mmtel_sheet_grammar.specs.declared.drafts.DiversionDraft.{DiversionDraft}
@@ -22,26 +25,36 @@ use Rattle.mmtel_sheet_values.specs.declared.values.Restriction.{Restriction}
 use Rattle.mmtel_sheet_values.specs.declared.values.Sheet.{Sheet}
 use Rattle.mmtel_sheet_values.specs.Sheets.{empty_sheet}
 
+-- the rules of a service, in a version of records
+abbrev pub schema : Version → Service → Schema
+schema v s = record { service = s; version = v }
+
 -- ---- communication diversion
 
 -- a table that is there is active where it does not say otherwise
 abbrev pub no_diversion_keys : DiversionDraft
-no_diversion_keys = record { active = true; deflection = false; no_reply = 20; rules = [] }
+no_diversion_keys = record { active = true; bound = None; deflection = false; no_reply = 20; rules = [] }
 
-abbrev pub diversion_key : List ℕ → DiversionDraft → List ℕ → Data → Read DiversionDraft
-diversion_key at r k d =
+-- the second version has a bound
+abbrev pub is_bound : Version → List ℕ → Bool
+is_bound version.One k = false
+is_bound version.Two k = bytes_eq k (codes "bound")
+
+abbrev pub diversion_key : Version → List ℕ → DiversionDraft → List ℕ → Data → Read DiversionDraft
+diversion_key v at r k d =
     if bytes_eq k (codes "active") then then_do (truth_at at d) (λ b. Ok (record r { active = b }))
+    else if is_bound v k then then_do (number_at 0 16 at d) (λ n. Ok (record r { bound = Some n }))
     else if bytes_eq k (codes "deflection") then then_do (truth_at at d) (λ b. Ok (record r { deflection = b }))
     else if bytes_eq k (codes "no-reply-time") then then_do (number_at 5 180 at d) (λ n. Ok (record r { no_reply = n }))
-    else if bytes_eq k (codes "rule") then then_do (rules_at service.Diversion at d) (λ rs. Ok (record r { rules = rs }))
+    else if bytes_eq k (codes "rule") then then_do (rules_at (schema v service.Diversion) at d) (λ rs. Ok (record r { rules = rs }))
     else Err (Unknown at)
 
 -- a table that is not active leaves nothing
 abbrev pub diversion_part : DiversionDraft → Option DiversionPart
-diversion_part r = if r.active then Some (record { rules = r.rules; no_reply = r.no_reply; deflection = r.deflection }) else None
+diversion_part r = if r.active then Some (record { rules = r.rules; no_reply = r.no_reply; deflection = r.deflection; bound = r.bound }) else None
 
-abbrev pub diversion_of : List ℕ → Members → Read (Option DiversionPart)
-diversion_of path ms = then_do (members_from path diversion_key no_diversion_keys ms) (λ r. Ok (diversion_part r))
+abbrev pub diversion_of : Version → List ℕ → Members → Read (Option DiversionPart)
+diversion_of v path ms = then_do (members_from path (λ at r k d. diversion_key v at r k d) no_diversion_keys ms) (λ r. Ok (diversion_part r))
 
 -- ---- barring
 
@@ -54,17 +67,17 @@ is_rejection service.Diversion k = false
 is_rejection service.Incoming k = bytes_eq k (codes "reject-anonymous")
 is_rejection service.Outgoing k = false
 
-abbrev pub bar_key : Service → List ℕ → BarDraft → List ℕ → Data → Read BarDraft
+abbrev pub bar_key : Schema → List ℕ → BarDraft → List ℕ → Data → Read BarDraft
 bar_key s at r k d =
     if bytes_eq k (codes "active") then then_do (truth_at at d) (λ b. Ok (record r { active = b }))
-    else if is_rejection s k then then_do (truth_at at d) (λ b. Ok (record r { reject_anonymous = b }))
+    else if is_rejection s.service k then then_do (truth_at at d) (λ b. Ok (record r { reject_anonymous = b }))
     else if bytes_eq k (codes "rule") then then_do (rules_at s at d) (λ rs. Ok (record r { rules = rs }))
     else Err (Unknown at)
 
 abbrev pub bar_part : BarDraft → Option BarPart
 bar_part r = if r.active then Some (record { rules = r.rules; reject_anonymous = r.reject_anonymous }) else None
 
-abbrev pub bar_of : Service → List ℕ → Members → Read (Option BarPart)
+abbrev pub bar_of : Schema → List ℕ → Members → Read (Option BarPart)
 bar_of s path ms = then_do (members_from path (λ at r k d. bar_key s at r k d) no_bar_keys ms) (λ r. Ok (bar_part r))
 
 -- ---- presentation and restriction of identities
@@ -128,28 +141,45 @@ table_key_of k =
     else if bytes_eq k (codes "terminating-identity-presentation-restriction") then Some key.Tir
     else None
 
-abbrev pub table_read : List ℕ → Sheet → TableKey → Members → Read Sheet
-table_read at s key.Diversion ms = then_do (diversion_of at ms) (λ p. Ok (record s { diversion = p }))
-table_read at s key.Incoming ms = then_do (bar_of service.Incoming at ms) (λ p. Ok (record s { incoming = p }))
-table_read at s key.Outgoing ms = then_do (bar_of service.Outgoing at ms) (λ p. Ok (record s { outgoing = p }))
-table_read at s key.Oip ms = then_do (presentation_of at ms) (λ b. Ok (record s { oip = b }))
-table_read at s key.Oir ms = then_do (restriction_of at ms) (λ r. Ok (record s { oir = r }))
-table_read at s key.Tip ms = then_do (presentation_of at ms) (λ b. Ok (record s { tip = b }))
-table_read at s key.Tir ms = then_do (restriction_of at ms) (λ r. Ok (record s { tir = r }))
-table_read at s key.Waiting ms = then_do (waiting_of at ms) (λ n. Ok (record s { waiting = n }))
+abbrev pub table_read : Version → List ℕ → Sheet → TableKey → Members → Read Sheet
+table_read v at s key.Diversion ms = then_do (diversion_of v at ms) (λ p. Ok (record s { diversion = p }))
+table_read v at s key.Incoming ms = then_do (bar_of (schema v service.Incoming) at ms) (λ p. Ok (record s { incoming = p }))
+table_read v at s key.Outgoing ms = then_do (bar_of (schema v service.Outgoing) at ms) (λ p. Ok (record s { outgoing = p }))
+table_read v at s key.Oip ms = then_do (presentation_of at ms) (λ b. Ok (record s { oip = b }))
+table_read v at s key.Oir ms = then_do (restriction_of at ms) (λ r. Ok (record s { oir = r }))
+table_read v at s key.Tip ms = then_do (presentation_of at ms) (λ b. Ok (record s { tip = b }))
+table_read v at s key.Tir ms = then_do (restriction_of at ms) (λ r. Ok (record s { tir = r }))
+table_read v at s key.Waiting ms = then_do (waiting_of at ms) (λ n. Ok (record s { waiting = n }))
 
-abbrev pub named_read : List ℕ → Sheet → Option TableKey → Data → Read Sheet
-named_read at s None d = Err (Unknown at)
-named_read at s (Some t) d = then_do (or_wrong at (as_table d)) (λ ms. table_read at s t ms)
+abbrev pub named_read : Version → List ℕ → Sheet → Option TableKey → Data → Read Sheet
+named_read v at s None d = Err (Unknown at)
+named_read v at s (Some t) d = then_do (or_wrong at (as_table d)) (λ ms. table_read v at s t ms)
 
--- the tables, one after another
-abbrev pub sheet_from : Sheet → Members → Read Sheet
-sheet_from s no_members = Ok s
-sheet_from s (member k d ms) = then_do (named_read k s (table_key_of k) d) (λ t. sheet_from t ms)
+-- a version of records
+abbrev pub version_at : List ℕ → Data → Read Version
+version_at at d = then_do (number_at 1 2 at d) (λ n. Ok (if n == 1 then version.One else version.Two))
+
+-- the first, where the record names none
+abbrev pub version_or_first : Option Data → Read Version
+version_or_first None = Ok version.One
+version_or_first (Some d) = version_at (codes "version") d
+
+-- the version of a document, which is looked at before all else
+abbrev pub version_of : Members → Read Version
+version_of ms = version_or_first (get_member (codes "version") ms)
+
+-- one more name of the document: the version says nothing of the sheet
+abbrev pub name_read : Version → List ℕ → Sheet → Data → Read Sheet
+name_read v k s d = if bytes_eq k (codes "version") then then_do (version_at k d) (λ w. Ok s) else named_read v k s (table_key_of k) d
+
+-- the names, one after another
+abbrev pub sheet_from : Version → Sheet → Members → Read Sheet
+sheet_from v s no_members = Ok s
+sheet_from v s (member k d ms) = then_do (name_read v k s d) (λ t. sheet_from v t ms)
 
 -- the sheet of a document, or its first fault
 abbrev pub sheet_of : Members → Read Sheet
-sheet_of ms = sheet_from empty_sheet ms
+sheet_of ms = then_do (version_of ms) (λ v. sheet_from v empty_sheet ms)
 
 -- the bytes are a document that reads so
 abbrev pub Documents : List ℕ → Read Sheet → Type 0

@@ -1,7 +1,7 @@
 //! What the keys of a table said so far, while it is read.
 
 use mmtel_lex::{List, Text, Uri};
-use mmtel_sheet_values::{EventWord, Rule, Window};
+use mmtel_sheet_values::{EventWord, Rule, Weekly, Window};
 
 /// Who is told what of a diversion.
 #[derive(Clone, Copy, Debug, PartialEq, Eq)]
@@ -16,19 +16,36 @@ pub struct Notices {
     pub reveal_to_target: bool,
 }
 
+/// Some hours of a day, in minutes since it began.
+#[derive(Clone, Copy, Debug, PartialEq, Eq)]
+pub struct Hours {
+    /// The first minute of them.
+    pub from: u16,
+    /// The first minute after them.
+    pub until: u16,
+}
+
 /// What the keys of a rule said so far.
 #[derive(Drop)]
 pub struct RuleDraft {
+    /// `international`
+    pub abroad: bool,
     /// `allow`
     pub allow: Option<bool>,
     /// `anonymous`
     pub anonymous: bool,
+    /// `day-from`, in minutes
+    pub day_from: Option<u16>,
+    /// `communication-diverted`
+    pub diverted: bool,
     /// The event key that is true.
     pub event: Option<EventWord>,
     /// `except`
     pub except: List<Uri>,
     /// `from`
     pub from: Option<i128>,
+    /// `day-from` and `day-until`
+    pub hours: Option<Hours>,
     /// `many`
     pub many: Option<Text>,
     /// `media`
@@ -39,6 +56,8 @@ pub struct RuleDraft {
     pub one: Option<List<Uri>>,
     /// `target`
     pub target: Option<Uri>,
+    /// `days`, with the hours, and `offset`
+    pub weekly: Option<Weekly>,
     /// `from` and `until`
     pub window: Option<Window>,
 }
@@ -48,6 +67,8 @@ pub struct RuleDraft {
 pub struct DiversionDraft {
     /// `active`
     pub active: bool,
+    /// `bound`
+    pub bound: Option<u8>,
     /// `deflection`
     pub deflection: bool,
     /// `no-reply-time`, in seconds

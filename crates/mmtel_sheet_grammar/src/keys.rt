@@ -13,6 +13,24 @@ pub enum Service {
     Outgoing,
 }
 
+/// The versions of records. The second has keys more.
+#[derive(Clone, Copy, Debug, PartialEq, Eq)]
+pub enum Version {
+    /// A record that names no version, or 1.
+    One,
+    /// A record with `version = 2`.
+    Two,
+}
+
+/// Whose rules are read, and in which version of records.
+#[derive(Clone, Copy, Debug, PartialEq, Eq)]
+pub struct Schema {
+    /// The service whose rules they are.
+    pub service: Service,
+    /// The version of the record.
+    pub version: Version,
+}
+
 /// What a diversion tells, and to whom.
 #[derive(Clone, Copy, Debug, PartialEq, Eq)]
 pub enum Notice {
@@ -33,6 +51,14 @@ pub enum RuleKey {
     Allow,
     /// `anonymous`
     Anonymous,
+    /// `day-from`
+    DayFrom,
+    /// `day-until`
+    DayUntil,
+    /// `days`
+    Days,
+    /// `communication-diverted`
+    Diverted,
     /// `busy`, `no-answer`, `not-reachable` and `not-registered`
     Event(EventWord),
     /// `except`
@@ -41,12 +67,16 @@ pub enum RuleKey {
     From,
     /// `id`
     Id,
+    /// `international`
+    International,
     /// `many`
     Many,
     /// `media`
     Media,
     /// `notify-caller` and `reveal-..`
     Notice(Notice),
+    /// `offset`
+    Offset,
     /// `one`
     One,
     /// `target`

@@ -1,5 +1,6 @@
 pub mod ActionLaws
 pub mod Ascii
+pub mod DayItems
 pub mod Documents
 pub mod Granted
 pub mod Items

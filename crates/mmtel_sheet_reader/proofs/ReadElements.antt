@@ -1,19 +1,20 @@
 -- What is read at a key can be printed.
-use Rattle.std.proofs.Common.{◌≡◌, ℕ, ℤ, ◌≤◌, true, ◌&&◌, nat_le, List, [], ◌∷◌, ◌++◌, length, Option, Some, None, Ok, Err, Result, IsUtf8, refl, arith}
+use Rattle.std.proofs.Common.{◌≡◌, ℕ, ℤ, ◌+◌, ◌*◌, ◌==◌, ◌≤◌, Bool, true, false, cond, ◌&&◌, nat_le, ◌∙◌, List, [], ◌∷◌, ◌++◌, length, Option, Some, None, Ok, Err, Result, IsUtf8, refl, arith}
 use Rattle.std.proofs.lemmas.Bool.Decides.{nat_tests}
 use Rattle.std.proofs.lemmas.Bool.{and_parts}
-use Rattle.std.specs.Prelude.{IfOk, IfSome}
+use Rattle.std.proofs.lemmas.List.{length-set}
+use Rattle.std.specs.Prelude.{IfOk, IfSome, slice_index_or, slice_set}
 use Rattle.std.specs.List.{AllByRecursion}
 use Rattle.toml.specs.Data.{Data, string, integer, float, boolean, datetime, array, table, Items, no_items, item}
 use Rattle.mmtel_lex.specs.Reading.{uri_of, Refusal}
 use Rattle.mmtel_lex.specs.declared.values.Uri.{Uri}
-use Rattle.mmtel_sheet_grammar.specs.Answers.{Read}
-use Rattle.mmtel_sheet_grammar.specs.Elements.{uri_read, uri_at, is_target, target_or_wrong, target_at, is_domain, domain_at, is_token_text, token_at, time_at, items_from, uris_at, tokens_at}
+use Rattle.mmtel_sheet_grammar.specs.Answers.{Read, or_wrong}
+use Rattle.mmtel_sheet_grammar.specs.Elements.{uri_read, uri_at, is_target, target_or_wrong, target_at, is_domain, domain_at, is_token_text, token_at, time_at, items_from, uris_at, tokens_at, day_of, no_days, with_day, day_read, days_from, has_day, some_days, days_at, minutes_by, clock_of, clock_at, is_offset, offset_at, text_at}
 use Rattle.mmtel_sheet_grammar.specs.Moments.{moment_of_text}
 use Rattle.mmtel_sheet_grammar.specs.declared.faults.SheetFault.TheVariants.{Wrong}
 use Rattle.mmtel_sheet_grammar.specs.Printable.{IsUriOfText, IsTarget, IsMoment}
 use Rattle.mmtel_sheet_grammar.specs.Sound.{IsSound, IsSoundArray}
-use Rattle.mmtel_sheet_reader.proofs.Granted.{then_all, where_ok, or_all}
+use Rattle.mmtel_sheet_reader.proofs.Granted.{then_all, then_any, where_ok, or_all}
 use Rattle.mmtel_sheet_reader.proofs.ReadMoments.{moment_printable}
 use Rattle.mmtel_sheet_reader.proofs.UriTexts.{uri_printable, target_printable}
 
@@ -107,3 +108,76 @@ tokens_ok at (boolean b) text = tt
 tokens_ok at (datetime dt) text = tt
 tokens_ok at (array ds) text = items_ok (token_at at) (λ t. is_token_text t ≡ true) (λ v t. token_ok at v) [] ds tt text
 tokens_ok at (table ms) text = tt
+
+-- ---- hours of the week
+
+-- which days of the week are there, and that one is
+pub record IsDays (days : List Bool) : Type 0 where
+  pub whole : length days ≡ 7
+  pub some : has_day days ≡ true
+
+set_whole : (b : Bool) (days : List Bool) (n : ℕ) → length days ≡ 7 → IfSome (cond b None (Some (slice_set days n true))) (λ more. length more ≡ 7)
+set_whole true days n whole = tt
+set_whole false days n whole = length-set days n true ∙ whole
+
+day_whole : (at : List ℕ) (days : List Bool) (d : Data) → length days ≡ 7 → IfOk (day_read at days d) (λ more. length more ≡ 7)
+day_whole at days d whole =
+    then_any (text_at at d) _ (λ more. length more ≡ 7) (λ s.
+    then_any (or_wrong at (day_of s)) _ (λ more. length more ≡ 7) (λ n.
+    or_all at (with_day days n) (λ more. length more ≡ 7) (set_whole (slice_index_or days n false) days n whole)))
+
+days_whole : (at : List ℕ) (days : List Bool) (ds : Items) → length days ≡ 7 → IfOk (days_from at days ds) (λ more. length more ≡ 7)
+days_whole at days no_items whole = whole
+days_whole at days (item d ds) whole =
+    then_all (day_read at days d) (λ more. days_from at more ds) (λ more. length more ≡ 7) (λ more. length more ≡ 7) (day_whole at days d whole) (λ more w. days_whole at more ds w)
+
+pub days_ok : (at : List ℕ) (d : Data) → IfOk (days_at at d) IsDays
+days_ok at (string s) = tt
+days_ok at (integer z) = tt
+days_ok at (float x) = tt
+days_ok at (boolean b) = tt
+days_ok at (datetime dt) = tt
+days_ok at (array ds) =
+    then_all (days_from at no_days ds) (λ days. some_days at days) (λ more. length more ≡ 7) IsDays (days_whole at no_days ds refl)
+    (λ days whole. where_ok (has_day days) (Ok days) (Wrong at) IsDays (λ some. record { whole = whole; some = some }))
+days_ok at (table ms) = tt
+
+within_some : (most n : ℕ) (b : Bool) → nat_le n most ≡ b → IfSome (cond b (Some n) None) (λ m. m ≤ most)
+within_some most n true e = grind (arith, nat_tests)
+within_some most n false e = tt
+
+minutes_some : (most : ℕ) (hours minutes : Option ℕ) → IfSome (minutes_by most hours minutes) (λ n. n ≤ most)
+minutes_some most None minutes = tt
+minutes_some most (Some hours) None = tt
+minutes_some most (Some hours) (Some minutes) = within_some most (hours * 60 + minutes) (nat_le (hours * 60 + minutes) most) refl
+
+where_some : (most : ℕ) (b : Bool) (o : Option ℕ) → IfSome o (λ n. n ≤ most) → IfSome (cond b o None) (λ n. n ≤ most)
+where_some most true o is = is
+where_some most false o is = tt
+
+clock_some : (most : ℕ) (s : List ℕ) → IfSome (clock_of most s) (λ n. n ≤ most)
+clock_some most [] = tt
+clock_some most (a ∷ []) = tt
+clock_some most (a ∷ b ∷ []) = tt
+clock_some most (a ∷ b ∷ colon ∷ []) = tt
+clock_some most (a ∷ b ∷ colon ∷ c ∷ []) = tt
+clock_some most (a ∷ b ∷ colon ∷ c ∷ d ∷ []) = where_some most (colon == 58) _ (minutes_some most _ _)
+clock_some most (a ∷ b ∷ colon ∷ c ∷ d ∷ e ∷ s) = tt
+
+pub clock_ok : (most : ℕ) (at : List ℕ) (d : Data) → IfOk (clock_at most at d) (λ n. n ≤ most)
+clock_ok most at (string s) = or_all at (clock_of most s) (λ n. n ≤ most) (clock_some most s)
+clock_ok most at (integer z) = tt
+clock_ok most at (float x) = tt
+clock_ok most at (boolean b) = tt
+clock_ok most at (datetime dt) = tt
+clock_ok most at (array ds) = tt
+clock_ok most at (table ms) = tt
+
+pub offset_ok : (at : List ℕ) (d : Data) → IfOk (offset_at at d) (λ z. is_offset z ≡ true)
+offset_ok at (string s) = tt
+offset_ok at (integer z) = where_ok (is_offset z) (Ok z) (Wrong at) (λ x. is_offset x ≡ true) (λ e. e)
+offset_ok at (float x) = tt
+offset_ok at (boolean b) = tt
+offset_ok at (datetime dt) = tt
+offset_ok at (array ds) = tt
+offset_ok at (table ms) = tt

@@ -9,15 +9,17 @@ use Rattle.std.specs.Prelude.{IfOk, IfSome}
 use Rattle.std.specs.List.{AllByRecursion}
 use Rattle.toml.specs.Data.{Data, Members, no_members, member, get_member, is_before, same_key}
 use Rattle.mmtel_lex.specs.declared.values.Uri.{Uri}
-use Rattle.mmtel_sheet_grammar.specs.Elements.{truth_at, text_at, target_at, is_domain, domain_at, time_at, uris_at, tokens_at}
+use Rattle.mmtel_sheet_grammar.specs.Elements.{truth_at, text_at, target_at, is_domain, domain_at, time_at, uris_at, tokens_at, clock_at, days_at, offset_at}
 use Rattle.mmtel_sheet_grammar.specs.Keys.{rule_key_of, event_of, notice_of, identity_key_of, is_listed, dotted}
-use Rattle.mmtel_sheet_grammar.specs.Rules.{has_key, keys_from, with_event, event_read, until_read, key_read, listed, listed_read, rule_key_read, who_of}
+use Rattle.mmtel_sheet_grammar.specs.Rules.{has_key, keys_from, with_event, event_read, until_read, day_until_read, days_read, offset_read, key_read, listed, listed_read, rule_key_read, who_of}
 use Rattle.mmtel_sheet_grammar.specs.declared.faults.SheetFault.TheVariants.{Wrong, Many}
-use Rattle.mmtel_sheet_grammar.specs.declared.keys.Service.{Service}
+use Rattle.mmtel_sheet_grammar.specs.declared.keys.Schema.{Schema}
 use Rattle.mmtel_sheet_grammar.specs.declared.keys.RuleKey.{RuleKey}
 use Rattle.mmtel_sheet_grammar.specs.declared.keys.RuleKey.TheVariants as key
+use Rattle.mmtel_sheet_grammar.specs.declared.drafts.Hours.{Hours}
 use Rattle.mmtel_sheet_grammar.specs.declared.drafts.RuleDraft.{RuleDraft}
 use Rattle.mmtel_sheet_values.specs.declared.values.EventWord.{EventWord}
+use Rattle.mmtel_sheet_values.specs.declared.values.Weekly.{Weekly}
 use Rattle.mmtel_sheet_grammar.specs.Printable.{IsUriOfText, IsWho}
 use Rattle.mmtel_sheet_grammar.specs.Sound.{IsSoundTable}
 use Rattle.mmtel_sheet_reader.proofs.Granted.{then_all, then_any, where_ok, unless_err, weaker}
@@ -28,13 +30,19 @@ use Rattle.mmtel_sheet_reader.proofs.Order.{before_members}
 abbrev IsOther : RuleKey → Type 0
 IsOther key.Allow = Unit {0}
 IsOther key.Anonymous = Unit {0}
+IsOther key.DayFrom = Unit {0}
+IsOther key.DayUntil = Unit {0}
+IsOther key.Days = Unit {0}
+IsOther key.Diverted = Unit {0}
 IsOther (key.Event e) = Unit {0}
 IsOther key.Except = ⊥
 IsOther key.From = Unit {0}
 IsOther key.Id = Unit {0}
+IsOther key.International = Unit {0}
 IsOther key.Many = ⊥
 IsOther key.Media = Unit {0}
 IsOther (key.Notice n) = Unit {0}
+IsOther key.Offset = Unit {0}
 IsOther key.One = ⊥
 IsOther key.Target = Unit {0}
 IsOther key.Until = Unit {0}
@@ -58,16 +66,34 @@ module _ (ms : Members) (at : List ℕ) (d : RuleDraft) where
   until_same t None = tt
   until_same t (Some f) = where_ok (int_lt f t) _ (Wrong at) (IsSame d) (λ order. record { except = refl; many = refl; one = refl })
 
+  hours_same : (n : ℕ) (o : Option ℕ) → IfOk (day_until_read at d n o) (IsSame d)
+  hours_same n None = tt
+  hours_same n (Some f) = where_ok (nat_lt f n) _ (Wrong at) (IsSame d) (λ order. record { except = refl; many = refl; one = refl })
+
+  days_same : (days : List Bool) (o : Option Hours) → IfOk (days_read at d days o) (IsSame d)
+  days_same days None = tt
+  days_same days (Some h) = record { except = refl; many = refl; one = refl }
+
+  offset_same : (z : ℤ) (o : Option Weekly) → IfOk (offset_read at d z o) (IsSame d)
+  offset_same z None = tt
+  offset_same z (Some w) = record { except = refl; many = refl; one = refl }
+
   other_same : (n : RuleKey) (v : Data) → IsOther n → IfOk (key_read ms at d n v) (IsSame d)
   other_same key.Allow v o = then_any (truth_at at v) _ (IsSame d) (λ b. record { except = refl; many = refl; one = refl })
   other_same key.Anonymous v o = then_any (truth_at at v) _ (IsSame d) (λ b. record { except = refl; many = refl; one = refl })
+  other_same key.DayFrom v o = then_any (clock_at 1_439 at v) _ (IsSame d) (λ n. where_ok (has_key (codes "day-until") ms && has_key (codes "days") ms) (Ok (record d { day_from = Some n })) (Wrong at) (IsSame d) (λ e. record { except = refl; many = refl; one = refl }))
+  other_same key.DayUntil v o = then_any (clock_at 1_440 at v) _ (IsSame d) (λ n. hours_same n d.day_from)
+  other_same key.Days v o = then_any (days_at at v) _ (IsSame d) (λ days. days_same days d.hours)
+  other_same key.Diverted v o = then_any (truth_at at v) _ (IsSame d) (λ b. record { except = refl; many = refl; one = refl })
   other_same (key.Event e) v o = then_any (truth_at at v) _ (IsSame d) (λ b. event_told e b)
   other_same key.Except v o = absurd o
   other_same key.From v o = then_any (time_at at v) _ (IsSame d) (λ t. where_ok (has_key (codes "until") ms) (Ok (record d { from = Some t })) (Wrong at) (IsSame d) (λ e. record { except = refl; many = refl; one = refl }))
   other_same key.Id v o = then_any (text_at at v) _ (IsSame d) (λ x. record { except = refl; many = refl; one = refl })
+  other_same key.International v o = then_any (truth_at at v) _ (IsSame d) (λ b. record { except = refl; many = refl; one = refl })
   other_same key.Many v o = absurd o
   other_same key.Media v o = then_any (tokens_at at v) _ (IsSame d) (λ ts. record { except = refl; many = refl; one = refl })
   other_same (key.Notice n) v o = then_any (truth_at at v) _ (IsSame d) (λ b. record { except = refl; many = refl; one = refl })
+  other_same key.Offset v o = then_any (offset_at at v) _ (IsSame d) (λ z. offset_same z d.weekly)
   other_same key.One v o = absurd o
   other_same key.Target v o = then_any (target_at at v) _ (IsSame d) (λ u. record { except = refl; many = refl; one = refl })
   other_same key.Until v o = then_any (time_at at v) _ (IsSame d) (λ t. until_same t d.from)
@@ -184,13 +210,19 @@ module _ (ms : Members) (k : List ℕ) (v : Data) (rest : Members) (sorted : is_
     key_counted : (n : RuleKey) → rule_key_of k ≡ Some n → IsNamedAs k n → IfOk (key_read ms at d n v) Counted
     key_counted key.Allow is name = other_counted key.Allow tt is
     key_counted key.Anonymous is name = other_counted key.Anonymous tt is
+    key_counted key.DayFrom is name = other_counted key.DayFrom tt is
+    key_counted key.DayUntil is name = other_counted key.DayUntil tt is
+    key_counted key.Days is name = other_counted key.Days tt is
+    key_counted key.Diverted is name = other_counted key.Diverted tt is
     key_counted (key.Event e) is name = other_counted (key.Event e) tt is
     key_counted key.Except is name = except_counted is name
     key_counted key.From is name = other_counted key.From tt is
     key_counted key.Id is name = other_counted key.Id tt is
+    key_counted key.International is name = other_counted key.International tt is
     key_counted key.Many is name = many_counted is
     key_counted key.Media is name = other_counted key.Media tt is
     key_counted (key.Notice n) is name = other_counted (key.Notice n) tt is
+    key_counted key.Offset is name = other_counted key.Offset tt is
     key_counted key.One is name = one_counted is name
     key_counted key.Target is name = other_counted key.Target tt is
     key_counted key.Until is name = other_counted key.Until tt is
@@ -199,15 +231,15 @@ module _ (ms : Members) (k : List ℕ) (v : Data) (rest : Members) (sorted : is_
     listed_counted None h = tt
     listed_counted (Some n) h = key_counted n h.0 h.1
 
-some_listed : (s : Service) (k : List ℕ) (n : RuleKey) (b : Bool) → (rule_key_of k ≡ Some n) → IsNamedAs k n → IfSome (cond b (Some n) None) (λ m. (rule_key_of k ≡ Some m) × IsNamedAs k m)
+some_listed : (s : Schema) (k : List ℕ) (n : RuleKey) (b : Bool) → (rule_key_of k ≡ Some n) → IsNamedAs k n → IfSome (cond b (Some n) None) (λ m. (rule_key_of k ≡ Some m) × IsNamedAs k m)
 some_listed s k n true is name = (is, name)
 some_listed s k n false is name = tt
 
-listed_named : (s : Service) (k : List ℕ) (o : Option RuleKey) → rule_key_of k ≡ o → IfSome o (IsNamedAs k) → IfSome (listed s o) (λ n. (rule_key_of k ≡ Some n) × IsNamedAs k n)
+listed_named : (s : Schema) (k : List ℕ) (o : Option RuleKey) → rule_key_of k ≡ o → IfSome o (IsNamedAs k) → IfSome (listed s o) (λ n. (rule_key_of k ≡ Some n) × IsNamedAs k n)
 listed_named s k None e name = tt
 listed_named s k (Some n) e name = some_listed s k n (is_listed s n) e name
 
-pub keys_counted : (s : Service) (ms : Members) (path : List ℕ) (d : RuleDraft) (rest : Members) → IsCounted ms rest d.except d.many d.one → IsSoundTable rest
+pub keys_counted : (s : Schema) (ms : Members) (path : List ℕ) (d : RuleDraft) (rest : Members) → IsCounted ms rest d.except d.many d.one → IsSoundTable rest
     → IfOk (keys_from s ms path d rest) (λ e. IsCounted ms no_members e.except e.many e.one)
 keys_counted s ms path d no_members c sound = c
 keys_counted s ms path d (member k v rest) c sound =

@@ -10,7 +10,7 @@ use Rattle.mmtel_sheet_grammar.specs.Answers.{Read, Answers, then_do}
 use Rattle.mmtel_sheet_grammar.specs.Elements.{truth_at, in_range, number_at}
 use Rattle.mmtel_sheet_grammar.specs.Keys.{dotted, rule_path}
 use Rattle.mmtel_sheet_grammar.specs.Rules.{members_from, no_keys, action_of, rule_from, keys_of_rule, rule_of, are_tables, items_count, rules_from, rules_within, rules_at}
-use Rattle.mmtel_sheet_grammar.specs.Walk.{no_diversion_keys, diversion_key, diversion_part, diversion_of, no_bar_keys, is_rejection, bar_key, bar_part, bar_of, presentation_of, restriction_of, no_waiting_keys, waiting_key, waiting_part, waiting_of, table_key_of, table_read, named_read, sheet_from, sheet_of}
+use Rattle.mmtel_sheet_grammar.specs.Walk.{schema, no_diversion_keys, is_bound, diversion_key, diversion_part, diversion_of, no_bar_keys, is_rejection, bar_key, bar_part, bar_of, presentation_of, restriction_of, no_waiting_keys, waiting_key, waiting_part, waiting_of, table_key_of, table_read, named_read, name_read, version_at, version_of, sheet_from, sheet_of}
 use Rattle.mmtel_sheet_grammar.specs.declared.drafts.BarDraft.{BarDraft}
 use Rattle.mmtel_sheet_grammar.specs.declared.drafts.DiversionDraft.{DiversionDraft}
 use Rattle.mmtel_sheet_grammar.specs.declared.drafts.Notices.{Notices}
@@ -18,6 +18,8 @@ use Rattle.mmtel_sheet_grammar.specs.declared.drafts.WaitingDraft.{WaitingDraft}
 use Rattle.mmtel_sheet_grammar.specs.declared.faults.SheetFault.TheVariants.{Wrong, Many, Unknown}
 use Rattle.mmtel_sheet_grammar.specs.declared.keys.Service.{Service}
 use Rattle.mmtel_sheet_grammar.specs.declared.keys.Service.TheVariants as service
+use Rattle.mmtel_sheet_grammar.specs.declared.keys.Version.{Version}
+use Rattle.mmtel_sheet_grammar.specs.declared.keys.Schema.{Schema}
 use Rattle.mmtel_sheet_grammar.specs.declared.keys.TableKey.{TableKey}
 use Rattle.mmtel_sheet_grammar.specs.declared.keys.TableKey.TheVariants as key
 use Rattle.mmtel_sheet_values.specs.Sheets.{empty_sheet}
@@ -42,23 +44,32 @@ action_ok service.Incoming path target n (Some b) is = refl
 action_ok service.Outgoing path target n None is = tt
 action_ok service.Outgoing path target n (Some b) is = refl
 
-rule_ok : (s : Service) (path : List ℕ) (ms : Members) → IsSoundTable ms → IfOk (rule_of s path ms) (IsRule s)
+rule_ok : (s : Schema) (path : List ℕ) (ms : Members) → IsSoundTable ms → IfOk (rule_of s path ms) (IsRule s.service)
 rule_ok s path ms sound =
-    then_all (keys_of_rule s path ms) _ (λ d. IsKept s d × IsCounted ms no_members d.except d.many d.one) (IsRule s)
+    then_all (keys_of_rule s path ms) _ (λ d. IsKept s d × IsCounted ms no_members d.except d.many d.one) (IsRule s.service)
     (both_all (keys_of_rule s path ms) (IsKept s) (λ d. IsCounted ms no_members d.except d.many d.one) (keys_kept s ms path no_keys ms (nothing_kept s) sound) (keys_counted s ms path no_keys ms (nothing_counted ms) sound))
     (λ d both.
     let k = both.0 in
-    then_all (action_of s path d.target d.notices d.allow) (λ a. Ok (rule_from d a)) (IsAction s) (IsRule s) (action_ok s path d.target d.notices d.allow k.target)
+    then_all (action_of s.service path d.target d.notices d.allow) (λ a. Ok (rule_from d a)) (IsAction s.service) (IsRule s.service) (action_ok s.service path d.target d.notices d.allow k.target)
     (λ a act. record {
-      condition = record { identity = who_ok ms d.one d.many d.except both.1 k.except k.many k.one; anonymous = k.anonymous; window = k.window; media = k.media; event = k.event };
+      condition = record {
+        identity = who_ok ms d.one d.many d.except both.1 k.except k.many k.one;
+        anonymous = k.anonymous;
+        window = k.window;
+        media = k.media;
+        event = k.event;
+        diverted = k.diverted;
+        abroad = k.abroad;
+        weekly = k.weekly;
+      };
       action = act;
     }))
 
 -- the rules so far, and how many they will be
-abbrev AreRead : Service → ℕ → List Rule → Type 0
-AreRead s n rs = AllByRecursion (IsRule s) rs × (length rs ≡ n)
+abbrev AreRead : Schema → ℕ → List Rule → Type 0
+AreRead s n rs = AllByRecursion (IsRule s.service) rs × (length rs ≡ n)
 
-rules_ok : (s : Service) (path : List ℕ) (done : List Rule) (ds : Items) → AllByRecursion (IsRule s) done → IsSoundArray ds
+rules_ok : (s : Schema) (path : List ℕ) (done : List Rule) (ds : Items) → AllByRecursion (IsRule s.service) done → IsSoundArray ds
     → IfOk (rules_from s path done ds) (AreRead s (length done + items_count ds))
 rules_ok s path done no_items all sound = (all, omega arith)
 rules_ok s path done (item (string x) ds) all sound = tt
@@ -68,16 +79,16 @@ rules_ok s path done (item (boolean b) ds) all sound = tt
 rules_ok s path done (item (datetime dt) ds) all sound = tt
 rules_ok s path done (item (array es) ds) all sound = tt
 rules_ok s path done (item (table ms) ds) all sound =
-    then_all (rule_of s (rule_path path (length done)) ms) (λ r. rules_from s path (done ++ r ∷ []) ds) (IsRule s) (AreRead s (length done + items_count (item (table ms) ds))) (rule_ok s (rule_path path (length done)) ms sound.0)
+    then_all (rule_of s (rule_path path (length done)) ms) (λ r. rules_from s path (done ++ r ∷ []) ds) (IsRule s.service) (AreRead s (length done + items_count (item (table ms) ds))) (rule_ok s (rule_path path (length done)) ms sound.0)
     (λ r is.
     let count : length (done ++ r ∷ []) + items_count ds ≡ length done + (items_count ds + 1) = omega (arith, length-append done (r ∷ [])) in
-    rw (← count) (rules_ok s path (done ++ r ∷ []) ds (all_last (IsRule s) done r all is) sound.1))
+    rw (← count) (rules_ok s path (done ++ r ∷ []) ds (all_last (IsRule s.service) done r all is) sound.1))
 
-few_rules : (s : Service) (n : ℕ) (r : Read (List Rule)) → n ≤ 64 → IfOk r (AreRead s (0 + n)) → IfOk r (AreRules s)
+few_rules : (s : Schema) (n : ℕ) (r : Read (List Rule)) → n ≤ 64 → IfOk r (AreRead s (0 + n)) → IfOk r (AreRules s.service)
 few_rules s n (Ok rs) bound read = let count = read.1 in record { each = read.0; few = omega arith }
 few_rules s n (Err e) bound read = tt
 
-pub rules_at_ok : (s : Service) (at : List ℕ) (d : Data) → IsSound d → IfOk (rules_at s at d) (AreRules s)
+pub rules_at_ok : (s : Schema) (at : List ℕ) (d : Data) → IsSound d → IfOk (rules_at s at d) (AreRules s.service)
 rules_at_ok s at (string x) sound = tt
 rules_at_ok s at (integer z) sound = tt
 rules_at_ok s at (float x) sound = tt
@@ -85,8 +96,8 @@ rules_at_ok s at (boolean b) sound = tt
 rules_at_ok s at (datetime dt) sound = tt
 rules_at_ok s at (table ms) sound = tt
 rules_at_ok s at (array ds) sound =
-    where_ok (are_tables ds) (rules_within s at ds) (Wrong at) (AreRules s) (λ tables.
-    unless_err (nat_lt 64 (items_count ds)) (rules_from s at [] ds) (Many at 64) (AreRules s) (λ few.
+    where_ok (are_tables ds) (rules_within s at ds) (Wrong at) (AreRules s.service) (λ tables.
+    unless_err (nat_lt 64 (items_count ds)) (rules_from s at [] ds) (Many at 64) (AreRules s.service) (λ few.
     let bound : items_count ds ≤ 64 = grind (arith, nat_tests) in
     few_rules s (items_count ds) (rules_from s at [] ds) bound (rules_ok s at [] ds tt sound)))
 
@@ -127,13 +138,20 @@ number_ok least most at (table ms) = tt
 pub record IsDiversionDraft (r : DiversionDraft) : Type 0 where
   pub rules : AreRules service.Diversion r.rules
   pub no_reply : IsBetween 5 180 r.no_reply
+  pub bound : IfSome r.bound (λ n. n ≤ 16)
 
-diversion_step : (at : List ℕ) (r : DiversionDraft) (k : List ℕ) (d : Data) → IsDiversionDraft r → IsSound d → IfOk (diversion_key at r k d) IsDiversionDraft
-diversion_step at r k d is sound =
-    either (bytes_eq k (codes "active")) _ _ IsDiversionDraft (then_any (truth_at at d) _ IsDiversionDraft (λ b. record { rules = is.rules; no_reply = is.no_reply }))
-    (either (bytes_eq k (codes "deflection")) _ _ IsDiversionDraft (then_any (truth_at at d) _ IsDiversionDraft (λ b. record { rules = is.rules; no_reply = is.no_reply }))
-    (either (bytes_eq k (codes "no-reply-time")) _ _ IsDiversionDraft (then_all (number_at 5 180 at d) _ (IsBetween 5 180) IsDiversionDraft (number_ok 5 180 at d) (λ n p. record { rules = is.rules; no_reply = p }))
-    (either (bytes_eq k (codes "rule")) _ _ IsDiversionDraft (then_all (rules_at service.Diversion at d) _ (AreRules service.Diversion) IsDiversionDraft (rules_at_ok service.Diversion at d sound) (λ rs p. record { rules = p; no_reply = is.no_reply })) tt)))
+bound_key : (v : Version) (at : List ℕ) (r : DiversionDraft) (k : List ℕ) (d : Data) (more : Read DiversionDraft) → IsDiversionDraft r → IfOk more IsDiversionDraft
+    → IfOk (cond (is_bound v k) (then_do (number_at 0 16 at d) (λ n. Ok (record r { bound = Some n }))) more) IsDiversionDraft
+bound_key v at r k d more is rest =
+    either (is_bound v k) _ more IsDiversionDraft (then_all (number_at 0 16 at d) _ (IsBetween 0 16) IsDiversionDraft (number_ok 0 16 at d) (λ n p. record { rules = is.rules; no_reply = is.no_reply; bound = p.1 })) rest
+
+diversion_step : (v : Version) (at : List ℕ) (r : DiversionDraft) (k : List ℕ) (d : Data) → IsDiversionDraft r → IsSound d → IfOk (diversion_key v at r k d) IsDiversionDraft
+diversion_step v at r k d is sound =
+    either (bytes_eq k (codes "active")) _ _ IsDiversionDraft (then_any (truth_at at d) _ IsDiversionDraft (λ b. record { rules = is.rules; no_reply = is.no_reply; bound = is.bound }))
+    (bound_key v at r k d _ is
+    (either (bytes_eq k (codes "deflection")) _ _ IsDiversionDraft (then_any (truth_at at d) _ IsDiversionDraft (λ b. record { rules = is.rules; no_reply = is.no_reply; bound = is.bound }))
+    (either (bytes_eq k (codes "no-reply-time")) _ _ IsDiversionDraft (then_all (number_at 5 180 at d) _ (IsBetween 5 180) IsDiversionDraft (number_ok 5 180 at d) (λ n p. record { rules = is.rules; no_reply = p; bound = is.bound }))
+    (either (bytes_eq k (codes "rule")) _ _ IsDiversionDraft (then_all (rules_at (schema v service.Diversion) at d) _ (AreRules service.Diversion) IsDiversionDraft (rules_at_ok (schema v service.Diversion) at d sound) (λ rs p. record { rules = p; no_reply = is.no_reply; bound = is.bound })) tt))))
 
 no_rules : (s : Service) → AreRules s []
 no_rules s = record { each = tt; few = omega arith }
@@ -142,31 +160,31 @@ diversion_there : (active : Bool) (p : DiversionPart) → IsDiversion p → IfSo
 diversion_there true p is = is
 diversion_there false p is = tt
 
-diversion_ok : (path : List ℕ) (ms : Members) → IsSoundTable ms → IfOk (diversion_of path ms) (λ part. IfSome part IsDiversion)
-diversion_ok path ms sound =
-    then_all (members_from path diversion_key no_diversion_keys ms) (λ r. Ok (diversion_part r)) IsDiversionDraft (λ part. IfSome part IsDiversion)
-    (members_ok path diversion_key IsDiversionDraft diversion_step no_diversion_keys ms (record { rules = no_rules service.Diversion; no_reply = (omega arith, omega arith) }) sound)
-    (λ r is. diversion_there r.active _ (record { rules = is.rules; least = is.no_reply.0; most = is.no_reply.1 }))
+diversion_ok : (v : Version) (path : List ℕ) (ms : Members) → IsSoundTable ms → IfOk (diversion_of v path ms) (λ part. IfSome part IsDiversion)
+diversion_ok v path ms sound =
+    then_all (members_from path (λ at r k d. diversion_key v at r k d) no_diversion_keys ms) (λ r. Ok (diversion_part r)) IsDiversionDraft (λ part. IfSome part IsDiversion)
+    (members_ok path (λ at r k d. diversion_key v at r k d) IsDiversionDraft (diversion_step v) no_diversion_keys ms (record { rules = no_rules service.Diversion; no_reply = (omega arith, omega arith); bound = tt }) sound)
+    (λ r is. diversion_there r.active _ (record { rules = is.rules; least = is.no_reply.0; most = is.no_reply.1; bound = is.bound }))
 
 pub record IsBarDraft (s : Service) (r : BarDraft) : Type 0 where
   pub rules : AreRules s r.rules
   pub rejection : CanReject s r.reject_anonymous
 
 -- the keys of a barring table behind those of its truth values
-abbrev bar_rest : Service → List ℕ → BarDraft → List ℕ → Data → Read BarDraft
+abbrev bar_rest : Schema → List ℕ → BarDraft → List ℕ → Data → Read BarDraft
 bar_rest s at r k d = cond (bytes_eq k (codes "rule")) (then_do (rules_at s at d) (λ rs. Ok (record r { rules = rs }))) (Err (Unknown at))
 
-rejection_ok : (s : Service) (at : List ℕ) (r : BarDraft) (k : List ℕ) (d : Data) → IsBarDraft s r → IfOk (bar_rest s at r k d) (IsBarDraft s)
-    → IfOk (cond (is_rejection s k) (then_do (truth_at at d) (λ b. Ok (record r { reject_anonymous = b }))) (bar_rest s at r k d)) (IsBarDraft s)
-rejection_ok service.Diversion at r k d is more = more
-rejection_ok service.Incoming at r k d is more = either (bytes_eq k (codes "reject-anonymous")) _ _ (IsBarDraft service.Incoming) (then_any (truth_at at d) _ (IsBarDraft service.Incoming) (λ b. record { rules = is.rules; rejection = tt })) more
-rejection_ok service.Outgoing at r k d is more = more
+rejection_ok : (v : Version) (s : Service) (at : List ℕ) (r : BarDraft) (k : List ℕ) (d : Data) → IsBarDraft s r → IfOk (bar_rest (schema v s) at r k d) (IsBarDraft s)
+    → IfOk (cond (is_rejection s k) (then_do (truth_at at d) (λ b. Ok (record r { reject_anonymous = b }))) (bar_rest (schema v s) at r k d)) (IsBarDraft s)
+rejection_ok v service.Diversion at r k d is more = more
+rejection_ok v service.Incoming at r k d is more = either (bytes_eq k (codes "reject-anonymous")) _ _ (IsBarDraft service.Incoming) (then_any (truth_at at d) _ (IsBarDraft service.Incoming) (λ b. record { rules = is.rules; rejection = tt })) more
+rejection_ok v service.Outgoing at r k d is more = more
 
-bar_step : (s : Service) (at : List ℕ) (r : BarDraft) (k : List ℕ) (d : Data) → IsBarDraft s r → IsSound d → IfOk (bar_key s at r k d) (IsBarDraft s)
-bar_step s at r k d is sound =
+bar_step : (v : Version) (s : Service) (at : List ℕ) (r : BarDraft) (k : List ℕ) (d : Data) → IsBarDraft s r → IsSound d → IfOk (bar_key (schema v s) at r k d) (IsBarDraft s)
+bar_step v s at r k d is sound =
     either (bytes_eq k (codes "active")) _ _ (IsBarDraft s) (then_any (truth_at at d) _ (IsBarDraft s) (λ b. record { rules = is.rules; rejection = is.rejection }))
-    (rejection_ok s at r k d is
-    (either (bytes_eq k (codes "rule")) _ _ (IsBarDraft s) (then_all (rules_at s at d) _ (AreRules s) (IsBarDraft s) (rules_at_ok s at d sound) (λ rs p. record { rules = p; rejection = is.rejection })) tt))
+    (rejection_ok v s at r k d is
+    (either (bytes_eq k (codes "rule")) _ _ (IsBarDraft s) (then_all (rules_at (schema v s) at d) _ (AreRules s) (IsBarDraft s) (rules_at_ok (schema v s) at d sound) (λ rs p. record { rules = p; rejection = is.rejection })) tt))
 
 bar_there : (s : Service) (active : Bool) (p : BarPart) → IsBar s p → IfSome (cond active (Some p) None) (IsBar s)
 bar_there s true p is = is
@@ -177,10 +195,10 @@ no_rejection service.Diversion = λ e. absurd cc
 no_rejection service.Incoming = tt
 no_rejection service.Outgoing = λ e. absurd cc
 
-bar_ok : (s : Service) (path : List ℕ) (ms : Members) → IsSoundTable ms → IfOk (bar_of s path ms) (λ part. IfSome part (IsBar s))
-bar_ok s path ms sound =
-    then_all (members_from path (λ at r k d. bar_key s at r k d) no_bar_keys ms) (λ r. Ok (bar_part r)) (IsBarDraft s) (λ part. IfSome part (IsBar s))
-    (members_ok path (λ at r k d. bar_key s at r k d) (IsBarDraft s) (bar_step s) no_bar_keys ms (record { rules = no_rules s; rejection = no_rejection s }) sound)
+bar_ok : (v : Version) (s : Service) (path : List ℕ) (ms : Members) → IsSoundTable ms → IfOk (bar_of (schema v s) path ms) (λ part. IfSome part (IsBar s))
+bar_ok v s path ms sound =
+    then_all (members_from path (λ at r k d. bar_key (schema v s) at r k d) no_bar_keys ms) (λ r. Ok (bar_part r)) (IsBarDraft s) (λ part. IfSome part (IsBar s))
+    (members_ok path (λ at r k d. bar_key (schema v s) at r k d) (IsBarDraft s) (bar_step v s) no_bar_keys ms (record { rules = no_rules s; rejection = no_rejection s }) sound)
     (λ r is. bar_there s r.active _ (record { rules = is.rules; rejection = is.rejection }))
 
 waiting_step : (at : List ℕ) (r : WaitingDraft) (k : List ℕ) (d : Data) → IsWaiting r.calls → IsSound d → IfOk (waiting_key at r k d) (λ x. IsWaiting x.calls)
@@ -200,34 +218,42 @@ waiting_ok path ms sound =
 
 -- ---- the document
 
-table_ok : (at : List ℕ) (s : Sheet) (k : TableKey) (ms : Members) → IsPrintable s → IsSoundTable ms → IfOk (table_read at s k ms) IsPrintable
-table_ok at s key.Diversion ms is sound = then_all (diversion_of at ms) _ (λ part. IfSome part IsDiversion) IsPrintable (diversion_ok at ms sound) (λ p q. record { diversion = q; incoming = is.incoming; outgoing = is.outgoing; waiting = is.waiting })
-table_ok at s key.Incoming ms is sound = then_all (bar_of service.Incoming at ms) _ (λ part. IfSome part (IsBar service.Incoming)) IsPrintable (bar_ok service.Incoming at ms sound) (λ p q. record { diversion = is.diversion; incoming = q; outgoing = is.outgoing; waiting = is.waiting })
-table_ok at s key.Outgoing ms is sound = then_all (bar_of service.Outgoing at ms) _ (λ part. IfSome part (IsBar service.Outgoing)) IsPrintable (bar_ok service.Outgoing at ms sound) (λ p q. record { diversion = is.diversion; incoming = is.incoming; outgoing = q; waiting = is.waiting })
-table_ok at s key.Oip ms is sound = then_any (presentation_of at ms) _ IsPrintable (λ b. record { diversion = is.diversion; incoming = is.incoming; outgoing = is.outgoing; waiting = is.waiting })
-table_ok at s key.Oir ms is sound = then_any (restriction_of at ms) _ IsPrintable (λ r. record { diversion = is.diversion; incoming = is.incoming; outgoing = is.outgoing; waiting = is.waiting })
-table_ok at s key.Tip ms is sound = then_any (presentation_of at ms) _ IsPrintable (λ b. record { diversion = is.diversion; incoming = is.incoming; outgoing = is.outgoing; waiting = is.waiting })
-table_ok at s key.Tir ms is sound = then_any (restriction_of at ms) _ IsPrintable (λ r. record { diversion = is.diversion; incoming = is.incoming; outgoing = is.outgoing; waiting = is.waiting })
-table_ok at s key.Waiting ms is sound = then_all (waiting_of at ms) _ (λ part. IfSome part IsWaiting) IsPrintable (waiting_ok at ms sound) (λ p q. record { diversion = is.diversion; incoming = is.incoming; outgoing = is.outgoing; waiting = q })
+table_ok : (v : Version) (at : List ℕ) (s : Sheet) (k : TableKey) (ms : Members) → IsPrintable s → IsSoundTable ms → IfOk (table_read v at s k ms) IsPrintable
+table_ok v at s key.Diversion ms is sound = then_all (diversion_of v at ms) _ (λ part. IfSome part IsDiversion) IsPrintable (diversion_ok v at ms sound) (λ p q. record { diversion = q; incoming = is.incoming; outgoing = is.outgoing; waiting = is.waiting })
+table_ok v at s key.Incoming ms is sound = then_all (bar_of (schema v service.Incoming) at ms) _ (λ part. IfSome part (IsBar service.Incoming)) IsPrintable (bar_ok v service.Incoming at ms sound) (λ p q. record { diversion = is.diversion; incoming = q; outgoing = is.outgoing; waiting = is.waiting })
+table_ok v at s key.Outgoing ms is sound = then_all (bar_of (schema v service.Outgoing) at ms) _ (λ part. IfSome part (IsBar service.Outgoing)) IsPrintable (bar_ok v service.Outgoing at ms sound) (λ p q. record { diversion = is.diversion; incoming = is.incoming; outgoing = q; waiting = is.waiting })
+table_ok v at s key.Oip ms is sound = then_any (presentation_of at ms) _ IsPrintable (λ b. record { diversion = is.diversion; incoming = is.incoming; outgoing = is.outgoing; waiting = is.waiting })
+table_ok v at s key.Oir ms is sound = then_any (restriction_of at ms) _ IsPrintable (λ r. record { diversion = is.diversion; incoming = is.incoming; outgoing = is.outgoing; waiting = is.waiting })
+table_ok v at s key.Tip ms is sound = then_any (presentation_of at ms) _ IsPrintable (λ b. record { diversion = is.diversion; incoming = is.incoming; outgoing = is.outgoing; waiting = is.waiting })
+table_ok v at s key.Tir ms is sound = then_any (restriction_of at ms) _ IsPrintable (λ r. record { diversion = is.diversion; incoming = is.incoming; outgoing = is.outgoing; waiting = is.waiting })
+table_ok v at s key.Waiting ms is sound = then_all (waiting_of at ms) _ (λ part. IfSome part IsWaiting) IsPrintable (waiting_ok at ms sound) (λ p q. record { diversion = is.diversion; incoming = is.incoming; outgoing = is.outgoing; waiting = q })
 
-named_ok : (at : List ℕ) (s : Sheet) (o : Option TableKey) (d : Data) → IsPrintable s → IsSound d → IfOk (named_read at s o d) IsPrintable
-named_ok at s None d is sound = tt
-named_ok at s (Some k) (string x) is sound = tt
-named_ok at s (Some k) (integer z) is sound = tt
-named_ok at s (Some k) (float x) is sound = tt
-named_ok at s (Some k) (boolean b) is sound = tt
-named_ok at s (Some k) (datetime dt) is sound = tt
-named_ok at s (Some k) (array ds) is sound = tt
-named_ok at s (Some k) (table ms) is sound = table_ok at s k ms is sound
+named_ok : (v : Version) (at : List ℕ) (s : Sheet) (o : Option TableKey) (d : Data) → IsPrintable s → IsSound d → IfOk (named_read v at s o d) IsPrintable
+named_ok v at s None d is sound = tt
+named_ok v at s (Some k) (string x) is sound = tt
+named_ok v at s (Some k) (integer z) is sound = tt
+named_ok v at s (Some k) (float x) is sound = tt
+named_ok v at s (Some k) (boolean b) is sound = tt
+named_ok v at s (Some k) (datetime dt) is sound = tt
+named_ok v at s (Some k) (array ds) is sound = tt
+named_ok v at s (Some k) (table ms) is sound = table_ok v at s k ms is sound
 
-sheet_ok : (s : Sheet) (ms : Members) → IsPrintable s → IsSoundTable ms → IfOk (sheet_from s ms) IsPrintable
-sheet_ok s no_members is sound = is
-sheet_ok s (member k d ms) is sound =
-    then_all (named_read k s (table_key_of k) d) (λ t. sheet_from t ms) IsPrintable IsPrintable (named_ok k s (table_key_of k) d is sound.1) (λ t p. sheet_ok t ms p sound.2)
+name_ok : (v : Version) (k : List ℕ) (s : Sheet) (d : Data) → IsPrintable s → IsSound d → IfOk (name_read v k s d) IsPrintable
+name_ok v k s d is sound =
+    either (bytes_eq k (codes "version")) (then_do (version_at k d) (λ w. Ok s)) (named_read v k s (table_key_of k) d) IsPrintable (then_any (version_at k d) _ IsPrintable (λ w. is))
+    (named_ok v k s (table_key_of k) d is sound)
+
+sheet_ok : (v : Version) (s : Sheet) (ms : Members) → IsPrintable s → IsSoundTable ms → IfOk (sheet_from v s ms) IsPrintable
+sheet_ok v s no_members is sound = is
+sheet_ok v s (member k d ms) is sound =
+    then_all (name_read v k s d) (λ t. sheet_from v t ms) IsPrintable IsPrintable (name_ok v k s d is sound.1) (λ t p. sheet_ok v t ms p sound.2)
+
+document_ok : (ms : Members) → IsSoundTable ms → IfOk (sheet_of ms) IsPrintable
+document_ok ms sound =
+    then_any (version_of ms) (λ v. sheet_from v empty_sheet ms) IsPrintable (λ v. sheet_ok v empty_sheet ms (record { diversion = tt; incoming = tt; outgoing = tt; waiting = tt }) sound)
 
 pub read_printable : (ms : Members) (s : Sheet) → IsSoundTable ms → sheet_of ms ≡ Ok s → IsPrintable s
-read_printable ms s sound e =
-    at_ok (sheet_of ms) s IsPrintable (sheet_ok empty_sheet ms (record { diversion = tt; incoming = tt; outgoing = tt; waiting = tt }) sound) e
+read_printable ms s sound e = at_ok (sheet_of ms) s IsPrintable (document_ok ms sound) e
 
 -- what the reader answers of a sound document
 pub answered : (ms : Members) (r : Read Sheet) → Answers (sheet_of ms) r → IfOk r (λ _. IsSoundTable ms) → IfOk r IsPrintable

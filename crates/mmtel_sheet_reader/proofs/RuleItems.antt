@@ -9,7 +9,7 @@ use Rattle.mmtel_sheet_values.specs.declared.values.Rule.{Rule}
 use Rattle.mmtel_sheet_grammar.specs.Answers.{Read, then_do, or_wrong}
 use Rattle.mmtel_sheet_grammar.specs.Keys.{rule_path}
 use Rattle.mmtel_sheet_grammar.specs.Rules.{are_tables, rule_of, rules_from}
-use Rattle.mmtel_sheet_grammar.specs.declared.keys.Service.{Service}
+use Rattle.mmtel_sheet_grammar.specs.declared.keys.Schema.{Schema}
 use Rattle.mmtel_sheet_reader.proofs.Items.{first_left}
 
 module _ {A B C : Type 0} where
@@ -18,10 +18,10 @@ module _ {A B C : Type 0} where
   then_then (Err e) f g = refl
 
 -- the rule of one more item, behind those before it
-abbrev pub next_rule : Service → List ℕ → List Rule → Data → Read Rule
+abbrev pub next_rule : Schema → List ℕ → List Rule → Data → Read Rule
 next_rule s path done d = then_do (or_wrong path (as_table d)) (λ ms. rule_of s (rule_path path (length done)) ms)
 
-pub rules_go : (s : Service) (path : List ℕ) (done : List Rule) (d : Data) (ds : Items)
+pub rules_go : (s : Schema) (path : List ℕ) (done : List Rule) (d : Data) (ds : Items)
     → rules_from s path done (item d ds) ≡ then_do (next_rule s path done d) (λ r. rules_from s path (done ++ r ∷ []) ds)
 rules_go s path done d ds = then_then (or_wrong path (as_table d)) (λ ms. rule_of s (rule_path path (length done)) ms) (λ r. rules_from s path (done ++ r ∷ []) ds)
 

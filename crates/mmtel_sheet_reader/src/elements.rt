@@ -1,15 +1,16 @@
 //! The values at the keys of records.
-ghost use Rattle.std.specs.Prelude.{◌≡◌, ◌≤◌, [], Ok, IfOk};
+ghost use Rattle.std.specs.Prelude.{◌≡◌, ◌≤◌, ◌<◌, [], Ok, IfOk, IfSome};
 ghost use Rattle.toml.specs.View.{view, array_view};
 ghost use Rattle.mmtel_sheet_grammar.specs.Answers.{Answers, then_do};
 ghost use Rattle.mmtel_sheet_grammar.specs.Elements.{truth_at, number_at, text_at, uri_at, is_international, is_target, target_at, is_domain, domain_at, is_token_text};
-ghost use Rattle.mmtel_sheet_grammar.specs.Elements.{token_at, time_at, items_from, uris_at, tokens_at};
+ghost use Rattle.mmtel_sheet_grammar.specs.Elements.{token_at, time_at, items_from, uris_at, tokens_at, day_of, no_days, with_day, day_read, days_from, has_day, days_at};
+ghost use Rattle.mmtel_sheet_grammar.specs.Elements.{clock_of, clock_at, offset_at};
 ghost use Rattle.mmtel_sheet_grammar.specs.Sound.{IsSound, IsSoundArray};
 
 use crate::faults::wrong;
 use crate::moments::read_time;
 use mmtel_lex::{List, Text, Uri, UriFault, read_uri};
-use mmtel_scan::{Class, is_all};
+use mmtel_scan::{Class, is_all, number_up_to};
 use mmtel_sheet_grammar::SheetFault;
 use std::alloc::Global;
 use toml::Value;
@@ -209,5 +210,138 @@ pub fn tokens(alloc: Global, at: &[u8], value: &Value) -> Result<List<Text>, She
     match value {
         Value::Array(items) => each_token(alloc, at, items),
         _ => wrong(alloc, at),
+    }
+}
+
+/// The place of a day in the week, from Monday on.
+#[tactic(auto, unfolding(mmtel_sheet_grammar::specs::Elements::day_of))]
+fn day_of(word: &str) -> Option<usize>
+    ensures exact { result ≡ day_of word.now }
+    ensures within { IfSome result (λ n. n < 7) }
+{
+    match word {
+        "mon" => Some(0),
+        "tue" => Some(1),
+        "wed" => Some(2),
+        "thu" => Some(3),
+        "fri" => Some(4),
+        "sat" => Some(5),
+        "sun" => Some(6),
+        _ => None,
+    }
+}
+
+/// One more day, which was not named before.
+fn with_day(days: [bool; 7], day: usize) -> Option<[bool; 7]>
+    requires { day < 7 }
+    ensures { result ≡ with_day days day }
+{
+    if days[day] {
+        return None;
+    }
+    let mut more = days;
+    more[day] = true;
+    Some(more)
+}
+
+/// The days so far, and one more.
+fn read_day(
+    alloc: Global,
+    at: &[u8],
+    days: [bool; 7],
+    value: &Value,
+) -> Result<[bool; 7], SheetFault>
+    ensures exact { Answers (day_read at.now days (view value.now)) result }
+    ensures sound { IfOk result (λ _. IsSound (view value.now)) }
+{
+    let Value::String(word) = value else {
+        return wrong(alloc, at);
+    };
+    let Some(day) = day_of(word.as_str()) else {
+        return wrong(alloc, at);
+    };
+    match with_day(days, day) {
+        Some(more) => Ok(more),
+        None => wrong(alloc, at),
+    }
+}
+
+fn each_day(alloc: Global, at: &[u8], items: &Array) -> Result<[bool; 7], SheetFault>
+    ensures exact { Answers (days_from at.now no_days (array_view items.now)) result }
+    ensures sound { IfOk result (λ _. IsSoundArray (array_view items.now)) }
+{
+    let mut days = [false; 7];
+    'items: for item in items {
+        days = read_day(alloc, at, days, item)?;
+    }
+    Ok(days)
+}
+
+fn has_day(days: &[bool]) -> bool
+    ensures { result ≡ has_day days.now }
+{
+    days.iter().any(|day| *day)
+}
+
+/// An array of one day or more, each named once: which of the week they are, Monday first.
+pub fn days(alloc: Global, at: &[u8], value: &Value) -> Result<[bool; 7], SheetFault>
+    ensures exact { Answers (days_at at.now (view value.now)) result }
+    ensures sound { IfOk result (λ _. IsSound (view value.now)) }
+{
+    let Value::Array(items) = value else {
+        return wrong(alloc, at);
+    };
+    let days = each_day(alloc, at, items)?;
+    if has_day(&days) {
+        Ok(days)
+    } else {
+        wrong(alloc, at)
+    }
+}
+
+/// The minutes since the day began that `HH:MM` writes, of at most this many.
+fn clock_of(most: u16, bytes: &[u8]) -> Option<u16>
+    ensures { result ≡ clock_of most bytes.now }
+{
+    let [_, _, b':', _, _] = bytes else {
+        return None;
+    };
+    let hours = number_up_to(24, &bytes[..2])?;
+    let minutes = number_up_to(59, &bytes[3..])?;
+    let clock = hours * 60 + minutes;
+    if clock <= u64::from(most) {
+        Some(clock as u16)
+    } else {
+        None
+    }
+}
+
+/// A time of the day, `HH:MM`, as the minutes since it began, of at most this many.
+pub fn clock(alloc: Global, at: &[u8], value: &Value, most: u16) -> Result<u16, SheetFault>
+    ensures exact { Answers (clock_at most at.now (view value.now)) result }
+    ensures sound { IfOk result (λ _. IsSound (view value.now)) }
+{
+    let Value::String(text) = value else {
+        return wrong(alloc, at);
+    };
+    match clock_of(most, text.as_bytes()) {
+        Some(clock) => Ok(clock),
+        None => wrong(alloc, at),
+    }
+}
+
+/// The minutes by which a clock is ahead of UTC, at most 14 hours.
+pub fn offset(alloc: Global, at: &[u8], value: &Value) -> Result<i16, SheetFault>
+    ensures exact { Answers (offset_at at.now (view value.now)) result }
+    ensures sound { IfOk result (λ _. IsSound (view value.now)) }
+{
+    let Value::Integer(minutes) = value else {
+        return wrong(alloc, at);
+    };
+    let minutes = *minutes;
+    if -840 <= minutes && minutes <= 840 {
+        Ok(minutes as i16)
+    } else {
+        wrong(alloc, at)
     }
 }

@@ -1,9 +1,10 @@
 //! The keys of records, by their names.
 ghost use Rattle.std.specs.Prelude.{◌≡◌, IfOk, ◌++◌, codes, decimal};
-ghost use Rattle.mmtel_sheet_grammar.specs.Keys.{event_of, notice_of, identity_key_of, other_key_of, identity_or, notice_or, rule_key_of, is_listed, dotted, rule_path};
+ghost use Rattle.mmtel_sheet_grammar.specs.Keys.{event_of, notice_of, identity_key_of, second_key_of, other_key_of, key_or, notice_or, rule_key_of, is_second};
+ghost use Rattle.mmtel_sheet_grammar.specs.Keys.{meets_callers, is_outgoing, is_listed, dotted, rule_path};
 
 use mmtel_lex::{NoMemory, Text};
-use mmtel_sheet_grammar::keys::{Notice, RuleKey, Service};
+use mmtel_sheet_grammar::keys::{Notice, RuleKey, Schema, Service, Version};
 use mmtel_sheet_values::EventWord;
 use std::alloc::Global;
 
@@ -46,6 +47,21 @@ fn identity_key(name: &str) -> Option<RuleKey>
     }
 }
 
+#[tactic(auto, unfolding(mmtel_sheet_grammar::specs::Keys::second_key_of))]
+fn second_key(name: &str) -> Option<RuleKey>
+    ensures { result ≡ second_key_of name.now }
+{
+    match name {
+        "communication-diverted" => Some(RuleKey::Diverted),
+        "day-from" => Some(RuleKey::DayFrom),
+        "day-until" => Some(RuleKey::DayUntil),
+        "days" => Some(RuleKey::Days),
+        "international" => Some(RuleKey::International),
+        "offset" => Some(RuleKey::Offset),
+        _ => None,
+    }
+}
+
 #[tactic(auto, unfolding(mmtel_sheet_grammar::specs::Keys::other_key_of))]
 fn other_key(name: &str) -> Option<RuleKey>
     ensures { result ≡ other_key_of name.now }
@@ -61,17 +77,26 @@ fn other_key(name: &str) -> Option<RuleKey>
     }
 }
 
-fn identity_or_other(name: &str) -> Option<RuleKey>
-    ensures { result ≡ identity_or (identity_key_of name.now) (other_key_of name.now) }
+fn second_or_other(name: &str) -> Option<RuleKey>
+    ensures { result ≡ key_or (second_key_of name.now) (other_key_of name.now) }
 {
-    match identity_key(name) {
+    match second_key(name) {
         Some(key) => Some(key),
         None => other_key(name),
     }
 }
 
+fn identity_or_other(name: &str) -> Option<RuleKey>
+    ensures { result ≡ key_or (identity_key_of name.now) (key_or (second_key_of name.now) (other_key_of name.now)) }
+{
+    match identity_key(name) {
+        Some(key) => Some(key),
+        None => second_or_other(name),
+    }
+}
+
 fn notice_or_other(name: &str) -> Option<RuleKey>
-    ensures { result ≡ notice_or (notice_of name.now) (identity_or (identity_key_of name.now) (other_key_of name.now)) }
+    ensures { result ≡ notice_or (notice_of name.now) (key_or (identity_key_of name.now) (key_or (second_key_of name.now) (other_key_of name.now))) }
 {
     match notice_key(name) {
         Some(notice) => Some(RuleKey::Notice(notice)),
@@ -89,20 +114,52 @@ pub fn rule_key(name: &str) -> Option<RuleKey>
     }
 }
 
-/// Whether the rules of the service have the key.
-pub fn is_listed(service: Service, key: RuleKey) -> bool
-    ensures { result ≡ is_listed service key }
+/// Whether the record is of the second version.
+fn is_second(version: Version) -> bool
+    ensures { result ≡ is_second version }
+{
+    match version {
+        Version::One => false,
+        Version::Two => true,
+    }
+}
+
+/// Whether who calls is known where the rules of the service are asked.
+fn meets_callers(service: Service) -> bool
+    ensures { result ≡ meets_callers service }
+{
+    match service {
+        Service::Diversion | Service::Incoming => true,
+        Service::Outgoing => false,
+    }
+}
+
+/// Whether where a call goes is asked by the rules of the service.
+fn is_outgoing(service: Service) -> bool
+    ensures { result ≡ is_outgoing service }
+{
+    match service {
+        Service::Diversion | Service::Incoming => false,
+        Service::Outgoing => true,
+    }
+}
+
+/// Whether the rules have the key.
+pub fn is_listed(schema: Schema, key: RuleKey) -> bool
+    ensures { result ≡ is_listed schema key }
 {
     match key {
-        RuleKey::Allow => match service {
+        RuleKey::Allow => match schema.service {
             Service::Diversion => false,
             Service::Incoming | Service::Outgoing => true,
         },
-        RuleKey::Anonymous => match service {
-            Service::Diversion | Service::Incoming => true,
-            Service::Outgoing => false,
-        },
-        RuleKey::Event(_) | RuleKey::Notice(_) | RuleKey::Target => match service {
+        RuleKey::Anonymous => meets_callers(schema.service),
+        RuleKey::DayFrom | RuleKey::DayUntil | RuleKey::Days | RuleKey::Offset => {
+            is_second(schema.version)
+        }
+        RuleKey::Diverted => is_second(schema.version) && meets_callers(schema.service),
+        RuleKey::International => is_second(schema.version) && is_outgoing(schema.service),
+        RuleKey::Event(_) | RuleKey::Notice(_) | RuleKey::Target => match schema.service {
             Service::Diversion => true,
             Service::Incoming | Service::Outgoing => false,
         },

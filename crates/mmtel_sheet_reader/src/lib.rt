@@ -10,4 +10,4 @@ mod reading;
 mod rules;
 mod tables;
 
-pub use reading::read_sheet;
+pub use reading::{read_old_sheet, read_sheet};

@@ -1,13 +1,18 @@
 //! Reading a record.
-ghost use Rattle.std.specs.Prelude.{IfOk};
+ghost use Rattle.std.specs.Prelude.{◌≡◌, IfOk, IfSome};
 ghost use Rattle.mmtel_sheet_grammar.specs.Printable.{IsPrintable};
-ghost use Rattle.mmtel_sheet_grammar.specs.Texts.{sheet_read, TellsRead};
-ghost use Rattle.mmtel_sheet_grammar.specs.Walk.{IsRead};
+ghost use Rattle.mmtel_sheet_grammar.specs.Texts.{sheet_read, TellsRead, old_sheet, where_first};
+ghost use Rattle.mmtel_sheet_grammar.specs.Walk.{IsRead, sheet_of, version_of};
+ghost use Rattle.mmtel_sheet_reader.specs.Kept.{Kept};
+ghost use Rattle.toml.specs.View.{table_view};
 
-use crate::tables::sheet;
+use crate::tables::{sheet, version};
+use mmtel_lex::NoMemory;
 use mmtel_sheet_grammar::SheetFault;
+use mmtel_sheet_grammar::keys::Version;
 use mmtel_sheet_values::Sheet;
 use std::alloc::Global;
+use toml::Table;
 
 /// Reads a service record: a TOML document of tables.
 ///
@@ -29,6 +34,49 @@ pub fn read_sheet(alloc: Global, bytes: &[u8]) -> Result<Sheet, SheetFault>
         Err(error) => match error.span() {
             Some(_) => Err(SheetFault::NotToml),
             None => Err(SheetFault::NoMemory),
+        },
+    }
+}
+
+/// What is read, unless it is refused; want of memory is no refusal.
+fn unless_refused<T>(read: Result<T, SheetFault>) -> Result<Option<T>, NoMemory>
+    ensures { Kept read result }
+{
+    match read {
+        Ok(value) => Ok(Some(value)),
+        Err(SheetFault::NoMemory) => Err(NoMemory),
+        Err(_) => Ok(None),
+    }
+}
+
+/// The sheet of a document of the first version.
+#[tactic(auto, using(crate::proofs::ReadTables::answered))]
+fn sheet_of_first(alloc: Global, table: &Table) -> Result<Option<Sheet>, NoMemory>
+    ensures exact { IfOk result (λ o. o ≡ where_first (version_of (table_view table.now)) (sheet_of (table_view table.now))) }
+    ensures printable { IfOk result (λ o. IfSome o IsPrintable) }
+{
+    match unless_refused(version(alloc, table))? {
+        Some(Version::One) => unless_refused(sheet(alloc, table)),
+        _ => Ok(None),
+    }
+}
+
+/// The sheet of a record of the first version; None of a later one, and of a text that is no record.
+///
+/// # Errors
+///
+/// Want of memory alone.
+#[tactic(auto, using(crate::proofs::Told::none_old))]
+pub fn read_old_sheet(alloc: Global, bytes: &[u8]) -> Result<Option<Sheet>, NoMemory>
+    ensures exact { IfOk result (λ o. o ≡ old_sheet bytes.now) }
+    // The sheet can be printed.
+    ensures printable { IfOk result (λ o. IfSome o IsPrintable) }
+{
+    match toml::table_from_slice(alloc, bytes) {
+        Ok(table) => sheet_of_first(alloc, &table),
+        Err(error) => match error.span() {
+            Some(_) => Ok(None),
+            None => Err(NoMemory),
         },
     }
 }

@@ -5,18 +5,19 @@ ghost use Rattle.toml.specs.View.{view, table_view, array_view};
 ghost use Rattle.mmtel_sheet_grammar.specs.Answers.{Answers, then_do, or_wrong};
 ghost use Rattle.mmtel_sheet_grammar.specs.Keys.{dotted, rule_key_of, rule_path};
 ghost use Rattle.mmtel_sheet_grammar.specs.Rules.{has_key, no_keys, with_notice, event_read, except_read, one_read, from_read, until_read, key_read, listed, rule_key_read};
+ghost use Rattle.mmtel_sheet_grammar.specs.Rules.{day_from_read, day_until_read, days_read, offset_read};
 ghost use Rattle.mmtel_sheet_grammar.specs.Rules.{who_of, condition_of, forward_read, allow_read, action_of, keys_of_rule, rule_of, are_tables, items_count, rules_from};
 ghost use Rattle.mmtel_sheet_grammar.specs.Rules.{rules_of, rules_at};
 ghost use Rattle.mmtel_sheet_grammar.specs.Sound.{IsSound, IsSoundArray, IsSoundTable};
 
-use crate::elements::{domain, target, text, time, tokens, truth, uris};
+use crate::elements::{clock, days, domain, offset, target, text, time, tokens, truth, uris};
 use crate::faults::{many, unknown, wrong};
 use crate::keys::{below, is_listed, rule_key, rule_path};
 use mmtel_lex::{List, Text, Uri};
 use mmtel_sheet_grammar::SheetFault;
-use mmtel_sheet_grammar::drafts::{Notices, RuleDraft};
-use mmtel_sheet_grammar::keys::{Notice, RuleKey, Service};
-use mmtel_sheet_values::{Action, Condition, EventWord, Forward, Rule, Who, Window};
+use mmtel_sheet_grammar::drafts::{Hours, Notices, RuleDraft};
+use mmtel_sheet_grammar::keys::{Notice, RuleKey, Schema, Service};
+use mmtel_sheet_values::{Action, Condition, EventWord, Forward, Rule, Weekly, Who, Window};
 use std::alloc::Global;
 use toml::value::Array;
 use toml::{Table, Value};
@@ -25,11 +26,15 @@ fn no_keys() -> RuleDraft
     ensures { result ≡ no_keys }
 {
     RuleDraft {
+        abroad: false,
         allow: None,
         anonymous: false,
+        day_from: None,
+        diverted: false,
         event: None,
         except: List::new(),
         from: None,
+        hours: None,
         many: None,
         media: None,
         notices: Notices {
@@ -40,6 +45,7 @@ fn no_keys() -> RuleDraft
         },
         one: None,
         target: None,
+        weekly: None,
         window: None,
     }
 }
@@ -183,6 +189,85 @@ fn read_until(
     }
 }
 
+/// The start of the hours.
+fn read_day_from(
+    alloc: Global,
+    at: &[u8],
+    draft: &mut RuleDraft,
+    table: &Table,
+    from: u16,
+) -> Result<(), SheetFault>
+    ensures { Answers (day_from_read at.now draft.old (table_view table.now) from) (then_do result (λ _. Ok draft.new)) }
+{
+    if !has_key(table, "day-until") {
+        return wrong(alloc, at);
+    }
+    if !has_key(table, "days") {
+        return wrong(alloc, at);
+    }
+    draft.day_from = Some(from);
+    Ok(())
+}
+
+/// The end of the hours.
+fn read_day_until(
+    alloc: Global,
+    at: &[u8],
+    draft: &mut RuleDraft,
+    until: u16,
+) -> Result<(), SheetFault>
+    ensures { Answers (day_until_read at.now draft.old until draft.old.day_from) (then_do result (λ _. Ok draft.new)) }
+{
+    match draft.day_from {
+        Some(from) if from < until => {
+            draft.hours = Some(Hours { from, until });
+            Ok(())
+        }
+        _ => wrong(alloc, at),
+    }
+}
+
+/// The days, beside the hours.
+fn read_days(
+    alloc: Global,
+    at: &[u8],
+    draft: &mut RuleDraft,
+    days: [bool; 7],
+) -> Result<(), SheetFault>
+    ensures { Answers (days_read at.now draft.old days draft.old.hours) (then_do result (λ _. Ok draft.new)) }
+{
+    match draft.hours {
+        Some(hours) => {
+            draft.weekly = Some(Weekly {
+                days,
+                from: hours.from,
+                until: hours.until,
+                offset: 0,
+            });
+            Ok(())
+        }
+        None => wrong(alloc, at),
+    }
+}
+
+/// The offset of the clock, beside the days.
+fn read_offset(
+    alloc: Global,
+    at: &[u8],
+    draft: &mut RuleDraft,
+    offset: i16,
+) -> Result<(), SheetFault>
+    ensures { Answers (offset_read at.now draft.old offset draft.old.weekly) (then_do result (λ _. Ok draft.new)) }
+{
+    match draft.weekly {
+        Some(weekly) => {
+            draft.weekly = Some(Weekly { offset, ..weekly });
+            Ok(())
+        }
+        None => wrong(alloc, at),
+    }
+}
+
 /// The value at a key.
 fn read_key(
     alloc: Global,
@@ -204,10 +289,23 @@ fn read_key(
             draft.anonymous = truth(alloc, at, value)?;
             Ok(())
         }
+        RuleKey::DayFrom => {
+            read_day_from(alloc, at, draft, table, clock(alloc, at, value, 1439)?)
+        }
+        RuleKey::DayUntil => read_day_until(alloc, at, draft, clock(alloc, at, value, 1440)?),
+        RuleKey::Days => read_days(alloc, at, draft, days(alloc, at, value)?),
+        RuleKey::Diverted => {
+            draft.diverted = truth(alloc, at, value)?;
+            Ok(())
+        }
         RuleKey::Event(event) => read_event(alloc, at, draft, event, truth(alloc, at, value)?),
         RuleKey::Except => read_except(alloc, at, draft, table, uris(alloc, at, value)?),
         RuleKey::From => read_from(alloc, at, draft, table, time(alloc, at, value)?),
         RuleKey::Id => text(alloc, at, value),
+        RuleKey::International => {
+            draft.abroad = truth(alloc, at, value)?;
+            Ok(())
+        }
         RuleKey::Many => {
             drop(draft.many.replace(domain(alloc, at, value)?));
             Ok(())
@@ -220,6 +318,7 @@ fn read_key(
             draft.notices = with_notice(notice, truth(alloc, at, value)?, draft.notices);
             Ok(())
         }
+        RuleKey::Offset => read_offset(alloc, at, draft, offset(alloc, at, value)?),
         RuleKey::One => read_one(alloc, at, draft, uris(alloc, at, value)?),
         RuleKey::Target => {
             drop(draft.target.replace(target(alloc, at, value)?));
@@ -229,11 +328,11 @@ fn read_key(
     }
 }
 
-fn listed_key(service: Service, name: &str) -> Option<RuleKey>
-    ensures { result ≡ listed service (rule_key_of name.now) }
+fn listed_key(schema: Schema, name: &str) -> Option<RuleKey>
+    ensures { result ≡ listed schema (rule_key_of name.now) }
 {
     match rule_key(name) {
-        Some(key) if is_listed(service, key) => Some(key),
+        Some(key) if is_listed(schema, key) => Some(key),
         _ => None,
     }
 }
@@ -241,18 +340,18 @@ fn listed_key(service: Service, name: &str) -> Option<RuleKey>
 /// One more key of the table.
 fn read_name(
     alloc: Global,
-    service: Service,
+    schema: Schema,
     table: &Table,
     path: &[u8],
     draft: &mut RuleDraft,
     name: &str,
     value: &Value,
 ) -> Result<(), SheetFault>
-    ensures exact { Answers (rule_key_read service (table_view table.now) (dotted path.now name.now) draft.old name.now (view value.now)) (then_do result (λ _. Ok draft.new)) }
+    ensures exact { Answers (rule_key_read schema (table_view table.now) (dotted path.now name.now) draft.old name.now (view value.now)) (then_do result (λ _. Ok draft.new)) }
     ensures sound { IfOk result (λ _. IsSound (view value.now)) }
 {
     let at = below(alloc, path, name.as_bytes())?;
-    match listed_key(service, name) {
+    match listed_key(schema, name) {
         Some(key) => read_key(alloc, table, at.bytes(), draft, key, value),
         None => unknown(alloc, at.bytes()),
     }
@@ -260,16 +359,16 @@ fn read_name(
 
 fn keys_of_rule(
     alloc: Global,
-    service: Service,
+    schema: Schema,
     path: &[u8],
     table: &Table,
 ) -> Result<RuleDraft, SheetFault>
-    ensures exact { Answers (keys_of_rule service path.now (table_view table.now)) result }
+    ensures exact { Answers (keys_of_rule schema path.now (table_view table.now)) result }
     ensures sound { IfOk result (λ _. IsSoundTable (table_view table.now)) }
 {
     let mut draft = no_keys();
     'members: for (key, value) in table.iter() {
-        match read_name(alloc, service, table, path, &mut draft, key.as_str(), value) {
+        match read_name(alloc, schema, table, path, &mut draft, key.as_str(), value) {
             Ok(()) => {}
             Err(fault) => {
                 drop(draft);
@@ -349,14 +448,14 @@ fn action(
     }
 }
 
-fn rule(alloc: Global, service: Service, path: &[u8], table: &Table) -> Result<Rule, SheetFault>
-    ensures exact { Answers (rule_of service path.now (table_view table.now)) result }
+fn rule(alloc: Global, schema: Schema, path: &[u8], table: &Table) -> Result<Rule, SheetFault>
+    ensures exact { Answers (rule_of schema path.now (table_view table.now)) result }
     ensures sound { IfOk result (λ _. IsSoundTable (table_view table.now)) }
 {
-    let draft = keys_of_rule(alloc, service, path, table)?;
+    let draft = keys_of_rule(alloc, schema, path, table)?;
     let action = action(
         alloc,
-        service,
+        schema.service,
         path,
         draft.target,
         draft.notices,
@@ -368,6 +467,9 @@ fn rule(alloc: Global, service: Service, path: &[u8], table: &Table) -> Result<R
         window: draft.window,
         media: draft.media,
         event: draft.event,
+        diverted: draft.diverted,
+        abroad: draft.abroad,
+        weekly: draft.weekly,
     };
     Ok(Rule { condition, action })
 }
@@ -375,16 +477,16 @@ fn rule(alloc: Global, service: Service, path: &[u8], table: &Table) -> Result<R
 /// The rule with this number.
 fn numbered_rule(
     alloc: Global,
-    service: Service,
+    schema: Schema,
     path: &[u8],
     number: usize,
     table: &Table,
 ) -> Result<Rule, SheetFault>
-    ensures exact { Answers (rule_of service (rule_path path.now number) (table_view table.now)) result }
+    ensures exact { Answers (rule_of schema (rule_path path.now number) (table_view table.now)) result }
     ensures sound { IfOk result (λ _. IsSoundTable (table_view table.now)) }
 {
     let path = rule_path(alloc, path, number)?;
-    rule(alloc, service, path.bytes(), table)
+    rule(alloc, schema, path.bytes(), table)
 }
 
 fn are_tables(items: &Array) -> bool
@@ -401,32 +503,32 @@ fn are_tables(items: &Array) -> bool
 /// The rule of one more item, behind those before it.
 fn next_rule(
     alloc: Global,
-    service: Service,
+    schema: Schema,
     path: &[u8],
     before: &List<Rule>,
     item: &Value,
 ) -> Result<Rule, SheetFault>
-    ensures exact { Answers (then_do (or_wrong path.now (as_table (view item.now))) (λ ms. rule_of service (rule_path path.now (length before.now)) ms)) result }
+    ensures exact { Answers (then_do (or_wrong path.now (as_table (view item.now))) (λ ms. rule_of schema (rule_path path.now (length before.now)) ms)) result }
     ensures sound { IfOk result (λ _. IsSound (view item.now)) }
 {
     let Value::Table(table) = item else {
         return wrong(alloc, path);
     };
-    numbered_rule(alloc, service, path, before.items().len(), table)
+    numbered_rule(alloc, schema, path, before.items().len(), table)
 }
 
 fn each_rule(
     alloc: Global,
-    service: Service,
+    schema: Schema,
     path: &[u8],
     items: &Array,
 ) -> Result<List<Rule>, SheetFault>
-    ensures exact { Answers (rules_from service path.now [] (array_view items.now)) result }
+    ensures exact { Answers (rules_from schema path.now [] (array_view items.now)) result }
     ensures sound { IfOk result (λ _. IsSoundArray (array_view items.now)) }
 {
     let mut rules = List::new();
     'items: for item in items {
-        rules.push(alloc, next_rule(alloc, service, path, &rules, item)?)?;
+        rules.push(alloc, next_rule(alloc, schema, path, &rules, item)?)?;
     }
     Ok(rules)
 }
@@ -440,11 +542,11 @@ fn is_long(items: &Array) -> bool
 
 fn rules_of(
     alloc: Global,
-    service: Service,
+    schema: Schema,
     path: &[u8],
     items: &Array,
 ) -> Result<List<Rule>, SheetFault>
-    ensures exact { Answers (rules_of service path.now (array_view items.now)) result }
+    ensures exact { Answers (rules_of schema path.now (array_view items.now)) result }
     ensures sound { IfOk result (λ _. IsSoundArray (array_view items.now)) }
 {
     if !are_tables(items) {
@@ -453,21 +555,21 @@ fn rules_of(
     if is_long(items) {
         return many(alloc, path);
     }
-    each_rule(alloc, service, path, items)
+    each_rule(alloc, schema, path, items)
 }
 
 /// The rules of a service: an array of at most 64 tables.
 pub fn rules(
     alloc: Global,
-    service: Service,
+    schema: Schema,
     at: &[u8],
     value: &Value,
 ) -> Result<List<Rule>, SheetFault>
-    ensures exact { Answers (rules_at service at.now (view value.now)) result }
+    ensures exact { Answers (rules_at schema at.now (view value.now)) result }
     ensures sound { IfOk result (λ _. IsSound (view value.now)) }
 {
     match value {
-        Value::Array(items) => rules_of(alloc, service, at, items),
+        Value::Array(items) => rules_of(alloc, schema, at, items),
         _ => wrong(alloc, at),
     }
 }

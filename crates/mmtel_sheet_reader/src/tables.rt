@@ -2,10 +2,13 @@
 ghost use Rattle.std.specs.Prelude.{◌≡◌, codes, Ok, IfOk};
 ghost use Rattle.toml.specs.View.{view, table_view};
 ghost use Rattle.mmtel_sheet_grammar.specs.Answers.{Answers, then_do};
+ghost use Rattle.mmtel_sheet_grammar.specs.Elements.{number_at};
 ghost use Rattle.mmtel_sheet_grammar.specs.Sound.{IsSound, IsSoundTable};
-ghost use Rattle.mmtel_sheet_grammar.specs.Walk.{diversion_key, diversion_part, diversion_of, is_rejection, bar_key, bar_part, bar_of, presentation_key, presentation_of};
+ghost use Rattle.mmtel_sheet_grammar.specs.Walk.{schema, is_bound, diversion_key, diversion_part, diversion_of, is_rejection, bar_key, bar_part, bar_of, presentation_key};
+ghost use Rattle.mmtel_sheet_grammar.specs.Walk.{presentation_of, version_at, version_of, name_read};
 ghost use Rattle.mmtel_sheet_grammar.specs.Walk.{choice, choice_at, restriction_key, restriction_of, waiting_key, waiting_part, waiting_of, table_key_of, table_read};
-ghost use Rattle.mmtel_sheet_grammar.specs.Walk.{named_read, sheet_of};
+ghost use Rattle.mmtel_sheet_grammar.specs.Walk.{named_read, sheet_from, sheet_of};
+ghost use Rattle.mmtel_sheet_values.specs.Sheets.{empty_sheet};
 
 use crate::elements::{number, truth};
 use crate::faults::{unknown, wrong};
@@ -14,7 +17,7 @@ use crate::rules::rules;
 use mmtel_lex::List;
 use mmtel_sheet_grammar::SheetFault;
 use mmtel_sheet_grammar::drafts::{BarDraft, DiversionDraft, WaitingDraft};
-use mmtel_sheet_grammar::keys::{Service, TableKey};
+use mmtel_sheet_grammar::keys::{Schema, Service, TableKey, Version};
 use mmtel_sheet_values::{BarPart, DiversionPart, Restriction, Sheet};
 use std::alloc::Global;
 use std::mem;
@@ -38,35 +41,65 @@ fn table_key(name: &str) -> Option<TableKey>
     }
 }
 
+/// The rules of a service, in a version of records.
+fn schema(version: Version, service: Service) -> Schema
+    ensures { result ≡ schema version service }
+{
+    Schema { service, version }
+}
+
+fn is_bound(version: Version, name: &str) -> bool
+    ensures { result ≡ is_bound version name.now }
+{
+    match version {
+        Version::One => false,
+        Version::Two => name == "bound",
+    }
+}
+
+/// The bound of the diversions of a call.
+fn read_bound(
+    alloc: Global,
+    at: &[u8],
+    draft: &mut DiversionDraft,
+    value: &Value,
+) -> Result<(), SheetFault>
+    ensures exact { Answers (then_do (number_at 0 16 at.now (view value.now)) (λ n. Ok (record draft.old { bound = Some n }))) (then_do result (λ _. Ok draft.new)) }
+    ensures sound { IfOk result (λ _. IsSound (view value.now)) }
+{
+    let bound = number(alloc, at, value, 0, 16)? as u8;
+    draft.bound = Some(bound);
+    Ok(())
+}
+
 fn read_diversion_key(
     alloc: Global,
+    version: Version,
     at: &[u8],
     draft: &mut DiversionDraft,
     name: &str,
     value: &Value,
 ) -> Result<(), SheetFault>
-    ensures exact { Answers (diversion_key at.now draft.old name.now (view value.now)) (then_do result (λ _. Ok draft.new)) }
+    ensures exact { Answers (diversion_key version at.now draft.old name.now (view value.now)) (then_do result (λ _. Ok draft.new)) }
     ensures sound { IfOk result (λ _. IsSound (view value.now)) }
 {
-    match name {
-        "active" => {
-            draft.active = truth(alloc, at, value)?;
-            Ok(())
-        }
-        "deflection" => {
-            draft.deflection = truth(alloc, at, value)?;
-            Ok(())
-        }
-        "no-reply-time" => {
-            draft.no_reply = number(alloc, at, value, 5, 180)?;
-            Ok(())
-        }
-        "rule" => {
-            let rules = rules(alloc, Service::Diversion, at, value)?;
-            drop(mem::replace(&mut draft.rules, rules));
-            Ok(())
-        }
-        _ => unknown(alloc, at),
+    if name == "active" {
+        draft.active = truth(alloc, at, value)?;
+        Ok(())
+    } else if is_bound(version, name) {
+        read_bound(alloc, at, draft, value)
+    } else if name == "deflection" {
+        draft.deflection = truth(alloc, at, value)?;
+        Ok(())
+    } else if name == "no-reply-time" {
+        draft.no_reply = number(alloc, at, value, 5, 180)?;
+        Ok(())
+    } else if name == "rule" {
+        let rules = rules(alloc, schema(version, Service::Diversion), at, value)?;
+        drop(mem::replace(&mut draft.rules, rules));
+        Ok(())
+    } else {
+        unknown(alloc, at)
     }
 }
 
@@ -78,25 +111,32 @@ fn diversion_part(draft: DiversionDraft) -> Option<DiversionPart>
             rules: draft.rules,
             no_reply: draft.no_reply,
             deflection: draft.deflection,
+            bound: draft.bound,
         })
     } else {
         None
     }
 }
 
-fn diversion(alloc: Global, path: &[u8], table: &Table) -> Result<Option<DiversionPart>, SheetFault>
-    ensures exact { Answers (diversion_of path.now (table_view table.now)) result }
+fn diversion(
+    alloc: Global,
+    version: Version,
+    path: &[u8],
+    table: &Table,
+) -> Result<Option<DiversionPart>, SheetFault>
+    ensures exact { Answers (diversion_of version path.now (table_view table.now)) result }
     ensures sound { IfOk result (λ _. IsSoundTable (table_view table.now)) }
 {
     let mut draft = DiversionDraft {
         active: true,
+        bound: None,
         deflection: false,
         no_reply: 20,
         rules: List::new(),
     };
     'members: for (key, value) in table.iter() {
         let at = below(alloc, path, key.as_bytes())?;
-        read_diversion_key(alloc, at.bytes(), &mut draft, key.as_str(), value)?;
+        read_diversion_key(alloc, version, at.bytes(), &mut draft, key.as_str(), value)?;
     }
     Ok(diversion_part(draft))
 }
@@ -112,23 +152,23 @@ fn is_rejection(service: Service, name: &str) -> bool
 
 fn read_bar_key(
     alloc: Global,
-    service: Service,
+    schema: Schema,
     at: &[u8],
     draft: &mut BarDraft,
     name: &str,
     value: &Value,
 ) -> Result<(), SheetFault>
-    ensures exact { Answers (bar_key service at.now draft.old name.now (view value.now)) (then_do result (λ _. Ok draft.new)) }
+    ensures exact { Answers (bar_key schema at.now draft.old name.now (view value.now)) (then_do result (λ _. Ok draft.new)) }
     ensures sound { IfOk result (λ _. IsSound (view value.now)) }
 {
     if name == "active" {
         draft.active = truth(alloc, at, value)?;
         Ok(())
-    } else if is_rejection(service, name) {
+    } else if is_rejection(schema.service, name) {
         draft.reject_anonymous = truth(alloc, at, value)?;
         Ok(())
     } else if name == "rule" {
-        let rules = rules(alloc, service, at, value)?;
+        let rules = rules(alloc, schema, at, value)?;
         drop(mem::replace(&mut draft.rules, rules));
         Ok(())
     } else {
@@ -151,11 +191,11 @@ fn bar_part(draft: BarDraft) -> Option<BarPart>
 
 fn bar(
     alloc: Global,
-    service: Service,
+    schema: Schema,
     path: &[u8],
     table: &Table,
 ) -> Result<Option<BarPart>, SheetFault>
-    ensures exact { Answers (bar_of service path.now (table_view table.now)) result }
+    ensures exact { Answers (bar_of schema path.now (table_view table.now)) result }
     ensures sound { IfOk result (λ _. IsSoundTable (table_view table.now)) }
 {
     let mut draft = BarDraft {
@@ -165,7 +205,7 @@ fn bar(
     };
     'members: for (key, value) in table.iter() {
         let at = below(alloc, path, key.as_bytes())?;
-        read_bar_key(alloc, service, at.bytes(), &mut draft, key.as_str(), value)?;
+        read_bar_key(alloc, schema, at.bytes(), &mut draft, key.as_str(), value)?;
     }
     Ok(bar_part(draft))
 }
@@ -330,25 +370,26 @@ fn waiting(alloc: Global, path: &[u8], table: &Table) -> Result<Option<u8>, Shee
 /// The table of a key.
 fn read_table(
     alloc: Global,
+    version: Version,
     at: &[u8],
     sheet: &mut Sheet,
     key: TableKey,
     table: &Table,
 ) -> Result<(), SheetFault>
-    ensures exact { Answers (table_read at.now sheet.old key (table_view table.now)) (then_do result (λ _. Ok sheet.new)) }
+    ensures exact { Answers (table_read version at.now sheet.old key (table_view table.now)) (then_do result (λ _. Ok sheet.new)) }
     ensures sound { IfOk result (λ _. IsSoundTable (table_view table.now)) }
 {
     match key {
         TableKey::Diversion => {
-            sheet.diversion = diversion(alloc, at, table)?;
+            sheet.diversion = diversion(alloc, version, at, table)?;
             Ok(())
         }
         TableKey::Incoming => {
-            sheet.incoming = bar(alloc, Service::Incoming, at, table)?;
+            sheet.incoming = bar(alloc, schema(version, Service::Incoming), at, table)?;
             Ok(())
         }
         TableKey::Outgoing => {
-            sheet.outgoing = bar(alloc, Service::Outgoing, at, table)?;
+            sheet.outgoing = bar(alloc, schema(version, Service::Outgoing), at, table)?;
             Ok(())
         }
         TableKey::Oip => {
@@ -374,18 +415,78 @@ fn read_table(
     }
 }
 
-/// One more name of the document.
-fn read_name(alloc: Global, sheet: &mut Sheet, name: &str, value: &Value) -> Result<(), SheetFault>
-    ensures exact { Answers (named_read name.now sheet.old (table_key_of name.now) (view value.now)) (then_do result (λ _. Ok sheet.new)) }
+/// The table of a name, or of no name that a record has.
+fn read_named(
+    alloc: Global,
+    version: Version,
+    sheet: &mut Sheet,
+    name: &str,
+    value: &Value,
+) -> Result<(), SheetFault>
+    ensures exact { Answers (named_read version name.now sheet.old (table_key_of name.now) (view value.now)) (then_do result (λ _. Ok sheet.new)) }
     ensures sound { IfOk result (λ _. IsSound (view value.now)) }
 {
     match table_key(name) {
         Some(key) => match value {
-            Value::Table(table) => read_table(alloc, name.as_bytes(), sheet, key, table),
+            Value::Table(table) => read_table(alloc, version, name.as_bytes(), sheet, key, table),
             _ => wrong(alloc, name.as_bytes()),
         },
         None => unknown(alloc, name.as_bytes()),
     }
+}
+
+/// A version of records.
+fn version_at(alloc: Global, at: &[u8], value: &Value) -> Result<Version, SheetFault>
+    ensures exact { Answers (version_at at.now (view value.now)) result }
+    ensures sound { IfOk result (λ _. IsSound (view value.now)) }
+{
+    let number = number(alloc, at, value, 1, 2)?;
+    Ok(if number == 1 {
+        Version::One
+    } else {
+        Version::Two
+    })
+}
+
+/// The version of a document, which is looked at before all else.
+pub fn version(alloc: Global, table: &Table) -> Result<Version, SheetFault>
+    ensures exact { Answers (version_of (table_view table.now)) result }
+{
+    match table.get("version") {
+        None => Ok(Version::One),
+        Some(value) => version_at(alloc, b"version", value),
+    }
+}
+
+/// One more name of the document.
+fn read_name(
+    alloc: Global,
+    version: Version,
+    sheet: &mut Sheet,
+    name: &str,
+    value: &Value,
+) -> Result<(), SheetFault>
+    ensures exact { Answers (name_read version name.now sheet.old (view value.now)) (then_do result (λ _. Ok sheet.new)) }
+    ensures sound { IfOk result (λ _. IsSound (view value.now)) }
+{
+    if name == "version" {
+        version_at(alloc, name.as_bytes(), value)?;
+        Ok(())
+    } else {
+        read_named(alloc, version, sheet, name, value)
+    }
+}
+
+/// The sheet of a document of this version.
+fn sheet_from(alloc: Global, version: Version, table: &Table) -> Result<Sheet, SheetFault>
+    ensures exact { Answers (sheet_from version empty_sheet (table_view table.now)) result }
+    ensures sound { IfOk result (λ _. IsSoundTable (table_view table.now)) }
+{
+    let mut sheet = Sheet::empty();
+    'members: for (key, value) in table.iter() {
+        read_name(alloc, version, &mut sheet, key.as_str(), value)?;
+    }
+    Ok(sheet)
 }
 
 /// The sheet of a document.
@@ -393,9 +494,6 @@ pub fn sheet(alloc: Global, table: &Table) -> Result<Sheet, SheetFault>
     ensures exact { Answers (sheet_of (table_view table.now)) result }
     ensures sound { IfOk result (λ _. IsSoundTable (table_view table.now)) }
 {
-    let mut sheet = Sheet::empty();
-    'members: for (key, value) in table.iter() {
-        read_name(alloc, &mut sheet, key.as_str(), value)?;
-    }
-    Ok(sheet)
+    let version = version(alloc, table)?;
+    sheet_from(alloc, version, table)
 }

@@ -11,7 +11,7 @@ mod view;
 
 pub use shared::SharedSheet;
 pub use values::{
-    Action, BarPart, Condition, DiversionPart, EventWord, Forward, Restriction, Rule, Sheet, Who,
-    Window,
+    Action, BarPart, Condition, DiversionPart, EventWord, Forward, Restriction, Rule, Sheet,
+    Weekly, Who, Window,
 };
 pub use view::SheetView;

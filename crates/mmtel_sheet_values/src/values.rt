@@ -35,6 +35,19 @@ pub struct Window {
     pub until: i128,
 }
 
+/// Some hours of some days of each week, by a clock that is ahead of UTC by a fixed offset.
+#[derive(Clone, Copy, Debug)]
+pub struct Weekly {
+    /// The days, Monday first.
+    pub days: [bool; 7],
+    /// The first minute of the day in it.
+    pub from: u16,
+    /// The first minute of the day after it, at most 1440.
+    pub until: u16,
+    /// The minutes by which the clock is ahead of UTC.
+    pub offset: i16,
+}
+
 /// When a rule holds: where each part that is there does.
 #[derive(Drop)]
 pub struct Condition {
@@ -48,6 +61,12 @@ pub struct Condition {
     pub media: Option<List<Text>>,
     /// This happened to the call.
     pub event: Option<EventWord>,
+    /// The call was diverted before it came to the user (TS 24.604 §4.9.1.3).
+    pub diverted: bool,
+    /// The call goes to another country (TS 24.611 §4.9.1.3).
+    pub abroad: bool,
+    /// It is one of these hours of the week.
+    pub weekly: Option<Weekly>,
 }
 
 /// Where a call is diverted to, and who is told what of it (TS 24.604 §4.9.1.4).
@@ -92,6 +111,8 @@ pub struct DiversionPart {
     pub no_reply: u16,
     /// The user's own device may divert the call.
     pub deflection: bool,
+    /// The diversions of a call from which on the user's are refused, 0 to 16; None where the user says nothing.
+    pub bound: Option<u8>,
 }
 
 /// Communication barring in one direction (TS 24.611).

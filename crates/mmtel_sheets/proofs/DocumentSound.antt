@@ -1,13 +1,13 @@
 -- The document of a printable sheet is sound: its texts are UTF-8, and its keys ascend.
-use Rattle.std.proofs.Common.{◌≡◌, ℕ, Bool, true, false, List, [], ◌∷◌, Option, Some, None, Ok, ◌↔◌, refl, codes}
-use Rattle.std.specs.Prelude.{IfSome}
+use Rattle.std.proofs.Common.{◌≡◌, ℕ, pos, arith, Bool, true, false, List, [], ◌∷◌, Option, Some, None, Ok, ◌↔◌, refl, codes}
+use Rattle.std.specs.Prelude.{IfSome, slice_index_or}
 use Rattle.std.specs.List.{AllByRecursion}
-use Rattle.toml.specs.Data.{Data, string, boolean, table, Members, no_members, is_before}
+use Rattle.toml.specs.Data.{Data, string, integer, boolean, table, Items, no_items, item, push_item, Members, no_members, is_before}
 use Rattle.mmtel_scan.specs.Classes.{in_class}
 use Rattle.mmtel_lex.specs.declared.values.Uri.{Uri}
 use Rattle.mmtel_sheet_grammar.specs.Elements.{is_domain, is_token_text}
-use Rattle.mmtel_sheet_grammar.specs.Keys.{is_diversion, meets_callers}
-use Rattle.mmtel_sheet_grammar.specs.Printable.{IsUriOfText, IsWho, IsWindow, IsAction, IsRule, AreRules, IsDiversion, IsBar, IsWaiting, IsPrintable}
+use Rattle.mmtel_sheet_grammar.specs.Keys.{is_diversion, meets_callers, is_outgoing}
+use Rattle.mmtel_sheet_grammar.specs.Printable.{IsUriOfText, IsWho, IsWindow, IsWeekly, IsAction, IsRule, AreRules, IsDiversion, IsBar, IsWaiting, IsPrintable}
 use Rattle.mmtel_sheet_grammar.specs.Sound.{IsSound, IsSoundArray, IsSoundTable}
 use Rattle.mmtel_sheet_grammar.specs.Walk.{sheet_of}
 use Rattle.mmtel_sheet_grammar.specs.declared.keys.Notice.{Notice}
@@ -21,13 +21,15 @@ use Rattle.mmtel_sheet_values.specs.declared.values.DiversionPart.{DiversionPart
 use Rattle.mmtel_sheet_values.specs.declared.values.Restriction.{Restriction}
 use Rattle.mmtel_sheet_values.specs.declared.values.Rule.{Rule}
 use Rattle.mmtel_sheet_values.specs.declared.values.Sheet.{Sheet}
+use Rattle.mmtel_sheet_values.specs.declared.values.Weekly.{Weekly}
 use Rattle.mmtel_sheet_values.specs.declared.values.Who.{Who}
 use Rattle.mmtel_sheet_values.specs.declared.values.Window.{Window}
 use Rattle.mmtel_sheet_reader.proofs.Ascii.{token_text, domain_text}
 use Rattle.mmtel_sheet_reader.proofs.Order.{before_through}
 use Rattle.mmtel_sheet_reader.proofs.ReadTables.{read_printable}
-use Rattle.mmtel_sheets.specs.Printing.{comes_before, with_key, each_item, where_true, uri_data, uris_data, except_beside, except_data, text_data, many_data, one_data, from_data, until_data, media_data, allow_data, target_data, notice_data, late_keys, middle_keys, rule_data, rules_data, diversion_data, rejection_data, bar_data, presentation_data, word_of, restriction_data, waiting_data, part_data, late_tables, document_of}
-use Rattle.mmtel_sheets.proofs.MomentTexts.{moment_utf8}
+use Rattle.mmtel_sheets.specs.Printing.{comes_before, with_key, each_item, where_true, uri_data, uris_data, except_beside, except_data, text_data, many_data, one_data, from_data, until_data, media_data, day_from_data, day_until_data, with_word, day_words, days_data, offset_data, bound_data, version_data, party_keys, allow_data, target_data, notice_data, late_keys, middle_keys, rule_data, rules_data, diversion_data, rejection_data, bar_data, presentation_data, word_of, restriction_data, waiting_data, part_data, late_tables, document_of}
+use Rattle.mmtel_sheets.proofs.DayWords.{to_monday, to_tuesday, to_wednesday, to_thursday, to_friday, to_saturday}
+use Rattle.mmtel_sheets.proofs.MomentTexts.{moment_utf8, hour_utf8}
 use Rattle.mmtel_sheets.proofs.TablesBack.{sheet_back}
 
 -- members that are sound and stand behind each key that comes before this one
@@ -97,6 +99,41 @@ media_sound : (media : Option (List (List ℕ))) → IfSome media (λ tokens. Al
 media_sound None is = tt
 media_sound (Some ts) is = items_sound (λ t. is_token_text t ≡ true) string token_text ts is
 
+day_from_sound : (week : Option Weekly) → IfSome week IsWeekly → IfSome (day_from_data week) IsSound
+day_from_sound None is = tt
+day_from_sound (Some w) is = hour_utf8 w.from (omega (arith, is.order, is.within))
+
+day_until_sound : (week : Option Weekly) → IfSome week IsWeekly → IfSome (day_until_data week) IsSound
+day_until_sound None is = tt
+day_until_sound (Some w) is = hour_utf8 w.until is.within
+
+push_sound : (ds : Items) (d : Data) → IsSoundArray ds → IsSound d → IsSoundArray (push_item ds d)
+push_sound no_items d all here = (here, tt)
+push_sound (item e ds) d all here = (all.0, push_sound ds d all.1 here)
+
+word_there : (ds : Items) (b : Bool) (word : List ℕ) → is_token_text word ≡ true → IsSoundArray ds → IsSoundArray (with_word ds b word)
+word_there ds true word is all = push_sound ds (string word) all (token_text word is)
+word_there ds false word is all = all
+
+week_sound : (days : List Bool) → IsSoundArray (day_words days)
+unfolding in_class
+week_sound days =
+    word_there (to_saturday days) (slice_index_or days 6 false) (codes "sun") refl
+    (word_there (to_friday days) (slice_index_or days 5 false) (codes "sat") refl
+    (word_there (to_thursday days) (slice_index_or days 4 false) (codes "fri") refl
+    (word_there (to_wednesday days) (slice_index_or days 3 false) (codes "thu") refl
+    (word_there (to_tuesday days) (slice_index_or days 2 false) (codes "wed") refl
+    (word_there (to_monday days) (slice_index_or days 1 false) (codes "tue") refl
+    (word_there no_items (slice_index_or days 0 false) (codes "mon") refl tt))))))
+
+days_sound : (week : Option Weekly) → IfSome (days_data week) IsSound
+days_sound None = tt
+days_sound (Some w) = week_sound w.days
+
+offset_sound : (week : Option Weekly) → IfSome (offset_data week) IsSound
+offset_sound None = tt
+offset_sound (Some w) = tt
+
 allow_sound : (a : Action) → IfSome (allow_data a) IsSound
 allow_sound (Forward f) = tt
 allow_sound (Allow b) = tt
@@ -133,24 +170,42 @@ module _ (s : Service) (r : Rule) (is : IsRule s r) where
       (key_tail (codes "no-answer") (codes "not-reachable") _ _ refl (truth_where (is_diversion s) _)
       (key_tail (codes "not-reachable") (codes "not-registered") _ _ refl (truth_where (is_diversion s) _)
       (key_tail (codes "not-registered") (codes "notify-caller") _ _ refl (truth_where (is_diversion s) _)
-      (key_tail (codes "notify-caller") (codes "one") _ _ refl (notice_sound notice.NotifyCaller r.action) late_tail))))
+      (key_tail (codes "notify-caller") (codes "offset") _ _ refl (notice_sound notice.NotifyCaller r.action)
+      (key_tail (codes "offset") (codes "one") _ _ refl (offset_sound r.condition.weekly) late_tail)))))
+
+  party_tail : IsTail (codes "except") (party_keys s r)
+  party_tail =
+      key_tail (codes "except") (codes "from") _ _ refl (except_sound r.condition.identity is.condition.identity)
+      (key_tail (codes "from") (codes "international") _ _ refl (from_sound r.condition.window is.condition.window)
+      (key_tail (codes "international") (codes "many") _ _ refl (truth_where (is_outgoing s) _)
+      (key_tail (codes "many") (codes "media") _ _ refl (many_sound r.condition.identity is.condition.identity) middle_tail)))
 
   rule_tail : IsTail (codes "allow") (rule_data s r)
   rule_tail =
       key_tail (codes "allow") (codes "anonymous") _ _ refl (allow_sound r.action)
       (key_tail (codes "anonymous") (codes "busy") _ _ refl (truth_where (meets_callers s) _)
-      (key_tail (codes "busy") (codes "except") _ _ refl (truth_where (is_diversion s) _)
-      (key_tail (codes "except") (codes "from") _ _ refl (except_sound r.condition.identity is.condition.identity)
-      (key_tail (codes "from") (codes "many") _ _ refl (from_sound r.condition.window is.condition.window)
-      (key_tail (codes "many") (codes "media") _ _ refl (many_sound r.condition.identity is.condition.identity) middle_tail)))))
+      (key_tail (codes "busy") (codes "communication-diverted") _ _ refl (truth_where (is_diversion s) _)
+      (key_tail (codes "communication-diverted") (codes "day-from") _ _ refl (truth_where (meets_callers s) _)
+      (key_tail (codes "day-from") (codes "day-until") _ _ refl (day_from_sound r.condition.weekly is.condition.weekly)
+      (key_tail (codes "day-until") (codes "days") _ _ refl (day_until_sound r.condition.weekly is.condition.weekly)
+      (key_tail (codes "days") (codes "except") _ _ refl (days_sound r.condition.weekly) party_tail))))))
 
 rules_sound : (s : Service) (rs : List Rule) → AreRules s rs → IsSound (rules_data s rs)
 rules_sound s rs are = items_sound (IsRule s) (λ r. table (rule_data s r)) (λ r is. (rule_tail s r is).sound) rs are.each
 
 -- ---- tables
 
+bound_sound : (bound : Option ℕ) → IfSome (bound_data bound) IsSound
+bound_sound None = tt
+bound_sound (Some n) = tt
+
 diversion_sound : (p : DiversionPart) → IsDiversion p → IsSound (diversion_data p)
-diversion_sound p is = (refl, tt, (refl, tt, (refl, tt, (refl, rules_sound service.Diversion p.rules is.rules, tt))))
+diversion_sound p is =
+    (key_tail (codes "active") (codes "bound") (Some (boolean true)) _ refl tt
+    (key_tail (codes "bound") (codes "deflection") (bound_data p.bound) _ refl (bound_sound p.bound)
+    (key_tail (codes "deflection") (codes "no-reply-time") (Some (boolean p.deflection)) _ refl tt
+    (key_tail (codes "no-reply-time") (codes "rule") (Some (integer (pos p.no_reply))) _ refl tt
+    (last_tail (codes "rule") (Some (rules_data service.Diversion p.rules)) (rules_sound service.Diversion p.rules is.rules)))))).sound
 
 rejection_sound : (s : Service) (b : Bool) → IfSome (rejection_data s b) IsSound
 rejection_sound service.Diversion b = tt
@@ -185,7 +240,8 @@ module _ (s : Sheet) (is : IsPrintable s) where
   late_sound =
       key_tail (codes "outgoing-communication-barring") (codes "terminating-identity-presentation") _ _ refl (part_sound (IsBar service.Outgoing) (bar_data service.Outgoing) (bar_sound service.Outgoing) s.outgoing is.outgoing)
       (key_tail (codes "terminating-identity-presentation") (codes "terminating-identity-presentation-restriction") (Some (presentation_data s.tip)) _ refl (presentation_sound s.tip)
-      (last_tail (codes "terminating-identity-presentation-restriction") (Some (restriction_data s.tir)) (restriction_sound s.tir)))
+      (key_tail (codes "terminating-identity-presentation-restriction") (codes "version") (Some (restriction_data s.tir)) _ refl (restriction_sound s.tir)
+      (last_tail (codes "version") (Some version_data) tt)))
 
   document_sound : IsSoundTable (document_of s)
   document_sound =

@@ -1,5 +1,5 @@
 -- What each key of a printed rule adds to what is read of the rule.
-use Rattle.std.proofs.Common.{◌≡◌, ℕ, ℤ, ◌+◌, Bool, true, false, ◌&&◌, nat_lt, List, [], length, Option, Some, None, Ok, refl, sym, ap, ◌∙◌, arith, codes}
+use Rattle.std.proofs.Common.{◌≡◌, ℕ, ℤ, pos, ◌+◌, ◌≤◌, Bool, true, false, ◌&&◌, nat_lt, List, [], length, Option, Some, None, Ok, refl, sym, ap, ◌∙◌, arith, codes}
 use Rattle.std.proofs.lemmas.Bool.Decides.{nat_tests}
 use Rattle.std.specs.Prelude.{IfSome}
 use Rattle.std.specs.List.{AllByRecursion}
@@ -7,34 +7,43 @@ use Rattle.std.specs.Option.{is_some}
 use Rattle.toml.specs.Data.{Data, Members, boolean}
 use Rattle.mmtel_lex.specs.declared.values.Uri.{Uri}
 use Rattle.mmtel_sheet_grammar.specs.Elements.{is_token_text, is_domain}
-use Rattle.mmtel_sheet_grammar.specs.Keys.{rule_key_of, is_listed, is_diversion, meets_callers, dotted}
+use Rattle.mmtel_sheet_grammar.specs.Keys.{rule_key_of, is_listed, is_diversion, meets_callers, is_outgoing, dotted}
 use Rattle.mmtel_sheet_grammar.specs.Rules.{keys_from, has_key, event_read, key_read}
 use Rattle.mmtel_sheet_grammar.specs.declared.keys.Service.{Service}
 use Rattle.mmtel_sheet_grammar.specs.declared.keys.Service.TheVariants as service
+use Rattle.mmtel_sheet_grammar.specs.declared.keys.Version.TheVariants as version
+use Rattle.mmtel_sheet_grammar.specs.declared.keys.Schema.{Schema}
 use Rattle.mmtel_sheet_grammar.specs.declared.keys.Notice.{Notice}
 use Rattle.mmtel_sheet_grammar.specs.declared.keys.Notice.TheVariants as notice
 use Rattle.mmtel_sheet_grammar.specs.declared.keys.RuleKey.{RuleKey}
 use Rattle.mmtel_sheet_grammar.specs.declared.keys.RuleKey.TheVariants as key
 use Rattle.mmtel_sheet_grammar.specs.declared.drafts.Notices.{Notices}
+use Rattle.mmtel_sheet_grammar.specs.Walk.{schema}
+use Rattle.mmtel_sheet_grammar.specs.declared.drafts.Hours.{Hours}
 use Rattle.mmtel_sheet_grammar.specs.declared.drafts.RuleDraft.{RuleDraft}
 use Rattle.mmtel_sheet_values.specs.declared.values.Action.{Action}
 use Rattle.mmtel_sheet_values.specs.declared.values.Action.TheVariants.{Forward, Allow}
 use Rattle.mmtel_sheet_values.specs.declared.values.EventWord.{EventWord}
 use Rattle.mmtel_sheet_values.specs.declared.values.EventWord.TheVariants as event
+use Rattle.mmtel_sheet_values.specs.declared.values.Weekly.{Weekly}
 use Rattle.mmtel_sheet_values.specs.declared.values.Who.{Who}
 use Rattle.mmtel_sheet_values.specs.declared.values.Window.{Window}
-use Rattle.mmtel_sheet_grammar.specs.Printable.{IsUriOfText, IsWho, IsWindow, IsAction}
-use Rattle.mmtel_sheets.specs.Printing.{with_key, where_true, except_beside, except_data, text_data, many_data, one_data, from_data, until_data, media_data, event_data, anonymous_data, allow_data, target_data, notice_data}
-use Rattle.mmtel_sheets.proofs.ElementsBack.{target_back, domain_back, time_back, uris_back, tokens_back}
+use Rattle.mmtel_sheet_grammar.specs.Printable.{IsUriOfText, IsWho, IsWindow, IsWeekly, IsAction}
+use Rattle.mmtel_sheets.specs.Printing.{with_key, where_true, except_beside, except_data, text_data, many_data, one_data, from_data, until_data, media_data, event_data, anonymous_data, diverted_data, abroad_data, day_from_data, day_until_data, days_data, offset_data, allow_data, target_data, notice_data}
+use Rattle.mmtel_sheets.proofs.ElementsBack.{target_back, domain_back, time_back, uris_back, tokens_back, clock_back, days_back, offset_back}
+
+-- the rules of the service, as they are printed
+abbrev pub second : Service → Schema
+second s = schema version.Two s
 
 -- a key changes what was read so far to this
 abbrev pub StepsTo : Service → Members → List ℕ → RuleDraft → RuleKey → Option Data → RuleDraft → Type 0
 StepsTo s ms at r k None after = r ≡ after
-StepsTo s ms at r k (Some d) after = (is_listed s k ≡ true) × (key_read ms at r k d ≡ Ok after)
+StepsTo s ms at r k (Some d) after = (is_listed (second s) k ≡ true) × (key_read ms at r k d ≡ Ok after)
 
 pub walk : (s : Service) (ms : Members) (path : List ℕ) (r : RuleDraft) (name : List ℕ) (k : RuleKey) (o : Option Data) (rest : Members) (after : RuleDraft)
-    → rule_key_of name ≡ Some k → StepsTo s ms (dotted path name) r k o after → keys_from s ms path r (with_key name o rest) ≡ keys_from s ms path after rest
-walk s ms path r name k None rest after named step = ap (λ (x : RuleDraft). keys_from s ms path x rest) step
+    → rule_key_of name ≡ Some k → StepsTo s ms (dotted path name) r k o after → keys_from (second s) ms path r (with_key name o rest) ≡ keys_from (second s) ms path after rest
+walk s ms path r name k None rest after named step = ap (λ (x : RuleDraft). keys_from (second s) ms path x rest) step
 walk s ms path r name k (Some d) rest after named step = rw (named, step.0, step.1)
 
 -- ---- what is read of each part
@@ -69,6 +78,19 @@ one_of (Some w) = Some w.one
 abbrev pub start_of : Option Window → Option ℤ
 start_of None = None
 start_of (Some w) = Some w.from
+
+abbrev pub day_from_of : Option Weekly → Option ℕ
+day_from_of None = None
+day_from_of (Some w) = Some w.from
+
+abbrev pub hours_of : Option Weekly → Option Hours
+hours_of None = None
+hours_of (Some w) = Some (record { from = w.from; until = w.until })
+
+-- before the offset of the clock was read
+abbrev pub week_of : Option Weekly → Option Weekly
+week_of None = None
+week_of (Some w) = Some (record w { offset = pos 0 })
 
 -- the event, once the key of it and those before it were read
 abbrev pub at_busy : Option EventWord → Option EventWord
@@ -123,12 +145,14 @@ module _ (s : Service) (ms : Members) (at : List ℕ) where
   beside_step d None except all partner e many one = ap (λ (x : List Uri). record d { except = x }) (e ∙ sym (partner refl))
   beside_step d (Some domain) except all partner e many one = (refl, rw (uris_back at except all, many, one, and_false (nat_lt 64 (length except))))
 
-  pub except_step : (d : RuleDraft) (who : Option Who) → IfSome who IsWho → d.except ≡ [] → has_key (codes "many") ms ≡ is_some (many_data who) → has_key (codes "one") ms ≡ is_some (one_data who)
+  pub except_step : (d : RuleDraft) (who : Option Who) → IfSome who IsWho → d.except ≡ [] → has_key (codes "many") ms ≡ is_some (many_data who) → has_key (codes "one") ms
+      ≡ is_some (one_data who)
       → StepsTo s ms at d key.Except (except_data who) (record d { except = except_of who })
   except_step d None is e many one = ap (λ (x : List Uri). record d { except = x }) e
   except_step d (Some w) is e many one = beside_step d w.many w.except is.except is.partner e many one
 
-  domain_step : (d : RuleDraft) (many : Option (List ℕ)) → IfSome many (λ domain. is_domain domain ≡ true) → d.many ≡ None → StepsTo s ms at d key.Many (text_data many) (record d { many = many })
+  domain_step : (d : RuleDraft) (many : Option (List ℕ)) → IfSome many (λ domain. is_domain domain ≡ true) → d.many ≡ None → StepsTo s ms at d key.Many (text_data many)
+      (record d { many = many })
   domain_step d None is e = ap (λ (x : Option (List ℕ)). record d { many = x }) e
   domain_step d (Some domain) is e = (refl, rw (domain_back at domain is))
 
@@ -136,7 +160,8 @@ module _ (s : Service) (ms : Members) (at : List ℕ) where
   many_step d None is e = ap (λ (x : Option (List ℕ)). record d { many = x }) e
   many_step d (Some w) is e = domain_step d w.many is.many e
 
-  pub one_step : (d : RuleDraft) (who : Option Who) → IfSome who IsWho → d.except ≡ except_of who → d.one ≡ None → StepsTo s ms at d key.One (one_data who) (record d { one = one_of who })
+  pub one_step : (d : RuleDraft) (who : Option Who) → IfSome who IsWho → d.except ≡ except_of who → d.one ≡ None → StepsTo s ms at d key.One (one_data who)
+      (record d { one = one_of who })
   one_step d None is had e = ap (λ (x : Option (List Uri)). record d { one = x }) e
   one_step d (Some w) is had e =
       let few : nat_lt 64 (length w.one + length w.except) ≡ false = grind (arith, nat_tests, is.few) in
@@ -156,6 +181,46 @@ module _ (s : Service) (ms : Members) (at : List ℕ) where
       → StepsTo s ms at d key.Media (media_data media) (record d { media = media })
   media_step d None is e = ap (λ (x : Option (List (List ℕ))). record d { media = x }) e
   media_step d (Some tokens) is e = (refl, rw (tokens_back at tokens is))
+
+  pub day_from_step : (d : RuleDraft) (week : Option Weekly) → IfSome week IsWeekly → has_key (codes "day-until") ms ≡ is_some (day_until_data week) → has_key (codes "days") ms
+      ≡ is_some (days_data week)
+      → d.day_from ≡ None → StepsTo s ms at d key.DayFrom (day_from_data week) (record d { day_from = day_from_of week })
+  day_from_step d None is until days e = ap (λ (x : Option ℕ). record d { day_from = x }) e
+  day_from_step d (Some w) is until days e =
+      let early : w.from ≤ 1_439 = omega (arith, is.order, is.within) in
+      (refl, rw (clock_back 1_439 at w.from early (omega arith), until, days))
+
+  pub day_until_step : (d : RuleDraft) (week : Option Weekly) → IfSome week IsWeekly → d.day_from ≡ day_from_of week → d.hours ≡ None
+      → StepsTo s ms at d key.DayUntil (day_until_data week) (record d { hours = hours_of week })
+  day_until_step d None is had e = ap (λ (x : Option Hours). record d { hours = x }) e
+  day_until_step d (Some w) is had e =
+      let order : nat_lt w.from w.until ≡ true = grind (arith, nat_tests, is.order) in
+      (refl, rw (clock_back 1_440 at w.until is.within (omega arith), had, order))
+
+  pub days_step : (d : RuleDraft) (week : Option Weekly) → IfSome week IsWeekly → d.hours ≡ hours_of week → d.weekly ≡ None
+      → StepsTo s ms at d key.Days (days_data week) (record d { weekly = week_of week })
+  days_step d None is had e = ap (λ (x : Option Weekly). record d { weekly = x }) e
+  days_step d (Some w) is had e = (refl, rw (days_back at w.days is.whole is.days, had))
+
+  pub offset_step : (d : RuleDraft) (week : Option Weekly) → IfSome week IsWeekly → d.weekly ≡ week_of week
+      → StepsTo s ms at d key.Offset (offset_data week) (record d { weekly = week })
+  offset_step d None is had = ap (λ (x : Option Weekly). record d { weekly = x }) had
+  offset_step d (Some w) is had = (refl, rw (offset_back at w.offset is.offset, had))
+
+pub diverted_step : (s : Service) (ms : Members) (at : List ℕ) (d : RuleDraft) (b : Bool) → (b ≡ true → meets_callers s ≡ true) → d.diverted ≡ false
+    → StepsTo s ms at d key.Diverted (diverted_data s b) (record d { diverted = b })
+diverted_step service.Diversion ms at d b fits e = (refl, refl)
+diverted_step service.Incoming ms at d b fits e = (refl, refl)
+diverted_step service.Outgoing ms at d true fits e = absurd (let bad = fits refl in cc)
+diverted_step service.Outgoing ms at d false fits e = ap (λ (x : Bool). record d { diverted = x }) e
+
+pub abroad_step : (s : Service) (ms : Members) (at : List ℕ) (d : RuleDraft) (b : Bool) → (b ≡ true → is_outgoing s ≡ true) → d.abroad ≡ false
+    → StepsTo s ms at d key.International (abroad_data s b) (record d { abroad = b })
+abroad_step service.Outgoing ms at d b fits e = (refl, refl)
+abroad_step service.Diversion ms at d true fits e = absurd (let bad = fits refl in cc)
+abroad_step service.Diversion ms at d false fits e = ap (λ (x : Bool). record d { abroad = x }) e
+abroad_step service.Incoming ms at d true fits e = absurd (let bad = fits refl in cc)
+abroad_step service.Incoming ms at d false fits e = ap (λ (x : Bool). record d { abroad = x }) e
 
 pub anonymous_step : (s : Service) (ms : Members) (at : List ℕ) (d : RuleDraft) (b : Bool) → (b ≡ true → meets_callers s ≡ true) → d.anonymous ≡ false
     → StepsTo s ms at d key.Anonymous (anonymous_data s b) (record d { anonymous = b })
@@ -195,7 +260,8 @@ module _ (s : Service) (ms : Members) (at : List ℕ) (d : RuleDraft) where
   no_answer_step (Some event.NotRegistered) fits = false_event s ms at (record d { event = None }) event.NoAnswer
 
   pub not_reachable_step : (happened : Option EventWord) → IfSome happened (λ e. is_diversion s ≡ true)
-      → StepsTo s ms at (record d { event = at_no_answer happened }) (key.Event event.NotReachable) (event_data s event.NotReachable happened) (record d { event = at_not_reachable happened })
+      → StepsTo s ms at (record d { event = at_no_answer happened }) (key.Event event.NotReachable) (event_data s event.NotReachable happened)
+      (record d { event = at_not_reachable happened })
   not_reachable_step None fits = false_event s ms at (record d { event = None }) event.NotReachable
   not_reachable_step (Some event.Busy) fits = false_event s ms at (record d { event = Some event.Busy }) event.NotReachable
   not_reachable_step (Some event.NoAnswer) fits = false_event s ms at (record d { event = Some event.NoAnswer }) event.NotReachable

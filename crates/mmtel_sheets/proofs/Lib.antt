@@ -1,6 +1,8 @@
 pub mod Calendar
+pub mod DayWords
 pub mod DocumentSound
 pub mod ElementsBack
+pub mod FirstVersion
 pub mod Inserting
 pub mod Items
 pub mod KeySteps

@@ -1,5 +1,5 @@
 -- The text of a moment is UTF-8.
-use Rattle.std.proofs.Common.{ℕ, suc, ◌+◌, ◌/◌, ◌%◌, ◌<◌, ◌++◌, ◌∷◌, [], List, ℤ, pos, negsuc, IsUtf8, subst, arith}
+use Rattle.std.proofs.Common.{ℕ, suc, ◌+◌, ◌/◌, ◌%◌, ◌<◌, ◌≤◌, ◌++◌, ◌∷◌, [], List, ℤ, pos, negsuc, IsUtf8, subst, arith}
 use Rattle.std.proofs.lemmas.Str.{IsUtf8-nil, IsUtf8-append}
 use Rattle.jiff_core.specs.Calendar.{IsYear}
 use Rattle.jiff_core.specs.declared.civil.date.Date.{Date}
@@ -8,6 +8,7 @@ use Rattle.jiff_core.proofs.SignedLemmas.{signed_arith}
 use Rattle.jiff_fmt.proofs.ReaderLemmas.{utf8_cons}
 use Rattle.jiff_fmt.specs.Text.{pad2, pad4, year_text, date_text}
 use Rattle.mmtel_sheet_grammar.specs.Printable.{IsMoment}
+use Rattle.mmtel_sheets.specs.Printing.{hour_text}
 use Rattle.mmtel_sheets.specs.Times.{day_of, clock_of, day_text, pad3, clock_text, moment_text}
 use Rattle.mmtel_sheets.proofs.Calendar.{dated}
 
@@ -37,6 +38,9 @@ clock_utf8 ms h =
     IsUtf8-append (pad2 (ms / 3_600_000)) _ (two_digits (ms / 3_600_000) (omega arith)) (utf8_cons 58 _ (omega arith)
     (IsUtf8-append (pad2 (ms / 60_000 % 60)) _ (two_digits (ms / 60_000 % 60) (omega arith)) (utf8_cons 58 _ (omega arith)
     (IsUtf8-append (pad2 (ms / 1_000 % 60)) _ (two_digits (ms / 1_000 % 60) (omega arith)) (utf8_cons 46 _ (omega arith) (three_digits (ms % 1_000) (omega arith)))))))
+
+pub hour_utf8 : (n : ℕ) → n ≤ 1_440 → IsUtf8 (hour_text n)
+hour_utf8 n h = IsUtf8-append (pad2 (n / 60)) _ (two_digits (n / 60) (omega arith)) (utf8_cons 58 _ (omega arith) (two_digits (n % 60) (omega arith)))
 
 pub moment_utf8 : (m : ℤ) → IsMoment m → IsUtf8 (moment_text m)
 unfolding moment_text

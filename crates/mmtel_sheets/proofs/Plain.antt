@@ -1,9 +1,10 @@
 -- The document of a sheet nests four deep and has no dates of TOML's own.
-use Rattle.std.proofs.Common.{◌≡◌, ℕ, suc, ◌≤◌, Bool, true, false, List, [], ◌∷◌, Option, Some, None, refl, arith, codes}
-use Rattle.std.specs.Prelude.{IfSome}
-use Rattle.toml.specs.Data.{Data, string, boolean, array, table, Members, no_members, depth, members_depth, has_valid_dates, members_have_valid_dates}
+use Rattle.std.proofs.Common.{◌≡◌, ℕ, ℤ, pos, suc, ◌≤◌, Bool, true, false, List, [], ◌∷◌, Option, Some, None, refl, arith, codes}
+use Rattle.std.proofs.lemmas.Bool.{and_parts}
+use Rattle.std.specs.Prelude.{IfSome, slice_index_or}
+use Rattle.toml.specs.Data.{Data, string, integer, boolean, array, table, Items, no_items, item, push_item, Members, no_members, depth, members_depth, has_valid_dates, items_have_valid_dates, members_have_valid_dates}
 use Rattle.mmtel_lex.specs.declared.values.Uri.{Uri}
-use Rattle.mmtel_sheet_grammar.specs.Keys.{is_diversion, meets_callers}
+use Rattle.mmtel_sheet_grammar.specs.Keys.{is_diversion, meets_callers, is_outgoing}
 use Rattle.mmtel_sheet_grammar.specs.declared.keys.Notice.{Notice}
 use Rattle.mmtel_sheet_grammar.specs.declared.keys.Notice.TheVariants as notice
 use Rattle.mmtel_sheet_grammar.specs.declared.keys.Service.{Service}
@@ -14,9 +15,11 @@ use Rattle.mmtel_sheet_values.specs.declared.values.BarPart.{BarPart}
 use Rattle.mmtel_sheet_values.specs.declared.values.DiversionPart.{DiversionPart}
 use Rattle.mmtel_sheet_values.specs.declared.values.Rule.{Rule}
 use Rattle.mmtel_sheet_values.specs.declared.values.Sheet.{Sheet}
+use Rattle.mmtel_sheet_values.specs.declared.values.Weekly.{Weekly}
 use Rattle.mmtel_sheet_values.specs.declared.values.Who.{Who}
 use Rattle.mmtel_sheet_values.specs.declared.values.Window.{Window}
-use Rattle.mmtel_sheets.specs.Printing.{with_key, each_item, where_true, uri_data, uris_data, except_beside, except_data, text_data, many_data, one_data, from_data, until_data, media_data, allow_data, target_data, notice_data, late_keys, middle_keys, rule_data, rules_data, diversion_data, rejection_data, bar_data, presentation_data, restriction_data, waiting_data, part_data, late_tables, document_of}
+use Rattle.mmtel_sheets.specs.Printing.{with_key, each_item, where_true, uri_data, uris_data, except_beside, except_data, text_data, many_data, one_data, from_data, until_data, media_data, day_from_data, day_until_data, with_word, days_data, offset_data, bound_data, party_keys, allow_data, target_data, notice_data, late_keys, middle_keys, rule_data, rules_data, diversion_data, rejection_data, bar_data, presentation_data, restriction_data, waiting_data, part_data, late_tables, document_of}
+use Rattle.mmtel_sheets.proofs.DayWords.{to_monday, to_tuesday, to_wednesday, to_thursday, to_friday, to_saturday}
 
 -- no deeper than this, and no dates
 pub record IsPlain (n : ℕ) (d : Data) : Type 0 where
@@ -91,6 +94,48 @@ media_plain : (media : Option (List (List ℕ))) → IfSome (media_data media) (
 media_plain None = tt
 media_plain (Some ts) = items_plain 0 string (λ s. text_plain 0 s) ts
 
+day_from_plain : (week : Option Weekly) → IfSome (day_from_data week) (IsPlain 1)
+day_from_plain None = tt
+day_from_plain (Some w) = text_plain 1 _
+
+day_until_plain : (week : Option Weekly) → IfSome (day_until_data week) (IsPlain 1)
+day_until_plain None = tt
+day_until_plain (Some w) = text_plain 1 _
+
+push_plain : (n : ℕ) (ds : Items) (d : Data) → IsPlain (suc n) (array ds) → IsPlain n d → IsPlain (suc n) (array (push_item ds d))
+push_plain n no_items d all here = record { shallow = omega (arith, here.shallow); dateless = rw here.dateless }
+push_plain n (item e ds) d all here =
+    let first : has_valid_dates e ≡ true = (and_parts (has_valid_dates e) (items_have_valid_dates ds) all.dateless).0 in
+    let others : items_have_valid_dates ds ≡ true = (and_parts (has_valid_dates e) (items_have_valid_dates ds) all.dateless).1 in
+    let more = push_plain n ds d (record { shallow = omega (arith, all.shallow); dateless = others }) here in
+    record { shallow = omega (arith, all.shallow, more.shallow); dateless = rw (first, more.dateless) }
+
+word_plain : (ds : Items) (b : Bool) (word : List ℕ) → IsPlain 1 (array ds) → IsPlain 1 (array (with_word ds b word))
+word_plain ds true word all = push_plain 0 ds (string word) all (text_plain 0 word)
+word_plain ds false word all = all
+
+days_plain : (week : Option Weekly) → IfSome (days_data week) (IsPlain 1)
+days_plain None = tt
+days_plain (Some w) =
+    word_plain (to_saturday w.days) (slice_index_or w.days 6 false) (codes "sun")
+    (word_plain (to_friday w.days) (slice_index_or w.days 5 false) (codes "sat")
+    (word_plain (to_thursday w.days) (slice_index_or w.days 4 false) (codes "fri")
+    (word_plain (to_wednesday w.days) (slice_index_or w.days 3 false) (codes "thu")
+    (word_plain (to_tuesday w.days) (slice_index_or w.days 2 false) (codes "wed")
+    (word_plain (to_monday w.days) (slice_index_or w.days 1 false) (codes "tue")
+    (word_plain no_items (slice_index_or w.days 0 false) (codes "mon") (record { shallow = omega arith; dateless = refl })))))))
+
+number_plain : (n : ℕ) (z : ℤ) → IsPlain n (integer z)
+number_plain n z = record { shallow = omega arith; dateless = refl }
+
+offset_plain : (week : Option Weekly) → IfSome (offset_data week) (IsPlain 1)
+offset_plain None = tt
+offset_plain (Some w) = number_plain 1 w.offset
+
+bound_plain : (bound : Option ℕ) → IfSome (bound_data bound) (IsPlain 3)
+bound_plain None = tt
+bound_plain (Some n) = number_plain 3 (pos n)
+
 allow_plain : (a : Action) → IfSome (allow_data a) (IsPlain 1)
 allow_plain (Forward f) = tt
 allow_plain (Allow b) = truth_plain 1 b
@@ -124,16 +169,25 @@ middle_plain s r =
     (key_plain 1 _ _ _ (where_plain 1 (is_diversion s) _)
     (key_plain 1 _ _ _ (where_plain 1 (is_diversion s) _)
     (key_plain 1 _ _ _ (where_plain 1 (is_diversion s) _)
-    (key_plain 1 _ _ _ (notice_plain notice.NotifyCaller r.action) (late_plain r)))))
+    (key_plain 1 _ _ _ (notice_plain notice.NotifyCaller r.action)
+    (key_plain 1 _ _ _ (offset_plain r.condition.weekly) (late_plain r))))))
+
+party_plain : (s : Service) (r : Rule) → ArePlain 1 (party_keys s r)
+party_plain s r =
+    key_plain 1 _ _ _ (except_plain r.condition.identity)
+    (key_plain 1 _ _ _ (from_plain r.condition.window)
+    (key_plain 1 _ _ _ (where_plain 1 (is_outgoing s) _)
+    (key_plain 1 _ _ _ (many_plain r.condition.identity) (middle_plain s r))))
 
 rule_plain : (s : Service) (r : Rule) → ArePlain 1 (rule_data s r)
 rule_plain s r =
     key_plain 1 _ _ _ (allow_plain r.action)
     (key_plain 1 _ _ _ (where_plain 1 (meets_callers s) _)
     (key_plain 1 _ _ _ (where_plain 1 (is_diversion s) _)
-    (key_plain 1 _ _ _ (except_plain r.condition.identity)
-    (key_plain 1 _ _ _ (from_plain r.condition.window)
-    (key_plain 1 _ _ _ (many_plain r.condition.identity) (middle_plain s r))))))
+    (key_plain 1 _ _ _ (where_plain 1 (meets_callers s) _)
+    (key_plain 1 _ _ _ (day_from_plain r.condition.weekly)
+    (key_plain 1 _ _ _ (day_until_plain r.condition.weekly)
+    (key_plain 1 _ _ _ (days_plain r.condition.weekly) (party_plain s r)))))))
 
 rules_plain : (s : Service) (rs : List Rule) → IsPlain 3 (rules_data s rs)
 rules_plain s rs = items_plain 2 (λ r. table (rule_data s r)) (λ r. table_plain 1 (rule_data s r) (rule_plain s r)) rs
@@ -146,8 +200,12 @@ rejection_plain service.Outgoing b = tt
 diversion_plain : (part : Option DiversionPart) → IfSome (part_data diversion_data part) (IsPlain 4)
 diversion_plain None = tt
 diversion_plain (Some p) =
-    let rules = rules_plain service.Diversion p.rules in
-    record { shallow = omega (arith, rules.shallow); dateless = rw rules.dateless }
+    table_plain 3 _
+    (key_plain 3 (codes "active") (Some (boolean true)) _ (truth_plain 3 true)
+    (key_plain 3 (codes "bound") (bound_data p.bound) _ (bound_plain p.bound)
+    (key_plain 3 (codes "deflection") (Some (boolean p.deflection)) _ (truth_plain 3 p.deflection)
+    (key_plain 3 (codes "no-reply-time") (Some (integer (pos p.no_reply))) _ (number_plain 3 (pos p.no_reply))
+    (key_plain 3 (codes "rule") (Some (rules_data service.Diversion p.rules)) no_members (rules_plain service.Diversion p.rules) (none_plain 3))))))
 
 bar_plain : (s : Service) (part : Option BarPart) → IfSome (part_data (bar_data s) part) (IsPlain 4)
 bar_plain s None = tt

@@ -14,7 +14,7 @@ use Rattle.jiff_core.specs.Timestamp.{IsTimestampNanos, nanos_of_seconds}
 use Rattle.jiff_core.proofs.SignedLemmas.{signed_arith}
 use Rattle.jiff_fmt.specs.Reader.{nanoseconds, temporal_fraction, fraction_value}
 use Rattle.jiff_fmt.specs.Text.{pad2, date_text, time_text, datetime_text, zulu_text, places, fraction_part}
-use Rattle.jiff_fmt.specs.Temporal.{date_spec, date_parts, temporal_datetime, time_spec, time_parts, parse_timestamp}
+use Rattle.jiff_fmt.specs.Temporal.{date_parts, temporal_datetime, time_spec, time_parts, parse_timestamp}
 use Rattle.jiff_fmt.specs.Temporal as spec
 use Rattle.jiff_fmt.proofs.RoundTrip.{Stops, field-pad2, date_spec-text, offset-zulu, annotations-empty}
 use Rattle.jiff_fmt.proofs.TemporalLemmas.{instant-ok}

@@ -1,12 +1,13 @@
 -- The document of a sheet (3GPP TS 24.623; TS 24.604, 24.607, 24.608, 24.611, 24.615): its members in byte order of their keys. Each default is written out, and a part
 -- that is not there has no table.
-use Rattle.std.specs.Prelude.{ℕ, pos, List, [], ◌∷◌, Bool, true, false, Option, Some, None, if◌then◌else◌, codes}
+use Rattle.std.specs.Prelude.{ℕ, ◌/◌, ◌%◌, pos, List, [], ◌∷◌, ◌++◌, Bool, true, false, Option, Some, None, if◌then◌else◌, codes, slice_index_or}
 use Rattle.std.specs.Cmp.Lexicographic.{slice_cmp}
 use Rattle.std.specs.Ordering.{nat_cmp, is_lt}
-use Rattle.toml.specs.Data.{Data, string, integer, boolean, array, table, Items, no_items, item, Members, no_members, member}
+use Rattle.jiff_fmt.specs.Text.{pad2}
+use Rattle.toml.specs.Data.{Data, string, integer, boolean, array, table, Items, no_items, item, push_item, Members, no_members, member}
 use Rattle.mmtel_lex.specs.Grammar.{uri_text}
 use Rattle.mmtel_lex.specs.declared.values.Uri.{Uri}
-use Rattle.mmtel_sheet_grammar.specs.Keys.{is_diversion, meets_callers}
+use Rattle.mmtel_sheet_grammar.specs.Keys.{is_diversion, meets_callers, is_outgoing}
 use Rattle.mmtel_sheet_grammar.specs.declared.keys.Service.{Service}
 use Rattle.mmtel_sheet_grammar.specs.declared.keys.Service.TheVariants as service
 use Rattle.mmtel_sheet_grammar.specs.declared.keys.Notice.{Notice}
@@ -20,6 +21,7 @@ use Rattle.mmtel_sheet_values.specs.declared.values.EventWord.TheVariants as eve
 use Rattle.mmtel_sheet_values.specs.declared.values.Restriction.{Restriction}
 use Rattle.mmtel_sheet_values.specs.declared.values.Rule.{Rule}
 use Rattle.mmtel_sheet_values.specs.declared.values.Sheet.{Sheet}
+use Rattle.mmtel_sheet_values.specs.declared.values.Weekly.{Weekly}
 use Rattle.mmtel_sheet_values.specs.declared.values.Who.{Who}
 use Rattle.mmtel_sheet_values.specs.declared.values.Window.{Window}
 use Rattle.mmtel_sheets.specs.Times.{moment_text}
@@ -108,6 +110,50 @@ event_data s e happened = where_true (is_diversion s) (boolean (is_event e happe
 abbrev pub anonymous_data : Service → Bool → Option Data
 anonymous_data s b = where_true (meets_callers s) (boolean b)
 
+-- only where who calls is known
+abbrev pub diverted_data : Service → Bool → Option Data
+diverted_data s b = where_true (meets_callers s) (boolean b)
+
+-- only where it is asked where a call goes
+abbrev pub abroad_data : Service → Bool → Option Data
+abroad_data s b = where_true (is_outgoing s) (boolean b)
+
+-- HH:MM, of the minutes since the day began
+abbrev pub hour_text : ℕ → List ℕ
+hour_text n = pad2 (n / 60) ++ 58 ∷ pad2 (n % 60)
+
+abbrev pub day_from_data : Option Weekly → Option Data
+day_from_data None = None
+day_from_data (Some w) = Some (string (hour_text w.from))
+
+abbrev pub day_until_data : Option Weekly → Option Data
+day_until_data None = None
+day_until_data (Some w) = Some (string (hour_text w.until))
+
+-- one more day behind others, where it is one of them
+abbrev pub with_word : Items → Bool → List ℕ → Items
+with_word ds b word = if b then push_item ds (string word) else ds
+
+-- the words of the days, from Monday on
+abbrev pub day_words : List Bool → Items
+day_words days =
+    with_word (with_word (with_word (with_word (with_word (with_word (with_word no_items
+    (slice_index_or days 0 false) (codes "mon"))
+    (slice_index_or days 1 false) (codes "tue"))
+    (slice_index_or days 2 false) (codes "wed"))
+    (slice_index_or days 3 false) (codes "thu"))
+    (slice_index_or days 4 false) (codes "fri"))
+    (slice_index_or days 5 false) (codes "sat"))
+    (slice_index_or days 6 false) (codes "sun")
+
+abbrev pub days_data : Option Weekly → Option Data
+days_data None = None
+days_data (Some w) = Some (array (day_words w.days))
+
+abbrev pub offset_data : Option Weekly → Option Data
+offset_data None = None
+offset_data (Some w) = Some (integer w.offset)
+
 -- ---- what it does
 
 abbrev pub allow_data : Action → Option Data
@@ -144,7 +190,23 @@ middle_keys s r =
     (with_key (codes "no-answer") (event_data s event.NoAnswer r.condition.event)
     (with_key (codes "not-reachable") (event_data s event.NotReachable r.condition.event)
     (with_key (codes "not-registered") (event_data s event.NotRegistered r.condition.event)
-    (with_key (codes "notify-caller") (notice_data notice.NotifyCaller r.action) (late_keys r)))))
+    (with_key (codes "notify-caller") (notice_data notice.NotifyCaller r.action)
+    (with_key (codes "offset") (offset_data r.condition.weekly) (late_keys r))))))
+
+-- the keys from "except" on
+abbrev pub party_keys : Service → Rule → Members
+party_keys s r =
+    with_key (codes "except") (except_data r.condition.identity)
+    (with_key (codes "from") (from_data r.condition.window)
+    (with_key (codes "international") (abroad_data s r.condition.abroad)
+    (with_key (codes "many") (many_data r.condition.identity) (middle_keys s r))))
+
+-- the keys from "day-from" on
+abbrev pub week_keys : Service → Rule → Members
+week_keys s r =
+    with_key (codes "day-from") (day_from_data r.condition.weekly)
+    (with_key (codes "day-until") (day_until_data r.condition.weekly)
+    (with_key (codes "days") (days_data r.condition.weekly) (party_keys s r)))
 
 -- all of them
 abbrev pub rule_data : Service → Rule → Members
@@ -152,21 +214,24 @@ rule_data s r =
     with_key (codes "allow") (allow_data r.action)
     (with_key (codes "anonymous") (anonymous_data s r.condition.anonymous)
     (with_key (codes "busy") (event_data s event.Busy r.condition.event)
-    (with_key (codes "except") (except_data r.condition.identity)
-    (with_key (codes "from") (from_data r.condition.window)
-    (with_key (codes "many") (many_data r.condition.identity) (middle_keys s r))))))
+    (with_key (codes "communication-diverted") (diverted_data s r.condition.diverted) (week_keys s r))))
 
 abbrev pub rules_data : Service → List Rule → Data
 rules_data s rules = array (each_item (λ r. table (rule_data s r)) rules)
 
 -- ---- tables
 
+abbrev pub bound_data : Option ℕ → Option Data
+bound_data None = None
+bound_data (Some n) = Some (integer (pos n))
+
 abbrev pub diversion_data : DiversionPart → Data
 diversion_data p = table
     (member (codes "active") (boolean true)
+    (with_key (codes "bound") (bound_data p.bound)
     (member (codes "deflection") (boolean p.deflection)
     (member (codes "no-reply-time") (integer (pos p.no_reply))
-    (member (codes "rule") (rules_data service.Diversion p.rules) no_members))))
+    (member (codes "rule") (rules_data service.Diversion p.rules) no_members)))))
 
 -- only incoming barring rejects anonymous callers
 abbrev pub rejection_data : Service → Bool → Option Data
@@ -204,12 +269,17 @@ module _ {A : Type 0} where
   part_data data_of None = None
   part_data data_of (Some p) = Some (data_of p)
 
--- the tables from that of outgoing barring on
+-- the version of the records that are printed
+abbrev pub version_data : Data
+version_data = integer (pos 2)
+
+-- the tables from that of outgoing barring on, and the version
 abbrev pub late_tables : Sheet → Members
 late_tables s =
     with_key (codes "outgoing-communication-barring") (part_data (bar_data service.Outgoing) s.outgoing)
     (member (codes "terminating-identity-presentation") (presentation_data s.tip)
-    (member (codes "terminating-identity-presentation-restriction") (restriction_data s.tir) no_members))
+    (member (codes "terminating-identity-presentation-restriction") (restriction_data s.tir)
+    (member (codes "version") version_data no_members)))
 
 -- the document of a sheet: the presentations and restrictions always have their table
 abbrev pub document_of : Sheet → Members

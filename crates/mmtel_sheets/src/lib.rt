@@ -10,9 +10,9 @@ mod tables;
 mod values;
 
 pub use mmtel_sheet_grammar::SheetFault;
-pub use mmtel_sheet_reader::read_sheet;
+pub use mmtel_sheet_reader::{read_old_sheet, read_sheet};
 pub use mmtel_sheet_values::{
     Action, BarPart, Condition, DiversionPart, EventWord, Forward, Restriction, Rule, SharedSheet,
-    Sheet, SheetView, Who, Window,
+    Sheet, SheetView, Weekly, Who, Window,
 };
 pub use printing::print_sheet;

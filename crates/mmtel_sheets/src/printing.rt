@@ -1,8 +1,10 @@
 //! The text of a sheet.
-ghost use Rattle.std.specs.Prelude.{◌≡◌, IfOk, IsUtf8, false};
+ghost use Rattle.std.specs.Prelude.{◌≡◌, IfOk, IsUtf8, Ok, false};
 ghost use Rattle.toml.specs.Parse.{parse_document};
 ghost use Rattle.toml.specs.Text.{IsDocumentText};
+ghost use Rattle.mmtel_sheet_grammar.specs.Texts.{version_read};
 ghost use Rattle.mmtel_sheet_grammar.specs.Walk.{Documents};
+ghost use Rattle.mmtel_sheet_grammar.specs.declared.keys.Version.TheVariants as version;
 ghost use Rattle.mmtel_sheet_grammar.specs.Printable.{IsPrintable};
 ghost use Rattle.mmtel_sheets.specs.Printing.{document_of};
 
@@ -13,7 +15,8 @@ use std::alloc::Global;
 use toml::ser::Error;
 use toml::table_to_string;
 
-/// The record of a sheet: a TOML document in which each default is written out, a part that is not there has no table, and times are written as `YYYY-MM-DDTHH:MM:SS.mmmZ`.
+/// The record of a sheet, of the second version: a TOML document in which each default is written out, a part that is not there has no table, and times are written as
+/// `YYYY-MM-DDTHH:MM:SS.mmmZ`.
 ///
 /// # Errors
 ///
@@ -26,6 +29,8 @@ pub fn print_sheet(alloc: Global, s: &Sheet) -> Result<Text, NoMemory>
     ensures document { IfOk result (λ t. IsUtf8 t × (parse_document t ≡ Some (document_of s.now))) }
     // It reads back to the sheet.
     ensures reads_back { IfOk result (λ t. Documents t (Ok s.now)) }
+    // It is of the second version.
+    ensures second { IfOk result (λ t. version_read t ≡ Ok version.Two) }
 {
     let table = sheet_table(alloc, s)?;
     match table_to_string(alloc, &table) {

@@ -3,12 +3,13 @@ ghost use Rattle.std.specs.Prelude.{◌≡◌, IfOk, List, ℕ, codes, true};
 ghost use Rattle.toml.specs.Data.{is_before};
 ghost use Rattle.toml.specs.View.{view, table_view};
 ghost use Rattle.mmtel_sheet_grammar.specs.Printable.{IsRule, AreRules};
-ghost use Rattle.mmtel_sheets.specs.Printing.{comes_before, late_keys, middle_keys, rule_data, rules_data};
+ghost use Rattle.mmtel_sheets.specs.Printing.{comes_before, late_keys, middle_keys, party_keys, rule_data, rules_data, week_keys};
 
 use crate::members::{no_keys, with_key};
 use crate::values::{
-    allow_value, anonymous_value, event_value, except_value, from_value, many_value, media_value,
-    notice_value, one_value, target_value, until_value,
+    abroad_value, allow_value, anonymous_value, day_from_value, day_until_value, days_value,
+    diverted_value, event_value, except_value, from_value, many_value, media_value, notice_value,
+    offset_value, one_value, target_value, until_value,
 };
 use mmtel_lex::NoMemory;
 use mmtel_sheet_grammar::keys::{Notice, Service};
@@ -45,8 +46,10 @@ fn middle_keys(alloc: Global, service: Service, rule: &Rule) -> Result<Table, No
 {
     let event = rule.condition.event;
     let late = late_keys(alloc, service, rule)?;
+    let ahead = offset_value(rule.condition.weekly);
+    let offset = with_key(alloc, "offset", ahead, late)?;
     let told = notice_value(Notice::NotifyCaller, &rule.action);
-    let notify = with_key(alloc, "notify-caller", told, late)?;
+    let notify = with_key(alloc, "notify-caller", told, offset)?;
     let happened = event_value(service, EventWord::NotRegistered, event);
     let not_registered = with_key(alloc, "not-registered", happened, notify)?;
     let happened = event_value(service, EventWord::NotReachable, event);
@@ -58,20 +61,50 @@ fn middle_keys(alloc: Global, service: Service, rule: &Rule) -> Result<Table, No
     Ok(media)
 }
 
+/// The keys of a rule from `except` on.
+fn party_keys(alloc: Global, service: Service, rule: &Rule) -> Result<Table, NoMemory>
+    requires { IsRule service rule.now }
+    ensures members { IfOk result (λ t. table_view t ≡ party_keys service rule.now) }
+    ensures before { IfOk result (λ t. (k : List ℕ) → comes_before k (codes "except") ≡ true → is_before k (table_view t) ≡ true) }
+{
+    let middle = middle_keys(alloc, service, rule)?;
+    let domain = many_value(alloc, &rule.condition.identity)?;
+    let many = with_key(alloc, "many", domain, middle)?;
+    let abroad = abroad_value(service, rule.condition.abroad);
+    let international = with_key(alloc, "international", abroad, many)?;
+    let start = from_value(alloc, rule.condition.window)?;
+    let from = with_key(alloc, "from", start, international)?;
+    let others = except_value(alloc, &rule.condition.identity)?;
+    let except = with_key(alloc, "except", others, from)?;
+    Ok(except)
+}
+
+/// The keys of a rule from `day-from` on.
+fn week_keys(alloc: Global, service: Service, rule: &Rule) -> Result<Table, NoMemory>
+    requires { IsRule service rule.now }
+    ensures members { IfOk result (λ t. table_view t ≡ week_keys service rule.now) }
+    ensures before { IfOk result (λ t. (k : List ℕ) → comes_before k (codes "day-from") ≡ true → is_before k (table_view t) ≡ true) }
+{
+    let party = party_keys(alloc, service, rule)?;
+    let week = days_value(alloc, rule.condition.weekly)?;
+    let days = with_key(alloc, "days", week, party)?;
+    let end = day_until_value(alloc, rule.condition.weekly)?;
+    let day_until = with_key(alloc, "day-until", end, days)?;
+    let start = day_from_value(alloc, rule.condition.weekly)?;
+    let day_from = with_key(alloc, "day-from", start, day_until)?;
+    Ok(day_from)
+}
+
 /// The table of a rule.
 fn rule_table(alloc: Global, service: Service, rule: &Rule) -> Result<Table, NoMemory>
     requires { IsRule service rule.now }
     ensures { IfOk result (λ t. table_view t ≡ rule_data service rule.now) }
 {
-    let middle = middle_keys(alloc, service, rule)?;
-    let domain = many_value(alloc, &rule.condition.identity)?;
-    let many = with_key(alloc, "many", domain, middle)?;
-    let start = from_value(alloc, rule.condition.window)?;
-    let from = with_key(alloc, "from", start, many)?;
-    let others = except_value(alloc, &rule.condition.identity)?;
-    let except = with_key(alloc, "except", others, from)?;
+    let week = week_keys(alloc, service, rule)?;
+    let before = diverted_value(service, rule.condition.diverted);
+    let diverted = with_key(alloc, "communication-diverted", before, week)?;
     let happened = event_value(service, EventWord::Busy, rule.condition.event);
-    let busy = with_key(alloc, "busy", happened, except)?;
+    let busy = with_key(alloc, "busy", happened, diverted)?;
     let hidden = anonymous_value(service, rule.condition.anonymous);
     let anonymous = with_key(alloc, "anonymous", hidden, busy)?;
     let through = allow_value(&rule.action);

@@ -4,11 +4,11 @@ ghost use Rattle.toml.specs.Data.{is_before, string};
 ghost use Rattle.toml.specs.View.{view, table_view};
 ghost use Rattle.mmtel_sheet_grammar.specs.Printable.{IsBar, IsDiversion, IsPrintable};
 ghost use Rattle.mmtel_sheets.specs.Printing.{comes_before, diversion_data, bar_data, presentation_data, word_of, restriction_data, waiting_data, part_data, late_tables};
-ghost use Rattle.mmtel_sheets.specs.Printing.{document_of};
+ghost use Rattle.mmtel_sheets.specs.Printing.{version_data, document_of};
 
 use crate::members::{no_keys, with_key};
 use crate::rules::rules_value;
-use crate::values::rejection_value;
+use crate::values::{bound_value, rejection_value};
 use mmtel_lex::NoMemory;
 use mmtel_sheet_grammar::keys::Service;
 use mmtel_sheet_values::{BarPart, DiversionPart, Restriction, Sheet};
@@ -25,7 +25,8 @@ fn diversion_table(alloc: Global, part: &DiversionPart) -> Result<Value, NoMemor
     let no_reply = with_key(alloc, "no-reply-time", Some(seconds), rule)?;
     let diverts = Value::Boolean(part.deflection);
     let deflection = with_key(alloc, "deflection", Some(diverts), no_reply)?;
-    let active = with_key(alloc, "active", Some(Value::Boolean(true)), deflection)?;
+    let bound = with_key(alloc, "bound", bound_value(part.bound), deflection)?;
+    let active = with_key(alloc, "active", Some(Value::Boolean(true)), bound)?;
     Ok(Value::Table(active))
 }
 
@@ -131,18 +132,26 @@ pub fn waiting_value(alloc: Global, calls: Option<u8>) -> Result<Option<Value>, 
     Ok(Some(waiting_table(alloc, calls)?))
 }
 
-/// The tables from that of outgoing barring on.
+/// The version of the records that are printed.
+fn version_value() -> Value
+    ensures { view result ≡ version_data }
+{
+    Value::Integer(2)
+}
+
+/// The tables from that of outgoing barring on, and the version.
 fn late_tables(alloc: Global, sheet: &Sheet) -> Result<Table, NoMemory>
     requires { IsPrintable sheet.now }
     ensures members { IfOk result (λ t. table_view t ≡ late_tables sheet.now) }
     ensures before { IfOk result (λ t. (k : List ℕ) → comes_before k (codes "outgoing-communication-barring") ≡ true → is_before k (table_view t) ≡ true) }
 {
+    let version = with_key(alloc, "version", Some(version_value()), no_keys(alloc))?;
     let restricted = restriction_value(alloc, sheet.tir)?;
     let tir = with_key(
         alloc,
         "terminating-identity-presentation-restriction",
         Some(restricted),
-        no_keys(alloc),
+        version,
     )?;
     let shown = presentation_value(alloc, sheet.tip)?;
     let tip = with_key(alloc, "terminating-identity-presentation", Some(shown), tir)?;

@@ -1,21 +1,23 @@
 //! The values at the keys of a record.
-ghost use Rattle.std.specs.Prelude.{◌≡◌, IfOk, IfSome, IsUtf8, option_map, true};
+ghost use Rattle.std.specs.Prelude.{◌≡◌, ◌≤◌, IfOk, IfSome, IsUtf8, option_map, true};
 ghost use Rattle.std.specs.List.{AllByRecursion};
-ghost use Rattle.toml.specs.Data.{string, array};
-ghost use Rattle.toml.specs.View.{view};
+ghost use Rattle.toml.specs.Data.{string, array, push_item};
+ghost use Rattle.toml.specs.View.{view, array_view};
 ghost use Rattle.mmtel_sheet_grammar.specs.Elements.{is_token_text, is_domain};
-ghost use Rattle.mmtel_sheet_grammar.specs.Printable.{IsUriOfText, IsTarget, IsMoment, IsWho, IsWindow, IsAction};
+ghost use Rattle.mmtel_sheet_grammar.specs.Printable.{IsUriOfText, IsTarget, IsMoment, IsWho, IsWindow, IsWeekly, IsAction};
 ghost use Rattle.mmtel_sheets.specs.Printing.{uri_data, uris_data, each_item, except_data, many_data, one_data, from_data, until_data, media_data, is_event, event_data};
-ghost use Rattle.mmtel_sheets.specs.Printing.{anonymous_data, allow_data, target_data, notice_data, rejection_data};
+ghost use Rattle.mmtel_sheets.specs.Printing.{anonymous_data, diverted_data, abroad_data, hour_text, day_from_data, day_until_data, with_word, day_words, days_data};
+ghost use Rattle.mmtel_sheets.specs.Printing.{offset_data, bound_data, allow_data, target_data, notice_data, rejection_data};
 ghost use Rattle.mmtel_sheets.specs.Times.{moment_text};
 
 use crate::members::string_of;
 use crate::moments::print_moment;
 use mmtel_lex::{List, NoMemory, Text, Uri, print_uri};
 use mmtel_sheet_grammar::keys::{Notice, Service};
-use mmtel_sheet_values::{Action, EventWord, Who, Window};
+use mmtel_sheet_values::{Action, EventWord, Weekly, Who, Window};
 use std::alloc::Global;
 use toml::Value;
+use toml::value::Array;
 
 /// A text.
 pub fn text_value(alloc: Global, bytes: &[u8]) -> Result<Value, NoMemory>
@@ -192,6 +194,130 @@ pub fn anonymous_value(service: Service, anonymous: bool) -> Option<Value>
         Service::Diversion => Some(Value::Boolean(anonymous)),
         Service::Incoming => Some(Value::Boolean(anonymous)),
         Service::Outgoing => None,
+    }
+}
+
+/// Whether the call was diverted before, where the service knows who calls.
+pub fn diverted_value(service: Service, diverted: bool) -> Option<Value>
+    ensures { option_map view result ≡ diverted_data service diverted }
+{
+    match service {
+        Service::Diversion => Some(Value::Boolean(diverted)),
+        Service::Incoming => Some(Value::Boolean(diverted)),
+        Service::Outgoing => None,
+    }
+}
+
+/// Whether the call goes to another country, where it is asked where a call goes.
+pub fn abroad_value(service: Service, abroad: bool) -> Option<Value>
+    ensures { option_map view result ≡ abroad_data service abroad }
+{
+    match service {
+        Service::Diversion => None,
+        Service::Incoming => None,
+        Service::Outgoing => Some(Value::Boolean(abroad)),
+    }
+}
+
+/// A time of the day, `HH:MM`, of the minutes since it began.
+fn hour_value(alloc: Global, minutes: u16) -> Result<Value, NoMemory>
+    requires { minutes ≤ 1_440 }
+    ensures { IfOk result (λ v. view v ≡ string (hour_text minutes)) }
+{
+    let hour = (minutes / 60) as u8;
+    let minute = (minutes % 60) as u8;
+    let text = [
+        b'0' + hour / 10,
+        b'0' + hour % 10,
+        b':',
+        b'0' + minute / 10,
+        b'0' + minute % 10,
+    ];
+    text_value(alloc, &text)
+}
+
+/// The first minute of the hours.
+pub fn day_from_value(alloc: Global, weekly: Option<Weekly>) -> Result<Option<Value>, NoMemory>
+    requires { IfSome weekly IsWeekly }
+    ensures { IfOk result (λ o. option_map view o ≡ day_from_data weekly) }
+{
+    match weekly {
+        None => Ok(None),
+        Some(weekly) => Ok(Some(hour_value(alloc, weekly.from)?)),
+    }
+}
+
+/// The first minute after the hours.
+pub fn day_until_value(alloc: Global, weekly: Option<Weekly>) -> Result<Option<Value>, NoMemory>
+    requires { IfSome weekly IsWeekly }
+    ensures { IfOk result (λ o. option_map view o ≡ day_until_data weekly) }
+{
+    match weekly {
+        None => Ok(None),
+        Some(weekly) => Ok(Some(hour_value(alloc, weekly.until)?)),
+    }
+}
+
+/// The array with one more day.
+fn push_word(alloc: Global, mut array: Array, word: &str) -> Result<Array, NoMemory>
+    ensures { IfOk result (λ a. array_view a ≡ push_item (array_view array) (string word.now)) }
+{
+    let day = String::from_str(alloc, word)?;
+    array.push(Value::String(day))?;
+    Ok(array)
+}
+
+/// The array with one more day, where it is one of those.
+fn with_word(alloc: Global, array: Array, is_one: bool, word: &str) -> Result<Array, NoMemory>
+    ensures { IfOk result (λ a. array_view a ≡ with_word (array_view array) is_one word.now) }
+{
+    if is_one {
+        push_word(alloc, array, word)
+    } else {
+        Ok(array)
+    }
+}
+
+/// The words of the days, from Monday on.
+fn day_words(alloc: Global, days: [bool; 7]) -> Result<Array, NoMemory>
+    ensures { IfOk result (λ a. array_view a ≡ day_words days) }
+{
+    let monday = with_word(alloc, Vec::new(alloc), days[0], "mon")?;
+    let tuesday = with_word(alloc, monday, days[1], "tue")?;
+    let wednesday = with_word(alloc, tuesday, days[2], "wed")?;
+    let thursday = with_word(alloc, wednesday, days[3], "thu")?;
+    let friday = with_word(alloc, thursday, days[4], "fri")?;
+    let saturday = with_word(alloc, friday, days[5], "sat")?;
+    with_word(alloc, saturday, days[6], "sun")
+}
+
+/// The days of the week.
+pub fn days_value(alloc: Global, weekly: Option<Weekly>) -> Result<Option<Value>, NoMemory>
+    ensures { IfOk result (λ o. option_map view o ≡ days_data weekly) }
+{
+    match weekly {
+        None => Ok(None),
+        Some(weekly) => Ok(Some(Value::Array(day_words(alloc, weekly.days)?))),
+    }
+}
+
+/// The minutes by which the clock of the hours is ahead of UTC.
+pub fn offset_value(weekly: Option<Weekly>) -> Option<Value>
+    ensures { option_map view result ≡ offset_data weekly }
+{
+    match weekly {
+        None => None,
+        Some(weekly) => Some(Value::Integer(i64::from(weekly.offset))),
+    }
+}
+
+/// The bound of the diversions of a call.
+pub fn bound_value(bound: Option<u8>) -> Option<Value>
+    ensures { option_map view result ≡ bound_data bound }
+{
+    match bound {
+        None => None,
+        Some(bound) => Some(Value::Integer(i64::from(bound))),
     }
 }
 

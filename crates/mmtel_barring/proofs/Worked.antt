@@ -25,10 +25,10 @@ abbrev somebody : Uri → Identities2
 somebody u = record { sip = Some u; tel = None }
 
 abbrev calling : Uri → Circumstances
-calling u = record { asks = identity_holds (somebody u); has_identity = true; restricted = false; media = []; now = 0 }
+calling u = record { asks = identity_holds (somebody u); has_identity = true; restricted = false; media = []; now = 0; diverted = false; abroad = false }
 
 abbrev about : Who → Condition
-about who = record { identity = Some who; anonymous = false; window = None; media = None; event = None }
+about who = record { identity = Some who; anonymous = false; window = None; media = None; event = None; diverted = false; abroad = false; weekly = None }
 
 abbrev everybody_barred : Rule
 everybody_barred = record { condition = about (record { one = []; many = Some (codes "*"); except = [] }); action = Allow false }

@@ -11,7 +11,7 @@ use Rattle.mmtel_directory.specs.declared.config_lines.Line.TheVariants as line
 use Rattle.mmtel_directory.specs.declared.drafts.Draft.{Draft}
 use Rattle.mmtel_directory.specs.Lines.{lines_of, and_then, said_by}
 use Rattle.mmtel_directory.specs.Directory.{line_of, next_said, stands, first_of, first_said, directory_by, directory_from, directory_of, table_of}
-use Rattle.mmtel_directory.specs.Directory.{sip_in, web_in, home_in, route_in, account_in, identities_in, operator_in, factory_in, bound_in, mixer_in, store_in}
+use Rattle.mmtel_directory.specs.Directory.{sip_in, web_in, home_in, route_in, account_in, identities_in, operator_in, factory_in, bound_in, country_in, mixer_in, store_in}
 use Rattle.mmtel_directory.specs.Directory.{Answers}
 use Rattle.mmtel_directory.specs.Drafts.{Reads, drafted, step, takes, with_line, finished, finished_by, empty_draft}
 use Rattle.mmtel_directory.specs.declared.directories.Directory.{Directory}
@@ -31,6 +31,7 @@ draft_of said = record {
   operator = first_said operator_in said;
   factory = first_said factory_in said;
   bound = first_said bound_in said;
+  country = first_said country_in said;
   mixer = first_said mixer_in said;
   store = first_said store_in said;
 }
@@ -55,6 +56,7 @@ takes_is said (line.Account account uris) = refl
 takes_is said (line.Operator uri) = none_first (flat_map operator_in said)
 takes_is said (line.Factory uri) = none_first (flat_map factory_in said)
 takes_is said (line.Bound n) = none_first (flat_map bound_in said)
+takes_is said (line.Country digits) = none_first (flat_map country_in said)
 takes_is said (line.Mixer mixer) = none_first (flat_map mixer_in said)
 takes_is said (line.Store name) = none_first (flat_map store_in said)
 
@@ -73,6 +75,7 @@ with_line_is said (line.Account account uris) ok = simp (one_more, append-nil, l
 with_line_is said (line.Operator uri) ok = simp (one_more, append-nil, alone_first (flat_map operator_in said) uri ok)
 with_line_is said (line.Factory uri) ok = simp (one_more, append-nil, alone_first (flat_map factory_in said) uri ok)
 with_line_is said (line.Bound n) ok = simp (one_more, append-nil, alone_first (flat_map bound_in said) n ok)
+with_line_is said (line.Country digits) ok = simp (one_more, append-nil, alone_first (flat_map country_in said) digits ok)
 with_line_is said (line.Mixer mixer) ok = simp (one_more, append-nil, alone_first (flat_map mixer_in said) mixer ok)
 with_line_is said (line.Store name) ok = simp (one_more, append-nil, alone_first (flat_map store_in said) name ok)
 

@@ -7,7 +7,7 @@ use Rattle.mmtel_scan.specs.Chain.{◌>>=◌}
 use Rattle.mmtel_scan.specs.Classes.{in_class}
 use Rattle.mmtel_scan.specs.Numbers.{plain_number}
 use Rattle.mmtel_scan.specs.Scanning.{parted}
-use Rattle.mmtel_scan.specs.declared.classes.Class.TheVariants.{Host}
+use Rattle.mmtel_scan.specs.declared.classes.Class.TheVariants.{Digit, Host}
 use Rattle.mmtel_lex.specs.Reading.{Refusal, uri_of}
 use Rattle.mmtel_lex.specs.declared.values.Uri.{Uri}
 use Rattle.mmtel_sdp.specs.declared.values.Mixer.{Mixer}
@@ -63,6 +63,7 @@ kind_of word =
     else if bytes_eq word (codes "operator") then Some kind.Operator
     else if bytes_eq word (codes "factory") then Some kind.Factory
     else if bytes_eq word (codes "bound") then Some kind.Bound
+    else if bytes_eq word (codes "country") then Some kind.Country
     else if bytes_eq word (codes "mixer") then Some kind.Mixer
     else if bytes_eq word (codes "store") then Some kind.Store
     else None
@@ -187,6 +188,14 @@ bound_line s = do
   n ← plain_number 16 s
   Some (line.Bound n)
 
+-- one to three digits
+abbrev pub is_country : List ℕ → Bool
+is_country s = nat_le 1 (length s) && (nat_le (length s) 3 && list_all (in_class Digit) s)
+
+-- `country DIGITS`
+abbrev pub country_line : List ℕ → Option Line
+country_line s = if is_country s then Some (line.Country s) else None
+
 -- `mixer IP PORT`
 abbrev pub mixer_line : List ℕ → Option Line
 mixer_line s = do
@@ -210,6 +219,7 @@ line_of_kind kind.Account s = account_line s
 line_of_kind kind.Operator s = operator_line s
 line_of_kind kind.Factory s = factory_line s
 line_of_kind kind.Bound s = bound_line s
+line_of_kind kind.Country s = country_line s
 line_of_kind kind.Mixer s = mixer_line s
 line_of_kind kind.Store s = store_line s
 
@@ -275,6 +285,10 @@ abbrev pub bound_in : Line → List ℕ
 bound_in (line.Bound n) = n ∷ []
 bound_in _ = []
 
+abbrev pub country_in : Line → List (List ℕ)
+country_in (line.Country digits) = digits ∷ []
+country_in _ = []
+
 abbrev pub mixer_in : Line → List Mixer
 mixer_in (line.Mixer mixer) = mixer ∷ []
 mixer_in _ = []
@@ -317,6 +331,7 @@ stands said (line.Account account uris) =
 stands said (line.Operator uri) = is_unsaid operator_in said
 stands said (line.Factory uri) = is_unsaid factory_in said
 stands said (line.Bound n) = is_unsaid bound_in said
+stands said (line.Country digits) = is_unsaid country_in said
 stands said (line.Mixer mixer) = is_unsaid mixer_in said
 stands said (line.Store name) = is_unsaid store_in said
 
@@ -359,6 +374,7 @@ directory_with sip home said = record {
   names = record { accounts = flat_map identities_in said; operator = first_said operator_in said };
   factory = first_said factory_in said;
   bound = unwrap_or (first_said bound_in said) usual_bound;
+  country = first_said country_in said;
   mixer = unwrap_or (first_said mixer_in said) usual_mixer;
   store = unwrap_or (first_said store_in said) usual_store;
 }

@@ -24,6 +24,7 @@ empty_draft = record {
   operator = None;
   factory = None;
   bound = None;
+  country = None;
   mixer = None;
   store = None;
 }
@@ -40,6 +41,7 @@ takes draft (line.Account account uris) = nat_lt draft.account_lines 10000 && no
 takes draft (line.Operator uri) = is_none draft.operator
 takes draft (line.Factory uri) = is_none draft.factory
 takes draft (line.Bound n) = is_none draft.bound
+takes draft (line.Country digits) = is_none draft.country
 takes draft (line.Mixer mixer) = is_none draft.mixer
 takes draft (line.Store name) = is_none draft.store
 
@@ -55,6 +57,7 @@ with_line draft (line.Account account uris) = record draft { accounts = draft.ac
 with_line draft (line.Operator uri) = record draft { operator = Some uri }
 with_line draft (line.Factory uri) = record draft { factory = Some uri }
 with_line draft (line.Bound n) = record draft { bound = Some n }
+with_line draft (line.Country digits) = record draft { country = Some digits }
 with_line draft (line.Mixer mixer) = record draft { mixer = Some mixer }
 with_line draft (line.Store name) = record draft { store = Some name }
 
@@ -74,6 +77,7 @@ directory_in sip home draft = record {
   names = record { accounts = draft.accounts; operator = draft.operator };
   factory = draft.factory;
   bound = unwrap_or draft.bound usual_bound;
+  country = draft.country;
   mixer = unwrap_or draft.mixer usual_mixer;
   store = unwrap_or draft.store usual_store;
 }

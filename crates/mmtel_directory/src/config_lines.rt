@@ -5,7 +5,7 @@ ghost use Rattle.mmtel_lex.specs.Reading.{uri_of};
 ghost use Rattle.mmtel_trust.specs.Peers.{is_prefix};
 ghost use Rattle.mmtel_scan.specs.Numbers.{plain_number};
 ghost use Rattle.mmtel_directory.specs.Directory.{route_words, ip_of, addr_of, kind_of, is_host, is_route_name, trust_of, peer_of, account_number, readable, identities_of};
-ghost use Rattle.mmtel_directory.specs.Directory.{is_one_word, is_store_name};
+ghost use Rattle.mmtel_directory.specs.Directory.{is_country, country_line, is_one_word, is_store_name};
 ghost use Rattle.mmtel_directory.specs.Lines.{words_of};
 ghost use Rattle.mmtel_directory.specs.Directory.{uris_of, kind_and_rest, sip_line, web_line, home_line, peer_line, route_line, account_words, account_line, operator_line};
 ghost use Rattle.mmtel_directory.specs.Directory.{factory_line, bound_line, mixer_line, store_line, line_of_kind, line_of_words, line_of};
@@ -31,6 +31,7 @@ pub enum LineKind {
     Operator,
     Factory,
     Bound,
+    Country,
     Mixer,
     Store,
 }
@@ -63,6 +64,8 @@ pub enum Line {
     Factory(Uri),
     /// The bound on the diversions of a call.
     Bound(u16),
+    /// The digits of the home country.
+    Country(Text),
     /// Where the mixer of rooms takes media.
     Mixer(Mixer),
     /// The name of the store.
@@ -118,6 +121,8 @@ fn kind_of(word: &[u8]) -> Option<LineKind>
         Some(LineKind::Factory)
     } else if word == b"bound".as_slice() {
         Some(LineKind::Bound)
+    } else if word == b"country".as_slice() {
+        Some(LineKind::Country)
     } else if word == b"mixer".as_slice() {
         Some(LineKind::Mixer)
     } else if word == b"store".as_slice() {
@@ -332,6 +337,21 @@ fn bound_line(rest: &[u8]) -> Option<Line>
     Some(Line::Bound(number as u16))
 }
 
+fn is_country(bytes: &[u8]) -> bool
+    ensures { result ≡ is_country bytes.now }
+{
+    1 <= bytes.len() && bytes.len() <= 3 && is_all(Class::Digit, bytes)
+}
+
+fn country_line(alloc: Global, rest: &[u8]) -> Result<Option<Line>, NoMemory>
+    ensures { IfOk result (λ said. said ≡ country_line rest.now) }
+{
+    if !is_country(rest) {
+        return Ok(None);
+    }
+    Ok(Some(Line::Country(Text::of(alloc, rest)?)))
+}
+
 fn mixer_line(rest: &[u8]) -> Option<Line>
     ensures { result ≡ mixer_line rest.now }
 {
@@ -378,6 +398,7 @@ fn line_of_kind(alloc: Global, kind: LineKind, rest: &[u8]) -> Result<Option<Lin
         LineKind::Operator => operator_line(alloc, rest),
         LineKind::Factory => factory_line(alloc, rest),
         LineKind::Bound => Ok(bound_line(rest)),
+        LineKind::Country => country_line(alloc, rest),
         LineKind::Mixer => Ok(mixer_line(rest)),
         LineKind::Store => store_line(alloc, rest),
     }

@@ -40,6 +40,8 @@ pub struct Directory {
     pub factory: Option<Uri>,
     /// The bound on the diversions of a call: 0 to 16.
     pub bound: u16,
+    /// The digits of the home country: a number with other digits behind its `+` is abroad. Where there are none, no number is.
+    pub country: Option<Text>,
     /// Where the mixer of rooms takes media.
     pub mixer: Mixer,
     /// The name of the store, to which the keeper is bound.
@@ -93,6 +95,7 @@ fn read_lines(alloc: Global, draft: &mut Draft, bytes: &[u8]) -> Result<u64, Dir
 /// - `operator URI`; without it nobody may read the charging rows.
 /// - `factory URI`; without it no room is made.
 /// - `bound N`, 0 to 16; without it 5.
+/// - `country DIGITS`, one to three; without it no number is abroad.
 /// - `mixer IP PORT`; without it 127.0.0.1 and 40000.
 /// - `store NAME`, a name of any bytes but spaces; without it `:memory:`.
 ///

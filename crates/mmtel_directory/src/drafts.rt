@@ -27,6 +27,7 @@ pub struct Draft {
     operator: Option<Uri>,
     factory: Option<Uri>,
     bound: Option<u16>,
+    country: Option<Text>,
     mixer: Option<Mixer>,
     store: Option<Text>,
 }
@@ -108,6 +109,7 @@ impl Draft {
             operator: None,
             factory: None,
             bound: None,
+            country: None,
             mixer: None,
             store: None,
         }
@@ -185,6 +187,7 @@ impl Draft {
             Line::Operator(uri) => say_once(&mut self.operator, number, uri),
             Line::Factory(uri) => say_once(&mut self.factory, number, uri),
             Line::Bound(bound) => say_once(&mut self.bound, number, bound),
+            Line::Country(digits) => say_once(&mut self.country, number, digits),
             Line::Mixer(mixer) => say_once(&mut self.mixer, number, mixer),
             Line::Store(name) => say_once(&mut self.store, number, name),
         }
@@ -217,6 +220,7 @@ impl Draft {
                 },
                 factory: self.factory,
                 bound: self.bound.unwrap_or(DIVERSIONS_DEFAULT),
+                country: self.country,
                 mixer: mixer_or_usual(self.mixer),
                 store: store_or_usual(alloc, self.store)?,
             }),

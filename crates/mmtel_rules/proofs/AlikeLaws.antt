@@ -7,7 +7,7 @@ use Rattle.mmtel_sheet_values.specs.declared.values.Rule.{Rule}
 use Rattle.mmtel_sheet_values.specs.declared.values.Who.{Who}
 use Rattle.mmtel_rules.specs.Alike.{AnswerAlike, identity_parts}
 use Rattle.mmtel_rules.specs.Circumstances.{Circumstances, asked}
-use Rattle.mmtel_rules.specs.Conditions.{who_holds, anonymous_holds, window_holds, media_holds, event_holds, condition_holds}
+use Rattle.mmtel_rules.specs.Conditions.{who_holds, fact_holds, window_holds, media_holds, further_holds, event_holds, condition_holds}
 use Rattle.mmtel_rules.specs.Rules.{allows, arrival, barred_by, first_that_holds, lets_through, rule_holds}
 use Rattle.mmtel_rules.specs.declared.values.When.{When}
 use Rattle.mmtel_rules.proofs.Places.{all_of, list_any_alike, position_alike}
@@ -20,7 +20,8 @@ module _ (asks asks2 : Who → Bool) (k : Circumstances) where
   pub condition_alike : (when : When) (c : Condition) → AnswerAlike asks asks2 (option_to_list c.identity) → condition_holds (asked k asks) when c ≡ condition_holds (asked k asks2) when c
   unfolding condition_holds
   condition_alike when c a =
-      ap (λ b. b && (anonymous_holds k.restricted c.anonymous && (window_holds k.now c.window && (media_holds k.media c.media && event_holds when c.event)))) (who_alike c.identity a)
+      ap (λ b. b && (fact_holds k.restricted c.anonymous && (window_holds k.now c.window && (media_holds k.media c.media && (further_holds k c && event_holds when c.event)))))
+      (who_alike c.identity a)
 
   first_part : (who : Option Who) (rest : List Who) → AnswerAlike asks asks2 (cons_option who rest) → AnswerAlike asks asks2 (option_to_list who)
   first_part None rest a = tt

@@ -13,7 +13,7 @@ use Rattle.mmtel_sheet_values.specs.declared.values.Rule.{Rule}
 use Rattle.mmtel_sheet_values.specs.declared.values.Who.{Who}
 use Rattle.mmtel_sheet_values.specs.declared.values.Window.{Window}
 use Rattle.mmtel_rules.specs.Circumstances.{Circumstances}
-use Rattle.mmtel_rules.specs.Conditions.{condition_holds, window_holds, event_holds, who_holds, anonymous_holds, media_holds}
+use Rattle.mmtel_rules.specs.Conditions.{condition_holds, window_holds, event_holds, who_holds, fact_holds, further_holds, media_holds}
 use Rattle.mmtel_rules.specs.Identities.{has_identity, identity_holds, names, many_holds}
 use Rattle.mmtel_rules.specs.Rules.{allows, arrival, barred_by, first_that_holds, is_barred, is_let_through, IsLeast, lets_through, rule_holds}
 use Rattle.mmtel_rules.specs.declared.values.Identities2.{Identities2}
@@ -53,21 +53,22 @@ third_false true true c d e = rw e refl
 third_false true false c d e = refl
 third_false false b c d e = refl
 
-last_false : (a b c d e : Bool) → e ≡ false → (a && (b && (c && (d && e)))) ≡ false
-last_false true true true true e h = h
-last_false true true true false e h = refl
-last_false true true false d e h = refl
-last_false true false c d e h = refl
-last_false false b c d e h = refl
+last_false : (a b c d e f : Bool) → f ≡ false → (a && (b && (c && (d && (e && f))))) ≡ false
+last_false true true true true true f h = h
+last_false true true true true false f h = refl
+last_false true true true false e f h = refl
+last_false true true false d e f h = refl
+last_false true false c d e f h = refl
+last_false false b c d e f h = refl
 
 module _ (k : Circumstances) (when : When) (c : Condition) where
   pub outside_window : window_holds k.now c.window ≡ false → condition_holds k when c ≡ false
   unfolding condition_holds
-  outside_window e = third_false (who_holds k.asks c.identity) (anonymous_holds k.restricted c.anonymous) (window_holds k.now c.window) (media_holds k.media c.media && event_holds when c.event) e
+  outside_window e = third_false (who_holds k.asks c.identity) (fact_holds k.restricted c.anonymous) (window_holds k.now c.window) (media_holds k.media c.media && (further_holds k c && event_holds when c.event)) e
 
   pub no_event : event_holds when c.event ≡ false → condition_holds k when c ≡ false
   unfolding condition_holds
-  no_event e = last_false (who_holds k.asks c.identity) (anonymous_holds k.restricted c.anonymous) (window_holds k.now c.window) (media_holds k.media c.media) (event_holds when c.event) e
+  no_event e = last_false (who_holds k.asks c.identity) (fact_holds k.restricted c.anonymous) (window_holds k.now c.window) (media_holds k.media c.media) (further_holds k c) (event_holds when c.event) e
 
 -- ---- windows
 

@@ -18,10 +18,22 @@ pub record Circumstances : Type 0 where
   pub media : List (List ℕ)
   -- the moment
   pub now : ℕ
+  -- the call was diverted before
+  pub diverted : Bool
+  -- the target that is the other party is abroad
+  pub abroad : Bool
 
 -- what the facts of the program tell: of the identities of the other party only which conditions are true of it, and whether it has any
 abbrev pub known : Facts → Circumstances
-known f = record { asks = identity_holds f.caller.now; has_identity = has_identity f.caller.now; restricted = f.restricted; media = f.media.now; now = f.now }
+known f = record {
+  asks = identity_holds f.caller.now;
+  has_identity = has_identity f.caller.now;
+  restricted = f.restricted;
+  media = f.media.now;
+  now = f.now;
+  diverted = f.diverted;
+  abroad = f.abroad;
+}
 
 -- the same circumstances, with these answers of the other party
 abbrev pub asked : Circumstances → (Who → Bool) → Circumstances

@@ -1,13 +1,15 @@
 -- When a condition holds: each part of it that is there does (RFC 4745 §6, TS 24.604 §4.9.1).
 --
 -- Of the identities of the other party only the answers count, `asks`, one for each identity part of a condition.
-use Rattle.std.specs.Prelude.{ℕ, pos, int_lt, int_le, Bool, true, false, not, ◌&&◌, ◌||◌, List, Option, Some, None}
+use Rattle.std.specs.Prelude.{ℕ, ◌/◌, ℤ, pos, ◌+ℤ◌, unsigned_abs, int_lt, int_le, nat_le, nat_lt, slice_index_or, Bool, true, false, not, ◌&&◌, ◌||◌, List, Option, Some, None}
+use Rattle.std.specs.Int.{int_div_euclid, int_rem_euclid}
 use Rattle.std.specs.List.{list_any}
 use Rattle.std.specs.Option.{option_map_or}
 use Rattle.std.specs.Str.{bytes_eq}
 use Rattle.mmtel_sheet_values.specs.declared.values.Condition.{Condition}
 use Rattle.mmtel_sheet_values.specs.declared.values.EventWord.{EventWord}
 use Rattle.mmtel_sheet_values.specs.declared.values.EventWord.TheVariants as Event
+use Rattle.mmtel_sheet_values.specs.declared.values.Weekly.{Weekly}
 use Rattle.mmtel_sheet_values.specs.declared.values.Who.{Who}
 use Rattle.mmtel_sheet_values.specs.declared.values.Window.{Window}
 use Rattle.mmtel_rules.specs.Circumstances.{Circumstances}
@@ -18,14 +20,34 @@ use Rattle.mmtel_rules.specs.declared.values.When.TheVariants.{Arrival, Busy, No
 abbrev pub who_holds : (Who → Bool) → Option Who → Bool
 who_holds asks who = option_map_or asks who true
 
--- the caller hides who it is, where that is asked
-abbrev pub anonymous_holds : Bool → Bool → Bool
-anonymous_holds restricted asked = not asked || restricted
+-- what is asked is so: the caller hides who it is, the call was diverted before, the target is abroad
+abbrev pub fact_holds : (is_so asked : Bool) → Bool
+fact_holds is_so asked = not asked || is_so
 
 -- it is that time, the end of which is past it (RFC 4745 §7.3)
 abbrev pub window_holds : ℕ → Option Window → Bool
 window_holds now None = true
 window_holds now (Some w) = int_le w.from (pos now) && int_lt (pos now) w.until
+
+-- the whole minutes since 1970 began, by a clock that is ahead of UTC by so many
+abbrev pub local_minutes : (now : ℕ) → (offset : ℤ) → ℤ
+local_minutes now offset = pos (now / 60_000) +ℤ offset
+
+-- the day of the week, from Monday on: 1970 began on a Thursday
+abbrev pub weekday : ℤ → ℕ
+weekday minutes = unsigned_abs (int_rem_euclid (int_div_euclid minutes (pos 1_440) +ℤ pos 3) (pos 7))
+
+-- the minutes since the day began
+abbrev pub minute_of_day : ℤ → ℕ
+minute_of_day minutes = unsigned_abs (int_rem_euclid minutes (pos 1_440))
+
+-- it is one of these hours, the end of which is past them, of one of these days
+abbrev pub hours_hold : Weekly → ℤ → Bool
+hours_hold w minutes = slice_index_or w.days (weekday minutes) false && (nat_le w.from (minute_of_day minutes) && nat_lt (minute_of_day minutes) w.until)
+
+abbrev pub weekly_holds : ℕ → Option Weekly → Bool
+weekly_holds now None = true
+weekly_holds now (Some w) = hours_hold w (local_minutes now w.offset)
 
 -- the kind of media is offered, byte for byte
 abbrev pub is_offered : List (List ℕ) → List ℕ → Bool
@@ -69,7 +91,12 @@ abbrev pub event_holds : When → Option EventWord → Bool
 event_holds when None = is_arrival when
 event_holds when (Some event) = is_event event when
 
+-- where the call goes, what became of it before, and the hours of the week
+abbrev pub further_holds : Circumstances → Condition → Bool
+further_holds k c = fact_holds k.diverted c.diverted && (fact_holds k.abroad c.abroad && weekly_holds k.now c.weekly)
+
 -- each part that is there holds
 unfoldable pub condition_holds : Circumstances → When → Condition → Bool
 condition_holds k when c =
-    who_holds k.asks c.identity && (anonymous_holds k.restricted c.anonymous && (window_holds k.now c.window && (media_holds k.media c.media && event_holds when c.event)))
+    who_holds k.asks c.identity && (fact_holds k.restricted c.anonymous && (window_holds k.now c.window
+    && (media_holds k.media c.media && (further_holds k c && event_holds when c.event))))

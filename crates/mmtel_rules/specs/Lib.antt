@@ -1,4 +1,5 @@
 -- What public clauses cite, which a user of the crate has to believe.
+pub mod Abroad
 pub mod Alike
 pub mod Circumstances
 pub mod Conditions

@@ -1,12 +1,13 @@
 //! When a condition holds.
-ghost use Rattle.std.specs.Prelude.{◌≡◌};
-ghost use Rattle.mmtel_rules.specs.Conditions.{condition_holds, event_holds, is_event, is_offered, is_one_offered, media_holds, window_holds};
+ghost use Rattle.std.specs.Prelude.{◌≡◌, ◌<◌};
+ghost use Rattle.mmtel_rules.specs.Conditions.{condition_holds, event_holds, fact_holds, further_holds, hours_hold, is_event, is_offered, is_one_offered, local_minutes};
+ghost use Rattle.mmtel_rules.specs.Conditions.{media_holds, minute_of_day, weekday, weekly_holds, window_holds};
 ghost use Rattle.mmtel_rules.specs.Circumstances.{known};
 
 use crate::identities::identity_holds;
 use crate::values::{Facts, When};
 use mmtel_lex::{List, Text};
-use mmtel_sheet_values::{Condition, EventWord, Window};
+use mmtel_sheet_values::{Condition, EventWord, Weekly, Window};
 use mmtel_types::Moment;
 
 /// Whether it is that time.
@@ -20,6 +21,62 @@ fn window_holds(window: &Option<Window>, now: Moment) -> bool
             window.from <= now && now < window.until
         }
     }
+}
+
+/// The whole minutes since 1970 began, by a clock that is ahead of UTC by so many.
+fn local_minutes(now: Moment, offset: i16) -> i64
+    ensures { result ≡ local_minutes now offset }
+{
+    (now.ms() / 60_000) as i64 + i64::from(offset)
+}
+
+/// The day of the week, from Monday on.
+fn weekday(minutes: i64) -> usize
+    ensures day { result ≡ weekday minutes }
+    ensures within { result < 7 }
+{
+    (minutes.div_euclid(1440) + 3).rem_euclid(7) as usize
+}
+
+/// The minutes since the day began.
+fn minute_of_day(minutes: i64) -> u16
+    ensures { result ≡ minute_of_day minutes }
+{
+    minutes.rem_euclid(1440) as u16
+}
+
+/// Whether it is one of the hours of one of the days.
+fn hours_hold(weekly: &Weekly, minutes: i64) -> bool
+    ensures { result ≡ hours_hold weekly.now minutes }
+{
+    let minute = minute_of_day(minutes);
+    weekly.days[weekday(minutes)] && weekly.from <= minute && minute < weekly.until
+}
+
+/// Whether it is one of those hours of the week.
+fn weekly_holds(weekly: &Option<Weekly>, now: Moment) -> bool
+    ensures { result ≡ weekly_holds now weekly.now }
+{
+    match weekly {
+        None => true,
+        Some(weekly) => hours_hold(weekly, local_minutes(now, weekly.offset)),
+    }
+}
+
+/// Whether what is asked is so.
+fn fact_holds(is_so: bool, asked: bool) -> bool
+    ensures { result ≡ fact_holds is_so asked }
+{
+    !asked || is_so
+}
+
+/// Whether the call goes where the condition says, was diverted as it says, and comes at its hours of the week.
+fn further_holds(c: &Condition, f: &Facts) -> bool
+    ensures { let facts = f.entry.now in result ≡ further_holds (known facts) c.now }
+{
+    fact_holds(f.diverted, c.diverted)
+        && fact_holds(f.abroad, c.abroad)
+        && weekly_holds(&c.weekly, f.now)
 }
 
 /// Whether the kind of media is offered.
@@ -78,8 +135,9 @@ pub fn holds(c: &Condition, f: &Facts, when: When) -> bool
         Some(who) => identity_holds(f.caller, who),
     };
     asked
-        && (!c.anonymous || f.restricted)
+        && fact_holds(f.restricted, c.anonymous)
         && window_holds(&c.window, f.now)
         && media_holds(&c.media, f.media.items())
+        && further_holds(c, f)
         && event_holds(c.event, when)
 }

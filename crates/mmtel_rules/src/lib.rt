@@ -5,10 +5,12 @@
 
 mod choosing;
 mod conditions;
+mod countries;
 mod identities;
 pub mod laws;
 mod values;
 
 pub use choosing::{all_bar, first};
 pub use conditions::holds;
+pub use countries::abroad;
 pub use values::{Facts, Identities2, When};

@@ -23,6 +23,10 @@ pub struct Facts<'a> {
     pub media: &'a List<Text>,
     /// The moment at which the rules are asked.
     pub now: Moment,
+    /// The call was diverted before it came to the user.
+    pub diverted: bool,
+    /// Where a call is barred on its way out: its target is abroad.
+    pub abroad: bool,
 }
 
 /// What happened to a call when its rules are asked (TS 24.604 §4.9.1.3).

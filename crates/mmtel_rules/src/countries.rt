@@ -1,0 +1,101 @@
+//! Which targets are abroad.
+ghost use Rattle.std.specs.Prelude.{◌≡◌};
+ghost use Rattle.std.specs.Option.{option_copied};
+ghost use Rattle.mmtel_lex.specs.Identity.{has_user_phone, is_mark, reduced};
+ghost use Rattle.mmtel_rules.specs.Abroad.{are_digits, begins, behind_plus, global_digits, is_abroad, of_user};
+
+use mmtel_lex::{Param, Text, Uri, param_value};
+use mmtel_scan::{Class, is_all};
+
+fn is_mark(byte: u8) -> bool
+    ensures { result ≡ is_mark byte }
+{
+    byte == b'-' || byte == b'.' || byte == b'(' || byte == b')'
+}
+
+/// Whether the number, without its visual separators, begins with these digits.
+fn begins(digits: &[u8], number: &[u8]) -> bool
+    ensures { result ≡ begins digits.now (reduced number.now) }
+{
+    let mut wanted = digits;
+    let mut rest = number;
+    'bytes: loop {
+        let [digit, digits_left @ ..] = wanted else {
+            return true;
+        };
+        let [byte, bytes_left @ ..] = rest else {
+            return false;
+        };
+        if !is_mark(*byte) {
+            if digit != byte {
+                return false;
+            }
+            wanted = digits_left;
+        }
+        rest = bytes_left;
+    }
+}
+
+fn are_digits(bytes: &[u8]) -> bool
+    ensures { result ≡ are_digits bytes.now }
+{
+    !bytes.is_empty() && is_all(Class::Digit, bytes)
+}
+
+fn has_user_phone(params: &[Param]) -> bool
+    ensures { result ≡ has_user_phone params.now }
+{
+    match param_value(params, b"user") {
+        None => false,
+        Some(value) => value == b"phone".as_slice(),
+    }
+}
+
+/// What stands behind the `+`.
+fn behind_plus(bytes: &[u8]) -> Option<&[u8]>
+    ensures { option_copied result ≡ behind_plus bytes.now }
+{
+    match bytes {
+        [b'+', rest @ ..] => Some(rest),
+        _ => None,
+    }
+}
+
+/// The digits of the number that a sip URI with this user and these parameters stands for.
+fn of_user<'a>(user: &'a Option<Text>, params: &[Param]) -> Option<&'a [u8]>
+    ensures { option_copied result ≡ of_user user.now params.now }
+{
+    let Some(user) = user else {
+        return None;
+    };
+    if !has_user_phone(params) {
+        return None;
+    }
+    match behind_plus(user.bytes()) {
+        Some(digits) if are_digits(digits) => Some(digits),
+        _ => None,
+    }
+}
+
+/// What stands behind the `+` of the global number that the URI is, or stands for.
+fn global_digits(uri: &Uri) -> Option<&[u8]>
+    ensures { option_copied result ≡ global_digits uri.now }
+{
+    match uri {
+        Uri::Sip { user, params, .. } => of_user(user, params.items()),
+        Uri::Tel { number, .. } => behind_plus(number.bytes()),
+    }
+}
+
+/// Whether the URI is a telephone number of another country, or stands for one (TS 24.611 §4.9.1.3); never where the home country is not known. It takes no memory.
+pub fn abroad(uri: &Uri, country: Option<&Text>) -> bool
+    ensures exact { result ≡ is_abroad uri.now (option_copied country.entry) }
+{
+    let Some(country) = country else {
+        return false;
+    };
+    match global_digits(uri) {
+        Some(digits) => !begins(country.bytes(), digits),
+        None => false,
+    }
+}

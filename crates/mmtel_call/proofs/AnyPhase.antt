@@ -6,7 +6,7 @@ use Rattle.mmtel_desk.specs.Sending.{final_acked}
 use Rattle.mmtel_leg.specs.Legs.{Leg}
 use Rattle.mmtel_precedence.specs.Attempts.{end_by_final, rings}
 use Rattle.mmtel_precedence.specs.Calls.{End, NotReachable, Standing}
-use Rattle.mmtel_precedence.specs.Services.{DueDiversion}
+use Rattle.mmtel_precedence.specs.Services.{DueDiversion, is_reached}
 use Rattle.mmtel_precedence.specs.Turns.{AfterEnd, EndAnswered, EndDivert, EndRefuse, Turn, TurnDivert, TurnOffer, TurnRefuse}
 use Rattle.mmtel_targets.specs.declared.targets.Target.{Target}
 use Rattle.mmtel_transaction.specs.declared.words.TKey.{TKey}
@@ -16,7 +16,7 @@ use Rattle.mmtel_call_decisions.specs.Decisions.{decided_after, decided_at, hand
 use Rattle.mmtel_call_decisions.specs.Site.{Site}
 use Rattle.mmtel_call.specs.Calls.{Attempt, Call, Offered, Phase, Service, Trial}
 use Rattle.mmtel_call.specs.Closing.{Step, onward, over, with_past}
-use Rattle.mmtel_call.specs.Diverting.{at_target, divert, diverted, goes_on, made, offer_where, on_end, on_turn, passed_by, refused, told_of, too_many, unless_barred}
+use Rattle.mmtel_call.specs.Diverting.{at_target, divert, diverted, goes_on, is_diverted, made, offer_where, on_end, on_turn, passed_by, refused, told_of, too_many, unless_barred, unless_reached}
 use Rattle.mmtel_call.specs.Ringing.{answered, armed_in, callee_after, cancelled_attempt, early_said, failed, having_met, left, noted, on_response, proceeding, ringing, silenced, timed_out, tried}
 use Rattle.mmtel_call.specs.Sending.{relayed_to_caller}
 
@@ -26,6 +26,10 @@ use Rattle.mmtel_call.specs.Sending.{relayed_to_caller}
 abbrev refused_if : Bool → Site → (at : ℕ) → Leg → Option Service → Said → Cause → Call → Desk → Step
 refused_if same site at caller service m cause c desk =
     if same then over at cause caller.meter None c (relayed_to_caller site c service m desk) else refused site at caller cause c desk
+
+-- a bound that is reached refuses it
+abbrev stopped_if : Bool → DueDiversion → (going : Call → Desk → Step) → Site → (at : ℕ) → Leg → Call → Desk → Step
+stopped_if reached due going site at caller c desk = if reached then refused site at caller (too_many due) c desk else going c desk
 
 -- a response, by its kind
 abbrev on_response_if : (trying provisional success : Bool) → Site → Standing → Trial → TKey → Said → ℕ → Call → Desk → Step
@@ -53,11 +57,18 @@ turn_alike on p desk alike site at caller service peer cause target (TurnRefuse 
 target_alike : (on : Option Service → DueDiversion → Call → Desk → Step) (p : Phase) (desk : Desk) → ((service : Option Service) (due : DueDiversion) (c : Call) → IsAlike (on service due) p c desk) → (site : Site) (now : Standing) (caller : Leg) (cause : Option ℕ) (target : Target) (c : Call) → IsAlike (at_target on site now caller cause target) p c desk
 target_alike on p desk alike site now caller cause target c =
     turn_alike on p desk alike site now.at caller (service_at site now c.opening cause target) (peer_for site c.opening target) cause target
-    (decided_at site now c.opening cause target (service_at site now c.opening cause target) (peer_for site c.opening target)) c
+    (decided_at site now c.opening (is_diverted c) cause target (service_at site now c.opening cause target) (peer_for site c.opening target)) c
 
 barred_alike : (barred : Bool) (going : Call → Desk → Step) (site : Site) (at : ℕ) (caller : Leg) (p : Phase) (c : Call) (desk : Desk) → IsAlike going p c desk → IsAlike (unless_barred barred going site at caller) p c desk
 barred_alike true going site at caller p c desk alike = refl
 barred_alike false going site at caller p c desk alike = alike
+
+reached_if_alike : (reached : Bool) (going : Call → Desk → Step) (site : Site) (at : ℕ) (caller : Leg) (due : DueDiversion) (p : Phase) (c : Call) (desk : Desk) → IsAlike going p c desk → IsAlike (stopped_if reached due going site at caller) p c desk
+reached_if_alike true going site at caller due p c desk alike = refl
+reached_if_alike false going site at caller due p c desk alike = alike
+
+reached_alike : (due : DueDiversion) (going : Call → Desk → Step) (site : Site) (at : ℕ) (caller : Leg) (p : Phase) (c : Call) (desk : Desk) → IsAlike going p c desk → IsAlike (unless_reached due going site at caller) p c desk
+reached_alike due going site at caller p c desk alike = reached_if_alike (is_reached due.bound c.diversions.count) going site at caller due p c desk alike
 
 divert_alike : (left : ℕ) (site : Site) (now : Standing) (caller : Leg) (service : Option Service) (due : DueDiversion) (p : Phase) (c : Call) (desk : Desk) → IsAlike (divert left site now caller service due) p c desk
 unfolding divert
@@ -65,11 +76,12 @@ divert_alike zero site now caller service due p c desk =
     barred_alike (is_barred site c.opening now.at service due) (refused site now.at caller (too_many due)) site now.at caller p c desk refl
 divert_alike (suc left) site now caller service due p c desk =
     let target : Target = target_of site due in
-    barred_alike (is_barred site c.opening now.at service due)
-    (made (at_target (divert left site now caller) site now caller (Some due.cause) target) site target now.at left service due) site now.at caller p c desk
+    let going : Call → Desk → Step = made (at_target (divert left site now caller) site now caller (Some due.cause) target) site target now.at left service due in
+    barred_alike (is_barred site c.opening now.at service due) (unless_reached due going site now.at caller) site now.at caller p c desk
+    (reached_alike due going site now.at caller p c desk
     (target_alike (divert left site now caller) p (told_of site due (diverted target now.at left service due c) desk)
     (λ s d e. divert_alike left site now caller s d p e (told_of site due (diverted target now.at left service due c) desk))
-    site now caller (Some due.cause) target (diverted target now.at left service due c))
+    site now caller (Some due.cause) target (diverted target now.at left service due c)))
 
 -- ---- after an attempt
 
@@ -86,7 +98,7 @@ end_alike (EndRefuse cause) site now caller service (Some m) p c desk = refused_
 -- an attempt ended so
 pub goes_on_alike : (site : Site) (now : Standing) (x : Trial) (how : End) (m : Option Said) (p : Phase) (c : Call) (desk : Desk) → goes_on site now x how m (record c { phase = p }) desk ≡ goes_on site now x how m c desk
 goes_on_alike site now x how m p c desk =
-    end_alike (decided_after c.opening now.at x.attempt.service how) site now x.caller x.attempt.service m p (with_past x.callee.leg.meter c) desk
+    end_alike (decided_after c.opening now.at (is_diverted c) x.attempt.service how) site now x.caller x.attempt.service m p (with_past x.callee.leg.meter c) desk
 
 pub timed_out_alike : (site : Site) (now : Standing) (x : Trial) (how : End) (p : Phase) (c : Call) (desk : Desk) → timed_out site now x how (record c { phase = p }) desk ≡ timed_out site now x how c desk
 timed_out_alike site now x how p c desk = goes_on_alike site now x how None p (left x c) (cancelled_attempt site x desk)

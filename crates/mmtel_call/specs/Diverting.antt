@@ -1,5 +1,5 @@
 -- How a call goes on: it comes to one target after another until it is offered to one, or refused (TS 24.604 §4.5.2.6, RFC 7044 §7).
-use Rattle.std.specs.Prelude.{ℕ, zero, suc, ◌==◌, not, Bool, List, if◌then◌else◌, Option, Some, None}
+use Rattle.std.specs.Prelude.{ℕ, zero, suc, ◌+◌, ◌==◌, nat_lt, not, Bool, List, if◌then◌else◌, Option, Some, None}
 use Rattle.mmtel_answers.specs.Said.{Said, status_of as status_in}
 use Rattle.mmtel_charging.specs.declared.rows.Kind.TheVariants.{Diversion, Terminating}
 use Rattle.mmtel_desk.specs.declared.desks.Desk.{Desk}
@@ -8,7 +8,7 @@ use Rattle.mmtel_leg.specs.Dialogues.{request_uri}
 use Rattle.mmtel_leg.specs.Legs.{Leg}
 use Rattle.mmtel_lex.specs.Grammar.{uri_text}
 use Rattle.mmtel_precedence.specs.Calls.{End, Standing}
-use Rattle.mmtel_precedence.specs.Services.{DueDiversion}
+use Rattle.mmtel_precedence.specs.Services.{DueDiversion, is_reached}
 use Rattle.mmtel_precedence.specs.Turns.{AfterEnd, EndAnswered, EndDivert, EndRefuse, Turn, TurnDivert, TurnOffer, TurnRefuse}
 use Rattle.mmtel_targets.specs.declared.targets.Target.{Target}
 use Rattle.mmtel_types.specs.Causes.{status_of}
@@ -41,6 +41,7 @@ refused_by site at caller service (Some m) cause c desk =
 abbrev pub diverted_list : (uri : List ℕ) → (left : ℕ) → DueDiversion → Call → Diverted
 diverted_list uri left due c = record {
   left = left;
+  count = c.diversions.count + 1;
   history = appended c.diversions.history (request_uri c.opening.invite.heard.start) uri due.cause (not due.forward.reveal_to_target);
   hides_diverting = not due.forward.reveal_served_to_caller;
   hides_target = not due.forward.reveal_to_caller;
@@ -62,7 +63,15 @@ too_many due = causes.TooManyDiversions (due.cause == 486)
 abbrev pub unless_barred : Bool → (made : Call → Desk → Step) → Site → (at : ℕ) → Leg → Call → Desk → Step
 unless_barred barred made site at caller c desk = if barred then refused site at caller causes.OutgoingBarred c desk else made c desk
 
+-- then the bound of the account that diverts
+abbrev pub unless_reached : DueDiversion → (made : Call → Desk → Step) → Site → (at : ℕ) → Leg → Call → Desk → Step
+unless_reached due made site at caller c desk = if is_reached due.bound c.diversions.count then refused site at caller (too_many due) c desk else made c desk
+
 -- ---- at a target
+
+-- a diversion came before: one that the call came with, or one that was made
+abbrev pub is_diverted : Call → Bool
+is_diverted c = nat_lt 0 c.diversions.count
 
 -- the meter of an account that is reached and not offered to
 abbrev pub passed_by : (at : ℕ) → Option Service → Call → Call
@@ -83,7 +92,7 @@ on_turn divert site at caller service peer cause target (TurnRefuse why) c desk 
 abbrev pub where_served : (divert : Option Service → DueDiversion → Call → Desk → Step) → Site → Standing → Leg → Option Service → Option Peer → (cause : Option ℕ) →
     Target → Call → Desk → Step
 where_served divert site now caller service peer cause target c desk =
-    on_turn divert site now.at caller service peer cause target (decided_at site now c.opening cause target service peer) c desk
+    on_turn divert site now.at caller service peer cause target (decided_at site now c.opening (is_diverted c) cause target service peer) c desk
 
 abbrev pub at_target : (divert : Option Service → DueDiversion → Call → Desk → Step) → Site → Standing → Leg → (cause : Option ℕ) → Target → Call → Desk → Step
 at_target divert site now caller cause target c desk =
@@ -93,13 +102,15 @@ at_target divert site now caller cause target c desk =
 abbrev pub made : (onward : Call → Desk → Step) → Site → Target → (at left : ℕ) → Option Service → DueDiversion → Call → Desk → Step
 made onward site target at left service due c desk = onward (diverted target at left service due c) (told_of site due (diverted target at left service due c) desk)
 
--- a diversion that is due, where the bound leaves so many: it is made, and the call comes to the next target
+-- a diversion that is due, where the configured bound leaves so many: it is made, where the account's own bound lets it pass, and the call comes to the next target
 unfoldable pub divert : (left : ℕ) → Site → Standing → Leg → Option Service → DueDiversion → Call → Desk → Step
 divert zero site now caller service due c desk =
     unless_barred (is_barred site c.opening now.at service due) (refused site now.at caller (too_many due)) site now.at caller c desk
 divert (suc left) site now caller service due c desk =
     unless_barred (is_barred site c.opening now.at service due)
+    (unless_reached due
     (made (at_target (divert left site now caller) site now caller (Some due.cause) (target_of site due)) site (target_of site due) now.at left service due)
+    site now.at caller)
     site now.at caller c desk
 
 -- the call comes to a target
@@ -117,4 +128,4 @@ on_end site now caller service m (EndRefuse cause) c desk = refused_by site now.
 -- the attempt ended so, and its meter lies with the others
 abbrev pub goes_on : Site → Standing → Trial → End → Option Said → Call → Desk → Step
 goes_on site now x how m c desk =
-    on_end site now x.caller x.attempt.service m (decided_after c.opening now.at x.attempt.service how) (with_past x.callee.leg.meter c) desk
+    on_end site now x.caller x.attempt.service m (decided_after c.opening now.at (is_diverted c) x.attempt.service how) (with_past x.callee.leg.meter c) desk

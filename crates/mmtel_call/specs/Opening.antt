@@ -46,7 +46,7 @@ unless_refused (Some cause) site now caller c desk = refused site now.at caller 
 
 -- an INVITE opens a call: 100; a 181 for each diversion that is made; the INVITE to the target, or the final
 abbrev pub begins : Site → Standing → Call → Desk → Step
-begins site now c desk = unless_refused (refusal_of now.at c.opening) site now (caller_of now.at c) c (told_caller site c 100 desk)
+begins site now c desk = unless_refused (refusal_of site now.at c.opening) site now (caller_of now.at c) c (told_caller site c 100 desk)
 
 unfoldable pub opened : Site → Standing → Arrival → Desk → Step
 opened site now a desk = begins site now (new_call site (opening_of site now (token desk) a)) (drew desk)

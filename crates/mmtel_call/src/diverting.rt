@@ -1,13 +1,14 @@
 //! How a call goes on: it comes to one target after another until it is offered to one, or refused.
-ghost use Rattle.std.specs.Prelude.{◌≡◌, ◌-◌, ◌<◌, false, IfOk, Some, OnOk};
+ghost use Rattle.std.specs.Prelude.{◌≡◌, ◌-◌, ◌<◌, ◌==◌, ◌||◌, false, IfOk, Some, OnOk};
 ghost use Rattle.std.specs.Option.{option_copied};
 ghost use Rattle.mmtel_lex.specs.Grammar.{uri_text};
+ghost use Rattle.mmtel_precedence.specs.Services.{is_reached};
 ghost use Rattle.mmtel_precedence.specs.Told.{told_due, told_end};
 ghost use Rattle.mmtel_types.specs.declared.causes.Cause.TheVariants.{Ended as HasEnded};
 ghost use Rattle.mmtel_call_decisions.specs.Decisions.{decided_after, is_barred, peer_for, service_at, target_of};
 ghost use Rattle.mmtel_call_decisions.specs.Site.{standing};
 ghost use Rattle.mmtel_call.specs.Calls.{Over};
-ghost use Rattle.mmtel_call.specs.Diverting.{at_target, divert, diverted, diverted_list, offer_where, on_end, passed_by, refused, refused_by, told_of, where_served};
+ghost use Rattle.mmtel_call.specs.Diverting.{at_target, divert, diverted, diverted_list, is_diverted, offer_where, on_end, passed_by, refused, refused_by, told_of, where_served};
 
 use crate::calls::Call;
 use crate::closing::meter_for;
@@ -25,7 +26,31 @@ use mmtel_targets::Target;
 use mmtel_types::{Cause, Moment, Peer};
 use std::alloc::Global;
 
+/// Whether the account's own bound lets no diversion pass where there are so many.
+fn is_reached(bound: Option<u8>, count: u16) -> bool
+    ensures { result ≡ is_reached bound count }
+{
+    match bound {
+        None => false,
+        Some(bound) => u16::from(bound) <= count,
+    }
+}
+
 impl Call {
+    /// Whether a diversion came before: one that the call came with, or one that was made.
+    fn is_diverted(&self) -> bool
+        ensures { result ≡ is_diverted self.now }
+    {
+        self.diversions.count() > 0
+    }
+
+    /// Whether no more diversions pass: the configured bound leaves none, or the account's own is reached.
+    fn is_at_bound(&self, due: &Onward<'_>) -> bool
+        ensures { result ≡ (self.now.diversions.left == 0 || is_reached due.entry.now.bound self.now.diversions.count) }
+    {
+        self.diversions.left() == 0 || is_reached(due.bound, self.diversions.count())
+    }
+
     /// Refuses the call by a final of the server's own, which ends it.
     pub fn refuse(
         &mut self,
@@ -154,7 +179,7 @@ impl Call {
         self.tell_of(alloc, setting, due, desk)
     }
 
-    /// What a diversion comes to that is due: it is made and the call comes to its target, unless outgoing barring or the bound refuses it.
+    /// What a diversion comes to that is due: it is made and the call comes to its target, unless outgoing barring or a bound refuses it.
     #[cycle(diverting)]
     fn divert(
         &mut self,
@@ -210,7 +235,7 @@ impl Call {
         ensures desk { OnOk result (desk.new
             ≡ (divert self.old.diversions.left setting.now (standing present.now) caller (option_copied service.entry) (told_due due.entry.now) self.old desk.old).desk) }
     {
-        if self.diversions.left() == 0 {
+        if self.is_at_bound(due) {
             drop(target);
             let cause = Cause::TooManyDiversions {
                 busy: due.cause == 486,
@@ -301,9 +326,16 @@ impl Call {
             (standing present.now) caller service peer cause target self.old desk.old).desk) }
     {
         let at = present.at;
-        let turn = self
-            .opening
-            .decide_at(setting, present, cause, &target, service.as_ref(), peer);
+        let diverted = self.is_diverted();
+        let turn = self.opening.decide_at(
+            setting,
+            present,
+            diverted,
+            cause,
+            &target,
+            service.as_ref(),
+            peer,
+        );
         match turn {
             Turn::Offer { waiting } => self.offer_where(
                 alloc, setting, at, caller, service, peer, waiting, cause, target, desk,
@@ -427,13 +459,14 @@ impl Call {
         requires { self.old.phase ≡ Over HasEnded }
         ensures call { OnOk result (self.new
             ≡ (on_end setting.now (standing present.now) caller (option_copied service.entry) (option_copied response.entry)
-            (decided_after self.old.opening present.now.at (option_copied service.entry) (told_end how.entry.now)) self.old desk.old).call) }
+            (decided_after self.old.opening present.now.at (is_diverted self.old) (option_copied service.entry) (told_end how.entry.now)) self.old desk.old).call) }
         ensures desk { OnOk result (desk.new
             ≡ (on_end setting.now (standing present.now) caller (option_copied service.entry) (option_copied response.entry)
-            (decided_after self.old.opening present.now.at (option_copied service.entry) (told_end how.entry.now)) self.old desk.old).desk) }
+            (decided_after self.old.opening present.now.at (is_diverted self.old) (option_copied service.entry) (told_end how.entry.now)) self.old desk.old).desk) }
     {
         let at = present.at;
-        match decide_after(&self.opening, present, service, how) {
+        let diverted = self.is_diverted();
+        match decide_after(&self.opening, present, diverted, service, how) {
             AfterEnding::Answered => {
                 let Ended { meter } = caller.leave();
                 self.close(alloc, at, Cause::Ended, meter, None, desk)

@@ -129,11 +129,11 @@ impl Call {
         desk: &mut Desk,
     ) -> Result<(Option<Cause>, CallerLeg<Standing>), NoMemory>
         requires { target.now ≡ first_of self.now.opening }
-        ensures refusal { IfOk result (λ r. r.0 ≡ refusal_of present.now.at self.now.opening) }
+        ensures refusal { IfOk result (λ r. r.0 ≡ refusal_of setting.now present.now.at self.now.opening) }
         ensures caller { IfOk result (λ r. r.1 ≡ caller_of present.now.at self.now) }
         ensures desk { OnOk result (desk.new ≡ told_caller setting.now self.now 100 desk.old) }
     {
-        let refusal = self.opening.refusal_of(alloc, present.at, target)?;
+        let refusal = self.opening.refusal_of(alloc, setting, present.at, target)?;
         self.tell_caller(alloc, setting, 100, desk)?;
         let caller = self.open_caller(alloc, present.at)?;
         Ok((refusal, caller))

@@ -11,7 +11,7 @@ ghost use Rattle.mmtel_precedence.specs.Attempts.{end_by_final};
 ghost use Rattle.mmtel_precedence.specs.Told.{told_end};
 ghost use Rattle.mmtel_types.specs.declared.causes.Cause.TheVariants.{Ended as HasEnded};
 ghost use Rattle.mmtel_call.specs.Calls.{Offered, Over};
-ghost use Rattle.mmtel_call.specs.Diverting.{goes_on, on_end};
+ghost use Rattle.mmtel_call.specs.Diverting.{goes_on, is_diverted, on_end};
 ghost use Rattle.mmtel_call.specs.Ringing.{failed, loose, on_due, on_response, silenced, timed_out, with_loose};
 
 use crate::calls::{Attempt, Call, Phase, Trial, Tried};
@@ -43,10 +43,10 @@ impl Call {
         requires { self.old.phase ≡ Over HasEnded }
         ensures call { OnOk result (self.new
             ≡ (on_end setting.now (standing present.now) caller (option_copied service.entry) (option_copied response.entry)
-            (decided_after self.old.opening present.now.at (option_copied service.entry) (told_end how.entry.now)) (with_past callee.leg.meter self.old) desk.old).call) }
+            (decided_after self.old.opening present.now.at (is_diverted self.old) (option_copied service.entry) (told_end how.entry.now)) (with_past callee.leg.meter self.old) desk.old).call) }
         ensures desk { OnOk result (desk.new
             ≡ (on_end setting.now (standing present.now) caller (option_copied service.entry) (option_copied response.entry)
-            (decided_after self.old.opening present.now.at (option_copied service.entry) (told_end how.entry.now)) (with_past callee.leg.meter self.old) desk.old).desk) }
+            (decided_after self.old.opening present.now.at (is_diverted self.old) (option_copied service.entry) (told_end how.entry.now)) (with_past callee.leg.meter self.old) desk.old).desk) }
     {
         let kept = self.keep_meter(alloc, callee.leave(), present.at);
         match kept {
@@ -256,11 +256,11 @@ impl Call {
         requires { self.old.phase ≡ Over HasEnded }
         ensures call { OnOk result (self.new
             ≡ (on_end setting.now (standing present.now) caller (option_copied service.entry) None
-            (decided_after self.old.opening present.now.at (option_copied service.entry) (told_end how.entry.now))
+            (decided_after self.old.opening present.now.at (is_diverted self.old) (option_copied service.entry) (told_end how.entry.now))
             (with_past callee.leg.meter (with_loose (loose (once_cancelled invitation)) self.old)) (cancelled setting.now.sip invitation desk.old)).call) }
         ensures desk { OnOk result (desk.new
             ≡ (on_end setting.now (standing present.now) caller (option_copied service.entry) None
-            (decided_after self.old.opening present.now.at (option_copied service.entry) (told_end how.entry.now))
+            (decided_after self.old.opening present.now.at (is_diverted self.old) (option_copied service.entry) (told_end how.entry.now))
             (with_past callee.leg.meter (with_loose (loose (once_cancelled invitation)) self.old)) (cancelled setting.now.sip invitation desk.old)).desk) }
     {
         let cancelled = desk.cancel(alloc, setting.sip, &invitation);

@@ -14,6 +14,7 @@ use Rattle.mmtel_precedence.specs.Calls.{End, Reach, Standing, is_registered_at,
 use Rattle.mmtel_precedence.specs.Services.{AccountState, DueDiversion, bars_outgoing}
 use Rattle.mmtel_precedence.specs.Targets.{party_of}
 use Rattle.mmtel_precedence.specs.Turns.{AfterEnd, Turn, turn_at, turn_on}
+use Rattle.mmtel_rules.specs.Abroad.{is_abroad}
 use Rattle.mmtel_rules.specs.Circumstances.{Circumstances}
 use Rattle.mmtel_rules.specs.Identities.{has_identity, identity_holds}
 use Rattle.mmtel_rules.specs.declared.values.Identities2.{Identities2}
@@ -35,17 +36,25 @@ use Rattle.mmtel_call_decisions.specs.declared.openings.Service.{Service}
 
 -- ---- what is known of the call
 
--- at a moment, with these identities of the other party
-abbrev pub circumstances : Identities2 → Opening → (at : ℕ) → Circumstances
-circumstances party o at = record { asks = identity_holds party; has_identity = has_identity party; restricted = o.restricted; media = o.media; now = at }
+-- at a moment, with these identities of the other party, by whether the call was diverted before and whether its target is abroad
+abbrev pub circumstances : Identities2 → Opening → (at : ℕ) → (diverted abroad : Bool) → Circumstances
+circumstances party o at diverted abroad = record {
+  asks = identity_holds party;
+  has_identity = has_identity party;
+  restricted = o.restricted;
+  media = o.media;
+  now = at;
+  diverted = diverted;
+  abroad = abroad;
+}
 
 -- where the caller is the other party
-abbrev pub of_caller : Opening → (at : ℕ) → Circumstances
-of_caller o at = circumstances o.identities o at
+abbrev pub of_caller : Opening → (at : ℕ) → (diverted : Bool) → Circumstances
+of_caller o at diverted = circumstances o.identities o at diverted false
 
 -- where this target is
-abbrev pub of_target : Opening → (at : ℕ) → Uri → Circumstances
-of_target o at uri = circumstances (party_of uri) o at
+abbrev pub of_target : Site → Opening → (at : ℕ) → Uri → Circumstances
+of_target site o at uri = circumstances (party_of uri) o at false (is_abroad uri site.country)
 
 -- ---- how a target stands; the cause is that of the diversion that led there, and the first target has none
 
@@ -90,8 +99,8 @@ reach_at site now o cause target service peer = record {
 -- ---- what is decided
 
 -- at a target: the call is offered to it, diverted or refused
-abbrev pub decided_at : Site → Standing → Opening → (cause : Option ℕ) → Target → Option Service → Option Peer → Turn
-decided_at site now o cause target service peer = turn_at (of_caller o now.at) (reach_at site now o cause target service peer)
+abbrev pub decided_at : Site → Standing → Opening → (diverted : Bool) → (cause : Option ℕ) → Target → Option Service → Option Peer → Turn
+decided_at site now o diverted cause target service peer = turn_at (of_caller o now.at diverted) (reach_at site now o cause target service peer)
 
 -- the record under which an attempt was offered
 abbrev pub sheet_of : Service → Sheet
@@ -101,12 +110,12 @@ abbrev pub its_sheet : Option Service → Option Sheet
 its_sheet service = option_map sheet_of service
 
 -- after an attempt that ended so
-abbrev pub decided_after : Opening → (at : ℕ) → Option Service → End → AfterEnd
-decided_after o at service how = turn_on (of_caller o at) (its_sheet service) how
+abbrev pub decided_after : Opening → (at : ℕ) → (diverted : Bool) → Option Service → End → AfterEnd
+decided_after o at diverted service how = turn_on (of_caller o at diverted) (its_sheet service) how
 
 -- the outgoing barring of the account that diverts refuses the new target
 abbrev pub bars_target : Site → Opening → (at : ℕ) → DueDiversion → Sheet → Bool
-bars_target site o at due sheet = bars_outgoing (of_target o at (new_target site.home due.forward.target)) sheet
+bars_target site o at due sheet = bars_outgoing (of_target site o at (new_target site.home due.forward.target)) sheet
 
 abbrev pub is_barred : Site → Opening → (at : ℕ) → Option Service → DueDiversion → Bool
 is_barred site o at service due = option_map_or (bars_target site o at due) (its_sheet service) false

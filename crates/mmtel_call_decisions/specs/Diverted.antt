@@ -5,6 +5,8 @@ use Rattle.mmtel_history.specs.declared.entries.Entry.{Entry}
 pub record Diverted : Type 0 where
   -- how many diversions the bound leaves
   pub left : ℕ
+  -- the diversions that it came with, and those that were made
+  pub count : ℕ
   -- its History-Info
   pub history : List Entry
   -- what the caller is not told of the last diversion: who diverted, and where to

@@ -50,7 +50,13 @@ received_list m = if is_ok (reading (line_texts (codes "History-Info") m.heard.l
 
 -- the bound counts what it tells of earlier diversions
 abbrev pub undiverted : (bound : ℕ) → List Entry → Diverted
-undiverted bound history = record { left = bound - diversions_in history; history = history; hides_diverting = false; hides_target = false }
+undiverted bound history = record {
+  left = bound - diversions_in history;
+  count = diversions_in history;
+  history = history;
+  hides_diverting = false;
+  hides_target = false;
+}
 
 -- ---- its first target
 
@@ -62,5 +68,5 @@ abbrev pub first_of : Opening → Target
 first_of o = unwrap_or (first_target (request_uri o.invite.heard.start)) nowhere
 
 -- what refuses the call
-abbrev pub refusal_of : (at : ℕ) → Opening → Option Cause
-refusal_of at o = refusal_by o.invite.heard.wants o.served o.sheet (of_target o at (first_of o).uri)
+abbrev pub refusal_of : Site → (at : ℕ) → Opening → Option Cause
+refusal_of site at o = refusal_by o.invite.heard.wants o.served o.sheet (of_target site o at (first_of o).uri)

@@ -1,5 +1,5 @@
 -- What each step of a call is given: the server's configuration, and how things stand then.
-use Rattle.std.specs.Prelude.{ℕ, ◌==◌, ◌-◌, ◌^◌, min, Bool, List, count_by}
+use Rattle.std.specs.Prelude.{ℕ, ◌==◌, ◌-◌, ◌^◌, min, Bool, List, Option, count_by}
 use Rattle.mmtel_precedence.specs.Calls.{Standing}
 use Rattle.mmtel_sheet_values.specs.View.{end_in, sheet_in}
 use Rattle.mmtel_trust.specs.Peers.{Peers, is_trusted}
@@ -11,10 +11,11 @@ use Rattle.mmtel_call_decisions.specs.Busy.{live_of}
 use Rattle.mmtel_call_decisions.specs.declared.settings.Present.{Present}
 
 pub record Site : Type 0 where
-  -- the server's address, its home domain, and the bound on diversions
+  -- the server's address, its home domain, the bound on diversions, and the digits of the home country, where they are known
   pub sip : Addr
   pub home : List ℕ
   pub bound : ℕ
+  pub country : Option (List ℕ)
   -- whom it speaks with, and whom it serves
   pub peers : Peers
   pub accounts : List AccountIdentity

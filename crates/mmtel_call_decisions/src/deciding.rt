@@ -22,7 +22,7 @@ use mmtel_message::Start;
 use mmtel_parties::next_hop;
 use mmtel_precedence::{Onward, Reached, ServedAccount, Turn, party_of, turn_at};
 use mmtel_rules::laws::barred_where_no_rule_allows;
-use mmtel_rules::{Facts, Identities2};
+use mmtel_rules::{Facts, Identities2, abroad};
 use mmtel_scan::NoMemory;
 use mmtel_sheet_values::{SharedSheet, Sheet};
 use mmtel_targets::{RegistrationState, Target, diverted_target, is_registered};
@@ -30,15 +30,23 @@ use mmtel_types::{Account, Moment, Peer};
 use std::alloc::Global;
 
 impl Opening {
-    /// What is known of the call, with these identities of the other party.
-    pub fn facts<'a>(&'a self, party: &'a Identities2, at: Moment) -> Facts<'a>
-        ensures { known result ≡ circumstances party.now self.now at }
+    /// What is known of the call, with these identities of the other party, by whether it was diverted before and whether its target is abroad.
+    pub fn facts<'a>(
+        &'a self,
+        party: &'a Identities2,
+        at: Moment,
+        diverted: bool,
+        abroad: bool,
+    ) -> Facts<'a>
+        ensures { known result ≡ circumstances party.now self.now at diverted abroad }
     {
         Facts {
             caller: party,
             restricted: self.restricted,
             media: &self.media,
             now: at,
+            diverted,
+            abroad,
         }
     }
 
@@ -157,35 +165,44 @@ impl Opening {
         }
     }
 
-    /// What is done with the call at a target.
+    /// What is done with the call at a target, where it was diverted before or not.
     pub fn decide_at<'a>(
         &self,
         setting: &Setting<'_>,
         present: &Present<'_>,
+        diverted: bool,
         cause: Option<u16>,
         target: &Target,
         service: Option<&'a Service>,
         peer: Option<Peer>,
     ) -> Turn<'a>
-        ensures exact { told_turn result ≡ decided_at setting.now (standing present.now) self.now cause target.now (option_copied service.entry) peer }
+        ensures exact { told_turn result ≡ decided_at setting.now (standing present.now) self.now diverted cause target.now (option_copied service.entry) peer }
     {
         let reached = self.reach_at(setting, present, cause, target, service, peer);
-        turn_at(&self.facts(&self.identities, present.at), &reached)
+        let facts = self.facts(&self.identities, present.at, diverted, false);
+        turn_at(&facts, &reached)
     }
 
     /// Whether the outgoing barring of the account that diverts refuses the new target.
-    fn bars_target(&self, at: Moment, party: &Identities2, sheet: &Sheet) -> bool
-        ensures { result ≡ bars_outgoing (circumstances party.now self.now at) sheet.now }
+    fn bars_target(&self, at: Moment, party: &Identities2, is_abroad: bool, sheet: &Sheet) -> bool
+        ensures { result ≡ bars_outgoing (circumstances party.now self.now at false is_abroad) sheet.now }
     {
         barred_where_no_rule_allows();
-        outgoing(sheet, &self.facts(party, at)).is_some()
+        outgoing(sheet, &self.facts(party, at, false, is_abroad)).is_some()
     }
 
     /// The same, where an account is served.
-    fn is_barred(&self, at: Moment, service: Option<&Service>, target: Target) -> bool
-        ensures { result ≡ option_map_or (bars_outgoing (of_target self.now at target.uri)) (its_sheet (option_copied service.entry)) false }
+    fn is_barred(
+        &self,
+        setting: &Setting<'_>,
+        at: Moment,
+        service: Option<&Service>,
+        target: Target,
+    ) -> bool
+        ensures { result ≡ option_map_or (bars_outgoing (of_target setting.now self.now at target.uri)) (its_sheet (option_copied service.entry)) false }
     {
         let Target { uri, of_number: _ } = target;
+        let is_abroad = abroad(&uri, setting.country);
         let party = party_of(uri);
         match service {
             None => {
@@ -193,7 +210,7 @@ impl Opening {
                 false
             }
             Some(service) => {
-                let barred = self.bars_target(at, &party, service.sheet.sheet());
+                let barred = self.bars_target(at, &party, is_abroad, service.sheet.sheet());
                 drop(party);
                 barred
             }
@@ -238,7 +255,7 @@ impl Opening {
         ensures barred { IfOk result (λ r. r.1 ≡ is_barred setting.now self.now at (option_copied service.entry) (told_due due.entry.now)) }
     {
         let asked = diverted_target(alloc, setting.home, uri_copied(alloc, due.target)?)?;
-        let barred = self.is_barred(at, service, asked);
+        let barred = self.is_barred(setting, at, service, asked);
         let target = diverted_target(alloc, setting.home, uri_copied(alloc, due.target)?)?;
         Ok((target, barred))
     }

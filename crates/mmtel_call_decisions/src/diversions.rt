@@ -1,5 +1,5 @@
 //! How a call was diverted.
-ghost use Rattle.std.specs.Prelude.{◌≡◌, ◌<◌, ◌≤◌, ◌-◌, length, IfOk, OnErr, OnOk};
+ghost use Rattle.std.specs.Prelude.{◌≡◌, ◌+◌, ◌<◌, ◌≤◌, ◌-◌, length, IfOk, OnErr, OnOk};
 ghost use Rattle.mmtel_history.specs.HistoryInfo.{appended};
 ghost use Rattle.mmtel_call_decisions.specs.Opening.{undiverted};
 ghost use Rattle.mmtel_call_decisions.specs.Showing.{told_list};
@@ -13,6 +13,7 @@ use std::marker::Model;
 #[derive(Drop)]
 pub struct Diversions {
     left: u16,
+    count: u16,
     history: History,
     hides_diverting: bool,
     hides_target: bool,
@@ -24,9 +25,15 @@ impl Model for Diversions {
 
     ghost Value = { Diverted };
 
-    ghost view = { λ d. record { left = d.left; history = d.history; hides_diverting = d.hides_diverting; hides_target = d.hides_target } };
+    ghost view = { λ d. record {
+      left = d.left;
+      count = d.count;
+      history = d.history;
+      hides_diverting = d.hides_diverting;
+      hides_target = d.hides_target;
+    } };
 
-    ghost invariant = { λ d. (length d.history + d.left ≤ 48) × (d.left ≤ 16) };
+    ghost invariant = { λ d. (length d.history + d.left ≤ 48) × (d.left ≤ 16) × (d.count + d.left ≤ 48) };
 }
 
 impl Diversions {
@@ -36,9 +43,10 @@ impl Diversions {
         requires low { bound ≤ 16 }
         ensures { result ≡ undiverted bound history }
     {
-        let left = bound.saturating_sub(history.diversions());
+        let count = history.diversions();
         Diversions {
-            left,
+            left: bound.saturating_sub(count),
+            count,
             history,
             hides_diverting: false,
             hides_target: false,
@@ -50,6 +58,13 @@ impl Diversions {
         ensures { result ≡ self.now.left }
     {
         self.left
+    }
+
+    /// How many diversions the call came with and were made.
+    pub fn count(&self) -> u16
+        ensures { result ≡ self.now.count }
+    {
+        self.count
     }
 
     /// The call's History-Info.
@@ -90,6 +105,7 @@ impl Diversions {
         ensures noted { OnOk result (self.new
             ≡ record {
               left = self.old.left - 1;
+              count = self.old.count + 1;
               history = appended self.old.history from.now target.now cause hides_last;
               hides_diverting = hides_diverting;
               hides_target = hides_target;
@@ -98,6 +114,7 @@ impl Diversions {
     {
         self.history.append(alloc, from, target, cause, hides_last)?;
         self.left -= 1;
+        self.count += 1;
         self.hides_diverting = hides_diverting;
         self.hides_target = hides_target;
         Ok(())

@@ -18,7 +18,7 @@ use mmtel_lex::Uri;
 use mmtel_message::line_texts;
 use mmtel_parties::kept_routes;
 use mmtel_precedence::{party_of, refused_at_opening};
-use mmtel_rules::Identities2;
+use mmtel_rules::{Identities2, abroad};
 use mmtel_scan::{List, NoMemory, Text};
 use mmtel_sdp::kinds_of;
 use mmtel_sheet_values::{SharedSheet, Sheet};
@@ -243,15 +243,18 @@ impl Opening {
     pub fn refusal_of(
         &self,
         alloc: Global,
+        setting: &Setting<'_>,
         at: Moment,
         target: &Target,
     ) -> Result<Option<Cause>, NoMemory>
-        ensures cause { target.now ≡ first_of self.now → IfOk result (λ cause. cause ≡ refusal_of at self.now) }
+        ensures cause { target.now ≡ first_of self.now → IfOk result (λ cause. cause ≡ refusal_of setting.now at self.now) }
     {
+        let is_abroad = abroad(&target.uri, setting.country);
         let party = party_of(uri_copied(alloc, &target.uri)?);
         let words = wants(&self.invite.message);
         let sheet = self.origin_sheet();
-        let refusal = refused_at_opening(&words, &self.served, sheet, &self.facts(&party, at));
+        let facts = self.facts(&party, at, false, is_abroad);
+        let refusal = refused_at_opening(&words, &self.served, sheet, &facts);
         drop(party);
         Ok(refusal)
     }

@@ -1,6 +1,7 @@
 //! What each step of a call is given.
 
 use crate::busy::Busy;
+use mmtel_scan::Text;
 use mmtel_sheet_values::SheetView;
 use mmtel_trust::{Accounts, PeerTable};
 use mmtel_types::{Addr, Moment};
@@ -15,6 +16,8 @@ pub struct Setting<'a> {
     pub home: &'a [u8],
     /// The bound on diversions, at most 16.
     pub bound: u16,
+    /// The digits of the home country, where they are known.
+    pub country: Option<&'a Text>,
     /// The peers and the routes to them.
     pub peers: &'a PeerTable,
     /// The accounts by their identities.
@@ -23,11 +26,19 @@ pub struct Setting<'a> {
 
 impl<'a> Model for Setting<'a> {
     ghost use Rattle.std.specs.Prelude.{◌≤◌};
+    ghost use Rattle.std.specs.Option.{option_copied};
     ghost use Rattle.mmtel_call_decisions.specs.Site.{Site};
 
     ghost Value = { Site };
 
-    ghost view = { λ s. record { sip = s.sip; home = s.home.now; bound = s.bound; peers = s.peers.now; accounts = s.accounts.now } };
+    ghost view = { λ s. record {
+      sip = s.sip;
+      home = s.home.now;
+      bound = s.bound;
+      country = option_copied s.country;
+      peers = s.peers.now;
+      accounts = s.accounts.now;
+    } };
 
     ghost invariant = { λ s. s.bound ≤ 16 };
 }

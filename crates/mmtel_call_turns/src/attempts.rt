@@ -12,13 +12,14 @@ use mmtel_precedence::{AfterEnding, AttemptEnd, turn_on};
 pub fn decide_after<'a>(
     opening: &Opening,
     present: &Present<'a>,
+    diverted: bool,
     service: Option<&'a Service>,
     how: &AttemptEnd<'a>,
 ) -> AfterEnding<'a>
-    ensures exact { told_after result ≡ decided_after opening.now present.now.at (option_copied service.entry) (told_end how.entry.now) }
+    ensures exact { told_after result ≡ decided_after opening.now present.now.at diverted (option_copied service.entry) (told_end how.entry.now) }
 {
     turn_on(
-        &opening.facts(&opening.identities, present.at),
+        &opening.facts(&opening.identities, present.at, diverted, false),
         its_sheet(service),
         how,
     )

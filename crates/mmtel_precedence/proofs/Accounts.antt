@@ -7,7 +7,7 @@ use Rattle.mmtel_sheet_values.specs.Sheets.{empty_sheet}
 use Rattle.mmtel_rules.specs.Circumstances.{Circumstances}
 use Rattle.mmtel_rules.specs.declared.values.When.{When}
 use Rattle.mmtel_diversion.specs.Diversion.{deflection_of}
-use Rattle.mmtel_precedence.specs.Services.{AccountState, DueDiversion, Says, Nothing, Refuses, Diverts, first_said, due_on, bars_outgoing, services_on_arrival}
+use Rattle.mmtel_precedence.specs.Services.{AccountState, DueDiversion, Says, Nothing, Refuses, Diverts, first_said, due_on, own_bound, bars_outgoing, services_on_arrival}
 use Rattle.mmtel_precedence.specs.Calls.{Call}
 use Rattle.mmtel_targets.specs.Targets.{new_target}
 use Rattle.mmtel_precedence.specs.Targets.{is_waiting, due_at, deflected_to, deflection_at, is_refused, of_target}
@@ -44,7 +44,7 @@ pub due_at-account : (c : Circumstances) (when : When) (served : Option AccountS
 due_at-account c when None = refl
 due_at-account c when (Some account) = refl
 
-pub deflection_at-account : (served : Option AccountState) (target : Uri) (rang : Bool) → deflection_at served target rang ≡ option_map (deflected_to target) (deflection_of (unwrap_or served nobody).sheet rang)
+pub deflection_at-account : (served : Option AccountState) (target : Uri) (rang : Bool) → deflection_at served target rang ≡ option_map (deflected_to target (own_bound (unwrap_or served nobody).sheet)) (deflection_of (unwrap_or served nobody).sheet rang)
 deflection_at-account None target rang = refl
 deflection_at-account (Some account) target rang = refl
 

@@ -1,5 +1,5 @@
 -- Callers that answer alike: the outcome sees the answers alone.
-use Rattle.std.proofs.Common.{◌≡◌, ℕ, zero, suc, ◌+◌, ◌-◌, ◌==◌, Bool, List, [], ◌∷◌, ◌++◌, refl, ap, ◌∙◌}
+use Rattle.std.proofs.Common.{◌≡◌, ℕ, zero, suc, ◌+◌, ◌-◌, Bool, List, [], ◌∷◌, ◌++◌, refl, ap, ◌∙◌}
 use Rattle.std.specs.Prelude.{Option, Some, None, not, option_and_then, slice_get, if◌then◌else◌}
 use Rattle.std.specs.Option.{option_map, option_map_or}
 use Rattle.mmtel_types.specs.declared.causes.Cause.{Cause}
@@ -18,8 +18,8 @@ use Rattle.mmtel_rules.specs.declared.values.When.TheVariants as event
 use Rattle.mmtel_diversion.specs.Diversion.{diversion_among, diversion_by}
 use Rattle.mmtel_waiting.specs.Waiting.{is_busy}
 use Rattle.mmtel_barring.specs.Barring.{rules_of}
-use Rattle.mmtel_precedence.specs.Services.{AccountState, DueDiversion, Says, Nothing, Refuses, Diverts, refuses_if, diverts_by, first_said, due_of, due_on, rejects_anonymous, bars_incoming, services_on_arrival}
-use Rattle.mmtel_precedence.specs.Calls.{refused_at_once, End, Answer, Cancel, UserBusy, NotReachable, NoReply, Deflection, Other, Ended, Reach, Call, Target, Final, Outcome, last_reached, then_reached}
+use Rattle.mmtel_precedence.specs.Services.{AccountState, DueDiversion, Says, Nothing, Refuses, Diverts, refuses_if, diverts_by, first_said, own_bound, due_of, is_reached, due_on, rejects_anonymous, bars_incoming, services_on_arrival}
+use Rattle.mmtel_precedence.specs.Calls.{refused_at_once, End, Answer, Cancel, UserBusy, NotReachable, NoReply, Deflection, Other, Ended, Reach, Call, Target, Outcome}
 use Rattle.mmtel_precedence.specs.Opening.{refusal_at_opening}
 use Rattle.mmtel_targets.specs.Targets.{new_target}
 use Rattle.mmtel_precedence.specs.Targets.{Next, Rests, IsDue, reach_of, of_caller, said_on_arrival, due_at, diverted_or, next_on, next_at, next_after, target_at, offer_by}
@@ -28,7 +28,7 @@ use Rattle.mmtel_precedence.specs.Verdicts.{decision_by, forwards_or}
 use Rattle.mmtel_precedence.specs.declared.endings.Ending.TheVariants as endings
 use Rattle.mmtel_precedence.specs.Laws.{diversion_rules, AnswerAlikeTo, AlikeCallersFareAlike, VerdictsSeeAnswersAlone}
 use Rattle.mmtel_precedence.proofs.Accounts.{account_says}
-use Rattle.mmtel_precedence.proofs.Nexts.{from_next}
+use Rattle.mmtel_precedence.proofs.Nexts.{from_next, refused_for, unless_reached, go_further}
 
 -- what the crates below say of callers that answer alike
 abbrev pub FirstIsSame : Type 0
@@ -48,7 +48,7 @@ diversion-alike first asks asks2 c when (Some part) h =
     ap (λ (found : Option ℕ). option_and_then (λ place. option_and_then (diversion_by place) (slice_get part.rules place)) found) (first asks asks2 c when part.rules h)
 
 due_on-alike : FirstIsSame → (asks asks2 : Who → Bool) (c : Circumstances) (when : When) (sheet : Sheet) → AnswerAlikeTo sheet asks asks2 → due_on (asked c asks) when sheet ≡ due_on (asked c asks2) when sheet
-due_on-alike first asks asks2 c when sheet h = ap (option_map due_of) (diversion-alike first asks asks2 c when sheet.diversion h.diversion)
+due_on-alike first asks asks2 c when sheet h = ap (option_map (due_of (own_bound sheet))) (diversion-alike first asks asks2 c when sheet.diversion h.diversion)
 
 -- the services, by what depends on the answers
 services_by : Circumstances → AccountState → Bool → Option DueDiversion → Option DueDiversion → List Says
@@ -81,38 +81,38 @@ account_says-alike : FirstIsSame → BarsSame → (asks asks2 : Who → Bool) (c
 account_says-alike first bars asks asks2 c None h = refl
 account_says-alike first bars asks asks2 c (Some account) h = services-alike first bars asks asks2 c account h
 
-said-alike : FirstIsSame → BarsSame → (asks asks2 : Who → Bool) (call : Call) (reach : Reach) → AlikeAt asks asks2 reach.served → said_on_arrival (asking call asks) reach ≡ said_on_arrival (asking call asks2) reach
-said-alike first bars asks asks2 call reach h =
-    ap (λ says. first_said (says ++ refuses_if reach.is_unknown causes.NoAccount ∷ refuses_if reach.has_no_peer causes.NoRoute ∷ [])) (account_says-alike first bars asks asks2 (of_caller call reach.at) reach.served h)
+said-alike : FirstIsSame → BarsSame → (asks asks2 : Who → Bool) (call : Call) (k : ℕ) (reach : Reach) → AlikeAt asks asks2 reach.served → said_on_arrival (asking call asks) k reach ≡ said_on_arrival (asking call asks2) k reach
+said-alike first bars asks asks2 call k reach h =
+    ap (λ says. first_said (says ++ refuses_if reach.is_unknown causes.NoAccount ∷ refuses_if reach.has_no_peer causes.NoRoute ∷ [])) (account_says-alike first bars asks asks2 (of_caller call k reach.at) reach.served h)
 
 due_at-alike : FirstIsSame → (asks asks2 : Who → Bool) (c : Circumstances) (when : When) (served : Option AccountState) → AlikeAt asks asks2 served → due_at (asked c asks) when served ≡ due_at (asked c asks2) when served
 due_at-alike first asks asks2 c when None h = refl
 due_at-alike first asks asks2 c when (Some account) h = due_on-alike first asks asks2 c when account.sheet h
 
-next_on-alike : FirstIsSame → (asks asks2 : Who → Bool) (call : Call) (served : Option AccountState) (now : ℕ) (how : End) (later : List Ended) → AlikeAt asks asks2 served → next_on (asking call asks) served now how later ≡ next_on (asking call asks2) served now how later
-next_on-alike first asks asks2 call served now Answer later h = refl
-next_on-alike first asks asks2 call served now Cancel later h = refl
-next_on-alike first asks asks2 call served now (UserBusy code) later h = ap (λ due. diverted_or call served now due (causes.Relayed code) later) (due_at-alike first asks asks2 (of_caller call now) event.Busy served h)
-next_on-alike first asks asks2 call served now (NotReachable code) later h = ap (λ due. diverted_or call served now due (causes.Unreachable code) later) (due_at-alike first asks asks2 (of_caller call now) event.NotReachable served h)
-next_on-alike first asks asks2 call served now NoReply later h = ap (λ due. diverted_or call served now due causes.NoReply later) (due_at-alike first asks asks2 (of_caller call now) event.NoAnswer served h)
-next_on-alike first asks asks2 call served now (Deflection target rang) later h = ap (λ due. diverted_or call served now due (causes.Relayed 480) later) refl
-next_on-alike first asks asks2 call served now (Other code) later h = refl
+next_on-alike : FirstIsSame → (asks asks2 : Who → Bool) (call : Call) (k : ℕ) (served : Option AccountState) (now : ℕ) (how : End) (later : List Ended) → AlikeAt asks asks2 served → next_on (asking call asks) k served now how later ≡ next_on (asking call asks2) k served now how later
+next_on-alike first asks asks2 call k served now Answer later h = refl
+next_on-alike first asks asks2 call k served now Cancel later h = refl
+next_on-alike first asks asks2 call k served now (UserBusy code) later h = ap (λ due. diverted_or call served now due (causes.Relayed code) later) (due_at-alike first asks asks2 (of_caller call k now) event.Busy served h)
+next_on-alike first asks asks2 call k served now (NotReachable code) later h = ap (λ due. diverted_or call served now due (causes.Unreachable code) later) (due_at-alike first asks asks2 (of_caller call k now) event.NotReachable served h)
+next_on-alike first asks asks2 call k served now NoReply later h = ap (λ due. diverted_or call served now due causes.NoReply later) (due_at-alike first asks asks2 (of_caller call k now) event.NoAnswer served h)
+next_on-alike first asks asks2 call k served now (Deflection target rang) later h = ap (λ due. diverted_or call served now due (causes.Relayed 480) later) refl
+next_on-alike first asks asks2 call k served now (Other code) later h = refl
 
 -- what is next, by what was said
-next_at-alike : FirstIsSame → (asks asks2 : Who → Bool) (says : Says) (call : Call) (reach : Reach) (endings : List Ended) → AlikeAt asks asks2 reach.served → next_at says (asking call asks) reach endings ≡ next_at says (asking call asks2) reach endings
-next_at-alike first asks asks2 Nothing call reach [] h = refl
-next_at-alike first asks asks2 Nothing call reach (ended ∷ later) h = next_on-alike first asks asks2 call reach.served ended.at ended.how later h
-next_at-alike first asks asks2 (Refuses cause) call reach endings h = refl
-next_at-alike first asks asks2 (Diverts due) call reach endings h = refl
+next_at-alike : FirstIsSame → (asks asks2 : Who → Bool) (says : Says) (call : Call) (k : ℕ) (reach : Reach) (endings : List Ended) → AlikeAt asks asks2 reach.served → next_at says (asking call asks) k reach endings ≡ next_at says (asking call asks2) k reach endings
+next_at-alike first asks asks2 Nothing call k reach [] h = refl
+next_at-alike first asks asks2 Nothing call k reach (ended ∷ later) h = next_on-alike first asks asks2 call k reach.served ended.at ended.how later h
+next_at-alike first asks asks2 (Refuses cause) call k reach endings h = refl
+next_at-alike first asks asks2 (Diverts due) call k reach endings h = refl
 
 next-alike : FirstIsSame → BarsSame → (asks asks2 : Who → Bool) (call : Call) (k : ℕ) (uri : Uri) (by : Option DueDiversion) (endings : List Ended) → AlikeAt asks asks2 (reach_of call k uri by).served → next_after (asking call asks) k uri by endings ≡ next_after (asking call asks2) k uri by endings
 next-alike first bars asks asks2 call k uri by endings h =
-    ap (λ says. next_at says (asking call asks) (reach_of call k uri by) endings) (said-alike first bars asks asks2 call (reach_of call k uri by) h)
-    ∙ next_at-alike first asks asks2 (said_on_arrival (asking call asks2) (reach_of call k uri by)) call (reach_of call k uri by) endings h
+    ap (λ says. next_at says (asking call asks) k (reach_of call k uri by) endings) (said-alike first bars asks asks2 call k (reach_of call k uri by) h)
+    ∙ next_at-alike first asks asks2 (said_on_arrival (asking call asks2) k (reach_of call k uri by)) call k (reach_of call k uri by) endings h
 
 target-alike : FirstIsSame → BarsSame → (asks asks2 : Who → Bool) (call : Call) (k : ℕ) (uri : Uri) (by : Option DueDiversion) → AlikeAt asks asks2 (reach_of call k uri by).served → target_at (asking call asks) k uri by ≡ target_at (asking call asks2) k uri by
 target-alike first bars asks asks2 call k uri by h =
-    ap (λ said. record { uri = uri; by = by; offer = offer_by said (reach_of call k uri by).served }) (said-alike first bars asks asks2 call (reach_of call k uri by) h)
+    ap (λ said. record { uri = uri; by = by; offer = offer_by said (reach_of call k uri by).served }) (said-alike first bars asks asks2 call k (reach_of call k uri by) h)
 
 -- at a target, where what comes of each diversion is the same
 from_next-same : (target : Target) (onward onward2 : DueDiversion → List Ended → Outcome) → ((due : DueDiversion) (later : List Ended) → onward due later ≡ onward2 due later) → (next : Next) → from_next target onward next ≡ from_next target onward2 next
@@ -123,13 +123,13 @@ outcome_from-alike : FirstIsSame → BarsSame → (asks asks2 : Who → Bool) (c
     (left k : ℕ) (uri : Uri) (by : Option DueDiversion) (endings : List Ended) → outcome_from (asking call asks) left k uri by endings ≡ outcome_from (asking call asks2) left k uri by endings
 unfolding outcome_from
 outcome_from-alike first bars asks asks2 call h zero k uri by endings =
-    ap (λ target. from_next target (λ due later. last_reached target (Final (causes.TooManyDiversions (due.cause == 486)))) (next_after (asking call asks) k uri by endings)) (target-alike first bars asks asks2 call k uri by (h k uri by))
-    ∙ ap (λ next. from_next (target_at (asking call asks2) k uri by) (λ due later. last_reached (target_at (asking call asks2) k uri by) (Final (causes.TooManyDiversions (due.cause == 486)))) next) (next-alike first bars asks asks2 call k uri by endings (h k uri by))
+    ap (λ target. from_next target (λ due later. refused_for target due) (next_after (asking call asks) k uri by endings)) (target-alike first bars asks asks2 call k uri by (h k uri by))
+    ∙ ap (λ next. from_next (target_at (asking call asks2) k uri by) (λ due later. refused_for (target_at (asking call asks2) k uri by) due) next) (next-alike first bars asks asks2 call k uri by endings (h k uri by))
 outcome_from-alike first bars asks asks2 call h (suc left) k uri by endings =
-    ap (λ target. from_next target (λ due later. then_reached target (outcome_from (asking call asks) left (k + 1) (new_target call.home due.forward.target) (Some due) later)) (next_after (asking call asks) k uri by endings)) (target-alike first bars asks asks2 call k uri by (h k uri by))
-    ∙ ap (λ next. from_next (target_at (asking call asks2) k uri by) (λ due later. then_reached (target_at (asking call asks2) k uri by) (outcome_from (asking call asks) left (k + 1) (new_target call.home due.forward.target) (Some due) later)) next) (next-alike first bars asks asks2 call k uri by endings (h k uri by))
+    ap (λ target. from_next target (λ due later. go_further (asking call asks) left k target due later) (next_after (asking call asks) k uri by endings)) (target-alike first bars asks asks2 call k uri by (h k uri by))
+    ∙ ap (λ next. from_next (target_at (asking call asks2) k uri by) (λ due later. go_further (asking call asks) left k (target_at (asking call asks2) k uri by) due later) next) (next-alike first bars asks asks2 call k uri by endings (h k uri by))
     ∙ from_next-same (target_at (asking call asks2) k uri by) _ _
-    (λ due later. ap (then_reached (target_at (asking call asks2) k uri by)) (outcome_from-alike first bars asks asks2 call h left (k + 1) (new_target call.home due.forward.target) (Some due) later)) (next_after (asking call asks2) k uri by endings)
+    (λ due later. ap (unless_reached (is_reached due.bound (call.received + k)) (target_at (asking call asks2) k uri by) due) (outcome_from-alike first bars asks asks2 call h left (k + 1) (new_target call.home due.forward.target) (Some due) later)) (next_after (asking call asks2) k uri by endings)
 
 -- by what the opening refuses
 opened-alike : FirstIsSame → BarsSame → (asks asks2 : Who → Bool) (call : Call) → ((k : ℕ) (uri : Uri) (by : Option DueDiversion) → AlikeAt asks asks2 (reach_of call k uri by).served) →

@@ -5,7 +5,7 @@ use Rattle.std.proofs.lemmas.List.{append-nil}
 use Rattle.mmtel_types.specs.declared.causes.Cause.{Cause}
 use Rattle.mmtel_lex.specs.declared.values.Uri.{Uri}
 use Rattle.mmtel_precedence.specs.declared.endings.Ending.TheVariants as ending
-use Rattle.mmtel_precedence.specs.Services.{AccountState, DueDiversion}
+use Rattle.mmtel_precedence.specs.Services.{AccountState, DueDiversion, own_bound}
 use Rattle.mmtel_precedence.specs.Verdicts.{Decision, Offers, Forwards, Ends, verdict_of}
 use Rattle.mmtel_precedence.specs.Calls.{End, Answer, Cancel, UserBusy, NotReachable, NoReply, Deflection, Other, Ended, Reach, Call, NotOffered, Target}
 use Rattle.mmtel_precedence.specs.Targets.{of_caller, reach_of}
@@ -34,20 +34,20 @@ later-offer false false account waiting kept uri by later = refl
 later-reached : (call : Call) (reach : Reach) (account : AccountState) (decision : Decision) (kept : Kept) (uri : Uri) (by : Option DueDiversion) (later : List Ended) →
     reached call reach account decision (with_later kept later) uri by ≡ with_later (reached call reach account decision kept uri by) later
 later-reached call reach account (Offers waiting) kept uri by later = later-offer reach.is_unknown reach.has_no_peer account waiting kept uri by later
-later-reached call reach account (Forwards forward why) kept uri by later = later-divert_where call (with_target kept uri by NotOffered) account reach.at (due_by forward None why) later
+later-reached call reach account (Forwards forward why) kept uri by later = later-divert_where call (with_target kept uri by NotOffered) account reach.at (due_by (own_bound account.sheet) forward None why) later
 later-reached call reach account (Ends why) kept uri by later = refl
 
 -- the verdict at a target that the call reaches
-abbrev at_arrival : Call → Reach → Decision
-at_arrival call reach = verdict_of (of_caller call reach.at) (account_at reach) ending.Arrived
+abbrev at_arrival : Call → (k : ℕ) → Reach → Decision
+at_arrival call k reach = verdict_of (of_caller call k reach.at) (account_at reach) ending.Arrived
 
 later-reaching : (call : Call) (reach : Reach) (kept : Kept) (uri : Uri) (by : Option DueDiversion) (later : List Ended) → on_reaching call reach uri by (with_later kept later) ≡ with_later (on_reaching call reach uri by kept) later
-later-reaching call reach kept uri by later = later-reached call reach (account_at reach) (at_arrival call reach) kept uri by later
+later-reaching call reach kept uri by later = later-reached call reach (account_at reach) (at_arrival call kept.done reach) kept uri by later
 
 later-ended : (call : Call) (account : AccountState) (now : ℕ) (deflected : Option Uri) (decision : Decision) (kept : Kept) (later : List Ended) →
     ended_by call account now deflected decision (with_later kept later) ≡ with_later (ended_by call account now deflected decision kept) later
 later-ended call account now deflected (Offers waiting) kept later = refl
-later-ended call account now deflected (Forwards forward why) kept later = later-divert_where call kept account now (due_by forward deflected why) later
+later-ended call account now deflected (Forwards forward why) kept later = later-divert_where call kept account now (due_by (own_bound account.sheet) forward deflected why) later
 later-ended call account now deflected (Ends why) kept later = refl
 
 later-end : (call : Call) (account : AccountState) (now : ℕ) (how : End) (kept : Kept) (later : List Ended) → on_end call account now how (with_later kept later) ≡ with_later (on_end call account now how kept) later
@@ -116,7 +116,7 @@ targets-divert_where call kept account now (Some due) = targets-gone_on _ kept _
 
 targets-ended : (call : Call) (account : AccountState) (now : ℕ) (deflected : Option Uri) (decision : Decision) (kept : Kept) → (ended_by call account now deflected decision kept).targets ≡ kept.targets
 targets-ended call account now deflected (Offers waiting) kept = refl
-targets-ended call account now deflected (Forwards forward why) kept = targets-divert_where call kept account now (due_by forward deflected why)
+targets-ended call account now deflected (Forwards forward why) kept = targets-divert_where call kept account now (due_by (own_bound account.sheet) forward deflected why)
 targets-ended call account now deflected (Ends why) kept = refl
 
 targets-end : (call : Call) (account : AccountState) (now : ℕ) (how : End) (kept : Kept) → (on_end call account now how kept).targets ≡ kept.targets
@@ -139,11 +139,11 @@ more-offer false false account waiting kept uri by = (_, refl)
 
 more-reached : (call : Call) (reach : Reach) (account : AccountState) (decision : Decision) (kept : Kept) (uri : Uri) (by : Option DueDiversion) → OneMore kept.targets (reached call reach account decision kept uri by)
 more-reached call reach account (Offers waiting) kept uri by = more-offer reach.is_unknown reach.has_no_peer account waiting kept uri by
-more-reached call reach account (Forwards forward why) kept uri by = (_, targets-divert_where call (with_target kept uri by NotOffered) account reach.at (due_by forward None why))
+more-reached call reach account (Forwards forward why) kept uri by = (_, targets-divert_where call (with_target kept uri by NotOffered) account reach.at (due_by (own_bound account.sheet) forward None why))
 more-reached call reach account (Ends why) kept uri by = (_, refl)
 
 more-reaching : (call : Call) (reach : Reach) (kept : Kept) (uri : Uri) (by : Option DueDiversion) → OneMore kept.targets (on_reaching call reach uri by kept)
-more-reaching call reach kept uri by = more-reached call reach (account_at reach) (at_arrival call reach) kept uri by
+more-reaching call reach kept uri by = more-reached call reach (account_at reach) (at_arrival call kept.done reach) kept uri by
 
 abbrev Grows : List Target → Kept → Type 0
 Grows targets kept = (more : List Target) × (kept.targets ≡ targets ++ more)

@@ -1,5 +1,5 @@
 -- Barring comes before diversion, and anonymous communication rejection before both.
-use Rattle.std.proofs.Common.{◌≡◌, ℕ, zero, suc, ◌+◌, ◌==◌, true, false, List, [], ◌∷◌, ◌++◌, ap, ◌∙◌}
+use Rattle.std.proofs.Common.{◌≡◌, ℕ, zero, suc, true, false, List, [], ◌∷◌, ◌++◌, ap, ◌∙◌}
 use Rattle.std.specs.Prelude.{Option, Some}
 use Rattle.mmtel_types.specs.declared.causes.Cause.{Cause}
 use Rattle.mmtel_types.specs.declared.causes.Cause.TheVariants as causes
@@ -7,13 +7,12 @@ use Rattle.mmtel_lex.specs.declared.values.Uri.{Uri}
 use Rattle.mmtel_rules.specs.Circumstances.{Circumstances}
 use Rattle.mmtel_precedence.specs.Services.{AccountState, DueDiversion, Says, Nothing, Refuses, Diverts, refuses_if, first_said, rejects_anonymous, bars_incoming, services_after_barring, services_on_arrival}
 use Rattle.mmtel_precedence.specs.Verdicts.{decision_by}
-use Rattle.mmtel_precedence.specs.Calls.{Call, Ended, Reach, NotOffered, Final, last_reached, then_reached}
-use Rattle.mmtel_targets.specs.Targets.{new_target}
+use Rattle.mmtel_precedence.specs.Calls.{Call, Ended, Reach, NotOffered, Final, last_reached}
 use Rattle.mmtel_precedence.specs.Targets.{reach_of, of_caller, offer_by, said_on_arrival, next_at, target_at}
 use Rattle.mmtel_precedence.specs.Outcome.{outcome_from}
 use Rattle.mmtel_precedence.specs.Laws.{BarringComesFirst}
 use Rattle.mmtel_precedence.proofs.Accounts.{account_says}
-use Rattle.mmtel_precedence.proofs.Nexts.{from_next}
+use Rattle.mmtel_precedence.proofs.Nexts.{from_next, refused_for, go_further}
 
 said_anonymous : (c : Circumstances) (account : AccountState) → rejects_anonymous c account.sheet ≡ true → first_said (services_on_arrival c account) ≡ Refuses causes.AnonymousRejected
 said_anonymous c account e = ap (λ b. first_said (refuses_if b causes.AnonymousRejected ∷ refuses_if (bars_incoming c account.sheet) causes.IncomingBarred ∷ services_after_barring c account)) e
@@ -30,30 +29,30 @@ first_said-refused (Nothing ∷ says) later why e = first_said-refused says late
 first_said-refused (Refuses cause ∷ says) later why e = e
 first_said-refused (Diverts due ∷ says) later why e = absurd cc
 
-said-refused : (call : Call) (reach : Reach) (account : AccountState) (why : Cause) → reach.served ≡ Some account → first_said (services_on_arrival (of_caller call reach.at) account) ≡ Refuses why → said_on_arrival call reach ≡ Refuses why
-said-refused call reach account why e h =
-    ap (λ served. first_said (account_says (of_caller call reach.at) served ++ refuses_if reach.is_unknown causes.NoAccount ∷ refuses_if reach.has_no_peer causes.NoRoute ∷ [])) e
-    ∙ first_said-refused (services_on_arrival (of_caller call reach.at) account) (refuses_if reach.is_unknown causes.NoAccount ∷ refuses_if reach.has_no_peer causes.NoRoute ∷ []) why h
+said-refused : (call : Call) (k : ℕ) (reach : Reach) (account : AccountState) (why : Cause) → reach.served ≡ Some account → first_said (services_on_arrival (of_caller call k reach.at) account) ≡ Refuses why → said_on_arrival call k reach ≡ Refuses why
+said-refused call k reach account why e h =
+    ap (λ served. first_said (account_says (of_caller call k reach.at) served ++ refuses_if reach.is_unknown causes.NoAccount ∷ refuses_if reach.has_no_peer causes.NoRoute ∷ [])) e
+    ∙ first_said-refused (services_on_arrival (of_caller call k reach.at) account) (refuses_if reach.is_unknown causes.NoAccount ∷ refuses_if reach.has_no_peer causes.NoRoute ∷ []) why h
 
 -- a target that refuses is the last
 outcome_from-refused : (call : Call) (left k : ℕ) (uri : Uri) (by : Option DueDiversion) (endings : List Ended) (why : Cause) →
-    said_on_arrival call (reach_of call k uri by) ≡ Refuses why → outcome_from call left k uri by endings ≡ last_reached (record { uri = uri; by = by; offer = NotOffered }) (Final why)
+    said_on_arrival call k (reach_of call k uri by) ≡ Refuses why → outcome_from call left k uri by endings ≡ last_reached (record { uri = uri; by = by; offer = NotOffered }) (Final why)
 unfolding outcome_from
 outcome_from-refused call zero k uri by endings why e =
     ap (λ said. from_next (record { uri = uri; by = by; offer = offer_by said (reach_of call k uri by).served })
-    (λ due later. last_reached (target_at call k uri by) (Final (causes.TooManyDiversions (due.cause == 486))))
-    (next_at said call (reach_of call k uri by) endings)) e
+    (λ due later. refused_for (target_at call k uri by) due)
+    (next_at said call k (reach_of call k uri by) endings)) e
 outcome_from-refused call (suc left) k uri by endings why e =
     ap (λ said. from_next (record { uri = uri; by = by; offer = offer_by said (reach_of call k uri by).served })
-    (λ due later. then_reached (target_at call k uri by) (outcome_from call left (k + 1) (new_target call.home due.forward.target) (Some due) later))
-    (next_at said call (reach_of call k uri by) endings)) e
+    (λ due later. go_further call left k (target_at call k uri by) due later)
+    (next_at said call k (reach_of call k uri by) endings)) e
 
 pub barring_comes_first : BarringComesFirst
 barring_comes_first = record {
   anonymous = λ c account e. ap (λ said. decision_by said account.live) (said_anonymous c account e);
   barred = λ c account e h. ap (λ said. decision_by said account.live) (said_barred c account e h);
   anonymous_at = λ call left k uri by endings account s e.
-      outcome_from-refused call left k uri by endings causes.AnonymousRejected (said-refused call (reach_of call k uri by) account causes.AnonymousRejected s (said_anonymous (of_caller call (reach_of call k uri by).at) account e));
+      outcome_from-refused call left k uri by endings causes.AnonymousRejected (said-refused call k (reach_of call k uri by) account causes.AnonymousRejected s (said_anonymous (of_caller call k (reach_of call k uri by).at) account e));
   barred_at = λ call left k uri by endings account s e h.
-      outcome_from-refused call left k uri by endings causes.IncomingBarred (said-refused call (reach_of call k uri by) account causes.IncomingBarred s (said_barred (of_caller call (reach_of call k uri by).at) account e h));
+      outcome_from-refused call left k uri by endings causes.IncomingBarred (said-refused call k (reach_of call k uri by) account causes.IncomingBarred s (said_barred (of_caller call k (reach_of call k uri by).at) account e h));
 }

@@ -1,5 +1,5 @@
 -- The diversion that led to a target has its forward.
-use Rattle.std.proofs.Common.{◌≡◌, ℕ, zero, suc, ◌+◌, ◌-◌, ◌==◌, Bool, List, refl, ap, sym}
+use Rattle.std.proofs.Common.{◌≡◌, ℕ, zero, suc, ◌+◌, ◌-◌, Bool, List, refl, ap, sym}
 use Rattle.std.specs.Prelude.{Option, Some, None, IsSome, is_some}
 use Rattle.std.specs.List.{AllByRecursion}
 use Rattle.std.specs.Option.{option_map_or}
@@ -11,15 +11,15 @@ use Rattle.mmtel_precedence.specs.declared.endings.Ending.{Ending}
 use Rattle.mmtel_precedence.specs.declared.endings.Ending.TheVariants as ending
 use Rattle.mmtel_rules.specs.declared.values.When.TheVariants as event
 use Rattle.mmtel_rules.specs.Circumstances.{Circumstances}
-use Rattle.mmtel_precedence.specs.Services.{AccountState, DueDiversion, Says, Nothing, Refuses, Diverts, due_on, first_said, services_on_arrival}
+use Rattle.mmtel_precedence.specs.Services.{AccountState, DueDiversion, is_reached, Says, Nothing, Refuses, Diverts, due_on, first_said, services_on_arrival}
 use Rattle.mmtel_precedence.specs.Verdicts.{Forwards, decision_by, forwards_or, verdict_of}
-use Rattle.mmtel_precedence.specs.Calls.{refused_at_once, Ended, Call, Target, Final, Outcome, last_reached, then_reached}
+use Rattle.mmtel_precedence.specs.Calls.{refused_at_once, Ended, Call, Target, Outcome}
 use Rattle.mmtel_precedence.specs.Opening.{refusal_at_opening}
 use Rattle.mmtel_targets.specs.Targets.{new_target}
 use Rattle.mmtel_precedence.specs.Targets.{Next, Rests, IsDue, next_after, target_at}
 use Rattle.mmtel_precedence.specs.Outcome.{outcome_from, outcome}
 use Rattle.mmtel_precedence.specs.Laws.{led_to, after_first, DiversionsHaveForwards}
-use Rattle.mmtel_precedence.proofs.Nexts.{from_next}
+use Rattle.mmtel_precedence.proofs.Nexts.{from_next, refused_for, unless_reached-cases, after_due, go_further}
 
 -- ---- of targets
 
@@ -33,10 +33,11 @@ led-next call target onward here after (IsDue due later) = after due later
 led-from : (call : Call) (left k : ℕ) (uri : Uri) (by : Option DueDiversion) (endings : List Ended) → uri ≡ led_to call by → AreLed call (outcome_from call left k uri by endings)
 unfolding outcome_from
 led-from call zero k uri by endings here =
-    led-next call (target_at call k uri by) (λ due later. last_reached (target_at call k uri by) (Final (causes.TooManyDiversions (due.cause == 486)))) here (λ due later. (here, tt)) (next_after call k uri by endings)
+    led-next call (target_at call k uri by) (λ due later. refused_for (target_at call k uri by) due) here (λ due later. (here, tt)) (next_after call k uri by endings)
 led-from call (suc left) k uri by endings here =
-    led-next call (target_at call k uri by) (λ due later. then_reached (target_at call k uri by) (outcome_from call left (k + 1) (new_target call.home due.forward.target) (Some due) later)) here
-    (λ due later. (here, led-from call left (k + 1) (new_target call.home due.forward.target) (Some due) later refl)) (next_after call k uri by endings)
+    led-next call (target_at call k uri by) (λ due later. go_further call left k (target_at call k uri by) due later) here
+    (λ due later. unless_reached-cases (AreLed call) (is_reached due.bound (call.received + k)) (target_at call k uri by) due (after_due call left k due later) (here, tt)
+    (here, led-from call left (k + 1) (new_target call.home due.forward.target) (Some due) later refl)) (next_after call k uri by endings)
 
 led-opened : (call : Call) (endings : List Ended) (refusal : Option Cause) → AreLed call (option_map_or refused_at_once refusal (outcome_from call (call.bound - call.received) 0 call.first None endings))
 led-opened call endings None = led-from call (call.bound - call.received) 0 call.first None endings refl
@@ -54,10 +55,11 @@ diverted-next target onward here after (IsDue due later) = after due later
 diverted-from : (call : Call) (left k : ℕ) (uri : Uri) (by : DueDiversion) (endings : List Ended) → AreDiverted (outcome_from call left k uri (Some by) endings).targets
 unfolding outcome_from
 diverted-from call zero k uri by endings =
-    diverted-next (target_at call k uri (Some by)) (λ due later. last_reached (target_at call k uri (Some by)) (Final (causes.TooManyDiversions (due.cause == 486)))) refl (λ due later. (refl, tt)) (next_after call k uri (Some by) endings)
+    diverted-next (target_at call k uri (Some by)) (λ due later. refused_for (target_at call k uri (Some by)) due) refl (λ due later. (refl, tt)) (next_after call k uri (Some by) endings)
 diverted-from call (suc left) k uri by endings =
-    diverted-next (target_at call k uri (Some by)) (λ due later. then_reached (target_at call k uri (Some by)) (outcome_from call left (k + 1) (new_target call.home due.forward.target) (Some due) later)) refl
-    (λ due later. (refl, diverted-from call left (k + 1) (new_target call.home due.forward.target) due later)) (next_after call k uri (Some by) endings)
+    diverted-next (target_at call k uri (Some by)) (λ due later. go_further call left k (target_at call k uri (Some by)) due later) refl
+    (λ due later. unless_reached-cases (λ outcome. AreDiverted outcome.targets) (is_reached due.bound (call.received + k)) (target_at call k uri (Some by)) due (after_due call left k due later) (refl, tt)
+    (refl, diverted-from call left (k + 1) (new_target call.home due.forward.target) due later)) (next_after call k uri (Some by) endings)
 
 later-next : (target : Target) (onward : DueDiversion → List Ended → Outcome) → ((due : DueDiversion) (later : List Ended) → AreDiverted (after_first (onward due later).targets)) → (next : Next) → AreDiverted (after_first (from_next target onward next).targets)
 later-next target onward after (Rests result) = tt
@@ -65,10 +67,11 @@ later-next target onward after (IsDue due later) = after due later
 
 later-from : (call : Call) (left k : ℕ) (uri : Uri) (by : Option DueDiversion) (endings : List Ended) → AreDiverted (after_first (outcome_from call left k uri by endings).targets)
 unfolding outcome_from
-later-from call zero k uri by endings = later-next (target_at call k uri by) (λ due later. last_reached (target_at call k uri by) (Final (causes.TooManyDiversions (due.cause == 486)))) (λ due later. tt) (next_after call k uri by endings)
+later-from call zero k uri by endings = later-next (target_at call k uri by) (λ due later. refused_for (target_at call k uri by) due) (λ due later. tt) (next_after call k uri by endings)
 later-from call (suc left) k uri by endings =
-    later-next (target_at call k uri by) (λ due later. then_reached (target_at call k uri by) (outcome_from call left (k + 1) (new_target call.home due.forward.target) (Some due) later))
-    (λ due later. diverted-from call left (k + 1) (new_target call.home due.forward.target) due later) (next_after call k uri by endings)
+    later-next (target_at call k uri by) (λ due later. go_further call left k (target_at call k uri by) due later)
+    (λ due later. unless_reached-cases (λ outcome. AreDiverted (after_first outcome.targets)) (is_reached due.bound (call.received + k)) (target_at call k uri by) due (after_due call left k due later) tt
+    (diverted-from call left (k + 1) (new_target call.home due.forward.target) due later)) (next_after call k uri by endings)
 
 later-opened : (call : Call) (endings : List Ended) (refusal : Option Cause) → AreDiverted (after_first (option_map_or refused_at_once refusal (outcome_from call (call.bound - call.received) 0 call.first None endings)).targets)
 later-opened call endings None = later-from call (call.bound - call.received) 0 call.first None endings

@@ -1,55 +1,54 @@
 -- Only the targets that a call reaches count.
-use Rattle.std.proofs.Common.{◌≡◌, ℕ, zero, suc, ◌+◌, ◌-◌, ◌<◌, ◌==◌, List, [], ◌∷◌, length, refl, ap, sym, ◌∙◌, arith}
+use Rattle.std.proofs.Common.{◌≡◌, ℕ, zero, suc, ◌+◌, ◌-◌, ◌<◌, Bool, true, false, List, [], ◌∷◌, length, refl, ap, sym, ◌∙◌, arith}
 use Rattle.std.specs.Prelude.{Option, Some, None}
 use Rattle.std.specs.Option.{option_map_or}
 use Rattle.mmtel_types.specs.declared.causes.Cause.{Cause}
-use Rattle.mmtel_types.specs.declared.causes.Cause.TheVariants as causes
 use Rattle.mmtel_lex.specs.declared.values.Uri.{Uri}
-use Rattle.mmtel_precedence.specs.Services.{AccountState, DueDiversion, Says, Nothing, Refuses, Diverts}
-use Rattle.mmtel_precedence.specs.Calls.{refused_at_once, End, Answer, Cancel, UserBusy, NotReachable, NoReply, Deflection, Other, Ended, Standing, Reach, Call, standing_after, Target, Final, Outcome, last_reached, then_reached}
+use Rattle.mmtel_precedence.specs.Services.{AccountState, DueDiversion, is_reached, Says, Nothing, Refuses, Diverts}
+use Rattle.mmtel_precedence.specs.Calls.{refused_at_once, End, Answer, Cancel, UserBusy, NotReachable, NoReply, Deflection, Other, Ended, Standing, Reach, Call, standing_after, Target, Outcome, then_reached}
 use Rattle.mmtel_precedence.specs.Opening.{refusal_at_opening}
 use Rattle.mmtel_targets.specs.Targets.{new_target}
 use Rattle.mmtel_precedence.specs.Targets.{Next, Rests, IsDue, reach_in, said_on_arrival, next_on, next_at, next_after, target_at, offer_by}
 use Rattle.mmtel_precedence.specs.Outcome.{outcome_from, outcome}
 use Rattle.mmtel_precedence.specs.Laws.{where_later, OnlyReachedTargetsCount}
-use Rattle.mmtel_precedence.proofs.Nexts.{from_next}
+use Rattle.mmtel_precedence.proofs.Nexts.{from_next, refused_for, unless_reached, unless_reached-cases, after_due}
 
 -- ---- at one target
 
-next_on-where : (other : ℕ → Standing) (call : Call) (served : Option AccountState) (now : ℕ) (how : End) (later : List Ended) → next_on (where_later other call) served now how later ≡ next_on call served now how later
-next_on-where other call served now Answer later = refl
-next_on-where other call served now Cancel later = refl
-next_on-where other call served now (UserBusy code) later = refl
-next_on-where other call served now (NotReachable code) later = refl
-next_on-where other call served now NoReply later = refl
-next_on-where other call served now (Deflection target rang) later = refl
-next_on-where other call served now (Other code) later = refl
+next_on-where : (other : ℕ → Standing) (call : Call) (k : ℕ) (served : Option AccountState) (now : ℕ) (how : End) (later : List Ended) → next_on (where_later other call) k served now how later ≡ next_on call k served now how later
+next_on-where other call k served now Answer later = refl
+next_on-where other call k served now Cancel later = refl
+next_on-where other call k served now (UserBusy code) later = refl
+next_on-where other call k served now (NotReachable code) later = refl
+next_on-where other call k served now NoReply later = refl
+next_on-where other call k served now (Deflection target rang) later = refl
+next_on-where other call k served now (Other code) later = refl
 
-next_at-where : (other : ℕ → Standing) (says : Says) (call : Call) (reach : Reach) (endings : List Ended) → next_at says (where_later other call) reach endings ≡ next_at says call reach endings
-next_at-where other Nothing call reach [] = refl
-next_at-where other Nothing call reach (ended ∷ later) = next_on-where other call reach.served ended.at ended.how later
-next_at-where other (Refuses cause) call reach endings = refl
-next_at-where other (Diverts due) call reach endings = refl
+next_at-where : (other : ℕ → Standing) (says : Says) (call : Call) (k : ℕ) (reach : Reach) (endings : List Ended) → next_at says (where_later other call) k reach endings ≡ next_at says call k reach endings
+next_at-where other Nothing call k reach [] = refl
+next_at-where other Nothing call k reach (ended ∷ later) = next_on-where other call k reach.served ended.at ended.how later
+next_at-where other (Refuses cause) call k reach endings = refl
+next_at-where other (Diverts due) call k reach endings = refl
 
 -- things stand the same when the call reaches the target after k diversions
 abbrev StandsSame : (ℕ → Standing) → Call → ℕ → Type 0
 StandsSame other call k = standing_after call k ≡ standing_after (where_later other call) k
 
 -- what is next, and what is said of the target, by how things stand
-abbrev next_in : Call → Uri → Option DueDiversion → List Ended → Standing → Next
-next_in call uri by endings standing = next_at (said_on_arrival call (reach_in standing call uri by)) call (reach_in standing call uri by) endings
+abbrev next_in : Call → (k : ℕ) → Uri → Option DueDiversion → List Ended → Standing → Next
+next_in call k uri by endings standing = next_at (said_on_arrival call k (reach_in standing call uri by)) call k (reach_in standing call uri by) endings
 
-abbrev target_in : Call → Uri → Option DueDiversion → Standing → Target
-target_in call uri by standing = record { uri = uri; by = by; offer = offer_by (said_on_arrival call (reach_in standing call uri by)) (reach_in standing call uri by).served }
+abbrev target_in : Call → (k : ℕ) → Uri → Option DueDiversion → Standing → Target
+target_in call k uri by standing = record { uri = uri; by = by; offer = offer_by (said_on_arrival call k (reach_in standing call uri by)) (reach_in standing call uri by).served }
 
 next-same : (other : ℕ → Standing) (call : Call) (k : ℕ) (uri : Uri) (by : Option DueDiversion) (endings : List Ended) → StandsSame other call k → next_after (where_later other call) k uri by endings ≡ next_after call k uri by endings
 next-same other call k uri by endings e =
     let reach = reach_in (standing_after (where_later other call) k) call uri by in
-    next_at-where other (said_on_arrival call reach) call reach endings
-    ∙ ap (next_in call uri by endings) (sym e)
+    next_at-where other (said_on_arrival call k reach) call k reach endings
+    ∙ ap (next_in call k uri by endings) (sym e)
 
 target-same : (other : ℕ → Standing) (call : Call) (k : ℕ) (uri : Uri) (by : Option DueDiversion) → StandsSame other call k → target_at (where_later other call) k uri by ≡ target_at call k uri by
-target-same other call k uri by e = ap (target_in call uri by) (sym e)
+target-same other call k uri by e = ap (target_in call k uri by) (sym e)
 
 -- ---- from one target on
 
@@ -65,7 +64,10 @@ reaches-from_next target onward h (IsDue due later) = h due later
 reaches-one : (call : Call) (left k : ℕ) (uri : Uri) (by : Option DueDiversion) (endings : List Ended) → 0 < length (outcome_from call left k uri by endings).targets
 unfolding outcome_from
 reaches-one call zero k uri by endings = reaches-from_next (target_at call k uri by) _ (λ due later. omega arith) (next_after call k uri by endings)
-reaches-one call (suc left) k uri by endings = reaches-from_next (target_at call k uri by) _ (λ due later. omega arith) (next_after call k uri by endings)
+reaches-one call (suc left) k uri by endings =
+    reaches-from_next (target_at call k uri by) _
+    (λ due later. unless_reached-cases (λ outcome. 0 < length outcome.targets) (is_reached due.bound (call.received + k)) (target_at call k uri by) due (after_due call left k due later) (omega arith) (omega arith))
+    (next_after call k uri by endings)
 
 agrees-here : (other : ℕ → Standing) (call : Call) (left k : ℕ) (uri : Uri) (by : Option DueDiversion) (endings : List Ended) → Agrees other call k (outcome_from call left k uri by endings) → StandsSame other call k
 agrees-here other call left k uri by endings h =
@@ -77,27 +79,33 @@ agrees-after other call k target outcome h j less =
     let e : k + 1 + j ≡ k + suc j = omega arith in
     ap (standing_after call) e ∙ h (suc j) (omega arith) ∙ ap (standing_after (where_later other call)) (sym e)
 
+unless-same : (other : ℕ → Standing) (call : Call) (k : ℕ) (stops : Bool) (target : Target) (due : DueDiversion) (outcome outcome2 : Outcome) → (Agrees other call (k + 1) outcome → outcome2 ≡ outcome) →
+    Agrees other call k (unless_reached stops target due outcome) → unless_reached stops target due outcome2 ≡ unless_reached stops target due outcome
+unless-same other call k true target due outcome outcome2 same h = refl
+unless-same other call k false target due outcome outcome2 same h = ap (then_reached target) (same (agrees-after other call k target outcome h))
+
 -- what comes of each diversion is the same where its targets stand the same
-after-same : (other : ℕ → Standing) (call : Call) (k : ℕ) (target : Target) (onward onward2 : DueDiversion → List Ended → Outcome) →
+after-same : (other : ℕ → Standing) (call : Call) (k : ℕ) (stops : DueDiversion → Bool) (target : Target) (onward onward2 : DueDiversion → List Ended → Outcome) →
     ((due : DueDiversion) (later : List Ended) → Agrees other call (k + 1) (onward due later) → onward2 due later ≡ onward due later) →
-    (next : Next) → Agrees other call k (from_next target (λ due later. then_reached target (onward due later)) next) →
-    from_next target (λ due later. then_reached target (onward2 due later)) next ≡ from_next target (λ due later. then_reached target (onward due later)) next
-after-same other call k target onward onward2 same (Rests result) h = refl
-after-same other call k target onward onward2 same (IsDue due later) h = ap (then_reached target) (same due later (agrees-after other call k target (onward due later) h))
+    (next : Next) → Agrees other call k (from_next target (λ due later. unless_reached (stops due) target due (onward due later)) next) →
+    from_next target (λ due later. unless_reached (stops due) target due (onward2 due later)) next ≡ from_next target (λ due later. unless_reached (stops due) target due (onward due later)) next
+after-same other call k stops target onward onward2 same (Rests result) h = refl
+after-same other call k stops target onward onward2 same (IsDue due later) h = unless-same other call k (stops due) target due (onward due later) (onward2 due later) (same due later) h
 
 outcome_from-same : (other : ℕ → Standing) (call : Call) (left k : ℕ) (uri : Uri) (by : Option DueDiversion) (endings : List Ended) → Agrees other call k (outcome_from call left k uri by endings) →
     outcome_from (where_later other call) left k uri by endings ≡ outcome_from call left k uri by endings
 unfolding outcome_from
 outcome_from-same other call zero k uri by endings h =
     let here = agrees-here other call 0 k uri by endings h in
-    ap (λ target. from_next target (λ due later. last_reached target (Final (causes.TooManyDiversions (due.cause == 486)))) (next_after (where_later other call) k uri by endings)) (target-same other call k uri by here)
-    ∙ ap (λ next. from_next (target_at call k uri by) (λ due later. last_reached (target_at call k uri by) (Final (causes.TooManyDiversions (due.cause == 486)))) next) (next-same other call k uri by endings here)
+    ap (λ target. from_next target (λ due later. refused_for target due) (next_after (where_later other call) k uri by endings)) (target-same other call k uri by here)
+    ∙ ap (λ next. from_next (target_at call k uri by) (λ due later. refused_for (target_at call k uri by) due) next) (next-same other call k uri by endings here)
 outcome_from-same other call (suc left) k uri by endings h =
     let here = agrees-here other call (suc left) k uri by endings h in
-    let onward2 : DueDiversion → List Ended → Outcome = λ due later. outcome_from (where_later other call) left (k + 1) (new_target call.home due.forward.target) (Some due) later in
-    ap (λ target. from_next target (λ due later. then_reached target (onward2 due later)) (next_after (where_later other call) k uri by endings)) (target-same other call k uri by here)
-    ∙ ap (λ next. from_next (target_at call k uri by) (λ due later. then_reached (target_at call k uri by) (onward2 due later)) next) (next-same other call k uri by endings here)
-    ∙ after-same other call k (target_at call k uri by) (λ due later. outcome_from call left (k + 1) (new_target call.home due.forward.target) (Some due) later) onward2
+    let stops : DueDiversion → Bool = λ due. is_reached due.bound (call.received + k) in
+    let onward2 : DueDiversion → List Ended → Outcome = λ due later. after_due (where_later other call) left k due later in
+    ap (λ target. from_next target (λ due later. unless_reached (stops due) target due (onward2 due later)) (next_after (where_later other call) k uri by endings)) (target-same other call k uri by here)
+    ∙ ap (λ next. from_next (target_at call k uri by) (λ due later. unless_reached (stops due) (target_at call k uri by) due (onward2 due later)) next) (next-same other call k uri by endings here)
+    ∙ after-same other call k stops (target_at call k uri by) (λ due later. after_due call left k due later) onward2
     (λ due later. outcome_from-same other call left (k + 1) (new_target call.home due.forward.target) (Some due) later) (next_after call k uri by endings) h
 
 -- by what the opening refuses

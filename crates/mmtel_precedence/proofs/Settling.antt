@@ -1,17 +1,20 @@
 -- Moves come to the outcome: by the diversions that are left below the bound.
-use Rattle.std.proofs.Common.{◌≡◌, ℕ, zero, suc, ◌+◌, ◌-◌, ◌*◌, ◌≤◌, ◌<◌, ◌==◌, Bool, true, false, List, [], ◌∷◌, ◌++◌, ap, sym, ◌∙◌, append_assoc, arith}
-use Rattle.std.specs.Prelude.{Option, Some, None, unwrap_or, nat_lt, if◌then◌else◌}
+use Rattle.std.proofs.Common.{◌≡◌, ℕ, zero, suc, ◌+◌, ◌-◌, ◌*◌, ◌≤◌, ◌<◌, ◌==◌, Bool, true, false, List, [], ◌∷◌, ◌++◌, refl, ap, sym, ◌∙◌, append_assoc, arith}
+use Rattle.std.specs.Prelude.{Option, Some, None, unwrap_or, min, not, nat_le, nat_lt, if◌then◌else◌}
+use Rattle.std.specs.List.{AllByRecursion}
 use Rattle.std.specs.Option.{option_map, option_map_or}
 use Rattle.std.proofs.lemmas.Bool.Decides.{nat_tests}
 use Rattle.mmtel_types.specs.declared.causes.Cause.{Cause}
 use Rattle.mmtel_types.specs.declared.causes.Cause.TheVariants as causes
 use Rattle.mmtel_lex.specs.declared.values.Uri.{Uri}
+use Rattle.mmtel_rules.specs.Circumstances.{Circumstances}
 use Rattle.mmtel_rules.specs.declared.values.When.TheVariants as event
 use Rattle.mmtel_diversion.specs.Bound.{is_within}
-use Rattle.mmtel_diversion.specs.Diversion.{deflection_of}
-use Rattle.mmtel_precedence.specs.Services.{AccountState, DueDiversion, Says, Nothing, Refuses, Diverts, refuses_if, first_said, due_on, bars_outgoing, services_on_arrival}
+use Rattle.mmtel_diversion.specs.Diversion.{Chosen, deflection_of, diversion_of}
+use Rattle.mmtel_waiting.specs.Waiting.{is_busy}
+use Rattle.mmtel_precedence.specs.Services.{AccountState, DueDiversion, Says, Nothing, Refuses, Diverts, refuses_if, diverts_by, first_said, bound_of, is_reached, own_bound, due_of, rejects_anonymous, bars_incoming, bars_outgoing, services_on_arrival}
 use Rattle.mmtel_precedence.specs.Verdicts.{decision_by, forwards_or, deflects_or}
-use Rattle.mmtel_precedence.specs.Calls.{refused_at_once, End, Answer, Cancel, UserBusy, NotReachable, NoReply, Deflection, Other, Ended, Reach, Call, NotOffered, Offered, Target, Result, Answered, Final, Outcome, last_reached, then_reached}
+use Rattle.mmtel_precedence.specs.Calls.{refused_at_once, End, Answer, Cancel, UserBusy, NotReachable, NoReply, Deflection, Other, Ended, Reach, Call, NotOffered, Offered, Target, Result, Answered, Final, Outcome, last_reached}
 use Rattle.mmtel_precedence.specs.Opening.{refusal_at_opening}
 use Rattle.mmtel_targets.specs.Targets.{new_target}
 use Rattle.mmtel_precedence.specs.Targets.{Rests, diverted, IsDue, reach_of, of_caller, of_target, offer_by, deflected_to, diverted_or, next_on, next_at, next_after, is_waiting, target_at}
@@ -19,7 +22,7 @@ use Rattle.mmtel_precedence.specs.Outcome.{outcome_from}
 use Rattle.mmtel_precedence.specs.Moves.{Kept, Phase, Reaching, Ringing, Over, moves, gone_on, divert, ended_by, on_end, offer_unless, reached, outcome_so_far, first_phase, moves_enough, MovesGiveTheOutcome}
 use Rattle.mmtel_precedence.proofs.Accounts.{nobody, then_said, first_said-account, is_waiting-account, due_at-account, deflection_at-account, is_refused-account}
 use Rattle.mmtel_precedence.proofs.Moving.{kept_at, moves-over, moves-ringing, moves-suc}
-use Rattle.mmtel_precedence.proofs.Nexts.{from_next}
+use Rattle.mmtel_precedence.proofs.Nexts.{from_next, refused_for, unless_reached, after_due, go_further}
 
 -- an outcome behind targets that were reached before
 abbrev pub behind : List Target → Outcome → Outcome
@@ -34,14 +37,14 @@ abbrev pub Onward : Type 0
 Onward = Target → DueDiversion → List Ended → Outcome
 
 -- the bound's answer
-abbrev pub by_bound : Call → ℕ → ℕ → Option Cause
-by_bound call k cause = if is_within call.received k call.bound then None else Some (causes.TooManyDiversions (cause == 486))
+abbrev pub by_bound : Call → ℕ → DueDiversion → Option Cause
+by_bound call k due = if is_within call.received k (bound_of call.bound due.bound) then None else Some (causes.TooManyDiversions (due.cause == 486))
 
 -- going on by the bound settles to it, after k diversions and with this many moves
 abbrev pub GoesOn : Call → ℕ → ℕ → Onward → Type 0
 GoesOn call k least onward =
     (n : ℕ) (target : Target) (due : DueDiversion) (targets : List Target) (phase : Phase) (later : List Ended) → least ≤ n →
-    Settles n call (gone_on (by_bound call k due.cause) (kept_at k (targets ++ target ∷ []) phase later) (new_target call.home due.forward.target) due) targets (onward target due later)
+    Settles n call (gone_on (by_bound call k due) (kept_at k (targets ++ target ∷ []) phase later) (new_target call.home due.forward.target) due) targets (onward target due later)
 
 -- an end is settled
 settles-over : (n : ℕ) (call : Call) (k : ℕ) (targets : List Target) (target : Target) (result : Result) (later : List Ended) →
@@ -51,7 +54,7 @@ settles-over n call k targets target result later = ap outcome_so_far (moves-ove
 -- a diversion that is due: outgoing barring, then the bound
 settles-diversion : (call : Call) (k least : ℕ) (onward : Onward) → GoesOn call k least onward →
     (n : ℕ) (bars : Bool) (target : Target) (due : DueDiversion) (targets : List Target) (phase : Phase) (later : List Ended) → least ≤ n →
-    Settles n call (gone_on (if bars then Some causes.OutgoingBarred else by_bound call k due.cause) (kept_at k (targets ++ target ∷ []) phase later) (new_target call.home due.forward.target) due) targets
+    Settles n call (gone_on (if bars then Some causes.OutgoingBarred else by_bound call k due) (kept_at k (targets ++ target ∷ []) phase later) (new_target call.home due.forward.target) due) targets
     (from_next target (onward target) (if bars then Rests (Final causes.OutgoingBarred) else IsDue due later))
 settles-diversion call k least onward goes n true target due targets phase later enough = settles-over n call k targets target (Final causes.OutgoingBarred) later
 settles-diversion call k least onward goes n false target due targets phase later enough = goes n target due targets phase later enough
@@ -65,38 +68,43 @@ settles-due call k least onward goes n served now target due targets phase later
     settles-diversion call k least onward goes n (bars_outgoing (of_target call now (new_target call.home due.forward.target)) (unwrap_or served nobody).sheet) target due targets phase later enough
     ∙ ap (λ b. behind targets (from_next target (onward target) (if b then Rests (Final causes.OutgoingBarred) else IsDue due later))) (sym (is_refused-account call served now due))
 
+-- the bound that the account sets which is served
+abbrev bound_at : Option AccountState → Option ℕ
+bound_at served = own_bound (unwrap_or served nobody).sheet
+
 -- an ending for which rules may ask a diversion
 settles-rules : (call : Call) (k least : ℕ) (onward : Onward) → GoesOn call k least onward →
-    (n : ℕ) (served : Option AccountState) (now : ℕ) (due : Option DueDiversion) (cause : Cause) (target : Target) (targets : List Target) (phase : Phase) (later : List Ended) → least ≤ n →
+    (n : ℕ) (served : Option AccountState) (now : ℕ) (chosen : Option Chosen) (cause : Cause) (target : Target) (targets : List Target) (phase : Phase) (later : List Ended) → least ≤ n →
+    (let due = option_map (due_of (bound_at served)) chosen in
     Settles n call (ended_by call (unwrap_or served nobody) now None (forwards_or due cause) (kept_at k (targets ++ target ∷ []) phase later)) targets
-    (from_next target (onward target) (diverted_or call served now due cause later))
+    (from_next target (onward target) (diverted_or call served now due cause later)))
 settles-rules call k least onward goes n served now None cause target targets phase later enough = settles-over n call k targets target (Final cause) later
-settles-rules call k least onward goes n served now (Some due) cause target targets phase later enough = settles-due call k least onward goes n served now target due targets phase later enough
+settles-rules call k least onward goes n served now (Some chosen) cause target targets phase later enough = settles-due call k least onward goes n served now target (due_of (bound_at served) chosen) targets phase later enough
 
 -- an ending by deflection
 settles-deflection : (call : Call) (k least : ℕ) (onward : Onward) → GoesOn call k least onward →
     (n : ℕ) (served : Option AccountState) (now : ℕ) (uri : Uri) (cause : Option ℕ) (target : Target) (targets : List Target) (phase : Phase) (later : List Ended) → least ≤ n →
     Settles n call (ended_by call (unwrap_or served nobody) now (Some uri) (deflects_or cause) (kept_at k (targets ++ target ∷ []) phase later)) targets
-    (from_next target (onward target) (diverted_or call served now (option_map (deflected_to uri) cause) (causes.Relayed 480) later))
+    (from_next target (onward target) (diverted_or call served now (option_map (deflected_to uri (bound_at served)) cause) (causes.Relayed 480) later))
 settles-deflection call k least onward goes n served now uri None target targets phase later enough = settles-over n call k targets target (Final (causes.Relayed 480)) later
-settles-deflection call k least onward goes n served now uri (Some cause) target targets phase later enough = settles-due call k least onward goes n served now target (deflected_to uri cause) targets phase later enough
+settles-deflection call k least onward goes n served now uri (Some cause) target targets phase later enough = settles-due call k least onward goes n served now target (deflected_to uri (bound_at served) cause) targets phase later enough
 
 -- the ending of an attempt
 settles-end : (call : Call) (k least : ℕ) (onward : Onward) → GoesOn call k least onward →
     (n : ℕ) (served : Option AccountState) (now : ℕ) (how : End) (target : Target) (targets : List Target) (phase : Phase) (later : List Ended) → least ≤ n →
     Settles n call (on_end call (unwrap_or served nobody) now how (kept_at k (targets ++ target ∷ []) phase later)) targets
-    (from_next target (onward target) (next_on call served now how later))
+    (from_next target (onward target) (next_on call k served now how later))
 settles-end call k least onward goes n served now Answer target targets phase later enough = settles-over n call k targets target Answered later
 settles-end call k least onward goes n served now Cancel target targets phase later enough = settles-over n call k targets target (Final causes.Cancelled) later
 settles-end call k least onward goes n served now (UserBusy code) target targets phase later enough =
-    settles-rules call k least onward goes n served now (due_on (of_caller call now) event.Busy (unwrap_or served nobody).sheet) (causes.Relayed code) target targets phase later enough
-    ∙ ap (λ due. behind targets (from_next target (onward target) (diverted_or call served now due (causes.Relayed code) later))) (sym (due_at-account (of_caller call now) event.Busy served))
+    settles-rules call k least onward goes n served now (diversion_of (of_caller call k now) event.Busy (unwrap_or served nobody).sheet) (causes.Relayed code) target targets phase later enough
+    ∙ ap (λ due. behind targets (from_next target (onward target) (diverted_or call served now due (causes.Relayed code) later))) (sym (due_at-account (of_caller call k now) event.Busy served))
 settles-end call k least onward goes n served now (NotReachable code) target targets phase later enough =
-    settles-rules call k least onward goes n served now (due_on (of_caller call now) event.NotReachable (unwrap_or served nobody).sheet) (causes.Unreachable code) target targets phase later enough
-    ∙ ap (λ due. behind targets (from_next target (onward target) (diverted_or call served now due (causes.Unreachable code) later))) (sym (due_at-account (of_caller call now) event.NotReachable served))
+    settles-rules call k least onward goes n served now (diversion_of (of_caller call k now) event.NotReachable (unwrap_or served nobody).sheet) (causes.Unreachable code) target targets phase later enough
+    ∙ ap (λ due. behind targets (from_next target (onward target) (diverted_or call served now due (causes.Unreachable code) later))) (sym (due_at-account (of_caller call k now) event.NotReachable served))
 settles-end call k least onward goes n served now NoReply target targets phase later enough =
-    settles-rules call k least onward goes n served now (due_on (of_caller call now) event.NoAnswer (unwrap_or served nobody).sheet) causes.NoReply target targets phase later enough
-    ∙ ap (λ due. behind targets (from_next target (onward target) (diverted_or call served now due causes.NoReply later))) (sym (due_at-account (of_caller call now) event.NoAnswer served))
+    settles-rules call k least onward goes n served now (diversion_of (of_caller call k now) event.NoAnswer (unwrap_or served nobody).sheet) causes.NoReply target targets phase later enough
+    ∙ ap (λ due. behind targets (from_next target (onward target) (diverted_or call served now due causes.NoReply later))) (sym (due_at-account (of_caller call k now) event.NoAnswer served))
 settles-end call k least onward goes n served now (Deflection uri rang) target targets phase later enough =
     settles-deflection call k least onward goes n served now uri (deflection_of (unwrap_or served nobody).sheet rang) target targets phase later enough
     ∙ ap (λ due. behind targets (from_next target (onward target) (diverted_or call served now due (causes.Relayed 480) later))) (sym (deflection_at-account served uri rang))
@@ -106,7 +114,7 @@ settles-end call k least onward goes n served now (Other code) target targets ph
 settles-offer : (call : Call) (k least : ℕ) (onward : Onward) → GoesOn call k least onward →
     (n : ℕ) (reach : Reach) (target : Target) (targets : List Target) (endings : List Ended) → least ≤ n →
     Settles (suc n) call (kept_at k (targets ++ target ∷ []) (Ringing (unwrap_or reach.served nobody)) endings) targets
-    (from_next target (onward target) (next_at Nothing call reach endings))
+    (from_next target (onward target) (next_at Nothing call k reach endings))
 settles-offer call k least onward goes n reach target targets [] enough = ap outcome_so_far (moves-ringing (suc n) call k (targets ++ target ∷ []) (unwrap_or reach.served nobody))
 settles-offer call k least onward goes n reach target targets (ended ∷ later) enough =
     ap outcome_so_far (moves-suc n call (kept_at k (targets ++ target ∷ []) (Ringing (unwrap_or reach.served nobody)) (ended ∷ later)))
@@ -124,7 +132,7 @@ said_of_any unknown no_peer = first_said (refuses_if unknown causes.NoAccount �
 settles-unrefused : (call : Call) (k least : ℕ) (onward : Onward) → GoesOn call k least onward →
     (n : ℕ) (unknown no_peer : Bool) (reach : Reach) (uri : Uri) (by : Option DueDiversion) (targets : List Target) (phase : Phase) (endings : List Ended) → least ≤ n →
     Settles (suc n) call (offer_unless unknown no_peer (unwrap_or reach.served nobody) (is_waiting reach.served) (kept_at k targets phase endings) uri by) targets
-    (from_next (target_by (said_of_any unknown no_peer) reach.served uri by) (onward (target_by (said_of_any unknown no_peer) reach.served uri by)) (next_at (said_of_any unknown no_peer) call reach endings))
+    (from_next (target_by (said_of_any unknown no_peer) reach.served uri by) (onward (target_by (said_of_any unknown no_peer) reach.served uri by)) (next_at (said_of_any unknown no_peer) call k reach endings))
 settles-unrefused call k least onward goes n true no_peer reach uri by targets phase endings enough =
     settles-over (suc n) call k targets (record { uri = uri; by = by; offer = NotOffered }) (Final causes.NoAccount) endings
 settles-unrefused call k least onward goes n false true reach uri by targets phase endings enough =
@@ -132,19 +140,66 @@ settles-unrefused call k least onward goes n false true reach uri by targets pha
 settles-unrefused call k least onward goes n false false reach uri by targets phase endings enough =
     settles-offer call k least onward goes n reach (record { uri = uri; by = by; offer = Offered (is_waiting reach.served) }) targets endings enough
 
+-- a diversion that services say is due has the bound of their account
+abbrev IsOwn : (bound : Option ℕ) → Says → Type 0
+IsOwn bound Nothing = Unit {0}
+IsOwn bound (Refuses cause) = Unit {0}
+IsOwn bound (Diverts due) = due.bound ≡ bound
+
+own-refuses_if : (bound : Option ℕ) (b : Bool) (cause : Cause) → IsOwn bound (refuses_if b cause)
+own-refuses_if bound true cause = tt
+own-refuses_if bound false cause = tt
+
+own-chosen : (bound : Option ℕ) (chosen : Option Chosen) → IsOwn bound (diverts_by (option_map (due_of bound) chosen))
+own-chosen bound None = tt
+own-chosen bound (Some chosen) = refl
+
+own-chosen_if : (bound : Option ℕ) (b : Bool) (chosen : Option Chosen) → IsOwn bound (diverts_by (if b then option_map (due_of bound) chosen else None))
+own-chosen_if bound true chosen = own-chosen bound chosen
+own-chosen_if bound false chosen = tt
+
+own-first_said : (bound : Option ℕ) (says : List Says) → AllByRecursion (IsOwn bound) says → IsOwn bound (first_said says)
+own-first_said bound [] h = tt
+own-first_said bound (Nothing ∷ says) h = own-first_said bound says h.1
+own-first_said bound (Refuses cause ∷ says) h = tt
+own-first_said bound (Diverts due ∷ says) h = h.0
+
+own-services : (c : Circumstances) (account : AccountState) → IsOwn (own_bound account.sheet) (first_said (services_on_arrival c account))
+own-services c account = own-first_said (own_bound account.sheet) (services_on_arrival c account) (
+  own-refuses_if (own_bound account.sheet) (rejects_anonymous c account.sheet) causes.AnonymousRejected,
+  (
+    own-refuses_if (own_bound account.sheet) (bars_incoming c account.sheet) causes.IncomingBarred,
+    (
+      own-chosen (own_bound account.sheet) (diversion_of c (event.Arrival account.registered) account.sheet),
+      (
+        own-refuses_if (own_bound account.sheet) (not account.registered) causes.NotRegistered,
+        (
+          own-chosen_if (own_bound account.sheet) (is_busy account.live account.sheet) (diversion_of c event.Busy account.sheet),
+          (own-refuses_if (own_bound account.sheet) (is_busy account.live account.sheet) causes.NetworkBusy, tt),
+        ),
+      ),
+    ),
+  ),
+)
+
+-- a diversion, with this bound
+abbrev bounded : DueDiversion → (bound : Option ℕ) → DueDiversion
+bounded due bound = record { forward = due.forward; cause = due.cause; bound = bound }
+
 -- a target, by what the services said
 settles-said : (call : Call) (k least : ℕ) (onward : Onward) → GoesOn call k least onward →
-    (n : ℕ) (says : Says) (reach : Reach) (uri : Uri) (by : Option DueDiversion) (targets : List Target) (phase : Phase) (endings : List Ended) → least ≤ n →
+    (n : ℕ) (says : Says) (reach : Reach) (uri : Uri) (by : Option DueDiversion) (targets : List Target) (phase : Phase) (endings : List Ended) → IsOwn (bound_at reach.served) says → least ≤ n →
     (let said = then_said says (said_of_any reach.is_unknown reach.has_no_peer) in
     Settles (suc n) call (reached call reach (unwrap_or reach.served nobody) (decision_by says (unwrap_or reach.served nobody).live) (kept_at k targets phase endings) uri by) targets
-    (from_next (target_by said reach.served uri by) (onward (target_by said reach.served uri by)) (next_at said call reach endings)))
-settles-said call k least onward goes n Nothing reach uri by targets phase endings enough =
+    (from_next (target_by said reach.served uri by) (onward (target_by said reach.served uri by)) (next_at said call k reach endings)))
+settles-said call k least onward goes n Nothing reach uri by targets phase endings own enough =
     ap (λ waiting. outcome_so_far (moves (suc n) call (offer_unless reach.is_unknown reach.has_no_peer (unwrap_or reach.served nobody) waiting (kept_at k targets phase endings) uri by))) (sym (is_waiting-account reach.served))
     ∙ settles-unrefused call k least onward goes n reach.is_unknown reach.has_no_peer reach uri by targets phase endings enough
-settles-said call k least onward goes n (Refuses why) reach uri by targets phase endings enough =
+settles-said call k least onward goes n (Refuses why) reach uri by targets phase endings own enough =
     settles-over (suc n) call k targets (record { uri = uri; by = by; offer = NotOffered }) (Final why) endings
-settles-said call k least onward goes n (Diverts due) reach uri by targets phase endings enough =
-    settles-due call k least onward goes (suc n) reach.served reach.at (record { uri = uri; by = by; offer = NotOffered }) due targets phase endings (omega arith)
+settles-said call k least onward goes n (Diverts due) reach uri by targets phase endings own enough =
+    ap (λ bound. outcome_so_far (moves (suc n) call (divert call (kept_at k (targets ++ record { uri = uri; by = by; offer = NotOffered } ∷ []) phase endings) (unwrap_or reach.served nobody) reach.at (bounded due bound)))) (sym own)
+    ∙ settles-due call k least onward goes (suc n) reach.served reach.at (record { uri = uri; by = by; offer = NotOffered }) due targets phase endings (omega arith)
 
 -- reaching the target after k diversions
 settles-reaching : (call : Call) (k least : ℕ) (onward : Onward) → GoesOn call k least onward →
@@ -153,9 +208,10 @@ settles-reaching : (call : Call) (k least : ℕ) (onward : Onward) → GoesOn ca
     (from_next (target_at call k uri by) (onward (target_at call k uri by)) (next_after call k uri by endings))
 settles-reaching call k least onward goes n uri by targets endings enough =
     ap outcome_so_far (moves-suc (suc n) call (kept_at k targets (Reaching uri by) endings))
-    ∙ settles-said call k least onward goes n (first_said (services_on_arrival (of_caller call (reach_of call k uri by).at) (unwrap_or (reach_of call k uri by).served nobody))) (reach_of call k uri by) uri by targets (Reaching uri by) endings enough
-    ∙ ap (λ said. behind targets (from_next (target_by said (reach_of call k uri by).served uri by) (onward (target_by said (reach_of call k uri by).served uri by)) (next_at said call (reach_of call k uri by) endings)))
-    (sym (first_said-account (of_caller call (reach_of call k uri by).at) (reach_of call k uri by).served (refuses_if (reach_of call k uri by).is_unknown causes.NoAccount ∷ refuses_if (reach_of call k uri by).has_no_peer causes.NoRoute ∷ [])))
+    ∙ settles-said call k least onward goes n (first_said (services_on_arrival (of_caller call k (reach_of call k uri by).at) (unwrap_or (reach_of call k uri by).served nobody))) (reach_of call k uri by) uri by targets (Reaching uri by) endings
+    (own-services (of_caller call k (reach_of call k uri by).at) (unwrap_or (reach_of call k uri by).served nobody)) enough
+    ∙ ap (λ said. behind targets (from_next (target_by said (reach_of call k uri by).served uri by) (onward (target_by said (reach_of call k uri by).served uri by)) (next_at said call k (reach_of call k uri by) endings)))
+    (sym (first_said-account (of_caller call k (reach_of call k uri by).at) (reach_of call k uri by).served (refuses_if (reach_of call k uri by).is_unknown causes.NoAccount ∷ refuses_if (reach_of call k uri by).has_no_peer causes.NoRoute ∷ [])))
 
 -- the moves from the target after k diversions come to the outcome from there
 abbrev pub SettlesFrom : Call → ℕ → Type 0
@@ -163,25 +219,39 @@ SettlesFrom call left =
     (k n : ℕ) (uri : Uri) (by : Option DueDiversion) (targets : List Target) (endings : List Ended) → left ≡ call.bound - (call.received + k) → 2 * (left + 1) ≤ n →
     Settles n call (kept_at k targets (Reaching uri by) endings) targets (outcome_from call left k uri by endings)
 
-is_within-at : (a b : ℕ) → b ≤ a → nat_lt a b ≡ false
-is_within-at a b h = grind (arith, nat_tests)
+-- the bound of a diversion is at most the configured one
+is_within-at : (own : Option ℕ) (configured count : ℕ) → configured ≤ count → nat_lt count (bound_of configured own) ≡ false
+is_within-at None configured count h = grind (arith, nat_tests)
+is_within-at (Some own) configured count h = let least : min configured own ≤ count = omega arith in grind (arith, nat_tests)
 
-is_within-below : (a b : ℕ) → a < b → nat_lt a b ≡ true
-is_within-below a b h = grind (arith, nat_tests)
+within-min : (own configured count : ℕ) → count < configured → nat_lt count (min configured own) ≡ not (nat_le own count)
+within-min own configured count h = grind (arith, nat_tests)
+
+-- below that one, it is for the account's own bound to say
+is_within-below : (own : Option ℕ) (configured count : ℕ) → count < configured → nat_lt count (bound_of configured own) ≡ not (is_reached own count)
+is_within-below None configured count h = grind (arith, nat_tests)
+is_within-below (Some own) configured count h = within-min own configured count h
 
 -- at the bound
-goes_on-at : (call : Call) (k : ℕ) → 0 ≡ call.bound - (call.received + k) → GoesOn call k 0 (λ target due later. last_reached target (Final (causes.TooManyDiversions (due.cause == 486))))
+goes_on-at : (call : Call) (k : ℕ) → 0 ≡ call.bound - (call.received + k) → GoesOn call k 0 (λ target due later. refused_for target due)
 goes_on-at call k left n target due targets phase later enough =
-    ap (λ b. outcome_so_far (moves n call (gone_on (if b then None else Some (causes.TooManyDiversions (due.cause == 486))) (kept_at k (targets ++ target ∷ []) phase later) (new_target call.home due.forward.target) due))) (is_within-at (call.received + k) call.bound (omega arith))
+    ap (λ b. outcome_so_far (moves n call (gone_on (if b then None else Some (causes.TooManyDiversions (due.cause == 486))) (kept_at k (targets ++ target ∷ []) phase later) (new_target call.home due.forward.target) due))) (is_within-at due.bound call.bound (call.received + k) (omega arith))
     ∙ settles-over n call k targets target (Final (causes.TooManyDiversions (due.cause == 486))) later
 
--- below it
-goes_on-below : (call : Call) (left k : ℕ) → SettlesFrom call left → suc left ≡ call.bound - (call.received + k) →
-    GoesOn call k (2 * (left + 1)) (λ target due later. then_reached target (outcome_from call left (k + 1) (new_target call.home due.forward.target) (Some due) later))
+-- below it: by whether the account's own bound is reached
+goes_on-by : (call : Call) (left k : ℕ) → SettlesFrom call left → suc left ≡ call.bound - (call.received + k) →
+    (reached : Bool) (n : ℕ) (target : Target) (due : DueDiversion) (targets : List Target) (phase : Phase) (later : List Ended) → 2 * (left + 1) ≤ n →
+    Settles n call (gone_on (if not reached then None else Some (causes.TooManyDiversions (due.cause == 486))) (kept_at k (targets ++ target ∷ []) phase later) (new_target call.home due.forward.target) due) targets
+    (unless_reached reached target due (after_due call left k due later))
+goes_on-by call left k settles more true n target due targets phase later enough = settles-over n call k targets target (Final (causes.TooManyDiversions (due.cause == 486))) later
+goes_on-by call left k settles more false n target due targets phase later enough =
+    settles (k + 1) n (new_target call.home due.forward.target) (Some due) (targets ++ target ∷ []) later (omega arith) enough
+    ∙ ap (λ reached. record { targets = reached; result = (after_due call left k due later).result }) (append_assoc targets (target ∷ []) (after_due call left k due later).targets)
+
+goes_on-below : (call : Call) (left k : ℕ) → SettlesFrom call left → suc left ≡ call.bound - (call.received + k) → GoesOn call k (2 * (left + 1)) (go_further call left k)
 goes_on-below call left k settles more n target due targets phase later enough =
-    ap (λ b. outcome_so_far (moves n call (gone_on (if b then None else Some (causes.TooManyDiversions (due.cause == 486))) (kept_at k (targets ++ target ∷ []) phase later) (new_target call.home due.forward.target) due))) (is_within-below (call.received + k) call.bound (omega arith))
-    ∙ settles (k + 1) n (new_target call.home due.forward.target) (Some due) (targets ++ target ∷ []) later (omega arith) enough
-    ∙ ap (λ reached. record { targets = reached; result = (outcome_from call left (k + 1) (new_target call.home due.forward.target) (Some due) later).result }) (append_assoc targets (target ∷ []) (outcome_from call left (k + 1) (new_target call.home due.forward.target) (Some due) later).targets)
+    ap (λ b. outcome_so_far (moves n call (gone_on (if b then None else Some (causes.TooManyDiversions (due.cause == 486))) (kept_at k (targets ++ target ∷ []) phase later) (new_target call.home due.forward.target) due))) (is_within-below due.bound call.bound (call.received + k) (omega arith))
+    ∙ goes_on-by call left k settles more (is_reached due.bound (call.received + k)) n target due targets phase later enough
 
 pub settles-from : (call : Call) (left : ℕ) → SettlesFrom call left
 unfolding outcome_from

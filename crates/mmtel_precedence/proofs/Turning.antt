@@ -5,15 +5,16 @@ use Rattle.std.specs.Option.{option_map}
 use Rattle.mmtel_types.specs.declared.causes.Cause.{Cause}
 use Rattle.mmtel_types.specs.declared.causes.Cause.TheVariants as causes
 use Rattle.mmtel_lex.specs.declared.values.Uri.{Uri}
+use Rattle.mmtel_rules.specs.Circumstances.{Circumstances}
 use Rattle.mmtel_rules.specs.declared.values.When.{When}
 use Rattle.mmtel_rules.specs.declared.values.When.TheVariants as event
-use Rattle.mmtel_diversion.specs.Diversion.{deflection_of}
-use Rattle.mmtel_precedence.specs.Services.{AccountState, DueDiversion, Says, Nothing, Refuses, Diverts, due_on, first_said, services_on_arrival}
+use Rattle.mmtel_diversion.specs.Diversion.{Chosen, deflection_of, diversion_of}
+use Rattle.mmtel_precedence.specs.Services.{AccountState, DueDiversion, Says, Nothing, Refuses, Diverts, own_bound, due_of, due_on, first_said, services_on_arrival}
 use Rattle.mmtel_precedence.specs.Verdicts.{decision_by, deflects_or, forwards_or}
 use Rattle.mmtel_precedence.specs.Calls.{Answer, Cancel, UserBusy, NotReachable, NoReply, Deflection, Other, Ended, Reach, Call}
 use Rattle.mmtel_precedence.specs.Targets.{of_caller, deflected_to, reach_of}
 use Rattle.mmtel_precedence.specs.Moves.{Kept, Phase, Reaching, Ringing, Over, account_at, ended_by, offer_unless, reached, on_endings, move_in, moves, at_first, outcome_so_far}
-use Rattle.mmtel_precedence.specs.Turns.{TurnsAreMoves, EndingsAreMoves, TurnsGiveTheOutcome, turn_on_endings, turn_in, turns, offer_turn, turn_by, kept_at_turn, divert_or_refuse, deflection_by, kept_after_turn}
+use Rattle.mmtel_precedence.specs.Turns.{turn_at, TurnsAreMoves, EndingsAreMoves, TurnsGiveTheOutcome, turn_on_endings, turn_in, turns, offer_turn, turn_by, kept_at_turn, divert_or_refuse, deflection_by, kept_after_turn}
 use Rattle.mmtel_precedence.proofs.Accounts.{nobody}
 use Rattle.mmtel_precedence.proofs.Settling.{moves_give_outcome}
 
@@ -26,32 +27,38 @@ offered call account now kept uri by false true waiting = refl
 offered call account now kept uri by false false waiting = refl
 
 said : (call : Call) (reach : Reach) (account : AccountState) (kept : Kept) (uri : Uri) (by : Option DueDiversion) (says : Says) (live : ℕ) →
-    reached call reach account (decision_by says live) kept uri by ≡ kept_at_turn call account reach.at kept uri by (turn_by (decision_by says live) reach.is_unknown reach.has_no_peer)
+    reached call reach account (decision_by says live) kept uri by ≡ kept_at_turn call account reach.at kept uri by (turn_by (decision_by says live) (own_bound account.sheet) reach.is_unknown reach.has_no_peer)
 said call reach account kept uri by Nothing live = offered call account reach.at kept uri by reach.is_unknown reach.has_no_peer _
 said call reach account kept uri by (Refuses cause) live = refl
 said call reach account kept uri by (Diverts due) live = refl
 
 pub turns_are_moves : TurnsAreMoves
-turns_are_moves call reach kept uri by = said call reach (account_at reach) kept uri by (first_said (services_on_arrival (of_caller call reach.at) (account_at reach))) (account_at reach).live
+turns_are_moves call reach kept uri by = said call reach (account_at reach) kept uri by (first_said (services_on_arrival (of_caller call kept.done reach.at) (account_at reach))) (account_at reach).live
+
+-- of an account that is served
+pub turn_of_account : (c : Circumstances) (reach : Reach) (account : AccountState) → reach.served ≡ Some account →
+    turn_by (decision_by (first_said (services_on_arrival c account)) account.live) (own_bound account.sheet) reach.is_unknown reach.has_no_peer ≡ turn_at c reach
+turn_of_account c reach account served =
+    ap (λ (one : Option AccountState). let of = unwrap_or one nobody in turn_by (decision_by (first_said (services_on_arrival c of)) of.live) (own_bound of.sheet) reach.is_unknown reach.has_no_peer) (sym served)
 
 -- ---- after an attempt
 
-ruled : (call : Call) (account : AccountState) (now : ℕ) (kept : Kept) (due : Option DueDiversion) (cause : Cause) →
-    ended_by call account now None (forwards_or due cause) kept ≡ kept_after_turn call account now kept (divert_or_refuse due cause)
+ruled : (call : Call) (account : AccountState) (now : ℕ) (kept : Kept) (chosen : Option Chosen) (cause : Cause) →
+    (let due = option_map (due_of (own_bound account.sheet)) chosen in ended_by call account now None (forwards_or due cause) kept ≡ kept_after_turn call account now kept (divert_or_refuse due cause))
 ruled call account now kept None cause = refl
-ruled call account now kept (Some due) cause = refl
+ruled call account now kept (Some chosen) cause = refl
 
 deflected : (call : Call) (account : AccountState) (now : ℕ) (kept : Kept) (target : Uri) (cause : Option ℕ) →
-    ended_by call account now (Some target) (deflects_or cause) kept ≡ kept_after_turn call account now kept (divert_or_refuse (option_map (deflected_to target) cause) (causes.Relayed 480))
+    ended_by call account now (Some target) (deflects_or cause) kept ≡ kept_after_turn call account now kept (divert_or_refuse (option_map (deflected_to target (own_bound account.sheet)) cause) (causes.Relayed 480))
 deflected call account now kept target None = refl
 deflected call account now kept target (Some cause) = refl
 
 -- the rules of the account that is served, if one is
 by_rules : (call : Call) (served : Option AccountState) (now : ℕ) (kept : Kept) (when : When) (cause : Cause) →
-    ended_by call (unwrap_or served nobody) now None (forwards_or (due_on (of_caller call now) when (unwrap_or served nobody).sheet) cause) kept
-    ≡ kept_after_turn call (unwrap_or served nobody) now kept (divert_or_refuse (option_and_then (due_on (of_caller call now) when) (option_map (λ (account : AccountState). account.sheet) served)) cause)
+    ended_by call (unwrap_or served nobody) now None (forwards_or (due_on (of_caller call kept.done now) when (unwrap_or served nobody).sheet) cause) kept
+    ≡ kept_after_turn call (unwrap_or served nobody) now kept (divert_or_refuse (option_and_then (due_on (of_caller call kept.done now) when) (option_map (λ (account : AccountState). account.sheet) served)) cause)
 by_rules call None now kept when cause = refl
-by_rules call (Some account) now kept when cause = ruled call account now kept (due_on (of_caller call now) when account.sheet) cause
+by_rules call (Some account) now kept when cause = ruled call account now kept (diversion_of (of_caller call kept.done now) when account.sheet) cause
 
 by_device : (call : Call) (served : Option AccountState) (now : ℕ) (kept : Kept) (target : Uri) (rang : Bool) →
     ended_by call (unwrap_or served nobody) now (Some target) (deflects_or (deflection_of (unwrap_or served nobody).sheet rang)) kept

@@ -61,8 +61,9 @@ pub record Call : Type 0 where
   -- the diversions that its History-Info told when it came in, and the bound
   pub received : ℕ
   pub bound : ℕ
-  -- the home domain, the accounts by their identities, and whether a peer leads to a target
+  -- the home domain, the digits of the home country where they are known, the accounts by their identities, and whether a peer leads to a target
   pub home : List ℕ
+  pub country : Option (List ℕ)
   pub account_of : Uri → Option Account
   pub leads : Uri → Bool
   -- its first target

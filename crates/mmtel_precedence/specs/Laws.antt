@@ -1,5 +1,5 @@
 -- What the definitions of precedence come to, in the subject's words.
-use Rattle.std.specs.Prelude.{◌≡◌, ◌↔◌, ◌≤◌, ◌<◌, ℕ, zero, suc, ◌+◌, ◌-◌, ◌==◌, max, Bool, true, false, List, [], ◌∷◌, length, Option, Some, None, is_some, IsSome}
+use Rattle.std.specs.Prelude.{◌≡◌, ◌↔◌, ◌≤◌, ◌<◌, ℕ, zero, suc, ◌+◌, ◌==◌, max, Bool, true, false, List, [], ◌∷◌, length, Option, Some, None, is_some, IsSome}
 use Rattle.std.specs.Prelude.{count_by, option_and_then}
 use Rattle.std.specs.List.{AllByRecursion}
 use Rattle.mmtel_types.specs.declared.causes.Cause.TheVariants as causes
@@ -16,7 +16,7 @@ use Rattle.mmtel_rules.specs.declared.values.Identities2.{Identities2}
 use Rattle.mmtel_barring.specs.Barring.{rules_of}
 use Rattle.mmtel_precedence.specs.declared.endings.Ending.{Ending}
 use Rattle.mmtel_precedence.specs.declared.endings.Ending.TheVariants as ending
-use Rattle.mmtel_precedence.specs.Services.{AccountState, DueDiversion, rejects_anonymous, bars_incoming}
+use Rattle.mmtel_precedence.specs.Services.{AccountState, DueDiversion, bound_of, rejects_anonymous, bars_incoming}
 use Rattle.mmtel_precedence.specs.Verdicts.{Ends, Forwards, verdict_of}
 use Rattle.mmtel_precedence.specs.Calls.{Standing, Call, Ended, Target, NotOffered, Final, Outcome, last_reached}
 use Rattle.mmtel_precedence.specs.Opening.{refusal_at_opening}
@@ -33,11 +33,11 @@ pub record BarringComesFirst : Type 0 where
       verdict_of c account ending.Arrived ≡ Ends causes.IncomingBarred
   -- and of the outcome at each target: it is the last one, and the call is not offered to it
   pub anonymous_at : (call : Call) (left k : ℕ) (uri : Uri) (by : Option DueDiversion) (endings : List Ended) (account : AccountState) →
-      (reach_of call k uri by).served ≡ Some account → rejects_anonymous (of_caller call (reach_of call k uri by).at) account.sheet ≡ true →
+      (reach_of call k uri by).served ≡ Some account → rejects_anonymous (of_caller call k (reach_of call k uri by).at) account.sheet ≡ true →
       outcome_from call left k uri by endings ≡ last_reached (record { uri = uri; by = by; offer = NotOffered }) (Final causes.AnonymousRejected)
   pub barred_at : (call : Call) (left k : ℕ) (uri : Uri) (by : Option DueDiversion) (endings : List Ended) (account : AccountState) →
-      (reach_of call k uri by).served ≡ Some account → rejects_anonymous (of_caller call (reach_of call k uri by).at) account.sheet ≡ false →
-      bars_incoming (of_caller call (reach_of call k uri by).at) account.sheet ≡ true →
+      (reach_of call k uri by).served ≡ Some account → rejects_anonymous (of_caller call k (reach_of call k uri by).at) account.sheet ≡ false →
+      bars_incoming (of_caller call k (reach_of call k uri by).at) account.sheet ≡ true →
       outcome_from call left k uri by endings ≡ last_reached (record { uri = uri; by = by; offer = NotOffered }) (Final causes.IncomingBarred)
 
 -- ---- the bound
@@ -78,14 +78,19 @@ passed_after call j endings = passed_from call j 0 call.first None endings
 abbrev pub IsOpened : Call → Type 0
 IsOpened call = refusal_at_opening call ≡ None
 
--- a diversion that is due, and that outgoing barring lets pass, is made exactly below the bound; at the bound, and nowhere else, the call is refused for too many, as busy
--- exactly where that diversion is for a busy user
+-- the call came with so many, and so many were made, and this diversion's bound lets one more pass
+abbrev pub IsBelow : Call → (k : ℕ) → Passed → Type 0
+IsBelow call k passed = call.received + k < bound_of call.bound passed.due.bound
+
+-- a diversion that is due, and that outgoing barring lets pass, is made exactly below its bound; at its bound, and nowhere else, the call is refused for too many, as busy
+-- exactly where that diversion is for a busy user. What is due after so many diversions is said of as many as were made
 pub record IsBoundExact : Type 0 where
-  pub made : (call : Call) (endings : List Ended) (k : ℕ) → IsOpened call →
-      (k < diversions_made (outcome call endings)) ↔ (IsSome (passed_after call k endings) × (call.received + k < call.bound))
+  pub made : (call : Call) (endings : List Ended) (k : ℕ) → IsOpened call → k ≤ diversions_made (outcome call endings) →
+      (k < diversions_made (outcome call endings)) ↔ ((passed : Passed) × (passed_after call k endings ≡ Some passed) × IsBelow call k passed)
   pub refused : (call : Call) (endings : List Ended) (busy : Bool) → IsOpened call →
       ((outcome call endings).result ≡ Final (causes.TooManyDiversions busy))
-      ↔ ((passed : Passed) × (passed_after call (call.bound - call.received) endings ≡ Some passed) × (busy ≡ (passed.due.cause == 486)))
+      ↔ ((passed : Passed) × (passed_after call (diversions_made (outcome call endings)) endings ≡ Some passed)
+      × (IsBelow call (diversions_made (outcome call endings)) passed → ⊥) × (busy ≡ (passed.due.cause == 486)))
 
 -- ---- callers that answer alike
 

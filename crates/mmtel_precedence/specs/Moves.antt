@@ -7,7 +7,7 @@ use Rattle.mmtel_lex.specs.declared.values.Uri.{Uri}
 use Rattle.mmtel_sheet_values.specs.declared.values.Forward.{Forward}
 use Rattle.mmtel_sheet_values.specs.Sheets.{empty_sheet}
 use Rattle.mmtel_precedence.specs.declared.endings.Ending.TheVariants as ending
-use Rattle.mmtel_precedence.specs.Services.{AccountState, DueDiversion}
+use Rattle.mmtel_precedence.specs.Services.{AccountState, DueDiversion, bound_of, own_bound}
 use Rattle.mmtel_precedence.specs.Verdicts.{Decision, Offers, Forwards, Ends, verdict_of, go_on_of}
 use Rattle.mmtel_precedence.specs.Calls.{End, Answer, Cancel, UserBusy, NotReachable, NoReply, Deflection, Other, Ended, Reach, Call, Offer, NotOffered, Offered, Target}
 use Rattle.mmtel_precedence.specs.Calls.{Result, Pending, Answered, Final, Outcome}
@@ -53,13 +53,13 @@ gone_on (Some refusal) kept target due = at_phase kept (Over (Final refusal))
 -- a diversion that is due, by this account, at this moment
 abbrev pub divert : Call → Kept → AccountState → (now : ℕ) → DueDiversion → Kept
 divert call kept account now due =
-    gone_on (go_on_of (of_target call now (new_target call.home due.forward.target)) account.sheet call.received kept.done call.bound due.cause) kept
+    gone_on (go_on_of (of_target call now (new_target call.home due.forward.target)) account.sheet call.received kept.done (bound_of call.bound due.bound) due.cause) kept
     (new_target call.home due.forward.target) due
 
 -- the diversion of a decision: by the rule's forward, or else to where the device deflects
-abbrev pub due_by : Option Forward → Option Uri → (cause : ℕ) → Option DueDiversion
-due_by None deflected cause = option_map (λ target. deflected_to target cause) deflected
-due_by (Some forward) deflected cause = Some (record { forward = forward; cause = cause })
+abbrev pub due_by : (bound : Option ℕ) → Option Forward → Option Uri → (cause : ℕ) → Option DueDiversion
+due_by bound None deflected cause = option_map (λ target. deflected_to target bound cause) deflected
+due_by bound (Some forward) deflected cause = Some (record { forward = forward; cause = cause; bound = bound })
 
 abbrev pub divert_where : Call → Kept → AccountState → (now : ℕ) → Option DueDiversion → Kept
 divert_where call kept account now None = kept
@@ -75,24 +75,24 @@ offer_unless unknown no_peer account waiting kept uri by =
 -- the verdict at a target that the call reached
 abbrev pub reached : Call → Reach → AccountState → Decision → Kept → Uri → Option DueDiversion → Kept
 reached call reach account (Offers waiting) kept uri by = offer_unless reach.is_unknown reach.has_no_peer account waiting kept uri by
-reached call reach account (Forwards forward why) kept uri by = divert_where call (with_target kept uri by NotOffered) account reach.at (due_by forward None why)
+reached call reach account (Forwards forward why) kept uri by = divert_where call (with_target kept uri by NotOffered) account reach.at (due_by (own_bound account.sheet) forward None why)
 reached call reach account (Ends why) kept uri by = at_phase (with_target kept uri by NotOffered) (Over (Final why))
 
 -- the verdict on an attempt that ended
 abbrev pub ended_by : Call → AccountState → (now : ℕ) → Option Uri → Decision → Kept → Kept
 ended_by call account now deflected (Offers waiting) kept = kept
-ended_by call account now deflected (Forwards forward why) kept = divert_where call kept account now (due_by forward deflected why)
+ended_by call account now deflected (Forwards forward why) kept = divert_where call kept account now (due_by (own_bound account.sheet) forward deflected why)
 ended_by call account now deflected (Ends why) kept = at_phase kept (Over (Final why))
 
 -- an attempt ended: an answer and a caller that gives up end the call, and of all else a verdict is asked
 abbrev pub on_end : Call → AccountState → (now : ℕ) → End → Kept → Kept
 on_end call account now Answer kept = at_phase kept (Over Answered)
 on_end call account now Cancel kept = at_phase kept (Over (Final causes.Cancelled))
-on_end call account now (UserBusy code) kept = ended_by call account now None (verdict_of (of_caller call now) account (ending.UserBusy code)) kept
-on_end call account now (NotReachable code) kept = ended_by call account now None (verdict_of (of_caller call now) account (ending.NotReachable code)) kept
-on_end call account now NoReply kept = ended_by call account now None (verdict_of (of_caller call now) account ending.NoReply) kept
-on_end call account now (Deflection target rang) kept = ended_by call account now (Some target) (verdict_of (of_caller call now) account (ending.Deflected rang)) kept
-on_end call account now (Other code) kept = ended_by call account now None (verdict_of (of_caller call now) account (ending.Other code)) kept
+on_end call account now (UserBusy code) kept = ended_by call account now None (verdict_of (of_caller call kept.done now) account (ending.UserBusy code)) kept
+on_end call account now (NotReachable code) kept = ended_by call account now None (verdict_of (of_caller call kept.done now) account (ending.NotReachable code)) kept
+on_end call account now NoReply kept = ended_by call account now None (verdict_of (of_caller call kept.done now) account ending.NoReply) kept
+on_end call account now (Deflection target rang) kept = ended_by call account now (Some target) (verdict_of (of_caller call kept.done now) account (ending.Deflected rang)) kept
+on_end call account now (Other code) kept = ended_by call account now None (verdict_of (of_caller call kept.done now) account (ending.Other code)) kept
 
 -- while it rings the call waits for the next ending
 abbrev pub on_endings : Call → AccountState → List Ended → Kept → Kept
@@ -102,7 +102,7 @@ on_endings call account (ended ∷ later) kept = on_end call account ended.at en
 -- a target is reached: a verdict is asked
 abbrev pub on_reaching : Call → Reach → Uri → Option DueDiversion → Kept → Kept
 on_reaching call reach uri by kept =
-    reached call reach (account_at reach) (verdict_of (of_caller call reach.at) (account_at reach) ending.Arrived) kept uri by
+    reached call reach (account_at reach) (verdict_of (of_caller call kept.done reach.at) (account_at reach) ending.Arrived) kept uri by
 
 -- one move: by what is kept
 abbrev pub move_in : Phase → Call → Kept → Kept

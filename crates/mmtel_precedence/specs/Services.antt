@@ -1,8 +1,9 @@
 -- What the services of one account say of a call, in their precedence: barring before diversion, diversion before waiting (TS 24.604 §4.6, TS 24.611 §4.6, TS 24.615 §4.6).
-use Rattle.std.specs.Prelude.{ℕ, Bool, false, not, if◌then◌else◌, List, [], ◌∷◌, Option, Some, None}
+use Rattle.std.specs.Prelude.{ℕ, Bool, false, not, min, nat_le, if◌then◌else◌, List, [], ◌∷◌, Option, Some, None, option_and_then}
 use Rattle.std.specs.Option.{option_map, option_map_or}
 use Rattle.mmtel_types.specs.declared.causes.Cause.{Cause}
 use Rattle.mmtel_types.specs.declared.causes.Cause.TheVariants.{IncomingBarred, AnonymousRejected, NotRegistered, NetworkBusy}
+use Rattle.mmtel_sheet_values.specs.declared.values.DiversionPart.{DiversionPart}
 use Rattle.mmtel_sheet_values.specs.declared.values.Forward.{Forward}
 use Rattle.mmtel_sheet_values.specs.declared.values.Sheet.{Sheet}
 use Rattle.mmtel_rules.specs.Circumstances.{Circumstances}
@@ -21,10 +22,25 @@ pub record AccountState : Type 0 where
   pub registered : Bool
   pub live : ℕ
 
--- a diversion that is due: where to, who is told what, and why
+-- a diversion that is due: where to, who is told what, and why; and the bound that the account which diverts sets, where it sets one
 pub record DueDiversion : Type 0 where
   pub forward : Forward
   pub cause : ℕ
+  pub bound : Option ℕ
+
+-- the bound of a diversion: the lesser of the configured one and that of the account
+abbrev pub bound_of : (configured : ℕ) → (own : Option ℕ) → ℕ
+bound_of configured None = configured
+bound_of configured (Some own) = min configured own
+
+-- the account's own bound lets no diversion pass where there are so many
+abbrev pub is_reached : (own : Option ℕ) → (count : ℕ) → Bool
+is_reached None count = false
+is_reached (Some own) count = nat_le own count
+
+-- the bound that the account's record sets
+abbrev pub own_bound : Sheet → Option ℕ
+own_bound sheet = option_and_then (λ (part : DiversionPart). part.bound) sheet.diversion
 
 -- what a service says of a call
 pub data Says : Type 0 where
@@ -47,11 +63,11 @@ first_said (Refuses cause ∷ later) = Refuses cause
 first_said (Diverts due ∷ later) = Diverts due
 
 -- the diversion that the account's record asks for
-abbrev pub due_of : Chosen → DueDiversion
-due_of chosen = record { forward = chosen.forward; cause = chosen.cause }
+abbrev pub due_of : (bound : Option ℕ) → Chosen → DueDiversion
+due_of bound chosen = record { forward = chosen.forward; cause = chosen.cause; bound = bound }
 
 abbrev pub due_on : Circumstances → When → Sheet → Option DueDiversion
-due_on c when sheet = option_map due_of (diversion_of c when sheet)
+due_on c when sheet = option_map (due_of (own_bound sheet)) (diversion_of c when sheet)
 
 -- callers that hide who they are are refused (anonymous communication rejection, TS 24.611 §4.5.2)
 abbrev pub rejects_anonymous : Circumstances → Sheet → Bool

@@ -1,6 +1,6 @@
 -- What comes of a call at one target: what the services of the account that is served there say when it is reached, and of the ending of its attempt (TS 24.604 §4.5.2.6,
 -- TS 24.611 §4.5.2, TS 24.615 §4.5.5).
-use Rattle.std.specs.Prelude.{ℕ, Bool, true, false, not, nat_lt, if◌then◌else◌, List, [], ◌∷◌, ◌++◌, Option, Some, None, option_and_then}
+use Rattle.std.specs.Prelude.{ℕ, ◌+◌, Bool, true, false, not, nat_lt, if◌then◌else◌, List, [], ◌∷◌, ◌++◌, Option, Some, None, option_and_then}
 use Rattle.std.specs.Option.{option_map, option_map_or, option_or}
 use Rattle.mmtel_types.specs.declared.causes.Cause.{Cause}
 use Rattle.mmtel_types.specs.declared.causes.Cause.TheVariants as causes
@@ -10,13 +10,14 @@ use Rattle.mmtel_lex.specs.declared.values.Uri.TheVariants.{Sip, Tel}
 use Rattle.mmtel_targets.specs.Served.{diverted_served}
 use Rattle.mmtel_targets.specs.Targets.{is_global_number, is_unknown, new_target}
 use Rattle.mmtel_targets.specs.declared.served.RegistrationState.{RegistrationState}
+use Rattle.mmtel_rules.specs.Abroad.{is_abroad}
 use Rattle.mmtel_rules.specs.Circumstances.{Circumstances}
 use Rattle.mmtel_rules.specs.Identities.{identity_holds}
 use Rattle.mmtel_rules.specs.declared.values.When.{When}
 use Rattle.mmtel_rules.specs.declared.values.When.TheVariants as event
 use Rattle.mmtel_rules.specs.declared.values.Identities2.{Identities2}
 use Rattle.mmtel_diversion.specs.Diversion.{deflection_of}
-use Rattle.mmtel_precedence.specs.Services.{AccountState, DueDiversion, Says, Nothing, Refuses, Diverts, refuses_if, first_said, due_on, bars_outgoing, services_on_arrival}
+use Rattle.mmtel_precedence.specs.Services.{AccountState, DueDiversion, Says, Nothing, Refuses, Diverts, refuses_if, first_said, due_on, own_bound, bars_outgoing, services_on_arrival}
 use Rattle.mmtel_precedence.specs.Calls.{End, Answer, Cancel, UserBusy, NotReachable, NoReply, Deflection, Other, Ended, Standing, Reach, Call}
 use Rattle.mmtel_precedence.specs.Calls.{standing_after, caller_hides, account_in, Offer, NotOffered, Offered, Target, Result, Pending, Answered, Final}
 
@@ -59,15 +60,27 @@ reach_in standing call uri by = record {
 abbrev pub reach_of : Call → (k : ℕ) → Uri → Option DueDiversion → Reach
 reach_of call k uri by = reach_in (standing_after call k) call uri by
 
--- what is known of the call at a moment, where its caller is the other party
-abbrev pub of_caller : Call → ℕ → Circumstances
-of_caller call now = record { asks = call.asks; has_identity = call.has_identity; restricted = caller_hides call; media = call.media; now = now }
+-- a diversion came before the target that is reached after k diversions: one that the call was received with, or one that was made
+abbrev pub is_diverted : Call → (k : ℕ) → Bool
+is_diverted call k = nat_lt 0 (call.received + k)
+
+-- what is known of the call at a moment, where its caller is the other party, at the target that is reached after k diversions
+abbrev pub of_caller : Call → (k : ℕ) → ℕ → Circumstances
+of_caller call k now = record {
+  asks = call.asks;
+  has_identity = call.has_identity;
+  restricted = caller_hides call;
+  media = call.media;
+  now = now;
+  diverted = is_diverted call k;
+  abroad = false;
+}
 
 -- what the services of the account that is served there say, in their precedence; then, whoever is served: a target of the home domain that is no account's is refused, and
 -- one to which no peer leads
-abbrev pub said_on_arrival : Call → Reach → Says
-said_on_arrival call reach =
-    first_said (option_map_or (services_on_arrival (of_caller call reach.at)) reach.served [] ++ refuses_if reach.is_unknown causes.NoAccount
+abbrev pub said_on_arrival : Call → (k : ℕ) → Reach → Says
+said_on_arrival call k reach =
+    first_said (option_map_or (services_on_arrival (of_caller call k reach.at)) reach.served [] ++ refuses_if reach.is_unknown causes.NoAccount
     ∷ refuses_if reach.has_no_peer causes.NoRoute ∷ [])
 
 -- the user has another call already
@@ -82,7 +95,7 @@ offer_by (Diverts due) served = NotOffered
 
 -- the target that is reached after k diversions
 abbrev pub target_at : Call → (k : ℕ) → Uri → Option DueDiversion → Target
-target_at call k uri by = record { uri = uri; by = by; offer = offer_by (said_on_arrival call (reach_of call k uri by)) (reach_of call k uri by).served }
+target_at call k uri by = record { uri = uri; by = by; offer = offer_by (said_on_arrival call k (reach_of call k uri by)) (reach_of call k uri by).served }
 
 -- ---- a diversion
 
@@ -91,9 +104,17 @@ abbrev pub party_of : Uri → Identities2
 party_of (Sip user host port params headers) = record { sip = Some (Sip user host port params headers); tel = None }
 party_of (Tel number params) = record { sip = None; tel = Some (Tel number params) }
 
--- what is known of the call at a moment, where this target is the other party
+-- what is known of the call at a moment, where this target is the other party; whether the call was diverted is not asked then
 abbrev pub of_target : Call → ℕ → Uri → Circumstances
-of_target call now target = record { asks = identity_holds (party_of target); has_identity = true; restricted = caller_hides call; media = call.media; now = now }
+of_target call now target = record {
+  asks = identity_holds (party_of target);
+  has_identity = true;
+  restricted = caller_hides call;
+  media = call.media;
+  now = now;
+  diverted = false;
+  abroad = is_abroad target call.country;
+}
 
 -- the outgoing barring of the account that diverts refuses the new target
 abbrev pub is_refused : Call → Option AccountState → (now : ℕ) → DueDiversion → Bool
@@ -105,8 +126,8 @@ abbrev pub due_at : Circumstances → When → Option AccountState → Option Du
 due_at c when served = option_and_then (λ (account : AccountState). due_on c when account.sheet) served
 
 -- a deflection goes to the target of the response, and hides nothing
-abbrev pub deflected_to : Uri → ℕ → DueDiversion
-deflected_to target cause = record {
+abbrev pub deflected_to : Uri → (bound : Option ℕ) → ℕ → DueDiversion
+deflected_to target bound cause = record {
   forward = record {
     target = target;
     notify_caller = true;
@@ -115,11 +136,12 @@ deflected_to target cause = record {
     reveal_to_target = true;
   };
   cause = cause;
+  bound = bound;
 }
 
 -- the deflection, where the account that is served allows it
 abbrev pub deflection_at : Option AccountState → Uri → (rang : Bool) → Option DueDiversion
-deflection_at served target rang = option_and_then (λ (account : AccountState). option_map (deflected_to target) (deflection_of account.sheet rang)) served
+deflection_at served target rang = option_and_then (λ (account : AccountState). option_map (deflected_to target (own_bound account.sheet)) (deflection_of account.sheet rang)) served
 
 -- ---- what is next
 
@@ -138,22 +160,22 @@ diverted_or call served now None cause later = Rests (Final cause)
 diverted_or call served now (Some due) cause later = diverted call served now due later
 
 -- an attempt ended: the account's rules for its ending come first, then its cause
-abbrev pub next_on : Call → Option AccountState → (now : ℕ) → End → List Ended → Next
-next_on call served now Answer later = Rests Answered
-next_on call served now Cancel later = Rests (Final causes.Cancelled)
-next_on call served now (UserBusy code) later = diverted_or call served now (due_at (of_caller call now) event.Busy served) (causes.Relayed code) later
-next_on call served now (NotReachable code) later = diverted_or call served now (due_at (of_caller call now) event.NotReachable served) (causes.Unreachable code) later
-next_on call served now NoReply later = diverted_or call served now (due_at (of_caller call now) event.NoAnswer served) causes.NoReply later
-next_on call served now (Deflection target rang) later = diverted_or call served now (deflection_at served target rang) (causes.Relayed 480) later
-next_on call served now (Other code) later = Rests (Final (causes.Relayed code))
+abbrev pub next_on : Call → (k : ℕ) → Option AccountState → (now : ℕ) → End → List Ended → Next
+next_on call k served now Answer later = Rests Answered
+next_on call k served now Cancel later = Rests (Final causes.Cancelled)
+next_on call k served now (UserBusy code) later = diverted_or call served now (due_at (of_caller call k now) event.Busy served) (causes.Relayed code) later
+next_on call k served now (NotReachable code) later = diverted_or call served now (due_at (of_caller call k now) event.NotReachable served) (causes.Unreachable code) later
+next_on call k served now NoReply later = diverted_or call served now (due_at (of_caller call k now) event.NoAnswer served) causes.NoReply later
+next_on call k served now (Deflection target rang) later = diverted_or call served now (deflection_at served target rang) (causes.Relayed 480) later
+next_on call k served now (Other code) later = Rests (Final (causes.Relayed code))
 
 -- by what was said when the target was reached; a call that was offered rests until its attempt ends, with the account as it stood when it was reached
-abbrev pub next_at : Says → Call → Reach → List Ended → Next
-next_at Nothing call reach [] = Rests Pending
-next_at Nothing call reach (ended ∷ later) = next_on call reach.served ended.at ended.how later
-next_at (Refuses cause) call reach endings = Rests (Final cause)
-next_at (Diverts due) call reach endings = diverted call reach.served reach.at due endings
+abbrev pub next_at : Says → Call → (k : ℕ) → Reach → List Ended → Next
+next_at Nothing call k reach [] = Rests Pending
+next_at Nothing call k reach (ended ∷ later) = next_on call k reach.served ended.at ended.how later
+next_at (Refuses cause) call k reach endings = Rests (Final cause)
+next_at (Diverts due) call k reach endings = diverted call reach.served reach.at due endings
 
 -- at the target that is reached after k diversions
 abbrev pub next_after : Call → (k : ℕ) → Uri → Option DueDiversion → List Ended → Next
-next_after call k uri by endings = next_at (said_on_arrival call (reach_of call k uri by)) call (reach_of call k uri by) endings
+next_after call k uri by endings = next_at (said_on_arrival call k (reach_of call k uri by)) call k (reach_of call k uri by) endings

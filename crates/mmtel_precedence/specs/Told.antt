@@ -39,6 +39,7 @@ told_due d = record {
     reveal_to_target = d.reveal_to_target;
   };
   cause = d.cause;
+  bound = d.bound;
 }
 
 -- a turn at a target

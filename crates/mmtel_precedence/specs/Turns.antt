@@ -12,7 +12,7 @@ use Rattle.mmtel_rules.specs.Circumstances.{Circumstances}
 use Rattle.mmtel_rules.specs.declared.values.When.TheVariants as event
 use Rattle.mmtel_diversion.specs.Diversion.{deflection_of}
 use Rattle.mmtel_precedence.specs.declared.endings.Ending.TheVariants as ending
-use Rattle.mmtel_precedence.specs.Services.{AccountState, DueDiversion, due_on}
+use Rattle.mmtel_precedence.specs.Services.{AccountState, DueDiversion, due_on, own_bound}
 use Rattle.mmtel_precedence.specs.Verdicts.{Decision, Offers, Forwards, Ends, verdict_of}
 use Rattle.mmtel_precedence.specs.Calls.{End, Answer, Cancel, UserBusy, NotReachable, NoReply, Deflection, Other, Ended, Reach, Call, NotOffered, Offered, Answered, Final}
 use Rattle.mmtel_precedence.specs.Targets.{of_caller, deflected_to, reach_of}
@@ -35,14 +35,14 @@ abbrev pub offer_turn : (unknown no_peer waiting : Bool) → Turn
 offer_turn unknown no_peer waiting = if unknown then TurnRefuse causes.NoAccount else if no_peer then TurnRefuse causes.NoRoute else TurnOffer waiting
 
 -- by what the services of the account decided; a diversion without a forward is that of a device, and no device was asked yet
-abbrev pub turn_by : Decision → (unknown no_peer : Bool) → Turn
-turn_by (Offers waiting) unknown no_peer = offer_turn unknown no_peer waiting
-turn_by (Forwards None cause) unknown no_peer = TurnRefuse (causes.Relayed 480)
-turn_by (Forwards (Some forward) cause) unknown no_peer = TurnDivert (record { forward = forward; cause = cause })
-turn_by (Ends cause) unknown no_peer = TurnRefuse cause
+abbrev pub turn_by : Decision → (bound : Option ℕ) → (unknown no_peer : Bool) → Turn
+turn_by (Offers waiting) bound unknown no_peer = offer_turn unknown no_peer waiting
+turn_by (Forwards None cause) bound unknown no_peer = TurnRefuse (causes.Relayed 480)
+turn_by (Forwards (Some forward) cause) bound unknown no_peer = TurnDivert (record { forward = forward; cause = cause; bound = bound })
+turn_by (Ends cause) bound unknown no_peer = TurnRefuse cause
 
 abbrev pub turn_at : Circumstances → Reach → Turn
-turn_at c reach = turn_by (verdict_of c (account_at reach) ending.Arrived) reach.is_unknown reach.has_no_peer
+turn_at c reach = turn_by (verdict_of c (account_at reach) ending.Arrived) (own_bound (account_at reach).sheet) reach.is_unknown reach.has_no_peer
 
 -- ---- after an attempt
 
@@ -59,7 +59,7 @@ divert_or_refuse (Some due) cause = EndDivert due
 
 -- the deflection to this target, where the record allows it
 abbrev pub deflection_by : Uri → (rang : Bool) → Sheet → Option DueDiversion
-deflection_by target rang sheet = option_map (deflected_to target) (deflection_of sheet rang)
+deflection_by target rang sheet = option_map (deflected_to target (own_bound sheet)) (deflection_of sheet rang)
 
 -- by the record under which it was offered; an attempt at a target of no account has none, and no rules
 abbrev pub turn_on : Circumstances → Option Sheet → End → AfterEnd
@@ -92,12 +92,12 @@ sheet_of reach = option_map (λ (account : AccountState). account.sheet) reach.s
 -- the move at a target is the turn there
 abbrev pub TurnsAreMoves : Type 0
 TurnsAreMoves = (call : Call) (reach : Reach) (kept : Kept) (uri : Uri) (by : Option DueDiversion) →
-    on_reaching call reach uri by kept ≡ kept_at_turn call (account_at reach) reach.at kept uri by (turn_at (of_caller call reach.at) reach)
+    on_reaching call reach uri by kept ≡ kept_at_turn call (account_at reach) reach.at kept uri by (turn_at (of_caller call kept.done reach.at) reach)
 
 -- the move on the end of an attempt at a target is the turn after it
 abbrev pub EndingsAreMoves : Type 0
 EndingsAreMoves = (call : Call) (reach : Reach) (now : ℕ) (how : End) (kept : Kept) →
-    on_end call (account_at reach) now how kept ≡ kept_after_turn call (account_at reach) now kept (turn_on (of_caller call now) (sheet_of reach) how)
+    on_end call (account_at reach) now how kept ≡ kept_after_turn call (account_at reach) now kept (turn_on (of_caller call kept.done now) (sheet_of reach) how)
 
 -- ---- a whole call, turn by turn
 
@@ -105,11 +105,11 @@ EndingsAreMoves = (call : Call) (reach : Reach) (now : ℕ) (how : End) (kept : 
 abbrev pub turn_on_endings : Call → AccountState → List Ended → Kept → Kept
 turn_on_endings call account [] kept = kept
 turn_on_endings call account (ended ∷ later) kept =
-    kept_after_turn call account ended.at (record kept { endings = later }) (turn_on (of_caller call ended.at) (Some account.sheet) ended.how)
+    kept_after_turn call account ended.at (record kept { endings = later }) (turn_on (of_caller call kept.done ended.at) (Some account.sheet) ended.how)
 
 -- at the target, as it stands when the call reaches it
 abbrev pub turn_at_reach : Call → Reach → Kept → Uri → Option DueDiversion → Kept
-turn_at_reach call reach kept uri by = kept_at_turn call (account_at reach) reach.at kept uri by (turn_at (of_caller call reach.at) reach)
+turn_at_reach call reach kept uri by = kept_at_turn call (account_at reach) reach.at kept uri by (turn_at (of_caller call kept.done reach.at) reach)
 
 -- one turn: by what is kept
 abbrev pub turn_in : Phase → Call → Kept → Kept

@@ -3,15 +3,15 @@ ghost use Rattle.std.specs.Prelude.{◌≡◌, option_and_then};
 ghost use Rattle.std.specs.Option.{option_copied};
 ghost use Rattle.mmtel_types.specs.declared.causes.Cause.TheVariants.{Relayed};
 ghost use Rattle.mmtel_rules.specs.Circumstances.{known};
-ghost use Rattle.mmtel_precedence.specs.Services.{DueDiversion, due_on};
+ghost use Rattle.mmtel_precedence.specs.Services.{DueDiversion, due_on, first_said, own_bound, services_on_arrival};
 ghost use Rattle.mmtel_precedence.specs.Targets.{deflected_to};
-ghost use Rattle.mmtel_precedence.specs.Told.{told_after, told_due, told_end, told_reach, told_turn};
+ghost use Rattle.mmtel_precedence.specs.Told.{told_account, told_after, told_due, told_end, told_reach, told_turn};
 ghost use Rattle.mmtel_precedence.specs.Turns.{deflection_by, divert_or_refuse, offer_turn, turn_at, turn_by, turn_on};
-ghost use Rattle.mmtel_precedence.specs.Verdicts.{shown};
+ghost use Rattle.mmtel_precedence.specs.Verdicts.{decision_by, shown};
 
 use crate::attempts::AttemptEnd;
 use crate::deciding::arrived;
-use crate::reaches::Reached;
+use crate::reaches::{Reached, ServedAccount};
 use crate::verdicts::Verdict;
 use mmtel_diversion::{choose, deflect};
 use mmtel_lex::Uri;
@@ -34,6 +34,8 @@ pub struct Onward<'a> {
     pub reveal_to_target: bool,
     /// Why (RFC 4458 §2).
     pub cause: u16,
+    /// The bound on the diversions of a call that the account which diverts sets, where it sets one.
+    pub bound: Option<u8>,
 }
 
 impl<'a> Onward<'a> {
@@ -70,9 +72,19 @@ pub enum AfterEnding<'a> {
     Refuse(Cause),
 }
 
+/// The bound that the record sets.
+fn own_bound(sheet: &Sheet) -> Option<u8>
+    ensures { result ≡ own_bound sheet.now }
+{
+    match &sheet.diversion {
+        None => None,
+        Some(part) => part.bound,
+    }
+}
+
 /// The diversion that a rule asks for.
-fn by_rule(forward: &Forward, cause: u16) -> Onward<'_>
-    ensures { told_due result ≡ record { forward = forward.now; cause = cause } }
+fn by_rule(forward: &Forward, cause: u16, bound: Option<u8>) -> Onward<'_>
+    ensures { told_due result ≡ record { forward = forward.now; cause = cause; bound = bound } }
 {
     Onward {
         target: &forward.target,
@@ -81,12 +93,13 @@ fn by_rule(forward: &Forward, cause: u16) -> Onward<'_>
         reveal_served_to_caller: forward.reveal_served_to_caller,
         reveal_to_target: forward.reveal_to_target,
         cause,
+        bound,
     }
 }
 
 /// The diversion by the target's device, which hides nothing.
-fn by_device(target: &Uri, cause: u16) -> Onward<'_>
-    ensures { told_due result ≡ deflected_to target.now cause }
+fn by_device(target: &Uri, cause: u16, bound: Option<u8>) -> Onward<'_>
+    ensures { told_due result ≡ deflected_to target.now bound cause }
 {
     Onward {
         target,
@@ -95,6 +108,7 @@ fn by_device(target: &Uri, cause: u16) -> Onward<'_>
         reveal_served_to_caller: true,
         reveal_to_target: true,
         cause,
+        bound,
     }
 }
 
@@ -111,19 +125,27 @@ fn offer_unless(is_unknown: bool, has_no_peer: bool, waiting: bool) -> Turn<'sta
     Turn::Offer { waiting }
 }
 
-/// The turn at a target where the services of its account decided so.
-fn turn_by(verdict: Verdict<'_>, is_unknown: bool, has_no_peer: bool) -> Turn<'_>
-    ensures { told_turn result ≡ turn_by (shown verdict.entry) is_unknown has_no_peer }
+/// The turn at a target where the services of its account, which has this record, decided so.
+fn turn_by<'a>(verdict: Verdict<'a>, sheet: &Sheet, is_unknown: bool, has_no_peer: bool) -> Turn<'a>
+    ensures { told_turn result ≡ turn_by (shown verdict.entry) (own_bound sheet.now) is_unknown has_no_peer }
 {
     match verdict {
         Verdict::Offer { waiting } => offer_unless(is_unknown, has_no_peer, waiting),
         Verdict::Divert {
             forward: Some(forward),
             cause,
-        } => Turn::Divert(by_rule(forward, cause)),
+        } => Turn::Divert(by_rule(forward, cause, own_bound(sheet))),
         Verdict::Divert { forward: None, .. } => Turn::Refuse(Cause::Relayed(480)),
         Verdict::Refuse(cause) => Turn::Refuse(cause),
     }
+}
+
+/// The turn at a target of this account.
+fn turn_of<'a>(f: &Facts, a: &ServedAccount<'a>, is_unknown: bool, has_no_peer: bool) -> Turn<'a>
+    ensures { let facts = f.entry.now in let account = told_account a.entry.now in
+        told_turn result ≡ turn_by (decision_by (first_said (services_on_arrival (known facts) account)) account.live) (own_bound account.sheet) is_unknown has_no_peer }
+{
+    turn_by(arrived(f, a), a.sheet, is_unknown, has_no_peer)
 }
 
 /// What is done with a call at a target that it reached: what the services of the account decide that is served there, as `verdict` says;
@@ -134,7 +156,7 @@ pub fn turn_at<'a>(f: &Facts, r: &Reached<'a>) -> Turn<'a>
 {
     match &r.served {
         None => offer_unless(r.is_unknown, r.has_no_peer, false),
-        Some(account) => turn_by(arrived(f, account), r.is_unknown, r.has_no_peer),
+        Some(account) => turn_of(f, account, r.is_unknown, r.has_no_peer),
     }
 }
 
@@ -147,7 +169,10 @@ fn rule_or<'a>(f: &Facts, s: Option<&'a Sheet>, when: When, cause: Cause) -> Aft
     };
     match choose(sheet, f, when) {
         None => AfterEnding::Refuse(cause),
-        Some(diversion) => AfterEnding::Divert(by_rule(diversion.forward, diversion.cause)),
+        Some(diversion) => {
+            let bound = own_bound(sheet);
+            AfterEnding::Divert(by_rule(diversion.forward, diversion.cause, bound))
+        }
     }
 }
 
@@ -160,7 +185,7 @@ fn deflection_or<'a>(s: Option<&'a Sheet>, target: &'a Uri, rang: bool) -> After
     };
     match deflect(sheet, rang) {
         None => AfterEnding::Refuse(Cause::Relayed(480)),
-        Some(cause) => AfterEnding::Divert(by_device(target, cause)),
+        Some(cause) => AfterEnding::Divert(by_device(target, cause, own_bound(sheet))),
     }
 }
 

@@ -14,12 +14,13 @@ use Rattle.mmtel_call.specs.declared.signals.Signal as calls
 use Rattle.mmtel_call_decisions.specs.Busy.{Counts, calls_of, live_of, one_of}
 use Rattle.mmtel_call_decisions.specs.Site.{Site, calls_among, is_account}
 use Rattle.mmtel_call_decisions.specs.declared.openings.Arrival.{Arrival}
+use Rattle.mmtel_desk.specs.Marks.{Ascend}
 use Rattle.mmtel_desk.specs.declared.desks.Desk.{Desk}
 use Rattle.mmtel_precedence.specs.Calls.{Standing}
 use Rattle.mmtel_sheet_values.specs.View.{InForce, end_in, sheet_in}
 use Rattle.mmtel_types.specs.declared.numbers.Account.{Account}
 use Rattle.mmtel_b2bua.specs.Entries.{accounts_of, beside, busy_beside, is_numbered, origin_of, served_of}
-use Rattle.mmtel_b2bua.specs.Kept.{Ascend, keeps_busy, number_of, often}
+use Rattle.mmtel_b2bua.specs.Kept.{keeps_busy, number_of, often}
 use Rattle.mmtel_b2bua.specs.Names.{live}
 use Rattle.mmtel_b2bua.specs.Tables.{busy_with, open_of, standing, step_of}
 use Rattle.mmtel_b2bua.specs.declared.entries.Entry.{Entry}
@@ -85,26 +86,26 @@ higher_not number e l = numbered number e ∙ (let u : (number_of e == number) �
 own_is : (number : ℕ) (e : Entry) → number ≡ number_of e → is_numbered number e ≡ true
 own_is number e same = numbered number e ∙ (let u : (number_of e == number) ≡ true = grind (arith, nat_tests) in u)
 
-all_above : (number low high : ℕ) (es : List Entry) → number ≤ low → Ascend low es high → AllByRecursion (λ e. is_numbered number e ≡ false) es
+all_above : (number low high : ℕ) (es : List Entry) → number ≤ low → Ascend number_of low es high → AllByRecursion (λ e. is_numbered number e ≡ false) es
 all_above number low high [] l a = tt
 all_above number low high (x ∷ es) l a = let h = a.0 in (higher_not number x (omega (arith, l, h)), all_above number (number_of x) high es (omega (arith, l, h)) a.1)
 
-least : (low high : ℕ) (es : List Entry) → Ascend low es high → low ≤ high
+least : (low high : ℕ) (es : List Entry) → Ascend number_of low es high → low ≤ high
 least low high [] a = a
 least low high (x ∷ es) a = let h = a.0 in let g = least (number_of x) high es a.1 in omega (arith, h, g)
 
-all_below : (number low high : ℕ) (es : List Entry) → high < number → Ascend low es high → AllByRecursion (λ e. is_numbered number e ≡ false) es
+all_below : (number low high : ℕ) (es : List Entry) → high < number → Ascend number_of low es high → AllByRecursion (λ e. is_numbered number e ≡ false) es
 all_below number low high [] l a = tt
 all_below number low high (x ∷ es) l a = let g = least (number_of x) high es a.1 in (lower_not number x (omega (arith, l, g)), all_below number (number_of x) high es l a.1)
 
-above_at : (low high : ℕ) (es : List Entry) (k : ℕ) (e : Entry) → Ascend low es high → slice_get es k ≡ Some e → low < number_of e
+above_at : (low high : ℕ) (es : List Entry) (k : ℕ) (e : Entry) → Ascend number_of low es high → slice_get es k ≡ Some e → low < number_of e
 above_at low high [] k e a is = absurd (none-some e is)
 above_at low high (x ∷ es) zero e a is = let same : number_of x ≡ number_of e = ap number_of (let h : x ≡ e = cc in h) in let h = a.0 in omega (arith, h, same)
 above_at low high (x ∷ es) (suc k) e a is = let h = a.0 in let g = above_at (number_of x) high es k e a.1 is in omega (arith, h, g)
 
 -- ---- as the step of a call sees them
 
-own_counted : (n number low high : ℕ) (es : List Entry) (k : ℕ) (e : Entry) → Ascend low es high → slice_get es k ≡ Some e → number ≡ number_of e
+own_counted : (n number low high : ℕ) (es : List Entry) (k : ℕ) (e : Entry) → Ascend number_of low es high → slice_get es k ≡ Some e → number ≡ number_of e
     → count_by (is_account n) (busy_beside number es) + often (served_of e) n ≡ sum_by (keeps_busy n) es
 own_counted n number low high [] k e a is same = absurd (none-some e is)
 own_counted n number low high (x ∷ es) zero e a is same =
@@ -194,7 +195,7 @@ module _ (site : Site) (at : ℕ) (view : InForce) (counts : Counts) where
   stands busy same = ap (λ (f : ℕ → ℕ). let s : Standing = record { at = at; sheets = sheet_in view; ends = end_in view; live = f } in s) (lives counts busy same)
 
   -- for the call at this place, where the account of its attempt was taken out
-  pub stepped : (es : List Entry) (high k : ℕ) (e : Entry) (before : Counts) (served : Option Account) → Ascend 0 es high → slice_get es k ≡ Some e → ((n : ℕ) → calls_of before n ≡ sum_by (keeps_busy n) es)
+  pub stepped : (es : List Entry) (high k : ℕ) (e : Entry) (before : Counts) (served : Option Account) → Ascend number_of 0 es high → slice_get es k ≡ Some e → ((n : ℕ) → calls_of before n ≡ sum_by (keeps_busy n) es)
       → served ≡ served_of e → ((n : ℕ) → calls_of counts n ≡ calls_of before n - often served n) → (heard : calls.Signal) (desk : Desk)
       → step site by_counts heard e.call desk ≡ step_of site at view (busy_beside (number_of e) es) heard desk e
   unfolding step_of
@@ -206,7 +207,7 @@ module _ (site : Site) (at : ℕ) (view : InForce) (counts : Counts) where
       omega (arith, own, h, b)))
 
   -- for a call that is opened, where that of its caller was put in
-  pub begun : (es : List Entry) (high : ℕ) (arrival : Arrival) (before : Counts) → Ascend 0 es high → high < arrival.number.0 → ((n : ℕ) → calls_of before n ≡ sum_by (keeps_busy n) es)
+  pub begun : (es : List Entry) (high : ℕ) (arrival : Arrival) (before : Counts) → Ascend number_of 0 es high → high < arrival.number.0 → ((n : ℕ) → calls_of before n ≡ sum_by (keeps_busy n) es)
       → ((n : ℕ) → calls_of counts n ≡ calls_of before n + often arrival.served.origin n) → (desk : Desk) → opened site by_counts arrival desk ≡ open_of site at view (busy_with arrival es) arrival desk
   unfolding open_of
   begun es high arrival before a above counted into desk =

@@ -1,17 +1,21 @@
 -- A call that a signal, a request or a transaction is of has the mark by which it is looked for.
-use Rattle.std.proofs.Common.{◌≡◌, ℕ, ◌+◌, Bool, true, false, not, cond, List, [], ◌∷◌, ◌++◌, length, Option, Some, None, refl, sym, ap, ◌∙◌, arith, inl, inr, ◌⊎◌}
+use Rattle.std.proofs.Common.{◌≡◌, ℕ, ◌+◌, Bool, true, false, List, [], ◌∷◌, ◌++◌, Option, Some, None, refl, sym, ap, arith, inl, inr, ◌⊎◌}
+use Rattle.std.proofs.lemmas.Bool.{and_parts, or_cases}
 use Rattle.std.proofs.lemmas.Bool.Decides.{nat_tests}
 use Rattle.std.proofs.lemmas.Slice.Eq.{bytes_eq-Decides}
-use Rattle.std.specs.Prelude.{◌||◌, ◌&&◌, ◌==◌, flat_map, if◌then◌else◌, is_some, nat_lt, position}
-use Rattle.std.specs.List.{position_or_len}
+use Rattle.std.specs.Prelude.{◌&&◌, ◌==◌, flat_map, if◌then◌else◌, is_some, position}
+use Rattle.std.specs.List.{AllByRecursion}
 use Rattle.std.specs.Str.{bytes_eq}
 use Rattle.mmtel_call.specs.Leaving.{is_key, is_loose_key, is_taken, is_taken_key}
 use Rattle.mmtel_call.specs.Settled.{has_heard, has_sent}
 use Rattle.mmtel_call.specs.Table.{current, is_branch}
 use Rattle.mmtel_call.specs.declared.calls.Phase.TheVariants.{Lent, Offered, Over, Stood}
 use Rattle.mmtel_call.specs.declared.calls.Phase.{Phase}
+use Rattle.mmtel_desk.proofs.Marking.{has_left, has_right, none_found, passes}
 use Rattle.mmtel_desk.specs.Loose.{is_of}
+use Rattle.mmtel_desk.specs.Marks.{Has, told_of}
 use Rattle.mmtel_desk.specs.declared.invitations.Invitation.{Invitation}
+use Rattle.mmtel_desk.specs.declared.marks.Mark.TheVariants.{Asked, Heard, Named, Sent}
 use Rattle.mmtel_leg.specs.declared.dialogues.Dialogue.{Dialogue}
 use Rattle.mmtel_leg.specs.declared.legs.Released.{Released}
 use Rattle.mmtel_leg.specs.declared.legs.Released.TheVariants as released
@@ -21,57 +25,9 @@ use Rattle.mmtel_types.specs.declared.sides.Side.{Side}
 use Rattle.mmtel_types.specs.declared.sides.Side.TheVariants.{Caller, Callee}
 use Rattle.mmtel_b2bua.specs.Entries.{heard_by, is_live, sent_it}
 use Rattle.mmtel_b2bua.specs.Names.{has_name, has_side, is_key as is_asked, named_in, named_left, side_asking, side_at, side_by, side_named, side_that_asked}
-use Rattle.mmtel_b2bua.specs.Marks.{Has, asked_marks, dialog_mark, dialog_marks, heard_marks, invite_marks, loose_marks, marks_of, taken_marks, told_of, waiting_marks}
+use Rattle.mmtel_b2bua.specs.Marks.{asked_marks, dialog_mark, dialog_marks, heard_marks, invite_marks, loose_marks, marks_of, taken_marks, waiting_marks}
 use Rattle.mmtel_b2bua.specs.declared.entries.Entry.{Entry}
 use Rattle.mmtel_b2bua.specs.declared.entries.InviteKey.{InviteKey}
-use Rattle.mmtel_b2bua.specs.declared.marks.Mark.{Mark}
-use Rattle.mmtel_b2bua.specs.declared.marks.Mark.TheVariants.{Asked, Heard, Named, Sent}
-
--- ---- lists
-
-has_left : {X : Type 0} (x : X) (xs ys : List X) → Has x xs → Has x (xs ++ ys)
-has_left x [] ys h = absurd h
-has_left x (y ∷ xs) ys h = elim h [
-  | inl e ↦ inl e
-  | inr g ↦ inr (has_left x xs ys g)
-]
-
-has_right : {X : Type 0} (x : X) (xs ys : List X) → Has x ys → Has x (xs ++ ys)
-has_right x [] ys h = h
-has_right x (y ∷ xs) ys h = inr (has_right x xs ys h)
-
-either : (a b : Bool) → (a || b) ≡ true → (a ≡ true) ⊎ (b ≡ true)
-either true b e = inl refl
-either false b e = inr e
-
-both_first : (a b : Bool) → (a && b) ≡ true → a ≡ true
-both_first true b e = refl
-both_first false b e = e
-
-both_second : (a b : Bool) → (a && b) ≡ true → b ≡ true
-both_second true b e = e
-both_second false b e = absurd (let f : false ≡ true = e in cc)
-
-placed : (k n : ℕ) (b : Bool) → is_some (cond b (Some k) None) ≡ true → b ≡ true
-placed k n true e = refl
-placed k n false e = absurd (let f : false ≡ true = e in cc)
-
--- one of them passes, so its marks are among those of all
-module _ {X : Type 0} (f : X → List Mark) (p : X → Bool) (m : Mark) (law : (x : X) → p x ≡ true → Has m (f x)) where
-  passes_within : (xs : List X) → nat_lt (position_or_len p xs) (length xs) ≡ true → Has m (flat_map f xs)
-  passes_within [] e = absurd (let g : nat_lt 0 0 ≡ false = grind (arith, nat_tests) in let h : false ≡ true = sym g ∙ e in cc)
-  passes_within (x ∷ xs) e = go (p x) refl (λ h. passes_within xs h)
-    where
-      go : (b : Bool) → p x ≡ b → (nat_lt (position_or_len p xs) (length xs) ≡ true → Has m (flat_map f xs)) → Has m (f x ++ flat_map f xs)
-      go true t rest = has_left m (f x) (flat_map f xs) (law x t)
-      go false t rest =
-          let n = position_or_len p xs in
-          let g : nat_lt (1 + n) (length (x ∷ xs)) ≡ true = ap (λ (b : Bool). nat_lt (cond (not b) (1 + n) 0) (length (x ∷ xs))) (sym t) ∙ e in
-          let h : nat_lt n (length xs) ≡ true = grind (arith, nat_tests) in
-          has_right m (f x) (flat_map f xs) (rest h)
-
-  passes : (xs : List X) → is_some (position p xs) ≡ true → Has m (flat_map f xs)
-  passes xs e = passes_within xs (placed (position_or_len p xs) (length xs) (nat_lt (position_or_len p xs) (length xs)) e)
 
 -- ---- an INVITE of this branch
 
@@ -92,13 +48,22 @@ module _ (branch : List ℕ) where
       let l = flat_map loose_marks c.loose in
       let t = flat_map taken_marks c.taken in
       let rest = asked_marks (is_live e) e.invites ++ dialog_marks c.phase in
-      elim (either (is_branch branch (current c.phase)) _ h) [
+      elim (or_cases (is_branch branch (current c.phase)) _ h) [
         | inl a ↦ has_left m w (l ++ (t ++ rest)) (sent_current (current c.phase) a)
-        | inr b ↦ has_right m w (l ++ (t ++ rest)) (elim (either (is_some (position (is_of branch) c.loose)) _ b) [
+        | inr b ↦ has_right m w (l ++ (t ++ rest)) (elim (or_cases (is_some (position (is_of branch) c.loose)) _ b) [
           | inl f ↦ has_left m l (t ++ rest) (passes loose_marks (is_of branch) m (λ x s. inl (told_alike x.invitation.branch branch s)) c.loose f)
           | inr f ↦ has_right m l (t ++ rest) (has_left m t rest (passes taken_marks (is_taken branch) m (λ x s. inl (told_alike x.invitation.branch branch s)) c.taken f))
         ])
       ]
+
+-- a response that answers no INVITE is of no call
+none_of_all : (es : List Entry) → AllByRecursion (λ e. sent_it None e ≡ false) es
+unfolding sent_it
+none_of_all [] = tt
+none_of_all (e ∷ es) = (refl, none_of_all es)
+
+pub none_sent : (es : List Entry) → None ≡ position (sent_it None) es
+none_sent es = none_found marks_of (sent_it None) es (none_of_all es)
 
 -- ---- one that had its answer by this transaction
 
@@ -119,7 +84,7 @@ module _ (key : TKey) where
       let l = flat_map loose_marks c.loose in
       let t = flat_map taken_marks c.taken in
       let rest = asked_marks (is_live e) e.invites ++ dialog_marks c.phase in
-      has_right m w (l ++ (t ++ rest)) (elim (either (is_some (position (is_loose_key key) c.loose)) _ h) [
+      has_right m w (l ++ (t ++ rest)) (elim (or_cases (is_some (position (is_loose_key key) c.loose)) _ h) [
         | inl f ↦ has_left m l (t ++ rest) (passes loose_marks (is_loose_key key) m (λ x s. inr (heard_key x.invitation.key s)) c.loose f)
         | inr f ↦ has_right m l (t ++ rest) (has_left m t rest (passes taken_marks (is_taken_key key) m (λ x s. inr (heard_key x.invitation.key s)) c.taken f))
       ])
@@ -155,8 +120,8 @@ module _ (key : TKey) where
 module _ (call_id local remote : List ℕ) where
   named_one : (d : Dialogue) → has_name call_id local remote d ≡ true → Named (told_of local) ≡ dialog_mark d
   named_one d e =
-      let a = both_second (bytes_eq d.call_id call_id) (bytes_eq d.local_tag local && bytes_eq d.remote_tag remote) e in
-      let b = both_first (bytes_eq d.local_tag local) (bytes_eq d.remote_tag remote) a in
+      let a = (and_parts (bytes_eq d.call_id call_id) (bytes_eq d.local_tag local && bytes_eq d.remote_tag remote) e).1 in
+      let b = (and_parts (bytes_eq d.local_tag local) (bytes_eq d.remote_tag remote) a).0 in
       ap (λ (l : List ℕ). Named (told_of l)) (sym ((bytes_eq-Decides d.local_tag local).0 b))
 
   by_either : (a b : Bool) → is_some (side_by a b) ≡ true → (a ≡ true) ⊎ (b ≡ true)
@@ -175,7 +140,7 @@ module _ (call_id local remote : List ℕ) where
   named_at : (phase : Phase) → is_some (named_in call_id local remote phase) ≡ true → Has (Named (told_of local)) (dialog_marks phase)
   named_at (Offered x) e = elim (by_either (has_name call_id local remote x.caller.dialogue) (x.callee.is_early && has_name call_id local remote x.callee.leg.dialogue) e) [
     | inl a ↦ inl (named_one x.caller.dialogue a)
-    | inr b ↦ inr (inl (named_one x.callee.leg.dialogue (both_second x.callee.is_early (has_name call_id local remote x.callee.leg.dialogue) b)))
+    | inr b ↦ inr (inl (named_one x.callee.leg.dialogue (and_parts x.callee.is_early (has_name call_id local remote x.callee.leg.dialogue) b).1))
   ]
   named_at (Stood x stage) e = elim (by_either (has_name call_id local remote x.caller.dialogue) (has_name call_id local remote x.callee.dialogue) e) [
     | inl a ↦ inl (named_one x.caller.dialogue a)

@@ -1,56 +1,36 @@
 -- The table of calls as it is kept, through each change: numbers ascend, and those that live are counted.
-use Rattle.std.proofs.Common.{◌≡◌, ℕ, zero, suc, ◌+◌, ◌<◌, ◌≤◌, ◌^◌, Bool, true, false, not, cond, List, [], ◌∷◌, ◌++◌, length, get_or, set, Option, Some, None, refl, sym, ap, ◌∙◌, subst, arith, inl, inr, OnOk, IfOk, Result, Ok, Err, take, drop}
-use Rattle.std.proofs.lemmas.Bool.Decides.{nat_tests}
-use Rattle.std.proofs.lemmas.Bool.{cases_lt}
-use Rattle.std.proofs.lemmas.List.{length-map, length-set, map-set}
+use Rattle.std.proofs.Common.{◌≡◌, ℕ, zero, suc, ◌+◌, ◌<◌, ◌≤◌, ◌^◌, Bool, true, false, not, cond, List, [], ◌∷◌, ◌++◌, length, get_or, set, Option, Some, None, refl, sym, ap, ◌∙◌, subst, arith, OnOk, IfOk, Result, Ok, Err, take, drop}
+use Rattle.std.proofs.lemmas.List.{drop-map, length-map, length-set, map-set, take_rest}
 use Rattle.std.proofs.lemmas.List.Sums.{count_by-le-length, sum_by-append, sum_by-cons, sum_by-set}
 use Rattle.std.proofs.lemmas.Option.{get_or_from_slice_get, none-some, slice_get-map, slice_get_read, slice_get_within}
 use Rattle.std.specs.Prelude.{Box, ◌==◌, ◌-◌, count_by, if◌then◌else◌, min, nat_lt, position, remove, slice_get, sum_by}
 use Rattle.std.specs.List.{position_or_len}
 use Rattle.std.specs.Option.{option_map}
-use Rattle.std.specs.List.Sorted.{IsNonDecreasingBy, IsPartitionPoint}
+use Rattle.std.specs.List.Sorted.{IsNonDecreasingBy}
 use Rattle.mmtel_call.specs.Settled.{is_settled}
 use Rattle.mmtel_call_decisions.specs.Busy.{Counts, calls_of}
+use Rattle.mmtel_desk.proofs.Ascending.{ascends}
+use Rattle.mmtel_desk.proofs.Marking.{pushed_ascends, pushed_marked, removed_ascends, removed_marked, same_marked, set_ascends, set_marked}
+use Rattle.mmtel_desk.specs.Marks.{AreBelow, AreMarked, Ascend, Holds, HoldsAll, Written}
+use Rattle.mmtel_desk.specs.declared.index.Index.{Index}
+use Rattle.mmtel_desk.specs.declared.marks.Key.{Key}
 use Rattle.mmtel_scan.specs.Numbers.{next_number}
 use Rattle.mmtel_scan.specs.declared.memory.NoMemory.{NoMemory}
 use Rattle.mmtel_b2bua.specs.Entries.{is_live, is_numbered}
-use Rattle.mmtel_b2bua.specs.Kept.{AllBelow, AreKept, Ascend, is_gone, keeps_busy, lives_on, number_of, one_if, unboxed}
+use Rattle.mmtel_b2bua.specs.Kept.{AreKept, is_gone, keeps_busy, lives_on, number_of, one_if, unboxed}
+use Rattle.mmtel_b2bua.specs.Marks.{marks_of}
 use Rattle.mmtel_b2bua.specs.Tables.{Table, put_at}
-use Rattle.mmtel_b2bua.specs.Marks.{AreMarked, Holds, HoldsAll, Written, marks_of}
 use Rattle.mmtel_b2bua.specs.declared.entries.Entry.{Entry}
-use Rattle.mmtel_b2bua.specs.declared.index.Index.{Index}
-use Rattle.mmtel_b2bua.specs.declared.marks.Key.{Key}
-use Rattle.mmtel_b2bua.proofs.Counting.{left_counted, numbered, one_more}
-use Rattle.mmtel_b2bua.proofs.Marking.{pushed_marked, removed_marked, same_marked, set_marked}
+use Rattle.mmtel_b2bua.proofs.Counting.{left_counted, one_more}
 
 -- ---- boxes
-
-dropped_boxes : {X A : Type 0} (bs : List (Box X A)) (k : ℕ) → unboxed (drop k bs) ≡ drop k (unboxed bs)
-dropped_boxes [] zero = refl
-dropped_boxes [] (suc k) = refl
-dropped_boxes (b ∷ bs) zero = refl
-dropped_boxes (b ∷ bs) (suc k) = dropped_boxes bs k
-
-take_all : {X : Type 0} (xs : List X) → take (length xs) xs ≡ xs
-take_all [] = refl
-take_all (x ∷ xs) = ap (λ l. x ∷ l) (take_all xs)
-
-take_none : {X : Type 0} (n : ℕ) → (let l : List X = take n [] in l) ≡ []
-take_none zero = refl
-take_none (suc n) = refl
-
-take_rest : {X : Type 0} (xs : List X) (k : ℕ) → take (length xs - k) (drop k xs) ≡ drop k xs
-take_rest [] zero = refl
-take_rest [] (suc k) = take_none (0 - suc k)
-take_rest (x ∷ xs) zero = let e : length (x ∷ xs) - 0 ≡ length (x ∷ xs) = omega arith in ap (λ (n : ℕ). take n (x ∷ xs)) e ∙ take_all (x ∷ xs)
-take_rest (x ∷ xs) (suc k) = let e : length (x ∷ xs) - suc k ≡ length xs - k = omega arith in ap (λ (n : ℕ). take n (drop k xs)) e ∙ take_rest xs k
 
 pub length_boxes : {X A : Type 0} (bs : List (Box X A)) → length (unboxed bs) ≡ length bs
 length_boxes bs = length-map bs (λ b. b.value)
 
 -- the boxes from a place on
 pub rest_boxes : {X A : Type 0} (bs : List (Box X A)) (k : ℕ) → unboxed (take (length bs - k) (drop k bs)) ≡ drop k (unboxed bs)
-rest_boxes bs k = ap unboxed (take_rest bs k) ∙ dropped_boxes bs k
+rest_boxes bs k = ap unboxed (take_rest bs k) ∙ sym (drop-map (λ b. b.value) k bs)
 
 pub removed_boxes : {X A : Type 0} (bs : List (Box X A)) (k : ℕ) → unboxed (remove bs k) ≡ remove (unboxed bs) k
 removed_boxes [] zero = refl
@@ -58,7 +38,7 @@ removed_boxes [] (suc k) = refl
 removed_boxes (b ∷ bs) zero = refl
 removed_boxes (b ∷ bs) (suc k) = ap (λ xs. b.value ∷ xs) (removed_boxes bs k)
 
-pub placed_boxes : {X A : Type 0} (p : X → Bool) (bs : List (Box X A)) → position_or_len (λ (b : Box X A). p b.value) bs ≡ position_or_len p (unboxed bs)
+placed_boxes : {X A : Type 0} (p : X → Bool) (bs : List (Box X A)) → position_or_len (λ (b : Box X A). p b.value) bs ≡ position_or_len p (unboxed bs)
 placed_boxes p [] = refl
 placed_boxes p (b ∷ bs) = ap (λ n. cond (not (p b.value)) (1 + n) 0) (placed_boxes p bs)
 
@@ -67,133 +47,40 @@ position_boxes p bs =
     ap (λ n. cond (nat_lt n (length bs)) (Some n) None) (placed_boxes p bs)
     ∙ ap (λ m. cond (nat_lt (position_or_len p (unboxed bs)) m) (Some (position_or_len p (unboxed bs))) None) (sym (length-map bs (λ b. b.value)))
 
--- ---- numbers that ascend
+-- ---- numbers that ascend: what holds of all owners of marks is of `mmtel_desk`
 
-lowered : (low lower high : ℕ) (es : List Entry) → lower ≤ low → Ascend low es high → Ascend lower es high
-lowered low lower high [] e a = omega arith
-lowered low lower high (x ∷ es) e a = (let h = a.0 in omega arith, a.1)
-
-raised : (low high higher : ℕ) (es : List Entry) → high ≤ higher → Ascend low es high → Ascend low es higher
+raised : (low high higher : ℕ) (es : List Entry) → high ≤ higher → Ascend number_of low es high → Ascend number_of low es higher
 raised low high higher [] e a = omega arith
 raised low high higher (x ∷ es) e a = (a.0, raised (number_of x) high higher es e a.1)
 
-set_ascends : (low high : ℕ) (es : List Entry) (k : ℕ) (e y : Entry) → slice_get es k ≡ Some e → number_of y ≡ number_of e → Ascend low es high → Ascend low (set es k y) high
-set_ascends low high [] k e y is same a = absurd (none-some e is)
-set_ascends low high (x ∷ es) zero e y is same a =
-    let n : number_of y ≡ number_of x = same ∙ ap number_of (let h : x ≡ e = cc in sym h) in
-    (let h = a.0 in omega (arith, n), lowered (number_of x) (number_of y) high es (omega (arith, n)) a.1)
-set_ascends low high (x ∷ es) (suc k) e y is same a = (a.0, set_ascends (number_of x) high es k e y is same a.1)
+-- a call that is changed first leaves the same others
+set_away : (es : List Entry) (k : ℕ) (y : Entry) → remove es k ≡ remove (set es k y) k
+set_away [] zero y = refl
+set_away [] (suc k) y = refl
+set_away (e ∷ es) zero y = refl
+set_away (e ∷ es) (suc k) y = ap (λ (l : List Entry). e ∷ l) (set_away es k y)
 
-removed_ascends : (low high : ℕ) (es : List Entry) (k : ℕ) (y : Entry) → Ascend low es high → Ascend low (remove (set es k y) k) high
-removed_ascends low high [] zero y a = a
-removed_ascends low high [] (suc k) y a = a
-removed_ascends low high (x ∷ es) zero y a = lowered (number_of x) low high es (let h = a.0 in omega (arith, h)) a.1
-removed_ascends low high (x ∷ es) (suc k) y a = (a.0, removed_ascends (number_of x) high es k y a.1)
+module _ {A : Type 0} where
+  abbrev pub number_in : Box Entry A → ℕ
+  number_in b = number_of b.value
 
-pushed_ascends : (low high higher : ℕ) (es : List Entry) (e : Entry) → high < number_of e → number_of e ≤ higher → Ascend low es high → Ascend low (es ++ e ∷ []) higher
-pushed_ascends low high higher [] e f g a = (omega arith, g)
-pushed_ascends low high higher (x ∷ es) e f g a = (a.0, pushed_ascends (number_of x) high higher es e f g a.1)
+  ascend_in : (low high : ℕ) (bs : List (Box Entry A)) → Ascend number_of low (unboxed bs) high → Ascend number_in low bs high
+  ascend_in low high [] a = a
+  ascend_in low high (b ∷ bs) a = (a.0, ascend_in (number_of b.value) high bs a.1)
 
-pub boxes_ascend : {A : Type 0} (low high : ℕ) (bs : List (Box Entry A)) → Ascend low (unboxed bs) high → IsNonDecreasingBy (λ (b : Box Entry A). number_of b.value) bs
-boxes_ascend low high [] a i j d e l = absurd (omega (arith, l))
-boxes_ascend low high (b ∷ bs) a zero zero d e l = omega arith
-boxes_ascend low high (b ∷ bs) a zero (suc j) d e l = at bs (number_of b.value) a.1 j (omega (arith, l))
-  where
-    at : (cs : List (Box Entry _)) (least : ℕ) → Ascend least (unboxed cs) high → (j : ℕ) → j < length cs → least ≤ number_of (get_or cs j d).value
-    at [] least a j l = absurd (omega (arith, l))
-    at (c ∷ cs) least a zero l = let h = a.0 in omega (arith, h)
-    at (c ∷ cs) least a (suc j) l = let h = a.0 in let g = at cs (number_of c.value) a.1 j (omega (arith, l)) in omega arith
-boxes_ascend low high (b ∷ bs) a (suc i) zero d e l = absurd (omega (arith, e))
-boxes_ascend low high (b ∷ bs) a (suc i) (suc j) d e l = boxes_ascend (number_of b.value) high bs a.1 i j d (omega (arith, e)) (omega (arith, l))
+  pub boxes_ascend : (low high : ℕ) (bs : List (Box Entry A)) → Ascend number_of low (unboxed bs) high → IsNonDecreasingBy number_in bs
+  boxes_ascend low high bs a = ascends number_in low high bs (ascend_in low high bs a)
 
--- ---- the place of a number
+  -- the box of this number is that of the call of this number
+  pub numbered_boxes : (n : ℕ) (bs : List (Box Entry A)) → position (λ (b : Box Entry A). number_in b == n) bs ≡ position (is_numbered n) (unboxed bs)
+  unfolding is_numbered
+  numbered_boxes n bs = position_boxes (is_numbered n) bs
 
-at_len : (i m : ℕ) → i < m → nat_lt i m ≡ true
-at_len i m l = grind (arith, nat_tests)
-
-past_len : (m : ℕ) → nat_lt m m ≡ false
-past_len m = grind (arith, nat_tests)
-
-module _ {A : Type 0} (n : ℕ) where
-  first_at : (bs : List (Box Entry A)) (i : ℕ) → ((j : ℕ) (d : Box Entry A) → j < i → number_of (get_or bs j d).value < n) → i < length bs → ((d : Box Entry A) → number_of (get_or bs i d).value ≡ n)
-      → position_or_len (is_numbered n) (unboxed bs) ≡ i
-  first_at [] i less l q = absurd (omega (arith, l))
-  first_at (b ∷ bs) zero less l q =
-      let e = q b in
-      let t : is_numbered n b.value ≡ true = numbered n b.value ∙ (let u : (number_of b.value == n) ≡ true = grind (arith, nat_tests) in u) in
-      rw t refl
-  first_at (b ∷ bs) (suc i) less l q =
-      let e = less 0 b (omega arith) in
-      let t : is_numbered n b.value ≡ false = numbered n b.value ∙ (let u : (number_of b.value == n) ≡ false = grind (arith, nat_tests) in u) in
-      rw t (omega (arith, first_at bs i (λ j d m. less (suc j) d (omega (arith, m))) (omega (arith, l)) (λ d. q d)))
-
-  none_at : (bs : List (Box Entry A)) → ((j : ℕ) (d : Box Entry A) → j < length bs → (number_of (get_or bs j d).value == n) ≡ false) → position_or_len (is_numbered n) (unboxed bs) ≡ length (unboxed bs)
-  none_at [] other = refl
-  none_at (b ∷ bs) other =
-      let t : is_numbered n b.value ≡ false = numbered n b.value ∙ other 0 b (omega arith) in
-      rw t (omega (arith, none_at bs (λ j d m. other (suc j) d (omega (arith, m)))))
-
-  pub found_place : (bs : List (Box Entry A)) (i : ℕ) → ((j : ℕ) (d : Box Entry A) → j < i → number_of (get_or bs j d).value < n) → i < length bs → ((d : Box Entry A) → number_of (get_or bs i d).value ≡ n)
-      → Some i ≡ position (is_numbered n) (unboxed bs)
-  found_place bs i less l q =
-      sym (ap (λ (m : ℕ). cond (nat_lt m (length (unboxed bs))) (Some m) None) (first_at bs i less l q)
-      ∙ ap (λ (b : Bool). cond b (Some i) None) (at_len i (length (unboxed bs)) (omega (arith, l, length-map bs (λ b. b.value)))))
-
-  pub no_place : (bs : List (Box Entry A)) → ((j : ℕ) (d : Box Entry A) → j < length bs → (number_of (get_or bs j d).value == n) ≡ false) → None ≡ position (is_numbered n) (unboxed bs)
-  no_place bs other =
-      sym (ap (λ (m : ℕ). cond (nat_lt m (length (unboxed bs))) (Some m) None) (none_at bs other)
-      ∙ ap (λ (b : Bool). cond b (Some (length (unboxed bs))) None) (past_len (length (unboxed bs))))
-
-module _ {A : Type 0} (n i : ℕ) (bs : List (Box Entry A)) (up : IsNonDecreasingBy (λ (b : Box Entry A). number_of b.value) bs)
-    (parts : IsPartitionPoint (λ (b : Box Entry A). nat_lt (number_of b.value) n ≡ true) (λ (b : Box Entry A). nat_lt (number_of b.value) n ≡ false) bs i) where
-  stands : (d : Box Entry A) {b : Box Entry A} → slice_get bs i ≡ Some b → get_or bs i d ≡ b
-  stands d {b} is = get_or_from_slice_get bs i b d is
-
-  below : (j : ℕ) (d : Box Entry A) → j < i → number_of (get_or bs j d).value < n
-  below j d l = let h = parts.0 j d (omega arith) l in grind (arith, nat_tests)
-
-  from : (j : ℕ) (d : Box Entry A) → i ≤ j → j < length bs → n ≤ number_of (get_or bs j d).value
-  from j d e l = let h = parts.1 j d e l in grind (arith, nat_tests)
-
-  pub place_here : (b : Box Entry A) → i < length bs → b ≡ get_or bs i b → is_numbered n b.value ≡ true → Some i ≡ position (is_numbered n) (unboxed bs)
-  place_here b l is t =
-      let q : (number_of b.value == n) ≡ true = sym (numbered n b.value) ∙ t in
-      let m : number_of b.value ≡ n = grind (arith, nat_tests) in
-      found_place n bs i below l (λ d. ap (λ (x : Box Entry A). number_of x.value) (stands d (slice_get_read bs (length bs) i b refl l is)) ∙ m)
-
-  pub place_gone : (b : Box Entry A) → i < length bs → b ≡ get_or bs i b → is_numbered n b.value ≡ false → None ≡ position (is_numbered n) (unboxed bs)
-  place_gone b l is t = no_place n bs other
-    where
-      here : n < number_of b.value
-      here =
-          let q : (number_of b.value == n) ≡ false = sym (numbered n b.value) ∙ t in
-          let r : number_of (get_or bs i b).value ≡ number_of b.value = ap (λ (x : Box Entry A). number_of x.value) (sym is) in
-          let h = from i b (omega arith) l in
-          let g : n ≤ number_of b.value = omega (arith, h, r) in
-          grind (arith, nat_tests)
-
-      other : (j : ℕ) (d : Box Entry A) → j < length bs → (number_of (get_or bs j d).value == n) ≡ false
-      other j d m = elim (cases_lt j i) [
-        | inl k ↦ let h = below j d k in grind (arith, nat_tests)
-        | inr k ↦
-            let h = up i j d k m in
-            let r : number_of (get_or bs i d).value ≡ number_of b.value = ap (λ (x : Box Entry A). number_of x.value) (stands d (slice_get_read bs (length bs) i b refl l is)) in
-            let g : n < number_of (get_or bs j d).value = let f = here in omega (arith, h, r, f) in
-            grind (arith, nat_tests)
-      ]
-
-  pub place_past : length bs ≤ i → None ≡ position (is_numbered n) (unboxed bs)
-  place_past e = no_place n bs (λ j d l. let h = below j d (omega (arith, l, e)) in grind (arith, nat_tests))
-
-  -- those before it have lower numbers
-  pub all_lower : AllBelow n (take i (unboxed bs))
-  all_lower = taken bs i below
-    where
-      taken : (cs : List (Box Entry A)) (k : ℕ) → ((j : ℕ) (d : Box Entry A) → j < k → number_of (get_or cs j d).value < n) → AllBelow n (take k (unboxed cs))
-      taken [] zero less = tt
-      taken [] (suc k) less = tt
-      taken (c ∷ cs) zero less = tt
-      taken (c ∷ cs) (suc k) less = (less 0 c (omega arith), taken cs k (λ j d l. less (suc j) d (omega (arith, l))))
+  pub below_boxes : (n k : ℕ) (bs : List (Box Entry A)) → AreBelow number_in n (take k bs) → AreBelow number_of n (take k (unboxed bs))
+  below_boxes n zero [] all = tt
+  below_boxes n (suc k) [] all = tt
+  below_boxes n zero (b ∷ bs) all = tt
+  below_boxes n (suc k) (b ∷ bs) all = (all.0, below_boxes n k bs all.1)
 
 -- ---- so many live
 
@@ -225,9 +112,9 @@ module _ (es : List Entry) (opened alive : ℕ) (i : Index) (busy : Counts) (k :
   counted_left true = counted_removed es k e y is ∙ (sym are.alive ∙ (let z : alive ≡ alive + 0 = omega arith in z))
   counted_left false = counted_set es k e y is ∙ ap (λ (n : ℕ). n + one_if (is_live y)) (sym are.alive)
 
-  ascends_left : (gone : Bool) → (gone ≡ false → number_of y ≡ number_of e) → Ascend 0 (left gone es k y) opened
-  ascends_left true same = removed_ascends 0 opened es k y are.ascend
-  ascends_left false same = set_ascends 0 opened es k e y is (same refl) are.ascend
+  ascends_left : (gone : Bool) → (gone ≡ false → number_of y ≡ number_of e) → Ascend number_of 0 (left gone es k y) opened
+  ascends_left true same = subst (λ (l : List Entry). Ascend number_of 0 l opened) (set_away es k y) (removed_ascends number_of 0 opened es k are.ascend)
+  ascends_left false same = set_ascends number_of 0 opened es k e y is (same refl) are.ascend
 
   -- it was counted
   pub was_counted : one_if (is_live e) ≤ alive
@@ -264,13 +151,14 @@ module _ (es : List Entry) (opened alive : ℕ) (i : Index) (busy : Counts) (k :
     counts = λ n. left_counted n es k e y is gone (calls_of now n) (again n);
   }
     where
-      pass : (q : Key) → (q.call ≡ number_of e → ⊥) → Holds i q → Holds j q
+      pass : (q : Key) → (q.owner ≡ number_of e → ⊥) → Holds i q → Holds j q
       pass q other h = into.others q other (out.others q other h)
 
-      marked_left : (b : Bool) → (b ≡ false → number_of y ≡ number_of e) → (b ≡ false → HoldsAll j (number_of e) (marks_of y)) → AreMarked j (left b es k y)
-      marked_left true s noted = removed_marked (number_of e) i j pass 0 opened es k e y refl are.ascend is are.marked
+      marked_left : (b : Bool) → (b ≡ false → number_of y ≡ number_of e) → (b ≡ false → HoldsAll j (number_of e) (marks_of y)) → AreMarked number_of marks_of j (left b es k y)
+      marked_left true s noted =
+          subst (λ (l : List Entry). AreMarked number_of marks_of j l) (set_away es k y) (removed_marked number_of marks_of (number_of e) i j pass 0 opened es k e refl are.ascend is are.marked)
       marked_left false s noted =
-          set_marked (number_of e) i j pass 0 opened es k e y refl are.ascend is (subst (λ (n : ℕ). HoldsAll j n (marks_of y)) (sym (s refl)) (noted refl)) are.marked
+          set_marked number_of marks_of (number_of e) i j pass 0 opened es k e y refl are.ascend is (subst (λ (n : ℕ). HoldsAll j n (marks_of y)) (sym (s refl)) (noted refl)) are.marked
 
 -- ---- a call more
 
@@ -280,7 +168,7 @@ pub noted_kept : (es : List Entry) (opened alive : ℕ) (i j : Index) (busy now 
 noted_kept es opened alive i j busy now e are into same = record {
   ascend = are.ascend;
   alive = are.alive;
-  marked = same_marked i j es (into.kept refl) are.marked;
+  marked = same_marked number_of marks_of i j es (into.kept refl) are.marked;
   counts = λ n. same n ∙ are.counts n;
 }
 
@@ -308,9 +196,9 @@ module _ (es : List Entry) (opened alive : ℕ) (i : Index) (busy : Counts) (e :
   added_one after j now into below counted more = record {
     ascend =
         let h : opened < min (opened + 1) (2 ^ 64 - 1) = omega (arith, below) in
-        pushed_ascends 0 opened (next_number opened) es e (omega (arith, h, number)) (omega (arith, number)) are.ascend;
+        pushed_ascends number_of 0 opened (next_number opened) es e (omega (arith, h, number)) (omega (arith, number)) are.ascend;
     alive = counted ∙ sym counted_more;
-    marked = pushed_marked i j es e (into.kept refl) (into.noted refl) are.marked;
+    marked = pushed_marked number_of marks_of i j es e (into.kept refl) (into.noted refl) are.marked;
     counts = λ n. one_more n es e (calls_of busy n) (calls_of now n) (are.counts n) (more n);
   }
 

@@ -1,5 +1,5 @@
 -- A table of calls and all that was done on it. What a table is after deeds is told from the list of the deeds alone.
-use Rattle.std.specs.Prelude.{ℕ, ◌≡◌, Bool, false, List, [], ◌∷◌, drop}
+use Rattle.std.specs.Prelude.{ℕ, ◌≡◌, Bool, false, List, [], ◌∷◌, Option, drop}
 use Rattle.mmtel_call_decisions.specs.Site.{Site}
 use Rattle.mmtel_desk.specs.Desks.{fresh}
 use Rattle.mmtel_desk.specs.declared.desks.Desk.{Desk}
@@ -60,13 +60,14 @@ pub record CallsView : Type 0 where
   pub sip : Addr
   pub home : List ℕ
   pub bound : ℕ
+  pub country : Option (List ℕ)
   pub table : Table
   -- memory was wanted in a step
   pub has_failed : Bool
 
 -- its configuration, with the peers and the accounts that each call on it is given
 abbrev pub site_of : CallsView → Peers → List AccountIdentity → Site
-site_of calls peers accounts = record { sip = calls.sip; home = calls.home; bound = calls.bound; peers = peers; accounts = accounts }
+site_of calls peers accounts = record { sip = calls.sip; home = calls.home; bound = calls.bound; country = calls.country; peers = peers; accounts = accounts }
 
 -- it stands for these deeds
 pub record Stands (peers : Peers) (accounts : List AccountIdentity) (calls : CallsView) (deeds : List Deed) : Type 0 where

@@ -1,24 +1,19 @@
 -- The table of calls as it is kept: each call in a box of its own, their numbers ascending, those that live counted, and of each account the calls that keep it busy.
-use Rattle.std.specs.Prelude.{ℕ, ◌≡◌, ◌<◌, ◌≤◌, ◌+◌, ◌&&◌, not, Bool, true, if◌then◌else◌, Option, Some, None, Result, Ok, Err, List, [], ◌∷◌, Box, count_by, map, sum_by}
-use Rattle.std.specs.List.{AllByRecursion}
+use Rattle.std.specs.Prelude.{ℕ, ◌≡◌, ◌+◌, ◌&&◌, not, Bool, true, if◌then◌else◌, Option, Some, None, Result, Ok, Err, List, Box, count_by, map, sum_by}
 use Rattle.mmtel_scan.specs.declared.memory.NoMemory.{NoMemory}
 use Rattle.mmtel_types.specs.declared.numbers.Account.{Account}
 use Rattle.mmtel_call_decisions.specs.Busy.{Counts, calls_of, one_of}
+use Rattle.mmtel_desk.specs.Marks.{AreMarked, Ascend}
+use Rattle.mmtel_desk.specs.declared.index.Index.{Index}
 use Rattle.mmtel_b2bua.specs.Entries.{is_live, origin_of, served_of}
-use Rattle.mmtel_b2bua.specs.Marks.{AreMarked}
+use Rattle.mmtel_b2bua.specs.Marks.{marks_of}
 use Rattle.mmtel_b2bua.specs.declared.entries.Entry.{Entry}
-use Rattle.mmtel_b2bua.specs.declared.index.Index.{Index}
 
 abbrev pub unboxed : {X A : Type 0} → List (Box X A) → List X
 unboxed boxes = map (λ b. b.value) boxes
 
 abbrev pub number_of : Entry → ℕ
 number_of e = e.call.opening.number.0
-
--- each number is above the one before it, the first above low, and the last not above high
-abbrev pub Ascend : (low : ℕ) → List Entry → (high : ℕ) → Type 0
-Ascend low [] high = low ≤ high
-Ascend low (e ∷ es) high = (low < number_of e) × Ascend (number_of e) es high
 
 -- how often the account of this number is kept busy, where this account is
 abbrev pub often : Option Account → ℕ → ℕ
@@ -31,14 +26,10 @@ keeps_busy number e = often (origin_of e) number + often (served_of e) number
 
 -- so many live, the last that was opened had this number, each is found by its marks, and so many keep each account busy
 pub record AreKept (es : List Entry) (opened living : ℕ) (index : Index) (busy : Counts) : Type 0 where
-  pub ascend : Ascend 0 es opened
+  pub ascend : Ascend number_of 0 es opened
   pub alive : living ≡ count_by is_live es
-  pub marked : AreMarked index es
+  pub marked : AreMarked number_of marks_of index es
   pub counts : (number : ℕ) → calls_of busy number ≡ sum_by (keeps_busy number) es
-
--- all of these have lower numbers
-abbrev pub AllBelow : ℕ → List Entry → Type 0
-AllBelow number es = AllByRecursion (λ e. number_of e < number) es
 
 -- ---- counted on
 

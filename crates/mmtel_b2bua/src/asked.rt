@@ -8,8 +8,8 @@ ghost use Rattle.mmtel_b2bua.specs.Names.{party_stood, side_asking, side_by, sid
 use crate::busy::account_of;
 use crate::call_table::CallTable;
 use crate::entries::{Entry, InviteKey};
-use crate::marks::{Mark, told};
 use mmtel_call::{Pair, Phase, Trial, TriedLeg};
+use mmtel_desk::{Mark, told};
 use mmtel_leg::{Dialogue, Released};
 use mmtel_transaction::TKey;
 use mmtel_types::{Account, CallNo, Peer, Side};

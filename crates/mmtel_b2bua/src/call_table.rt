@@ -4,25 +4,25 @@ ghost use Rattle.std.specs.Prelude.{◌≡◌, ◌<◌, ◌≤◌, ◌+◌, ◌^
 ghost use Rattle.std.specs.Prelude.{count_by, drop, length, nat_le, option_to_list, remove, slice_get, take, ℕ};
 ghost use Rattle.std.specs.Option.{option_copied, option_map};
 ghost use Rattle.std.specs.List.Sorted.{IsNonDecreasingBy};
+ghost use Rattle.mmtel_desk.specs.Marks.{AreBelow, Unmarked};
 ghost use Rattle.mmtel_leg.specs.Releases.{released_leg};
 ghost use Rattle.mmtel_scan.specs.Numbers.{next_number};
 ghost use Rattle.mmtel_b2bua.specs.Entries.{is_live, kept};
-ghost use Rattle.mmtel_b2bua.specs.Kept.{AllBelow, lives_on, number_of, one_if, unboxed};
+ghost use Rattle.mmtel_b2bua.specs.Kept.{lives_on, number_of, one_if, unboxed};
 ghost use Rattle.mmtel_b2bua.specs.Lending.{ended_at, is_away, leg_of_entry, lent_at, place_of, put_back_at, takes_back};
-ghost use Rattle.mmtel_b2bua.specs.Marks.{Unmarked};
+ghost use Rattle.mmtel_b2bua.specs.Marks.{marks_of};
 ghost use Rattle.mmtel_b2bua.specs.Names.{live};
 ghost use Rattle.mmtel_b2bua.specs.Tables.{busy_with, most_calls, moved_at, no_calls, open_of};
 
 use crate::busy::{add, count_again, is_gone, take};
 use crate::entries::{Entry, InviteKey};
-use crate::index::Index;
-use crate::marks::Mark;
+use crate::marks::put_call;
 use mmtel_call::{Call, NotTalking, Signal as CallSignal};
 use mmtel_call_decisions::{Arrival, Busy, Present, Setting};
 use mmtel_call_laws::calls_go_on;
 use mmtel_charging::Row;
 use mmtel_decisions::drop_first;
-use mmtel_desk::Desk;
+use mmtel_desk::{Desk, Index, Mark};
 use mmtel_leg::Released;
 use mmtel_scan::{List, NoMemory};
 use mmtel_sheet_values::SheetView;
@@ -122,12 +122,12 @@ fn place_in(entries: &[Box<Entry>], number: CallNo) -> Option<usize>
 }
 
 /// From which place on no call has a lower number.
-fn below(entries: &[Box<Entry>], number: CallNo) -> usize
+fn below(entries: &[Box<Entry>], number: u64) -> usize
     requires { IsNonDecreasingBy (λ b. number_of b.value) entries.now }
     ensures within { result ≤ length (unboxed entries.now) }
-    ensures lower { AllBelow number.0 (take result (unboxed entries.now)) }
+    ensures lower { AreBelow number_of number (take result (unboxed entries.now)) }
 {
-    entries.partition_point(|entry| entry.call.opening.number.0 < number.0)
+    entries.partition_point(|entry| entry.call.opening.number.0 < number)
 }
 
 /// So many places after another one, where so many calls are kept.
@@ -198,7 +198,7 @@ impl CallTable {
     /// From which place on a call may have this mark.
     pub fn from(&self, mark: Mark) -> usize
         ensures within { result ≤ length self.now.entries }
-        ensures none { Unmarked mark (take result self.now.entries) }
+        ensures none { Unmarked marks_of mark (take result self.now.entries) }
     {
         match self.index.first(mark) {
             None => self.entries.len(),
@@ -256,7 +256,7 @@ impl CallTable {
             return Err(NoMemory);
         }
         let is_live = entry.is_live();
-        self.index.put_call(&entry, CallNo(number), true);
+        put_call(&mut self.index, &entry, CallNo(number), true);
         let boxed = boxed(alloc, entry, at)?;
         match boxed.add_to(&mut self.busy) {
             Ok(()) => {}
@@ -351,7 +351,7 @@ impl CallTable {
         let before = entry.is_live();
         let number = entry.call.opening.number;
         let origin = entry.origin();
-        self.index.put_call(entry, number, false);
+        put_call(&mut self.index, entry, number, false);
         take(&mut self.busy, entry.served());
         let present = Present {
             at,
@@ -362,7 +362,7 @@ impl CallTable {
         let counted = count_again(&mut self.busy, entry, heard);
         take(&mut self.busy, origin);
         let gone = is_gone(&counted);
-        self.index.put_call(entry, number, !gone);
+        put_call(&mut self.index, entry, number, !gone);
         let after = keep_at(&mut self.entries, place, gone, at);
         self.alive = recounted(self.alive, before, after);
         match counted {
@@ -392,12 +392,12 @@ impl CallTable {
         let entry = &mut *self.entries[place];
         let before = entry.is_live();
         let number = entry.call.opening.number;
-        self.index.put_call(entry, number, false);
+        put_call(&mut self.index, entry, number, false);
         entry.take_from(&mut self.busy);
         let finished = entry.finish(alloc, setting, at, desk);
         let counted = count_again(&mut self.busy, entry, finished);
         let left = is_gone(&counted);
-        self.index.put_call(entry, number, !left);
+        put_call(&mut self.index, entry, number, !left);
         let after = keep_at(&mut self.entries, place, left, at);
         self.alive = recounted(self.alive, before, after);
         match counted {
@@ -415,9 +415,9 @@ impl CallTable {
     {
         let entry = &mut *self.entries[place];
         let number = entry.call.opening.number;
-        self.index.put_call(entry, number, false);
+        put_call(&mut self.index, entry, number, false);
         let leg = entry.call.release(side);
-        self.index.put_call(entry, number, true);
+        put_call(&mut self.index, entry, number, true);
         leg
     }
 
@@ -430,9 +430,9 @@ impl CallTable {
     {
         let entry = &mut *self.entries[place];
         let number = entry.call.opening.number;
-        self.index.put_call(entry, number, false);
+        put_call(&mut self.index, entry, number, false);
         entry.call.restore(away);
-        self.index.put_call(entry, number, true);
+        put_call(&mut self.index, entry, number, true);
     }
 
     /// The rows that wait, in the order in which they were closed.

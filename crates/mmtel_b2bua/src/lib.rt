@@ -5,7 +5,6 @@ mod asked;
 mod busy;
 mod call_table;
 mod entries;
-mod index;
 mod lending;
 mod marks;
 mod moves;

@@ -1,73 +1,156 @@
-//! By what a call is found without asking each: the branches and the transactions of its INVITEs, and the server's tags of its dialogs.
-ghost use Rattle.std.specs.Prelude.{◌≡◌};
-ghost use Rattle.mmtel_b2bua.specs.Marks.{key_of, told_of};
+//! By what a call is found: the branches and the transactions of its INVITEs, and the server's tags of its dialogs.
+ghost use Rattle.std.specs.Prelude.{◌≡◌, ◌∷◌, [], flat_map};
+ghost use Rattle.std.specs.Option.{option_copied};
+ghost use Rattle.mmtel_call.specs.Table.{current};
+ghost use Rattle.mmtel_desk.specs.Marks.{Written};
+ghost use Rattle.mmtel_b2bua.specs.Entries.{is_live};
+ghost use Rattle.mmtel_b2bua.specs.Marks.{asked_marks, dialog_mark, dialog_marks, heard_marks, invitation_marks, invite_marks, loose_marks, marks_of, taken_marks, waiting_marks};
 
+use crate::entries::{Entry, InviteKey};
+use mmtel_call::{Phase, Stage, Taken, Tried, TriedLeg};
+use mmtel_desk::{Index, Invitation, Loose, Mark, told};
+use mmtel_leg::Dialogue;
+use mmtel_transaction::TKey;
 use mmtel_types::CallNo;
 
-/// By what a call is found. Of bytes a number is told, which others may have too: who finds a call by a mark asks it whether it is the one.
-#[derive(Clone, Copy)]
-pub enum Mark {
-    /// The branch of an INVITE that the server sent.
-    Sent(u64),
-    /// The client transaction of an INVITE that had an answer.
-    Heard(u64),
-    /// The server transaction of an INVITE that a side sent.
-    Asked(u64),
-    /// The server's tag in a dialog.
-    Named(u64),
+/// The call of this number is found by the client transaction of an INVITE, once that is known, from now on, or no more.
+fn put_key(index: &mut Index, key: Option<TKey>, call: CallNo, stays: bool)
+    ensures { Written stays call.0 (heard_marks key) index.old index.new }
+{
+    match key {
+        None => {}
+        Some(key) => index.put(Mark::Heard(key.0), call.0, stays),
+    }
 }
 
-/// A mark with the number of a call that has it, in the order in which they are kept.
-#[derive(Clone, Copy, Debug, PartialEq, Eq, PartialOrd, Ord)]
-pub struct Key {
-    /// The kind of the mark.
-    pub kind: u64,
-    /// Its number.
-    pub told: u64,
-    /// The number of the call.
-    pub call: u64,
+/// The same of an INVITE that was left, or had a 2xx.
+fn put_invitation(index: &mut Index, invitation: &Invitation, call: CallNo, stays: bool)
+    ensures { Written stays call.0 (invitation_marks invitation.now) index.old index.new }
+{
+    index.put(Mark::Sent(told(invitation.branch.bytes())), call.0, stays);
+    put_key(index, invitation.key, call, stays);
 }
 
-impl Key {
-    /// The mark of the call of this number.
-    pub fn of(mark: Mark, call: CallNo) -> Key
-        ensures { result ≡ key_of mark call.0 }
-    {
-        let call = call.0;
-        match mark {
-            Mark::Sent(told) => Key {
-                kind: 0,
-                told,
-                call,
-            },
-            Mark::Heard(told) => Key {
-                kind: 1,
-                told,
-                call,
-            },
-            Mark::Asked(told) => Key {
-                kind: 2,
-                told,
-                call,
-            },
-            Mark::Named(told) => Key {
-                kind: 3,
-                told,
-                call,
-            },
+/// Of those that were left.
+fn put_loose(index: &mut Index, loose: &[Loose], call: CallNo, stays: bool)
+    ensures { Written stays call.0 (flat_map loose_marks loose.now) index.old index.new }
+{
+    for left in loose {
+        put_invitation(index, &left.invitation, call, stays);
+    }
+}
+
+/// Of those that had a 2xx.
+fn put_taken(index: &mut Index, all: &[Taken], call: CallNo, stays: bool)
+    ensures { Written stays call.0 (flat_map taken_marks all.now) index.old index.new }
+{
+    for taken in all {
+        put_invitation(index, &taken.invitation, call, stays);
+    }
+}
+
+/// Of those that its sides sent.
+fn put_invites(index: &mut Index, invites: &[InviteKey], call: CallNo, stays: bool)
+    ensures { Written stays call.0 (flat_map invite_marks invites.now) index.old index.new }
+{
+    for invite in invites {
+        index.put(Mark::Asked(invite.key.0), call.0, stays);
+    }
+}
+
+/// Of a call that lives.
+fn put_asked(index: &mut Index, entry: &Entry, call: CallNo, stays: bool)
+    ensures { Written stays call.0 (asked_marks (is_live entry.now) entry.now.invites) index.old index.new }
+{
+    if !entry.is_live() {
+        return;
+    }
+    put_invites(index, entry.invites.items(), call, stays);
+}
+
+/// Of the one that the call waits on.
+fn put_waiting(index: &mut Index, phase: &Phase, call: CallNo, stays: bool)
+    ensures { Written stays call.0 (waiting_marks (current phase.now)) index.old index.new }
+{
+    match waits_on(phase) {
+        None => {}
+        Some(invitation) => {
+            index.put(Mark::Sent(told(invitation.branch.bytes())), call.0, stays)
         }
     }
 }
 
-/// A number that is told from bytes.
-pub fn told(bytes: &[u8]) -> u64
-    ensures { result ≡ told_of bytes.now }
+/// Of a dialog.
+fn put_dialog(index: &mut Index, dialogue: &Dialogue, call: CallNo, stays: bool)
+    ensures { Written stays call.0 (dialog_mark dialogue.now ∷ []) index.old index.new }
 {
-    let mut sum = 0u64;
-    for byte in bytes {
-        sum = sum
-            .wrapping_mul(1_099_511_628_211)
-            .wrapping_add(u64::from(*byte));
+    index.put(Mark::Named(told(dialogue.local_tag.bytes())), call.0, stays);
+}
+
+/// Of two dialogs.
+fn put_both(index: &mut Index, caller: &Dialogue, callee: &Dialogue, call: CallNo, stays: bool)
+    ensures { Written stays call.0 (dialog_mark caller.now ∷ dialog_mark callee.now ∷ []) index.old index.new }
+{
+    put_dialog(index, caller, call, stays);
+    put_dialog(index, callee, call, stays);
+}
+
+/// Of the dialogs of a call.
+fn put_dialogs(index: &mut Index, phase: &Phase, call: CallNo, stays: bool)
+    ensures { Written stays call.0 (dialog_marks phase.now) index.old index.new }
+{
+    match phase {
+        Phase::Offered(x) => {
+            put_both(
+                index,
+                x.caller.dialogue(),
+                dialogue_of(&x.callee),
+                call,
+                stays,
+            )
+        }
+        Phase::Stood(x, _) => {
+            put_both(index, x.caller.dialogue(), x.callee.dialogue(), call, stays)
+        }
+        Phase::Lent(loan) => put_dialog(index, loan.left.dialogue(), call, stays),
+        Phase::Over(_) => {}
     }
-    sum
+}
+
+/// This call, of this number, is found by its marks from now on, or no more.
+pub fn put_call(index: &mut Index, entry: &Entry, call: CallNo, stays: bool)
+    ensures { Written stays call.0 (marks_of entry.now) index.old index.new }
+{
+    put_waiting(index, &entry.call.phase, call, stays);
+    put_loose(index, entry.call.loose.items(), call, stays);
+    put_taken(index, entry.call.taken.items(), call, stays);
+    put_asked(index, entry, call, stays);
+    put_dialogs(index, &entry.call.phase, call, stays);
+}
+
+/// The INVITE that a call waits on.
+fn waits_on(phase: &Phase) -> Option<&Invitation>
+    ensures { option_copied result ≡ current phase.now }
+{
+    match phase {
+        Phase::Offered(x) => Some(&x.attempt.invitation),
+        Phase::Stood(_, stage) => match stage {
+            Stage::Answered(_, _) => None,
+            Stage::Parting(_, _) => None,
+            Stage::Talking => None,
+            Stage::Asking(_, reinvite) => Some(&reinvite.invitation),
+        },
+        Phase::Lent(_) => None,
+        Phase::Over(_) => None,
+    }
+}
+
+/// The dialog of a target.
+fn dialogue_of(tried: &Tried) -> &Dialogue
+    ensures { result.now ≡ tried.now.leg.dialogue }
+{
+    match &tried.leg {
+        TriedLeg::Asked(leg) => leg.dialogue(),
+        TriedLeg::Early(leg) => leg.dialogue(),
+    }
 }

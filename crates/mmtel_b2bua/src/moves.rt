@@ -13,13 +13,12 @@ ghost use Rattle.mmtel_scan.specs.Numbers.{next_number};
 
 use crate::call_table::CallTable;
 use crate::entries::{Entry, InviteKey};
-use crate::marks::{Mark, told};
 use crate::signals::Signal;
 use mmtel_answers::Hearing;
 use mmtel_call::{Call, Signal as CallSignal};
 use mmtel_call_decisions::{Arrival, Present, Setting};
 use mmtel_call_laws::alike_calls_go_on_alike;
-use mmtel_desk::{Desk, file, invite_answered, invite_silent};
+use mmtel_desk::{Desk, Mark, file, invite_answered, invite_silent, told};
 use mmtel_message::is_method;
 use mmtel_scan::{List, NoMemory, Text};
 use mmtel_sheet_values::SheetView;

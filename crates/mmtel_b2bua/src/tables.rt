@@ -38,6 +38,7 @@ pub struct Calls {
     sip: Addr,
     home: Text,
     bound: u16,
+    country: Option<Text>,
     table: CallTable,
     has_failed: bool,
 }
@@ -52,6 +53,7 @@ impl Model for Calls {
       sip = c.sip;
       home = c.home;
       bound = c.bound;
+      country = c.country;
       table = c.table;
       has_failed = c.has_failed;
     } };
@@ -69,20 +71,50 @@ fn is_full(signal: &Signal, table: &CallTable) -> bool
     }
 }
 
+/// What each step is given: the configuration, the peers and the accounts.
+fn setting_of<'a>(
+    sip: Addr,
+    home: &'a Text,
+    bound: u16,
+    country: &'a Option<Text>,
+    peers: &'a PeerTable,
+    accounts: &'a Accounts,
+) -> Setting<'a>
+    requires { bound ≤ 16 }
+    ensures { result ≡ record { sip = sip; home = home.now; bound = bound; country = country.now; peers = peers.now; accounts = accounts.now } }
+{
+    Setting {
+        sip,
+        home: home.bytes(),
+        bound,
+        country: country.as_ref(),
+        peers,
+        accounts,
+    }
+}
+
 impl Calls {
-    /// No calls yet, for the home domain, the server's address, and the bound on the diversions of a call (TS 24.604 §4.5.2.6).
+    /// No calls yet, for the home domain, the server's address, the bound on the diversions of a call (TS 24.604 §4.5.2.6), and the digits of the home country, where they
+    /// are known.
     ///
     /// # Errors
     ///
     /// Want of memory alone.
-    pub fn new(alloc: Global, home: Text, sip: Addr, bound: u16) -> Result<Calls, NoMemory>
+    pub fn new(
+        alloc: Global,
+        home: Text,
+        sip: Addr,
+        bound: u16,
+        country: Option<Text>,
+    ) -> Result<Calls, NoMemory>
         requires { bound ≤ 16 }
-        ensures { IfOk result (λ calls. calls ≡ record { sip = sip; home = home; bound = bound; table = no_calls; has_failed = false }) }
+        ensures { IfOk result (λ calls. calls ≡ record { sip = sip; home = home; bound = bound; country = country; table = no_calls; has_failed = false }) }
     {
         Ok(Calls {
             sip,
             home,
             bound,
+            country,
             table: CallTable::new(alloc),
             has_failed: false,
         })
@@ -111,13 +143,14 @@ impl Calls {
         ensures desk { OnOk result (desk.new
             ≡ (taken (site_of self.old peers.now accounts.now) now sheets.now (next_number self.old.table.opened) signal self.old.table.entries desk.old).desk) }
     {
-        let setting = Setting {
-            sip: self.sip,
-            home: self.home.bytes(),
-            bound: self.bound,
+        let setting = setting_of(
+            self.sip,
+            &self.home,
+            self.bound,
+            &self.country,
             peers,
             accounts,
-        };
+        );
         take(&mut self.table, alloc, &setting, sheets, now, signal, desk)
     }
 
@@ -332,13 +365,14 @@ impl Calls {
         ensures emits { IfOk result (λ out. out ≡ (finished_by (site_of self.old peers.now accounts.now) call.0 now tokens.old self.old.table).desk.out) }
         ensures tokens { OnOk result (tokens.new ≡ (finished_by (site_of self.old peers.now accounts.now) call.0 now tokens.old self.old.table).desk.tokens) }
     {
-        let setting = Setting {
-            sip: self.sip,
-            home: self.home.bytes(),
-            bound: self.bound,
+        let setting = setting_of(
+            self.sip,
+            &self.home,
+            self.bound,
+            &self.country,
             peers,
             accounts,
-        };
+        );
         let mut desk = Desk::new(mem::replace(tokens, Tokens::new(Text::new())));
         let finished = lending::finish(&mut self.table, alloc, &setting, now, call, &mut desk);
         mem::swap(tokens, &mut desk.tokens);
@@ -393,10 +427,12 @@ impl Calls {
             sip: _,
             home,
             bound: _,
+            country,
             table,
             has_failed: _,
         } = self;
         drop(home);
+        drop(country);
         table.give_up();
     }
 }

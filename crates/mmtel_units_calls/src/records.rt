@@ -32,6 +32,9 @@ fn condition(event: Option<EventWord>, identity: Option<Who>) -> Condition {
         window: None,
         media: None,
         event,
+        diverted: false,
+        abroad: false,
+        weekly: None,
     }
 }
 
@@ -51,6 +54,7 @@ fn no_rules() -> DiversionPart {
         rules: List::new(),
         no_reply: 20,
         deflection: false,
+        bound: None,
     }
 }
 

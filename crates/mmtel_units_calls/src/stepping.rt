@@ -87,6 +87,7 @@ fn setting(world: &World) -> Setting<'_> {
         sip: SIP,
         home: b"home.example",
         bound,
+        country: None,
         peers: &world.peers,
         accounts: &world.accounts,
     }

@@ -4,7 +4,7 @@ use crate::asserting::assert_right;
 use crate::directory::tables::{Grammar, wrong_row};
 use mmtel_directory::{Directory, DirectoryFault, read_directory};
 use mmtel_lex::{Uri, print_uri, read_uri};
-use mmtel_scan::number_up_to;
+use mmtel_scan::{Text, number_up_to};
 use mmtel_told::{Rows, Told, cut, wrong_line};
 use mmtel_types::{Account, Addr, Peer};
 use std::alloc::Global;
@@ -27,6 +27,7 @@ operator sip:op@home.example
 mixer 10.0.0.2 41000
 factory sip:conf@home.example
 bound 0
+country 049
 store calls.db
 ";
 
@@ -79,6 +80,14 @@ fn tell_number(told: &mut Told, word: &[u8], number: u64) {
     told.add(b"\n");
 }
 
+/// Tells the digits of the home country, where they are known.
+fn tell_digits(told: &mut Told, country: &Option<Text>) {
+    match country {
+        None => tell_text(told, b"country ", b"none"),
+        Some(digits) => tell_text(told, b"country ", digits.bytes()),
+    }
+}
+
 /// Tells what a configuration sets but for peers, routes and identities.
 fn tell_settings(told: &mut Told, directory: &Directory) {
     tell_addr(told, b"sip", directory.sip.ip, directory.sip.port);
@@ -86,6 +95,7 @@ fn tell_settings(told: &mut Told, directory: &Directory) {
     tell_addr(told, b"mixer", directory.mixer.ip, directory.mixer.port);
     tell_text(told, b"home ", directory.home.bytes());
     tell_number(told, b"bound ", u64::from(directory.bound));
+    tell_digits(told, &directory.country);
     tell_text(told, b"store ", directory.store.bytes());
     tell_uri(told, b"operator ", &directory.names.operator);
     tell_uri(told, b"factory ", &directory.factory);
@@ -160,6 +170,7 @@ web 10 0 0 1 80
 mixer 10 0 0 2 41000
 home home.example
 bound 0
+country 049
 store calls.db
 operator sip:op@home.example
 factory sip:conf@home.example
@@ -195,6 +206,7 @@ web 127 0 0 1 8080
 mixer 127 0 0 1 40000
 home h
 bound 5
+country none
 store :memory:
 operator none
 factory none
@@ -261,7 +273,7 @@ const WHOLE: &[u8] = b"0|sip 1.2.3.4:5;home h
 2|sip 1.2.3.4:5;home h i;
 2|sip 1.2.3.4:5;home a/b;
 3|sip 1.2.3.4:5;home h;website x;
-3|sip 1.2.3.4:5;home h;country 49;
+3|sip 1.2.3.4:5;home h;area 49;
 3|#;;x;sip 1.2.3.4:5;home h;
 1|sip  127.0.0.1:5060;home h;
 1|sip 127.0-0.1:5060;home h;
@@ -339,6 +351,14 @@ const ONCE: &[u8] = b"0|web 1.2.3.4:5;
 3|bound -1;
 3|bound;
 4|bound 5;bound 5;
+0|country 1;
+0|country 049;
+3|country;
+3|country ;
+3|country 1234;
+3|country +49;
+3|country 4 9;
+4|country 49;country 49;
 0|mixer 1.2.3.4 65535;
 3|mixer 1.2.3.4 0;
 3|mixer 1.2.3.4 65536;

@@ -1,17 +1,18 @@
 use Rattle.std.proofs.Common.{◌∙◌}
 use Rattle.mmtel_b2bua.specs.Names.{has_side, side_asking}
 use Rattle.mmtel_b2bua.specs.Kept.{unboxed}
-use Rattle.mmtel_b2bua.specs.declared.marks.Mark.TheVariants.{Asked}
+use Rattle.mmtel_b2bua.specs.Marks.{marks_of}
+use Rattle.mmtel_desk.proofs.Marking.{place_fits, place_found}
+use Rattle.mmtel_desk.specs.declared.marks.Mark.TheVariants.{Asked}
 use Rattle.mmtel_b2bua.proofs.Finding.{asked_marked}
 use Rattle.mmtel_b2bua.proofs.Keeping.{position_boxes}
-use Rattle.mmtel_b2bua.proofs.Marking.{place_fits, place_found}
 use Rattle.mmtel_b2bua.proofs.asked.place_asking.Goals as goal
 
 pub later-requires : goal.later-requires
 later-requires c =
-    place_fits (has_side (side_asking c.args.key)) c.args.table.now.entries c.from-start.result c.from-start.ensures.within (unboxed c.entries_from.result.now) c.entries_from.ensures c.asking_in-place.result (c.asking_in-place.ensures ∙ position_boxes (has_side (side_asking c.args.key)) c.entries_from.result.now)
+    place_fits marks_of (has_side (side_asking c.args.key)) c.args.table.now.entries c.from-start.result c.from-start.ensures.within (unboxed c.entries_from.result.now) c.entries_from.ensures c.asking_in-place.result (c.asking_in-place.ensures ∙ position_boxes (has_side (side_asking c.args.key)) c.entries_from.result.now)
 
 pub returns : goal.returns
 returns c =
-    place_found (has_side (side_asking c.args.key)) c.args.table.now.entries c.from-start.result c.from-start.ensures.within (unboxed c.entries_from.result.now) c.entries_from.ensures c.asking_in-place.result (c.asking_in-place.ensures ∙ position_boxes (has_side (side_asking c.args.key)) c.entries_from.result.now)
+    place_found marks_of (has_side (side_asking c.args.key)) c.args.table.now.entries c.from-start.result c.from-start.ensures.within (unboxed c.entries_from.result.now) c.entries_from.ensures c.asking_in-place.result (c.asking_in-place.ensures ∙ position_boxes (has_side (side_asking c.args.key)) c.entries_from.result.now)
     (Asked c.args.key.0) (asked_marked c.args.key) c.from-start.ensures.none c.later.result c.later.ensures

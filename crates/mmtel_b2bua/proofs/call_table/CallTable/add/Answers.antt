@@ -27,18 +27,18 @@ invariant_of-self-in-Ok-push c =
     (let h = c.recounted-self-inside.ensures in let z : c.recounted-self-inside.result ≡ c.self.inside.alive + one_if c.is_live-is_live.result = omega (arith, h) in z)
     ∙ ap (λ b. c.self.inside.alive + one_if b) c.is_live-is_live.ensures in
     let more = λ (n : ℕ). c.in-Ok.ensures.more n ∙ ap (λ (x : Entry). calls_of c.self.inside.busy n + keeps_busy n x) (c.deref.ensures ∙ c.in_ok-boxed.ensures) in
-    subst (λ (l : List Entry). AreKept l (number_of e) c.recounted-self-inside.result c.put_call.new.self c.add_to.new.busy) (sym now)
-    (subst (λ (n : ℕ). AreKept (unboxed bs ++ e ∷ []) n c.recounted-self-inside.result c.put_call.new.self c.add_to.new.busy) (sym number)
-    (added_one (unboxed bs) c.self.inside.opened c.self.inside.alive c.self.inside.index c.self.inside.busy e c.self.invariant number (omega (arith, c.self.ranges.1.0.1)) c.recounted-self-inside.result c.put_call.new.self c.add_to.new.busy c.put_call.ensures
+    subst (λ (l : List Entry). AreKept l (number_of e) c.recounted-self-inside.result c.put_call.new.index c.add_to.new.busy) (sym now)
+    (subst (λ (n : ℕ). AreKept (unboxed bs ++ e ∷ []) n c.recounted-self-inside.result c.put_call.new.index c.add_to.new.busy) (sym number)
+    (added_one (unboxed bs) c.self.inside.opened c.self.inside.alive c.self.inside.index c.self.inside.busy e c.self.invariant number (omega (arith, c.self.ranges.1.0.1)) c.recounted-self-inside.result c.put_call.new.index c.add_to.new.busy c.put_call.ensures
     (let f = c.if-self.false in omega (arith, c.self.ranges.1.0.1, f)) alive more))
 
 pub invariant_of-self-in_err-boxed : goal.invariant_of-self-in_err-boxed
 invariant_of-self-in_err-boxed c =
-    noted_kept (unboxed c.self.inside.entries.items) c.self.inside.opened c.self.inside.alive c.self.inside.index c.put_call.new.self c.self.inside.busy c.self.inside.busy c.args.entry c.self.invariant c.put_call.ensures (λ n. refl)
+    noted_kept (unboxed c.self.inside.entries.items) c.self.inside.opened c.self.inside.alive c.self.inside.index c.put_call.new.index c.self.inside.busy c.self.inside.busy c.args.entry c.self.invariant c.put_call.ensures (λ n. refl)
 
 pub invariant_of-self-in-Err : goal.invariant_of-self-in-Err
 invariant_of-self-in-Err c =
-    noted_kept (unboxed c.self.inside.entries.items) c.self.inside.opened c.self.inside.alive c.self.inside.index c.put_call.new.self c.self.inside.busy c.add_to.new.busy c.args.entry c.self.invariant c.put_call.ensures c.in-Err.ensures.same
+    noted_kept (unboxed c.self.inside.entries.items) c.self.inside.opened c.self.inside.alive c.self.inside.index c.put_call.new.index c.self.inside.busy c.add_to.new.busy c.args.entry c.self.invariant c.put_call.ensures c.in-Err.ensures.same
 
 pub invariant_of-self-in-Err-push : goal.invariant_of-self-in-Err-push
 invariant_of-self-in-Err-push c =
@@ -48,5 +48,5 @@ invariant_of-self-in-Err-push c =
     let a = c.in-Ok.ensures.more n in
     let b = c.take_from.ensures n ∙ ap (λ (x : Entry). calls_of c.add_to.new.busy n - keeps_busy n x) back in
     omega (arith, a, b) in
-    subst (λ (l : List Entry). AreKept l c.self.inside.opened c.self.inside.alive c.put_call.new.self c.take_from.new.busy) (sym (ap unboxed c.in-Err-push.ensures.items))
-    (noted_kept (unboxed c.self.inside.entries.items) c.self.inside.opened c.self.inside.alive c.self.inside.index c.put_call.new.self c.self.inside.busy c.take_from.new.busy c.args.entry c.self.invariant c.put_call.ensures same)
+    subst (λ (l : List Entry). AreKept l c.self.inside.opened c.self.inside.alive c.put_call.new.index c.take_from.new.busy) (sym (ap unboxed c.in-Err-push.ensures.items))
+    (noted_kept (unboxed c.self.inside.entries.items) c.self.inside.opened c.self.inside.alive c.self.inside.index c.put_call.new.index c.self.inside.busy c.take_from.new.busy c.args.entry c.self.invariant c.put_call.ensures same)

@@ -45,8 +45,8 @@ invariant_of-self c =
     let same : OnOk c.count_again-counted.result (number_of y ≡ number_of e) = still_on _ c.finish-finished.result c.count_again-counted.result c.count_again-counted.ensures.heard c.finish-finished.ensures.number in
     let into = λ (n : ℕ). c.count_again-counted.ensures.counted n ∙ ap (λ (x : Bool). calls_of c.take_from.new.busy n + (if x then 0 else keeps_busy n y)) (sym c.is_gone-left.ensures) in
     let again = recounted es k e y is gone c.self.inside.busy c.count_again-counted.new.busy c.self.invariant.counts c.take_from.new.busy c.take_from.ensures into in
-    subst (λ (l : List Entry). AreKept l c.self.inside.opened c.recounted-self-inside.result c.put_call-2.new.self c.count_again-counted.new.busy) (sym now)
-    (left_kept es c.self.inside.opened c.self.inside.alive c.self.inside.index c.self.inside.busy k e y c.self.invariant is gone c.recounted-self-inside.result c.put_call.new.self c.put_call-2.new.self c.count_again-counted.new.busy c.put_call.ensures c.put_call-2.ensures
+    subst (λ (l : List Entry). AreKept l c.self.inside.opened c.recounted-self-inside.result c.put_call-2.new.index c.count_again-counted.new.busy) (sym now)
+    (left_kept es c.self.inside.opened c.self.inside.alive c.self.inside.index c.self.inside.busy k e y c.self.invariant is gone c.recounted-self-inside.result c.put_call.new.index c.put_call-2.new.index c.count_again-counted.new.busy c.put_call.ensures c.put_call-2.ensures
     (λ stays. not_gone c.count_again-counted.result (number_of y ≡ number_of e) same (sym c.is_gone-left.ensures ∙ stays)) alive again)
 
 pub returns-clause-table : goal.returns-clause-table

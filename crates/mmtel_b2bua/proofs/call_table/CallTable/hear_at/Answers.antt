@@ -44,8 +44,8 @@ invariant_of-self c =
     let same : OnOk c.count_again-counted.result (number_of y ≡ number_of e) = still_on _ c.hear-heard.result c.count_again-counted.result c.count_again-counted.ensures.heard c.hear-heard.ensures.number in
     let into = λ (n : ℕ). c.count_again-counted.ensures.counted n ∙ ap (λ (x : Bool). calls_of c.take.new.busy n + (if x then 0 else keeps_busy n y)) (sym c.is_gone-gone.ensures) in
     let again = parted es k e y is gone c.self.inside.busy c.take-2.new.busy c.self.invariant.counts c.take.new.busy c.count_again-counted.new.busy c.served.result c.origin-origin.result c.served.ensures c.origin-origin.ensures c.take.ensures into c.take-2.ensures in
-    subst (λ (l : List Entry). AreKept l c.self.inside.opened c.recounted-self-inside.result c.put_call-2.new.self c.take-2.new.busy) (sym now)
-    (left_kept es c.self.inside.opened c.self.inside.alive c.self.inside.index c.self.inside.busy k e y c.self.invariant is gone c.recounted-self-inside.result c.put_call.new.self c.put_call-2.new.self c.take-2.new.busy c.put_call.ensures c.put_call-2.ensures
+    subst (λ (l : List Entry). AreKept l c.self.inside.opened c.recounted-self-inside.result c.put_call-2.new.index c.take-2.new.busy) (sym now)
+    (left_kept es c.self.inside.opened c.self.inside.alive c.self.inside.index c.self.inside.busy k e y c.self.invariant is gone c.recounted-self-inside.result c.put_call.new.index c.put_call-2.new.index c.take-2.new.busy c.put_call.ensures c.put_call-2.ensures
     (λ stays. not_gone c.count_again-counted.result (number_of y ≡ number_of e) same (sym c.is_gone-gone.ensures ∙ stays)) alive again)
 
 pub returns-clause-table : goal.returns-clause-table

@@ -24,8 +24,8 @@ invariant_of-self c =
     let now = set_boxes bs k (with_value c.index_mut.result.now y) in
     let live : is_live y ≡ is_live e = ap is_live made ∙ live_back c.args.away e in
     let again = λ (n : ℕ). ap (λ (m : ℕ). m + keeps_busy n e) (c.self.invariant.counts n) ∙ ap (λ (m : ℕ). sum_by (keeps_busy n) es + m) (sym (ap (keeps_busy n) made ∙ busy_back n c.args.away e)) in
-    subst (λ (l : List Entry). AreKept l c.self.inside.opened c.self.inside.alive c.put_call-2.new.self c.self.inside.busy) (sym now)
-    (left_kept es c.self.inside.opened c.self.inside.alive c.self.inside.index c.self.inside.busy k e y c.self.invariant is false c.self.inside.alive c.put_call.new.self c.put_call-2.new.self c.self.inside.busy c.put_call.ensures c.put_call-2.ensures (λ stays. ap number_of made ∙ number_back e.call.phase c.args.away e.call)
+    subst (λ (l : List Entry). AreKept l c.self.inside.opened c.self.inside.alive c.put_call-2.new.index c.self.inside.busy) (sym now)
+    (left_kept es c.self.inside.opened c.self.inside.alive c.self.inside.index c.self.inside.busy k e y c.self.invariant is false c.self.inside.alive c.put_call.new.index c.put_call-2.new.index c.self.inside.busy c.put_call.ensures c.put_call-2.ensures (λ stays. ap number_of made ∙ number_back e.call.phase c.args.away e.call)
     (ap (λ (b : Bool). c.self.inside.alive + one_if b) (sym live)) again)
 
 pub returns : goal.returns

@@ -1,7 +1,0 @@
-use Rattle.std.proofs.Common.{ℕ, [], ◌∷◌, subst, List, ap, ◌∙◌}
-use Rattle.mmtel_b2bua.specs.Marks.{Written, told_of}
-use Rattle.mmtel_b2bua.specs.declared.marks.Mark.TheVariants.{Named}
-use Rattle.mmtel_b2bua.proofs.index.Index.put_dialog.Goals as goal
-
-pub returns : goal.returns
-returns c = subst (λ (n : ℕ). Written c.args.stays c.args.call.0 (Named n ∷ []) c.args.self.now c.put.new.self) (c.told.ensures ∙ ap (λ (l : List ℕ). told_of l) c.bytes.ensures) c.put.ensures

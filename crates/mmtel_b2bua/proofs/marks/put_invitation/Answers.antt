@@ -1,0 +1,12 @@
+use Rattle.std.proofs.Common.{ℕ, [], ◌∷◌, subst, List, ap, ◌∙◌}
+use Rattle.mmtel_b2bua.specs.Marks.{heard_marks}
+use Rattle.mmtel_desk.specs.Marks.{Written, told_of}
+use Rattle.mmtel_desk.specs.declared.marks.Mark.TheVariants.{Sent}
+use Rattle.mmtel_desk.proofs.Marking.{joined}
+use Rattle.mmtel_b2bua.proofs.marks.put_invitation.Goals as goal
+
+pub returns : goal.returns
+returns c =
+    let i = c.args.invitation.now in
+    let first = subst (λ (n : ℕ). Written c.args.stays c.args.call.0 (Sent n ∷ []) c.args.index.now c.put.new.self) (c.told.ensures ∙ ap (λ (l : List ℕ). told_of l) c.bytes.ensures) c.put.ensures in
+    joined c.args.stays c.args.call.0 (Sent (told_of i.branch) ∷ []) (heard_marks i.key) c.args.index.now c.put.new.self c.put_key.new.index first c.put_key.ensures

@@ -80,6 +80,7 @@ pub data Place (site : Site) (first : Standing) (o : Opening) (later : ℕ → S
 pub record Agrees (site : Site) (first : Standing) (o : Opening) (later : ℕ → Standing) (kept : Kept) (c : Call) (filed : List Row) (at : ℕ) : Type 0 where
   pub opening : c.opening ≡ o
   pub left : c.diversions.left + kept.done ≡ total site o
+  pub count : c.diversions.count ≡ received_in o + kept.done
   pub made : count_by is_diverted_to kept.targets ≡ kept.done
   pub empty : kept.endings ≡ []
   pub place : Place site first o later kept c filed at
@@ -102,6 +103,7 @@ Comes site first o later P before kept rows old s at =
 pub record IsReady (site : Site) (first : Standing) (later : ℕ → Standing) (caller : Leg) (c : Call) (kept : Kept) : Type 0 where
   pub answered : c.answered ≡ None
   pub left : c.diversions.left + kept.done ≡ total site c.opening
+  pub count : c.diversions.count ≡ received_in c.opening + kept.done
   pub made : count_by is_diverted_to kept.targets ≡ kept.done
   pub empty : kept.endings ≡ []
   pub origin : caller.meter ≡ origin_part (known_as site first c.opening later) c.opening.number

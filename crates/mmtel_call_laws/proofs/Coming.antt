@@ -3,7 +3,7 @@ use Rattle.std.proofs.Common.{◌==◌, append_assoc, ◌≡◌, ℕ, zero, suc,
 use Rattle.std.proofs.lemmas.Bool.Decides.{nat_tests}
 use Rattle.std.proofs.lemmas.List.{append-nil, length-append}
 use Rattle.std.proofs.lemmas.List.Sums.{sum_by_push}
-use Rattle.std.specs.Prelude.{Option, Some, None, count_by, if◌then◌else◌, nat_lt, option_to_list, is_none}
+use Rattle.std.specs.Prelude.{Option, Some, None, count_by, if◌then◌else◌, min, nat_le, nat_lt, not, option_to_list, is_none}
 use Rattle.std.specs.Option.{option_map}
 use Rattle.mmtel_charging.specs.declared.rows.Row.{Row}
 use Rattle.mmtel_charging.specs.declared.rows.Kind.TheVariants.{Diversion, Terminating}
@@ -16,7 +16,7 @@ use Rattle.mmtel_precedence.specs.Calls.{Final, NotOffered, Offer, Offered, Reac
 use Rattle.mmtel_precedence.specs.Laws.{is_diverted_to}
 use Rattle.mmtel_precedence.specs.Moves as moves
 use Rattle.mmtel_precedence.specs.Moves.{Kept, Reaching, account_at, at_phase, gone_on, move_in, on_reaching, with_target}
-use Rattle.mmtel_precedence.specs.Services.{DueDiversion}
+use Rattle.mmtel_precedence.specs.Services.{DueDiversion, bound_of, is_reached, own_bound}
 use Rattle.mmtel_precedence.specs.Targets as targets
 use Rattle.mmtel_precedence.specs.Targets.{is_by_number, reach_of}
 use Rattle.mmtel_precedence.specs.Turns as turns
@@ -37,7 +37,7 @@ use Rattle.mmtel_call_decisions.specs.declared.openings.Opening.{Opening}
 use Rattle.mmtel_call_decisions.specs.declared.openings.Service.{Service}
 use Rattle.mmtel_call_decisions.specs.declared.rows.Ending.{Ending}
 use Rattle.mmtel_call.specs.Closing.{Step, account_in, begun, meter_for, over}
-use Rattle.mmtel_call.specs.Diverting.{at_target, divert, diverted, made, on_turn, passed_by, refused, told_of, too_many, unless_barred}
+use Rattle.mmtel_call.specs.Diverting.{at_target, divert, diverted, is_diverted, made, on_turn, passed_by, refused, told_of, too_many, unless_barred, unless_reached}
 use Rattle.mmtel_call.specs.Sending.{relayed_to_caller, told_caller, told_diversion}
 use Rattle.mmtel_types.specs.Causes.{status_of}
 use Rattle.mmtel_call.specs.declared.calls.Call.{Call}
@@ -132,6 +132,7 @@ refused-comes site first later at caller cause c desk rows P old kept ready same
       record {
         opening = refl;
         left = ready.left;
+        count = ready.count;
         made = ready.made;
         empty = ready.empty;
         place = Ends (cause_by c.answered cause) (record {
@@ -173,6 +174,7 @@ target_as uri by offer = record { uri = uri; by = by; offer = offer }
 pub record IsComing (site : Site) (now first : Standing) (later : ℕ → Standing) (caller : Leg) (c : Call) (kept : Kept) (by : Option DueDiversion) (target : Target) : Type 0 where
   pub answered : c.answered ≡ None
   pub left : c.diversions.left + kept.done ≡ total site c.opening
+  pub count : c.diversions.count ≡ received_in c.opening + kept.done
   pub made : (offer : Offer) → count_by is_diverted_to (kept.targets ++ target_as target.uri by offer ∷ []) ≡ kept.done
   pub reached : length kept.targets ≡ kept.done
   pub empty : kept.endings ≡ []
@@ -199,6 +201,7 @@ passed-ready : (site : Site) (now first : Standing) (later : ℕ → Standing) (
 passed-ready site now first later caller c kept by target coming = record {
   answered = coming.answered;
   left = coming.left;
+  count = coming.count;
   made = coming.made NotOffered;
   empty = coming.empty;
   origin = coming.origin;
@@ -245,6 +248,7 @@ turn-comes left site now first later caller P goes reach (Some peer) by target (
       record {
         opening = refl;
         left = coming.left;
+        count = coming.count;
         made = coming.made (Offered waiting);
         empty = coming.empty;
         place = Rings _ reach (record {
@@ -285,11 +289,11 @@ offers-led true no_peer w waiting e = absurd cc
 offers-led false true w waiting e = absurd cc
 offers-led false false w waiting e = refl
 
-decision-led : (decision : Decision) (unknown no_peer waiting : Bool) → turn_by decision unknown no_peer ≡ TurnOffer waiting → no_peer ≡ false
-decision-led (Offers w) unknown no_peer waiting e = offers-led unknown no_peer w waiting e
-decision-led (Forwards None cause) unknown no_peer waiting e = absurd cc
-decision-led (Forwards (Some forward) cause) unknown no_peer waiting e = absurd cc
-decision-led (Ends cause) unknown no_peer waiting e = absurd cc
+decision-led : (decision : Decision) (bound : Option ℕ) (unknown no_peer waiting : Bool) → turn_by decision bound unknown no_peer ≡ TurnOffer waiting → no_peer ≡ false
+decision-led (Offers w) bound unknown no_peer waiting e = offers-led unknown no_peer w waiting e
+decision-led (Forwards None cause) bound unknown no_peer waiting e = absurd cc
+decision-led (Forwards (Some forward) cause) bound unknown no_peer waiting e = absurd cc
+decision-led (Ends cause) bound unknown no_peer waiting e = absurd cc
 
 -- one move, and then those
 pub came-after : (site : Site) (first : Standing) (o : Opening) (later : ℕ → Standing) (P : Type 0) (before : List precedence.Target) (kept : Kept) (rows : List Row) (old : List Sign) (s : Step) (at : ℕ) →
@@ -298,17 +302,18 @@ unfolding moves.moves
 came-after site first o later P before kept rows old s at (n, filed, same, agrees, shown) = (suc n, filed, same, agrees, shown)
 
 -- the move at the target is the turn there
-pub move-known : (law : TurnsAreMoves) (site : Site) (now first : Standing) (o : Opening) (later : ℕ → Standing) (by : Option DueDiversion) (target : Target) (kept : Kept) →
-    IsKnown first o → target.of_number ≡ is_by_number by → standing_after (known_as site first o later) kept.done ≡ now →
+pub move-known : (law : TurnsAreMoves) (site : Site) (now first : Standing) (o : Opening) (later : ℕ → Standing) (by : Option DueDiversion) (target : Target) (kept : Kept) (count : ℕ) →
+    IsKnown first o → count ≡ received_in o + kept.done → target.of_number ≡ is_by_number by → standing_after (known_as site first o later) kept.done ≡ now →
     let reach = reach_at site now o (cause_of by) target (service_at site now o (cause_of by) target) (peer_for site o target) in
     on_reaching (known_as site first o later) (reach_of (known_as site first o later) kept.done target.uri by) target.uri by kept
-    ≡ kept_at_turn (known_as site first o later) (account_at reach) now.at kept target.uri by (decided_at site now o (cause_of by) target (service_at site now o (cause_of by) target) (peer_for site o target))
-move-known law site now first o later by target kept known number stands =
+    ≡ kept_at_turn (known_as site first o later) (account_at reach) now.at kept target.uri by
+    (decided_at site now o (nat_lt 0 count) (cause_of by) target (service_at site now o (cause_of by) target) (peer_for site o target))
+move-known law site now first o later by target kept count known counted number stands =
     let call = known_as site first o later in
     let reach = reach_at site now o (cause_of by) target (service_at site now o (cause_of by) target) (peer_for site o target) in
     law call (reach_of call kept.done target.uri by) kept target.uri by
-    ∙ ap (λ (r : Reach). kept_at_turn call (account_at r) r.at kept target.uri by (turn_at (targets.of_caller call r.at) r)) (reach_of-known site now first o later kept.done by target number stands)
-    ∙ ap (λ (k : Circumstances). kept_at_turn call (account_at reach) now.at kept target.uri by (turn_at k reach)) (sym (of_caller-known site first o later now.at known))
+    ∙ ap (λ (r : Reach). kept_at_turn call (account_at r) r.at kept target.uri by (turn_at (targets.of_caller call kept.done r.at) r)) (reach_of-known site now first o later kept.done by target number stands)
+    ∙ ap (λ (k : Circumstances). kept_at_turn call (account_at reach) now.at kept target.uri by (turn_at k reach)) (sym (of_caller-known site first o later kept.done count now.at known counted))
 
 pub target-comes : (law : TurnsAreMoves) (left : ℕ) (site : Site) (now first : Standing) (later : ℕ → Standing) (caller : Leg) → (P : Type 0) → DivertComes left site now first later caller P →
     (by : Option DueDiversion) (target : Target) (c : Call) (desk : Desk) (rows : List Row) (old : List Sign) (kept : Kept) →
@@ -322,11 +327,12 @@ target-comes law left site now first later caller P goes by target c desk rows o
     let reach = reach_at site now o (cause_of by) target service peer in
     let s = at_target (divert left site now caller) site now caller (cause_of by) target c desk in
     came-after site first o later P kept.targets (at_phase kept (Reaching target.uri by)) rows old s now.at
-    (subst (λ (k : Kept). Comes site first o later P kept.targets k rows old s now.at) (sym (move-known law site now first o later by target (at_phase kept (Reaching target.uri by)) known coming.number coming.stands))
-    (turn-comes left site now first later caller P goes reach peer by target (decided_at site now o (cause_of by) target service peer) c desk rows old (at_phase kept (Reaching target.uri by)) known
+    (subst (λ (k : Kept). Comes site first o later P kept.targets k rows old s now.at) (sym (move-known law site now first o later by target (at_phase kept (Reaching target.uri by)) c.diversions.count known coming.count coming.number coming.stands))
+    (turn-comes left site now first later caller P goes reach peer by target (decided_at site now o (is_diverted c) (cause_of by) target service peer) c desk rows old (at_phase kept (Reaching target.uri by)) known
     (record {
       answered = coming.answered;
       left = coming.left;
+      count = coming.count;
       made = coming.made;
       reached = coming.reached;
       empty = coming.empty;
@@ -336,28 +342,38 @@ target-comes law left site now first later caller P goes by target c desk rows o
       number = coming.number;
     })
     (sheet-known site now o (cause_of by) target service peer)
-    (λ waiting e. decision-led (verdict_of (decisions.of_caller o now.at) (account_at reach) ending.Arrived) reach.is_unknown reach.has_no_peer waiting e)
+    (λ waiting e. decision-led (verdict_of (decisions.of_caller o now.at (is_diverted c)) (account_at reach) ending.Arrived) (own_bound (account_at reach).sheet) reach.is_unknown reach.has_no_peer waiting e)
     few same shown stands))
 
 -- ---- a diversion
 
--- outgoing barring comes first
-unless-comes : (site : Site) (now first : Standing) (later : ℕ → Standing) (caller : Leg) (barred : Bool) (onward : Call → Desk → Step) (rest : Option Cause) (uri : Uri) (due : DueDiversion)
+-- what stands before a diversion refuses it, or it goes on
+unless-comes : (site : Site) (now first : Standing) (later : ℕ → Standing) (caller : Leg) (refuses : Bool) (why : Cause) (onward : Call → Desk → Step) (rest : Option Cause) (uri : Uri) (due : DueDiversion)
     (c : Call) (desk : Desk) (rows : List Row) (P : Type 0) (old : List Sign) (kept : Kept) →
-    IsReady site first later caller c kept → desk.rows ≡ rows → (P → signs_of c.opening.key desk.out ≡ old) → StandsThen site now c.opening later kept (unless_barred barred onward site now.at caller c desk) →
+    IsReady site first later caller c kept → desk.rows ≡ rows → (P → signs_of c.opening.key desk.out ≡ old) →
+    StandsThen site now c.opening later kept (if refuses then refused site now.at caller why c desk else onward c desk) →
     (StandsThen site now c.opening later kept (onward c desk) → Comes site first c.opening later P kept.targets (gone_on rest kept uri due) rows old (onward c desk) now.at) →
-    Comes site first c.opening later P kept.targets (gone_on (if barred then Some causes.OutgoingBarred else rest) kept uri due) rows old (unless_barred barred onward site now.at caller c desk) now.at
-unless-comes site now first later caller true onward rest uri due c desk rows P old kept ready same shown stands comes =
-    refused-comes site first later now.at caller causes.OutgoingBarred c (told_caller site c (status_of causes.OutgoingBarred) desk) rows P old kept ready same
-    (λ p. told-shown site c (status_of causes.OutgoingBarred) desk ∙ ap (λ l. l ++ final_sign (status_of causes.OutgoingBarred)) (shown p))
-unless-comes site now first later caller false onward rest uri due c desk rows P old kept ready same shown stands comes = comes stands
+    Comes site first c.opening later P kept.targets (gone_on (if refuses then Some why else rest) kept uri due) rows old (if refuses then refused site now.at caller why c desk else onward c desk) now.at
+unless-comes site now first later caller true why onward rest uri due c desk rows P old kept ready same shown stands comes =
+    refused-comes site first later now.at caller why c (told_caller site c (status_of why) desk) rows P old kept ready same
+    (λ p. told-shown site c (status_of why) desk ∙ ap (λ l. l ++ final_sign (status_of why)) (shown p))
+unless-comes site now first later caller false why onward rest uri due c desk rows P old kept ready same shown stands comes = comes stands
 
--- the bound, at which nothing is left
-within-none : (received done bound : ℕ) → 0 + done ≡ bound - received → nat_lt (received + done) bound ≡ false
-within-none received done bound e = grind (arith, nat_tests)
+-- the bound of a diversion, at which nothing is left, or which the account sets
+within-none : (received done bound : ℕ) (own : Option ℕ) → 0 + done ≡ bound - received → nat_lt (received + done) (bound_of bound own) ≡ false
+within-none received done bound None e = grind (arith, nat_tests)
+within-none received done bound (Some own) e = let most : min bound own ≤ bound = omega arith in grind (arith, nat_tests, most)
 
-within-some : (received done bound left : ℕ) → suc left + done ≡ bound - received → nat_lt (received + done) bound ≡ true
-within-some received done bound left e = grind (arith, nat_tests)
+below-own : (n bound own : ℕ) → n < bound → nat_lt n (min bound own) ≡ not (nat_le own n)
+below-own n bound own below = go (nat_le own n) refl
+  where
+    go : (b : Bool) → nat_le own n ≡ b → nat_lt n (min bound own) ≡ not b
+    go true e = let least : own ≤ n = grind (arith, nat_tests) in let most : min bound own ≤ n = omega arith in grind (arith, nat_tests, most)
+    go false e = let less : n < own = grind (arith, nat_tests) in let most : n < min bound own = omega arith in grind (arith, nat_tests, most)
+
+within-some : (received done bound left : ℕ) (own : Option ℕ) → suc left + done ≡ bound - received → nat_lt (received + done) (bound_of bound own) ≡ not (is_reached own (received + done))
+within-some received done bound left None e = grind (arith, nat_tests)
+within-some received done bound left (Some own) e = below-own (received + done) bound own (omega arith)
 
 abbrev pub by_bound : (received done bound : ℕ) → Cause → Option Cause
 by_bound received done bound why = if is_within received done bound then None else Some why
@@ -395,6 +411,7 @@ coming-by left site now first later caller c kept service reach due ready divert
     record {
       answered = ready.answered;
       left = omega arith;
+      count = let g = ready.count in omega arith;
       made = λ offer. sum_by_push _ kept.targets (target_as (target_of site due).uri (Some due) offer) ∙ ap (λ n. n + 1) ready.made;
       reached = omega arith;
       empty = ready.empty;
@@ -412,11 +429,19 @@ stands-next left site now later c kept s e few leaves stands = stands kept.done 
 pub stands-on : (site : Site) (now : Standing) (later : ℕ → Standing) (c : Call) (kept : Kept) (s : Step) → StandsThen site now c.opening later kept s → StandsThen site now c.opening later (more kept) s
 stands-on site now later c kept s stands j least most = stands j (omega arith) most
 
-pub at-bound : (received done bound : ℕ) (why : Cause) → 0 + done ≡ bound - received → by_bound received done bound why ≡ Some why
-at-bound received done bound why e = rw (within-none received done bound e) refl
+pub at-bound : (received done bound : ℕ) (own : Option ℕ) (why : Cause) → 0 + done ≡ bound - received → by_bound received done (bound_of bound own) why ≡ Some why
+at-bound received done bound own why e = rw (within-none received done bound own e) refl
 
-pub below-bound : (received done bound left : ℕ) (why : Cause) → suc left + done ≡ bound - received → by_bound received done bound why ≡ None
-below-bound received done bound left why e = rw (within-some received done bound left e) refl
+by-own : (b : Bool) (why : Cause) → (if not b then None else Some why) ≡ (if b then Some why else None)
+by-own true why = refl
+by-own false why = refl
+
+-- below the configured one it is the account's own bound that refuses
+pub below-bound : (received done bound left count : ℕ) (own : Option ℕ) (why : Cause) → suc left + done ≡ bound - received → count ≡ received + done →
+    by_bound received done (bound_of bound own) why ≡ (if is_reached own count then Some why else None)
+below-bound received done bound left count own why e counted =
+    ap (λ b. if b then None else Some why) (within-some received done bound left own e) ∙ by-own (is_reached own (received + done)) why
+    ∙ ap (λ n. if is_reached own n then Some why else None) (sym counted)
 
 abbrev pub go_on_if : Bool → Option Cause → Option Cause
 go_on_if bars rest = if bars then Some causes.OutgoingBarred else rest
@@ -429,30 +454,37 @@ divert-comes law zero site now first later caller P service reach due c desk row
     let barred = is_barred site o now.at service due in
     let onward = refused site now.at caller (too_many due) in
     let s = unless_barred barred onward site now.at caller c desk in
+    let bound = bound_of site.bound due.bound in
     let e = ready.left in
     let none : 0 + kept.done ≡ site.bound - received_in o = omega arith in
-    subst (λ bars. Comes site first o later P kept.targets (gone_on (go_on_if bars (by_bound (received_in o) kept.done site.bound (too_many due))) kept (target_uri site due) due) rows old s now.at)
+    subst (λ bars. Comes site first o later P kept.targets (gone_on (go_on_if bars (by_bound (received_in o) kept.done bound (too_many due))) kept (target_uri site due) due) rows old s now.at)
     (barred-known site first o later now.at reach service due known diverts.sheet)
-    (subst (λ rest. Comes site first o later P kept.targets (gone_on (go_on_if barred rest) kept (target_uri site due) due) rows old s now.at) (sym (at-bound (received_in o) kept.done site.bound (too_many due) none))
-    (unless-comes site now first later caller barred onward (Some (too_many due)) (target_uri site due) due c desk rows P old kept ready same shown stands
+    (subst (λ rest. Comes site first o later P kept.targets (gone_on (go_on_if barred rest) kept (target_uri site due) due) rows old s now.at)
+    (sym (at-bound (received_in o) kept.done site.bound due.bound (too_many due) none))
+    (unless-comes site now first later caller barred causes.OutgoingBarred onward (Some (too_many due)) (target_uri site due) due c desk rows P old kept ready same shown stands
     (λ after. refused-comes site first later now.at caller (too_many due) c (told_caller site c (status_of (too_many due)) desk) rows P old kept ready same
     (λ p. told-shown site c (status_of (too_many due)) desk ∙ ap (λ l. l ++ final_sign (status_of (too_many due))) (shown p)))))
 divert-comes law (suc left) site now first later caller P service reach due c desk rows old kept known ready diverts few same shown stands =
     let call = known_as site first c.opening later in
     let o = c.opening in
     let barred = is_barred site o now.at service due in
+    let reached = is_reached due.bound c.diversions.count in
     let target = target_of site due in
     let next = diverted target now.at left service due c in
     let inner = at_target (divert left site now caller) site now caller (Some due.cause) target next (told_of site due next desk) in
     let onward = made (at_target (divert left site now caller) site now caller (Some due.cause) target) site target now.at left service due in
-    let s = unless_barred barred onward site now.at caller c desk in
+    let unless = unless_reached due onward site now.at caller in
+    let s = unless_barred barred unless site now.at caller c desk in
+    let bound = bound_of site.bound due.bound in
     let e = ready.left in
     let some : suc left + kept.done ≡ site.bound - received_in o = omega arith in
     let leaves : inner.call.diversions.left ≤ left = target-leaves left site now caller (divert-leaves left site now caller) (Some due.cause) target next (told_of site due next desk) refl in
-    subst (λ bars. Comes site first o later P kept.targets (gone_on (go_on_if bars (by_bound (received_in o) kept.done site.bound (too_many due))) kept (target_uri site due) due) rows old s now.at)
+    subst (λ bars. Comes site first o later P kept.targets (gone_on (go_on_if bars (by_bound (received_in o) kept.done bound (too_many due))) kept (target_uri site due) due) rows old s now.at)
     (barred-known site first o later now.at reach service due known diverts.sheet)
-    (subst (λ rest. Comes site first o later P kept.targets (gone_on (go_on_if barred rest) kept (target_uri site due) due) rows old s now.at) (sym (below-bound (received_in o) kept.done site.bound left (too_many due) some))
-    (unless-comes site now first later caller barred onward None (target_uri site due) due c desk rows P old kept ready same shown stands
+    (subst (λ rest. Comes site first o later P kept.targets (gone_on (go_on_if barred rest) kept (target_uri site due) due) rows old s now.at)
+    (sym (below-bound (received_in o) kept.done site.bound left c.diversions.count due.bound (too_many due) some ready.count))
+    (unless-comes site now first later caller barred causes.OutgoingBarred unless (if reached then Some (too_many due) else None) (target_uri site due) due c desk rows P old kept ready same shown stands
+    (λ unbarred. unless-comes site now first later caller reached (too_many due) onward None (target_uri site due) due c desk rows P old kept ready same shown unbarred
     (λ after. target-comes law left site now first later caller P (divert-comes law left site now first later caller P) (Some due) target next (told_of site due next desk) rows old (more kept) known
     (coming-by left site now first later caller c kept service reach due ready diverts few (stands-next left site now later c kept inner ready.left few leaves after))
-    refl ((told-quiet site due next desk).rows ∙ same) (λ p. (told-quiet site due next desk).signs ∙ shown p) (stands-on site now later c kept inner after))))
+    refl ((told-quiet site due next desk).rows ∙ same) (λ p. (told-quiet site due next desk).signs ∙ shown p) (stands-on site now later c kept inner after)))))

@@ -1,6 +1,6 @@
 -- What the call knows at a target and after an attempt is what the precedence of services knows of it.
-use Rattle.std.proofs.Common.{◌≡◌, ℕ, Bool, false, refl, ap, sym, ◌∙◌}
-use Rattle.std.specs.Prelude.{Option, Some, None, is_none, is_some, not, ◌&&◌, Result, Ok, Err, unwrap_or}
+use Rattle.std.proofs.Common.{◌≡◌, ℕ, ◌+◌, Bool, false, refl, ap, sym, ◌∙◌}
+use Rattle.std.specs.Prelude.{Option, Some, None, is_none, is_some, nat_lt, not, ◌&&◌, Result, Ok, Err, unwrap_or}
 use Rattle.std.specs.Option.{option_map, option_map_or}
 use Rattle.mmtel_leg.specs.Dialogues.{request_uri}
 use Rattle.mmtel_lex.specs.Reading.{Refusal, uri_of}
@@ -25,7 +25,7 @@ use Rattle.mmtel_call_decisions.specs.Opening.{first_of, nowhere}
 use Rattle.mmtel_call_decisions.specs.Site.{Site}
 use Rattle.mmtel_call_decisions.specs.declared.openings.Opening.{Opening}
 use Rattle.mmtel_call_decisions.specs.declared.openings.Service.{Service}
-use Rattle.mmtel_call_laws.specs.Known.{known_as}
+use Rattle.mmtel_call_laws.specs.Known.{known_as, received_in}
 
 -- what the opening knows of the record of the account that is served as the caller, where things stood so
 pub record IsKnown (first : Standing) (o : Opening) : Type 0 where
@@ -42,14 +42,16 @@ target_uri site due = new_target site.home due.forward.target
 
 -- ---- circumstances
 
-pub of_caller-known : (site : Site) (first : Standing) (o : Opening) (later : ℕ → Standing) (at : ℕ) → IsKnown first o →
-    decisions.of_caller o at ≡ targets.of_caller (known_as site first o later) at
-of_caller-known site first o later at known = ap (λ r. record (decisions.of_caller o at) { restricted = r }) known.restricted
+-- where so many diversions were received and made
+pub of_caller-known : (site : Site) (first : Standing) (o : Opening) (later : ℕ → Standing) (k count at : ℕ) → IsKnown first o → count ≡ received_in o + k →
+    decisions.of_caller o at (nat_lt 0 count) ≡ targets.of_caller (known_as site first o later) k at
+of_caller-known site first o later k count at known counted =
+    ap (λ n. decisions.of_caller o at (nat_lt 0 n)) counted ∙ ap (λ r. record (decisions.of_caller o at (nat_lt 0 (received_in o + k))) { restricted = r }) known.restricted
 
 pub of_target-known : (site : Site) (first : Standing) (o : Opening) (later : ℕ → Standing) (at : ℕ) (uri : Uri) → IsKnown first o →
-    decisions.of_target o at uri ≡ targets.of_target (known_as site first o later) at uri
-of_target-known site first o later at (Sip user host port params headers) known = ap (λ r. record (decisions.of_target o at (Sip user host port params headers)) { restricted = r }) known.restricted
-of_target-known site first o later at (Tel number params) known = ap (λ r. record (decisions.of_target o at (Tel number params)) { restricted = r }) known.restricted
+    decisions.of_target site o at uri ≡ targets.of_target (known_as site first o later) at uri
+of_target-known site first o later at (Sip user host port params headers) known = ap (λ r. record (decisions.of_target site o at (Sip user host port params headers)) { restricted = r }) known.restricted
+of_target-known site first o later at (Tel number params) known = ap (λ r. record (decisions.of_target site o at (Tel number params)) { restricted = r }) known.restricted
 
 -- ---- a target
 

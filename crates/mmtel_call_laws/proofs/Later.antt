@@ -24,7 +24,7 @@ use Rattle.mmtel_message.specs.Faults.{is_method}
 use Rattle.mmtel_message.specs.Message.{Message}
 use Rattle.mmtel_message.specs.declared.messages.Start.{Start as StartLine}
 use Rattle.mmtel_precedence.specs.Calls.{End, Standing}
-use Rattle.mmtel_precedence.specs.Services.{DueDiversion}
+use Rattle.mmtel_precedence.specs.Services.{DueDiversion, is_reached}
 use Rattle.mmtel_precedence.specs.Turns.{AfterEnd, EndAnswered, EndDivert, EndRefuse, Turn, TurnDivert, TurnOffer, TurnRefuse}
 use Rattle.mmtel_targets.specs.declared.targets.Target.{Target}
 use Rattle.mmtel_transaction.specs.declared.words.Emit.{Emit}
@@ -34,6 +34,7 @@ use Rattle.mmtel_trust.specs.Digest.{HeardMessage}
 use Rattle.mmtel_types.specs.Sides.{other_of}
 use Rattle.mmtel_types.specs.declared.addrs.Addr.{Addr}
 use Rattle.mmtel_types.specs.declared.causes.Cause.{Cause}
+use Rattle.mmtel_types.specs.declared.causes.Cause.TheVariants as causes
 use Rattle.mmtel_types.specs.declared.numbers.Peer.{Peer}
 use Rattle.mmtel_types.specs.declared.sides.Side.{Side}
 use Rattle.mmtel_types.specs.declared.sides.Side.TheVariants.{Caller, Callee}
@@ -44,7 +45,7 @@ use Rattle.mmtel_call_decisions.specs.Site.{Site}
 use Rattle.mmtel_call_decisions.specs.declared.openings.Service.{Service}
 use Rattle.mmtel_call.specs.Answered.{acked_and_left, acknowledges, at_stage, bye_to, leg_of, with_leg}
 use Rattle.mmtel_call.specs.Closing.{Step, onward, over, over_stood, with_past}
-use Rattle.mmtel_call.specs.Diverting.{at_target, divert, diverted, made, on_end, on_turn, passed_by, refused, refused_by, told_of, too_many, unless_barred}
+use Rattle.mmtel_call.specs.Diverting.{at_target, divert, diverted, is_diverted, made, on_end, on_turn, passed_by, refused, refused_by, told_of, too_many, unless_reached}
 use Rattle.mmtel_call.specs.Leaving.{acked_again, answered_at, answered_loose, answered_other, answered_taken, answered_taken_at, as_loose, is_fork, is_success, is_taken, is_talking}
 use Rattle.mmtel_call.specs.Lending.{finished, finished_in}
 use Rattle.mmtel_call.specs.Opening.{caller_of, new_call, opened, unless_refused}
@@ -590,24 +591,27 @@ turn-asks key left site now caller later service (Some peer) cause target (TurnO
 turn-asks key left site now caller later service peer cause target (TurnDivert due) c desk = later service due (passed_by now.at service c) desk
 turn-asks key left site now caller later service peer cause target (TurnRefuse why) c desk = tt
 
-unless-asks : (key : TKey) (barred : Bool) (go : Call → Desk → Step) (site : Site) (at : ℕ) (caller : Leg) (c : Call) (desk : Desk) → Asks key (go c desk) → Asks key (unless_barred barred go site at caller c desk)
-unless-asks key true go site at caller c desk a = tt
-unless-asks key false go site at caller c desk a = a
+unless-asks : (key : TKey) (refuses : Bool) (why : Cause) (go : Call → Desk → Step) (site : Site) (at : ℕ) (caller : Leg) (c : Call) (desk : Desk) → Asks key (go c desk) →
+    Asks key (if refuses then refused site at caller why c desk else go c desk)
+unless-asks key true why go site at caller c desk a = tt
+unless-asks key false why go site at caller c desk a = a
 
 target-asks : (key : TKey) (left : ℕ) (site : Site) (now : Standing) (caller : Leg) → DivertAsks key left site now caller → (cause : Option ℕ) (target : Target) (c : Call) (desk : Desk) →
     Asks key (at_target (divert left site now caller) site now caller cause target c desk)
 target-asks key left site now caller later cause target c desk =
     turn-asks key left site now caller later (service_at site now c.opening cause target) (peer_for site c.opening target) cause target
-    (decided_at site now c.opening cause target (service_at site now c.opening cause target) (peer_for site c.opening target)) c desk
+    (decided_at site now c.opening (is_diverted c) cause target (service_at site now c.opening cause target) (peer_for site c.opening target)) c desk
 
 divert-asks : (key : TKey) (left : ℕ) (site : Site) (now : Standing) (caller : Leg) → DivertAsks key left site now caller
 unfolding divert
-divert-asks key zero site now caller service due c desk = unless-asks key (is_barred site c.opening now.at service due) (refused site now.at caller (too_many due)) site now.at caller c desk tt
+divert-asks key zero site now caller service due c desk = unless-asks key (is_barred site c.opening now.at service due) causes.OutgoingBarred (refused site now.at caller (too_many due)) site now.at caller c desk tt
 divert-asks key (suc left) site now caller service due c desk =
     let target = target_of site due in
     let next = diverted target now.at left service due c in
-    unless-asks key (is_barred site c.opening now.at service due) (made (at_target (divert left site now caller) site now caller (Some due.cause) target) site target now.at left service due) site now.at caller c desk
-    (target-asks key left site now caller (divert-asks key left site now caller) (Some due.cause) target next (told_of site due next desk))
+    let onward = made (at_target (divert left site now caller) site now caller (Some due.cause) target) site target now.at left service due in
+    unless-asks key (is_barred site c.opening now.at service due) causes.OutgoingBarred (unless_reached due onward site now.at caller) site now.at caller c desk
+    (unless-asks key (is_reached due.bound c.diversions.count) (too_many due) onward site now.at caller c desk
+    (target-asks key left site now caller (divert-asks key left site now caller) (Some due.cause) target next (told_of site due next desk)))
 
 refused-asks : (key : TKey) (site : Site) (at : ℕ) (caller : Leg) (service : Option Service) (m : Option Said) (cause : Cause) (c : Call) (desk : Desk) → Asks key (refused_by site at caller service m cause c desk)
 refused-asks key site at caller service None cause c desk = tt
@@ -627,7 +631,7 @@ fares-asks key P site now x c before end s (faring.Rings e y r) = subst (AsksOth
 fares-asks key P site now x c before end s (faring.Answers e y stage r) = subst (AsksOthers key) (sym r.phase) (r.awaits key)
 fares-asks key P site now x c before end s (faring.GivesUp e y d desk r) = subst (Asks key) (sym r.is) tt
 fares-asks key P site now x c before end s (faring.GoesOn how e m d desk r) =
-    subst (Asks key) (sym r.is) (after-asks key site now x.caller x.attempt.service m (decided_after d.opening now.at x.attempt.service how) (with_past x.callee.leg.meter d) desk)
+    subst (Asks key) (sym r.is) (after-asks key site now x.caller x.attempt.service m (decided_after d.opening now.at (is_diverted d) x.attempt.service how) (with_past x.callee.leg.meter d) desk)
 
 opens-asks : (key : TKey) (refusal : Option Cause) (site : Site) (now : Standing) (caller : Leg) (c : Call) (desk : Desk) → Asks key (unless_refused refusal site now caller c desk)
 opens-asks key None site now caller c desk = target-asks key c.diversions.left site now caller (divert-asks key c.diversions.left site now caller) None (first_of c.opening) c desk
@@ -636,7 +640,7 @@ opens-asks key (Some cause) site now caller c desk = tt
 first-asks : (s : Start) (key : TKey) → Asks key (first_step s)
 unfolding opened
 first-asks s key =
-    let c = new_call s.site (opening_in s) in opens-asks key (refusal_of s.now.at (opening_in s)) s.site s.now (caller_of s.now.at c) c (told_caller s.site c 100 (drew s.desk))
+    let c = new_call s.site (opening_in s) in opens-asks key (refusal_of s.site s.now.at (opening_in s)) s.site s.now (caller_of s.now.at c) c (told_caller s.site c 100 (drew s.desk))
 
 step-asks : (phase : Phase) (site : Site) (now : Standing) (heard : Signal) (c : Call) (desk : Desk) (key : TKey) → AsksOthers key phase → IsOthers key heard →
     Asks key (step site now heard (record c { phase = phase }) desk)

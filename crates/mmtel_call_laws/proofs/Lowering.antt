@@ -13,7 +13,7 @@ use Rattle.mmtel_desk.specs.Invites.{invite_answered, invite_silent}
 use Rattle.mmtel_call_decisions.specs.Site.{Site}
 use Rattle.mmtel_call_decisions.specs.declared.openings.Service.{Service}
 use Rattle.mmtel_call.specs.Closing.{Step, with_past}
-use Rattle.mmtel_call.specs.Diverting.{goes_on, on_end, refused_by}
+use Rattle.mmtel_call.specs.Diverting.{goes_on, is_diverted, on_end, refused_by}
 use Rattle.mmtel_call.specs.Table.{answer_to, silence_of, step}
 use Rattle.mmtel_call.specs.declared.calls.Call.{Call}
 use Rattle.mmtel_call.specs.declared.calls.Loan.{Loan}
@@ -48,7 +48,7 @@ after-leaves site now caller service m (EndRefuse cause) c desk = refused-leaves
 
 on-leaves : (site : Site) (now : Standing) (x : Trial) (how : End) (m : Option Said) (c : Call) (desk : Desk) → Leaves c.diversions.left (goes_on site now x how m c desk)
 on-leaves site now x how m c desk =
-    after-leaves site now x.caller x.attempt.service m (decided_after c.opening now.at x.attempt.service how) (with_past x.callee.leg.meter c) desk
+    after-leaves site now x.caller x.attempt.service m (decided_after c.opening now.at (is_diverted c) x.attempt.service how) (with_past x.callee.leg.meter c) desk
 
 fares-leaves : (P : Type 0) (site : Site) (now : Standing) (x : Trial) (c : Call) (before : Desk) (end : Option End) (s : Step) → faring.Fares P site now x c before end s → Leaves c.diversions.left s
 fares-leaves P site now x c before end s (faring.Rings e y r) = keeps c s.call r.same.diversions

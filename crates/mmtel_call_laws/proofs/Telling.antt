@@ -38,7 +38,7 @@ use Rattle.mmtel_transaction.specs.declared.words.Emit.{Emit}
 use Rattle.mmtel_transaction.specs.declared.words.TKey.{TKey}
 use Rattle.std.proofs.Common.{append_assoc}
 use Rattle.mmtel_call_laws.specs.Endings.{end_in, ending_by, endings_after}
-use Rattle.mmtel_call_laws.specs.Known.{known_as, made_after, over_by, stood_after}
+use Rattle.mmtel_call_laws.specs.Known.{known_as, made_after, over_by, received_in, stood_after}
 use Rattle.mmtel_call_laws.specs.Story.{Heard, Start, added, call_after, first_step, is_over, next_step, opening_in, over_at, rows_after}
 use Rattle.mmtel_call_laws.proofs.Agreeing.{Agrees, Came, Comes, Ends, IsEnded, IsRinging, IsTalking, Place, Rings, Talks, total}
 use Rattle.mmtel_call_laws.proofs.Answering as answering
@@ -89,6 +89,7 @@ begins-came law None site now o later desk rows old known same shown stands =
     (record {
       answered = refl;
       left = plus-zero (total site o);
+      count = sym (plus-zero (received_in o));
       made = λ offer. refl;
       reached = refl;
       empty = refl;
@@ -104,6 +105,7 @@ begins-came law (Some cause) site now o later desk rows old known same shown sta
     (record {
       answered = refl;
       left = plus-zero (total site o);
+      count = sym (plus-zero (received_in o));
       made = refl;
       empty = refl;
       origin = refl;
@@ -111,9 +113,9 @@ begins-came law (Some cause) site now o later desk rows old known same shown sta
     })
     same (λ p. told-shown site c (status_of cause) desk ∙ ap (λ l. l ++ final_sign (status_of cause)) (shown p))
 
-pub refusal-known : (site : Site) (now : Standing) (o : Opening) (later : ℕ → Standing) → IsKnown now o → refusal_of now.at o ≡ refusal_at_opening (known_as site now o later)
+pub refusal-known : (site : Site) (now : Standing) (o : Opening) (later : ℕ → Standing) → IsKnown now o → refusal_of site now.at o ≡ refusal_at_opening (known_as site now o later)
 refusal-known site now o later known =
-    ap (λ sheet. refusal_by o.invite.heard.wants o.served sheet (Rattle.mmtel_call_decisions.specs.Decisions.of_target o now.at (first_of o).uri)) known.sheet
+    ap (λ sheet. refusal_by o.invite.heard.wants o.served sheet (Rattle.mmtel_call_decisions.specs.Decisions.of_target site o now.at (first_of o).uri)) known.sheet
     ∙ ap (λ (k : Circumstances). refusal_by o.invite.heard.wants o.served (option_map (Rattle.mmtel_precedence.specs.Calls.sheet_at now) o.served.origin) k) (of_target-known site now o later now.at (first_of o).uri known)
 
 -- what stands behind what was there
@@ -126,7 +128,7 @@ unfolding opened call_after stood_after
 opens-came law s later fits =
     let o = opening_in s in
     subst (λ refusal. Comes s.site s.now o later (Unit {0}) [] (empty_kept (first_phase refusal (call_in s later))) s.desk.rows (signs_of s.arrival.key s.desk.out) (first_step s) s.now.at) (refusal-known s.site s.now o later (is-known s))
-    (begins-came law (refusal_of s.now.at o) s.site s.now o later (told_caller s.site (new_call s.site o) 100 (drew s.desk)) s.desk.rows (signs_of s.arrival.key s.desk.out) (is-known s) refl (λ p. (quiet-provisional s.arrival.key s.arrival.key _ _ _ (drew s.desk) refl).signs) fits)
+    (begins-came law (refusal_of s.site s.now.at o) s.site s.now o later (told_caller s.site (new_call s.site o) 100 (drew s.desk)) s.desk.rows (signs_of s.arrival.key s.desk.out) (is-known s) refl (λ p. (quiet-provisional s.arrival.key s.arrival.key _ _ _ (drew s.desk) refl).signs) fits)
 
 -- of a step whose desk had nothing on it
 shown-of : (key : TKey) (old new : List Emit) (signs : List Sign) → old ≡ [] → signs_of key new ≡ signs_of key old ++ signs → signs_of key (added old new) ≡ signs
@@ -231,7 +233,7 @@ next-ringing turn_law end_law extend s x earlier later c filed before m trial re
     let fares : faring.Fares P s.site x.now trial c x.desk (end_in c.phase c x.signal) new =
     subst (λ (c : Call). faring.Fares (IsOthers c.opening.key x.signal) s.site x.now trial c x.desk (end_in c.phase c x.signal) (next_step s x c)) (sym (in-phase c (Offered trial) p.phase)) (faring.fares s.site x.now trial x.signal c x.desk) in
     let came : Comes s.site s.now o later P kept.targets (with_later kept (ending_by x c)) x.desk.rows (signs_of o.key x.desk.out) new x.now.at =
-    ringing-came turn_law end_law s.site x.now s.now later kept c filed x.desk P trial reach (end_in c.phase c x.signal) new o (record { known = is-known s; left = agrees.left; rings = p; stands = stands }) agrees.made agrees.empty agrees.opening fares in
+    ringing-came turn_law end_law s.site x.now s.now later kept c filed x.desk P trial reach (end_in c.phase c x.signal) new o (record { known = is-known s; left = agrees.left; count = agrees.count; rings = p; stands = stands }) agrees.made agrees.empty agrees.opening fares in
     let (n, more, same, after, (reached, targets, shown)) = came in
     let moment : x.now.at ≡ at_if_over c.phase before x.now.at = ap (λ phase. at_if_over phase before x.now.at) (sym p.phase) in
     next-of extend s earlier later (ending_by x c) m n new.call (filed ++ added x.desk.rows new.desk.rows) (at_if_over c.phase before x.now.at) (Then s x earlier c)
@@ -258,7 +260,7 @@ next-talking extend s x earlier later c filed before m pair stage answered agree
     let goes : answering.GoesOn x.now.at pair c x.desk.rows new =
     subst (λ (d : Call). answering.GoesOn x.now.at pair c x.desk.rows (next_step s x d)) (sym (in-phase c (Stood pair stage) p.phase)) (answering.goes s.site x.now pair stage x.signal c x.desk) in
     let came : Came s.site s.now o later kept x.desk.rows new x.now.at =
-    talking-came s.site s.now o later x.now.at kept c filed x.desk.rows pair stage answered new p agrees.left agrees.made agrees.empty agrees.opening goes in
+    talking-came s.site s.now o later x.now.at kept c filed x.desk.rows pair stage answered new p agrees.left agrees.count agrees.made agrees.empty agrees.opening goes in
     let (n, more, same, after) = came in
     let moment : x.now.at ≡ at_if_over c.phase before x.now.at = ap (λ phase. at_if_over phase before x.now.at) (sym p.phase) in
     let none : [] ≡ ending_by x c = ap (λ phase. ends_by x.now.at (end_in phase c x.signal)) (sym p.phase) in
@@ -277,6 +279,7 @@ over-same site first o later kept c filed at cause rows new agrees p u =
     record {
       opening = u.alike.opening ∙ agrees.opening;
       left = ap (λ (v : Diverted). v.left + kept.done) u.alike.diversions ∙ agrees.left;
+      count = ap (λ (v : Diverted). v.count) u.alike.diversions ∙ agrees.count;
       made = agrees.made;
       empty = agrees.empty;
       place = Ends cause (record {

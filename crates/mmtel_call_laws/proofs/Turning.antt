@@ -1,7 +1,7 @@
 -- One thing that is heard: the call stands where the moves of the precedence of services bring it, over what ends then.
 use Rattle.std.proofs.Common.{◌==◌, ◌≡◌, ℕ, ◌+◌, arith, Bool, true, false, List, [], ◌∷◌, ◌++◌, refl, ap, sym, subst, ◌∙◌}
 use Rattle.std.proofs.lemmas.List.{append-nil}
-use Rattle.std.specs.Prelude.{Option, Some, None, count_by, if◌then◌else◌, option_to_list}
+use Rattle.std.specs.Prelude.{Option, Some, None, count_by, if◌then◌else◌, nat_lt, option_to_list}
 use Rattle.std.specs.Option.{option_map}
 use Rattle.mmtel_answers.specs.Said.{Said, status_of as status_in}
 use Rattle.mmtel_charging.specs.declared.rows.Row.{Row}
@@ -31,7 +31,7 @@ use Rattle.mmtel_call_decisions.specs.declared.openings.Opening.{Opening}
 use Rattle.mmtel_call_decisions.specs.declared.openings.Service.{Service}
 use Rattle.mmtel_call_decisions.specs.declared.rows.Ending.{Ending}
 use Rattle.mmtel_call.specs.Closing.{Step, account_in, over, over_offered, over_stood, with_past}
-use Rattle.mmtel_call.specs.Diverting.{goes_on, on_end, refused_by}
+use Rattle.mmtel_call.specs.Diverting.{goes_on, is_diverted, on_end, refused_by}
 use Rattle.mmtel_call.specs.Sending.{relayed_to_caller, told_caller}
 use Rattle.mmtel_call.specs.declared.calls.Call.{Call}
 use Rattle.mmtel_call.specs.declared.calls.Pair.{Pair}
@@ -41,7 +41,7 @@ use Rattle.mmtel_call_laws.specs.Charged.{origin_part, past_parts}
 use Rattle.mmtel_call_laws.specs.Shown.{Accepted, Sign, final_sign, sign_of_result, signs_of}
 use Rattle.std.proofs.lemmas.Bool.Decides.{nat_tests}
 use Rattle.mmtel_call_laws.specs.Endings.{ended_at}
-use Rattle.mmtel_call_laws.specs.Known.{known_as, over_by}
+use Rattle.mmtel_call_laws.specs.Known.{known_as, over_by, received_in}
 use Rattle.mmtel_call_laws.proofs.Agreeing.{Came, Comes, Ends, IsReady, IsRinging, IsTalking, Rings, Talks, by-answer, total}
 use Rattle.mmtel_call_laws.proofs.Answering as answering
 use Rattle.mmtel_call_laws.proofs.Coming.{IsDiverting, StandsThen, came-after, divert-comes, refused-comes, unanswered, relayed-shown, told-shown}
@@ -64,7 +64,7 @@ is-ringing kept reach e f = ap (λ p. record kept { phase = p; endings = [] }) (
 
 turn-came : (law : EndingsAreMoves) (site : Site) (first : Standing) (o : Opening) (later : ℕ → Standing) (kept : Kept) (reach : Reach) (at : ℕ) (how : End) (rows : List Row) (P : Type 0) (old : List Sign) (s : Step) (moment : ℕ) →
     kept.phase ≡ moves.Ringing (account_at reach) → kept.endings ≡ [] →
-    Comes site first o later P kept.targets (kept_after_turn (known_as site first o later) (account_at reach) at (ringing kept reach) (turn_on (targets.of_caller (known_as site first o later) at) (turns.sheet_of reach) how)) rows old s moment →
+    Comes site first o later P kept.targets (kept_after_turn (known_as site first o later) (account_at reach) at (ringing kept reach) (turn_on (targets.of_caller (known_as site first o later) kept.done at) (turns.sheet_of reach) how)) rows old s moment →
     Comes site first o later P kept.targets (with_later kept (ended_at at how ∷ [])) rows old s moment
 turn-came law site first o later kept reach at how rows P old s moment e f came =
     subst (λ (k : Kept). Comes site first o later P kept.targets (with_later k (ended_at at how ∷ [])) rows old s moment) (is-ringing kept reach e f)
@@ -130,6 +130,7 @@ after-comes law site now first later caller service reach m (EndRefuse cause) c 
 pub record AtStep (site : Site) (now first : Standing) (later : ℕ → Standing) (kept : Kept) (c : Call) (filed : List Row) (x : Trial) (reach : Reach) (s : Step) (o : Opening) : Type 0 where
   pub known : IsKnown first o
   pub left : c.diversions.left + kept.done ≡ total site o
+  pub count : c.diversions.count ≡ received_in o + kept.done
   pub rings : IsRinging site first o later kept c filed x reach
   pub stands : StandsThen site now o later kept s
 
@@ -146,17 +147,19 @@ ready-by site now first later kept c d filed x reach s step made same =
     record {
       answered = same.answered ∙ p.answered;
       left = ap (λ (v : Diverted). v.left + kept.done) same.diversions ∙ step.left;
+      count = ap (λ (v : Diverted). v.count) same.diversions ∙ step.count;
       made = made;
       empty = refl;
       origin = p.origin;
       past = ap (λ past. past ++ option_to_list x.callee.leg.meter) (same.past ∙ p.past) ∙ ap (λ last. past_parts call number 0 None kept.targets ++ option_to_list last) p.last;
     }
 
-pub turn-known : (site : Site) (first : Standing) (o : Opening) (later : ℕ → Standing) (at : ℕ) (x : Trial) (reach : Reach) (how : End) → IsKnown first o → turns.sheet_of reach ≡ its_sheet x.attempt.service →
-    turn_on (targets.of_caller (known_as site first o later) at) (turns.sheet_of reach) how ≡ decided_after o at x.attempt.service how
-turn-known site first o later at x reach how known e =
-    ap (λ (k : Circumstances). turn_on k (turns.sheet_of reach) how) (sym (of_caller-known site first o later at known))
-    ∙ ap (λ sheet. turn_on (decisions.of_caller o at) sheet how) e
+pub turn-known : (site : Site) (first : Standing) (o : Opening) (later : ℕ → Standing) (done count at : ℕ) (x : Trial) (reach : Reach) (how : End) → IsKnown first o →
+    count ≡ received_in o + done → turns.sheet_of reach ≡ its_sheet x.attempt.service →
+    turn_on (targets.of_caller (known_as site first o later) done at) (turns.sheet_of reach) how ≡ decided_after o at (nat_lt 0 count) x.attempt.service how
+turn-known site first o later done count at x reach how known counted e =
+    ap (λ (k : Circumstances). turn_on k (turns.sheet_of reach) how) (sym (of_caller-known site first o later done count at known counted))
+    ∙ ap (λ sheet. turn_on (decisions.of_caller o at (nat_lt 0 count)) sheet how) e
 
 -- its attempt failed
 went-on : (turn_law : TurnsAreMoves) (end_law : EndingsAreMoves) (site : Site) (now first : Standing) (later : ℕ → Standing) (kept : Kept) (c d : Call) (filed rows : List Row) (P : Type 0) (old : List Sign) (x : Trial) (reach : Reach) (how : End) (m : Option Said) (desk : Desk) →
@@ -167,11 +170,12 @@ went-on turn_law end_law site now first later kept c d filed rows P old x reach 
     let call = known_as site first o later in
     let s = goes_on site now x how m d desk in
     let p = step.rings in
-    let same_turn = turn-known site first o later now.at x reach how step.known p.sheet in
+    let same_turn =
+    turn-known site first o later kept.done d.diversions.count now.at x reach how step.known (ap (λ (v : Diverted). v.count) same.diversions ∙ step.count) p.sheet in
     turn-came end_law site first o later kept reach now.at how rows P old s now.at p.rings empty
     (subst (λ (after : AfterEnd). Comes site first o later P kept.targets (kept_after_turn call (account_at reach) now.at (ringing kept reach) after) rows old s now.at) (sym same_turn)
-    (after-comes turn_law site now first later x.caller x.attempt.service reach m (decided_after o now.at x.attempt.service how) (with_past x.callee.leg.meter d) desk rows P old (ringing kept reach)
-    (λ e. not_answered (only-answers (decisions.of_caller o now.at) (its_sheet x.attempt.service) how e)) step.known (ready-by site now first later kept c d filed x reach s step made same)
+    (after-comes turn_law site now first later x.caller x.attempt.service reach m (decided_after o now.at (is_diverted d) x.attempt.service how) (with_past x.callee.leg.meter d) desk rows P old (ringing kept reach)
+    (λ e. not_answered (only-answers (decisions.of_caller o now.at (is_diverted d)) (its_sheet x.attempt.service) how e)) step.known (ready-by site now first later kept c d filed x reach s step made same)
     (record { sheet = p.sheet; served = p.served; reached = p.reached }) none shown step.stands))
 
 -- its caller gave up
@@ -191,6 +195,7 @@ given-up end_law site now first later kept c d filed rows P old x y reach desk s
       record {
         opening = refl;
         left = ap (λ (v : Diverted). v.left + kept.done) same.diversions ∙ step.left;
+        count = ap (λ (v : Diverted). v.count) same.diversions ∙ step.count;
         made = made;
         empty = refl;
         place = Ends (cause_by d.answered causes.Cancelled) (record {
@@ -219,6 +224,7 @@ still-came site now first later kept c filed before P x y reach s o step made em
       record {
         opening = r.same.opening ∙ opening;
         left = ap (λ (v : Diverted). v.left + kept.done) r.same.diversions ∙ step.left;
+        count = ap (λ (v : Diverted). v.count) r.same.diversions ∙ step.count;
         made = made;
         empty = append-nil kept.endings ∙ empty;
         place = Rings y reach (record {
@@ -257,6 +263,7 @@ answered-came end_law site now first later kept c filed before P x reach y stage
       record {
         opening = r.opening ∙ opening;
         left = ap (λ (v : Diverted). v.left + kept.done) r.diversions ∙ step.left;
+        count = ap (λ (v : Diverted). v.count) r.diversions ∙ step.count;
         made = made;
         empty = refl;
         place = Talks y stage now.at (record {
@@ -306,11 +313,11 @@ answered-cause None moment e = absurd cc
 answered-cause (Some at) moment e = refl
 
 talking-came-at : (site : Site) (first : Standing) (later : ℕ → Standing) (at : ℕ) (kept : Kept) (c d : Call) (filed rows : List Row) (x y : Pair) (stage : Stage) (moment : ℕ) (desk : Desk) →
-    IsTalking site first d.opening later kept c filed x stage moment → c.diversions.left + kept.done ≡ total site d.opening → counted kept → kept.endings ≡ [] → Alike c d →
+    IsTalking site first d.opening later kept c filed x stage moment → c.diversions.left + kept.done ≡ total site d.opening → c.diversions.count ≡ received_in d.opening + kept.done → counted kept → kept.endings ≡ [] → Alike c d →
     y.caller.meter ≡ x.caller.meter → y.callee.meter ≡ x.callee.meter → desk.rows ≡ rows →
     Came site first d.opening later kept rows (over_stood at y d desk) at
 unfolding moves.moves
-talking-came-at site first later at kept c d filed rows x y stage moment desk p left made empty same caller callee none =
+talking-came-at site first later at kept c d filed rows x y stage moment desk p left count made empty same caller callee none =
     let o = d.opening in
     let end : Ending = record { answered = d.answered; at = at; holds = d.hold.holds; cause = cause_by d.answered causes.Ended } in (
       0,
@@ -319,6 +326,7 @@ talking-came-at site first later at kept c d filed rows x y stage moment desk p 
       record {
         opening = refl;
         left = ap (λ (v : Diverted). v.left + kept.done) same.diversions ∙ left;
+        count = ap (λ (v : Diverted). v.count) same.diversions ∙ count;
         made = made;
         empty = empty;
         place = Ends (cause_by d.answered causes.Ended) (record {
@@ -336,16 +344,17 @@ talking-came-at site first later at kept c d filed rows x y stage moment desk p 
 
 -- it stands or both sides leave
 pub talking-came : (site : Site) (first : Standing) (o : Opening) (later : ℕ → Standing) (at : ℕ) (kept : Kept) (c : Call) (filed rows : List Row) (x : Pair) (stage : Stage) (moment : ℕ) (s : Step) →
-    IsTalking site first o later kept c filed x stage moment → c.diversions.left + kept.done ≡ total site o → counted kept → kept.endings ≡ [] → c.opening ≡ o →
+    IsTalking site first o later kept c filed x stage moment → c.diversions.left + kept.done ≡ total site o → c.diversions.count ≡ received_in o + kept.done → counted kept → kept.endings ≡ [] → c.opening ≡ o →
     answering.GoesOn at x c rows s → Came site first o later kept rows s at
 unfolding moves.moves
-talking-came site first o later at kept c filed rows x stage moment s p left made empty opening (answering.Stands y next r) = (
+talking-came site first o later at kept c filed rows x stage moment s p left count made empty opening (answering.Stands y next r) = (
   0,
   [],
   r.none ∙ sym (append-nil rows),
   record {
     opening = r.same.opening ∙ opening;
     left = ap (λ (v : Diverted). v.left + kept.done) r.same.diversions ∙ left;
+    count = ap (λ (v : Diverted). v.count) r.same.diversions ∙ count;
     made = made;
     empty = empty;
     place = Talks y next moment (record {
@@ -359,11 +368,12 @@ talking-came site first o later at kept c filed rows x stage moment s p left mad
     });
   },
 )
-talking-came site first o later at kept c filed rows x stage moment s p left made empty opening (answering.Leaves y d desk r) =
+talking-came site first o later at kept c filed rows x stage moment s p left count made empty opening (answering.Leaves y d desk r) =
     let same_opening : d.opening ≡ o = r.same.opening ∙ opening in
     let gone = over_stood at y d desk in
     subst (λ (s : Step). Came site first o later kept rows s at) (sym r.is)
     (subst (λ (o : Opening). Came site first o later kept rows gone at) same_opening
     (talking-came-at site first later at kept c d filed rows x y stage moment desk
     (subst (λ (o : Opening). IsTalking site first o later kept c filed x stage moment) (sym same_opening) p)
-    (subst (λ (o : Opening). c.diversions.left + kept.done ≡ total site o) (sym same_opening) left) made empty r.same r.caller r.callee r.none))
+    (subst (λ (o : Opening). c.diversions.left + kept.done ≡ total site o) (sym same_opening) left)
+    (subst (λ (o : Opening). c.diversions.count ≡ received_in o + kept.done) (sym same_opening) count) made empty r.same r.caller r.callee r.none))

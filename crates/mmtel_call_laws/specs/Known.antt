@@ -41,6 +41,7 @@ known_as site first o later = record {
   media = o.media;
   received = received_in o;
   bound = site.bound;
+  country = site.country;
   home = site.home;
   account_of = account_of site.accounts;
   leads = leads_to site o;

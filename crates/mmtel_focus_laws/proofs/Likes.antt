@@ -1,5 +1,5 @@
 -- What goes out is seen alike, message by message: of two dialogs of one public part, and to two messages that are the same but for private places.
-use Rattle.std.proofs.Common.{◌≡◌, ℕ, Bool, true, false, List, [], ◌∷◌, ◌++◌, refl, ap, sym, ◌∙◌, subst}
+use Rattle.std.proofs.Common.{◌≡◌, ℕ, Bool, true, false, List, [], ◌∷◌, ◌++◌, None, refl, ap, sym, ◌∙◌, subst}
 use Rattle.mmtel_answers.specs.Answers.{own_answer, own_reply}
 use Rattle.mmtel_answers.specs.Said.{Said}
 use Rattle.mmtel_call_decisions.specs.Site as calls
@@ -33,7 +33,7 @@ use Rattle.mmtel_focus_laws.specs.Parts.{trust_of, trusts}
 
 -- the configuration as calls have it, of which the peers alone are asked
 abbrev pub as_calls : Site → calls.Site
-as_calls site = record { sip = site.sip; home = []; bound = 0; peers = site.peers; accounts = [] }
+as_calls site = record { sip = site.sip; home = []; bound = 0; country = None; peers = site.peers; accounts = [] }
 
 module _ (heads : Heads) (site : Site) (keys : TKey → Bool) where
   abbrev T : Trust

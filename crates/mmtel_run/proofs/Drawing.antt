@@ -19,7 +19,7 @@ use Rattle.mmtel_call_decisions.specs.declared.openings.Arrival.{Arrival}
 use Rattle.mmtel_call_decisions.specs.declared.openings.Service.{Service}
 use Rattle.mmtel_call.specs.Answered.{acknowledges, acked_across, parted}
 use Rattle.mmtel_call.specs.Closing.{Step, onward, over, with_past}
-use Rattle.mmtel_call.specs.Diverting.{at_target, divert, diverted, goes_on, made, on_end, on_turn, passed_by, refused, refused_by, told_of, too_many, unless_barred}
+use Rattle.mmtel_call.specs.Diverting.{at_target, divert, diverted, goes_on, is_diverted, made, on_end, on_turn, passed_by, refused, refused_by, told_of, too_many, unless_barred, unless_reached}
 use Rattle.mmtel_call.specs.Leaving.{acked_again, answered_at, answered_loose, answered_other, answered_taken, answered_taken_at, as_loose, forked, is_fork, is_success, is_taken, is_talking, repeated, without_silent}
 use Rattle.mmtel_call.specs.Lending.{finished, finished_in}
 use Rattle.mmtel_call.specs.Opening.{caller_of, new_call, opened, unless_refused}
@@ -57,7 +57,7 @@ use Rattle.mmtel_leg.specs.declared.remotes.Remote.{Remote}
 use Rattle.mmtel_message.specs.Faults.{is_method}
 use Rattle.mmtel_precedence.specs.Attempts.{end_by_time, rings}
 use Rattle.mmtel_precedence.specs.Calls.{End, NoReply, NotReachable, Standing}
-use Rattle.mmtel_precedence.specs.Services.{DueDiversion}
+use Rattle.mmtel_precedence.specs.Services.{DueDiversion, is_reached}
 use Rattle.mmtel_precedence.specs.Turns.{AfterEnd, EndAnswered, EndDivert, EndRefuse, Turn, TurnDivert, TurnOffer, TurnRefuse}
 use Rattle.mmtel_sheet_values.specs.View.{InForce}
 use Rattle.mmtel_targets.specs.declared.targets.Target.{Target}
@@ -149,7 +149,7 @@ target-on : (left : ℕ) (site : Site) (now : Standing) (caller : Leg) → Diver
     (cause : Option ℕ) (target : Target) (c : Call) (d : Desk) → On d (at_target (divert left site now caller) site now caller cause target c d).desk
 target-on left site now caller later cause target c d =
     turn-on left site now caller later (service_at site now c.opening cause target) (peer_for site c.opening target) cause target
-    (decided_at site now c.opening cause target (service_at site now c.opening cause target) (peer_for site c.opening target)) c d
+    (decided_at site now c.opening (is_diverted c) cause target (service_at site now c.opening cause target) (peer_for site c.opening target)) c d
 
 unless-on : (barred : Bool) (onward : Call → Desk → Step) (site : Site) (at : ℕ) (caller : Leg) (c : Call) (d : Desk) → On d (onward c d).desk → On d (unless_barred barred onward site at caller c d).desk
 unless-on true onward site at caller c d on = none d
@@ -165,8 +165,10 @@ divert-on (suc left) site now caller service due c d =
     let told : On d (told_of site due next d) = told-on due.forward.notify_caller d _ (none d) in
     let inner : On (told_of site due next d) (at_target (divert left site now caller) site now caller (Some due.cause) target next (told_of site due next d)).desk =
     target-on left site now caller (divert-on left site now caller) (Some due.cause) target next (told_of site due next d) in
-    unless-on (is_barred site c.opening now.at service due) (made (at_target (divert left site now caller) site now caller (Some due.cause) target) site target now.at left service due) site now.at caller c d
-    (then_on d (told_of site due next d) (at_target (divert left site now caller) site now caller (Some due.cause) target next (told_of site due next d)).desk told inner)
+    let onward : Call → Desk → Step = made (at_target (divert left site now caller) site now caller (Some due.cause) target) site target now.at left service due in
+    unless-on (is_barred site c.opening now.at service due) (unless_reached due onward site now.at caller) site now.at caller c d
+    (either_step (is_reached due.bound c.diversions.count) d (refused site now.at caller (too_many due) c d) (onward c d) (none d)
+    (then_on d (told_of site due next d) (at_target (divert left site now caller) site now caller (Some due.cause) target next (told_of site due next d)).desk told inner))
 
 refused-on : (site : Site) (at : ℕ) (caller : Leg) (service : Option Service) (m : Option Said) (cause : Cause) (c : Call) (d : Desk) → On d (refused_by site at caller service m cause c d).desk
 refused-on site at caller service None cause c d = none d
@@ -179,7 +181,7 @@ end-on site now caller service m (EndDivert due) c d = divert-on c.diversions.le
 end-on site now caller service m (EndRefuse cause) c d = refused-on site now.at caller service m cause c d
 
 goes-on : (site : Site) (now : Standing) (x : Trial) (how : End) (m : Option Said) (c : Call) (d : Desk) → On d (goes_on site now x how m c d).desk
-goes-on site now x how m c d = end-on site now x.caller x.attempt.service m (decided_after c.opening now.at x.attempt.service how) (with_past x.callee.leg.meter c) d
+goes-on site now x how m c d = end-on site now x.caller x.attempt.service m (decided_after c.opening now.at (is_diverted c) x.attempt.service how) (with_past x.callee.leg.meter c) d
 
 -- ---- while it is offered
 
@@ -409,7 +411,7 @@ unfolding opened
 opened-on site now a d =
     let c = new_call site (opening_of site now (token d) a) in
     then_on d (told_caller site c 100 (drew d)) (opened site now a d).desk (once d)
-    (unless_refused-on (refusal_of now.at c.opening) site now (caller_of now.at c) c (told_caller site c 100 (drew d)))
+    (unless_refused-on (refusal_of site now.at c.opening) site now (caller_of now.at c) c (told_caller site c 100 (drew d)))
 
 -- ---- the table
 

@@ -15,7 +15,7 @@ use Rattle.mmtel_call.specs.declared.calls.Stage.TheVariants.{Answered, Asking, 
 use Rattle.mmtel_call.specs.declared.calls.Trial.{Trial}
 use Rattle.mmtel_call.specs.Closing.{Step, onward, over, with_past}
 use Rattle.mmtel_call.specs.Sending.{relayed_to_caller}
-use Rattle.mmtel_call.specs.Diverting.{at_target, divert, diverted, goes_on, made, on_end, on_turn, passed_by, refused, refused_by, told_of, too_many, unless_barred}
+use Rattle.mmtel_call.specs.Diverting.{at_target, divert, diverted, goes_on, is_diverted, made, on_end, on_turn, passed_by, refused, refused_by, told_of, too_many, unless_barred, unless_reached}
 use Rattle.mmtel_call.specs.Leaving.{without_key, without_silent}
 use Rattle.mmtel_call.specs.Ringing.{cancelled_attempt, left, on_due, timed_out}
 use Rattle.mmtel_call.specs.Stages.{is_due_at, on_silence_at, rung_out}
@@ -27,7 +27,7 @@ use Rattle.mmtel_desk.specs.declared.desks.Desk.{Desk}
 use Rattle.mmtel_leg.specs.Legs.{Leg}
 use Rattle.mmtel_precedence.specs.Attempts.{end_by_time}
 use Rattle.mmtel_precedence.specs.Calls.{End, NoReply, NotReachable, Standing}
-use Rattle.mmtel_precedence.specs.Services.{DueDiversion}
+use Rattle.mmtel_precedence.specs.Services.{DueDiversion, is_reached}
 use Rattle.mmtel_precedence.specs.Turns.{AfterEnd, EndAnswered, EndDivert, EndRefuse, Turn, TurnDivert, TurnOffer, TurnRefuse}
 use Rattle.mmtel_targets.specs.declared.targets.Target.{Target}
 use Rattle.mmtel_transaction.specs.declared.words.DueWord.{DueWord}
@@ -69,12 +69,17 @@ target-leaves : (left : ℕ) (site : Site) (now : Standing) (caller : Leg) → D
     (cause : Option ℕ) (target : Target) (c : Call) (desk : Desk) → c.diversions.left ≡ left → Leaves (2 + left) (at_target (divert left site now caller) site now caller cause target c desk)
 target-leaves left site now caller later cause target c desk e =
     turn-leaves left site now caller later (service_at site now c.opening cause target) (peer_for site c.opening target) cause target
-    (decided_at site now c.opening cause target (service_at site now c.opening cause target) (peer_for site c.opening target)) c desk e
+    (decided_at site now c.opening (is_diverted c) cause target (service_at site now c.opening cause target) (peer_for site c.opening target)) c desk e
 
 unless-leaves : (most : ℕ) (barred : Bool) (onward : Call → Desk → Step) (site : Site) (at : ℕ) (caller : Leg) (c : Call) (desk : Desk) →
     Leaves most (onward c desk) → Leaves most (unless_barred barred onward site at caller c desk)
 unless-leaves most true onward site at caller c desk leaves = omega arith
 unless-leaves most false onward site at caller c desk leaves = leaves
+
+reached-leaves : (most : ℕ) (reached : Bool) (made refused : Call → Desk → Step) (c : Call) (desk : Desk) →
+    Leaves most (refused c desk) → Leaves most (made c desk) → Leaves most (if reached then refused c desk else made c desk)
+reached-leaves most true made refused c desk x y = x
+reached-leaves most false made refused c desk x y = y
 
 divert-leaves : (left : ℕ) (site : Site) (now : Standing) (caller : Leg) → DivertLeaves left site now caller
 unfolding divert
@@ -85,8 +90,9 @@ divert-leaves (suc left) site now caller service due c desk =
     let next = diverted target now.at left service due c in
     let inner : Leaves (2 + left) (at_target (divert left site now caller) site now caller (Some due.cause) target next (told_of site due next desk)) =
     target-leaves left site now caller (divert-leaves left site now caller) (Some due.cause) target next (told_of site due next desk) refl in
-    unless-leaves (1 + suc left) (is_barred site c.opening now.at service due) (made (at_target (divert left site now caller) site now caller (Some due.cause) target) site target now.at left service due) site now.at caller c desk
-    (omega (arith, inner))
+    let onward : Call → Desk → Step = made (at_target (divert left site now caller) site now caller (Some due.cause) target) site target now.at left service due in
+    unless-leaves (1 + suc left) (is_barred site c.opening now.at service due) (unless_reached due onward site now.at caller) site now.at caller c desk
+    (reached-leaves (1 + suc left) (is_reached due.bound c.diversions.count) onward (refused site now.at caller (too_many due)) c desk (omega arith) (omega (arith, inner)))
 
 -- ---- after an attempt
 
@@ -105,7 +111,7 @@ end-leaves site now caller service m (EndRefuse cause) c desk = let none = refus
 
 goes-leaves : (site : Site) (now : Standing) (x : Trial) (how : End) (m : Option Said) (c : Call) (desk : Desk) → Leaves (1 + c.diversions.left) (goes_on site now x how m c desk)
 goes-leaves site now x how m c desk =
-    end-leaves site now x.caller x.attempt.service m (decided_after c.opening now.at x.attempt.service how) (with_past x.callee.leg.meter c) desk
+    end-leaves site now x.caller x.attempt.service m (decided_after c.opening now.at (is_diverted c) x.attempt.service how) (with_past x.callee.leg.meter c) desk
 
 -- ---- a step
 

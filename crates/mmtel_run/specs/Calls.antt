@@ -23,7 +23,14 @@ use Rattle.mmtel_types.specs.declared.sides.Side.{Side}
 
 -- the configuration, as calls know it
 abbrev pub site_of : Directory → Site
-site_of directory = record { sip = directory.sip; home = directory.home; bound = directory.bound; peers = directory.peers; accounts = directory.names.accounts }
+site_of directory = record {
+  sip = directory.sip;
+  home = directory.home;
+  bound = directory.bound;
+  country = directory.country;
+  peers = directory.peers;
+  accounts = directory.names.accounts;
+}
 
 -- the calls, after what was done on them
 abbrev pub calls_after : Directory → List Deed → Table

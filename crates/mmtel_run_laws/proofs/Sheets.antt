@@ -11,18 +11,21 @@ use Rattle.mmtel_call_laws.proofs.Heads.Hearing.{read_uri_clean}
 use Rattle.mmtel_lex.specs.Reading.{Refusal, uri_of}
 use Rattle.mmtel_lex.specs.declared.values.Uri.{Uri}
 use Rattle.mmtel_sheet_grammar.specs.Answers.{Read, or_wrong, then_do}
-use Rattle.mmtel_sheet_grammar.specs.Elements.{is_target, target_at, target_or_wrong, text_at, time_at, tokens_at, truth_at, uri_read, uris_at, domain_at, number_at}
+use Rattle.mmtel_sheet_grammar.specs.Elements.{is_target, target_at, target_or_wrong, text_at, time_at, tokens_at, truth_at, uri_read, uris_at, domain_at, number_at, clock_at, days_at, offset_at}
 use Rattle.mmtel_sheet_grammar.specs.Keys.{dotted, rule_key_of, rule_path}
-use Rattle.mmtel_sheet_grammar.specs.Rules.{action_of, allow_read, are_tables, event_read, forward_read, has_key, items_count, key_read, keys_of_rule, listed, listed_read, members_from, no_keys, rule_from, rule_key_read, rule_of, rules_at, rules_from, rules_of, rules_within, until_read, with_event}
+use Rattle.mmtel_sheet_grammar.specs.Rules.{action_of, allow_read, are_tables, event_read, forward_read, has_key, items_count, key_read, keys_of_rule, listed, listed_read, members_from, no_keys, rule_from, rule_key_read, rule_of, rules_at, rules_from, rules_of, rules_within, until_read, day_until_read, days_read, offset_read, with_event}
 use Rattle.mmtel_sheet_grammar.specs.Texts.{document_read, kept_sheet, sheet_or_empty, sheet_read}
-use Rattle.mmtel_sheet_grammar.specs.Walk.{bar_of, diversion_key, diversion_of, diversion_part, named_read, no_diversion_keys, presentation_of, restriction_of, sheet_from, table_key_of, table_read, waiting_of}
+use Rattle.mmtel_sheet_grammar.specs.Walk.{schema, is_bound, version_at, version_of, name_read, bar_of, diversion_key, diversion_of, diversion_part, named_read, no_diversion_keys, presentation_of, restriction_of, sheet_from, table_key_of, table_read, waiting_of}
 use Rattle.mmtel_sheet_grammar.specs.declared.drafts.DiversionDraft.{DiversionDraft}
+use Rattle.mmtel_sheet_grammar.specs.declared.drafts.Hours.{Hours}
 use Rattle.mmtel_sheet_grammar.specs.declared.drafts.Notices.{Notices}
 use Rattle.mmtel_sheet_grammar.specs.declared.drafts.RuleDraft.{RuleDraft}
 use Rattle.mmtel_sheet_grammar.specs.declared.keys.RuleKey.{RuleKey}
 use Rattle.mmtel_sheet_grammar.specs.declared.keys.RuleKey.TheVariants as key
 use Rattle.mmtel_sheet_grammar.specs.declared.keys.Service.{Service}
 use Rattle.mmtel_sheet_grammar.specs.declared.keys.Service.TheVariants as service
+use Rattle.mmtel_sheet_grammar.specs.declared.keys.Version.{Version}
+use Rattle.mmtel_sheet_grammar.specs.declared.keys.Schema.{Schema}
 use Rattle.mmtel_sheet_grammar.specs.declared.keys.TableKey.{TableKey}
 use Rattle.mmtel_sheet_grammar.specs.declared.keys.TableKey.TheVariants as table
 use Rattle.mmtel_sheet_values.specs.Sheets.{empty_sheet}
@@ -30,6 +33,7 @@ use Rattle.mmtel_sheet_values.specs.declared.values.Action.{Action}
 use Rattle.mmtel_sheet_values.specs.declared.values.EventWord.{EventWord}
 use Rattle.mmtel_sheet_values.specs.declared.values.Rule.{Rule}
 use Rattle.mmtel_sheet_values.specs.declared.values.Sheet.{Sheet}
+use Rattle.mmtel_sheet_values.specs.declared.values.Weekly.{Weekly}
 use Rattle.mmtel_trust.specs.Asserted.{or_no_uri}
 
 -- ---- what is read, if it is
@@ -75,17 +79,35 @@ until_ok : (at : List ℕ) (r : RuleDraft) (t : ℤ) (o : Option ℤ) → IsClea
 until_ok at r t None h = tt
 until_ok at r t (Some f) h = if_ok IsCleanDraft (int_lt f t) _ _ h tt
 
+hours_ok : (at : List ℕ) (r : RuleDraft) (n : ℕ) (o : Option ℕ) → IsCleanDraft r → IfOk (day_until_read at r n o) IsCleanDraft
+hours_ok at r n None h = tt
+hours_ok at r n (Some f) h = if_ok IsCleanDraft (nat_lt f n) _ _ h tt
+
+days_ok : (at : List ℕ) (r : RuleDraft) (days : List Bool) (o : Option Hours) → IsCleanDraft r → IfOk (days_read at r days o) IsCleanDraft
+days_ok at r days None h = tt
+days_ok at r days (Some hours) h = h
+
+offset_ok : (at : List ℕ) (r : RuleDraft) (z : ℤ) (o : Option Weekly) → IsCleanDraft r → IfOk (offset_read at r z o) IsCleanDraft
+offset_ok at r z None h = tt
+offset_ok at r z (Some w) h = h
+
 key_ok : (ms : Members) (at : List ℕ) (r : RuleDraft) (k : RuleKey) (d : Data) → IsCleanDraft r → IfOk (key_read ms at r k d) IsCleanDraft
 key_ok ms at r key.Allow d h = any_ok IsCleanDraft (truth_at at d) _ (λ b. h)
 key_ok ms at r key.Anonymous d h = any_ok IsCleanDraft (truth_at at d) _ (λ b. h)
+key_ok ms at r key.DayFrom d h = any_ok IsCleanDraft (clock_at 1_439 at d) _ (λ n. if_ok IsCleanDraft (has_key (codes "day-until") ms && has_key (codes "days") ms) _ _ h tt)
+key_ok ms at r key.DayUntil d h = any_ok IsCleanDraft (clock_at 1_440 at d) _ (λ n. hours_ok at r n r.day_from h)
+key_ok ms at r key.Days d h = any_ok IsCleanDraft (days_at at d) _ (λ days. days_ok at r days r.hours h)
+key_ok ms at r key.Diverted d h = any_ok IsCleanDraft (truth_at at d) _ (λ b. h)
 key_ok ms at r (key.Event e) d h = any_ok IsCleanDraft (truth_at at d) _ (λ b. event_read_ok at e r b h)
 key_ok ms at r key.Except d h =
     any_ok IsCleanDraft (uris_at at d) _ (λ uris. if_ok IsCleanDraft (has_key (codes "many") ms) _ _ (if_ok IsCleanDraft (nat_lt 64 (length uris) && not (has_key (codes "one") ms)) _ _ tt h) tt)
 key_ok ms at r key.From d h = any_ok IsCleanDraft (time_at at d) _ (λ t. if_ok IsCleanDraft (has_key (codes "until") ms) _ _ h tt)
 key_ok ms at r key.Id d h = any_ok IsCleanDraft (text_at at d) _ (λ s. h)
+key_ok ms at r key.International d h = any_ok IsCleanDraft (truth_at at d) _ (λ b. h)
 key_ok ms at r key.Many d h = any_ok IsCleanDraft (domain_at at d) _ (λ s. h)
 key_ok ms at r key.Media d h = any_ok IsCleanDraft (tokens_at at d) _ (λ ts. h)
 key_ok ms at r (key.Notice n) d h = any_ok IsCleanDraft (truth_at at d) _ (λ b. h)
+key_ok ms at r key.Offset d h = any_ok IsCleanDraft (offset_at at d) _ (λ z. offset_ok at r z r.weekly h)
 key_ok ms at r key.One d h = any_ok IsCleanDraft (uris_at at d) _ (λ uris. if_ok IsCleanDraft (nat_lt 64 (length uris + length r.except)) _ _ tt h)
 key_ok ms at r key.Target d h = then_ok IsCleanUri IsCleanDraft (target_at at d) _ (target_ok at d) (λ u clean. clean)
 key_ok ms at r key.Until d h = any_ok IsCleanDraft (time_at at d) _ (λ t. until_ok at r t r.from h)
@@ -121,23 +143,23 @@ action_ok service.Diversion path target n allow h = forward_ok path target n h
 action_ok service.Incoming path target n allow h = allow_ok path allow
 action_ok service.Outgoing path target n allow h = allow_ok path allow
 
-rule_ok : (s : Service) (path : List ℕ) (ms : Members) → IfOk (rule_of s path ms) IsCleanRule
+rule_ok : (s : Schema) (path : List ℕ) (ms : Members) → IfOk (rule_of s path ms) IsCleanRule
 rule_ok s path ms =
     then_ok IsCleanDraft IsCleanRule (keys_of_rule s path ms) _
     (members_ok IsCleanDraft path (λ at d k v. rule_key_read s ms at d k v) (λ at r k d h. listed_ok ms at r (listed s (rule_key_of k)) d h) no_keys ms tt)
-    (λ r h. then_ok IsCleanAction IsCleanRule (action_of s path r.target r.notices r.allow) (λ a. Ok (rule_from r a)) (action_ok s path r.target r.notices r.allow h) (λ a clean. clean))
+    (λ r h. then_ok IsCleanAction IsCleanRule (action_of s.service path r.target r.notices r.allow) (λ a. Ok (rule_from r a)) (action_ok s.service path r.target r.notices r.allow h) (λ a clean. clean))
 
 abbrev AreCleanOnes : List Rule → Type 0
 AreCleanOnes rules = list_all is_clean_rule rules ≡ true
 
-rules_from_ok : (s : Service) (path : List ℕ) (done : List Rule) (ds : Items) → AreCleanOnes done → IfOk (rules_from s path done ds) AreCleanOnes
+rules_from_ok : (s : Schema) (path : List ℕ) (done : List Rule) (ds : Items) → AreCleanOnes done → IfOk (rules_from s path done ds) AreCleanOnes
 rules_from_ok s path done no_items h = h
 rules_from_ok s path done (item d ds) h =
     any_ok AreCleanOnes (or_wrong path (as_table d)) _
     (λ ms. then_ok IsCleanRule AreCleanOnes (rule_of s (rule_path path (length done)) ms) (λ r. rules_from s path (done ++ r ∷ []) ds) (rule_ok s (rule_path path (length done)) ms)
     (λ r clean. rules_from_ok s path (done ++ r ∷ []) ds (all_append is_clean_rule done (r ∷ []) h (all_cons is_clean_rule r [] clean refl))))
 
-rules_ok : (s : Service) (at : List ℕ) (d : Data) → IfOk (rules_at s at d) AreCleanOnes
+rules_ok : (s : Schema) (at : List ℕ) (d : Data) → IfOk (rules_at s at d) AreCleanOnes
 rules_ok s at d =
     any_ok AreCleanOnes (or_wrong at (as_array d)) (λ ds. rules_of s at ds)
     (λ ds. if_ok AreCleanOnes (are_tables ds) (rules_within s at ds) _ (if_ok AreCleanOnes (nat_lt 64 (items_count ds)) _ (rules_from s at [] ds) tt (rules_from_ok s at [] ds refl)) tt)
@@ -147,46 +169,51 @@ rules_ok s at d =
 abbrev IsCleanTable : DiversionDraft → Type 0
 IsCleanTable r = AreCleanOnes r.rules
 
-diversion_key_ok : (at : List ℕ) (r : DiversionDraft) (k : List ℕ) (d : Data) → IsCleanTable r → IfOk (diversion_key at r k d) IsCleanTable
-diversion_key_ok at r k d h =
+diversion_key_ok : (v : Version) (at : List ℕ) (r : DiversionDraft) (k : List ℕ) (d : Data) → IsCleanTable r → IfOk (diversion_key v at r k d) IsCleanTable
+diversion_key_ok v at r k d h =
     if_ok IsCleanTable (bytes_eq k (codes "active")) _ _ (any_ok IsCleanTable (truth_at at d) _ (λ b. h))
+    (if_ok IsCleanTable (is_bound v k) _ _ (any_ok IsCleanTable (number_at 0 16 at d) _ (λ n. h))
     (if_ok IsCleanTable (bytes_eq k (codes "deflection")) _ _ (any_ok IsCleanTable (truth_at at d) _ (λ b. h))
     (if_ok IsCleanTable (bytes_eq k (codes "no-reply-time")) _ _ (any_ok IsCleanTable (number_at 5 180 at d) _ (λ n. h))
-    (if_ok IsCleanTable (bytes_eq k (codes "rule")) _ _ (then_ok AreCleanOnes IsCleanTable (rules_at service.Diversion at d) _ (rules_ok service.Diversion at d) (λ rs clean. clean)) tt)))
+    (if_ok IsCleanTable (bytes_eq k (codes "rule")) _ _
+    (then_ok AreCleanOnes IsCleanTable (rules_at (schema v service.Diversion) at d) _ (rules_ok (schema v service.Diversion) at d) (λ rs clean. clean)) tt))))
 
 part_ok : (b : Bool) (r : DiversionDraft) → IsCleanTable r → IfSome (diversion_part (record r { active = b })) AreCleanRules
 part_ok true r h = h
 part_ok false r h = tt
 
-diversion_ok : (path : List ℕ) (ms : Members) → IfOk (diversion_of path ms) (λ o. IfSome o AreCleanRules)
-diversion_ok path ms =
-    then_ok IsCleanTable (λ o. IfSome o AreCleanRules) (members_from path diversion_key no_diversion_keys ms) _
-    (members_ok IsCleanTable path diversion_key diversion_key_ok no_diversion_keys ms refl) (λ r h. part_ok r.active r h)
+diversion_ok : (v : Version) (path : List ℕ) (ms : Members) → IfOk (diversion_of v path ms) (λ o. IfSome o AreCleanRules)
+diversion_ok v path ms =
+    then_ok IsCleanTable (λ o. IfSome o AreCleanRules) (members_from path (λ at r k d. diversion_key v at r k d) no_diversion_keys ms) _
+    (members_ok IsCleanTable path (λ at r k d. diversion_key v at r k d) (diversion_key_ok v) no_diversion_keys ms refl) (λ r h. part_ok r.active r h)
 
-table_ok : (at : List ℕ) (s : Sheet) (k : TableKey) (ms : Members) → IsCleanSheet s → IfOk (table_read at s k ms) IsCleanSheet
-table_ok at s table.Diversion ms h = then_ok (λ o. IfSome o AreCleanRules) IsCleanSheet (diversion_of at ms) _ (diversion_ok at ms) (λ p clean. clean)
-table_ok at s table.Incoming ms h = any_ok IsCleanSheet (bar_of service.Incoming at ms) _ (λ p. h)
-table_ok at s table.Outgoing ms h = any_ok IsCleanSheet (bar_of service.Outgoing at ms) _ (λ p. h)
-table_ok at s table.Oip ms h = any_ok IsCleanSheet (presentation_of at ms) _ (λ b. h)
-table_ok at s table.Oir ms h = any_ok IsCleanSheet (restriction_of at ms) _ (λ r. h)
-table_ok at s table.Tip ms h = any_ok IsCleanSheet (presentation_of at ms) _ (λ b. h)
-table_ok at s table.Tir ms h = any_ok IsCleanSheet (restriction_of at ms) _ (λ r. h)
-table_ok at s table.Waiting ms h = any_ok IsCleanSheet (waiting_of at ms) _ (λ n. h)
+table_ok : (v : Version) (at : List ℕ) (s : Sheet) (k : TableKey) (ms : Members) → IsCleanSheet s → IfOk (table_read v at s k ms) IsCleanSheet
+table_ok v at s table.Diversion ms h = then_ok (λ o. IfSome o AreCleanRules) IsCleanSheet (diversion_of v at ms) _ (diversion_ok v at ms) (λ p clean. clean)
+table_ok v at s table.Incoming ms h = any_ok IsCleanSheet (bar_of (schema v service.Incoming) at ms) _ (λ p. h)
+table_ok v at s table.Outgoing ms h = any_ok IsCleanSheet (bar_of (schema v service.Outgoing) at ms) _ (λ p. h)
+table_ok v at s table.Oip ms h = any_ok IsCleanSheet (presentation_of at ms) _ (λ b. h)
+table_ok v at s table.Oir ms h = any_ok IsCleanSheet (restriction_of at ms) _ (λ r. h)
+table_ok v at s table.Tip ms h = any_ok IsCleanSheet (presentation_of at ms) _ (λ b. h)
+table_ok v at s table.Tir ms h = any_ok IsCleanSheet (restriction_of at ms) _ (λ r. h)
+table_ok v at s table.Waiting ms h = any_ok IsCleanSheet (waiting_of at ms) _ (λ n. h)
 
-named_ok : (at : List ℕ) (s : Sheet) (o : Option TableKey) (d : Data) → IsCleanSheet s → IfOk (named_read at s o d) IsCleanSheet
-named_ok at s None d h = tt
-named_ok at s (Some t) d h = any_ok IsCleanSheet (or_wrong at (as_table d)) (λ ms. table_read at s t ms) (λ ms. table_ok at s t ms h)
+named_ok : (v : Version) (at : List ℕ) (s : Sheet) (o : Option TableKey) (d : Data) → IsCleanSheet s → IfOk (named_read v at s o d) IsCleanSheet
+named_ok v at s None d h = tt
+named_ok v at s (Some t) d h = any_ok IsCleanSheet (or_wrong at (as_table d)) (λ ms. table_read v at s t ms) (λ ms. table_ok v at s t ms h)
 
 -- ---- records
 
-sheet_from_ok : (s : Sheet) (ms : Members) → IsCleanSheet s → IfOk (sheet_from s ms) IsCleanSheet
-sheet_from_ok s no_members h = h
-sheet_from_ok s (member k d ms) h =
-    then_ok IsCleanSheet IsCleanSheet (named_read k s (table_key_of k) d) (λ t. sheet_from t ms) (named_ok k s (table_key_of k) d h) (λ t clean. sheet_from_ok t ms clean)
+name_ok : (v : Version) (k : List ℕ) (s : Sheet) (d : Data) → IsCleanSheet s → IfOk (name_read v k s d) IsCleanSheet
+name_ok v k s d h = if_ok IsCleanSheet (bytes_eq k (codes "version")) _ _ (any_ok IsCleanSheet (version_at k d) _ (λ w. h)) (named_ok v k s (table_key_of k) d h)
+
+sheet_from_ok : (v : Version) (s : Sheet) (ms : Members) → IsCleanSheet s → IfOk (sheet_from v s ms) IsCleanSheet
+sheet_from_ok v s no_members h = h
+sheet_from_ok v s (member k d ms) h =
+    then_ok IsCleanSheet IsCleanSheet (name_read v k s d) (λ t. sheet_from v t ms) (name_ok v k s d h) (λ t clean. sheet_from_ok v t ms clean)
 
 document_ok : (o : Option Members) → IfOk (document_read o) IsCleanSheet
 document_ok None = tt
-document_ok (Some ms) = sheet_from_ok empty_sheet ms tt
+document_ok (Some ms) = any_ok IsCleanSheet (version_of ms) (λ v. sheet_from v empty_sheet ms) (λ v. sheet_from_ok v empty_sheet ms tt)
 
 or_empty_ok : (r : Read Sheet) → IfOk r IsCleanSheet → IsCleanSheet (sheet_or_empty r)
 or_empty_ok (Ok s) h = h

@@ -1,6 +1,6 @@
--- Another run may have another configuration, in which some accounts have other identities: whom these name is then as little seen as what is private. All that is asked is that
--- nothing by which an account is looked up names one of them, neither as one configuration has it nor as the other does. What is looked up is read of the masked run, so what is
--- private of a message is not, and of the records
+-- Another run may have another configuration, in which some accounts have other identities: by which name the operator serves somebody who is hidden is then as little seen as
+-- what is private. All that is asked is that no URI by which an account is looked up is one of these identities, of the one configuration or of the other. Which URIs these are
+-- is told by the records, and by the masked run: what is private of a message is looked up by nobody, or told by a test
 -- (RFC 3261 §10.3, §21.3; RFC 3325 §9.1; RFC 3515 §2.1; RFC 5502 §6; TS 24.604 §4.5.2.6).
 use Rattle.std.specs.Prelude.{◌≡◌, ◌&&◌, ℕ, true, if◌then◌else◌, Option, Some, None, List, [], ◌∷◌, ◌++◌, map, codes, option_to_list}
 use Rattle.std.specs.List.{flat_map, list_all}
@@ -44,6 +44,7 @@ pub record Renames (renamed : List Account) (one other : Directory) : Type 0 whe
   pub peers : one.peers ≡ other.peers
   pub factory : one.factory ≡ other.factory
   pub bound : one.bound ≡ other.bound
+  pub country : one.country ≡ other.country
   pub mixer : one.mixer ≡ other.mixer
   pub others : but renamed one.names.accounts ≡ but renamed other.names.accounts
 
@@ -57,7 +58,7 @@ abbrev pub uri_by_any : Option (List ℕ) → List Uri
 uri_by_any None = []
 uri_by_any (Some bytes) = uri_by bytes
 
--- whom an INVITE that opens a call is for: its Request-URI, which else leads nowhere, and the user whom a trusted peer has served as the target
+-- whom an INVITE that opens a call is for: its Request-URI, or nowhere where that is no URI of sip or tel, and the user whom a trusted peer has served as the target
 abbrev pub targets_in : HeardMessage → List Uri
 targets_in m = (unwrap_or (first_target (request_uri m.start)) nowhere).uri ∷ uri_by_any (believed_user m).user
 
@@ -113,7 +114,7 @@ diverted_by home sheet = flat_map (λ (rule : Rule). forwarded_by home (forward_
 abbrev pub looked_up : (home : List ℕ) → (records : List Sheet) → Mask → List Uri
 looked_up home records masked = flat_map (diverted_by home) records ++ flat_map (λ (event : ℕ × MaskedDigest). looked_up_by home event.1) masked.events
 
--- none of these names one of the renamed accounts, in neither configuration
+-- none of these names one of the renamed accounts, by the identities of either configuration
 pub record Neutral (renamed : List Account) (one other : Directory) (records : List Sheet) (masked : Mask) : Type 0 where
   pub here : list_all (names_none renamed one.names.accounts) (looked_up one.home records masked) ≡ true
   pub there : list_all (names_none renamed other.names.accounts) (looked_up one.home records masked) ≡ true

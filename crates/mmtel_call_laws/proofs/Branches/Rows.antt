@@ -17,7 +17,7 @@ use Rattle.mmtel_call_decisions.specs.declared.openings.Arrival.{Arrival}
 use Rattle.mmtel_call_decisions.specs.declared.openings.Service.{Service}
 use Rattle.mmtel_call.specs.Answered.{acked_across, acked_and_left, acknowledges, at_stage, bye_before_ack, bye_to, leg_of, parted, shown_across, unacknowledged, with_ack, with_leg}
 use Rattle.mmtel_call.specs.Closing.{Step, onward, over, over_stood, with_past}
-use Rattle.mmtel_call.specs.Diverting.{at_target, divert, diverted, goes_on, made, offer_where, on_end, on_turn, passed_by, reach, refused, refused_by, told_of, too_many, unless_barred}
+use Rattle.mmtel_call.specs.Diverting.{at_target, divert, diverted, goes_on, is_diverted, made, offer_where, on_end, on_turn, passed_by, reach, refused, refused_by, told_of, too_many, unless_reached}
 use Rattle.mmtel_call.specs.Leaving.{acked_again, answered_at, answered_loose, answered_other, answered_taken, answered_taken_at, as_loose, forked, is_fork, is_loose_key, is_success, is_taken, is_taken_key, is_talking, repeated, taken_again, with_rest, without, without_at, without_key, without_silent}
 use Rattle.mmtel_call.specs.Lending.{finished, finished_in}
 use Rattle.mmtel_call.specs.Offering.{dialog_of, longest_time, next_attempt, offer}
@@ -64,7 +64,7 @@ use Rattle.mmtel_message.specs.Message.{Line, Message}
 use Rattle.mmtel_message.specs.declared.messages.Start.{Start}
 use Rattle.mmtel_precedence.specs.Attempts.{end_by_final, end_by_time, rings}
 use Rattle.mmtel_precedence.specs.Calls.{End, NoReply, NotReachable, Standing}
-use Rattle.mmtel_precedence.specs.Services.{DueDiversion}
+use Rattle.mmtel_precedence.specs.Services.{DueDiversion, is_reached}
 use Rattle.mmtel_precedence.specs.Turns.{AfterEnd, EndAnswered, EndDivert, EndRefuse, Turn, TurnDivert, TurnOffer, TurnRefuse}
 use Rattle.mmtel_scan.specs.Numbers.{next_number, token_text}
 use Rattle.mmtel_targets.specs.declared.targets.Target.{Target}
@@ -331,24 +331,27 @@ module _ (sent : List ℕ → Peer → Type 0) (site : Site) (text : List ℕ) (
       Others c → Counted desk → Good (at_target (divert left site now caller) site now caller cause target c desk)
   target_good left now caller later cause target c desk k had =
       turn_good left now caller later (service_at site now c.opening cause target) (peer_for site c.opening target) cause target
-      (decided_at site now c.opening cause target (service_at site now c.opening cause target) (peer_for site c.opening target)) c desk k had
+      (decided_at site now c.opening (is_diverted c) cause target (service_at site now c.opening cause target) (peer_for site c.opening target)) c desk k had
 
   told_of_in : (due : DueDiversion) (c : Call) (desk : Desk) → Counted desk → Counted (told_of site due c desk)
   told_of_in due c desk had = if_desk due.forward.notify_caller (told_diversion site c desk) desk (told_diversion_in c desk had) had
 
-  unless_good : (barred : Bool) (go : Call → Desk → Step) (at : ℕ) (caller : Leg) (c : Call) (desk : Desk) → Others c → Counted desk → Good (go c desk) → Good (unless_barred barred go site at caller c desk)
-  unless_good true go at caller c desk k had is = refused_good at caller causes.OutgoingBarred c desk k had
-  unless_good false go at caller c desk k had is = is
+  unless_good : (refuses : Bool) (why : Cause) (go : Call → Desk → Step) (at : ℕ) (caller : Leg) (c : Call) (desk : Desk) → Others c → Counted desk → Good (go c desk) →
+      Good (if refuses then refused site at caller why c desk else go c desk)
+  unless_good true why go at caller c desk k had is = refused_good at caller why c desk k had
+  unless_good false why go at caller c desk k had is = is
 
   divert_good : (left : ℕ) (now : Standing) (caller : Leg) → Diverts left now caller
   unfolding divert
   divert_good zero now caller service due c desk k had =
-      unless_good (is_barred site c.opening now.at service due) (refused site now.at caller (too_many due)) now.at caller c desk k had (refused_good now.at caller (too_many due) c desk k had)
+      unless_good (is_barred site c.opening now.at service due) causes.OutgoingBarred (refused site now.at caller (too_many due)) now.at caller c desk k had (refused_good now.at caller (too_many due) c desk k had)
   divert_good (suc left) now caller service due c desk k had =
       let target : Target = target_of site due in
       let next : Call = diverted target now.at left service due c in
-      unless_good (is_barred site c.opening now.at service due) (made (at_target (divert left site now caller) site now caller (Some due.cause) target) site target now.at left service due) now.at caller c desk k had
-      (target_good left now caller (divert_good left now caller) (Some due.cause) target next (told_of site due next desk) k (told_of_in due next desk had))
+      let onward = made (at_target (divert left site now caller) site now caller (Some due.cause) target) site target now.at left service due in
+      unless_good (is_barred site c.opening now.at service due) causes.OutgoingBarred (unless_reached due onward site now.at caller) now.at caller c desk k had
+      (unless_good (is_reached due.bound c.diversions.count) (too_many due) onward now.at caller c desk k had
+      (target_good left now caller (divert_good left now caller) (Some due.cause) target next (told_of site due next desk) k (told_of_in due next desk had)))
 
   reach_good : (now : Standing) (caller : Leg) (cause : Option ℕ) (target : Target) (c : Call) (desk : Desk) → Others c → Counted desk → Good (reach site now caller cause target c desk)
   reach_good now caller cause target c desk k had = target_good c.diversions.left now caller (divert_good c.diversions.left now caller) cause target c desk k had
@@ -360,7 +363,7 @@ module _ (sent : List ℕ → Peer → Type 0) (site : Site) (text : List ℕ) (
 
   goes_on_good : (now : Standing) (x : Trial) (how : End) (m : Option Said) (c : Call) (desk : Desk) → Others c → Counted desk → Good (goes_on site now x how m c desk)
   goes_on_good now x how m c desk k had =
-      end_good now x.caller x.attempt.service m (decided_after c.opening now.at x.attempt.service how) (with_past x.callee.leg.meter c) desk k had
+      end_good now x.caller x.attempt.service m (decided_after c.opening now.at (is_diverted c) x.attempt.service how) (with_past x.callee.leg.meter c) desk k had
 
   -- ---- while it is offered
 
@@ -851,7 +854,7 @@ module _ (sent : List ℕ → Peer → Type 0) (site : Site) (text : List ℕ) (
   unfolding opened
   opened_good now a desk had =
       let c : Call = new_call site (opening_of site now (token desk) a) in
-      unless_refused_good (refusal_of now.at c.opening) now (caller_of now.at c) c (told_caller site c 100 (drew desk)) (record { loose_in = tt; taken_in = tt }) (told_in c 100 (drew desk) (drew_in desk had))
+      unless_refused_good (refusal_of site now.at c.opening) now (caller_of now.at c) c (told_caller site c 100 (drew desk)) (record { loose_in = tt; taken_in = tt }) (told_in c 100 (drew desk) (drew_in desk had))
 
   -- ---- without a leg
 

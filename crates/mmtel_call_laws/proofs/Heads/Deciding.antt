@@ -15,7 +15,7 @@ use Rattle.mmtel_message.specs.Headers.{is_value_byte}
 use Rattle.mmtel_precedence.specs.Attempts.{end_by_final, end_by_redirection, is_redirection, is_success, is_unreachable, is_user_busy}
 use Rattle.mmtel_precedence.specs.Calls.{Answer, Cancel, Deflection, End, NoReply, NotReachable, Other, Reach, Standing, UserBusy, sheet_at}
 use Rattle.mmtel_precedence.specs.Moves.{account_at}
-use Rattle.mmtel_precedence.specs.Services.{AccountState, Diverts, DueDiversion, Nothing, Refuses, Says, bars_incoming, diverts_by, due_of, due_on, first_said, refuses_if, rejects_anonymous, services_after_barring, services_of_capacity, services_on_arrival}
+use Rattle.mmtel_precedence.specs.Services.{AccountState, Diverts, DueDiversion, Nothing, Refuses, Says, bars_incoming, diverts_by, due_of, due_on, first_said, own_bound, refuses_if, rejects_anonymous, services_after_barring, services_of_capacity, services_on_arrival}
 use Rattle.mmtel_precedence.specs.Targets.{deflected_to}
 use Rattle.mmtel_precedence.specs.Turns.{AfterEnd, EndAnswered, EndDivert, EndRefuse, Turn, TurnDivert, TurnOffer, TurnRefuse, deflection_by, divert_or_refuse, offer_turn, turn_at, turn_by, turn_on}
 use Rattle.mmtel_precedence.specs.Verdicts.{decision_by}
@@ -69,12 +69,12 @@ chosen_clean : (k : Circumstances) (when : When) (o : Option DiversionPart) → 
 chosen_clean k when None e = tt
 chosen_clean k when (Some part) e = among_clean part.rules (first_that_holds k when part.rules) e
 
-due_option : (o : Option Chosen) → IfSome o IsCleanChosen → IfSome (option_map due_of o) IsCleanDue
-due_option None e = tt
-due_option (Some chosen) e = e
+due_option : (bound : Option ℕ) (o : Option Chosen) → IfSome o IsCleanChosen → IfSome (option_map (due_of bound) o) IsCleanDue
+due_option bound None e = tt
+due_option bound (Some chosen) e = e
 
 pub due_clean : (c : Circumstances) (when : When) (sheet : Sheet) → IsCleanSheet sheet → IfSome (due_on c when sheet) IsCleanDue
-due_clean c when sheet e = due_option (diversion_of c when sheet) (chosen_clean c when sheet.diversion e)
+due_clean c when sheet e = due_option (own_bound sheet) (diversion_of c when sheet) (chosen_clean c when sheet.diversion e)
 
 -- ---- at a target
 
@@ -127,10 +127,10 @@ offer_turn_clean true no_peer waiting = tt
 offer_turn_clean false true waiting = tt
 offer_turn_clean false false waiting = tt
 
-turn_by_clean : (says : Says) (live : ℕ) (unknown no_peer : Bool) → SaysClean says → TurnsClean (turn_by (decision_by says live) unknown no_peer)
-turn_by_clean Nothing live unknown no_peer e = offer_turn_clean unknown no_peer (nat_lt 0 live)
-turn_by_clean (Refuses cause) live unknown no_peer e = tt
-turn_by_clean (Diverts due) live unknown no_peer e = e
+turn_by_clean : (says : Says) (live : ℕ) (bound : Option ℕ) (unknown no_peer : Bool) → SaysClean says → TurnsClean (turn_by (decision_by says live) bound unknown no_peer)
+turn_by_clean Nothing live bound unknown no_peer e = offer_turn_clean unknown no_peer (nat_lt 0 live)
+turn_by_clean (Refuses cause) live bound unknown no_peer e = tt
+turn_by_clean (Diverts due) live bound unknown no_peer e = e
 
 abbrev pub has_clean_record : AccountState → Type 0
 has_clean_record account = IsCleanSheet account.sheet
@@ -141,7 +141,8 @@ account_clean (Some account) e = e
 
 pub turn_clean : (c : Circumstances) (reach : Reach) → IfSome reach.served has_clean_record → TurnsClean (turn_at c reach)
 turn_clean c reach e =
-    turn_by_clean (first_said (services_on_arrival c (account_at reach))) (account_at reach).live reach.is_unknown reach.has_no_peer (services_clean c (account_at reach) (account_clean reach.served e))
+    turn_by_clean (first_said (services_on_arrival c (account_at reach))) (account_at reach).live (own_bound (account_at reach).sheet) reach.is_unknown reach.has_no_peer
+    (services_clean c (account_at reach) (account_clean reach.served e))
 
 -- ---- after an attempt
 
@@ -185,13 +186,13 @@ asked_due : (c : Circumstances) (when : When) (sheet : Option Sheet) → IfSome 
 asked_due c when None e = tt
 asked_due c when (Some sheet) e = due_clean c when sheet e
 
-deflected_due : (target : Uri) (o : Option ℕ) → IsCleanUri target → IfSome (option_map (deflected_to target) o) IsCleanDue
-deflected_due target None e = tt
-deflected_due target (Some cause) e = e
+deflected_due : (target : Uri) (bound o : Option ℕ) → IsCleanUri target → IfSome (option_map (deflected_to target bound) o) IsCleanDue
+deflected_due target bound None e = tt
+deflected_due target bound (Some cause) e = e
 
 deflection_clean : (target : Uri) (rang : Bool) (sheet : Option Sheet) → IsCleanUri target → IfSome (option_and_then (deflection_by target rang) sheet) IsCleanDue
 deflection_clean target rang None e = tt
-deflection_clean target rang (Some sheet) e = deflected_due target (deflection_of sheet rang) e
+deflection_clean target rang (Some sheet) e = deflected_due target (own_bound sheet) (deflection_of sheet rang) e
 
 pub after_clean : (c : Circumstances) (sheet : Option Sheet) (how : End) → IfSome sheet IsCleanSheet → EndsClean how → AfterClean (turn_on c sheet how)
 after_clean c sheet Answer e f = tt

@@ -1,6 +1,6 @@
 -- How a call goes on keeps it clean: it comes to one target after another until it is offered to one, or refused.
 use Rattle.std.proofs.Common.{List, ◌+◌, Bool, true, false, not, ℕ, zero, suc, Option, Some, None, refl}
-use Rattle.std.specs.Prelude.{IfSome}
+use Rattle.std.specs.Prelude.{IfSome, if◌then◌else◌}
 use Rattle.std.specs.Option.{option_map}
 use Rattle.mmtel_answers.specs.Attempts.{called}
 use Rattle.mmtel_answers.specs.Said.{Said, status_of as status_in}
@@ -13,7 +13,7 @@ use Rattle.mmtel_leg.specs.Legs.{Leg}
 use Rattle.mmtel_leg.specs.declared.dialogues.Dialogue.{Dialogue}
 use Rattle.mmtel_lex.specs.Grammar.{uri_text}
 use Rattle.mmtel_precedence.specs.Calls.{End, Standing}
-use Rattle.mmtel_precedence.specs.Services.{DueDiversion}
+use Rattle.mmtel_precedence.specs.Services.{DueDiversion, is_reached}
 use Rattle.mmtel_precedence.specs.Turns.{AfterEnd, EndAnswered, EndDivert, EndRefuse, Turn, TurnDivert, TurnOffer, TurnRefuse}
 use Rattle.mmtel_targets.specs.declared.served.RegistrationState.{RegistrationState}
 use Rattle.mmtel_targets.specs.declared.targets.Target.{Target}
@@ -33,7 +33,7 @@ use Rattle.mmtel_call_decisions.specs.declared.openings.Service.{Service}
 use Rattle.mmtel_call.specs.declared.calls.Call.{Call}
 use Rattle.mmtel_call.specs.declared.calls.Trial.{Trial}
 use Rattle.mmtel_call.specs.Closing.{Step, over, with_past}
-use Rattle.mmtel_call.specs.Diverting.{at_target, divert, diverted, goes_on, made, offer_where, on_end, on_turn, passed_by, reach, refused, refused_by, told_of, too_many, unless_barred}
+use Rattle.mmtel_call.specs.Diverting.{at_target, divert, diverted, goes_on, is_diverted, made, offer_where, on_end, on_turn, passed_by, reach, refused, refused_by, told_of, too_many, unless_reached}
 use Rattle.mmtel_call.specs.Offering.{dialog_of, longest_time, next_attempt, offer}
 use Rattle.mmtel_call.specs.Sending.{relayed_to_caller, told_caller, told_diversion}
 use Rattle.mmtel_call_laws.specs.Heads.Acks.{Acked}
@@ -129,8 +129,8 @@ target_clean acks left site now caller later cause target c desk good e first k 
     let service = service_at site now c.opening cause target in
     let peer = peer_for site c.opening target in
     let serves : Serves service = service_clean now (served_at site c.opening cause target) good.sheets_in in
-    on_turn_clean acks left site now caller later service peer cause target (decided_at site now c.opening cause target service peer) c desk e first serves
-    (turn_clean (of_caller c.opening now.at) (reach_at site now c.opening cause target service peer) (state_clean now (told_at c.opening cause) service serves)) k had
+    on_turn_clean acks left site now caller later service peer cause target (decided_at site now c.opening (is_diverted c) cause target service peer) c desk e first serves
+    (turn_clean (of_caller c.opening now.at (is_diverted c)) (reach_at site now c.opening cause target service peer) (state_clean now (told_at c.opening cause) service serves)) k had
 
 -- ---- a diversion
 
@@ -145,21 +145,24 @@ diverted_kept acks target at left service due c e k = record {
 told_of_clean : (acks : List Acked) (site : Site) (due : DueDiversion) (c : Call) (desk : Desk) → IsKept acks c → IsCleanDesk acks desk → IsCleanDesk acks (told_of site due c desk)
 told_of_clean acks site due c desk k had = if_desk acks due.forward.notify_caller (told_diversion site c desk) desk (told_diversion_clean acks site c desk k had) had
 
-unless_clean : (acks : List Acked) (barred : Bool) (go : Call → Desk → Step) (site : Site) (at : ℕ) (caller : Leg) (c : Call) (desk : Desk) → IsKept acks c → IsCleanDesk acks desk → IsCleanStep acks (go c desk) → IsCleanStep acks (unless_barred barred go site at caller c desk)
-unless_clean acks true go site at caller c desk k had is = refused_clean acks site at caller causes.OutgoingBarred c desk k had
-unless_clean acks false go site at caller c desk k had is = is
+unless_clean : (acks : List Acked) (refuses : Bool) (why : Cause) (go : Call → Desk → Step) (site : Site) (at : ℕ) (caller : Leg) (c : Call) (desk : Desk) → IsKept acks c → IsCleanDesk acks desk → IsCleanStep acks (go c desk) →
+    IsCleanStep acks (if refuses then refused site at caller why c desk else go c desk)
+unless_clean acks true why go site at caller c desk k had is = refused_clean acks site at caller why c desk k had
+unless_clean acks false why go site at caller c desk k had is = is
 
 divert_clean : (acks : List Acked) (left : ℕ) (site : Site) (now : Standing) (caller : Leg) → IsGood site now → IsCleanHere caller.dialogue → DivertClean acks left site now caller
 unfolding divert
 divert_clean acks zero site now caller good first service due c desk serves e k had =
-    unless_clean acks (is_barred site c.opening now.at service due) (refused site now.at caller (too_many due)) site now.at caller c desk k had (refused_clean acks site now.at caller (too_many due) c desk k had)
+    unless_clean acks (is_barred site c.opening now.at service due) causes.OutgoingBarred (refused site now.at caller (too_many due)) site now.at caller c desk k had (refused_clean acks site now.at caller (too_many due) c desk k had)
 divert_clean acks (suc left) site now caller good first service due c desk serves e k had =
     let target = target_of site due in
     let uri : IsCleanUri target.uri = new_target_clean site.home due.forward.target good.home_in e in
     let next = diverted target now.at left service due c in
     let kept : IsKept acks next = diverted_kept acks target now.at left service due c uri k in
-    unless_clean acks (is_barred site c.opening now.at service due) (made (at_target (divert left site now caller) site now caller (Some due.cause) target) site target now.at left service due) site now.at caller c desk k had
-    (target_clean acks left site now caller (divert_clean acks left site now caller good first) (Some due.cause) target next (told_of site due next desk) good uri first kept (told_of_clean acks site due next desk kept had))
+    let onward = made (at_target (divert left site now caller) site now caller (Some due.cause) target) site target now.at left service due in
+    unless_clean acks (is_barred site c.opening now.at service due) causes.OutgoingBarred (unless_reached due onward site now.at caller) site now.at caller c desk k had
+    (unless_clean acks (is_reached due.bound c.diversions.count) (too_many due) onward site now.at caller c desk k had
+    (target_clean acks left site now caller (divert_clean acks left site now caller good first) (Some due.cause) target next (told_of site due next desk) good uri first kept (told_of_clean acks site due next desk kept had)))
 
 pub reach_clean : (acks : List Acked) (site : Site) (now : Standing) (caller : Leg) (cause : Option ℕ) (target : Target) (c : Call) (desk : Desk) →
     IsGood site now → IsCleanUri target.uri → IsCleanHere caller.dialogue → IsKept acks c → IsCleanDesk acks desk → IsCleanStep acks (reach site now caller cause target c desk)
@@ -181,5 +184,5 @@ its_sheet_clean (Some service) e = e
 pub goes_on_clean : (acks : List Acked) (site : Site) (now : Standing) (x : Trial) (how : End) (m : Option Said) (c : Call) (desk : Desk) →
     IsGood site now → IsCleanTrial acks x → EndsClean how → IfSome m is_clean_said → IsKept acks c → IsCleanDesk acks desk → IsCleanStep acks (goes_on site now x how m c desk)
 goes_on_clean acks site now x how m c desk good t e is k had =
-    on_end_clean acks site now x.caller x.attempt.service m (decided_after c.opening now.at x.attempt.service how) (with_past x.callee.leg.meter c) desk good t.caller_in t.service_in is
-    (after_clean (of_caller c.opening now.at) (its_sheet x.attempt.service) how (its_sheet_clean x.attempt.service t.service_in) e) k had
+    on_end_clean acks site now x.caller x.attempt.service m (decided_after c.opening now.at (is_diverted c) x.attempt.service how) (with_past x.callee.leg.meter c) desk good t.caller_in t.service_in is
+    (after_clean (of_caller c.opening now.at (is_diverted c)) (its_sheet x.attempt.service) how (its_sheet_clean x.attempt.service t.service_in) e) k had

@@ -182,7 +182,7 @@ unless_refused_clean acks (Some cause) site now caller c desk good first k had =
 
 begins_clean : (acks : List Acked) (site : Site) (now : Standing) (c : Call) (desk : Desk) → IsGood site now → IsKept acks c → IsCleanDesk acks desk → IsCleanStep acks (begins site now c desk)
 begins_clean acks site now c desk good k had =
-    unless_refused_clean acks (refusal_of now.at c.opening) site now (caller_of now.at c) c (told_caller site c 100 desk) good
+    unless_refused_clean acks (refusal_of site now.at c.opening) site now (caller_of now.at c) c (told_caller site c 100 desk) good
     (opened_clean c.opening.invite.peer c.opening.invite.heard.lines c.opening.tag k.opening_in.invite_in.lines_in k.opening_in.tag_in, k.opening_in.tag_in) k (told_caller_clean acks site c 100 desk k had)
 
 pub opened_step_clean : (acks : List Acked) (site : Site) (now : Standing) (a : Arrival) (desk : Desk) → IsGood site now → IsOfClean a.invite.heard → IsClean (request_uri a.invite.heard.start) → IsCleanDesk acks desk → IsCleanStep acks (opened site now a desk)

@@ -14,7 +14,7 @@ use Rattle.mmtel_precedence.specs.Calls as precedence
 use Rattle.mmtel_precedence.specs.Calls.{Final, NotOffered, Offer, Offered, Reach, Result, Standing, standing_after}
 use Rattle.mmtel_precedence.specs.Moves as moves
 use Rattle.mmtel_precedence.specs.Moves.{Kept, Reaching, account_at, at_phase, gone_on, move_in, with_target}
-use Rattle.mmtel_precedence.specs.Services.{AccountState, DueDiversion}
+use Rattle.mmtel_precedence.specs.Services.{AccountState, DueDiversion, bound_of, is_reached}
 use Rattle.mmtel_precedence.specs.Targets.{is_by_number}
 use Rattle.mmtel_precedence.specs.Turns as turns
 use Rattle.mmtel_precedence.specs.Turns.{Turn, TurnDivert, TurnOffer, TurnRefuse, TurnsAreMoves, kept_at_turn}
@@ -29,12 +29,13 @@ use Rattle.mmtel_types.specs.declared.numbers.Peer.{Peer}
 use Rattle.mmtel_types.specs.declared.sides.Side.TheVariants.{Caller}
 use Rattle.mmtel_call_decisions.specs.Decisions as decisions
 use Rattle.mmtel_call_decisions.specs.Decisions.{aim_at, decided_at, is_barred, its_sheet, peer_for, reach_at, service_at, target_of}
+use Rattle.mmtel_call_decisions.specs.Diverted.{Diverted}
 use Rattle.mmtel_call_decisions.specs.Showing.{shown_to}
 use Rattle.mmtel_call_decisions.specs.Site.{Site}
 use Rattle.mmtel_call_decisions.specs.declared.openings.Opening.{Opening}
 use Rattle.mmtel_call_decisions.specs.declared.openings.Service.{Service}
 use Rattle.mmtel_call.specs.Closing.{Step, over}
-use Rattle.mmtel_call.specs.Diverting.{at_target, divert, diverted, made, on_turn, passed_by, refused, told_of, too_many, unless_barred}
+use Rattle.mmtel_call.specs.Diverting.{at_target, divert, diverted, is_diverted, made, on_turn, passed_by, refused, told_of, too_many, unless_barred, unless_reached}
 use Rattle.mmtel_call.specs.Offering.{longest_time, next_attempt, sent_to}
 use Rattle.mmtel_call.specs.Sending.{told_caller, told_diversion}
 use Rattle.mmtel_call.specs.declared.calls.Call.{Call}
@@ -109,11 +110,16 @@ sent-silent site at service waiting aim c desk =
 
 -- ---- at a target
 
+-- so many diversions are left after those that were made, and so many came and were made
+pub record IsCounted (site : Site) (o : Opening) (done : ℕ) (diversions : Diverted) : Type 0 where
+  pub left : diversions.left + done ≡ total site o
+  pub count : diversions.count ≡ received_in o + done
+
 -- what a diversion tells that is due where so many are left
 abbrev pub DivertTells : ℕ → Site → Standing → Standing → (ℕ → Standing) → Leg → Type 0
 DivertTells left site now first later caller =
     (service : Option Service) (reach : Reach) (due : DueDiversion) (c : Call) (desk : Desk) (kept : Kept) →
-    IsKnown first c.opening → turns.sheet_of reach ≡ its_sheet service → c.diversions.left + kept.done ≡ total site c.opening → kept.endings ≡ [] → c.diversions.left ≡ left →
+    IsKnown first c.opening → turns.sheet_of reach ≡ its_sheet service → IsCounted site c.opening kept.done c.diversions → kept.endings ≡ [] → c.diversions.left ≡ left →
     StandsThen site now c.opening later kept (divert left site now caller service due c desk) →
     ComesToTell site (known_as site first c.opening later) c.opening kept.targets c.diversions.history desk (divert left site now caller service due c desk)
     (moves.divert (known_as site first c.opening later) kept (account_at reach) now.at due)
@@ -121,7 +127,7 @@ DivertTells left site now first later caller =
 -- by the turn there
 turn-tells : (left : ℕ) (site : Site) (now first : Standing) (later : ℕ → Standing) (caller : Leg) → DivertTells left site now first later caller →
     (reach : Reach) (peer : Option Peer) (by : Option DueDiversion) (target : Target) (turn : Turn) (c : Call) (desk : Desk) (kept : Kept) →
-    IsKnown first c.opening → turns.sheet_of reach ≡ its_sheet (service_at site now c.opening (cause_of by) target) → c.diversions.left + kept.done ≡ total site c.opening → kept.endings ≡ [] → c.diversions.left ≡ left →
+    IsKnown first c.opening → turns.sheet_of reach ≡ its_sheet (service_at site now c.opening (cause_of by) target) → IsCounted site c.opening kept.done c.diversions → kept.endings ≡ [] → c.diversions.left ≡ left →
     IsTurn turn →
     StandsThen site now c.opening later kept (on_turn (divert left site now caller) site now.at caller (service_at site now c.opening (cause_of by) target) peer (cause_of by) target turn c desk) →
     TellsFrom site (known_as site first c.opening later) c.opening target.uri by kept.targets c.diversions.history desk
@@ -165,7 +171,7 @@ turn-tells left site now first later caller goes reach peer by target (TurnRefus
 
 pub target-tells : (law : TurnsAreMoves) (left : ℕ) (site : Site) (now first : Standing) (later : ℕ → Standing) (caller : Leg) → DivertTells left site now first later caller →
     (by : Option DueDiversion) (target : Target) (c : Call) (desk : Desk) (kept : Kept) →
-    IsKnown first c.opening → c.diversions.left + kept.done ≡ total site c.opening → kept.endings ≡ [] → c.diversions.left ≡ left →
+    IsKnown first c.opening → IsCounted site c.opening kept.done c.diversions → kept.endings ≡ [] → c.diversions.left ≡ left →
     target.of_number ≡ is_by_number by → standing_after (known_as site first c.opening later) kept.done ≡ now →
     StandsThen site now c.opening later kept (at_target (divert left site now caller) site now caller (cause_of by) target c desk) →
     TellsFrom site (known_as site first c.opening later) c.opening target.uri by kept.targets c.diversions.history desk (at_target (divert left site now caller) site now caller (cause_of by) target c desk)
@@ -177,23 +183,23 @@ target-tells law left site now first later caller goes by target c desk kept kno
     let peer = peer_for site o target in
     let reach = reach_at site now o (cause_of by) target service peer in
     let s = at_target (divert left site now caller) site now caller (cause_of by) target c desk in
-    let (offer, told) = turn-tells left site now first later caller goes reach peer by target (decided_at site now o (cause_of by) target service peer) c desk (at_phase kept (Reaching target.uri by)) known
-    (sheet-known site now o (cause_of by) target service peer) counted empty few (its-turn (decisions.of_caller o now.at) reach) stands in (
+    let (offer, told) = turn-tells left site now first later caller goes reach peer by target (decided_at site now o (is_diverted c) (cause_of by) target service peer) c desk (at_phase kept (Reaching target.uri by)) known
+    (sheet-known site now o (cause_of by) target service peer) counted empty few (its-turn (decisions.of_caller o now.at (is_diverted c)) reach) stands in (
       offer,
       told-after site call o (kept.targets ++ target_as target.uri by offer ∷ []) c.diversions.history desk s (at_phase kept (Reaching target.uri by))
-          (subst (λ (k : Kept). ComesToTell site call o (kept.targets ++ target_as target.uri by offer ∷ []) c.diversions.history desk s k) (sym (move-known law site now first o later by target (at_phase kept (Reaching target.uri by)) known number stood)) told),
+          (subst (λ (k : Kept). ComesToTell site call o (kept.targets ++ target_as target.uri by offer ∷ []) c.diversions.history desk s k) (sym (move-known law site now first o later by target (at_phase kept (Reaching target.uri by)) c.diversions.count known counted.count number stood)) told),
     )
 
 -- ---- a diversion
 
--- outgoing barring comes first
-unless-tells : (site : Site) (now first : Standing) (later : ℕ → Standing) (caller : Leg) (barred : Bool) (onward : Call → Desk → Step) (rest : Option Cause) (uri : Uri) (due : DueDiversion) (c : Call) (desk : Desk) (kept : Kept) →
-    kept.endings ≡ [] → StandsThen site now c.opening later kept (unless_barred barred onward site now.at caller c desk) →
+-- what stands before a diversion refuses it, or it goes on
+unless-tells : (site : Site) (now first : Standing) (later : ℕ → Standing) (caller : Leg) (refuses : Bool) (why : Cause) (onward : Call → Desk → Step) (rest : Option Cause) (uri : Uri) (due : DueDiversion) (c : Call) (desk : Desk) (kept : Kept) →
+    kept.endings ≡ [] → IsNoNotice (status_of why) → StandsThen site now c.opening later kept (if refuses then refused site now.at caller why c desk else onward c desk) →
     (StandsThen site now c.opening later kept (onward c desk) → ComesToTell site (known_as site first c.opening later) c.opening kept.targets c.diversions.history desk (onward c desk) (gone_on rest kept uri due)) →
-    ComesToTell site (known_as site first c.opening later) c.opening kept.targets c.diversions.history desk (unless_barred barred onward site now.at caller c desk) (gone_on (if barred then Some causes.OutgoingBarred else rest) kept uri due)
-unless-tells site now first later caller true onward rest uri due c desk kept empty stands comes =
-    refused-tells site (known_as site first c.opening later) now.at caller causes.OutgoingBarred c desk kept (Final causes.OutgoingBarred) empty refl
-unless-tells site now first later caller false onward rest uri due c desk kept empty stands comes = comes stands
+    ComesToTell site (known_as site first c.opening later) c.opening kept.targets c.diversions.history desk (if refuses then refused site now.at caller why c desk else onward c desk) (gone_on (if refuses then Some why else rest) kept uri due)
+unless-tells site now first later caller true why onward rest uri due c desk kept empty own stands comes =
+    refused-tells site (known_as site first c.opening later) now.at caller why c desk kept (Final why) empty own
+unless-tells site now first later caller false why onward rest uri due c desk kept empty own stands comes = comes stands
 
 -- the caller is told of it where the forward says so
 notice-adds : (site : Site) (due : DueDiversion) (d : Call) (desk : Desk) (b : Bool) → Adds d.opening.key desk (if b then told_diversion site d desk else desk)
@@ -232,30 +238,42 @@ divert-tells law zero site now first later caller service reach due c desk kept 
     let barred = is_barred site o now.at service due in
     let onward = refused site now.at caller (too_many due) in
     let s = unless_barred barred onward site now.at caller c desk in
+    let bound = bound_of site.bound due.bound in
+    let e = counted.left in
     let none : 0 + kept.done ≡ site.bound - received_in o = omega arith in
-    subst (λ bars. ComesToTell site call o kept.targets c.diversions.history desk s (gone_on (go_on_if bars (by_bound (received_in o) kept.done site.bound (too_many due))) kept (target_uri site due) due))
+    subst (λ bars. ComesToTell site call o kept.targets c.diversions.history desk s (gone_on (go_on_if bars (by_bound (received_in o) kept.done bound (too_many due))) kept (target_uri site due) due))
     (barred-known site first o later now.at reach service due known sheet)
-    (subst (λ rest. ComesToTell site call o kept.targets c.diversions.history desk s (gone_on (go_on_if barred rest) kept (target_uri site due) due)) (sym (at-bound (received_in o) kept.done site.bound (too_many due) none))
-    (unless-tells site now first later caller barred onward (Some (too_many due)) (target_uri site due) due c desk kept empty stands
+    (subst (λ rest. ComesToTell site call o kept.targets c.diversions.history desk s (gone_on (go_on_if barred rest) kept (target_uri site due) due))
+    (sym (at-bound (received_in o) kept.done site.bound due.bound (too_many due) none))
+    (unless-tells site now first later caller barred causes.OutgoingBarred onward (Some (too_many due)) (target_uri site due) due c desk kept empty refl stands
     (λ after. refused-tells site call now.at caller (too_many due) c desk kept (Final (too_many due)) empty (too-many-notice (due.cause == 486)))))
 divert-tells law (suc left) site now first later caller service reach due c desk kept known sheet counted empty few stands =
     let call = known_as site first c.opening later in
     let o = c.opening in
     let barred = is_barred site o now.at service due in
+    let reached = is_reached due.bound c.diversions.count in
     let target = target_of site due in
     let next = diverted target now.at left service due c in
     let told = told_of site due next desk in
     let inner = at_target (divert left site now caller) site now caller (Some due.cause) target next told in
     let onward = made (at_target (divert left site now caller) site now caller (Some due.cause) target) site target now.at left service due in
-    let s = unless_barred barred onward site now.at caller c desk in
+    let unless = unless_reached due onward site now.at caller in
+    let s = unless_barred barred unless site now.at caller c desk in
+    let bound = bound_of site.bound due.bound in
+    let e = counted.left in
+    let f = counted.count in
     let some : suc left + kept.done ≡ site.bound - received_in o = omega arith in
     let leaves : inner.call.diversions.left ≤ left = target-leaves left site now caller (divert-leaves left site now caller) (Some due.cause) target next told refl in
-    let next_counted : left + (kept.done + 1) ≡ total site o = omega arith in
+    let next_left : left + (kept.done + 1) ≡ total site o = omega arith in
+    let next_count : c.diversions.count + 1 ≡ received_in o + (kept.done + 1) = omega arith in
     let place : kept.done + 1 ≡ suc kept.done = omega arith in
-    subst (λ bars. ComesToTell site call o kept.targets c.diversions.history desk s (gone_on (go_on_if bars (by_bound (received_in o) kept.done site.bound (too_many due))) kept (target_uri site due) due))
+    subst (λ bars. ComesToTell site call o kept.targets c.diversions.history desk s (gone_on (go_on_if bars (by_bound (received_in o) kept.done bound (too_many due))) kept (target_uri site due) due))
     (barred-known site first o later now.at reach service due known sheet)
-    (subst (λ rest. ComesToTell site call o kept.targets c.diversions.history desk s (gone_on (go_on_if barred rest) kept (target_uri site due) due)) (sym (below-bound (received_in o) kept.done site.bound left (too_many due) some))
-    (unless-tells site now first later caller barred onward None (target_uri site due) due c desk kept empty stands
+    (subst (λ rest. ComesToTell site call o kept.targets c.diversions.history desk s (gone_on (go_on_if barred rest) kept (target_uri site due) due))
+    (sym (below-bound (received_in o) kept.done site.bound left c.diversions.count due.bound (too_many due) some f))
+    (unless-tells site now first later caller barred causes.OutgoingBarred unless (if reached then Some (too_many due) else None) (target_uri site due) due c desk kept empty refl stands
+    (λ unbarred. unless-tells site now first later caller reached (too_many due) onward None (target_uri site due) due c desk kept empty (too-many-notice (due.cause == 486)) unbarred
     (λ after. made-tells site call (target_uri site due) due c desk told inner kept (notice-adds site due next desk due.forward.notify_caller)
-    (target-tells law left site now first later caller (divert-tells law left site now first later caller) (Some due) target next told (more kept) known next_counted empty refl refl
-    (ap (standing_after call) place ∙ stands-next left site now later c kept inner counted few leaves after) (stands-on site now later c kept inner after)))))
+    (target-tells law left site now first later caller (divert-tells law left site now first later caller) (Some due) target next told (more kept) known
+    (record { left = next_left; count = next_count }) empty refl refl
+    (ap (standing_after call) place ∙ stands-next left site now later c kept inner counted.left few leaves after) (stands-on site now later c kept inner after))))))

@@ -34,20 +34,20 @@ offered-turn false true waiting = refl
 offered-turn false false waiting = tt
 
 -- by what each service says
-said-turn : (anonymous barred unregistered busy : Bool) (always when_busy : Option DueDiversion) (live : ℕ) (unknown no_peer : Bool) →
+said-turn : (anonymous barred unregistered busy : Bool) (always when_busy : Option DueDiversion) (live : ℕ) (bound : Option ℕ) (unknown no_peer : Bool) →
     IsTurn (turn_by (decision_by (first_said (
     refuses_if anonymous causes.AnonymousRejected ∷ refuses_if barred causes.IncomingBarred ∷ diverts_by always ∷ refuses_if unregistered causes.NotRegistered
-    ∷ diverts_by when_busy ∷ refuses_if busy causes.NetworkBusy ∷ [])) live) unknown no_peer)
-said-turn true barred unregistered busy always when_busy live unknown no_peer = refl
-said-turn false true unregistered busy always when_busy live unknown no_peer = refl
-said-turn false false unregistered busy (Some due) when_busy live unknown no_peer = tt
-said-turn false false true busy None when_busy live unknown no_peer = refl
-said-turn false false false busy None (Some due) live unknown no_peer = tt
-said-turn false false false true None None live unknown no_peer = refl
-said-turn false false false false None None live unknown no_peer = offered-turn unknown no_peer (nat_lt 0 live)
+    ∷ diverts_by when_busy ∷ refuses_if busy causes.NetworkBusy ∷ [])) live) bound unknown no_peer)
+said-turn true barred unregistered busy always when_busy live bound unknown no_peer = refl
+said-turn false true unregistered busy always when_busy live bound unknown no_peer = refl
+said-turn false false unregistered busy (Some due) when_busy live bound unknown no_peer = tt
+said-turn false false true busy None when_busy live bound unknown no_peer = refl
+said-turn false false false busy None (Some due) live bound unknown no_peer = tt
+said-turn false false false true None None live bound unknown no_peer = refl
+said-turn false false false false None None live bound unknown no_peer = offered-turn unknown no_peer (nat_lt 0 live)
 
 pub its-turn : (c : Circumstances) (reach : Reach) → IsTurn (turn_at c reach)
-its-turn c reach = said-turn _ _ _ _ _ _ (account_at reach).live reach.is_unknown reach.has_no_peer
+its-turn c reach = said-turn _ _ _ _ _ _ (account_at reach).live _ reach.is_unknown reach.has_no_peer
 
 -- ---- after an attempt
 

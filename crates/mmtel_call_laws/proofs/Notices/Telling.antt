@@ -31,7 +31,7 @@ use Rattle.mmtel_call_decisions.specs.Site.{Site}
 use Rattle.mmtel_call_decisions.specs.declared.openings.Opening.{Opening}
 use Rattle.mmtel_call_decisions.specs.declared.openings.Service.{Service}
 use Rattle.mmtel_call.specs.Closing.{Step, over, with_past}
-use Rattle.mmtel_call.specs.Diverting.{goes_on, on_end, refused_by}
+use Rattle.mmtel_call.specs.Diverting.{goes_on, is_diverted, on_end, refused_by}
 use Rattle.mmtel_call.specs.Opening.{caller_of, new_call, opened, unless_refused}
 use Rattle.mmtel_call.specs.Sending.{relayed_to_caller, told_caller}
 use Rattle.mmtel_call.specs.declared.calls.Call.{Call}
@@ -39,7 +39,7 @@ use Rattle.mmtel_call.specs.declared.calls.Pair.{Pair}
 use Rattle.mmtel_call.specs.declared.calls.Phase.TheVariants.{Offered, Over, Stood}
 use Rattle.mmtel_call.specs.declared.calls.Trial.{Trial}
 use Rattle.mmtel_call_laws.specs.Endings.{end_in, ended_at, ending_by, endings_after}
-use Rattle.mmtel_call_laws.specs.Known.{known_as, over_by, stood_after}
+use Rattle.mmtel_call_laws.specs.Known.{known_as, over_by, received_in, stood_after}
 use Rattle.mmtel_call_laws.specs.Story.{Heard, Start, added, call_after, first_step, next_step, opening_in, over_at, rows_after}
 use Rattle.mmtel_call_laws.proofs.Agreeing.{Agrees, Ends, IsRinging, Place, Rings, Talks, total}
 use Rattle.mmtel_call_laws.proofs.Answering as answering
@@ -52,7 +52,7 @@ use Rattle.mmtel_call_laws.proofs.Untouched.{Untouched}
 use Rattle.mmtel_call_laws.specs.Notices.Laws.{KeepsItsHistory, TellsOfItsDiversions}
 use Rattle.mmtel_call_laws.specs.Notices.Due.{but_passed, history_at, history_over, is_notice, notice_due, notices_after, notices_due, notices_in, own_notices}
 use Rattle.mmtel_call_laws.proofs.Notices.Adding.{Adds, IsSilent, adds-then, none-passed, silent, silent-reply}
-use Rattle.mmtel_call_laws.proofs.Notices.Coming.{ComesToTell, Finished, IsAtRest, Waits, divert-tells, over-tells, refused-tells, target-tells, told-after, told-silent}
+use Rattle.mmtel_call_laws.proofs.Notices.Coming.{ComesToTell, Finished, IsAtRest, IsCounted, Waits, divert-tells, over-tells, refused-tells, target-tells, told-after, told-silent}
 use Rattle.mmtel_call_laws.proofs.Notices.Hearing.{EndsAlone, Goes, Hears, Stays, hears}
 use Rattle.mmtel_call_laws.proofs.Notices.Owning.{IsAfter, IsNoNotice, IsRefusal, its-after, its-refusal}
 use Rattle.mmtel_call_laws.proofs.Notices.Standing.{ended-silent, stood-silent}
@@ -96,7 +96,7 @@ history-more o history (x ∷ xs) ys = history-more o (history_at o history x.by
 -- the move on its end is the turn after it
 end-move : (law : EndingsAreMoves) (call : precedence.Call) (kept : Kept) (reach : Reach) (at : ℕ) (how : End) (F : Kept → Type 0) → ((k : Kept) → F (move_in k.phase call k) → F k) →
     kept.phase ≡ moves.Ringing (account_at reach) → kept.endings ≡ [] →
-    F (kept_after_turn call (account_at reach) at (ringing kept reach) (turn_on (targets.of_caller call at) (turns.sheet_of reach) how)) → F (with_later kept (ended_at at how ∷ []))
+    F (kept_after_turn call (account_at reach) at (ringing kept reach) (turn_on (targets.of_caller call kept.done at) (turns.sheet_of reach) how)) → F (with_later kept (ended_at at how ∷ []))
 end-move law call kept reach at how F back e f came =
     subst (λ (k : Kept). F (with_later k (ended_at at how ∷ []))) (is-ringing kept reach e f)
     (back (with_later (ringing kept reach) (ended_at at how ∷ [])) (subst F (sym (law call reach at how (ringing kept reach))) came))
@@ -121,7 +121,7 @@ refused-by-tells site call at caller service (Some m) cause c desk kept result e
 
 -- by what was decided
 after-tells : (law : TurnsAreMoves) (site : Site) (now first : Standing) (later : ℕ → Standing) (caller : Leg) (service : Option Service) (reach : Reach) (m : Option Said) (after : AfterEnd) (c : Call) (desk : Desk) (kept : Kept) →
-    IsAfter after → IsKnown first c.opening → turns.sheet_of reach ≡ its_sheet service → c.diversions.left + kept.done ≡ total site c.opening → kept.endings ≡ [] →
+    IsAfter after → IsKnown first c.opening → turns.sheet_of reach ≡ its_sheet service → IsCounted site c.opening kept.done c.diversions → kept.endings ≡ [] →
     StandsThen site now c.opening later kept (on_end site now caller service m after c desk) →
     ComesToTell site (known_as site first c.opening later) c.opening kept.targets c.diversions.history desk (on_end site now caller service m after c desk)
     (kept_after_turn (known_as site first c.opening later) (account_at reach) now.at kept after)
@@ -134,7 +134,7 @@ after-tells law site now first later caller service reach m (EndRefuse cause) c 
 
 -- its attempt failed
 went-on : (turn_law : TurnsAreMoves) (end_law : EndingsAreMoves) (site : Site) (now first : Standing) (later : ℕ → Standing) (kept : Kept) (d : Call) (x : Trial) (reach : Reach) (how : End) (m : Option Said) (desk : Desk) →
-    Rattle.mmtel_call_laws.proofs.Notices.Owning.IsFinal how → IsKnown first d.opening → turns.sheet_of reach ≡ its_sheet x.attempt.service → d.diversions.left + kept.done ≡ total site d.opening →
+    Rattle.mmtel_call_laws.proofs.Notices.Owning.IsFinal how → IsKnown first d.opening → turns.sheet_of reach ≡ its_sheet x.attempt.service → IsCounted site d.opening kept.done d.diversions →
     kept.phase ≡ moves.Ringing (account_at reach) → kept.endings ≡ [] → StandsThen site now d.opening later kept (goes_on site now x how m d desk) →
     ComesToTell site (known_as site first d.opening later) d.opening kept.targets d.diversions.history desk (goes_on site now x how m d desk) (with_later kept (ended_at now.at how ∷ []))
 went-on turn_law end_law site now first later kept d x reach how m desk final known sheet counted rings empty stands =
@@ -142,9 +142,9 @@ went-on turn_law end_law site now first later kept d x reach how m desk final kn
     let call = known_as site first o later in
     let s = goes_on site now x how m d desk in
     end-move end_law call kept reach now.at how (ComesToTell site call o kept.targets d.diversions.history desk s) (told-after site call o kept.targets d.diversions.history desk s) rings empty
-    (subst (λ (after : AfterEnd). ComesToTell site call o kept.targets d.diversions.history desk s (kept_after_turn call (account_at reach) now.at (ringing kept reach) after)) (sym (turn-known site first o later now.at x reach how known sheet))
-    (after-tells turn_law site now first later x.caller x.attempt.service reach m (decided_after o now.at x.attempt.service how) (with_past x.callee.leg.meter d) desk (ringing kept reach)
-    (its-after (decisions.of_caller o now.at) (its_sheet x.attempt.service) how final) known sheet counted refl stands))
+    (subst (λ (after : AfterEnd). ComesToTell site call o kept.targets d.diversions.history desk s (kept_after_turn call (account_at reach) now.at (ringing kept reach) after)) (sym (turn-known site first o later kept.done d.diversions.count now.at x reach how known counted.count sheet))
+    (after-tells turn_law site now first later x.caller x.attempt.service reach m (decided_after o now.at (is_diverted d) x.attempt.service how) (with_past x.callee.leg.meter d) desk (ringing kept reach)
+    (its-after (decisions.of_caller o now.at (is_diverted d)) (its_sheet x.attempt.service) how final) known sheet counted refl stands))
 
 -- ---- a step of a call that rings
 
@@ -203,7 +203,7 @@ rests-alone law call kept reach at (Some (Other code)) e rings empty = absurd e
 -- what is known of a call that rings, which was opened so, at this step
 pub record AtStep (site : Site) (now first : Standing) (later : ℕ → Standing) (kept : Kept) (c : Call) (x : Trial) (reach : Reach) (s : Step) (o : Opening) : Type 0 where
   pub known : IsKnown first o
-  pub left : c.diversions.left + kept.done ≡ total site o
+  pub counted : IsCounted site o kept.done c.diversions
   pub rings : kept.phase ≡ moves.Ringing (account_at reach)
   pub empty : kept.endings ≡ []
   pub sheet : turns.sheet_of reach ≡ its_sheet x.attempt.service
@@ -228,7 +228,8 @@ ringing-tells turn_law end_law passed site now first later kept c desk x reach e
     let gone = goes_on site now x how m d between in
     let ends : Option End → Kept = λ end. with_later kept (ends_by now.at end) in
     let here : StandsThen site now d.opening later kept gone = subst (λ (o : Opening). StandsThen site now o later kept gone) (sym same_opening) (subst (λ (s : Step). StandsThen site now o later kept s) r.is step.stands) in
-    let counted : d.diversions.left + kept.done ≡ total site d.opening = ap (λ (v : Diverted). v.left + kept.done) r.same.diversions ∙ step.left ∙ ap (λ (o : Opening). total site o) (sym same_opening) in
+    let counted : IsCounted site d.opening kept.done d.diversions =
+    subst (λ (v : Diverted). IsCounted site d.opening kept.done v) (sym r.same.diversions) (subst (λ (o : Opening). IsCounted site o kept.done c.diversions) (sym same_opening) step.counted) in
     let told : InStep passed site (known_as site first d.opening later) d.opening kept.targets d.diversions.history desk gone (with_later kept (ended_at now.at how ∷ [])) =
     step-told passed site (known_as site first d.opening later) d.opening kept.targets d.diversions.history desk between gone (with_later kept (ended_at now.at how ∷ [])) r.own
     (subst (λ (q : Opening). IsSilent q.key desk between) (sym r.same.opening) r.none)
@@ -248,7 +249,7 @@ begins-tells : (law : TurnsAreMoves) (refusal : Option Cause) (site : Site) (now
 begins-tells law None site now o later desk known own stands =
     let c = new_call site o in
     let (offer, (n, t)) = target-tells law c.diversions.left site now now later (caller_of now.at c) (divert-tells law c.diversions.left site now now later (caller_of now.at c)) None (first_of o) c desk (empty_kept (moves.Over precedence.Pending)) known
-    (plus-zero (total site o)) refl refl (first-known o) refl (λ j least most. stands j most) in (
+    (record { left = plus-zero (total site o); count = sym (plus-zero (received_in o)) }) refl refl (first-known o) refl (λ j least most. stands j most) in (
       n,
       record { new = Rattle.mmtel_call_laws.proofs.Coming.target_as (first_of o).uri None offer ∷ t.new; rests = t.rests; reached = t.reached; adds = t.adds; entries = t.entries },
     )
@@ -315,7 +316,7 @@ next-ringing turn_law end_law extend law s x earlier later c filed at m trial re
     let new = next_step s x c in
     let heard : Hears (is_notice x.signal) s.site x.now trial c x.desk (end_in c.phase c x.signal) new =
     subst (λ (c : Call). Hears (is_notice x.signal) s.site x.now trial c x.desk (end_in c.phase c x.signal) (next_step s x c)) (sym (in-phase c (Offered trial) p.phase)) (hears s.site x.now trial x.signal c x.desk) in
-    let step : AtStep s.site x.now s.now later kept c trial reach new o = record { known = is-known s; left = agrees.left; rings = p.rings; empty = agrees.empty; sheet = p.sheet; stands = stands } in
+    let step : AtStep s.site x.now s.now later kept c trial reach new o = record { known = is-known s; counted = record { left = agrees.left; count = agrees.count }; rings = p.rings; empty = agrees.empty; sheet = p.sheet; stands = stands } in
     let (n, t) = ringing-tells turn_law end_law (is_notice x.signal) s.site x.now s.now later kept c x.desk trial reach (end_in c.phase c x.signal) new o step agrees.opening heard in
     let (fewer, least, same) = extend.go_on call m (at_first call ends) (ending_by x c) in
     let moved : moves.moves n call (with_later kept (ending_by x c)) ≡ moves.moves (fewer + n) call (at_first call (ends ++ ending_by x c)) = ap (moves.moves n call) (sym same) ∙ moves-more fewer n call (at_first call (ends ++ ending_by x c)) in
@@ -350,7 +351,7 @@ opens-tells law s later fits =
     let told = told_caller s.site (new_call s.site o) 100 (drew s.desk) in
     step-told false s.site (call_in s later) o [] (received s) s.desk told (first_step s) (at_first (call_in s later) []) refl (let a = told-silent s.site (new_call s.site o) 100 (drew s.desk) refl in record { new = a.new; out = a.out; seen = a.seen })
     (subst (λ refusal. ComesToTell s.site (call_in s later) o [] (received s) told (first_step s) (empty_kept (first_phase refusal (call_in s later)))) (refusal-known s.site s.now o later (is-known s))
-    (begins-tells law (refusal_of s.now.at o) s.site s.now o later told (is-known s) (its-refusal o.invite.heard.wants o.served o.sheet (decisions.of_target o s.now.at (first_of o).uri)) fits))
+    (begins-tells law (refusal_of s.site s.now.at o) s.site s.now o later told (is-known s) (its-refusal o.invite.heard.wants o.served o.sheet (decisions.of_target s.site o s.now.at (first_of o).uri)) fits))
 
 told-first : (turn_law : TurnsAreMoves) (law : MovesGiveTheOutcome) (s : Start) (later : ℕ → Standing) → Fits s [] later → Told s [] later
 unfolding call_after endings_after notices_after

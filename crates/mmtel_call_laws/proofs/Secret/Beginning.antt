@@ -128,7 +128,7 @@ module _ (heads : Heads) (law : VerdictsSeeAnswersAlone) (records : List Sheet) 
 
   -- what is done with the caller's leg
   abbrev starts : Leg → Call → Desk → Step
-  starts caller c desk = unless_refused (refusal_of now.at c.opening) site now caller c (told_caller site c 100 desk)
+  starts caller c desk = unless_refused (refusal_of site now.at c.opening) site now caller c (told_caller site c 100 desk)
 
   refusal-alike : (refusal : Option Cause) (caller : Leg) (who : Identities2) (c : Call) (one other : Desk) → IsAsked T c.opening.key c.opening.invite → DecideAlike records who c.opening.identities → AlikeDesks T one other →
       AlikeSteps T (unless_refused refusal site now (public_leg known caller) (public_call known who c) one) (unless_refused refusal site now caller c other)
@@ -139,7 +139,7 @@ module _ (heads : Heads) (law : VerdictsSeeAnswersAlone) (records : List Sheet) 
   starts-alike : (caller : Leg) (who : Identities2) (c : Call) (one other : Desk) → IsAsked T c.opening.key c.opening.invite → DecideAlike records who c.opening.identities → AlikeDesks T one other →
       AlikeSteps T (starts (public_leg known caller) (public_call known who c) one) (starts caller c other)
   starts-alike caller who c one other asked alike a =
-      refusal-alike (refusal_of now.at c.opening) caller who c (told_caller site (public_call known who c) 100 one) (told_caller site c 100 other) asked alike (told-alike heads site keys who c 100 one other asked a)
+      refusal-alike (refusal_of site now.at c.opening) caller who c (told_caller site (public_call known who c) 100 one) (told_caller site c 100 other) asked alike (told-alike heads site keys who c 100 one other asked a)
 
   module _ (who : Identities2) (o : Opening) (asked : IsAsked T o.key o.invite) where
     abbrev hidden_call : Call
@@ -151,7 +151,7 @@ module _ (heads : Heads) (law : VerdictsSeeAnswersAlone) (records : List Sheet) 
     new_same : public_call known who hidden_call ≡ public_call known who whole_call
     new_same =
         ap (λ (h : List Entry). record (public_call known who hidden_call) { diversions = record (public_call known who hidden_call).diversions { history = h } }) (received_same o.restricted o.invite ∙ sym (masked_once (masks_all o) (received_list o.invite)))
-        ∙ (ap (λ (n : ℕ). record (public_call known who (public_call known who whole_call)) { diversions = record (public_call known who (public_call known who whole_call)).diversions { left = site.bound - n } }) (received_counts o.restricted o.invite)
+        ∙ (ap (λ (n : ℕ). record (public_call known who (public_call known who whole_call)) { diversions = record (public_call known who (public_call known who whole_call)).diversions { left = site.bound - n; count = n } }) (received_counts o.restricted o.invite)
         ∙ call_once known who who whole_call)
 
     leg_same : public_leg known (caller_of now.at hidden_call) ≡ public_leg known (caller_of now.at whole_call)

@@ -1,5 +1,5 @@
 -- How a call goes on sees public parts alone: at a target, by diversions, and after an attempt.
-use Rattle.std.proofs.Common.{◌≡◌, ℕ, zero, suc, Bool, true, false, not, List, [], ◌∷◌, refl, ap, sym, ◌∙◌, subst, Option, Some, None}
+use Rattle.std.proofs.Common.{◌≡◌, ℕ, zero, suc, Bool, true, false, not, cond, List, [], ◌∷◌, refl, ap, sym, ◌∙◌, subst, Option, Some, None}
 use Rattle.std.specs.Option.{option_map}
 use Rattle.mmtel_answers.specs.Said.{Said, status_of as status_in}
 use Rattle.mmtel_desk.specs.declared.desks.Desk.{Desk}
@@ -13,7 +13,7 @@ use Rattle.mmtel_lex.specs.Grammar.{uri_text}
 use Rattle.mmtel_precedence.specs.Calls.{End, Standing}
 use Rattle.mmtel_precedence.specs.Laws.{VerdictsSeeAnswersAlone}
 use Rattle.mmtel_precedence.specs.Moves.{account_at}
-use Rattle.mmtel_precedence.specs.Services.{DueDiversion}
+use Rattle.mmtel_precedence.specs.Services.{DueDiversion, is_reached}
 use Rattle.mmtel_precedence.specs.Turns.{AfterEnd, EndAnswered, EndDivert, EndRefuse, Turn, TurnDivert, TurnOffer, TurnRefuse, turn_at}
 use Rattle.mmtel_rules.specs.Alike.{AnswerAlike}
 use Rattle.mmtel_rules.specs.Identities.{identity_holds}
@@ -38,7 +38,7 @@ use Rattle.mmtel_call_decisions.specs.declared.openings.Service.{Service}
 use Rattle.mmtel_call.specs.declared.calls.Call.{Call}
 use Rattle.mmtel_call.specs.declared.calls.Trial.{Trial}
 use Rattle.mmtel_call.specs.Closing.{Step, over, with_past}
-use Rattle.mmtel_call.specs.Diverting.{at_target, divert, diverted, goes_on, made, offer_where, on_end, on_turn, passed_by, refused, refused_by, told_of, too_many}
+use Rattle.mmtel_call.specs.Diverting.{at_target, divert, diverted, goes_on, is_diverted, made, offer_where, on_end, on_turn, passed_by, refused, refused_by, told_of, too_many}
 use Rattle.mmtel_call.specs.Sending.{relayed_to_caller, told_caller, told_diversion}
 use Rattle.mmtel_call_laws.specs.Secret.Parts.{public_call, public_leg, public_trial}
 use Rattle.mmtel_call_laws.specs.Secret.Premises.{AreAsked, DecideAlike, Fits, IsAmong, IsAsked, ServiceIsAsked}
@@ -107,23 +107,24 @@ module _ (heads : Heads) (law : VerdictsSeeAnswersAlone) (records : List Sheet) 
     reach_asked (Some account) peer cause target o = all_asked.each account
 
     served-alike : (served : Option Account) (who : Identities2) (caller : Leg) (peer : Option Peer) (cause : Option ℕ) (target : Target) (c : Call) (one other : Desk) → IsAsked T c.opening.key c.opening.invite → DecideAlike records who c.opening.identities → AlikeDesks T one other →
-        (turn : Turn) → turn ≡ decided_at site now c.opening cause target (option_map (service_of now) served) peer →
-        AlikeSteps T (on_turn f site now.at (public_leg known caller) (option_map (service_of now) served) peer cause target turn (public_call known who c) one) (on_turn g site now.at caller (option_map (service_of now) served) peer cause target (decided_at site now c.opening cause target (option_map (service_of now) served) peer) c other)
+        (turn : Turn) → turn ≡ decided_at site now c.opening (is_diverted c) cause target (option_map (service_of now) served) peer →
+        AlikeSteps T (on_turn f site now.at (public_leg known caller) (option_map (service_of now) served) peer cause target turn (public_call known who c) one) (on_turn g site now.at caller (option_map (service_of now) served) peer cause target (decided_at site now c.opening (is_diverted c) cause target (option_map (service_of now) served) peer) c other)
     served-alike served who caller peer cause target c one other asked alike a turn e =
         let service : Option Service = option_map (service_of now) served in
-        subst (λ (t : Turn). AlikeSteps T (on_turn f site now.at (public_leg known caller) service peer cause target t (public_call known who c) one) (on_turn g site now.at caller service peer cause target (decided_at site now c.opening cause target service peer) c other)) (sym e)
-        (turn-alike (decided_at site now c.opening cause target service peer) who caller service peer cause target c one other asked alike a)
+        subst (λ (t : Turn). AlikeSteps T (on_turn f site now.at (public_leg known caller) service peer cause target t (public_call known who c) one) (on_turn g site now.at caller service peer cause target (decided_at site now c.opening (is_diverted c) cause target service peer) c other)) (sym e)
+        (turn-alike (decided_at site now c.opening (is_diverted c) cause target service peer) who caller service peer cause target c one other asked alike a)
 
-    decides : (who : Identities2) (served : Option Account) (peer : Option Peer) (cause : Option ℕ) (target : Target) (o : Opening) → DecideAlike records who o.identities →
-        turn_at (circumstances who o now.at) (reach_at site now o cause target (option_map (service_of now) served) peer) ≡ decided_at site now o cause target (option_map (service_of now) served) peer
-    decides who served peer cause target o alike = turn_same law records who o.identities alike o now.at (reach_at site now o cause target (option_map (service_of now) served) peer) (reach_asked served peer cause target o)
+    decides : (who : Identities2) (diverted : Bool) (served : Option Account) (peer : Option Peer) (cause : Option ℕ) (target : Target) (o : Opening) → DecideAlike records who o.identities →
+        turn_at (circumstances who o now.at diverted false) (reach_at site now o cause target (option_map (service_of now) served) peer) ≡ decided_at site now o diverted cause target (option_map (service_of now) served) peer
+    decides who diverted served peer cause target o alike =
+        turn_same law records who o.identities alike o now.at diverted (reach_at site now o cause target (option_map (service_of now) served) peer) (reach_asked served peer cause target o)
 
     pub target-alike : (who : Identities2) (caller : Leg) (cause : Option ℕ) (target : Target) (c : Call) (one other : Desk) → IsAsked T c.opening.key c.opening.invite → DecideAlike records who c.opening.identities → AlikeDesks T one other →
         AlikeSteps T (at_target f site now (public_leg known caller) cause target (public_call known who c) one) (at_target g site now caller cause target c other)
     target-alike who caller None target c one other asked alike a =
-        served-alike (served_at site c.opening None target) who caller (peer_for site c.opening target) None target c one other asked alike a _ (decides who (served_at site c.opening None target) (peer_for site c.opening target) None target c.opening alike)
+        served-alike (served_at site c.opening None target) who caller (peer_for site c.opening target) None target c one other asked alike a _ (decides who (is_diverted c) (served_at site c.opening None target) (peer_for site c.opening target) None target c.opening alike)
     target-alike who caller (Some cause) target c one other asked alike a =
-        served-alike (served_at site c.opening (Some cause) target) who caller (peer_for site c.opening target) (Some cause) target c one other asked alike a _ (decides who (served_at site c.opening (Some cause) target) (peer_for site c.opening target) (Some cause) target c.opening alike)
+        served-alike (served_at site c.opening (Some cause) target) who caller (peer_for site c.opening target) (Some cause) target c one other asked alike a _ (decides who (is_diverted c) (served_at site c.opening (Some cause) target) (peer_for site c.opening target) (Some cause) target c.opening alike)
 
   -- ---- a diversion
 
@@ -199,10 +200,15 @@ module _ (heads : Heads) (law : VerdictsSeeAnswersAlone) (records : List Sheet) 
       let d : Call = public_call known who c in
       let pl : Leg = public_leg known caller in
       let tg : Target = target_of site due in
-      step-if T (is_barred site c.opening now.at service due) (refused site now.at pl causes.OutgoingBarred d one) (made (at_next left due pl) site tg now.at left service due d one)
-      (refused site now.at caller causes.OutgoingBarred c other) (made (at_next left due caller) site tg now.at left service due c other)
+      let goes : Step = made (at_next left due pl) site tg now.at left service due d one in
+      let gone : Step = made (at_next left due caller) site tg now.at left service due c other in
+      let reached : Bool = is_reached due.bound c.diversions.count in
+      step-if T (is_barred site c.opening now.at service due) (refused site now.at pl causes.OutgoingBarred d one) (cond reached (refused site now.at pl (too_many due) d one) goes)
+      (refused site now.at caller causes.OutgoingBarred c other) (cond reached (refused site now.at caller (too_many due) c other) gone)
       (refuses-alike who now.at caller causes.OutgoingBarred c one other asked a)
-      (made-alike left (λ l. divert-alike left l) caller who service due c one other asked alike a)
+      (step-if T reached (refused site now.at pl (too_many due) d one) goes (refused site now.at caller (too_many due) c other) gone
+      (refuses-alike who now.at caller (too_many due) c one other asked a)
+      (made-alike left (λ l. divert-alike left l) caller who service due c one other asked alike a))
 
   -- ---- after an attempt
 
@@ -230,10 +236,10 @@ module _ (heads : Heads) (law : VerdictsSeeAnswersAlone) (records : List Sheet) 
   pub goes_on-alike : (who : Identities2) (x : Trial) (how : End) (role : Role) (m : Option Said) (c : Call) (one other : Desk) → IsAsked T c.opening.key c.opening.invite → DecideAlike records who c.opening.identities → ServiceIsAsked records x.attempt.service → FitsIf c x.attempt.service role m → AlikeDesks T one other →
       AlikeSteps T (goes_on site now (public_trial known x) how (option_map (without_private role) m) (public_call known who c) one) (goes_on site now x how m c other)
   goes_on-alike who x how role m c one other asked alike its fits a =
-      let after : AfterEnd = decided_after c.opening now.at x.attempt.service how in
+      let after : AfterEnd = decided_after c.opening now.at (is_diverted c) x.attempt.service how in
       let past : Call = with_past x.callee.leg.meter c in
       subst (λ (e : AfterEnd). AlikeSteps T (on_end site now (public_leg known x.caller) x.attempt.service (option_map (without_private role) m) e (public_call known who past) one) (on_end site now x.caller x.attempt.service m after past other))
-      (sym (turn_on_same law records who c.opening.identities alike c.opening now.at (its_sheet x.attempt.service) how its))
+      (sym (turn_on_same law records who c.opening.identities alike c.opening now.at (is_diverted c) (its_sheet x.attempt.service) how its))
       (end-alike after who x.caller x.attempt.service role m past one other asked alike fits a)
 
 pub ends_of_attempts : Heads → VerdictsSeeAnswersAlone → EndsOfAttempts

@@ -11,7 +11,7 @@ use Rattle.mmtel_leg.specs.Legs.{Leg}
 use Rattle.mmtel_leg.specs.declared.dialogues.DialogueFault.{DialogueFault}
 use Rattle.mmtel_precedence.specs.Attempts.{end_by_final, end_by_time}
 use Rattle.mmtel_precedence.specs.Calls.{End, NoReply, NotReachable, Standing}
-use Rattle.mmtel_precedence.specs.Services.{DueDiversion}
+use Rattle.mmtel_precedence.specs.Services.{DueDiversion, is_reached}
 use Rattle.mmtel_precedence.specs.Turns.{AfterEnd, EndAnswered, EndDivert, EndRefuse, Turn, TurnDivert, TurnOffer, TurnRefuse}
 use Rattle.mmtel_targets.specs.declared.targets.Target.{Target}
 use Rattle.mmtel_transaction.specs.declared.words.DueWord.{DueWord}
@@ -42,7 +42,7 @@ use Rattle.mmtel_call.specs.declared.calls.Trial.{Trial}
 use Rattle.mmtel_call.specs.declared.calls.Phase.TheVariants.{Lent, Offered, Over, Stood}
 use Rattle.mmtel_call.specs.declared.calls.Stage.TheVariants.{Answered, Asking, Parting, Talking}
 use Rattle.mmtel_call.specs.Closing.{Step, onward, over, over_stood, with_past}
-use Rattle.mmtel_call.specs.Diverting.{at_target, divert, diverted, goes_on, offer_where, on_end, on_turn, passed_by, refused, refused_by, told_of, too_many}
+use Rattle.mmtel_call.specs.Diverting.{at_target, divert, diverted, goes_on, is_diverted, offer_where, on_end, on_turn, passed_by, refused, refused_by, told_of, too_many}
 use Rattle.mmtel_call.specs.Leaving.{answered_at, answered_loose, answered_other, answered_taken, answered_taken_at, forked, is_fork, is_success, is_taken, repeated, without_silent}
 use Rattle.mmtel_call.specs.Opening.{caller_of, new_call, opened, unless_refused}
 use Rattle.mmtel_call.specs.Reinvites.{agreed, bye_to_both, cancelled_across, ends_dialog, on_response_across, proceeding_across, refused_back}
@@ -124,7 +124,7 @@ module _ (request : TKey → Said → Type 0) (service : Option Service → Type
 
     target-keeps : (f : Option Service → DueDiversion → Call → Desk → Step) → Diverts f → (caller : Leg) (cause : Option ℕ) (target : Target) (c : Call) (desk : Desk) → Keeps (at_target f site now caller cause target c desk)
     target-keeps f keeps caller cause target c desk =
-        turn-keeps f keeps (decided_at site now c.opening cause target (service_at site now c.opening cause target) (peer_for site c.opening target)) caller (service_at site now c.opening cause target)
+        turn-keeps f keeps (decided_at site now c.opening (is_diverted c) cause target (service_at site now c.opening cause target) (peer_for site c.opening target)) caller (service_at site now c.opening cause target)
         (stands (served_at site c.opening cause target)) (peer_for site c.opening target) cause target c desk
 
     divert-keeps : (left : ℕ) (caller : Leg) → Diverts (divert left site now caller)
@@ -132,9 +132,11 @@ module _ (request : TKey → Said → Type 0) (service : Option Service → Type
     divert-keeps zero caller its due c desk = keep-if (is_barred site c.opening now.at its due) (refused site now.at caller causes.OutgoingBarred c desk) (refused site now.at caller (too_many due) c desk) tt tt
     divert-keeps (suc left) caller its due c desk =
         let next : Call = diverted (target_of site due) now.at left its due c in
-        keep-if (is_barred site c.opening now.at its due) (refused site now.at caller causes.OutgoingBarred c desk)
-        (at_target (divert left site now caller) site now caller (Some due.cause) (target_of site due) next (told_of site due next desk)) tt
-        (target-keeps (divert left site now caller) (divert-keeps left caller) caller (Some due.cause) (target_of site due) next (told_of site due next desk))
+        let reached : Bool = is_reached due.bound c.diversions.count in
+        let onward : Step = at_target (divert left site now caller) site now caller (Some due.cause) (target_of site due) next (told_of site due next desk) in
+        keep-if (is_barred site c.opening now.at its due) (refused site now.at caller causes.OutgoingBarred c desk) (cond reached (refused site now.at caller (too_many due) c desk) onward) tt
+        (keep-if reached (refused site now.at caller (too_many due) c desk) onward tt
+        (target-keeps (divert left site now caller) (divert-keeps left caller) caller (Some due.cause) (target_of site due) next (told_of site due next desk)))
 
     refused_by-keeps : (caller : Leg) (its : Option Service) (m : Option Said) (cause : Cause) (c : Call) (desk : Desk) → Keeps (refused_by site now.at caller its m cause c desk)
     refused_by-keeps caller its None cause c desk = tt
@@ -147,7 +149,7 @@ module _ (request : TKey → Said → Type 0) (service : Option Service → Type
     end-keeps (EndRefuse cause) caller its m c desk = refused_by-keeps caller its m cause c desk
 
     goes-keeps : (x : Trial) (how : End) (m : Option Said) (c : Call) (desk : Desk) → Keeps (goes_on site now x how m c desk)
-    goes-keeps x how m c desk = end-keeps (decided_after c.opening now.at x.attempt.service how) x.caller x.attempt.service m (with_past x.callee.leg.meter c) desk
+    goes-keeps x how m c desk = end-keeps (decided_after c.opening now.at (is_diverted c) x.attempt.service how) x.caller x.attempt.service m (with_past x.callee.leg.meter c) desk
 
     -- ---- while it is offered
 
@@ -336,7 +338,7 @@ module _ (request : TKey → Said → Type 0) (service : Option Service → Type
     unfolding opened
     opening-keeps a desk =
         let c : Call = new_call site (opening_of site now (token desk) a) in
-        unless-keeps (refusal_of now.at c.opening) (caller_of now.at c) c (told_caller site c 100 (drew desk))
+        unless-keeps (refusal_of site now.at c.opening) (caller_of now.at c) c (told_caller site c 100 (drew desk))
 
   -- ---- a leg is taken out, or put back
 

@@ -6,7 +6,7 @@ use Rattle.mmtel_diversion.specs.Diversion.{Chosen, cause_of, diversion_among, d
 use Rattle.mmtel_precedence.specs.Calls.{Reach}
 use Rattle.mmtel_precedence.specs.Laws.{diversion_rules}
 use Rattle.mmtel_precedence.specs.Moves.{account_at}
-use Rattle.mmtel_precedence.specs.Services.{AccountState, Diverts, DueDiversion, Nothing, Refuses, Says, bars_incoming, diverts_by, due_of, due_on, first_said, refuses_if, rejects_anonymous, services_on_arrival}
+use Rattle.mmtel_precedence.specs.Services.{AccountState, Diverts, DueDiversion, Nothing, Refuses, Says, bars_incoming, diverts_by, due_of, due_on, first_said, own_bound, refuses_if, rejects_anonymous, services_on_arrival}
 use Rattle.mmtel_precedence.specs.Turns.{Turn, TurnDivert, TurnOffer, TurnRefuse, offer_turn, turn_at, turn_by}
 use Rattle.mmtel_precedence.specs.Verdicts.{Decision, Ends, Forwards as Diverted, Offers, decision_by, verdict_of}
 use Rattle.mmtel_precedence.specs.declared.endings.Ending.TheVariants as ending
@@ -35,27 +35,27 @@ module _ (sheet : Sheet) where
   abbrev chosen_by : ℕ → Rule → Forward → Chosen
   chosen_by place rule forward = record { rule = place; forward = forward; cause = cause_of rule.condition.event }
 
-  action-leads : (place : ℕ) (rule : Rule) → slice_get (diversion_rules sheet.diversion) place ≡ Some rule → (action : Action) → rule.action ≡ action →
-      DueLeads (option_map due_of (option_map (chosen_by place rule) (forward_of action)))
-  action-leads place rule stands (act.Forward forward) e = record { place = place; rule = rule; stands = stands; does = ap forward_of e }
-  action-leads place rule stands (act.Allow allowed) e = tt
+  action-leads : (bound : Option ℕ) (place : ℕ) (rule : Rule) → slice_get (diversion_rules sheet.diversion) place ≡ Some rule → (action : Action) → rule.action ≡ action →
+      DueLeads (option_map (due_of bound) (option_map (chosen_by place rule) (forward_of action)))
+  action-leads bound place rule stands (act.Forward forward) e = record { place = place; rule = rule; stands = stands; does = ap forward_of e }
+  action-leads bound place rule stands (act.Allow allowed) e = tt
 
-  rule-leads : (place : ℕ) (r : Option Rule) → slice_get (diversion_rules sheet.diversion) place ≡ r → DueLeads (option_map due_of (option_and_then (diversion_by place) r))
-  rule-leads place None e = tt
-  rule-leads place (Some rule) e = action-leads place rule e rule.action refl
+  rule-leads : (bound : Option ℕ) (place : ℕ) (r : Option Rule) → slice_get (diversion_rules sheet.diversion) place ≡ r → DueLeads (option_map (due_of bound) (option_and_then (diversion_by place) r))
+  rule-leads bound place None e = tt
+  rule-leads bound place (Some rule) e = action-leads bound place rule e rule.action refl
 
-  place-leads : (rules : List Rule) → diversion_rules sheet.diversion ≡ rules → (place : Option ℕ) →
-      DueLeads (option_map due_of (option_and_then (λ (at : ℕ). option_and_then (diversion_by at) (slice_get rules at)) place))
-  place-leads rules e None = tt
-  place-leads rules e (Some at) = rule-leads at (slice_get rules at) (ap (λ (l : List Rule). slice_get l at) e)
+  place-leads : (bound : Option ℕ) (rules : List Rule) → diversion_rules sheet.diversion ≡ rules → (place : Option ℕ) →
+      DueLeads (option_map (due_of bound) (option_and_then (λ (at : ℕ). option_and_then (diversion_by at) (slice_get rules at)) place))
+  place-leads bound rules e None = tt
+  place-leads bound rules e (Some at) = rule-leads bound at (slice_get rules at) (ap (λ (l : List Rule). slice_get l at) e)
 
-  part-leads : (k : Circumstances) (when : When) (part : Option DiversionPart) → sheet.diversion ≡ part →
-      DueLeads (option_map due_of (option_and_then (λ (p : DiversionPart). diversion_among k when p.rules) part))
-  part-leads k when None e = tt
-  part-leads k when (Some part) e = place-leads part.rules (ap diversion_rules e) (first_that_holds k when part.rules)
+  part-leads : (bound : Option ℕ) (k : Circumstances) (when : When) (part : Option DiversionPart) → sheet.diversion ≡ part →
+      DueLeads (option_map (due_of bound) (option_and_then (λ (p : DiversionPart). diversion_among k when p.rules) part))
+  part-leads bound k when None e = tt
+  part-leads bound k when (Some part) e = place-leads bound part.rules (ap diversion_rules e) (first_that_holds k when part.rules)
 
   pub due-leads : (k : Circumstances) (when : When) → DueLeads (due_on k when sheet)
-  due-leads k when = part-leads k when sheet.diversion refl
+  due-leads k when = part-leads (own_bound sheet) k when sheet.diversion refl
 
   -- ---- at a target
 
@@ -108,11 +108,11 @@ module _ (sheet : Sheet) where
   offer-leads false true waiting = tt
   offer-leads false false waiting = tt
 
-  by-leads : (d : Decision) (unknown no_peer : Bool) → DecisionLeads d → TurnLeads (turn_by d unknown no_peer)
-  by-leads (Offers waiting) unknown no_peer a = offer-leads unknown no_peer waiting
-  by-leads (Diverted None cause) unknown no_peer a = tt
-  by-leads (Diverted (Some forward) cause) unknown no_peer a = a
-  by-leads (Ends cause) unknown no_peer a = tt
+  by-leads : (d : Decision) (bound : Option ℕ) (unknown no_peer : Bool) → DecisionLeads d → TurnLeads (turn_by d bound unknown no_peer)
+  by-leads (Offers waiting) bound unknown no_peer a = offer-leads unknown no_peer waiting
+  by-leads (Diverted None cause) bound unknown no_peer a = tt
+  by-leads (Diverted (Some forward) cause) bound unknown no_peer a = a
+  by-leads (Ends cause) bound unknown no_peer a = tt
 
   arrival-leads : (k : Circumstances) (registered : Bool) (live : ℕ) → DecisionLeads (verdict_of k (record { sheet = sheet; registered = registered; live = live }) ending.Arrived)
   arrival-leads k registered live =
@@ -137,5 +137,5 @@ module _ (sheet : Sheet) where
 
 pub turn-leads : (k : Circumstances) (reach : Reach) → TurnLeads (account_at reach).sheet (turn_at k reach)
 turn-leads k reach =
-    by-leads (account_at reach).sheet (verdict_of k (account_at reach) ending.Arrived) reach.is_unknown reach.has_no_peer
+    by-leads (account_at reach).sheet (verdict_of k (account_at reach) ending.Arrived) (own_bound (account_at reach).sheet) reach.is_unknown reach.has_no_peer
     (arrival-leads (account_at reach).sheet k (account_at reach).registered (account_at reach).live)

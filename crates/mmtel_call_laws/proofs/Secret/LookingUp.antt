@@ -15,7 +15,7 @@ use Rattle.mmtel_lex.specs.declared.values.Uri.{Uri}
 use Rattle.mmtel_precedence.specs.Attempts.{end_by_final, end_by_redirection, end_by_time, is_redirection, is_success, is_unreachable, is_user_busy}
 use Rattle.mmtel_precedence.specs.Calls.{Answer, Cancel, Deflection, End, NoReply, NotReachable, Other, Reach, Standing, UserBusy}
 use Rattle.mmtel_precedence.specs.Moves.{account_at}
-use Rattle.mmtel_precedence.specs.Services.{DueDiversion, due_on}
+use Rattle.mmtel_precedence.specs.Services.{DueDiversion, due_on, is_reached, own_bound}
 use Rattle.mmtel_precedence.specs.Targets.{deflected_to}
 use Rattle.mmtel_precedence.specs.Turns.{AfterEnd, EndAnswered, EndDivert, EndRefuse, Turn, TurnDivert, TurnOffer, TurnRefuse, divert_or_refuse, turn_at, turn_on}
 use Rattle.mmtel_rules.specs.Circumstances.{Circumstances}
@@ -55,7 +55,7 @@ use Rattle.mmtel_call.specs.declared.calls.Trial.{Trial}
 use Rattle.mmtel_call.specs.declared.calls.Phase.TheVariants.{Lent, Offered, Over, Stood}
 use Rattle.mmtel_call.specs.declared.calls.Stage.TheVariants.{Answered, Asking, Parting, Talking}
 use Rattle.mmtel_call.specs.Closing.{Step, onward}
-use Rattle.mmtel_call.specs.Diverting.{at_target, divert, diverted, goes_on, offer_where, on_end, on_turn, passed_by, refused, refused_by, told_of}
+use Rattle.mmtel_call.specs.Diverting.{at_target, divert, diverted, goes_on, is_diverted, offer_where, on_end, on_turn, passed_by, refused, refused_by, told_of, too_many}
 use Rattle.mmtel_call.specs.Leaving.{answered_at, answered_loose, answered_other, answered_taken, answered_taken_at, is_taken, without_silent}
 use Rattle.mmtel_call.specs.Lending.{finished, finished_in}
 use Rattle.mmtel_call.specs.Opening.{caller_of, new_call, opened, unless_refused}
@@ -261,7 +261,7 @@ module _ (records : List Sheet) (site : Site) (accounts : List AccountIdentity) 
   abbrev step_by : (f : Option Service → DueDiversion → Call → Desk → Step) → Site → (served found : Option Account) → Leg → (cause : Option ℕ) → Target → Call → Desk → Step
   step_by f s served found caller cause target c desk =
       on_turn f s now.at caller (option_map (service_of now) served) (peer_for site c.opening target) cause target
-      (turn_at (of_caller c.opening now.at) (reach_by served found (peer_for site c.opening target) cause target c.opening)) c desk
+      (turn_at (of_caller c.opening now.at (is_diverted c)) (reach_by served found (peer_for site c.opening target) cause target c.opening)) c desk
 
   reach_asked : (served found : Option Account) (peer : Option Peer) (cause : Option ℕ) (target : Target) (o : Opening) → IsAmong records (account_at (reach_by served found peer cause target o)).sheet
   reach_asked None found peer cause target o = stand.none
@@ -272,8 +272,8 @@ module _ (records : List Sheet) (site : Site) (accounts : List AccountIdentity) 
   by-same f g same served found caller cause target c desk =
       let peer : Option Peer = peer_for site c.opening target in
       let reach : Reach = reach_by served found peer cause target c.opening in
-      let turn : Turn = turn_at (of_caller c.opening now.at) reach in
-      turn-same f g same turn (turn-looks (account_at reach).sheet (reach_asked served found peer cause target c.opening) turn (turn-leads (of_caller c.opening now.at) reach))
+      let turn : Turn = turn_at (of_caller c.opening now.at (is_diverted c)) reach in
+      turn-same f g same turn (turn-looks (account_at reach).sheet (reach_asked served found peer cause target c.opening) turn (turn-leads (of_caller c.opening now.at (is_diverted c)) reach))
       caller (option_map (service_of now) served) peer cause target c desk
 
   target-same : (f g : Option Service → DueDiversion → Call → Desk → Step) → DivertsSame f g → (caller : Leg) (cause : Option ℕ) (target : Target) (c : Call) (desk : Desk) → Same target →
@@ -290,7 +290,8 @@ module _ (records : List Sheet) (site : Site) (accounts : List AccountIdentity) 
   divert-same zero caller service due c desk e = refl
   divert-same (suc left) caller service due c desk e =
       let next : Call = diverted (target_of site due) now.at left service due c in
-      ap (λ (s : Step). cond (is_barred site c.opening now.at service due) (refused site now.at caller causes.OutgoingBarred c desk) s)
+      ap (λ (s : Step). cond (is_barred site c.opening now.at service due) (refused site now.at caller causes.OutgoingBarred c desk)
+      (cond (is_reached due.bound c.diversions.count) (refused site now.at caller (too_many due) c desk) s))
       (target-same (divert left site now caller) (divert left far2 now caller) (divert-same left caller) caller (Some due.cause) (target_of site due) next (told_of site due next desk) e)
 
   -- ---- after an attempt
@@ -314,9 +315,9 @@ module _ (records : List Sheet) (site : Site) (accounts : List AccountIdentity) 
   due-looks sheet is None cause a = tt
   due-looks sheet is (Some due) cause a = lead sheet is due.forward a
 
-  deflects : (target : Uri) (o : Option ℕ) (cause : Cause) → Same (diverted_target site.home target) → AfterSame (divert_or_refuse (option_map (deflected_to target) o) cause)
-  deflects target None cause e = tt
-  deflects target (Some code) cause e = e
+  deflects : (target : Uri) (bound o : Option ℕ) (cause : Cause) → Same (diverted_target site.home target) → AfterSame (divert_or_refuse (option_map (deflected_to target bound) o) cause)
+  deflects target bound None cause e = tt
+  deflects target bound (Some code) cause e = e
 
   after-looks : (k : Circumstances) (sheet : Option Sheet) (how : End) → ((s : Sheet) → sheet ≡ Some s → IsAmong records s) → HowSame how → AfterSame (turn_on k sheet how)
   after-looks k sheet Answer is e = tt
@@ -328,7 +329,7 @@ module _ (records : List Sheet) (site : Site) (accounts : List AccountIdentity) 
   after-looks k None NoReply is e = tt
   after-looks k (Some s) NoReply is e = due-looks s (is s refl) (due_on k event.NoAnswer s) _ (due-leads s k event.NoAnswer)
   after-looks k None (Deflection target rang) is e = tt
-  after-looks k (Some s) (Deflection target rang) is e = deflects target (deflection_of s rang) _ e
+  after-looks k (Some s) (Deflection target rang) is e = deflects target (own_bound s) (deflection_of s rang) _ e
   after-looks k sheet (Other code) is e = tt
 
   end-same : (after : AfterEnd) → AfterSame after → (caller : Leg) (service : Option Service) (m : Option Said) (c : Call) (desk : Desk) →
@@ -339,7 +340,7 @@ module _ (records : List Sheet) (site : Site) (accounts : List AccountIdentity) 
 
   goes-same : (x : Trial) (how : End) (m : Option Said) (c : Call) (desk : Desk) → ServiceIsAsked records x.attempt.service → HowSame how → goes_on site now x how m c desk ≡ goes_on far2 now x how m c desk
   goes-same x how m c desk its e =
-      end-same (decided_after c.opening now.at x.attempt.service how) (after-looks (of_caller c.opening now.at) (its_sheet x.attempt.service) how its e)
+      end-same (decided_after c.opening now.at (is_diverted c) x.attempt.service how) (after-looks (of_caller c.opening now.at (is_diverted c)) (its_sheet x.attempt.service) how its e)
       x.caller x.attempt.service m _ desk
 
   -- ---- while it is offered
@@ -432,7 +433,7 @@ module _ (records : List Sheet) (site : Site) (accounts : List AccountIdentity) 
   unfolding opened
   opened-same a desk e =
       let c : Call = new_call site (opening_of site now (token desk) a) in
-      unless-same (refusal_of now.at c.opening) (caller_of now.at c) c (told_caller site c 100 (drew desk)) e
+      unless-same (refusal_of site now.at c.opening) (caller_of now.at c) c (told_caller site c 100 (drew desk)) e
 
 -- ---- any two such configurations
 
@@ -440,8 +441,9 @@ whole : (one other : Site) → EqualButForAccounts one other → record one { ac
 whole one other e =
     ap (λ (v : Addr). record one { sip = v; accounts = other.accounts }) e.sip
     ∙ (ap (λ (v : List ℕ). record one { sip = other.sip; home = v; accounts = other.accounts }) e.home
-    ∙ (ap (λ (v : ℕ). record other { bound = v; peers = one.peers }) e.bound
-    ∙ ap (λ (v : Peers). record other { peers = v }) e.peers))
+    ∙ (ap (λ (v : ℕ). record other { bound = v; country = one.country; peers = one.peers }) e.bound
+    ∙ (ap (λ (v : Option (List ℕ)). record other { country = v; peers = one.peers }) e.country
+    ∙ ap (λ (v : Peers). record other { peers = v }) e.peers)))
 
 phase-leads : (p : Phase) (one other : Site) (m : Said) → PhaseLeads p one other m → PhaseLeads p one (record one { accounts = other.accounts }) m
 phase-leads (Offered x) one other m a = a

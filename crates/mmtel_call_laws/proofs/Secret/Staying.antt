@@ -10,7 +10,7 @@ use Rattle.mmtel_leg.specs.Legs.{Leg}
 use Rattle.mmtel_leg.specs.declared.dialogues.DialogueFault.{DialogueFault}
 use Rattle.mmtel_precedence.specs.Attempts.{end_by_time}
 use Rattle.mmtel_precedence.specs.Calls.{End, NoReply, NotReachable, Standing}
-use Rattle.mmtel_precedence.specs.Services.{DueDiversion}
+use Rattle.mmtel_precedence.specs.Services.{DueDiversion, is_reached}
 use Rattle.mmtel_precedence.specs.Turns.{AfterEnd, EndAnswered, EndDivert, EndRefuse, Turn, TurnDivert, TurnOffer, TurnRefuse}
 use Rattle.mmtel_targets.specs.declared.targets.Target.{Target}
 use Rattle.mmtel_transaction.specs.declared.words.DueWord.{DueWord}
@@ -39,7 +39,7 @@ use Rattle.mmtel_call.specs.declared.calls.Trial.{Trial}
 use Rattle.mmtel_call.specs.declared.calls.Phase.TheVariants.{Lent, Offered, Over, Stood}
 use Rattle.mmtel_call.specs.declared.calls.Stage.TheVariants.{Answered, Asking, Parting, Talking}
 use Rattle.mmtel_call.specs.Closing.{Step, onward, over_stood}
-use Rattle.mmtel_call.specs.Diverting.{at_target, divert, diverted, goes_on, offer_where, on_end, on_turn, passed_by, refused, refused_by, told_of, too_many}
+use Rattle.mmtel_call.specs.Diverting.{at_target, divert, diverted, goes_on, is_diverted, offer_where, on_end, on_turn, passed_by, refused, refused_by, told_of, too_many}
 use Rattle.mmtel_call.specs.Leaving.{answered_at, answered_loose, answered_other, answered_taken, answered_taken_at, forked, is_fork, is_success, is_taken, repeated, without_silent}
 use Rattle.mmtel_call.specs.Opening.{caller_of, new_call, opened, unless_refused}
 use Rattle.mmtel_call.specs.Reinvites.{agreed, bye_to_both, ends_dialog, on_response_across, proceeding_across, refused_back}
@@ -76,16 +76,18 @@ module _ (site : Site) (now : Standing) where
 
   target-stays : (f : Option Service → DueDiversion → Call → Desk → Step) → Diverts f → (caller : Leg) (cause : Option ℕ) (target : Target) (c : Call) (desk : Desk) → Keeps c.opening (at_target f site now caller cause target c desk)
   target-stays f stays caller cause target c desk =
-      turn-stays f stays (decided_at site now c.opening cause target (service_at site now c.opening cause target) (peer_for site c.opening target)) caller (service_at site now c.opening cause target) (peer_for site c.opening target) cause target c desk
+      turn-stays f stays (decided_at site now c.opening (is_diverted c) cause target (service_at site now c.opening cause target) (peer_for site c.opening target)) caller (service_at site now c.opening cause target) (peer_for site c.opening target) cause target c desk
 
   divert-stays : (left : ℕ) (caller : Leg) → Diverts (divert left site now caller)
   unfolding divert
   divert-stays zero caller service due c desk = keep-if c.opening (is_barred site c.opening now.at service due) (refused site now.at caller causes.OutgoingBarred c desk) (refused site now.at caller (too_many due) c desk) refl refl
   divert-stays (suc left) caller service due c desk =
       let next : Call = diverted (target_of site due) now.at left service due c in
-      keep-if c.opening (is_barred site c.opening now.at service due) (refused site now.at caller causes.OutgoingBarred c desk)
-      (at_target (divert left site now caller) site now caller (Some due.cause) (target_of site due) next (told_of site due next desk)) refl
-      (target-stays (divert left site now caller) (divert-stays left caller) caller (Some due.cause) (target_of site due) next (told_of site due next desk))
+      let reached : Bool = is_reached due.bound c.diversions.count in
+      let onward : Step = at_target (divert left site now caller) site now caller (Some due.cause) (target_of site due) next (told_of site due next desk) in
+      keep-if c.opening (is_barred site c.opening now.at service due) (refused site now.at caller causes.OutgoingBarred c desk) (cond reached (refused site now.at caller (too_many due) c desk) onward) refl
+      (keep-if c.opening reached (refused site now.at caller (too_many due) c desk) onward refl
+      (target-stays (divert left site now caller) (divert-stays left caller) caller (Some due.cause) (target_of site due) next (told_of site due next desk)))
 
   refused_by-stays : (caller : Leg) (service : Option Service) (m : Option Said) (cause : Cause) (c : Call) (desk : Desk) → Keeps c.opening (refused_by site now.at caller service m cause c desk)
   refused_by-stays caller service None cause c desk = refl
@@ -97,7 +99,7 @@ module _ (site : Site) (now : Standing) where
   end-stays (EndRefuse cause) caller service m c desk = refused_by-stays caller service m cause c desk
 
   goes-stays : (x : Trial) (how : End) (m : Option Said) (c : Call) (desk : Desk) → Keeps c.opening (goes_on site now x how m c desk)
-  goes-stays x how m c desk = end-stays (decided_after c.opening now.at x.attempt.service how) x.caller x.attempt.service m _ desk
+  goes-stays x how m c desk = end-stays (decided_after c.opening now.at (is_diverted c) x.attempt.service how) x.caller x.attempt.service m _ desk
 
   -- ---- while it is offered
 
@@ -268,7 +270,7 @@ module _ (site : Site) (now : Standing) where
   unfolding opened
   opened-keeps a desk =
       let c : Call = new_call site (opening_of site now (token desk) a) in
-      unless-stays (refusal_of now.at c.opening) (caller_of now.at c) c (told_caller site c 100 (drew desk))
+      unless-stays (refusal_of site now.at c.opening) (caller_of now.at c) c (told_caller site c 100 (drew desk))
 
 pub openings_stay : OpeningsStay
 unfolding step

@@ -13,7 +13,7 @@ use Rattle.mmtel_leg.specs.declared.dialogues.Dialogue.{Dialogue}
 use Rattle.mmtel_message.specs.Message.{Line, Message}
 use Rattle.mmtel_message.specs.declared.messages.Start.{Start}
 use Rattle.mmtel_precedence.specs.Calls.{End, Standing}
-use Rattle.mmtel_precedence.specs.Services.{DueDiversion}
+use Rattle.mmtel_precedence.specs.Services.{DueDiversion, is_reached}
 use Rattle.mmtel_precedence.specs.Turns.{AfterEnd, EndAnswered, EndDivert, EndRefuse, Turn, TurnDivert, TurnOffer, TurnRefuse}
 use Rattle.mmtel_scan.specs.Numbers.{next_number}
 use Rattle.mmtel_targets.specs.declared.targets.Target.{Target}
@@ -31,7 +31,7 @@ use Rattle.mmtel_call_decisions.specs.Showing.{shown_to}
 use Rattle.mmtel_call_decisions.specs.Site.{Site}
 use Rattle.mmtel_call_decisions.specs.declared.openings.Service.{Service}
 use Rattle.mmtel_call.specs.Closing.{Step, over, with_past}
-use Rattle.mmtel_call.specs.Diverting.{at_target, divert, diverted, goes_on, made, offer_where, on_end, on_turn, passed_by, reach, refused, refused_by, told_of, too_many, unless_barred}
+use Rattle.mmtel_call.specs.Diverting.{at_target, divert, diverted, goes_on, is_diverted, made, offer_where, on_end, on_turn, passed_by, reach, refused, refused_by, told_of, too_many, unless_reached}
 use Rattle.mmtel_call.specs.Offering.{dialog_of, longest_time, next_attempt, offer}
 use Rattle.mmtel_call.specs.Opening.{caller_of, unless_refused}
 use Rattle.mmtel_call.specs.Sending.{relayed_to_caller, told_caller, told_diversion}
@@ -140,7 +140,7 @@ module _ (site : Site) (before : Desk) where
   target_moves left now caller later cause target room c desk less most had =
       let service = service_at site now c.opening cause target in
       let peer = peer_for site c.opening target in
-      turn_moves left now caller later service peer cause target (decided_at site now c.opening cause target service peer) room c desk less most had
+      turn_moves left now caller later service peer cause target (decided_at site now c.opening (is_diverted c) cause target service peer) room c desk less most had
 
   -- ---- a diversion
 
@@ -151,9 +151,10 @@ module _ (site : Site) (before : Desk) where
       by true = told_diversion_unseen site c.opening.number before c desk had
       by false = had
 
-  unless_moves : (barred : Bool) (go : Call → Desk → Step) (at : ℕ) (caller : Leg) (room : ℕ) (c : Call) (desk : Desk) → So c desk → Goes at c caller room (go c desk) → Goes at c caller room (unless_barred barred go site at caller c desk)
-  unless_moves true go at caller room c desk had is = refused_moves at caller causes.OutgoingBarred room c desk had
-  unless_moves false go at caller room c desk had is = is
+  unless_moves : (refuses : Bool) (why : Cause) (go : Call → Desk → Step) (at : ℕ) (caller : Leg) (room : ℕ) (c : Call) (desk : Desk) → So c desk → Goes at c caller room (go c desk) →
+      Goes at c caller room (if refuses then refused site at caller why c desk else go c desk)
+  unless_moves true why go at caller room c desk had is = refused_moves at caller why room c desk had
+  unless_moves false why go at caller room c desk had is = is
 
   one_less : (attempts left room : ℕ) → attempts + suc left ≤ room → attempts + left < room
   one_less attempts left room most = omega (arith, most)
@@ -164,12 +165,14 @@ module _ (site : Site) (before : Desk) where
   divert_moves : (left : ℕ) (now : Standing) (caller : Leg) → Diverts left now caller
   unfolding divert
   divert_moves zero now caller service due room c desk most had =
-      unless_moves (is_barred site c.opening now.at service due) (refused site now.at caller (too_many due)) now.at caller room c desk had (refused_moves now.at caller (too_many due) room c desk had)
+      unless_moves (is_barred site c.opening now.at service due) causes.OutgoingBarred (refused site now.at caller (too_many due)) now.at caller room c desk had (refused_moves now.at caller (too_many due) room c desk had)
   divert_moves (suc left) now caller service due room c desk most had =
       let target : Target = target_of site due in
       let next : Call = diverted target now.at left service due c in
-      unless_moves (is_barred site c.opening now.at service due) (made (at_target (divert left site now caller) site now caller (Some due.cause) target) site target now.at left service due) now.at caller room c desk had
-      (target_moves left now caller (divert_moves left now caller) (Some due.cause) target room next (told_of site due next desk) (one_less c.attempts left room most) (still_most c.attempts left room most) (told_of_unseen due next desk had))
+      let onward = made (at_target (divert left site now caller) site now caller (Some due.cause) target) site target now.at left service due in
+      unless_moves (is_barred site c.opening now.at service due) causes.OutgoingBarred (unless_reached due onward site now.at caller) now.at caller room c desk had
+      (unless_moves (is_reached due.bound c.diversions.count) (too_many due) onward now.at caller room c desk had
+      (target_moves left now caller (divert_moves left now caller) (Some due.cause) target room next (told_of site due next desk) (one_less c.attempts left room most) (still_most c.attempts left room most) (told_of_unseen due next desk had)))
 
   less_most : (n room : ℕ) → n < room → n ≤ room
   less_most n room less = omega (arith, less)
@@ -187,7 +190,7 @@ module _ (site : Site) (before : Desk) where
 
   pub goes_on_moves : (now : Standing) (x : Trial) (how : End) (m : Option Said) (room : ℕ) (c : Call) (desk : Desk) → c.attempts + c.diversions.left ≤ room → So c desk → Goes now.at c x.caller room (goes_on site now x how m c desk)
   goes_on_moves now x how m room c desk most had =
-      end_moves now x.caller x.attempt.service m (decided_after c.opening now.at x.attempt.service how) room (with_past x.callee.leg.meter c) desk most had
+      end_moves now x.caller x.attempt.service m (decided_after c.opening now.at (is_diverted c) x.attempt.service how) room (with_past x.callee.leg.meter c) desk most had
 
   pub begins_moves : (refusal : Option Cause) (now : Standing) (room : ℕ) (c : Call) (desk : Desk) → c.attempts + c.diversions.left < room → So c desk →
       Goes now.at c (caller_of now.at c) room (unless_refused refusal site now (caller_of now.at c) c desk)

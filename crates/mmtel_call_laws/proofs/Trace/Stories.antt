@@ -346,7 +346,7 @@ opens_moves s =
     let o = opening_in s in
     let c = new_call s.site o in
     let a = adds_nothing s.site.sip s.arrival.number s.desk in
-    begins_moves s.site s.desk (refusal_of s.now.at o) s.now (s.site.bound + 1) c (told_caller s.site c 100 (drew s.desk)) (first_room s.site.bound (diversions_in (received_list o.invite)))
+    begins_moves s.site s.desk (refusal_of s.site s.now.at o) s.now (s.site.bound + 1) c (told_caller s.site c 100 (drew s.desk)) (first_room s.site.bound (diversions_in (received_list o.invite)))
     (told_unseen s.site s.arrival.number s.desk c 100 (drew s.desk) (record { new = a.new; out = a.out; seen = a.seen }))
 
 tied_first : (s : Start) → Ties s.site.bound (first_step s).call.phase (first_step s).call (first_last s) (on_marks s.now.at nothing_yet (marks_first s))

@@ -42,6 +42,7 @@ pub record EqualButForAccounts (one other : Site) : Type 0 where
   pub sip : one.sip ≡ other.sip
   pub home : one.home ≡ other.home
   pub bound : one.bound ≡ other.bound
+  pub country : one.country ≡ other.country
   pub peers : one.peers ≡ other.peers
 
 -- ---- look-ups

@@ -1,5 +1,5 @@
 -- What was prepared, by the command that the words spell.
-use Rattle.std.proofs.Common.{◌≡◌, ℕ, List, Option, Some, None, refl, sym, inl, inr, IfSome}
+use Rattle.std.proofs.Common.{◌≡◌, ℕ, List, Option, Some, None, refl, sym, inl, IfSome}
 use Rattle.mmtel_outside.specs.Shelf.{Shelf}
 use Rattle.mmtel_scan.proofs.ChainLaws.{some_is}
 use Rattle.mmtel_words.specs.CommandLine.{Command, IsCommand}
@@ -10,7 +10,7 @@ use Rattle.mmtel_cli.specs.Gives.{GivesCommand, Prepares}
 use Rattle.mmtel_cli.specs.Keeping.{KeeperSeen}
 use Rattle.mmtel_cli.specs.Serving.{LinkSeen}
 use Rattle.mmtel_reports.specs.declared.reports.Report.{Report}
-use Rattle.mmtel_reports.specs.declared.reports.Report.TheVariants.{Memory, Usage}
+use Rattle.mmtel_reports.specs.declared.reports.Report.TheVariants.{Usage}
 
 -- each command that the words spell is this one
 abbrev IsAll : Option Command → List (List ℕ) → Type 0
@@ -53,8 +53,3 @@ prepares_none words told link keeper later near before all = inl (record {
   unbound = refl;
   taking = refl;
 })
-
--- for want of memory
-pub prepares_short : {L K : Type 0} (words : List (List ℕ)) (told : Option Shelf) (link : LinkSeen) (keeper : KeeperSeen) (near : L) (before : K)
-    → Prepares words told told link link keeper keeper near near before before Memory
-prepares_short words told link keeper near before = inr (record { memory = refl; calls = refl; spared = refl; kept = refl; unbound = refl; unheard = refl })

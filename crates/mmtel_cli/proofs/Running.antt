@@ -24,7 +24,7 @@ use Rattle.mmtel_cli.specs.Due.{Due, first_after, shelf_by, shelf_first, shelf_a
 use Rattle.mmtel_reports.specs.Ends.{Ends, WroteListing}
 use Rattle.mmtel_cli.specs.Found.{HasCalled, IsDue, IsServedBy, SparedBy, Spares}
 use Rattle.mmtel_cli.specs.Gives.{GivesBoth, GivesCharges, GivesRecords, GivesRun, GivesServe, GivesWork, Prepares, ServesConfig, ServesDirectory}
-use Rattle.mmtel_cli.specs.Keeping.{IsNotLoaded, IsSpared, KeeperSeen}
+use Rattle.mmtel_cli.specs.Keeping.{GivesNoRows, IsNotLoaded, IsSpared, KeeperSeen}
 use Rattle.mmtel_cli.specs.Listings.{Lists, ListsRows}
 use Rattle.mmtel_cli.specs.Serving.{LinkSeen}
 use Rattle.mmtel_cli.specs.Stopped.{HasStopped, StopsOfServe, StopsServing}
@@ -184,7 +184,7 @@ module _ (outcomes : CallsOfRunsComeToOutcome) (charged : SeatsOfRunsAreChargedO
 
   written_rows : (store : List ℕ) (outcome : Report) → IsDue keeper later outcome (due.Rows store) → EndsSo outcome
       → (ListedRows store keeper later status before after faults now
-      ⊎ (IsNotLoaded store keeper later × WroteKeeper status before after faults now)) ⊎ OutOfMemory
+      ⊎ (GivesNoRows store keeper later × WroteKeeper status before after faults now)) ⊎ OutOfMemory
   written_rows store Usage is ends = absurd (let wrong : due.Rows store ≡ due.Usage = is in cc)
   written_rows store (Line n) is ends = absurd (let wrong : due.Rows store ≡ due.Line n = is in cc)
   written_rows store File is ends = absurd (let wrong : due.Rows store ≡ due.File = is in cc)

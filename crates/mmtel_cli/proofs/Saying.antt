@@ -20,14 +20,14 @@ use Rattle.mmtel_uploads.specs.declared.uploads.Upload.TheVariants as upload
 use Rattle.mmtel_words.specs.CommandLine.{Asked, Command, Serve, Replay, Check, Charges, Workload, IsCommand}
 use Rattle.mmtel_cli.specs.Asks.{IsServe, IsReplay, IsCheck, IsCharges, IsWorkload, IsOnly, SpellsNone}
 use Rattle.mmtel_reports.specs.Ends.{WroteListing, WroteNothing}
-use Rattle.mmtel_cli.specs.Keeping.{IsLoaded, IsNotLoaded, IsOpened, KeeperSeen, refuses}
+use Rattle.mmtel_cli.specs.Keeping.{GivesNoRows, IsAskedRows, IsLoaded, IsNotLoaded, IsOpened, KeeperSeen, refuses, refuses_rows}
 use Rattle.mmtel_cli.specs.Serving.{IsBindCall, IsLinked, LinkFails, LinkSeen}
 use Rattle.mmtel_cli.specs.Runs.{Counted, HasServed, Listed, ListedRows, WroteMemory, Replayed, Checked, Charged, Worked, Refused, ServedLink, Ran, RanServe, RanReplay}
 use Rattle.mmtel_cli.specs.Runs.{RanCheck, RanCharges, RanWork, RanNone, RanShort}
 use Rattle.mmtel_cli.specs.Runs.{EndsOfEvents, EndsOfScript, EndsOfDirectory, EndsOfConfig, EndsOfStore, EndsOfCharges, EndsOfUpload, EndsOfRecords}
 use Rattle.mmtel_cli.specs.Runs.{EndsOfServe, EndsOfServing, EndsServed, EndsServing, EndsUnkept, EndsUnlinked}
-use Rattle.mmtel_cli.specs.Sayings.{IsGood, IsKept, IsWilling, IsServable, GoodOnesAreListed, GoodOnesAreServed, GoodOnesSucceed, GoodOnesWantAKeeper, RowsAreListed}
-use Rattle.mmtel_cli.specs.Sayings.{RowsWantAKeeper, ServingWantsAKeeper, ServingWantsALink}
+use Rattle.mmtel_cli.specs.Sayings.{IsGood, IsKept, IsWilling, IsWillingToGive, IsServable, GoodOnesAreListed, GoodOnesAreServed, GoodOnesSucceed, GoodOnesWantAKeeper}
+use Rattle.mmtel_cli.specs.Sayings.{RowsAreListed, RowsWantAKeeper, ServingWantsAKeeper, ServingWantsALink}
 use Rattle.mmtel_cli.specs.Sayings.{ChecksAreTold, ChecksOne, ChargesOne, WorksOne, ServesOne, DoneAtZero, DoneServe, DoneReplay, DoneCheck, DoneCharges, DoneWork}
 use Rattle.mmtel_cli.specs.Sayings.{ChargesKeep, EightIsShort, ShortCharges, ShortCheck, ShortReplay, ShortServe, ShortWords, ShortWork}
 use Rattle.mmtel_cli.specs.Sayings.{RefusesOne, ZeroIsListed, OneIsUsage, ThreeIsRefused, FourRose, SixRose, SevenRose, ZeroKept, StatusesAreThese, NoFaultNoFailure}
@@ -100,16 +100,28 @@ module _ (shelf : Shelf) (link far : LinkSeen) (keeper later : KeeperSeen) (word
   good_run good (RanNone refused) = absurd (refused.none (Replay asked) good.spelled)
   good_run good (RanShort memory spared unheard) = inr memory.0
 
--- a keeper that can be bound and loaded is one that was not refused
+-- a keeper that can be bound, migrated and loaded is one that was not refused
 opens : (path : List ℕ) (calls since : Option KeeperCalls) (told : KeeperCalls) (refused : Bool) → IsOpened path calls since refused → calls ≡ Some told → refuses told ≡ refused
 opens path None since told refused opened is = absurd cc
 opens path (Some calls) since told refused opened is = let same : calls ≡ told = some_is calls told is in ap refuses (sym same) ∙ opened.1
+
+-- and so one that can be bound and give its rows
+asks : (path : List ℕ) (calls since : Option KeeperCalls) (told : KeeperCalls) (refused : Bool) → IsAskedRows path calls since refused → calls ≡ Some told
+    → refuses_rows told ≡ refused
+asks path None since told refused asked is = absurd cc
+asks path (Some calls) since told refused asked is = let same : calls ≡ told = some_is calls told is in ap refuses_rows (sym same) ∙ asked.1
 
 never_unwilling : (store : List ℕ) (keeper later : KeeperSeen) → IsWilling keeper later → IsNotLoaded store keeper later → ⊥
 never_unwilling store keeper later (inl willing) not =
     let wrong : false ≡ true = sym willing.2 ∙ opens store keeper.calls later.calls willing.0 true not.calls willing.1 in
     cc
 never_unwilling store keeper later (inr willing) not = willing not.rose
+
+never_ungiving : (store : List ℕ) (keeper later : KeeperSeen) → IsWillingToGive keeper later → GivesNoRows store keeper later → ⊥
+never_ungiving store keeper later (inl willing) not =
+    let wrong : false ≡ true = sym willing.2 ∙ asks store keeper.calls later.calls willing.0 true not.calls willing.1 in
+    cc
+never_ungiving store keeper later (inr willing) not = willing not.rose
 
 pub good_ones_are_listed : GoodOnesAreListed
 good_ones_are_listed shelf link far keeper later words asked directory events status before after faults now good willing ran =
@@ -196,7 +208,7 @@ rows_are_listed shelf link far keeper later words directory status before after 
     elim (kept_run shelf link far keeper later words directory status before after faults now kept ran) [
       | inl ends ↦ elim ends [
         | inl listed ↦ inl listed
-        | inr not ↦ absurd (never_unwilling directory.store keeper later willing not.0)
+        | inr not ↦ absurd (never_ungiving directory.store keeper later willing not.0)
       ]
       | inr memory ↦ inr memory.0
     ]
@@ -205,7 +217,7 @@ pub rows_want_a_keeper : RowsWantAKeeper
 rows_want_a_keeper shelf link far keeper later calls words directory status before after faults now kept is unwilling ran =
     elim (kept_run shelf link far keeper later words directory status before after faults now kept ran) [
       | inl ends ↦ elim ends [
-        | inl listed ↦ absurd (let wrong : true ≡ false = sym unwilling ∙ opens directory.store keeper.calls later.calls calls false listed.given.calls is in cc)
+        | inl listed ↦ absurd (let wrong : true ≡ false = sym unwilling ∙ asks directory.store keeper.calls later.calls calls false listed.given.calls is in cc)
         | inr not ↦ inl not.1.0
       ]
       | inr memory ↦ inr memory.0

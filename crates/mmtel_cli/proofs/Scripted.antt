@@ -320,6 +320,12 @@ holds_whole d token loaded fuel es xs same uploads held left h =
     h.2
     ∙ (ap (λ (u : Texts). option_map (with_all u h.0) held) uploads ∙ ap (λ (rows : List Row). option_map (with_all (uploads_of d.names xs) rows) held) filed)
 
+both_zero : (p : ℕ → ℕ → Type 0) (m n : ℕ) → m ≡ 0 → n ≡ 0 → p m n → p 0 0
+both_zero p m n first second x = subst (λ k. p k 0) first (subst (λ k. p m k) second x)
+
+no_more : (a b c : ℕ) → a ≤ b → b ≤ c → a ≤ c
+no_more a b c x y = omega (arith, x, y)
+
 module _ (unfailed : UnfailedAreReadOut) (all : ReadOutSaysAll) (keeps : OffersKeepTheSecret) (d : Directory) (token : List ℕ) (loaded : Texts) where
   pub offers_run : (ear : Ear) (later : Option Ear) (held left : Option Held) (calls since : Option KeeperCalls) (faults count turns : ℕ)
       (old : Server) (out : List Offer) (new : Server) (now : List Offer) (closed : Bool)
@@ -358,7 +364,17 @@ module _ (unfailed : UnfailedAreReadOut) (all : ReadOutSaysAll) (keeps : OffersK
             record { rows = charged; taken = none_waits d token loaded fuel w.whole faults count count_whole charged };
       }
 
-  -- the same of a link of which it is known that it has two counts of 0 and so many events
+  -- the same of a link of which it is known that it has two counts of 0
+  offers_known : (ear : Ear) (later : Option Ear) (giving gave : ℕ) (held left : Option Held) (calls since : Option KeeperCalls) (faults count turns : ℕ)
+      (old : Server) (out : List Offer) (new : Server) (now : List Offer) (closed : Bool)
+      → Driven (Some ear) later giving gave held left calls since faults count turns old out new now (Ok closed)
+      → giving ≡ 0 → gave ≡ 0 → ear ≡ unheard ear.events → length ear.events ≤ turns → Went d token loaded [] [] old out
+      → OffersRun d token loaded ear.events (seen held calls faults) (seen left since count) now
+  offers_known ear later giving gave held left calls since faults count turns old out new now closed driven stood stands =
+      offers_run ear later held left calls since faults count turns old out new now closed
+      (both_zero (λ m n. Driven (Some ear) later m n held left calls since faults count turns old out new now (Ok closed)) giving gave stood stands driven)
+
+  -- and so many events
   pub offers_all_of : (ear later : Option Ear) (giving gave : ℕ) (held left : Option Held) (calls since : Option KeeperCalls) (faults count turns events : ℕ)
       (old : Server) (out : List Offer) (new : Server) (now : List Offer) (closed : Bool)
       → Driven ear later giving gave held left calls since faults count turns old out new now (Ok closed)
@@ -366,5 +382,5 @@ module _ (unfailed : UnfailedAreReadOut) (all : ReadOutSaysAll) (keeps : OffersK
       → OffersAllOf ear d token loaded (seen held calls faults) (seen left since count) now
   offers_all_of None later giving gave held left calls since faults count turns events old out new now closed driven stood stands fresh enough went = absurd fresh
   offers_all_of (Some ear) later giving gave held left calls since faults count turns events old out new now closed driven stood stands fresh enough went =
-      let few = fresh.1 in
-      offers_run ear later held left calls since faults count turns old out new now closed (rw (stood, stands) at driven) fresh.0 (omega (arith, few, enough)) went
+      offers_known ear later giving gave held left calls since faults count turns old out new now closed driven stood stands fresh.0
+      (no_more (length ear.events) events turns fresh.1 enough) went

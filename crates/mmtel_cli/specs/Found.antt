@@ -10,7 +10,7 @@ use Rattle.mmtel_trust.specs.Peers.{are_apart}
 use Rattle.mmtel_words.specs.CommandLine.{Command, Serve, Replay, Check, Charges, Workload}
 use Rattle.mmtel_cli.specs.Due as due
 use Rattle.mmtel_cli.specs.Due.{Due}
-use Rattle.mmtel_cli.specs.Keeping.{IsNotLoaded, KeeperSeen}
+use Rattle.mmtel_cli.specs.Keeping.{GivesNoRows, IsNotLoaded, KeeperSeen}
 use Rattle.mmtel_cli.specs.Listings.{Lists, ListsRows}
 use Rattle.mmtel_cli.specs.Serving.{LinkFails, LinkSeen, ServesLink}
 use Rattle.mmtel_cli.specs.Stopped.{HasStopped, StoppedServe}
@@ -35,7 +35,7 @@ IsUnkept keeper later due.Usage = ⊥
 IsUnkept keeper later (due.Line number) = ⊥
 IsUnkept keeper later due.File = ⊥
 IsUnkept keeper later (due.Run directory token events) = IsNotLoaded directory.store keeper later
-IsUnkept keeper later (due.Rows store) = IsNotLoaded store keeper later
+IsUnkept keeper later (due.Rows store) = GivesNoRows store keeper later
 IsUnkept keeper later (due.Work calls salt directory) = ⊥
 IsUnkept keeper later due.Sound = ⊥
 IsUnkept keeper later (due.Unsound line) = ⊥

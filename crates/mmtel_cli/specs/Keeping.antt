@@ -1,10 +1,11 @@
--- What a run asks of its keeper, and what the keeper shows of it: it is bound to the store of the configuration and loaded, each once, and what is uploaded in the run is kept
--- there (3GPP TS 24.623 §5).
+-- What a run asks of its keeper, and what the keeper shows of it: it is bound to the store of the configuration, migrated and loaded, each once, and what is uploaded in the
+-- run is kept there (3GPP TS 24.623 §5).
 use Rattle.std.specs.Prelude.{◌≡◌, ◌≢◌, ◌⊎◌, ℕ, ◌||◌, Bool, true, false, List, Option, Some, None, IfSome, if◌then◌else◌}
 use Rattle.std.specs.Option.{option_map}
 use Rattle.mmtel_charging.specs.declared.rows.Row.{Row}
 use Rattle.mmtel_in_force.specs.Texts.{Texts}
 use Rattle.mmtel_keeper.specs.Kept.{Held, KeeperCalls, called, fails_next}
+use Rattle.mmtel_keeper.specs.Migration.{IsHeldMigrated}
 use Rattle.mmtel_outside.specs.Counts.{Rose}
 use Rattle.mmtel_cli.specs.Asks.{IsCheck, IsWorkload, SpellsNone}
 
@@ -19,47 +20,88 @@ seen held calls faults = record { held = held; calls = calls; faults = faults }
 
 -- ---- binding and loading
 
--- whether it refuses by the numbers of its calls: the next one, which binds it, fails, or else the one behind that, which loads it or, of `charges`, asks for its rows
-abbrev pub refuses : KeeperCalls → Bool
-refuses calls = fails_next calls || fails_next (called calls)
+-- after the call that binds it to the path
+abbrev pub bound : (path : List ℕ) → KeeperCalls → KeeperCalls
+bound path calls = record (called calls) { path = Some path }
 
--- its calls then; where it cannot be bound it is asked nothing more
+-- whether it refuses by the numbers of its calls: the next one, which binds it, fails, or else the one behind that, which of `serve` and `replay` migrates it and of `charges`
+-- asks for its rows, or else, of `serve` and `replay`, the third, which loads it
+abbrev pub refuses_rows : KeeperCalls → Bool
+refuses_rows calls = fails_next calls || fails_next (called calls)
+
+abbrev pub refuses : KeeperCalls → Bool
+refuses calls = refuses_rows calls || fails_next (called (called calls))
+
+-- its calls then; where it refuses one it is asked nothing more
+abbrev pub asked_rows : (path : List ℕ) → KeeperCalls → KeeperCalls
+asked_rows path calls = if fails_next calls then called calls else called (bound path calls)
+
 abbrev pub opened : (path : List ℕ) → KeeperCalls → KeeperCalls
-opened path calls = if fails_next calls then called calls else called (record (called calls) { path = Some path })
+opened path calls = if refuses_rows calls then asked_rows path calls else called (called (bound path calls))
 
 -- these calls were made, where it tells them, and it refused or not
 abbrev pub IsOpened : (path : List ℕ) → Option KeeperCalls → Option KeeperCalls → (refused : Bool) → Type 0
 IsOpened path None after refused = after ≡ None
 IsOpened path (Some calls) after refused = (after ≡ Some (opened path calls)) × (refuses calls ≡ refused)
 
--- it was bound to the path and loaded, and gave these texts, which are those that it holds, where it tells them
+abbrev pub IsAskedRows : (path : List ℕ) → Option KeeperCalls → Option KeeperCalls → (refused : Bool) → Type 0
+IsAskedRows path None after refused = after ≡ None
+IsAskedRows path (Some calls) after refused = (after ≡ Some (asked_rows path calls)) × (refuses_rows calls ≡ refused)
+
+-- what it holds, each record of the first version replaced, where it tells it
+abbrev pub AreHeldMigrated : (before after : Option Held) → Type 0
+AreHeldMigrated None after = after ≡ None
+AreHeldMigrated (Some held) after = (later : Held) × (after ≡ Some later) × IsHeldMigrated held later
+
+-- it was bound to the path, migrated and loaded, and gave these texts, which are those that it holds then, where it tells them
 pub record IsLoaded (path : List ℕ) (loaded : Texts) (keeper later : KeeperSeen) : Type 0 where
   pub calls : IsOpened path keeper.calls later.calls false
-  pub told : IfSome keeper.held (λ held. loaded ≡ held.sheets)
-  pub held : later.held ≡ keeper.held
+  pub told : IfSome later.held (λ held. loaded ≡ held.sheets)
+  pub held : AreHeldMigrated keeper.held later.held
   pub count : later.faults ≡ keeper.faults
 
 -- it was bound to the path and asked for its rows, and gave these, which are those that it holds, where it tells them
 pub record GivesRows (path : List ℕ) (rows : List Row) (keeper later : KeeperSeen) : Type 0 where
-  pub calls : IsOpened path keeper.calls later.calls false
+  pub calls : IsAskedRows path keeper.calls later.calls false
   pub told : IfSome keeper.held (λ held. rows ≡ held.rows)
   pub held : later.held ≡ keeper.held
   pub count : later.faults ≡ keeper.faults
 
--- it could not be bound to the path, or not be loaded or, of `charges`, not give its rows: its count of faults rose, and what it holds is as before
+-- as before, or each record of the first version replaced
+abbrev pub MayBeMigrated : (before after : Option Held) → Type 0
+MayBeMigrated before after = (after ≡ before) ⊎ AreHeldMigrated before after
+
+-- it could not be bound to the path, not be migrated or not be loaded: its count of faults rose. What it holds is as before where it was not migrated
 pub record IsNotLoaded (path : List ℕ) (keeper later : KeeperSeen) : Type 0 where
   pub calls : IsOpened path keeper.calls later.calls true
+  pub held : MayBeMigrated keeper.held later.held
+  pub early : IfSome keeper.calls (λ calls. refuses_rows calls ≡ true → later.held ≡ keeper.held)
+  pub rose : Rose keeper.faults later.faults
+
+-- it could not be bound to the path, or not give its rows: its count of faults rose, and what it holds is as before
+pub record GivesNoRows (path : List ℕ) (keeper later : KeeperSeen) : Type 0 where
+  pub calls : IsAskedRows path keeper.calls later.calls true
   pub held : later.held ≡ keeper.held
   pub rose : Rose keeper.faults later.faults
 
--- memory ran out in these two calls, or behind them: it was asked to bind the path, or bound to it and then asked, and refused neither
+-- memory ran out in these calls, or behind them: it was asked to bind the path, or bound to it and then asked, and refused none of them
+abbrev pub MayBeAsked : (path : List ℕ) → Option KeeperCalls → Option KeeperCalls → Type 0
+MayBeAsked path None after = after ≡ None
+MayBeAsked path (Some calls) after = ((after ≡ Some (called calls)) × (fails_next calls ≡ false)) ⊎ IsAskedRows path (Some calls) after false
+
 abbrev pub MayBeOpened : (path : List ℕ) → Option KeeperCalls → Option KeeperCalls → Type 0
 MayBeOpened path None after = after ≡ None
-MayBeOpened path (Some calls) after = ((after ≡ Some (called calls)) × (fails_next calls ≡ false)) ⊎ IsOpened path (Some calls) after false
+MayBeOpened path (Some calls) after = MayBeAsked path (Some calls) after ⊎ IsOpened path (Some calls) after false
 
 -- and nothing else was asked of it
 pub record IsOnlyOpened (path : List ℕ) (keeper later : KeeperSeen) : Type 0 where
   pub calls : MayBeOpened path keeper.calls later.calls
+  pub held : MayBeMigrated keeper.held later.held
+  pub count : later.faults ≡ keeper.faults
+
+-- the same where its rows are asked
+pub record IsOnlyAsked (path : List ℕ) (keeper later : KeeperSeen) : Type 0 where
+  pub calls : MayBeAsked path keeper.calls later.calls
   pub held : later.held ≡ keeper.held
   pub count : later.faults ≡ keeper.faults
 

@@ -67,7 +67,7 @@ pub record ListsOver (directory : Directory) (token : List ℕ) (loaded : Texts)
   pub run : OffersRun directory token loaded events keeper later offers
   pub listing : text ≡ listing_of offers
 
--- the same of a server over a keeper that was bound to the store of the configuration and loaded first
+-- the same of a server over a keeper that was bound to the store of the configuration, migrated and loaded first
 pub record Lists (directory : Directory) (token : List ℕ) (events : List Event) (keeper later : KeeperSeen) (text : List ℕ) : Type 0 where
   pub loaded : Texts
   pub opening : KeeperSeen

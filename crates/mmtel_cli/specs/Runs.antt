@@ -25,7 +25,7 @@ use Rattle.mmtel_words.specs.CommandLine.{Asked, Serve, Replay, Check, Charges, 
 use Rattle.mmtel_cli.specs.Asks.{IsServe, IsReplay, IsCheck, IsCharges, IsWorkload, IsOnly, SpellsNone}
 use Rattle.mmtel_cli.specs.Due.{due_of_charges, due_of_config, shelf_of_config}
 use Rattle.mmtel_reports.specs.Ends.{Wrote, WroteListing, WroteNothing, line_text}
-use Rattle.mmtel_cli.specs.Keeping.{GivesRows, IsLoaded, IsNotLoaded, KeeperSeen}
+use Rattle.mmtel_cli.specs.Keeping.{GivesNoRows, GivesRows, IsLoaded, IsNotLoaded, KeeperSeen}
 use Rattle.mmtel_cli.specs.Listings.{OffersRun}
 use Rattle.mmtel_cli.specs.Serving.{LinkFails, LinkSeen, ServesLink}
 use Rattle.mmtel_cli.specs.Stopped.{HasStopped, StopsOfServe}
@@ -53,7 +53,7 @@ WroteLine line status before after faults now = Said (line_text line) 2 status b
 abbrev pub WroteFile : ℕ → Option (List ℕ) → Option (List ℕ) → ℕ → ℕ → Type 0
 WroteFile status before after faults now = Said (codes "file\n") 5 status before after faults now
 
--- a keeper that could not be bound, or not be loaded or not give its rows: status 6, and `keeper`
+-- a keeper that could not be bound, or not be migrated, not be loaded or not give its rows: status 6, and `keeper`
 abbrev pub WroteKeeper : ℕ → Option (List ℕ) → Option (List ℕ) → ℕ → ℕ → Type 0
 WroteKeeper status before after faults now = Said (codes "keeper\n") 6 status before after faults now
 
@@ -70,7 +70,7 @@ WroteFault line status before after faults now = Said line 3 status before after
 -- the run of these events was listed
 pub record Listed (directory : Directory) (token : List ℕ) (events : List Event) (keeper later : KeeperSeen) (status : ℕ)
     (before after : Option (List ℕ)) (faults now : ℕ) : Type 0 where
-  -- the keeper was bound to the store of the configuration and gave these texts,
+  -- the keeper was bound to the store of the configuration, migrated, and gave these texts,
   pub loaded : Texts
   pub opening : KeeperSeen
   pub opened : IsLoaded directory.store loaded keeper opening
@@ -91,7 +91,7 @@ pub record Listed (directory : Directory) (token : List ℕ) (events : List Even
 
 -- ---- how a run ends, by what the files answer
 
--- once the script was read: the run was listed, or the keeper could not be bound to the store of the configuration or not be loaded
+-- once the script was read: the run was listed, or the keeper could not be bound to the store of the configuration, not be migrated or not be loaded
 abbrev pub EndsOfEvents : Directory → List ℕ → Result (List Event) ℕ → (keeper later : KeeperSeen) → ℕ → Option (List ℕ) → Option (List ℕ) → ℕ → ℕ → Type 0
 EndsOfEvents directory token (Ok events) keeper later status before after faults now =
     Listed directory token events keeper later status before after faults now
@@ -139,7 +139,7 @@ pub record ListedRows (store : List ℕ) (keeper later : KeeperSeen) (status : �
 abbrev pub EndsOfStore : Result Directory ℕ → (keeper later : KeeperSeen) → ℕ → Option (List ℕ) → Option (List ℕ) → ℕ → ℕ → Type 0
 EndsOfStore (Ok directory) keeper later status before after faults now =
     ListedRows directory.store keeper later status before after faults now
-    ⊎ (IsNotLoaded directory.store keeper later × WroteKeeper status before after faults now)
+    ⊎ (GivesNoRows directory.store keeper later × WroteKeeper status before after faults now)
 EndsOfStore (Err line) keeper later status before after faults now = WroteLine line status before after faults now
 
 -- once the configuration was asked for
@@ -164,7 +164,7 @@ pub record ServedLink (directory : Directory) (token : List ℕ) (turns : ℕ) (
   pub serves : ServesLink directory token turns link far keeper later (Ok closed)
   pub written : WroteNothing status before after faults now
 
--- or the link could not be bound or not take in what comes next; or the keeper could not be bound to the store of the configuration or not be loaded
+-- or the link could not be bound or not take in what comes next; or the keeper could not be bound to the store of the configuration, not be migrated or not be loaded
 pub data EndsServing (directory : Directory) (token : List ℕ) (turns : ℕ) (link far : LinkSeen) (keeper later : KeeperSeen) (status : ℕ)
     (before after : Option (List ℕ)) (faults now : ℕ) : Type 0 where
   EndsServed : ServedLink directory token turns link far keeper later status before after faults now →

@@ -16,7 +16,7 @@ use Rattle.mmtel_uploads.specs.declared.uploads.Upload.TheVariants.{Accepted, Re
 use Rattle.mmtel_words.specs.CommandLine.{Asked}
 use Rattle.mmtel_cli.specs.Asks.{IsServe, IsReplay, IsCheck, IsCharges, IsWorkload, SpellsNone}
 use Rattle.mmtel_reports.specs.Ends.{WroteListing}
-use Rattle.mmtel_cli.specs.Keeping.{KeeperSeen, refuses}
+use Rattle.mmtel_cli.specs.Keeping.{KeeperSeen, refuses, refuses_rows}
 use Rattle.mmtel_cli.specs.Runs.{Counted, CountsAtFive, EndsOfUpload, Listed, ListedRows, Ran, ServedLink}
 use Rattle.mmtel_cli.specs.Due.{due_of_charges, due_of_config}
 use Rattle.mmtel_cli.specs.Serving.{LinkSeen}
@@ -32,9 +32,13 @@ pub record IsGood (shelf : Shelf) (words : List (List ℕ)) (asked : Asked) (dir
   pub script_there : answer_at (called shelf) asked.script ≡ Some script
   pub script_read : events_of directory.peers.known script ≡ Ok events
 
--- the keeper can be bound and loaded: it tells so, or its count of faults did not rise
+-- the keeper can be bound, migrated and loaded: it tells so, or its count of faults did not rise
 abbrev pub IsWilling : (keeper later : KeeperSeen) → Type 0
 IsWilling keeper later = ((calls : KeeperCalls) × (keeper.calls ≡ Some calls) × (refuses calls ≡ false)) ⊎ ¬ (Rose keeper.faults later.faults)
+
+-- and so it can be bound and give its rows
+abbrev pub IsWillingToGive : (keeper later : KeeperSeen) → Type 0
+IsWillingToGive keeper later = ((calls : KeeperCalls) × (keeper.calls ≡ Some calls) × (refuses_rows calls ≡ false)) ⊎ ¬ (Rose keeper.faults later.faults)
 
 -- of these, the run was listed: exactly what the definitions give, and with the secret kept; or memory ran out
 abbrev pub GoodOnesAreListed : Type 0
@@ -52,7 +56,7 @@ GoodOnesSucceed =
     IsGood shelf words asked directory events → IsWilling keeper later → Ran (Some shelf) link far keeper later words status before after faults now →
     ¬ (Rose faults now) → (status ≡ 0) ⊎ (status ≡ 8)
 
--- and where the keeper tells that it cannot be bound or not be loaded, the status is 6, or 8
+-- and where the keeper tells that it cannot be bound, not be migrated or not be loaded, the status is 6, or 8
 abbrev pub GoodOnesWantAKeeper : Type 0
 GoodOnesWantAKeeper =
     (shelf : Shelf) (link far : LinkSeen) (keeper later : KeeperSeen) (calls : KeeperCalls) (words : List (List ℕ)) (asked : Asked) (directory : Directory) (events : List Event)
@@ -87,7 +91,7 @@ abbrev pub RowsAreListed : Type 0
 RowsAreListed =
     (shelf : Shelf) (link far : LinkSeen) (keeper later : KeeperSeen) (words : List (List ℕ)) (directory : Directory)
     (status : ℕ) (before after : Option (List ℕ)) (faults now : ℕ) →
-    IsKept shelf words directory → IsWilling keeper later → Ran (Some shelf) link far keeper later words status before after faults now →
+    IsKept shelf words directory → IsWillingToGive keeper later → Ran (Some shelf) link far keeper later words status before after faults now →
     ListedRows directory.store keeper later status before after faults now ⊎ (status ≡ 8)
 
 -- and where the keeper tells that it cannot be bound or not give them, the status is 6, or 8
@@ -95,7 +99,7 @@ abbrev pub RowsWantAKeeper : Type 0
 RowsWantAKeeper =
     (shelf : Shelf) (link far : LinkSeen) (keeper later : KeeperSeen) (calls : KeeperCalls) (words : List (List ℕ)) (directory : Directory)
     (status : ℕ) (before after : Option (List ℕ)) (faults now : ℕ) →
-    IsKept shelf words directory → keeper.calls ≡ Some calls → refuses calls ≡ true → Ran (Some shelf) link far keeper later words status before after faults now →
+    IsKept shelf words directory → keeper.calls ≡ Some calls → refuses_rows calls ≡ true → Ran (Some shelf) link far keeper later words status before after faults now →
     (status ≡ 6) ⊎ (status ≡ 8)
 
 -- the words spell a `serve` whose configuration is there and of its grammar
@@ -115,7 +119,7 @@ GoodOnesAreServed =
     Ran (Some shelf) link far keeper later words status before after faults now →
     ServedLink directory token turns link far keeper later status before after faults now ⊎ (status ≡ 8)
 
--- where the keeper tells that it cannot be bound or not be loaded, the status is 6, or 8
+-- where the keeper tells that it cannot be bound, not be migrated or not be loaded, the status is 6, or 8
 abbrev pub ServingWantsAKeeper : Type 0
 ServingWantsAKeeper =
     (shelf : Shelf) (link far : LinkSeen) (keeper later : KeeperSeen) (calls : KeeperCalls) (words : List (List ℕ)) (directory : Directory) (token : List ℕ) (turns : ℕ)

@@ -97,7 +97,8 @@ pub record ServesRun (directory : Directory) (token : List ℕ) (loaded : Texts)
   pub seats : IsShortRun directory token loaded happened → SeatsAreChargedOnce directory token loaded happened
   pub clean : IsShortRun directory token loaded happened → SendsCleanMessages directory token loaded happened
 
--- the keeper was bound to the store of the configuration and gave these texts, then the link was bound to its addresses, each once, and this is what serving it came to
+-- the keeper was bound to the store of the configuration, migrated, and gave these texts, then the link was bound to its addresses, each once, and this is what serving it
+-- came to
 pub record ServesLink (directory : Directory) (token : List ℕ) (turns : ℕ) (link far : LinkSeen) (keeper later : KeeperSeen) (result : Result Bool DriveFault) : Type 0 where
   pub loaded : Texts
   pub opening : KeeperSeen

@@ -1,5 +1,5 @@
--- What had been done where memory ran out (status 8): nothing; or the keeper was bound and asked for what it holds, and no more; or the link was bound, and no more; or events
--- were taken, and what was given, asked, held and counted is that of those before the last one, and of what the last one makes of it a front.
+-- What had been done where memory ran out (status 8): nothing; or the keeper was bound, migrated and asked for what it holds, and no more; or the link was bound, and no more;
+-- or events were taken, and what was given, asked, held and counted is that of those before the last one, and of what the last one makes of it a front.
 use Rattle.std.specs.Prelude.{◌≡◌, ◌≤◌, ◌⊎◌, ℕ, List, ◌++◌, length, Option, Some, None, Result, Ok, Err}
 use Rattle.mmtel_directory.specs.Directory.{directory_of}
 use Rattle.mmtel_directory.specs.declared.directories.Directory.{Directory}
@@ -27,7 +27,7 @@ use Rattle.mmtel_types.specs.declared.addrs.Addr.{Addr}
 use Rattle.mmtel_types.specs.declared.numbers.Peer.{Peer}
 use Rattle.mmtel_cli.specs.Due as due
 use Rattle.mmtel_cli.specs.Due.{Due}
-use Rattle.mmtel_cli.specs.Keeping.{IsBoundStill, IsLoaded, IsOnlyOpened, KeeperSeen}
+use Rattle.mmtel_cli.specs.Keeping.{IsBoundStill, IsLoaded, IsOnlyAsked, IsOnlyOpened, KeeperSeen}
 use Rattle.mmtel_cli.specs.Listings.{HoldsAll, OffersRun}
 use Rattle.mmtel_cli.specs.Serving.{IsLinked, LinkSeen}
 
@@ -64,7 +64,7 @@ pub data StoppedOver (directory : Directory) (token : List ℕ) (loaded : Texts)
   StoppedWithin : StoppedRun directory token loaded events keeper later → StoppedOver directory token loaded events keeper later
   StoppedBehind : (offers : List Offer) → OffersRun directory token loaded events keeper later offers → StoppedOver directory token loaded events keeper later
 
--- the keeper was bound to the store of the configuration and gave these texts
+-- the keeper was bound to the store of the configuration, migrated, and gave these texts
 pub record StoppedLoaded (directory : Directory) (token : List ℕ) (events : List Event) (keeper later : KeeperSeen) : Type 0 where
   pub loaded : Texts
   pub opening : KeeperSeen
@@ -81,7 +81,7 @@ pub data StoppedReplay (directory : Directory) (token : List ℕ) (events : List
 
 -- before the keeper was asked anything; or it was bound and asked for its rows, and no more
 abbrev pub StoppedRows : (store : List ℕ) → (keeper later : KeeperSeen) → Type 0
-StoppedRows store keeper later = (later ≡ keeper) ⊎ IsOnlyOpened store keeper later
+StoppedRows store keeper later = (later ≡ keeper) ⊎ IsOnlyAsked store keeper later
 
 -- ---- by what is due, where no link is asked
 
@@ -131,7 +131,7 @@ pub record StoppedServing (directory : Directory) (token : List ℕ) (loaded : T
   pub seats : IsShortRun directory token loaded happened → SeatsAreChargedOnce directory token loaded happened
   pub clean : IsShortRun directory token loaded happened → SendsCleanMessages directory token loaded happened
 
--- the keeper was bound to the store of the configuration and gave these texts, and then the link was bound to its addresses
+-- the keeper was bound to the store of the configuration, migrated, and gave these texts, and then the link was bound to its addresses
 pub record StoppedLinked (directory : Directory) (token : List ℕ) (turns : ℕ) (link far : LinkSeen) (keeper later : KeeperSeen) : Type 0 where
   pub loaded : Texts
   pub opening : KeeperSeen

@@ -4,7 +4,7 @@ ghost use Rattle.mmtel_cli.specs.Due as due;
 ghost use Rattle.mmtel_cli.specs.Due.{due_of_charges};
 ghost use Rattle.mmtel_cli.specs.Found.{CountsFiles, IsDue, IsRead, Spares};
 ghost use Rattle.mmtel_cli.specs.Gives.{GivesCharges};
-ghost use Rattle.mmtel_cli.specs.Keeping.{GivesRows, IsNotLoaded, IsOnlyOpened, seen};
+ghost use Rattle.mmtel_cli.specs.Keeping.{GivesNoRows, GivesRows, IsOnlyAsked, seen};
 ghost use Rattle.mmtel_cli.specs.Listings.{ListsRows};
 ghost use Rattle.mmtel_keeper.specs.declared.keepers.KeepFault.TheVariants as fault;
 ghost use Rattle.mmtel_outside.specs.Shelf.{called};
@@ -21,9 +21,9 @@ use std::alloc::Global;
 fn rows_kept<K: Keeper>(alloc: Global, keeper: &mut K, store: &[u8]) -> Result<List<Row>, KeepFault>
     ensures given { IfOk result (λ rows. GivesRows store.now rows (seen (K.held keeper.old) (K.calls keeper.old) (K.faults keeper.old))
         (seen (K.held keeper.new) (K.calls keeper.new) (K.faults keeper.new))) }
-    ensures failed { IsErrOf result fault.Failed → IsNotLoaded store.now (seen (K.held keeper.old) (K.calls keeper.old) (K.faults keeper.old))
+    ensures failed { IsErrOf result fault.Failed → GivesNoRows store.now (seen (K.held keeper.old) (K.calls keeper.old) (K.faults keeper.old))
         (seen (K.held keeper.new) (K.calls keeper.new) (K.faults keeper.new)) }
-    ensures stopped { IsErrOf result fault.NoMemory → IsOnlyOpened store.now (seen (K.held keeper.old) (K.calls keeper.old) (K.faults keeper.old))
+    ensures stopped { IsErrOf result fault.NoMemory → IsOnlyAsked store.now (seen (K.held keeper.old) (K.calls keeper.old) (K.faults keeper.old))
         (seen (K.held keeper.new) (K.calls keeper.new) (K.faults keeper.new)) }
     ensures held { K.held keeper.new ≡ K.held keeper.old }
 {
@@ -35,9 +35,9 @@ fn rows_kept<K: Keeper>(alloc: Global, keeper: &mut K, store: &[u8]) -> Result<L
 fn rows_listed<K: Keeper>(alloc: Global, keeper: &mut K, store: &[u8]) -> Result<Text, KeepFault>
     ensures lists { IfOk result (λ text. ListsRows store.now (seen (K.held keeper.old) (K.calls keeper.old) (K.faults keeper.old))
         (seen (K.held keeper.new) (K.calls keeper.new) (K.faults keeper.new)) text) }
-    ensures failed { IsErrOf result fault.Failed → IsNotLoaded store.now (seen (K.held keeper.old) (K.calls keeper.old) (K.faults keeper.old))
+    ensures failed { IsErrOf result fault.Failed → GivesNoRows store.now (seen (K.held keeper.old) (K.calls keeper.old) (K.faults keeper.old))
         (seen (K.held keeper.new) (K.calls keeper.new) (K.faults keeper.new)) }
-    ensures stopped { IsErrOf result fault.NoMemory → IsOnlyOpened store.now (seen (K.held keeper.old) (K.calls keeper.old) (K.faults keeper.old))
+    ensures stopped { IsErrOf result fault.NoMemory → IsOnlyAsked store.now (seen (K.held keeper.old) (K.calls keeper.old) (K.faults keeper.old))
         (seen (K.held keeper.new) (K.calls keeper.new) (K.faults keeper.new)) }
     ensures held { K.held keeper.new ≡ K.held keeper.old }
 {

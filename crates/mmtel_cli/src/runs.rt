@@ -23,7 +23,7 @@ use mmtel_types::Account;
 use std::alloc::Global;
 use std::sync::ledger::Ledger;
 
-/// Binds a keeper to the place of that name, and loads what it holds there.
+/// Binds a keeper to the place of that name, has its old records give way to new ones, and loads what it holds there.
 pub fn open<K: Keeper>(
     alloc: Global,
     keeper: &mut K,
@@ -37,6 +37,7 @@ pub fn open<K: Keeper>(
         (seen (K.held keeper.new) (K.calls keeper.new) (K.faults keeper.new)) }
 {
     keeper.bind(alloc, store)?;
+    keeper.migrate(alloc)?;
     keeper.load(alloc)
 }
 
@@ -128,12 +129,12 @@ fn listed_over<K: Keeper, C: Ledger>(
     listing(alloc, &offers)
 }
 
-/// The listing of what a server of this configuration offers in the run of a script's events over a keeper, which is bound to the store of the configuration and loaded
-/// first. `token` begins the identifiers that the server draws.
+/// The listing of what a server of this configuration offers in the run of a script's events over a keeper, which is bound to the store of the configuration, migrated
+/// and loaded first. `token` begins the identifiers that the server draws.
 ///
 /// # Errors
 ///
-/// `Failed` where the keeper could not be bound or not be loaded, and else want of memory alone.
+/// `Failed` where the keeper could not be bound, not be migrated or not be loaded, and else want of memory alone.
 pub fn listed<K: Keeper, C: Ledger>(
     alloc: Global,
     directory: Directory,

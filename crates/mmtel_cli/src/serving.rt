@@ -122,7 +122,7 @@ fn over_loaded<L: Link, K: Keeper, C: Ledger>(
     }
 }
 
-/// What is due once the configuration was read: the keeper is bound to its store and loaded, the link is bound to its addresses, and then the turns are made.
+/// What is due once the configuration was read: the keeper is bound to its store, migrated and loaded, the link is bound to its addresses, and then the turns are made.
 fn over_directory<L: Link, K: Keeper, C: Ledger>(
     alloc: Global,
     directory: Directory,

@@ -258,18 +258,19 @@ fn prepare<F: Files, L: Link, K: Keeper, C: Ledger>(
 
 /// Runs the command that the words ask for over these files, this link and this keeper, writes what is due to the sink, and answers the status.
 ///
-/// `words` are those behind the program's own name. There are five commands. `serve CONFIG --token T --turns N` reads the configuration once, binds the keeper to its store and
-/// loads it, each once, binds the link to its addresses, and then hears the link, in at most N turns, and gives it what the server offers then; records that are uploaded are
-/// kept by the keeper, and the charging rows of its calls and rooms are handed to it; it writes nothing. `replay CONFIG SCRIPT --token T` reads the configuration and then the
-/// script, each once, binds the keeper to the store of the configuration and loads it, each once, and writes the listing of what the server offers in the script's run, with
-/// records and rows as there. `check RECORDS` reads that file once, and writes `ok` where it is a service record, and else the line that tells its first fault. `charges CONFIG`
-/// reads the configuration once, binds the keeper to its store and asks for its rows, each once, and writes them as comma-separated values with a header line. `workload
-/// --calls N --salt S` makes N calls by a rule over a link and a keeper in memory, and writes how many they were, how much the server offered, and how many rows the keeper holds
-/// and how many of them are of a diversion. The status is 0 where the turns were made or the link was closed, or the listing, `ok`, the rows or the numbers were written whole,
-/// 1 where the words are not of the grammar (`usage`), 2 where the configuration, or else the script, breaks its grammar (`line N`), 3 where the file that is checked is no
-/// service record (`not toml`, `unknown KEY`, `wrong KEY` or `many KEY LIMIT`), 4 where the link cannot be bound, or not take in what comes next (`link`), 5 where the
-/// configuration, or else the script, or the file that is checked cannot be read (`file`), 6 where the keeper cannot be bound, or not be loaded or not give its rows
-/// (`keeper`), 7 where the sink failed before that was whole, and 8 for want of memory (`memory`).
+/// `words` are those behind the program's own name. There are five commands. `serve CONFIG --token T --turns N` reads the configuration once, binds the keeper to its store,
+/// has it put records of the second version in the place of those of the first, and loads it, each once, binds the link to its addresses, and then hears the link, in at most
+/// N turns, and gives it what the server offers then; records that are uploaded are kept by the keeper, and the charging rows of its calls and rooms are handed to it; it
+/// writes nothing. `replay CONFIG SCRIPT --token T` reads the configuration and then the script, each once, binds the keeper to the store of the configuration, has its old
+/// records replaced so and loads it, each once, and writes the listing of what the server offers in the script's run, with records and rows as there. `check RECORDS` reads
+/// that file once, and writes `ok` where it is a service record, and else the line that tells its first fault. `charges CONFIG` reads the configuration once, binds the keeper
+/// to its store and asks for its rows, each once, and writes them as comma-separated values with a header line. `workload --calls N --salt S` makes N calls by a rule over a
+/// link and a keeper in memory, and writes how many they were, how much the server offered, and how many rows the keeper holds and how many of them are of a diversion. The
+/// status is 0 where the turns were made or the link was closed, or the listing, `ok`, the rows or the numbers were written whole, 1 where the words are not of the grammar
+/// (`usage`), 2 where the configuration, or else the script, breaks its grammar (`line N`), 3 where the file that is checked is no service record (`not toml`, `unknown KEY`,
+/// `wrong KEY` or `many KEY LIMIT`), 4 where the link cannot be bound, or not take in what comes next (`link`), 5 where the configuration, or else the script, or the file
+/// that is checked cannot be read (`file`), 6 where the keeper cannot be bound, or not replace its old records, not be loaded or not give its rows (`keeper`), 7 where the
+/// sink failed before that was whole, and 8 for want of memory (`memory`).
 pub fn run<F: Files, L: Link, K: Keeper, S: Sink>(
     alloc: Global,
     words: &[Text],
@@ -279,11 +280,12 @@ pub fn run<F: Files, L: Link, K: Keeper, S: Sink>(
     out: &mut S,
 ) -> u8
     // What was written and answered: by the words as their grammar spells them, which are of one command at most, and by what the files answered. Of `serve` and `replay`: the
-    // link was given, or the listing has, exactly the offers that the definitions of the run give over what the keeper gave, which keep the secret of restricted callers, with
-    // what the keeper holds then, the charging rows of the calls and of the seats of conference rooms, and what each call came to; or the keeper could not be bound to the
-    // store of the configuration or not be loaded; or the link could not be bound or not take in what comes next. Of the others: what a text that was checked is; the text of
-    // exactly the charging rows that the keeper gave, or that it could not be bound or not give them; the numbers of exactly what a server makes of so many calls by the salt,
-    // whose messages are known from these two. Or it is the text of another status; and where memory ran out, what had been done by then: of the last event a front at most.
+    // link was given, or the listing has, exactly the offers that the definitions of the run give over what the keeper gave, which is what it held with each record of the
+    // first version replaced by one of the second that says the same; these keep the secret of restricted callers, with what the keeper holds then, the charging rows of the
+    // calls and of the seats of conference rooms, and what each call came to; or the keeper could not be bound to the store of the configuration, not replace its old records
+    // or not be loaded; or the link could not be bound or not take in what comes next. Of the others: what a text that was checked is; the text of exactly the charging rows
+    // that the keeper gave, or that it could not be bound or not give them; the numbers of exactly what a server makes of so many calls by the salt, whose messages are known
+    // from these two. Or it is the text of another status; and where memory ran out, what had been done by then: of the last event a front at most.
     ensures ran { Ran (F.told files.old)
         (line_seen (L.ear link.old) (L.given link.old) (L.calls link.old) (L.taking link.old) (L.giving link.old))
         (line_seen (L.ear link.new) (L.given link.new) (L.calls link.new) (L.taking link.new) (L.giving link.new))

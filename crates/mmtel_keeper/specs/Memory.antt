@@ -1,8 +1,11 @@
 -- The keeper in memory, as contracts see it.
-use Rattle.std.specs.Prelude.{◌≡◌, ℕ, true, false, Ok, Err}
+use Rattle.std.specs.Prelude.{◌≡◌, ◌<◌, ℕ, List, [], ◌∷◌, true, false, Ok, Err, All, length}
 use Rattle.std.specs.declared.result.Result.{Result}
+use Rattle.mmtel_types.specs.declared.numbers.Account.{Account}
 use Rattle.mmtel_scan.specs.Numbers.{next_number}
+use Rattle.mmtel_sheet_texts.specs.Texts.{set_text}
 use Rattle.mmtel_keeper.specs.Kept.{Held, KeeperCalls, fails_next, called}
+use Rattle.mmtel_keeper.specs.Migration.{AreMigrated, old_ones}
 use Rattle.mmtel_keeper.specs.declared.keepers.KeepFault.{KeepFault}
 use Rattle.mmtel_keeper.specs.declared.keepers.KeepFault.TheVariants.{Failed, NoMemory}
 
@@ -20,3 +23,18 @@ Begins before after (Ok x) = (fails_next before.calls ≡ false) × (after ≡ r
 Begins before after (Err Failed) =
     (fails_next before.calls ≡ true) × (after ≡ record before { calls = called before.calls; faults = next_number before.faults })
 Begins before after (Err NoMemory) = ⊥
+
+-- the sheets with these texts at their places, from the last text to the first
+abbrev pub set_all : List (ℕ × List ℕ) → List (Account × List ℕ) → List (Account × List ℕ)
+set_all [] sheets = sheets
+set_all (new ∷ more) sheets = set_text (set_all more sheets) new.0 new.1
+
+-- each of these texts has its place among so many sheets
+abbrev pub AreWithin : ℕ → List (ℕ × List ℕ) → Type 0
+AreWithin many found = All (λ new. new.0 < many) found
+
+-- texts with their places, one for each record of the first version, which it gives way to
+pub record AreReplacements (sheets : List (Account × List ℕ)) (found : List (ℕ × List ℕ)) : Type 0 where
+  pub migrated : AreMigrated sheets (set_all found sheets)
+  pub many : length found ≡ old_ones sheets
+  pub within : AreWithin (length sheets) found

@@ -2,6 +2,7 @@
 ghost use Rattle.std.specs.Prelude.{◌≡◌, ℕ, Option};
 ghost use Rattle.mmtel_keeper.specs.Causes.{HasKeepCause};
 ghost use Rattle.mmtel_keeper.specs.Kept.{Held, KeeperCalls, IsCall, IsBind, Becomes, Tells, with_sheet, with_rows};
+ghost use Rattle.mmtel_keeper.specs.Migration.{Migrates};
 
 use mmtel_charging::Row;
 use mmtel_scan::{List, NoMemory, Text};
@@ -38,6 +39,16 @@ pub trait Keeper {
     fn bind(&mut self, alloc: Global, path: &[u8]) -> Result<(), KeepFault>
         ensures same { held self.new ≡ held self.old }
         ensures calls { IsBind (calls self.old) (calls self.new) path.now result }
+        ensures cause { HasKeepCause (faults self.old) (faults self.new) result };
+
+    /// Puts in the place of each text that is a record of the first version one of the second that says the same; every other stays. Answers how many were replaced.
+    ///
+    /// # Errors
+    ///
+    /// As of `bind`; nothing is replaced then.
+    fn migrate(&mut self, alloc: Global) -> Result<u64, KeepFault>
+        ensures migrated { Migrates (held self.old) (held self.new) result }
+        ensures calls { IsCall (calls self.old) (calls self.new) result }
         ensures cause { HasKeepCause (faults self.old) (faults self.new) result };
 
     /// The sheets that it holds: each account that has one, and its text.

@@ -3,6 +3,8 @@
 
 mod keepers;
 mod memory;
+mod migration;
 
 pub use keepers::{KeepFault, Keeper};
 pub use memory::MemoryKeeper;
+pub use migration::migrated;

@@ -1,8 +1,9 @@
 //! A keeper in memory.
 ghost use Rattle.std.specs.Prelude.{◌≡◌, ◌++◌, ◌==◌, ◌<◌, [], length, position, Some, None, IfOk, IfSome, OnOk, OnErr};
-ghost use Rattle.mmtel_keeper.specs.Memory.{Begins};
+ghost use Rattle.mmtel_keeper.specs.Memory.{Begins, AreReplacements, AreWithin, set_all};
 
 use crate::keepers::{KeepFault, Keeper};
+use crate::migration::migrated;
 use mmtel_charging::Row;
 use mmtel_outside::fails_by_number;
 use mmtel_scan::{List, NoMemory, Text};
@@ -103,6 +104,32 @@ fn copy_rows(alloc: Global, rows: &[Row]) -> Result<List<Row>, NoMemory>
     Ok(copied)
 }
 
+/// The texts that stand in the place of records of the first version, each with its place among the sheets.
+fn replacements(alloc: Global, sheets: &[(Account, Text)]) -> Result<List<(usize, Text)>, NoMemory>
+    ensures replaced { IfOk result (AreReplacements sheets.now) }
+{
+    let mut found = List::new();
+    let mut at: usize = 0;
+    for sheet in sheets {
+        if let Some(text) = migrated(alloc, sheet.1.bytes())? {
+            found.push(alloc, (at, text))?;
+        }
+        at += 1;
+    }
+    Ok(found)
+}
+
+/// Puts each text in its place. It takes no memory.
+fn put_all(sheets: &mut SheetTexts, found: List<(usize, Text)>)
+    requires { AreWithin (length sheets.old.texts) found }
+    ensures put { sheets.new.texts ≡ set_all found sheets.old.texts }
+{
+    let mut found = found;
+    'found: while let Some((at, text)) = found.pop() {
+        sheets.set(at, text);
+    }
+}
+
 impl MemoryKeeper {
     /// A keeper of no sheets and no rows. The calls whose numbers, counted from 1, are in `failing` fail.
     pub fn new(failing: List<u64>) -> MemoryKeeper
@@ -148,6 +175,14 @@ impl Keeper for MemoryKeeper {
         let path = Text::of(alloc, path)?;
         self.path = Some(path);
         Ok(())
+    }
+
+    fn migrate(&mut self, alloc: Global) -> Result<u64, KeepFault> {
+        self.begin()?;
+        let found = replacements(alloc, self.sheets.items())?;
+        let count = found.items().len() as u64;
+        put_all(&mut self.sheets, found);
+        Ok(count)
     }
 
     fn load(&mut self, alloc: Global) -> Result<List<(Account, Text)>, KeepFault> {

@@ -87,6 +87,7 @@ module _ (d : Directory) (token : List ℕ) (before out : List Offer) (s : Serve
         sip = ap (λ (t : Site). t.sip) site_left i;
         home = ap (λ (t : Site). t.home) site_left i;
         bound = ap (λ (t : Site). t.bound) site_left i;
+        country = ap (λ (t : Site). t.country) site_left i;
         table = table_left i;
         has_failed = stand_left.works i;
       }

@@ -16,7 +16,14 @@ use Rattle.mmtel_transaction.specs.Stands as transactions
 
 -- the calls of a server of this configuration
 abbrev pub calls_of : Directory → World → CallsView
-calls_of directory world = record { sip = directory.sip; home = directory.home; bound = directory.bound; table = calls_in directory world; has_failed = false }
+calls_of directory world = record {
+  sip = directory.sip;
+  home = directory.home;
+  bound = directory.bound;
+  country = directory.country;
+  table = calls_in directory world;
+  has_failed = false;
+}
 
 -- and its rooms
 abbrev pub rooms_of : Directory → World → RoomsView

@@ -1,12 +1,11 @@
 -- A sheet is put where its account stands first, or behind the others.
-use Rattle.std.proofs.Common.{◌≡◌, Bool, true, false, ℕ, suc, ◌+◌, ◌==◌, List, [], ◌∷◌, ◌++◌, length, Option, Some, None, refl, ap, subst, nat_lt, slice_set, arith, inl, inr}
+use Rattle.std.proofs.Common.{◌≡◌, Bool, ℕ, zero, suc, ◌+◌, ◌==◌, List, [], ◌∷◌, ◌++◌, Option, Some, None, refl, ap, subst, slice_set, get_or, arith, inl, inr}
 use Rattle.std.proofs.lemmas.Bool.{cases_Bool}
 use Rattle.std.specs.Prelude.{position}
 use Rattle.std.specs.Option.{option_map}
-use Rattle.std.proofs.lemmas.Bool.Decides.{nat_tests}
 use Rattle.mmtel_scan.proofs.Positions.{position_yes, position_no}
 use Rattle.mmtel_types.specs.declared.numbers.Account.{Account}
-use Rattle.mmtel_sheet_texts.specs.Texts.{put}
+use Rattle.mmtel_sheet_texts.specs.Texts.{put, set_text}
 
 same_some : (a b : ℕ) → Some a ≡ Some b → a ≡ b
 same_some a b e = cc
@@ -44,3 +43,8 @@ put_behind account text (s ∷ ss) e =
           let f = unmapped (position (is_its account) ss) (rw (position_no (is_its account) s ss other) at e) in
           rw (other, put_behind account text ss f) refl
     ]
+
+pub set_there : (sheets : List (Account × List ℕ)) (at : ℕ) (text : List ℕ) (s : Account × List ℕ) → s ≡ get_or sheets at s → slice_set sheets at (s.0, text) ≡ set_text sheets at text
+set_there [] at text s is = refl
+set_there (x ∷ xs) zero text s is = ap (λ (y : Account × List ℕ). (y.0, text) ∷ xs) is
+set_there (x ∷ xs) (suc at) text s is = ap (λ (l : List (Account × List ℕ)). x ∷ l) (set_there xs at text s is)

@@ -1,5 +1,5 @@
 -- The texts of service records by account: each account once, in the order in which each first had one.
-use Rattle.std.specs.Prelude.{ℕ, ◌==◌, List, [], ◌∷◌, if◌then◌else◌, Some, None}
+use Rattle.std.specs.Prelude.{ℕ, zero, suc, ◌==◌, List, [], ◌∷◌, if◌then◌else◌, Some, None}
 use Rattle.std.specs.declared.option.Option.{Option}
 use Rattle.mmtel_types.specs.declared.numbers.Account.{Account}
 
@@ -8,6 +8,12 @@ abbrev pub put : Account → List ℕ → List (Account × List ℕ) → List (A
 put account text [] = (account, text) ∷ []
 put account text (entry ∷ texts) =
     if entry.0.0 == account.0 then (account, text) ∷ texts else entry ∷ put account text texts
+
+-- the texts with this text in the place of the one that stands there
+abbrev pub set_text : List (Account × List ℕ) → ℕ → List ℕ → List (Account × List ℕ)
+set_text [] at text = []
+set_text (entry ∷ texts) zero text = (entry.0, text) ∷ texts
+set_text (entry ∷ texts) (suc at) text = entry ∷ set_text texts at text
 
 -- the text of the account
 abbrev pub text_at : List (Account × List ℕ) → Account → Option (List ℕ)

@@ -2,7 +2,7 @@
 ghost use Rattle.std.specs.Prelude.{◌≡◌, ◌==◌, ◌<◌, [], length, position, IfSome, OnOk, OnErr};
 ghost use Rattle.std.specs.Option.{option_copied};
 ghost use Rattle.std.specs.Vec.{vec_capacity, vec_len};
-ghost use Rattle.mmtel_sheet_texts.specs.Texts.{put, text_at};
+ghost use Rattle.mmtel_sheet_texts.specs.Texts.{put, set_text, text_at};
 
 use mmtel_scan::{NoMemory, Text};
 use mmtel_types::Account;
@@ -116,6 +116,17 @@ impl SheetTexts {
         self.reserve(alloc)?;
         self.replace(a, text);
         Ok(())
+    }
+
+    /// Puts another text in the place of the one that stands there. It takes no memory.
+    pub fn set(&mut self, at: usize, text: Text)
+        requires { at < length self.old.texts }
+        ensures set { self.new ≡ record self.old { texts = set_text self.old.texts at text } }
+    {
+        match &mut self.kept {
+            Some(kept) => kept[at].1 = text,
+            None => unreachable!(),
+        }
     }
 
     /// The text of the account; None where it has none. It takes no memory.

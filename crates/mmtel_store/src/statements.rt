@@ -4,6 +4,7 @@ ghost use Rattle.sqlite.specs.Values.{or_null};
 ghost use Rattle.sqlite_value.specs.Order.{column};
 ghost use Rattle.sqlite_value.specs.Value.{owned};
 ghost use Rattle.sqlite_value.specs.declared.value.Value.TheVariants as value;
+ghost use Rattle.mmtel_keeper.specs.Migration.{is_old, old_ones};
 ghost use Rattle.mmtel_store.specs.Columns.{IsOutOfMemory, IsRow, IsSheet, kind_number, nine_of, number, row_columns, sheet_columns, two_of};
 ghost use Rattle.mmtel_charging.specs.declared.rows.Kind.{Kind as TheKind};
 ghost use Rattle.mmtel_types.specs.Causes.{status_of, word_of};
@@ -12,6 +13,7 @@ ghost use Rattle.mmtel_types.specs.declared.causes.Cause.{Cause as TheCause};
 
 use crate::values::{cause_of, kind_number, kind_of, millis, no_memory, unreadable};
 use mmtel_charging::{Kind, Row};
+use mmtel_keeper::migrated;
 use mmtel_scan::{List, Text, add_number, plain_number};
 use mmtel_types::{Account, CallNo, Cause, Moment};
 use sqlite::types::{ToSql, ValueRef};
@@ -268,6 +270,69 @@ fn rows<S: Alter>(alloc: Global, conn: &mut Connection<S>) -> Result<List<Row>, 
     rows_of(alloc, found.as_slice())
 }
 
+/// Puts a record of the second version in the place of one of the first; says whether the text was one.
+fn migrate_sheet<S: Alter>(
+    alloc: Global,
+    tx: &mut Transaction<'_, S>,
+    account: Account,
+    text: &[u8],
+) -> Result<bool, Error>
+    ensures old { IfOk result (λ replaced. replaced ≡ is_old (account, text.now)) }
+{
+    match migrated(alloc, text) {
+        Err(_) => Err(no_memory()),
+        Ok(None) => Ok(false),
+        Ok(Some(body)) => {
+            let done = tx.execute(
+                "UPDATE sheets SET body = ?2 WHERE account = ?1",
+                &sheet_columns(account, body.bytes()),
+            );
+            drop(body);
+            let _count = done?;
+            Ok(true)
+        }
+    }
+}
+
+/// Does so with each of these; gives how many were of the first version.
+fn migrate_each<S: Alter>(
+    alloc: Global,
+    tx: &mut Transaction<'_, S>,
+    sheets: &[(Account, Text)],
+) -> Result<u64, Error>
+    ensures many { IfOk result (λ count. count ≡ old_ones sheets.now) }
+{
+    let mut count: u64 = 0;
+    for sheet in sheets {
+        if migrate_sheet(alloc, tx, sheet.0, sheet.1.bytes())? {
+            count += 1;
+        }
+    }
+    Ok(count)
+}
+
+/// Does so with each record that the transaction finds.
+fn migrate_found<S: Alter>(alloc: Global, tx: &mut Transaction<'_, S>) -> Result<u64, Error> {
+    let found = tx.query_all("SELECT account, body FROM sheets ORDER BY account", &[])?;
+    let sheets = sheets_of(alloc, found.as_slice());
+    drop(found);
+    let sheets = sheets?;
+    let count = migrate_each(alloc, tx, sheets.items());
+    drop(sheets);
+    count
+}
+
+/// Does so with each record, all or none, and finds them, in one transaction.
+fn migrate<S: Alter>(alloc: Global, conn: &mut Connection<S>) -> Result<u64, Error> {
+    if !conn.is_autocommit() {
+        return Err(Error::SqliteFailure(ErrorCode::TransactionState));
+    }
+    let mut tx = conn.transaction();
+    let count = migrate_found(alloc, &mut tx)?;
+    tx.commit()?;
+    Ok(count)
+}
+
 /// What is to be done in the database.
 #[derive(Clone, Copy)]
 pub enum Task<'a> {
@@ -275,6 +340,8 @@ pub enum Task<'a> {
     Make,
     /// Put a sheet in the place of the account's.
     Store(Account, &'a [u8]),
+    /// Put a record of the second version in the place of each of the first.
+    Migrate,
     /// Give the sheets.
     Load,
     /// Add rows.
@@ -288,6 +355,8 @@ pub enum Task<'a> {
 pub enum Done {
     /// It was changed.
     Changed,
+    /// So many records gave way to others.
+    Migrated(u64),
     /// Its sheets.
     Sheets(List<(Account, Text)>),
     /// Its rows.
@@ -309,6 +378,7 @@ pub fn perform<S: Alter>(
             put_sheet(conn, account, body)?;
             Ok(Done::Changed)
         }
+        Task::Migrate => Ok(Done::Migrated(migrate(alloc, conn)?)),
         Task::Load => Ok(Done::Sheets(sheets(alloc, conn)?)),
         Task::AddRows(added) => {
             add_rows(alloc, conn, added)?;

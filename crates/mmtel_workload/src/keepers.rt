@@ -47,6 +47,10 @@ impl Keeper for WorkKeeper {
         self.keeper.bind(alloc, path)
     }
 
+    fn migrate(&mut self, alloc: Global) -> Result<u64, KeepFault> {
+        self.keeper.migrate(alloc)
+    }
+
     fn load(&mut self, alloc: Global) -> Result<List<(Account, Text)>, KeepFault> {
         self.keeper.load(alloc)
     }

@@ -174,7 +174,7 @@ impl Server {
         ensures err { OnErr result ((first : Chosen) → first_armed now (queue_of self.old.armed) ≡ Some first →
             Breaks self.old out.old out.new (λ d token. struck d token first.first first.others)) }
     {
-        match self.armed.take(now.ms()) {
+        match self.armed.take(now.ms(), steps) {
             None => Ok(()),
             Some(armed) => self.sound(alloc, armed.alarm, moment_by(armed.at, now), out, steps),
         }

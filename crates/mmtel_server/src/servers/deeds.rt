@@ -145,13 +145,18 @@ impl Server {
     }
 
     /// Arms a deadline, in this step.
-    fn arm(&mut self, alarm: Alarm, at: u64) -> Result<(), NoMemory>
+    fn arm<L: Ledger>(
+        &mut self,
+        alarm: Alarm,
+        at: u64,
+        steps: &mut Steps<L>,
+    ) -> Result<(), NoMemory>
         ensures done { OnOk result ((out : List Offer) →
             Follows self.old out self.new out (λ d token world. arming (record { alarm = alarm_in alarm; at = at; step = world.steps - 1 }) world)) }
         ensures calls { self.new.calls ≡ self.old.calls }
     {
         let step = self.steps.saturating_sub(1);
-        self.armed.arm(Armed { alarm, at, step })
+        self.armed.arm(Armed { alarm, at, step }, steps)
     }
 
     /// Does what a layer wants done.
@@ -181,7 +186,7 @@ impl Server {
                     call: *call,
                     what: *what,
                 };
-                self.arm(alarm, *when)
+                self.arm(alarm, *when, steps)
             }
             Emit::ArmSeat {
                 room,
@@ -194,7 +199,7 @@ impl Server {
                     seat: *seat,
                     what: *what,
                 };
-                self.arm(alarm, *when)
+                self.arm(alarm, *when, steps)
             }
         }
     }

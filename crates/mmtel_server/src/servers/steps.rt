@@ -60,15 +60,33 @@ fn later(clock: Moment, moment: Moment) -> Moment
     }
 }
 
+/// The digits of the home country once more.
+fn country_copied(alloc: Global, country: &Option<Text>) -> Result<Option<Text>, NoMemory>
+    ensures { IfOk result (λ digits. digits ≡ country.now) }
+{
+    match country {
+        None => Ok(None),
+        Some(digits) => Ok(Some(digits.copied(alloc)?)),
+    }
+}
+
 /// No calls and no rooms yet, of a server of this configuration.
 fn none_yet(alloc: Global, directory: &Directory) -> Result<(Calls, Rooms), NoMemory>
     requires { directory.now.bound ≤ 16 }
     ensures calls { IfOk result (λ made. made.0
-        ≡ record { sip = directory.now.sip; home = directory.now.home; bound = directory.now.bound; table = no_calls; has_failed = false }) }
+        ≡ record {
+          sip = directory.now.sip;
+          home = directory.now.home;
+          bound = directory.now.bound;
+          country = directory.now.country;
+          table = no_calls;
+          has_failed = false;
+        }) }
     ensures rooms { IfOk result (λ made. made.1 ≡ record { sip = directory.now.sip; mixer = directory.now.mixer; table = no_rooms; has_failed = false }) }
 {
     let home = directory.home.copied(alloc)?;
-    let calls = Calls::new(alloc, home, directory.sip, directory.bound)?;
+    let country = country_copied(alloc, &directory.country)?;
+    let calls = Calls::new(alloc, home, directory.sip, directory.bound, country)?;
     match Rooms::new(alloc, directory.mixer, directory.sip) {
         Ok(rooms) => Ok((calls, rooms)),
         Err(error) => {

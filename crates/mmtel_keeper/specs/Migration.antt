@@ -1,0 +1,52 @@
+-- Records of the first version give way to records of the second that say the same (3GPP TS 24.623 §5).
+use Rattle.std.specs.Prelude.{◌≡◌, ℕ, ◌∷◌, [], List, Bool, Some, None, Ok, Err, is_some, count_by}
+use Rattle.std.specs.declared.option.Option.{Option}
+use Rattle.std.specs.declared.result.Result.{Result}
+use Rattle.mmtel_types.specs.declared.numbers.Account.{Account}
+use Rattle.mmtel_sheet_grammar.specs.Texts.{old_sheet, sheet_read, version_read}
+use Rattle.mmtel_sheet_grammar.specs.declared.keys.Version.TheVariants as version
+use Rattle.mmtel_sheet_values.specs.declared.values.Sheet.{Sheet}
+use Rattle.mmtel_keeper.specs.Kept.{Held}
+use Rattle.mmtel_keeper.specs.declared.keepers.KeepFault.{KeepFault}
+
+-- a record of the second version that reads as this sheet
+pub record IsSecond (sheet : Sheet) (text : List ℕ) : Type 0 where
+  pub sheet_is : sheet_read text ≡ Ok sheet
+  pub version_is : version_read text ≡ Ok version.Two
+
+-- what stands in the place of a text, by the sheet of the record of the first version that it is: any other text stays
+abbrev pub Replaces : (old : Option Sheet) → (before after : List ℕ) → Type 0
+Replaces None before after = after ≡ before
+Replaces (Some sheet) before after = IsSecond sheet after
+
+abbrev pub IsMigrated : (before after : List ℕ) → Type 0
+IsMigrated before after = Replaces (old_sheet before) before after
+
+-- the same accounts in the same order
+abbrev pub AreMigrated : (before after : List (Account × List ℕ)) → Type 0
+AreMigrated [] [] = Unit {0}
+AreMigrated [] (y ∷ ys) = ⊥
+AreMigrated (x ∷ xs) [] = ⊥
+AreMigrated (x ∷ xs) (y ∷ ys) = (y.0 ≡ x.0) × IsMigrated x.1 y.1 × AreMigrated xs ys
+
+-- how many are records of the first version
+abbrev pub is_old : Account × List ℕ → Bool
+is_old x = is_some (old_sheet x.1)
+
+abbrev pub old_ones : List (Account × List ℕ) → ℕ
+old_ones sheets = count_by is_old sheets
+
+-- the sheets that were held, each of the first version replaced, and the rows as they were
+pub record IsHeldMigrated (before after : Held) : Type 0 where
+  pub sheets : AreMigrated before.sheets after.sheets
+  pub rows : after.rows ≡ before.rows
+
+-- so, and as many are answered as were replaced
+abbrev pub MigratesTo : Held → Option Held → Result ℕ KeepFault → Type 0
+MigratesTo held after (Ok n) = (later : Held) × (after ≡ Some later) × IsHeldMigrated held later × (n ≡ old_ones held.sheets)
+MigratesTo held after (Err e) = after ≡ Some held
+
+-- where it is told; a call that answers a fault changes nothing
+abbrev pub Migrates : Option Held → Option Held → Result ℕ KeepFault → Type 0
+Migrates None after result = after ≡ None
+Migrates (Some held) after result = MigratesTo held after result

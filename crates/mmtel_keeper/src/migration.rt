@@ -1,0 +1,27 @@
+//! Records of the first version give way to records of the second that say the same.
+ghost use Rattle.std.specs.Prelude.{IfOk, IfSome, Some, is_some, ◌≡◌};
+ghost use Rattle.mmtel_keeper.specs.Migration.{IsMigrated};
+ghost use Rattle.mmtel_sheet_grammar.specs.Texts.{old_sheet};
+
+use mmtel_scan::{NoMemory, Text};
+use mmtel_sheets::{print_sheet, read_old_sheet};
+use std::alloc::Global;
+
+/// The record of the second version that stands in the place of a record of the first; None where the text is none, which then stays.
+///
+/// # Errors
+///
+/// Want of memory alone.
+pub fn migrated(alloc: Global, text: &[u8]) -> Result<Option<Text>, NoMemory>
+    ensures replaced { IfOk result (λ new. IfSome new (λ after. IsMigrated text.now after)) }
+    ensures old { IfOk result (λ new. is_some new ≡ is_some (old_sheet text.now)) }
+{
+    match read_old_sheet(alloc, text)? {
+        None => Ok(None),
+        Some(sheet) => {
+            let printed = print_sheet(alloc, &sheet);
+            drop(sheet);
+            Ok(Some(printed?))
+        }
+    }
+}

@@ -12,7 +12,7 @@ use mmtel_scan::{part, plain_number, skip_text};
 use mmtel_told::cut;
 use std::alloc::Global;
 
-/// The keeper is bound by its first call, and loaded, or asked for its rows, by its second. The link is bound by its first call; each event takes one call, reading a web
+/// The keeper is bound by its first call; it is migrated by its second, and loaded by its third, or asked for its rows by its second. The link is bound by its first call; each event takes one call, reading a web
 /// connection one more, and each datagram or reply that it is given one. What comes first decides: the words, the configuration, the script, the keeper, the link, the sink.
 const FAILING: &[u8] =
     br#"~ serve: Erin calls bob, the operator reads the charges, and the INVITE is sent again, since nobody answered. The link's calls 2, 5, 8 and 10 take in.
@@ -36,8 +36,9 @@ HTTP/1.1 200 OK
 =reads:2;/0/+4;
 =keeps:1;/6/keeper;
 =keeps:2;/6/keeper;
-=keeps:3;/0/+3;HTTP/1.1 503 Service Unavailable;
-=keeps:4;/0/+4;
+=keeps:3;/6/keeper;
+=keeps:4;/0/+3;HTTP/1.1 503 Service Unavailable;
+=keeps:5;/0/+4;
 =link:1;/4/link;
 =link:2;/4/link;
 =link:3;/0/5071 lost SIP/2.0 100 Trying;5072 INVITE sip:bob@far.example SIP/2.0;5072 INVITE sip:bob@far.example SIP/2.0;HTTP/1.1 200 OK;
@@ -59,8 +60,8 @@ HTTP/1.1 200 OK
 =reads:1;=keeps:1;=link:1;/5/file;
 =keeps:1;=link:1;/6/keeper;
 =keeps:2;=link:1 2;=room:0;/6/
-=keeps:3;=link:2;/4/link;
-=keeps:3;=link:8;/4/link;+2;HTTP/1.1 503 Service Unavailable;
+=keeps:4;=link:2;/4/link;
+=keeps:4;=link:8;/4/link;+2;HTTP/1.1 503 Service Unavailable;
 ~ serve: the first turn alone.
 =words:serve|server.cfg|--token|0123456789abcdef|--turns|1
 =link:
@@ -74,7 +75,7 @@ at 10 web|GET /charges HTTP/1.1|X-3GPP-Asserted-Identity: "sip:op@home.example"|
 /0/+2;
 =link:2;/4/link;
 =link:5;/0/+2;
-=keeps:3;/0/+2;
+=keeps:4;/0/+2;
 ~ replay: the same of a script. No link is asked.
 =link:
 at 0 peer 1|INVITE sip:bob@far.example SIP/2.0|Via: SIP/2.0/UDP 127.0.0.1:5071;branch=z9hG4bKa1|Max-Forwards: 68|From: "Erin" <sip:erin@other.example>;tag=a
@@ -98,8 +99,9 @@ x6b696e642c6163636f756e742c63616c6c2c626567616e2c616e7377657265642c656e6465642c6
 =reads:3;/0/+99;
 =keeps:1;/6/keeper;
 =keeps:2;/6/keeper;
-=keeps:3;/0/+20;at 10 web;|HTTP/1.1 503 Service Unavailable;|Content-Length: 0;|Connection: close;|;
-=keeps:4;/0/+99;
+=keeps:3;/6/keeper;
+=keeps:4;/0/+20;at 10 web;|HTTP/1.1 503 Service Unavailable;|Content-Length: 0;|Connection: close;|;
+=keeps:5;/0/+99;
 =link:1 2 3 4;/0/+99;
 =writes:1;/7/
 =writes:2;/0/+99;
@@ -188,7 +190,7 @@ diverted 0
 =writes:2;/0/+4;
 =room:0;/7/
 =words:workload;=writes:1;/1/
-~ A call of alice to bob, who answers; she ends it at 400; and then the rows of the same store. The keeper's third call is handed them, and its next two are those of `charges`.
+~ A call of alice to bob, who answers; she ends it at 400; and then the rows of the same store. The keeper's fourth call is handed them, and its next two are those of `charges`.
 =words:serve|server.cfg|--token|0123456789abcdef|--turns|9
 =then:charges|server.cfg
 =link:
@@ -207,18 +209,18 @@ origin,1,1,0,200,400,0,ended,0
 terminating,2,1,0,200,400,0,ended,0
 ~ Rows that the keeper does not take are handed to it behind the next event. Where the link fails, those of calls that ended before are kept; a call that lives then has none.
 /0/+3;
-=keeps:3;/0/+3;
-=keeps:3 4;/0/+1;
-=keeps:4;/6/keeper;
+=keeps:4;/0/+3;
+=keeps:4 5;/0/+1;
 =keeps:5;/6/keeper;
-=keeps:3 6;/6/keeper;
+=keeps:6;/6/keeper;
+=keeps:4 7;/6/keeper;
 =link:3 4 6 8 10 11;/0/+3;
 =link:2;=before:4;/0/+1;
 =link:5;=before:4;/0/+1;
 =link:7;=before:4;/0/+1;
 =link:9;=before:4;/0/+1;
 =link:12;=before:4;/0/+3;
-=link:12;=keeps:3;=before:4;/0/+1;
+=link:12;=keeps:4;=before:4;/0/+1;
 =words:serve|server.cfg|--token|0123456789abcdef|--turns|3;/0/+1;
 =words:serve|server.cfg|--token|0123456789abcdef|--turns|4;/0/+3;
 =words:replay|server.cfg|run.script|--token|0123456789abcdef;/0/+3;

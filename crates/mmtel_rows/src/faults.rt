@@ -45,11 +45,11 @@ fn cut_datagrams(rt: HostRuntime) {
     assert!(rt; are_cut_dropped(rt.alloc()));
 }
 
-/// Rows that the keeper does not take wait for the end of the next event; the status is 0. The keeper is bound and loaded; then rows are handed to it, which is its third
-/// call. The operator's questions are calls of it too, in the last run its fifth and its seventh.
+/// Rows that the keeper does not take wait for the end of the next event; the status is 0. The keeper is bound, migrated and loaded; then rows are handed to it, which is its fourth
+/// call. The operator's questions are calls of it too, in the last run its sixth and its eighth.
 const FAILING: &[u8] =
     br#"~ A call of alice to bob that ends at 400, when the keeper fails for the first time; then the operator reads the charges twice.
-=keeps:3
+=keeps:4
 at 0 peer 1|INVITE sip:bob@home.example SIP/2.0|Via: SIP/2.0/UDP 127.0.0.1:5071;branch=z9hG4bKc1|Max-Forwards: 68|From: "Alice" <sip:alice@home.example>;tag=t1
 |To: <sip:bob@home.example>|Call-ID: call1|CSeq: 7 INVITE|Contact: <sip:alice@127.0.0.1:5071>|P-Asserted-Identity: <sip:alice@home.example>|Content-Length: 0|
 at 200 peer 1|SIP/2.0 200 OK|Via: SIP/2.0/UDP 127.0.0.1:5060;branch=z9hG4bK0123456789abcdef-4|From: "Alice" <sip:alice@home.example>;tag=0123456789abcdef-3
@@ -80,7 +80,7 @@ at 402 web|HTTP/1.1 200 OK|Content-Type: text/csv|Content-Length: 125|Connection
 x6b696e642c6163636f756e742c63616c6c2c626567616e2c616e7377657265642c656e6465642c686f6c64732c63617573652c7374617475730a6f726967696e2c312c312c302c3230302c3430302c3\
 02c656e6465642c300a7465726d696e6174696e672c322c312c302c3230302c3430302c302c656e6465642c300a
 ~ The same, and nothing comes for a while before the operator asks.
-=keeps:3
+=keeps:4
 at 0 peer 1|INVITE sip:bob@home.example SIP/2.0|Via: SIP/2.0/UDP 127.0.0.1:5071;branch=z9hG4bKc1|Max-Forwards: 68|From: "Alice" <sip:alice@home.example>;tag=t1
 |To: <sip:bob@home.example>|Call-ID: call1|CSeq: 7 INVITE|Contact: <sip:alice@127.0.0.1:5071>|P-Asserted-Identity: <sip:alice@home.example>|Content-Length: 0|
 at 200 peer 1|SIP/2.0 200 OK|Via: SIP/2.0/UDP 127.0.0.1:5060;branch=z9hG4bK0123456789abcdef-4|From: "Alice" <sip:alice@home.example>;tag=0123456789abcdef-3
@@ -109,7 +109,7 @@ at 501 web|HTTP/1.1 200 OK|Content-Type: text/csv|Content-Length: 125|Connection
 x6b696e642c6163636f756e742c63616c6c2c626567616e2c616e7377657265642c656e6465642c686f6c64732c63617573652c7374617475730a6f726967696e2c312c312c302c3230302c3430302c3\
 02c656e6465642c300a7465726d696e6174696e672c322c312c302c3230302c3430302c302c656e6465642c300a
 ~ The same call, and each time that rows are handed over the keeper fails.
-=keeps:3 4 6 8
+=keeps:4 5 7 9
 at 0 peer 1|INVITE sip:bob@home.example SIP/2.0|Via: SIP/2.0/UDP 127.0.0.1:5071;branch=z9hG4bKc1|Max-Forwards: 68|From: "Alice" <sip:alice@home.example>;tag=t1
 |To: <sip:bob@home.example>|Call-ID: call1|CSeq: 7 INVITE|Contact: <sip:alice@127.0.0.1:5071>|P-Asserted-Identity: <sip:alice@home.example>|Content-Length: 0|
 at 200 peer 1|SIP/2.0 200 OK|Via: SIP/2.0/UDP 127.0.0.1:5060;branch=z9hG4bK0123456789abcdef-4|From: "Alice" <sip:alice@home.example>;tag=0123456789abcdef-3
@@ -152,14 +152,14 @@ fn failing_rows(rt: HostRuntime) {
 }
 
 /// What `charges` answers and writes over the keeper that the first run of these left: the numbers of the keeper's calls that fail, the status and the lines. The run makes
-/// five calls of the keeper, or six where the third fails; `charges` binds it and then asks for the rows, of which the keeper has two, also where it took them late.
+/// six calls of the keeper, or seven where the fourth fails; `charges` binds it and then asks for the rows, of which the keeper has two, also where it took them late.
 const CHARGES: &[u8] =
     b"|0|kind,account,call,began,answered,ended,holds,cause,status;origin,1,1,0,200,400,0,ended,0;terminating,2,1,0,200,400,0,ended,0;
-3|0|kind,account,call,began,answered,ended,holds,cause,status;origin,1,1,0,200,400,0,ended,0;terminating,2,1,0,200,400,0,ended,0;
-6|6|keeper;
+4|0|kind,account,call,began,answered,ended,holds,cause,status;origin,1,1,0,200,400,0,ended,0;terminating,2,1,0,200,400,0,ended,0;
 7|6|keeper;
-8|0|kind,account,call,began,answered,ended,holds,cause,status;origin,1,1,0,200,400,0,ended,0;terminating,2,1,0,200,400,0,ended,0;
-3 8|6|keeper;
+8|6|keeper;
+9|0|kind,account,call,began,answered,ended,holds,cause,status;origin,1,1,0,200,400,0,ended,0;terminating,2,1,0,200,400,0,ended,0;
+4 9|6|keeper;
 ";
 
 /// Whether it is as a row says, behind a run of this script.

@@ -90,11 +90,11 @@ at 100 web|PUT /simservs/2 HTTP/1.1|X-3GPP-Asserted-Identity: "sip:bob@home.exam
 5071 SIP/2.0 100 Trying
 5071 SIP/2.0 181 Call Is Being Forwarded
 5072 INVITE sip:vm@far.example;cause=302 SIP/2.0
-~ The same, and the keeper fails where the record is stored, its third call.
+~ The same, and the keeper fails where the record is stored, its fourth call.
 =words:serve|server.cfg|--token|0123456789abcdef|--turns|2
 =then:serve|server.cfg|--token|0123456789abcdef|--turns|9
 =link:
-=keeps:3
+=keeps:4
 at 0 peer 1|INVITE sip:bob@home.example SIP/2.0|Via: SIP/2.0/UDP 127.0.0.1:5071;branch=z9hG4bKc1|Max-Forwards: 68|From: "Alice" <sip:alice@home.example>;tag=t1
 |To: <sip:bob@home.example>|Call-ID: call1|CSeq: 7 INVITE|Contact: <sip:alice@127.0.0.1:5071>|P-Asserted-Identity: <sip:alice@home.example>|Content-Length: 0|
 at 100 web|PUT /simservs/2 HTTP/1.1|X-3GPP-Asserted-Identity: "sip:bob@home.example"|Content-Type: application/toml|Content-Length: 65|

@@ -630,3 +630,258 @@ at 1 to 2|INVITE sip:vm@far.example;x=y;cause=302 SIP/2.0|Via: SIP/2.0/UDP 127.0
 fn diverted_or_waiting(rt: HostRuntime) {
     assert_right(&rt, "DIVERTED", wrong_run(rt.alloc(), DIVERTED));
 }
+
+/// Records of the second version.
+const SECOND: &[u8] =
+    br#"~ Alice bars calls to other countries, and calls one (TS 24.611 section 4.9.1.3).
+=further:country 49;route +49 2;
+# version = 2
+# [outgoing-communication-barring]
+# [[outgoing-communication-barring.rule]]
+# international = true
+# allow = false
+at 0 web|PUT /simservs/1 HTTP/1.1|X-3GPP-Asserted-Identity: "sip:alice@home.example"|Content-Type: application/toml|Content-Length: 120|
+x76657273696f6e203d20320a5b6f7574676f696e672d636f6d6d756e69636174696f6e2d62617272696e675d0a5b5b6f7574676f696e672d636f6d6d756e69636174696f6e2d62617272696e672e727\
+56c655d5d0a696e7465726e6174696f6e616c203d20747275650a616c6c6f77203d2066616c73650a
+at 0 peer 1|INVITE tel:+33155 SIP/2.0|Via: SIP/2.0/UDP 127.0.0.1:5071;branch=z9hG4bKc1|Max-Forwards: 68|From: "Alice" <sip:alice@home.example>;tag=t1|To: <tel:+33155>
+|Call-ID: call1|CSeq: 7 INVITE|Contact: <sip:alice@127.0.0.1:5071>|P-Asserted-Identity: <sip:alice@home.example>|Content-Length: 0|
+~ 603.
+at 0 web|HTTP/1.1 200 OK|Content-Length: 0|Connection: close|
+at 0 to 1|SIP/2.0 100 Trying|Via: SIP/2.0/UDP 127.0.0.1:5071;branch=z9hG4bKc1|From: "Alice" <sip:alice@home.example>;tag=t1|To: <tel:+33155>|Call-ID: call1|CSeq: 7 INVITE
+|Content-Length: 0|
+at 0 to 1|SIP/2.0 603 Decline|Via: SIP/2.0/UDP 127.0.0.1:5071;branch=z9hG4bKc1|From: "Alice" <sip:alice@home.example>;tag=t1|To: <tel:+33155>;tag=0123456789abcdef-1
+|Call-ID: call1|CSeq: 7 INVITE|Content-Length: 0|
+~ She calls a number of her own country.
+=further:country 49;route +49 2;
+# version = 2
+# [outgoing-communication-barring]
+# [[outgoing-communication-barring.rule]]
+# international = true
+# allow = false
+at 0 web|PUT /simservs/1 HTTP/1.1|X-3GPP-Asserted-Identity: "sip:alice@home.example"|Content-Type: application/toml|Content-Length: 120|
+x76657273696f6e203d20320a5b6f7574676f696e672d636f6d6d756e69636174696f6e2d62617272696e675d0a5b5b6f7574676f696e672d636f6d6d756e69636174696f6e2d62617272696e672e727\
+56c655d5d0a696e7465726e6174696f6e616c203d20747275650a616c6c6f77203d2066616c73650a
+at 0 peer 1|INVITE tel:+4930222 SIP/2.0|Via: SIP/2.0/UDP 127.0.0.1:5071;branch=z9hG4bKc1|Max-Forwards: 68|From: "Alice" <sip:alice@home.example>;tag=t1|To: <tel:+4930222>
+|Call-ID: call1|CSeq: 7 INVITE|Contact: <sip:alice@127.0.0.1:5071>|P-Asserted-Identity: <sip:alice@home.example>|Content-Length: 0|
+~ It is offered.
+at 0 web|HTTP/1.1 200 OK|Content-Length: 0|Connection: close|
+at 0 to 1|SIP/2.0 100 Trying|Via: SIP/2.0/UDP 127.0.0.1:5071;branch=z9hG4bKc1|From: "Alice" <sip:alice@home.example>;tag=t1|To: <tel:+4930222>|Call-ID: call1
+|CSeq: 7 INVITE|Content-Length: 0|
+at 0 to 2|INVITE tel:+4930222 SIP/2.0|Via: SIP/2.0/UDP 127.0.0.1:5060;branch=z9hG4bK0123456789abcdef-4|Max-Forwards: 67
+|From: "Alice" <sip:alice@home.example>;tag=0123456789abcdef-3|To: <tel:+4930222>|Call-ID: 0123456789abcdef-2|CSeq: 1 INVITE|Contact: <sip:127.0.0.1:5060>
+|P-Asserted-Identity: <sip:alice@home.example>|Content-Length: 0|
+~ Bob diverts everybody to carol, whose own bound is one diversion, and who diverts everybody (TS 24.604 section 4.5.2.6).
+# [communication-diversion]
+# [[communication-diversion.rule]]
+# target = "sip:carol@home.example"
+at 0 web|PUT /simservs/2 HTTP/1.1|X-3GPP-Asserted-Identity: "sip:bob@home.example"|Content-Type: application/toml|Content-Length: 93|
+x5b636f6d6d756e69636174696f6e2d646976657273696f6e5d0a5b5b636f6d6d756e69636174696f6e2d646976657273696f6e2e72756c655d5d0a746172676574203d20227369703a6361726f6c406\
+86f6d652e6578616d706c65220a
+# version = 2
+# [communication-diversion]
+# bound = 1
+# [[communication-diversion.rule]]
+# target = "sip:vm@far.example"
+at 0 web|PUT /simservs/3 HTTP/1.1|X-3GPP-Asserted-Identity: "sip:carol@home.example"|Content-Type: application/toml|Content-Length: 111|
+x76657273696f6e203d20320a5b636f6d6d756e69636174696f6e2d646976657273696f6e5d0a626f756e64203d20310a5b5b636f6d6d756e69636174696f6e2d646976657273696f6e2e72756c655d5\
+d0a746172676574203d20227369703a766d406661722e6578616d706c65220a
+at 0 peer 1|INVITE sip:bob@home.example SIP/2.0|Via: SIP/2.0/UDP 127.0.0.1:5071;branch=z9hG4bKc1|Max-Forwards: 68|From: "Alice" <sip:alice@home.example>;tag=t1
+|To: <sip:bob@home.example>|Call-ID: call1|CSeq: 7 INVITE|Contact: <sip:alice@127.0.0.1:5071>|P-Asserted-Identity: <sip:alice@home.example>|Content-Length: 0|
+~ 480: the call was diverted once.
+at 0 web|HTTP/1.1 200 OK|Content-Length: 0|Connection: close|
+at 0 web|HTTP/1.1 200 OK|Content-Length: 0|Connection: close|
+at 0 to 1|SIP/2.0 100 Trying|Via: SIP/2.0/UDP 127.0.0.1:5071;branch=z9hG4bKc1|From: "Alice" <sip:alice@home.example>;tag=t1|To: <sip:bob@home.example>|Call-ID: call1
+|CSeq: 7 INVITE|Content-Length: 0|
+at 0 to 1|SIP/2.0 181 Call Is Being Forwarded|Via: SIP/2.0/UDP 127.0.0.1:5071;branch=z9hG4bKc1|From: "Alice" <sip:alice@home.example>;tag=t1
+|To: <sip:bob@home.example>;tag=0123456789abcdef-1|Call-ID: call1|CSeq: 7 INVITE|Contact: <sip:127.0.0.1:5060>|History-Info: <sip:bob@home.example>;index=1
+|History-Info: <sip:carol@home.example;cause=302>;index=1.1|Content-Length: 0|
+at 0 to 1|SIP/2.0 480 Temporarily Unavailable|Via: SIP/2.0/UDP 127.0.0.1:5071;branch=z9hG4bKc1|From: "Alice" <sip:alice@home.example>;tag=t1
+|To: <sip:bob@home.example>;tag=0123456789abcdef-1|Call-ID: call1|CSeq: 7 INVITE|Content-Length: 0|
+~ Bob's own bound is none.
+# version = 2
+# [communication-diversion]
+# bound = 0
+# [[communication-diversion.rule]]
+# target = "sip:carol@home.example"
+at 0 web|PUT /simservs/2 HTTP/1.1|X-3GPP-Asserted-Identity: "sip:bob@home.example"|Content-Type: application/toml|Content-Length: 115|
+x76657273696f6e203d20320a5b636f6d6d756e69636174696f6e2d646976657273696f6e5d0a626f756e64203d20300a5b5b636f6d6d756e69636174696f6e2d646976657273696f6e2e72756c655d5\
+d0a746172676574203d20227369703a6361726f6c40686f6d652e6578616d706c65220a
+at 0 peer 1|INVITE sip:bob@home.example SIP/2.0|Via: SIP/2.0/UDP 127.0.0.1:5071;branch=z9hG4bKc1|Max-Forwards: 68|From: "Alice" <sip:alice@home.example>;tag=t1
+|To: <sip:bob@home.example>|Call-ID: call1|CSeq: 7 INVITE|Contact: <sip:alice@127.0.0.1:5071>|P-Asserted-Identity: <sip:alice@home.example>|Content-Length: 0|
+~ 480.
+at 0 web|HTTP/1.1 200 OK|Content-Length: 0|Connection: close|
+at 0 to 1|SIP/2.0 100 Trying|Via: SIP/2.0/UDP 127.0.0.1:5071;branch=z9hG4bKc1|From: "Alice" <sip:alice@home.example>;tag=t1|To: <sip:bob@home.example>|Call-ID: call1
+|CSeq: 7 INVITE|Content-Length: 0|
+at 0 to 1|SIP/2.0 480 Temporarily Unavailable|Via: SIP/2.0/UDP 127.0.0.1:5071;branch=z9hG4bKc1|From: "Alice" <sip:alice@home.example>;tag=t1
+|To: <sip:bob@home.example>;tag=0123456789abcdef-1|Call-ID: call1|CSeq: 7 INVITE|Content-Length: 0|
+~ Bob diverts everybody to carol, who bars what was diverted (TS 24.611 section 4.9.1.3).
+# [communication-diversion]
+# [[communication-diversion.rule]]
+# target = "sip:carol@home.example"
+at 0 web|PUT /simservs/2 HTTP/1.1|X-3GPP-Asserted-Identity: "sip:bob@home.example"|Content-Type: application/toml|Content-Length: 93|
+x5b636f6d6d756e69636174696f6e2d646976657273696f6e5d0a5b5b636f6d6d756e69636174696f6e2d646976657273696f6e2e72756c655d5d0a746172676574203d20227369703a6361726f6c406\
+86f6d652e6578616d706c65220a
+# version = 2
+# [incoming-communication-barring]
+# [[incoming-communication-barring.rule]]
+# communication-diverted = true
+# allow = false
+at 0 web|PUT /simservs/3 HTTP/1.1|X-3GPP-Asserted-Identity: "sip:carol@home.example"|Content-Type: application/toml|Content-Length: 129|
+x76657273696f6e203d20320a5b696e636f6d696e672d636f6d6d756e69636174696f6e2d62617272696e675d0a5b5b696e636f6d696e672d636f6d6d756e69636174696f6e2d62617272696e672e727\
+56c655d5d0a636f6d6d756e69636174696f6e2d6469766572746564203d20747275650a616c6c6f77203d2066616c73650a
+at 0 peer 1|INVITE sip:bob@home.example SIP/2.0|Via: SIP/2.0/UDP 127.0.0.1:5071;branch=z9hG4bKc1|Max-Forwards: 68|From: "Alice" <sip:alice@home.example>;tag=t1
+|To: <sip:bob@home.example>|Call-ID: call1|CSeq: 7 INVITE|Contact: <sip:alice@127.0.0.1:5071>|P-Asserted-Identity: <sip:alice@home.example>|Content-Length: 0|
+~ 603.
+at 0 web|HTTP/1.1 200 OK|Content-Length: 0|Connection: close|
+at 0 web|HTTP/1.1 200 OK|Content-Length: 0|Connection: close|
+at 0 to 1|SIP/2.0 100 Trying|Via: SIP/2.0/UDP 127.0.0.1:5071;branch=z9hG4bKc1|From: "Alice" <sip:alice@home.example>;tag=t1|To: <sip:bob@home.example>|Call-ID: call1
+|CSeq: 7 INVITE|Content-Length: 0|
+at 0 to 1|SIP/2.0 181 Call Is Being Forwarded|Via: SIP/2.0/UDP 127.0.0.1:5071;branch=z9hG4bKc1|From: "Alice" <sip:alice@home.example>;tag=t1
+|To: <sip:bob@home.example>;tag=0123456789abcdef-1|Call-ID: call1|CSeq: 7 INVITE|Contact: <sip:127.0.0.1:5060>|History-Info: <sip:bob@home.example>;index=1
+|History-Info: <sip:carol@home.example;cause=302>;index=1.1|Content-Length: 0|
+at 0 to 1|SIP/2.0 603 Decline|Via: SIP/2.0/UDP 127.0.0.1:5071;branch=z9hG4bKc1|From: "Alice" <sip:alice@home.example>;tag=t1
+|To: <sip:bob@home.example>;tag=0123456789abcdef-1|Call-ID: call1|CSeq: 7 INVITE|Content-Length: 0|
+~ Alice calls carol herself.
+# version = 2
+# [incoming-communication-barring]
+# [[incoming-communication-barring.rule]]
+# communication-diverted = true
+# allow = false
+at 0 web|PUT /simservs/3 HTTP/1.1|X-3GPP-Asserted-Identity: "sip:carol@home.example"|Content-Type: application/toml|Content-Length: 129|
+x76657273696f6e203d20320a5b696e636f6d696e672d636f6d6d756e69636174696f6e2d62617272696e675d0a5b5b696e636f6d696e672d636f6d6d756e69636174696f6e2d62617272696e672e727\
+56c655d5d0a636f6d6d756e69636174696f6e2d6469766572746564203d20747275650a616c6c6f77203d2066616c73650a
+at 0 peer 1|INVITE sip:carol@home.example SIP/2.0|Via: SIP/2.0/UDP 127.0.0.1:5071;branch=z9hG4bKc1|Max-Forwards: 68|From: "Alice" <sip:alice@home.example>;tag=t1
+|To: <sip:carol@home.example>|Call-ID: call1|CSeq: 7 INVITE|Contact: <sip:alice@127.0.0.1:5071>|P-Asserted-Identity: <sip:alice@home.example>|Content-Length: 0|
+~ It is offered.
+at 0 web|HTTP/1.1 200 OK|Content-Length: 0|Connection: close|
+at 0 to 1|SIP/2.0 100 Trying|Via: SIP/2.0/UDP 127.0.0.1:5071;branch=z9hG4bKc1|From: "Alice" <sip:alice@home.example>;tag=t1|To: <sip:carol@home.example>|Call-ID: call1
+|CSeq: 7 INVITE|Content-Length: 0|
+at 0 to 1|INVITE sip:carol@home.example SIP/2.0|Via: SIP/2.0/UDP 127.0.0.1:5060;branch=z9hG4bK0123456789abcdef-4|Max-Forwards: 67
+|From: "Alice" <sip:alice@home.example>;tag=0123456789abcdef-3|To: <sip:carol@home.example>|Call-ID: 0123456789abcdef-2|CSeq: 1 INVITE|Contact: <sip:127.0.0.1:5060>
+|P-Asserted-Identity: <sip:alice@home.example>|Content-Length: 0|
+~ The call was diverted to carol before it came here.
+# version = 2
+# [incoming-communication-barring]
+# [[incoming-communication-barring.rule]]
+# communication-diverted = true
+# allow = false
+at 0 web|PUT /simservs/3 HTTP/1.1|X-3GPP-Asserted-Identity: "sip:carol@home.example"|Content-Type: application/toml|Content-Length: 129|
+x76657273696f6e203d20320a5b696e636f6d696e672d636f6d6d756e69636174696f6e2d62617272696e675d0a5b5b696e636f6d696e672d636f6d6d756e69636174696f6e2d62617272696e672e727\
+56c655d5d0a636f6d6d756e69636174696f6e2d6469766572746564203d20747275650a616c6c6f77203d2066616c73650a
+at 0 peer 1|INVITE sip:carol@home.example SIP/2.0|Via: SIP/2.0/UDP 127.0.0.1:5071;branch=z9hG4bKc1|Max-Forwards: 68|From: "Alice" <sip:alice@home.example>;tag=t1
+|To: <sip:carol@home.example>|Call-ID: call1|CSeq: 7 INVITE|Contact: <sip:alice@127.0.0.1:5071>|P-Asserted-Identity: <sip:alice@home.example>
+|History-Info: <sip:dave@far.example>;index=1|History-Info: <sip:carol@home.example;cause=302>;index=1.1|Content-Length: 0|
+~ 603.
+at 0 web|HTTP/1.1 200 OK|Content-Length: 0|Connection: close|
+at 0 to 1|SIP/2.0 100 Trying|Via: SIP/2.0/UDP 127.0.0.1:5071;branch=z9hG4bKc1|From: "Alice" <sip:alice@home.example>;tag=t1|To: <sip:carol@home.example>|Call-ID: call1
+|CSeq: 7 INVITE|Content-Length: 0|
+at 0 to 1|SIP/2.0 603 Decline|Via: SIP/2.0/UDP 127.0.0.1:5071;branch=z9hG4bKc1|From: "Alice" <sip:alice@home.example>;tag=t1
+|To: <sip:carol@home.example>;tag=0123456789abcdef-1|Call-ID: call1|CSeq: 7 INVITE|Content-Length: 0|
+~ A call that was diverted once comes to bob, who is busy, diverts then, and whose own bound is one.
+# version = 2
+# [communication-diversion]
+# bound = 1
+# [[communication-diversion.rule]]
+# busy = true
+# target = "sip:vm@far.example"
+at 0 web|PUT /simservs/2 HTTP/1.1|X-3GPP-Asserted-Identity: "sip:bob@home.example"|Content-Type: application/toml|Content-Length: 123|
+x76657273696f6e203d20320a5b636f6d6d756e69636174696f6e2d646976657273696f6e5d0a626f756e64203d20310a5b5b636f6d6d756e69636174696f6e2d646976657273696f6e2e72756c655d5\
+d0a62757379203d20747275650a746172676574203d20227369703a766d406661722e6578616d706c65220a
+at 0 peer 1|INVITE sip:bob@home.example SIP/2.0|Via: SIP/2.0/UDP 127.0.0.1:5071;branch=z9hG4bKc1|Max-Forwards: 68|From: "Alice" <sip:alice@home.example>;tag=t1
+|To: <sip:bob@home.example>|Call-ID: call1|CSeq: 7 INVITE|Contact: <sip:alice@127.0.0.1:5071>|P-Asserted-Identity: <sip:alice@home.example>
+|History-Info: <sip:dave@far.example>;index=1|History-Info: <sip:bob@home.example;cause=302>;index=1.1|Content-Length: 0|
+at 100 peer 1|SIP/2.0 486 Busy Here|Via: SIP/2.0/UDP 127.0.0.1:5060;branch=z9hG4bK0123456789abcdef-4|From: "Alice" <sip:alice@home.example>;tag=0123456789abcdef-3
+|To: <sip:bob@home.example>;tag=b|Call-ID: 0123456789abcdef-2|CSeq: 1 INVITE|Server: phone|Content-Length: 0|
+~ It is offered, and then refused as busy, by a final of the server.
+at 0 web|HTTP/1.1 200 OK|Content-Length: 0|Connection: close|
+at 0 to 1|SIP/2.0 100 Trying|Via: SIP/2.0/UDP 127.0.0.1:5071;branch=z9hG4bKc1|From: "Alice" <sip:alice@home.example>;tag=t1|To: <sip:bob@home.example>|Call-ID: call1
+|CSeq: 7 INVITE|Content-Length: 0|
+at 0 to 1|INVITE sip:bob@home.example SIP/2.0|Via: SIP/2.0/UDP 127.0.0.1:5060;branch=z9hG4bK0123456789abcdef-4|Max-Forwards: 67
+|From: "Alice" <sip:alice@home.example>;tag=0123456789abcdef-3|To: <sip:bob@home.example>|Call-ID: 0123456789abcdef-2|CSeq: 1 INVITE|Contact: <sip:127.0.0.1:5060>
+|P-Asserted-Identity: <sip:alice@home.example>|History-Info: <sip:dave@far.example>;index=1|History-Info: <sip:bob@home.example;cause=302>;index=1.1|Content-Length: 0|
+at 100 to 1|ACK sip:bob@home.example SIP/2.0|Via: SIP/2.0/UDP 127.0.0.1:5060;branch=z9hG4bK0123456789abcdef-4|Max-Forwards: 70
+|From: "Alice" <sip:alice@home.example>;tag=0123456789abcdef-3|To: <sip:bob@home.example>;tag=b|Call-ID: 0123456789abcdef-2|CSeq: 1 ACK|Content-Length: 0|
+at 100 to 1|SIP/2.0 486 Busy Here|Via: SIP/2.0/UDP 127.0.0.1:5071;branch=z9hG4bKc1|From: "Alice" <sip:alice@home.example>;tag=t1
+|To: <sip:bob@home.example>;tag=0123456789abcdef-1|Call-ID: call1|CSeq: 7 INVITE|Content-Length: 0|
+~ Bob diverts on Thursdays from one to two, by a clock that is an hour ahead; 1970 began on one.
+# version = 2
+# [communication-diversion]
+# [[communication-diversion.rule]]
+# days = ["thu"]
+# day-from = "01:00"
+# day-until = "02:00"
+# offset = 60
+# target = "sip:vm@far.example"
+at 0 web|PUT /simservs/2 HTTP/1.1|X-3GPP-Asserted-Identity: "sip:bob@home.example"|Content-Type: application/toml|Content-Length: 167|
+x76657273696f6e203d20320a5b636f6d6d756e69636174696f6e2d646976657273696f6e5d0a5b5b636f6d6d756e69636174696f6e2d646976657273696f6e2e72756c655d5d0a64617973203d205b2\
+2746875225d0a6461792d66726f6d203d202230313a3030220a6461792d756e74696c203d202230323a3030220a6f6666736574203d2036300a746172676574203d20227369703a766d406661722e657\
+8616d706c65220a
+at 0 peer 1|INVITE sip:bob@home.example SIP/2.0|Via: SIP/2.0/UDP 127.0.0.1:5071;branch=z9hG4bKc1|Max-Forwards: 68|From: "Alice" <sip:alice@home.example>;tag=t1
+|To: <sip:bob@home.example>|Call-ID: call1|CSeq: 7 INVITE|Contact: <sip:alice@127.0.0.1:5071>|P-Asserted-Identity: <sip:alice@home.example>|Content-Length: 0|
+~ It is one o'clock there.
+at 0 web|HTTP/1.1 200 OK|Content-Length: 0|Connection: close|
+at 0 to 1|SIP/2.0 100 Trying|Via: SIP/2.0/UDP 127.0.0.1:5071;branch=z9hG4bKc1|From: "Alice" <sip:alice@home.example>;tag=t1|To: <sip:bob@home.example>|Call-ID: call1
+|CSeq: 7 INVITE|Content-Length: 0|
+at 0 to 1|SIP/2.0 181 Call Is Being Forwarded|Via: SIP/2.0/UDP 127.0.0.1:5071;branch=z9hG4bKc1|From: "Alice" <sip:alice@home.example>;tag=t1
+|To: <sip:bob@home.example>;tag=0123456789abcdef-1|Call-ID: call1|CSeq: 7 INVITE|Contact: <sip:127.0.0.1:5060>|History-Info: <sip:bob@home.example>;index=1
+|History-Info: <sip:vm@far.example;cause=302>;index=1.1|Content-Length: 0|
+at 0 to 2|INVITE sip:vm@far.example;cause=302 SIP/2.0|Via: SIP/2.0/UDP 127.0.0.1:5060;branch=z9hG4bK0123456789abcdef-4|Max-Forwards: 67
+|From: "Alice" <sip:alice@home.example>;tag=0123456789abcdef-3|To: <sip:vm@far.example>|Call-ID: 0123456789abcdef-2|CSeq: 1 INVITE|Contact: <sip:127.0.0.1:5060>
+|P-Asserted-Identity: <sip:alice@home.example>|History-Info: <sip:bob@home.example>;index=1|History-Info: <sip:vm@far.example;cause=302>;index=1.1|Content-Length: 0|
+~ The same an hour later.
+# version = 2
+# [communication-diversion]
+# [[communication-diversion.rule]]
+# days = ["thu"]
+# day-from = "01:00"
+# day-until = "02:00"
+# offset = 60
+# target = "sip:vm@far.example"
+at 0 web|PUT /simservs/2 HTTP/1.1|X-3GPP-Asserted-Identity: "sip:bob@home.example"|Content-Type: application/toml|Content-Length: 167|
+x76657273696f6e203d20320a5b636f6d6d756e69636174696f6e2d646976657273696f6e5d0a5b5b636f6d6d756e69636174696f6e2d646976657273696f6e2e72756c655d5d0a64617973203d205b2\
+2746875225d0a6461792d66726f6d203d202230313a3030220a6461792d756e74696c203d202230323a3030220a6f6666736574203d2036300a746172676574203d20227369703a766d406661722e657\
+8616d706c65220a
+at 3600000 peer 1|INVITE sip:bob@home.example SIP/2.0|Via: SIP/2.0/UDP 127.0.0.1:5071;branch=z9hG4bKc1|Max-Forwards: 68|From: "Alice" <sip:alice@home.example>;tag=t1
+|To: <sip:bob@home.example>|Call-ID: call1|CSeq: 7 INVITE|Contact: <sip:alice@127.0.0.1:5071>|P-Asserted-Identity: <sip:alice@home.example>|Content-Length: 0|
+~ It is two, and the call is offered.
+at 0 web|HTTP/1.1 200 OK|Content-Length: 0|Connection: close|
+at 3600000 to 1|SIP/2.0 100 Trying|Via: SIP/2.0/UDP 127.0.0.1:5071;branch=z9hG4bKc1|From: "Alice" <sip:alice@home.example>;tag=t1|To: <sip:bob@home.example>
+|Call-ID: call1|CSeq: 7 INVITE|Content-Length: 0|
+at 3600000 to 1|INVITE sip:bob@home.example SIP/2.0|Via: SIP/2.0/UDP 127.0.0.1:5060;branch=z9hG4bK0123456789abcdef-4|Max-Forwards: 67
+|From: "Alice" <sip:alice@home.example>;tag=0123456789abcdef-3|To: <sip:bob@home.example>|Call-ID: 0123456789abcdef-2|CSeq: 1 INVITE|Contact: <sip:127.0.0.1:5060>
+|P-Asserted-Identity: <sip:alice@home.example>|Content-Length: 0|
+~ The same by the clock of UTC, at once.
+# version = 2
+# [communication-diversion]
+# [[communication-diversion.rule]]
+# days = ["thu"]
+# day-from = "01:00"
+# day-until = "02:00"
+# offset = 0
+# target = "sip:vm@far.example"
+at 0 web|PUT /simservs/2 HTTP/1.1|X-3GPP-Asserted-Identity: "sip:bob@home.example"|Content-Type: application/toml|Content-Length: 166|
+x76657273696f6e203d20320a5b636f6d6d756e69636174696f6e2d646976657273696f6e5d0a5b5b636f6d6d756e69636174696f6e2d646976657273696f6e2e72756c655d5d0a64617973203d205b2\
+2746875225d0a6461792d66726f6d203d202230313a3030220a6461792d756e74696c203d202230323a3030220a6f6666736574203d20300a746172676574203d20227369703a766d406661722e65786\
+16d706c65220a
+at 0 peer 1|INVITE sip:bob@home.example SIP/2.0|Via: SIP/2.0/UDP 127.0.0.1:5071;branch=z9hG4bKc1|Max-Forwards: 68|From: "Alice" <sip:alice@home.example>;tag=t1
+|To: <sip:bob@home.example>|Call-ID: call1|CSeq: 7 INVITE|Contact: <sip:alice@127.0.0.1:5071>|P-Asserted-Identity: <sip:alice@home.example>|Content-Length: 0|
+~ It is midnight.
+at 0 web|HTTP/1.1 200 OK|Content-Length: 0|Connection: close|
+at 0 to 1|SIP/2.0 100 Trying|Via: SIP/2.0/UDP 127.0.0.1:5071;branch=z9hG4bKc1|From: "Alice" <sip:alice@home.example>;tag=t1|To: <sip:bob@home.example>|Call-ID: call1
+|CSeq: 7 INVITE|Content-Length: 0|
+at 0 to 1|INVITE sip:bob@home.example SIP/2.0|Via: SIP/2.0/UDP 127.0.0.1:5060;branch=z9hG4bK0123456789abcdef-4|Max-Forwards: 67
+|From: "Alice" <sip:alice@home.example>;tag=0123456789abcdef-3|To: <sip:bob@home.example>|Call-ID: 0123456789abcdef-2|CSeq: 1 INVITE|Contact: <sip:127.0.0.1:5060>
+|P-Asserted-Identity: <sip:alice@home.example>|Content-Length: 0|
+~ A record of a third version.
+# version = 3
+at 0 web|PUT /simservs/2 HTTP/1.1|X-3GPP-Asserted-Identity: "sip:bob@home.example"|Content-Type: application/toml|Content-Length: 12|
+x76657273696f6e203d20330a
+~ There is none.
+at 0 web|HTTP/1.1 409 Conflict|Content-Type: text/plain|Content-Length: 14|Connection: close|
+x77726f6e672076657273696f6e0a
+"#;
+
+#[test]
+fn of_the_second_version(rt: HostRuntime) {
+    assert_right(&rt, "SECOND", wrong_run(rt.alloc(), SECOND));
+}

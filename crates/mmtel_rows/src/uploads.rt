@@ -26,8 +26,8 @@ at 3 web|HTTP/1.1 403 Forbidden|Content-Length: 0|Connection: close|
 at 4 web|HTTP/1.1 403 Forbidden|Content-Length: 0|Connection: close|
 at 5 web|HTTP/1.1 409 Conflict|Content-Type: text/plain|Content-Length: 29|Connection: close|
 x756e6b6e6f776e20636f6d6d756e69636174696f6e2d77616974696e0a
-~ Bob puts a record, the keeper's third call, reads it, puts it again, puts another, deletes it and reads it; the operator asks for the rows twice; bob deletes and reads it.
-=keeps:3 5 6 7
+~ Bob puts a record, the keeper's fourth call, reads it, puts it again, puts another, deletes it and reads it; the operator asks for the rows twice; bob deletes and reads it.
+=keeps:4 6 7 8
 at 0 web|PUT /simservs/2 HTTP/1.1|X-3GPP-Asserted-Identity: "sip:bob@home.example"|Content-Type: application/toml|Content-Length: 38|
 x5b636f6d6d756e69636174696f6e2d77616974696e675d0a616374697665203d20747275650a
 at 1 web|GET /simservs/2 HTTP/1.1|X-3GPP-Asserted-Identity: "sip:bob@home.example"|
@@ -54,9 +54,10 @@ at 7 web|HTTP/1.1 200 OK|Content-Type: text/csv|Content-Length: 58|Connection: c
 x6b696e642c6163636f756e742c63616c6c2c626567616e2c616e7377657265642c656e6465642c686f6c64732c63617573652c7374617475730a
 at 8 web|HTTP/1.1 200 OK|Content-Length: 0|Connection: close|
 at 9 web|HTTP/1.1 200 OK|Content-Length: 0|Connection: close|
-~ Alice, bob and carol read; bob puts a record and reads it. Before, the keeper holds of bob no record, of alice one, and one of an account that is not here.
+~ Alice, bob and carol read; bob puts a record and reads it. The keeper holds no record of bob, one of alice of the first version, one of carol of the second, one of nobody.
 =record:2 no record;
 =record:1 [communication-waiting];active = true;
+=record:3 version = 2;[communication-waiting];calls = 4;
 =record:9 [communication-waiting];calls = 2;
 at 0 web|GET /simservs/1 HTTP/1.1|X-3GPP-Asserted-Identity: "tel:+4930111"|
 at 1 web|GET /simservs/2 HTTP/1.1|X-3GPP-Asserted-Identity: "sip:bob@home.example"|
@@ -64,12 +65,18 @@ at 2 web|GET /simservs/3 HTTP/1.1|X-3GPP-Asserted-Identity: "sip:carol@home.exam
 at 3 web|PUT /simservs/2 HTTP/1.1|X-3GPP-Asserted-Identity: "sip:bob@home.example"|Content-Type: application/toml|Content-Length: 34|
 x5b636f6d6d756e69636174696f6e2d77616974696e675d0a63616c6c73203d20330a
 at 4 web|GET /simservs/2 HTTP/1.1|X-3GPP-Asserted-Identity: "sip:bob@home.example"|
-~ What the keeper held before is there until another is put, also where it is no record.
-at 0 web|HTTP/1.1 200 OK|Content-Type: application/toml|Content-Length: 38|Connection: close|
-x5b636f6d6d756e69636174696f6e2d77616974696e675d0a616374697665203d20747275650a
+~ What the keeper held before is there until another is put, also where it is no record; but one of the first version gave way to one of the second that says the same.
+at 0 web|HTTP/1.1 200 OK|Content-Type: application/toml|Content-Length: 429|Connection: close|
+x76657273696f6e203d20320a0a5b636f6d6d756e69636174696f6e2d77616974696e675d0a616374697665203d20747275650a63616c6c73203d20320a0a5b6f726967696e6174696e672d6964656e7\
+46974792d70726573656e746174696f6e5d0a616374697665203d20747275650a0a5b6f726967696e6174696e672d6964656e746974792d70726573656e746174696f6e2d7265737472696374696f6e5\
+d0a616374697665203d2066616c73650a64656661756c742d6265686176696f7572203d202270726573656e746174696f6e2d6e6f742d72657374726963746564220a6d6f6465203d202274656d706f7\
+2617279220a0a5b7465726d696e6174696e672d6964656e746974792d70726573656e746174696f6e5d0a616374697665203d20747275650a0a5b7465726d696e6174696e672d6964656e746974792d7\
+0726573656e746174696f6e2d7265737472696374696f6e5d0a616374697665203d2066616c73650a64656661756c742d6265686176696f7572203d202270726573656e746174696f6e2d6e6f742d726\
+57374726963746564220a6d6f6465203d202274656d706f72617279220a
 at 1 web|HTTP/1.1 200 OK|Content-Type: application/toml|Content-Length: 10|Connection: close|
 x6e6f207265636f72640a
-at 2 web|HTTP/1.1 200 OK|Content-Length: 0|Connection: close|
+at 2 web|HTTP/1.1 200 OK|Content-Type: application/toml|Content-Length: 46|Connection: close|
+x76657273696f6e203d20320a5b636f6d6d756e69636174696f6e2d77616974696e675d0a63616c6c73203d20340a
 at 3 web|HTTP/1.1 200 OK|Content-Length: 0|Connection: close|
 at 4 web|HTTP/1.1 200 OK|Content-Type: application/toml|Content-Length: 34|Connection: close|
 x5b636f6d6d756e69636174696f6e2d77616974696e675d0a63616c6c73203d20330a

@@ -1,5 +1,6 @@
 -- Each row computes.
 use Rattle.std.proofs.Common.{refl}
+use Rattle.mmtel_scan.specs.Classes.{in_class}
 use Rattle.mmtel_rules.specs.Conditions.{condition_holds}
 use Rattle.mmtel_rules.specs.Identities.{identity_holds}
 use Rattle.mmtel_lex.specs.SameIdentity.{is_same_identity}
@@ -7,7 +8,7 @@ use Rattle.mmtel_precedence.specs.Outcome.{outcome_from}
 use Rattle.mmtel_units_services.specs.Rows.{AreOutcomes}
 
 pub are_outcomes : AreOutcomes
-unfolding outcome_from condition_holds identity_holds is_same_identity
+unfolding outcome_from condition_holds identity_holds is_same_identity in_class
 are_outcomes = record {
   anonymous_rejection = refl;
   no_identity = refl;
@@ -19,6 +20,17 @@ are_outcomes = record {
   received_four = refl;
   bound_zero = refl;
   loop = refl;
+  own_bound_received = refl;
+  own_bound_below = refl;
+  own_bound_made = refl;
+  own_bound_of_another = refl;
+  own_bound_above = refl;
+  not_diverted_before = refl;
+  received_diverted = refl;
+  diverted_here = refl;
+  diverted_abroad = refl;
+  diverted_at_home = refl;
+  country_not_known = refl;
   barred_at_the_bound = refl;
   deflected = refl;
   deflected_ringing = refl;

@@ -39,6 +39,9 @@ dave = at_home (codes "dave")
 abbrev pub number_at_home : Uri
 number_at_home = Sip (Some (codes "+49301234")) (codes "home.example") None (record { name = codes "user"; value = Some (codes "phone") } ∷ []) []
 
+abbrev pub number_abroad : Uri
+number_abroad = Sip (Some (codes "+3312345")) (codes "home.example") None (record { name = codes "user"; value = Some (codes "phone") } ∷ []) []
+
 abbrev pub vm : Uri
 vm = Sip (Some (codes "vm")) (codes "far.example") None [] []
 
@@ -55,7 +58,7 @@ hidden to = record { target = to; notify_caller = false; reveal_to_caller = fals
 -- for an event, or for none
 abbrev pub forwards : Option EventWord → Forward → Rule
 forwards when forward = record {
-  condition = record { identity = None; anonymous = false; window = None; media = None; event = when };
+  condition = record { identity = None; anonymous = false; window = None; media = None; event = when; diverted = false; abroad = false; weekly = None };
   action = action.Forward forward;
 }
 
@@ -63,7 +66,24 @@ abbrev pub rule : Option EventWord → Uri → Rule
 rule when to = forwards when (shown_to_all to)
 
 abbrev pub diverts : List Rule → (deflects : Bool) → Sheet
-diverts rules deflects = record empty_sheet { diversion = Some (record { rules = rules; no_reply = 20; deflection = deflects }) }
+diverts rules deflects = record empty_sheet { diversion = Some (record { rules = rules; no_reply = 20; deflection = deflects; bound = None }) }
+
+-- the account sets a bound of its own
+abbrev pub bounds : (bound : ℕ) → List Rule → Sheet
+bounds bound rules = record empty_sheet { diversion = Some (record { rules = rules; no_reply = 20; deflection = false; bound = Some bound }) }
+
+-- a rule for calls that were diverted before, or that go abroad
+abbrev pub where_diverted : Rule → Rule
+where_diverted r = record r { condition = record r.condition { diverted = true } }
+
+abbrev pub where_abroad : Rule → Rule
+where_abroad r = record r { condition = record r.condition { abroad = true } }
+
+-- bars his own calls abroad
+abbrev pub bars_abroad : Sheet
+bars_abroad = record (diverts (rule None (Tel (codes "+33-1-2345") []) ∷ []) false) {
+  outgoing = Some (record { rules = where_abroad (record (rule None vm) { action = action.Allow false }) ∷ []; reject_anonymous = false });
+}
 
 -- rejects callers that hide who they are, and diverts each other call
 abbrev pub rejects_and_diverts : Sheet
@@ -80,6 +100,9 @@ bars_and_diverts to = record (diverts (rule None to ∷ []) false) {
         window = None;
         media = None;
         event = None;
+        diverted = false;
+        abroad = false;
+        weekly = None;
       };
       action = action.Allow false;
     } ∷ [];
@@ -143,6 +166,7 @@ call received bound b c = record {
   received = received;
   bound = bound;
   home = codes "home.example";
+  country = None;
   account_of = account_of;
   leads = λ u. true;
   first = bob;
@@ -164,7 +188,11 @@ to_nobody uri c = record c { first = uri; served = served_for None None true }
 
 -- by a diversion to here that hides nothing, for this cause
 abbrev pub by : Uri → (cause : ℕ) → Option DueDiversion
-by to cause = Some (record { forward = shown_to_all to; cause = cause })
+by to cause = Some (record { forward = shown_to_all to; cause = cause; bound = None })
+
+-- the same, by an account that sets this bound
+abbrev pub bounded_by : Uri → (cause bound : ℕ) → Option DueDiversion
+bounded_by to cause bound = Some (record { forward = shown_to_all to; cause = cause; bound = Some bound })
 
 abbrev pub target : Uri → Option DueDiversion → Offer → Target
 target uri led offer = record { uri = uri; by = led; offer = offer }
@@ -193,7 +221,7 @@ pub record AreOutcomes : Type 0 where
       ≡ comes_to (target bob None NotOffered ∷ target carol (by carol 302) NotOffered ∷ target vm (by vm 486) (Offered false) ∷ []) Answered
   -- the forward of the rule is said of the target
   pub hidden_forward : outcome (call 0 5 (of_account (diverts (forwards None (hidden vm) ∷ []) false) true 0) free) []
-      ≡ comes_to (target bob None NotOffered ∷ target vm (Some (record { forward = hidden vm; cause = 302 })) (Offered false) ∷ []) Pending
+      ≡ comes_to (target bob None NotOffered ∷ target vm (Some (record { forward = hidden vm; cause = 302; bound = None })) (Offered false) ∷ []) Pending
   -- received causes count against the bound: five, and busy; five, and free; four
   pub received_busy : outcome (call 5 5 (of_account (diverts (rule (Some event.Busy) vm ∷ []) false) true 1) free) []
       ≡ comes_to (target bob None NotOffered ∷ []) (Final (causes.TooManyDiversions true))
@@ -207,6 +235,31 @@ pub record AreOutcomes : Type 0 where
   pub loop : outcome (call 0 5 (of_account (diverts (rule None bob ∷ []) false) true 0) free) []
       ≡ comes_to (target bob None NotOffered ∷ target bob (by bob 302) NotOffered ∷ target bob (by bob 302) NotOffered ∷ target bob (by bob 302) NotOffered
       ∷ target bob (by bob 302) NotOffered ∷ target bob (by bob 302) NotOffered ∷ []) (Final (causes.TooManyDiversions false))
+  -- the bound of the account that diverts: reached by what was received; not yet; by what was made; that of an account before it counts no more; and one above the configured
+  pub own_bound_received : outcome (call 1 5 (of_account (bounds 1 (rule None vm ∷ [])) true 0) free) []
+      ≡ comes_to (target bob None NotOffered ∷ []) (Final (causes.TooManyDiversions false))
+  pub own_bound_below : outcome (call 1 5 (of_account (bounds 2 (rule None vm ∷ [])) true 0) free) []
+      ≡ comes_to (target bob None NotOffered ∷ target vm (bounded_by vm 302 2) (Offered false) ∷ []) Pending
+  pub own_bound_made : outcome (call 0 5 (of_account (diverts (rule None carol ∷ []) false) true 0) (of_account (bounds 1 (rule (Some event.Busy) vm ∷ [])) true 1)) []
+      ≡ comes_to (target bob None NotOffered ∷ target carol (by carol 302) NotOffered ∷ []) (Final (causes.TooManyDiversions true))
+  pub own_bound_of_another : outcome (call 0 5 (of_account (bounds 1 (rule None carol ∷ [])) true 0) (of_account (diverts (rule None vm ∷ []) false) true 0)) []
+      ≡ comes_to (target bob None NotOffered ∷ target carol (bounded_by carol 302 1) NotOffered ∷ target vm (by vm 302) (Offered false) ∷ []) Pending
+  pub own_bound_above : outcome (call 5 5 (of_account (bounds 9 (rule None vm ∷ [])) true 0) free) []
+      ≡ comes_to (target bob None NotOffered ∷ []) (Final (causes.TooManyDiversions false))
+  -- a rule for calls that were diverted before: of one that was not, of one that came so, and of one that was diverted here
+  pub not_diverted_before : outcome (call 0 5 (of_account (diverts (where_diverted (rule None vm) ∷ []) false) true 0) free) []
+      ≡ comes_to (target bob None (Offered false) ∷ []) Pending
+  pub received_diverted : outcome (call 1 5 (of_account (diverts (where_diverted (rule None vm) ∷ []) false) true 0) free) []
+      ≡ comes_to (target bob None NotOffered ∷ target vm (by vm 302) (Offered false) ∷ []) Pending
+  pub diverted_here : outcome (call 0 5 (of_account (diverts (rule None carol ∷ []) false) true 0) (of_account (diverts (where_diverted (rule None vm) ∷ []) false) true 0)) []
+      ≡ comes_to (target bob None NotOffered ∷ target carol (by carol 302) NotOffered ∷ target vm (by vm 302) (Offered false) ∷ []) Pending
+  -- barring of what goes abroad: of a diversion to a number of another country, of the home country, and where that is not known
+  pub diverted_abroad : outcome (record (call 0 5 (of_account bars_abroad true 0) free) { country = Some (codes "49") }) []
+      ≡ comes_to (target bob None NotOffered ∷ []) (Final causes.OutgoingBarred)
+  pub diverted_at_home : outcome (record (call 0 5 (of_account bars_abroad true 0) free) { country = Some (codes "33") }) []
+      ≡ comes_to (target bob None NotOffered ∷ target number_abroad (by (Tel (codes "+33-1-2345") []) 302) (Offered false) ∷ []) Pending
+  pub country_not_known : outcome (call 0 5 (of_account bars_abroad true 0) free) []
+      ≡ comes_to (target bob None NotOffered ∷ target number_abroad (by (Tel (codes "+33-1-2345") []) 302) (Offered false) ∷ []) Pending
   -- outgoing barring of the account that diverts comes before the bound
   pub barred_at_the_bound : outcome (call 5 5 (of_account (bars_and_diverts vm) true 0) free) [] ≡ comes_to (target bob None NotOffered ∷ []) (Final causes.OutgoingBarred)
   -- deflection: before it rang, after it rang, and without leave

@@ -153,6 +153,13 @@ const INCOMING: &[u8] =
 -a|r0|sip:alice@home.example|
 --|r0||
 11|-0|sip:alice@home.example|
+# A call that was diverted before.
+:allow = false, communication-diverted = true
+00|d0|sip:alice@home.example|
+--|-0|sip:alice@home.example|
+:allow = true, communication-diverted = true&allow = false
+--|d0|sip:alice@home.example|
+11|-0|sip:alice@home.example|
 ";
 
 #[test]
@@ -186,6 +193,20 @@ const OUTGOING: &[u8] =
 0|-0 audio video|sip:bob@home.example|
 -|-0 audio|sip:bob@home.example|
 -|-0|sip:bob@home.example|
+# A call to another country.
+:allow = false, international = true
+0|a0||tel:+33155
+-|-0||tel:+4930111
+:allow = false, international = false
+0|a0||tel:+33155
+0|-0||tel:+4930111
+:allow = true, international = true&allow = false
+-|a0||tel:+33155
+1|-0||tel:+4930111
+:allow = false, international = true, many = \"far.example\"
+-|a0||tel:+33155
+0|a0|sip:+33155@far.example;user=phone|
+-|-0|sip:alice@far.example|
 ";
 
 #[test]

@@ -16,7 +16,9 @@ fn wrong_text(alloc: Global, printed: Result<Text, NoMemory>, record: &[u8]) -> 
 }
 
 /// The record of a sheet that says nothing: each part that is always there, with its default.
-const EMPTY: &[u8] = b"[originating-identity-presentation]
+const EMPTY: &[u8] = b"version = 2
+
+[originating-identity-presentation]
 active = true
 
 [originating-identity-presentation-restriction]
@@ -42,8 +44,11 @@ fn wrong_empty(alloc: Global) -> usize {
 }
 
 /// The record of a sheet with each part, without rules.
-const EACH_PART: &[u8] = b"[communication-diversion]
+const EACH_PART: &[u8] = b"version = 2
+
+[communication-diversion]
 active = true
+bound = 16
 deflection = true
 no-reply-time = 30
 rule = []
@@ -85,6 +90,7 @@ fn wrong_each_part(alloc: Global) -> usize {
             rules: List::new(),
             no_reply: 30,
             deflection: true,
+            bound: Some(16),
         }),
         incoming: Some(BarPart {
             rules: List::new(),
@@ -115,6 +121,7 @@ fn wrong_each_part(alloc: Global) -> usize {
 
 /// A rule of each kind, as a user may write it.
 const WRITTEN: &[u8] = br#"# Each part of a condition, and each notice.
+version = 2
 [[communication-diversion.rule]]
 id = "at night"
 one = ["SIP:a@home.example:05060;user=phone", 'tel:+49-30-1']
@@ -125,6 +132,11 @@ from = "2026-11-27T22:00:00+01:00"
 until = "2026-11-28T06:00:00.2509+01:00"
 media = ["audio", "video"]
 busy = true
+communication-diverted = true
+days = ["sun", "mon"]
+day-from = "22:00"
+day-until = "24:00"
+offset = -60
 target = "sip:night@home.example"
 notify-caller = false
 reveal-identity-to-target = false
@@ -147,13 +159,15 @@ until = "9999-12-30T22:00:00.999Z"
 media = []
 target = "sip:f@home.example"
 [incoming-communication-barring]
-rule = [{allow = true, anonymous = true}, {allow = false, one = []}]
+rule = [{allow = true, anonymous = true, communication-diverted = true}, {allow = false, one = []}]
 [outgoing-communication-barring]
-rule = [{allow = false, many = "far.example", except = ["tel:+1"]}, {allow = true}]
+rule = [{allow = false, many = "far.example", except = ["tel:+1"], international = true}, {allow = true, day-from = "00:00", day-until = "09:05", days = ["wed"]}]
 "#;
 
 /// The same as it is printed, with a line `#` behind it.
-const PRINTED: &[u8] = br#"[communication-diversion]
+const PRINTED: &[u8] = br#"version = 2
+
+[communication-diversion]
 active = true
 deflection = false
 no-reply-time = 20
@@ -161,6 +175,10 @@ no-reply-time = 20
 [[communication-diversion.rule]]
 anonymous = true
 busy = true
+communication-diverted = true
+day-from = "22:00"
+day-until = "24:00"
+days = ["mon", "sun"]
 except = ["sip:b@partner.example", "sip:c@partner.example"]
 from = "2026-11-27T21:00:00.000Z"
 many = "Partner.example"
@@ -169,6 +187,7 @@ no-answer = false
 not-reachable = false
 not-registered = false
 notify-caller = false
+offset = -60
 one = ["sip:a@home.example:5060;user=phone", "tel:+49-30-1"]
 reveal-identity-to-caller = true
 reveal-identity-to-target = false
@@ -179,6 +198,7 @@ until = "2026-11-28T05:00:00.250Z"
 [[communication-diversion.rule]]
 anonymous = false
 busy = false
+communication-diverted = false
 no-answer = true
 not-reachable = false
 not-registered = false
@@ -191,6 +211,7 @@ target = "tel:+4930222"
 [[communication-diversion.rule]]
 anonymous = false
 busy = false
+communication-diverted = false
 no-answer = false
 not-reachable = true
 not-registered = false
@@ -204,6 +225,7 @@ target = "sip:home.example"
 [[communication-diversion.rule]]
 anonymous = false
 busy = false
+communication-diverted = false
 except = []
 many = "*"
 no-answer = false
@@ -219,6 +241,7 @@ target = "sip:e@home.example"
 [[communication-diversion.rule]]
 anonymous = false
 busy = false
+communication-diverted = false
 from = "0001-01-01T00:00:00.000Z"
 media = []
 no-answer = false
@@ -238,10 +261,12 @@ reject-anonymous = false
 [[incoming-communication-barring.rule]]
 allow = true
 anonymous = true
+communication-diverted = true
 
 [[incoming-communication-barring.rule]]
 allow = false
 anonymous = false
+communication-diverted = false
 one = []
 
 [originating-identity-presentation]
@@ -258,11 +283,17 @@ active = true
 [[outgoing-communication-barring.rule]]
 allow = false
 except = ["tel:+1"]
+international = true
 many = "far.example"
 one = []
 
 [[outgoing-communication-barring.rule]]
 allow = true
+day-from = "00:00"
+day-until = "09:05"
+days = ["wed"]
+international = false
+offset = 0
 
 [terminating-identity-presentation]
 active = true

@@ -60,6 +60,8 @@ pub struct Called {
     pub restricted: bool,
     pub media: List<Text>,
     pub now: Moment,
+    pub diverted: bool,
+    pub abroad: bool,
 }
 
 pub fn facts(called: &Called) -> Facts<'_> {
@@ -68,6 +70,8 @@ pub fn facts(called: &Called) -> Facts<'_> {
         restricted: called.restricted,
         media: &called.media,
         now: called.now,
+        diverted: called.diverted,
+        abroad: called.abroad,
     }
 }
 
@@ -132,28 +136,30 @@ fn moment(told: &mut Told, digits: &[u8]) -> Moment {
     }
 }
 
-/// Whether the caller hides who it is, and the digits of the moment.
-fn hidden(when: &[u8]) -> (bool, &[u8]) {
+/// What is so of the call, and the digits of the moment.
+fn flagged(when: &[u8]) -> (u8, &[u8]) {
     match when {
-        [b'r', digits @ ..] => (true, digits),
-        [_, digits @ ..] => (false, digits),
-        [] => (false, b""),
+        [flag, digits @ ..] => (*flag, digits),
+        [] => (b'-', b""),
     }
 }
 
-/// The call of a row: the facts, and the URIs of the other party.
+/// The call of a row: the facts, and the URIs of the other party. Its first byte is `r` where the caller hides who it is, `d` where the call was diverted before, `a` where
+/// its target is abroad, and else `-`.
 pub fn read_called(told: &mut Told, row: &[u8]) -> Called {
     let (known, uris) = cut(b'|', row);
     let (when, media) = cut(b' ', known);
-    let (restricted, digits) = hidden(when);
+    let (flag, digits) = flagged(when);
     let now = moment(told, digits);
     let party = party(told, uris);
     let media = kinds(told, media);
     Called {
         party,
-        restricted,
+        restricted: flag == b'r',
         media,
         now,
+        diverted: flag == b'd',
+        abroad: flag == b'a',
     }
 }
 
@@ -178,7 +184,7 @@ fn write_rules(out: &mut Told, keys: &[u8], line: &[u8]) {
 }
 
 /// The sheet of the record of one table: these keys of the table, and the rules of a line, each behind these keys of a rule. A line of no bytes has no rules, and any other
-/// begins with `:`.
+/// begins with `:`. The record is of the second version.
 pub fn sheet_of(
     told: &mut Told,
     table: &[u8],
@@ -187,6 +193,7 @@ pub fn sheet_of(
     line: &[u8],
 ) -> Option<Sheet> {
     let mut text = Told::new(told.alloc);
+    text.add(b"version = 2\n");
     text.add(table);
     text.add(b" = { ");
     text.add(table_keys);

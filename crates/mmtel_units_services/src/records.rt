@@ -8,8 +8,8 @@ use mmtel_lex::{List, Text, Uri, print_uri};
 use mmtel_sheet_grammar::SheetFault;
 use mmtel_sheet_reader::read_sheet;
 use mmtel_sheet_values::{
-    Action, BarPart, Condition, DiversionPart, EventWord, Forward, Restriction, Rule, Sheet, Who,
-    Window,
+    Action, BarPart, Condition, DiversionPart, EventWord, Forward, Restriction, Rule, Sheet,
+    Weekly, Who, Window,
 };
 use mmtel_told::{Told, next_line};
 use std::alloc::Global;
@@ -82,6 +82,23 @@ fn event_name(event: Option<EventWord>) -> &'static [u8] {
     }
 }
 
+fn add_days(told: &mut Told, days: [bool; 7]) {
+    for day in days {
+        told.add_if(day, b"x", b"-");
+    }
+}
+
+/// Adds the days, Monday first, the minutes of a day and the offset.
+fn add_weekly(told: &mut Told, weekly: Option<Weekly>) {
+    if let Some(weekly) = weekly {
+        told.add(b" weekly ");
+        add_days(told, weekly.days);
+        told.add_spaced_number(u64::from(weekly.from));
+        told.add_spaced_number(u64::from(weekly.until));
+        add_moment(told, b"offset", i128::from(weekly.offset));
+    }
+}
+
 /// The parts of a condition that are there.
 fn add_condition(told: &mut Told, condition: &Condition) {
     add_who(told, &condition.identity);
@@ -89,6 +106,9 @@ fn add_condition(told: &mut Told, condition: &Condition) {
     add_window(told, condition.window);
     add_media(told, &condition.media);
     told.add(event_name(condition.event));
+    add_flag(told, b"diverted", condition.diverted);
+    add_flag(told, b"abroad", condition.abroad);
+    add_weekly(told, condition.weekly);
 }
 
 fn add_forward(told: &mut Told, forward: &Forward) {
@@ -122,6 +142,10 @@ fn add_diversion(told: &mut Told, part: &Option<DiversionPart>) {
         told.add(b"diversion after");
         told.add_spaced_number(u64::from(part.no_reply));
         add_flag(told, b"deflection", part.deflection);
+        if let Some(bound) = part.bound {
+            told.add(b" bound");
+            told.add_spaced_number(u64::from(bound));
+        }
         told.add(b"\n");
         add_rules(told, &part.rules);
     }
@@ -268,9 +292,6 @@ a =
 calls = 2
 calls = 3
 =not TOML
-
-version = 2
-=unknown version
 
 [zebra]
 =unknown zebra
@@ -1018,8 +1039,388 @@ active = false
 "#;
 
 /// Records: keys, ranges and defaults of tables and rules, whole sheets, times, limits; and the first fault where there are several.
+/// Versions; and the keys of the second that stand alone, which are none of the first.
+const VERSIONS: &[u8] = br#"version = 2
+
+version = 1
+
+version = 0
+=wrong version
+
+version = 3
+=wrong version
+
+version = -1
+=wrong version
+
+version = true
+=wrong version
+
+version = "2"
+=wrong version
+
+version = 2.0
+=wrong version
+
+a = 1
+version = 3
+=wrong version
+
+version = 2
+[zebra]
+=unknown zebra
+
+[version]
+=wrong version
+
+version = 2
+[communication-diversion]
+bound = 0
+=diversion after 20 bound 0
+
+version = 2
+[communication-diversion]
+bound = 16
+=diversion after 20 bound 16
+
+version = 2
+[communication-diversion]
+active = 1
+bound = 17
+=wrong communication-diversion.active
+
+version = 2
+[communication-diversion]
+bound = 17
+deflection = 1
+=wrong communication-diversion.bound
+
+version = 2
+[communication-diversion]
+bound = -1
+=wrong communication-diversion.bound
+
+version = 2
+[communication-diversion]
+bound = "1"
+=wrong communication-diversion.bound
+
+[communication-diversion]
+bound = 1
+=unknown communication-diversion.bound
+
+version = 1
+[communication-diversion]
+bound = 1
+=unknown communication-diversion.bound
+
+version = 2
+[incoming-communication-barring]
+bound = 1
+=unknown incoming-communication-barring.bound
+
+version = 2
+[[communication-diversion.rule]]
+communication-diverted = true
+target = "sip:a@home.example"
+=diversion after 20
+=rule diverted: to<sip:a@home.example> notify target-to-caller served-to-caller served-to-target
+
+version = 2
+[[incoming-communication-barring.rule]]
+communication-diverted = true
+allow = false
+=incoming
+=rule diverted: bar
+
+version = 2
+[[incoming-communication-barring.rule]]
+communication-diverted = false
+allow = false
+=incoming
+=rule: bar
+
+version = 2
+[[incoming-communication-barring.rule]]
+communication-diverted = 1
+=wrong incoming-communication-barring.rule.0.communication-diverted
+
+[[incoming-communication-barring.rule]]
+communication-diverted = true
+allow = false
+=unknown incoming-communication-barring.rule.0.communication-diverted
+
+version = 2
+[[outgoing-communication-barring.rule]]
+communication-diverted = false
+allow = false
+=unknown outgoing-communication-barring.rule.0.communication-diverted
+
+version = 2
+[[outgoing-communication-barring.rule]]
+international = true
+allow = false
+=outgoing
+=rule abroad: bar
+
+version = 2
+[[outgoing-communication-barring.rule]]
+international = false
+allow = true
+=outgoing
+=rule: allow
+
+version = 2
+[[outgoing-communication-barring.rule]]
+international = "true"
+allow = true
+=wrong outgoing-communication-barring.rule.0.international
+
+[[outgoing-communication-barring.rule]]
+international = true
+allow = true
+=unknown outgoing-communication-barring.rule.0.international
+
+version = 2
+[[incoming-communication-barring.rule]]
+international = false
+allow = true
+=unknown incoming-communication-barring.rule.0.international
+
+version = 2
+[[communication-diversion.rule]]
+international = false
+target = "sip:a@home.example"
+=unknown communication-diversion.rule.0.international
+"#;
+
+/// Hours of the week: the keys alone, together, and each wrong.
+const HOURS: &[u8] = br#"version = 2
+[[incoming-communication-barring.rule]]
+days = ["sun", "mon", "thu"]
+day-from = "00:00"
+day-until = "24:00"
+allow = false
+=incoming
+=rule weekly x--x--x 0 1440 offset<0>: bar
+
+version = 2
+[[outgoing-communication-barring.rule]]
+days = ["tue", "wed", "fri", "sat"]
+day-from = "08:30"
+day-until = "08:31"
+offset = -840
+allow = false
+=outgoing
+=rule weekly -xx-xx- 510 511 offset<-840>: bar
+
+version = 2
+[[communication-diversion.rule]]
+days = ["mon", "tue", "wed", "thu", "fri", "sat", "sun"]
+day-from = "23:58"
+day-until = "23:59"
+offset = 840
+target = "sip:a@home.example"
+=diversion after 20
+=rule weekly xxxxxxx 1438 1439 offset<840>: to<sip:a@home.example> notify target-to-caller served-to-caller served-to-target
+
+[[incoming-communication-barring.rule]]
+days = ["mon"]
+day-from = "00:00"
+day-until = "24:00"
+allow = false
+=unknown incoming-communication-barring.rule.0.day-from
+
+[[incoming-communication-barring.rule]]
+days = ["mon"]
+allow = false
+=unknown incoming-communication-barring.rule.0.days
+
+[[incoming-communication-barring.rule]]
+offset = 0
+allow = false
+=unknown incoming-communication-barring.rule.0.offset
+
+version = 2
+[[incoming-communication-barring.rule]]
+days = ["mon"]
+allow = false
+=wrong incoming-communication-barring.rule.0.days
+
+version = 2
+[[incoming-communication-barring.rule]]
+day-from = "01:00"
+allow = false
+=wrong incoming-communication-barring.rule.0.day-from
+
+version = 2
+[[incoming-communication-barring.rule]]
+day-until = "01:00"
+allow = false
+=wrong incoming-communication-barring.rule.0.day-until
+
+version = 2
+[[incoming-communication-barring.rule]]
+day-from = "01:00"
+day-until = "02:00"
+allow = false
+=wrong incoming-communication-barring.rule.0.day-from
+
+version = 2
+[[incoming-communication-barring.rule]]
+day-from = "01:00"
+days = ["mon"]
+allow = false
+=wrong incoming-communication-barring.rule.0.day-from
+
+version = 2
+[[incoming-communication-barring.rule]]
+day-until = "01:00"
+days = ["mon"]
+allow = false
+=wrong incoming-communication-barring.rule.0.day-until
+
+version = 2
+[[incoming-communication-barring.rule]]
+offset = 0
+allow = false
+=wrong incoming-communication-barring.rule.0.offset
+
+version = 2
+[[incoming-communication-barring.rule]]
+day-from = "02:00"
+day-until = "02:00"
+days = ["mon"]
+allow = false
+=wrong incoming-communication-barring.rule.0.day-until
+
+version = 2
+[[incoming-communication-barring.rule]]
+day-from = "24:00"
+day-until = "24:00"
+days = ["mon"]
+allow = false
+=wrong incoming-communication-barring.rule.0.day-from
+
+version = 2
+[[incoming-communication-barring.rule]]
+day-from = "00:00"
+day-until = "24:01"
+days = ["mon"]
+allow = false
+=wrong incoming-communication-barring.rule.0.day-until
+
+version = 2
+[[incoming-communication-barring.rule]]
+day-from = "00:60"
+day-until = "24:00"
+days = ["mon"]
+allow = false
+=wrong incoming-communication-barring.rule.0.day-from
+
+version = 2
+[[incoming-communication-barring.rule]]
+day-from = "0:00"
+day-until = "24:00"
+days = ["mon"]
+allow = false
+=wrong incoming-communication-barring.rule.0.day-from
+
+version = 2
+[[incoming-communication-barring.rule]]
+day-from = "00:0a"
+day-until = "24:00"
+days = ["mon"]
+allow = false
+=wrong incoming-communication-barring.rule.0.day-from
+
+version = 2
+[[incoming-communication-barring.rule]]
+day-from = "00.00"
+day-until = "24:00"
+days = ["mon"]
+allow = false
+=wrong incoming-communication-barring.rule.0.day-from
+
+version = 2
+[[incoming-communication-barring.rule]]
+day-from = "00:00"
+day-until = 1440
+days = ["mon"]
+allow = false
+=wrong incoming-communication-barring.rule.0.day-until
+
+version = 2
+[[incoming-communication-barring.rule]]
+day-from = "00:00"
+day-until = "24:00"
+days = []
+allow = false
+=wrong incoming-communication-barring.rule.0.days
+
+version = 2
+[[incoming-communication-barring.rule]]
+day-from = "00:00"
+day-until = "24:00"
+days = ["mon", "tue", "mon"]
+allow = false
+=wrong incoming-communication-barring.rule.0.days
+
+version = 2
+[[incoming-communication-barring.rule]]
+day-from = "00:00"
+day-until = "24:00"
+days = ["Mon"]
+allow = false
+=wrong incoming-communication-barring.rule.0.days
+
+version = 2
+[[incoming-communication-barring.rule]]
+day-from = "00:00"
+day-until = "24:00"
+days = "mon"
+allow = false
+=wrong incoming-communication-barring.rule.0.days
+
+version = 2
+[[incoming-communication-barring.rule]]
+day-from = "00:00"
+day-until = "24:00"
+days = ["mon"]
+offset = 841
+allow = false
+=wrong incoming-communication-barring.rule.0.offset
+
+version = 2
+[[incoming-communication-barring.rule]]
+day-from = "00:00"
+day-until = "24:00"
+days = ["mon"]
+offset = -841
+allow = false
+=wrong incoming-communication-barring.rule.0.offset
+
+version = 2
+[[incoming-communication-barring.rule]]
+day-from = "00:00"
+day-until = "24:00"
+days = ["mon"]
+offset = "0"
+allow = false
+=wrong incoming-communication-barring.rule.0.offset
+
+version = 2
+[[incoming-communication-barring.rule]]
+day-from = 1
+day-until = "24:00"
+days = 1
+=wrong incoming-communication-barring.rule.0.day-from
+"#;
+
 #[test]
 fn reads_records(rt: HostRuntime) {
+    assert_right(&rt, "VERSIONS", wrong_record(rt.alloc(), VERSIONS));
+    assert_right(&rt, "HOURS", wrong_record(rt.alloc(), HOURS));
     assert_right(&rt, "TABLES", wrong_record(rt.alloc(), TABLES));
     assert_right(&rt, "RULES", wrong_record(rt.alloc(), RULES));
     assert_right(&rt, "SHEETS", wrong_record(rt.alloc(), SHEETS));

@@ -2,10 +2,13 @@
 //!
 //! The answers of a row are five: as the call arrives at a registered user, as it arrives at one who is not registered, at a busy user, without an answer, at a user who
 //! cannot be reached. Each is the place of the first rule that holds, or `-`. Rules divert, and a line has the keys behind the target.
+//!
+//! Of targets the answer is `a` where one is abroad, else `-`; a line has the digits of the home country.
 
 use crate::asserting::assert_right;
-use crate::reading::{Called, Table, facts, read_called, sheet_of, wrong_line};
-use mmtel_rules::{Facts, When, first, holds};
+use crate::reading::{Called, Table, facts, identity, read_called, sheet_of, wrong_line};
+use mmtel_lex::Text;
+use mmtel_rules::{Facts, When, abroad, first, holds};
 use mmtel_sheet_values::Rule;
 use mmtel_told::Told;
 
@@ -270,6 +273,37 @@ const RULES: &[u8] =
 -----|r99 audio|sip:bob@home.example|
 -----|r200 audio|sip:bob@home.example|
 -----|r150 video|sip:bob@home.example|
+# A call that was diverted before, and hours of the week: 1970 began on a Thursday.
+:, communication-diverted = true
+00---|d0||
+-----|-0||
+:, communication-diverted = false
+00---|d0||
+00---|-0||
+:, days = [\"thu\"], day-from = \"01:00\", day-until = \"02:00\", offset = 60
+00---|-0||
+00---|-3599999||
+-----|-3600000||
+00---|-604800000||
+-----|-86400000||
+:, days = [\"thu\"], day-from = \"01:00\", day-until = \"02:00\"
+-----|-0||
+-----|-3599999||
+00---|-3600000||
+00---|-7199999||
+-----|-7200000||
+:, days = [\"wed\"], day-from = \"10:00\", day-until = \"24:00\", offset = -840
+00---|-0||
+00---|-50399999||
+-----|-50400000||
+:, days = [\"sun\", \"mon\"], day-from = \"00:00\", day-until = \"24:00\"
+-----|-259199999||
+00---|-259200000||
+00---|-431999999||
+-----|-432000000||
+:, days = [\"thu\"], day-from = \"00:00\", day-until = \"24:00\", busy = true
+--0--|-0||
+-----|-86400000||
 # The first rule that holds counts: the first of a list, one in the middle, the last, or none.
 :, one = [\"sip:alice@home.example\"]&, many = \"home.example\"&, anonymous = true
 00---|-0|sip:alice@home.example|
@@ -300,4 +334,66 @@ const RULES: &[u8] =
 #[test]
 fn conditions_and_rules(rt: HostRuntime) {
     assert_right(&rt, "RULES", wrong_line::<Rules>(rt.alloc(), RULES));
+}
+
+/// The digits of the home country; none under no line.
+fn country(told: &mut Told, line: &[u8]) -> Option<Text> {
+    let digits = line.strip_prefix(b":")?;
+    Some(told.copy(digits))
+}
+
+/// Targets, of which some are abroad.
+struct Targets;
+
+impl Table for Targets {
+    fn tell(told: &mut Told, line: &[u8], asked: &[u8]) {
+        let country = country(told, line);
+        if let Some(uri) = identity(told, asked) {
+            told.add_if(abroad(&uri, country.as_ref()), b"a", b"-");
+            drop(uri);
+        }
+        drop(country);
+    }
+}
+
+/// Numbers of the home country and of others, as tel URIs and as sip URIs that stand for one (TS 24.611 §4.9.1.3, RFC 3966 §5.1.4, RFC 3261 §19.1.6).
+const TARGETS: &[u8] = b"# No home country is known.
+-|tel:+33155
+-|tel:+4930222
+# Germany. Visual separators have no say; what does not begin with `+` is no number of any country.
+:49
+a|tel:+33155
+-|tel:+4930222
+-|tel:+49
+a|tel:+4
+a|tel:+94
+-|tel:+(4)9-30.222
+a|tel:+3-3.155;x=y
+-|tel:33155
+-|tel:112
+a|sip:+33155@home.example;user=phone
+a|sip:+33155@far.example:5070;USER=phone
+-|sip:+4930222@far.example;user=phone
+-|sip:+33155@far.example
+-|sip:+33155@far.example;user=ip
+-|sip:+33-155@far.example;user=phone
+-|sip:33155@far.example;user=phone
+-|sip:+@far.example;user=phone
+-|sip:far.example;user=phone
+-|sip:alice@far.example
+# One digit, and three; digits are no number, so a leading zero counts.
+:1
+a|tel:+4930222
+-|tel:+12015550123
+:493
+-|tel:+4930222
+a|tel:+4920222
+:049
+a|tel:+4930222
+-|tel:+04930222
+";
+
+#[test]
+fn targets_abroad(rt: HostRuntime) {
+    assert_right(&rt, "TARGETS", wrong_line::<Targets>(rt.alloc(), TARGETS));
 }

@@ -29,6 +29,8 @@ pub fn facts(called: &Called) -> Facts<'_> {
         restricted: called.restricted,
         media: &called.media,
         now: called.now,
+        diverted: false,
+        abroad: false,
     }
 }
 

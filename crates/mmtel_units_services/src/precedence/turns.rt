@@ -320,6 +320,8 @@ fn tell_opening(told: &mut Told, flags: &[u8], target: Uri, sheet: &Sheet) {
         restricted: called.restricted,
         media: &called.media,
         now: called.now,
+        diverted: false,
+        abroad: false,
     };
     put_opening(told, flags, &facts, sheet);
     drop(party);

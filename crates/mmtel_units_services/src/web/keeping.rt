@@ -80,6 +80,13 @@ fn add_loaded(told: &mut Told, keeper: &mut MemoryKeeper) {
     }
 }
 
+fn add_migrated(told: &mut Told, keeper: &mut MemoryKeeper) {
+    match keeper.migrate(told.alloc) {
+        Ok(count) => told.add_number(count),
+        Err(fault) => add_fault(told, fault),
+    }
+}
+
 fn add_digits(told: &mut Told, rows: &[Row]) {
     for row in rows {
         told.add(&[digit_of(row)]);
@@ -128,6 +135,7 @@ impl Rows for Kept {
                 add_done(told, done);
             }
             [b'l', ..] => add_loaded(told, &mut self.keeper),
+            [b'm', ..] => add_migrated(told, &mut self.keeper),
             _ => add_listed(told, &mut self.keeper),
         }
         told.add(b"\n");
@@ -170,6 +178,50 @@ ok
 xd.yc.
 > r
 568
+";
+
+/// `m` migrates. The third call fails. The first text is a record of the first version, the second is no record; the third is first of the second version, and then empty.
+const MIGRATING: &[u8] = b"> sx[communication-waiting]
+ok
+> sya = 1
+ok
+> m
+failed
+> l
+x[communication-waiting].ya = 1.
+> m
+1
+> l
+xversion = 2
+
+[communication-waiting]
+active = true
+calls = 2
+
+[originating-identity-presentation]
+active = true
+
+[originating-identity-presentation-restriction]
+active = false
+default-behaviour = \"presentation-not-restricted\"
+mode = \"temporary\"
+
+[terminating-identity-presentation]
+active = true
+
+[terminating-identity-presentation-restriction]
+active = false
+default-behaviour = \"presentation-not-restricted\"
+mode = \"temporary\"
+.ya = 1.
+> szversion = 2
+ok
+> m
+0
+> sz
+ok
+> m
+1
 ";
 
 /// A table of texts.
@@ -258,8 +310,20 @@ fn wrong_kept(alloc: Global) -> usize {
     unless_failed(told, wrong)
 }
 
+fn wrong_migrated(alloc: Global) -> usize {
+    let mut told = Told::new(alloc);
+    let failing = numbers(&mut told, &[3]);
+    let mut kept = Kept {
+        keeper: MemoryKeeper::new(failing),
+    };
+    let wrong = wrong_line(alloc, &mut kept, MIGRATING);
+    drop(kept);
+    unless_failed(told, wrong)
+}
+
 #[test]
 fn keeping_in_memory(rt: HostRuntime) {
     assert_right(&rt, "kept", wrong_kept(rt.alloc()));
+    assert_right(&rt, "migrated", wrong_migrated(rt.alloc()));
     assert_right(&rt, "text", wrong_text(rt.alloc()));
 }

@@ -95,6 +95,16 @@ fn diverted_row() -> Row {
     }
 }
 
+fn add_migrated(told: &mut Told, done: Result<u64, KeepFault>) {
+    match done {
+        Ok(count) => {
+            told.add_number(count);
+            told.add(b"\n");
+        }
+        Err(fault) => add_done(told, Err(fault)),
+    }
+}
+
 /// Calls on a keeper that is bound to a path: what they came to.
 fn keep(told: &mut Told, keeper: &mut SqliteKeeper<'_>, path: &[u8]) {
     let alloc = told.alloc;
@@ -103,6 +113,10 @@ fn keep(told: &mut Told, keeper: &mut SqliteKeeper<'_>, path: &[u8]) {
     add_done(told, keeper.store(alloc, Account(2), b"a = 1"));
     add_done(told, keeper.add_rows(alloc, &[answered_row()]));
     add_done(told, keeper.add_rows(alloc, &[diverted_row()]));
+    add_done(told, keeper.store(alloc, Account(3), b"version = 1"));
+    add_migrated(told, keeper.migrate(alloc));
+    add_migrated(told, keeper.migrate(alloc));
+    add_done(told, keeper.store(alloc, Account(3), b"b = 1"));
 }
 
 /// What a keeper holds.
@@ -119,12 +133,18 @@ ok
 ok
 ok
 ok
+1
+0
+ok
+ok
 two a = 1
+any b = 1
 kind,account,call,began,answered,ended,holds,cause,status
 terminating,4294967295,18446744073709551615,0,200,250000000000000,4294967295,ended,0
 diversion,2,1,5,,7,0,too-many-diversions,486
 ok
 two a = 1
+any b = 1
 kind,account,call,began,answered,ended,holds,cause,status
 terminating,4294967295,18446744073709551615,0,200,250000000000000,4294967295,ended,0
 diversion,2,1,5,,7,0,too-many-diversions,486

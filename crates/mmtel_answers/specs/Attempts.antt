@@ -11,7 +11,7 @@ use Rattle.mmtel_lex.specs.declared.values.Uri.{Uri}
 use Rattle.mmtel_message.specs.Message.{Line, Message}
 use Rattle.mmtel_message.specs.declared.messages.Start.{Start}
 use Rattle.mmtel_trust.specs.Digest.{HeardMessage}
-use Rattle.mmtel_trust.specs.Passed.{read_by}
+use Rattle.mmtel_trust.specs.Passed.{display_and_uri, read_by}
 use Rattle.mmtel_types.specs.declared.addrs.Addr.{Addr}
 use Rattle.mmtel_types.specs.declared.numbers.Peer.{Peer}
 use Rattle.mmtel_types.specs.declared.sides.Side.TheVariants.{Callee}
@@ -23,7 +23,7 @@ use Rattle.mmtel_answers.specs.declared.attempts.Aim.{Aim}
 -- a display and a URI without the parameters behind them
 abbrev pub without_params : Option NameAddr → List ℕ
 without_params None = []
-without_params (Some n) = name_addr_text (record n { params = [] })
+without_params (Some n) = display_and_uri n
 
 -- a URI alone, in brackets
 abbrev pub bracketed : List ℕ → List ℕ

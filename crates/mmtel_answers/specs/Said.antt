@@ -1,6 +1,9 @@
 -- A message as it was heard: what is read of it, from whom it came, and where that peer is reached. Whoever reads no lines of it, no entry of its History-Info and not
 -- where it redirects to sees nothing of what is private.
-use Rattle.std.specs.Prelude.{ℕ, Bool, List, []}
+use Rattle.std.specs.Prelude.{ℕ, Bool, List, [], Option}
+use Rattle.std.specs.Option.{unwrap_or}
+use Rattle.mmtel_scan.specs.Chain.{◌>>=◌}
+use Rattle.mmtel_leg.specs.Dialogues.{number_at}
 use Rattle.mmtel_message.specs.Message.{Message}
 use Rattle.mmtel_message.specs.declared.messages.Start.{Start}
 use Rattle.mmtel_message.specs.declared.messages.Start.TheVariants.{Request, Status}
@@ -28,3 +31,11 @@ status_of (Status code phrase) = code
 abbrev pub phrase_in : Start → List ℕ
 phrase_in (Request method uri) = []
 phrase_in (Status code phrase) = phrase
+
+-- the number of its CSeq, where that can be read (§20.16)
+abbrev pub number_of : Said → Option ℕ
+number_of m = m.heard.cseq >>= number_at
+
+-- the tag of its To, which a response gives; no bytes where there is none (§19.3)
+abbrev pub tag_given : Said → List ℕ
+tag_given m = unwrap_or m.heard.to_tag []

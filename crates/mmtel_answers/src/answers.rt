@@ -10,8 +10,21 @@ use mmtel_scan::{List, NoMemory};
 use mmtel_types::Addr;
 use std::alloc::Global;
 
-/// The response of the server's own to a request: its status and phrase, the tag where the request has none, Contact with this value where one is due,
-/// lines that are passed on (History-Info of a 181), lines that are named for it, and a body (RFC 3261 §8.2.6).
+/// What a response of the server's own says (RFC 3261 §8.2.6).
+#[derive(Clone, Copy)]
+pub struct OwnResponse<'a> {
+    /// Its status.
+    pub code: u16,
+    /// Lines that are passed on: History-Info of a 181.
+    pub passed: &'a [Line],
+    /// Lines that are named for the status.
+    pub named: &'a [Line],
+    /// Its body.
+    pub body: &'a [u8],
+}
+
+/// The response of the server's own to a request: its status and phrase, the tag where the request has none, Contact with this value where one is due, and what else it
+/// says (RFC 3261 §8.2.6).
 ///
 /// # Errors
 ///
@@ -21,22 +34,20 @@ pub fn own_answer_at(
     contact: &[u8],
     request: &Hearing,
     tag: &[u8],
-    code: u16,
-    passed: &[Line],
-    named: &[Line],
-    body: &[u8],
+    own: OwnResponse<'_>,
 ) -> Result<Msg, NoMemory>
-    ensures message { IfOk result (λ m. m ≡ own_answer contact.now request.now tag.now code passed.now named.now body.now) }
+    ensures message { IfOk result (λ m. m
+        ≡ own_answer contact.now request.now tag.now own.entry.code own.entry.passed.now own.entry.named.now own.entry.body.now) }
 {
     let reply = Reply {
-        code,
-        phrase: phrase_of(code),
+        code: own.code,
+        phrase: phrase_of(own.code),
         tag,
         source: Some(request.source),
         contact,
-        passed,
-        named,
-        body,
+        passed: own.passed,
+        named: own.named,
+        body: own.body,
     };
     response(
         alloc,
@@ -56,24 +67,13 @@ pub fn own_answer(
     sip: Addr,
     request: &Hearing,
     tag: &[u8],
-    code: u16,
-    passed: &[Line],
-    named: &[Line],
-    body: &[u8],
+    own: OwnResponse<'_>,
 ) -> Result<Msg, NoMemory>
-    ensures message { IfOk result (λ m. m ≡ own_answer (contact_text sip) request.now tag.now code passed.now named.now body.now) }
+    ensures message { IfOk result (λ m. m
+        ≡ own_answer (contact_text sip) request.now tag.now own.entry.code own.entry.passed.now own.entry.named.now own.entry.body.now) }
 {
     let contact = contact_text(alloc, sip)?;
-    own_answer_at(
-        alloc,
-        contact.bytes(),
-        request,
-        tag,
-        code,
-        passed,
-        named,
-        body,
-    )
+    own_answer_at(alloc, contact.bytes(), request, tag, own)
 }
 
 /// The response that relays one which was heard, with these lines of it: its status, phrase and body, and the server's Contact where one is due (RFC 3261 §16.7).

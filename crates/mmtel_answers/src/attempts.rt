@@ -8,10 +8,10 @@ use crate::hearing::Hearing;
 use crate::requests::relaying;
 use mmtel_history::{with_cause, without_cause};
 use mmtel_leg::{Dialogue, numbered, request_uri};
-use mmtel_lex::{LexFault, NameAddr, Uri, print_name_addr, print_uri, read_name_addr};
+use mmtel_lex::{NameAddr, Uri, print_name_addr, print_uri};
 use mmtel_message::{Line, Msg, add_bytes, add_passed, first_of, is_request};
 use mmtel_scan::{List, NoMemory, Text, texts_copied};
-use mmtel_trust::attempt_from;
+use mmtel_trust::{attempt_from, display_and_uri, name_addr_in};
 use mmtel_types::{Addr, Peer, Side};
 use std::alloc::Global;
 
@@ -42,25 +42,9 @@ fn to_value(message: &Hearing) -> Option<&[u8]>
 fn without_params(alloc: Global, value: Option<&[u8]>) -> Result<Text, NoMemory>
     ensures { IfOk result (λ t. t ≡ without_params (read_by (option_copied value.entry))) }
 {
-    match value {
+    match name_addr_in(alloc, value)? {
         None => Ok(Text::new()),
-        Some(value) => match read_name_addr(alloc, value) {
-            Ok(name) => {
-                let NameAddr {
-                    display,
-                    uri,
-                    params: _,
-                } = name;
-                let alone = NameAddr {
-                    display,
-                    uri,
-                    params: List::new(),
-                };
-                print_name_addr(alloc, &alone)
-            }
-            Err(LexFault::Malformed) => Ok(Text::new()),
-            Err(LexFault::NoMemory) => Err(NoMemory),
-        },
+        Some(name) => display_and_uri(alloc, name),
     }
 }
 

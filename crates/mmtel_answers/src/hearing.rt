@@ -1,11 +1,15 @@
 //! Messages as they were heard.
-ghost use Rattle.std.specs.Prelude.{◌≡◌};
+ghost use Rattle.std.specs.Prelude.{◌≡◌, IfOk};
+ghost use Rattle.mmtel_leg.specs.Remotes.{remote_of};
 ghost use Rattle.mmtel_answers.specs.Requests.{hops_left};
-ghost use Rattle.mmtel_answers.specs.Said.{phrase_in, status_of};
+ghost use Rattle.mmtel_answers.specs.Said.{number_of, phrase_in, status_of, tag_given};
+ghost use Rattle.mmtel_types.specs.declared.sides.Side.TheVariants.{Callee};
 
+use mmtel_leg::{Remote, number_in};
 use mmtel_message::{Msg, Start, first_of};
-use mmtel_scan::number_up_to;
-use mmtel_types::{Addr, Peer};
+use mmtel_scan::{NoMemory, number_up_to};
+use mmtel_types::{Addr, Peer, Side};
+use std::alloc::Global;
 use std::marker::Model;
 
 /// A message as it was heard. Contracts see what is read of it.
@@ -60,4 +64,25 @@ pub fn hops_left(message: &Hearing) -> u8
             Some(hops) => (hops as u8).saturating_sub(1),
         },
     }
+}
+
+/// The number of CSeq of a message (RFC 3261 §20.16), where that can be read. It takes no memory.
+#[tactic(auto, unfolding(mmtel_leg::specs::Dialogues::number_in))]
+pub fn number_of(message: &Hearing) -> Option<u32>
+    ensures number { result ≡ number_of message.now }
+{
+    number_in(message.message.lines())
+}
+
+/// What the callee says of itself in a response (RFC 3261 §12.1.2).
+///
+/// # Errors
+///
+/// Want of memory alone.
+#[tactic(auto, unfolding(mmtel_leg::specs::Remotes::tag_in))]
+pub fn said_by_callee(alloc: Global, response: &Hearing) -> Result<Remote, NoMemory>
+    ensures remote { IfOk result (λ r. r ≡ remote_of Callee response.now.heard.lines) }
+    ensures tag { IfOk result (λ r. r.tag ≡ tag_given response.now) }
+{
+    Remote::read(alloc, &response.message, Side::Callee)
 }

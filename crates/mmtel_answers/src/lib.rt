@@ -8,9 +8,9 @@ mod hearing;
 mod laws;
 mod requests;
 
-pub use answers::{allowed, own_answer, own_answer_at, relayed_answer, retry_after};
+pub use answers::{OwnResponse, allowed, own_answer, own_answer_at, relayed_answer, retry_after};
 pub use attempts::{Aim, bracketed, called, calling, dialogue_to, diverted_aim, first_aim, invite};
-pub use hearing::{Hearing, status_of};
+pub use hearing::{Hearing, number_of, said_by_callee, status_of};
 pub use laws::{
     attempts_hide_their_caller, legs_begin_with_their_invite, masked_requests_are_answered_alike,
     relayed_answers_have_the_fields, repeats_have_what_they_repeat, responses_rest_on_six_names,

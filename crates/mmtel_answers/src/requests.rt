@@ -100,20 +100,20 @@ pub fn relayed_request<P>(
     )
 }
 
-/// The ACK of a leg's 2xx that relays none (RFC 3261 §13.2.2.4).
+/// The ACK of the 2xx of a dialog that relays none (RFC 3261 §13.2.2.4).
 ///
 /// # Errors
 ///
 /// Want of memory alone.
-pub fn own_ack<P>(
+pub fn own_ack(
     alloc: Global,
-    leg: &LegOf<P, Standing>,
+    dialogue: &Dialogue,
     sip: Addr,
     branch: &Text,
 ) -> Result<Msg, NoMemory>
-    ensures message { IfOk result (λ m. m ≡ ack_of leg.now.dialogue (bare sip branch.now)) }
+    ensures message { IfOk result (λ m. m ≡ ack_of dialogue.now (bare sip branch.now)) }
 {
-    leg.ack(alloc, sip, 70, branch, &List::new(), b"")
+    dialogue.ack(alloc, &bare(sip, branch))
 }
 
 /// The ACK of a leg's 2xx that relays the ACK of the other side, with these lines of it.

@@ -1,3 +1,4 @@
+mod Dropped
 mod Lines
 mod Reading
 mod Telling

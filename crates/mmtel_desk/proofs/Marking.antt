@@ -288,7 +288,8 @@ module _ {X : Type 0} (number : X → ℕ) where
   pushed_ascends low high higher [] x f g a = (omega arith, g)
   pushed_ascends low high higher (z ∷ xs) x f g a = (a.0, pushed_ascends (number z) high higher xs x f g a.1)
 
-  below_at : (low high : ℕ) (xs : List X) (k : ℕ) (x : X) → Ascend number low xs high → slice_get xs k ≡ Some x → low < number x
+  -- each is above what all are
+  pub below_at : (low high : ℕ) (xs : List X) (k : ℕ) (x : X) → Ascend number low xs high → slice_get xs k ≡ Some x → low < number x
   below_at low high [] k x a is = absurd (none-some x is)
   below_at low high (z ∷ xs) zero x a is = let f : z ≡ x = same_Some z x is in subst (λ (y : X). low < number y) f a.0
   below_at low high (z ∷ xs) (suc k) x a is = let h = a.0 in let g = below_at (number z) high xs k x a.1 is in omega (arith, h, g)

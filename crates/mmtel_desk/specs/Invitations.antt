@@ -1,10 +1,12 @@
 -- An INVITE that the server sent, from its sending on (RFC 3261 §13.2).
-use Rattle.std.specs.Prelude.{ℕ, ◌==◌, ◌||◌, not, nat_lt, Bool, true, false, ◌&&◌, if◌then◌else◌, Option, Some, None, List, [], length}
+use Rattle.std.specs.Prelude.{ℕ, ◌+◌, ◌==◌, ◌||◌, nat_lt, Bool, true, false, if◌then◌else◌, Option, Some, None, List, [], ◌++◌, drop, length, take}
 use Rattle.std.specs.Option.{option_or}
 use Rattle.mmtel_leg.specs.declared.dialogues.Dialogue.{Dialogue}
 use Rattle.mmtel_leg.specs.declared.remotes.Remote.{Remote}
+use Rattle.mmtel_sip_rules.specs.Invites.{is_cancel_due}
 use Rattle.mmtel_transaction.specs.declared.words.TKey.{TKey}
 use Rattle.mmtel_desk.specs.declared.invitations.Invitation.{Invitation}
+use Rattle.mmtel_desk.specs.declared.invitations.Loose.{Loose}
 
 -- as it was sent in this dialog with this number and this branch
 abbrev pub sent : Dialogue → (number : ℕ) → (branch : List ℕ) → Invitation
@@ -28,8 +30,26 @@ with_early said i = record i { early = option_or i.early said }
 
 -- a CANCEL is due where a provisional response came and none was sent (§9.1)
 abbrev pub is_cancellable : Invitation → Bool
-is_cancellable i = i.provisional && not i.cancelled
+is_cancellable i = is_cancel_due i.provisional i.cancelled
 
 -- once it was cancelled, where that was due
 abbrev pub once_cancelled : Invitation → Invitation
 once_cancelled i = if is_cancellable i then record i { cancelled = true } else i
+
+-- ---- by its client transaction, once a response told it
+
+abbrev pub is_key : TKey → Option TKey → Bool
+is_key key None = false
+is_key key (Some other) = other.0 == key.0
+
+abbrev pub is_loose_key : TKey → Loose → Bool
+is_loose_key key l = is_key key l.invitation.key
+
+-- ---- in a list: what is left without the one at a place, if there is one
+
+abbrev pub without_at : {A : Type 0} → (at : ℕ) → List A → List A
+without_at at items = take at items ++ drop (at + 1) items
+
+abbrev pub without : {A : Type 0} → (at : Option ℕ) → List A → List A
+without None items = items
+without (Some at) items = without_at at items

@@ -1,6 +1,6 @@
 -- INVITEs that were left before they had a final answer, of calls and of rooms: what is still done about a response to one (RFC 3261 §9.1, §13.2.2.4, §17.1.1.3). A late
 -- 2xx makes a dialog that ends at once; a late provisional response lets the CANCEL go; a late refusal has its ACK, and silence has nothing.
-use Rattle.std.specs.Prelude.{ℕ, nat_lt, ◌||◌, Bool, true, if◌then◌else◌, Option, Some, None, List, [], ◌∷◌, ◌++◌, codes, position, slice_get}
+use Rattle.std.specs.Prelude.{ℕ, nat_lt, Bool, true, if◌then◌else◌, Option, Some, None, List, [], ◌∷◌, ◌++◌, codes, position, slice_get}
 use Rattle.std.specs.Str.{bytes_eq}
 use Rattle.mmtel_answers.specs.Attempts.{called}
 use Rattle.mmtel_answers.specs.Said.{status_of}
@@ -8,6 +8,7 @@ use Rattle.mmtel_leg.specs.Dialogues.{after_request, met}
 use Rattle.mmtel_leg.specs.Remotes.{remote_of}
 use Rattle.mmtel_leg.specs.declared.dialogues.Dialogue.{Dialogue}
 use Rattle.mmtel_leg.specs.declared.remotes.Remote.{Remote}
+use Rattle.mmtel_sip_rules.specs.Invites.{is_of_dialog}
 use Rattle.mmtel_transaction.specs.declared.words.TKey.{TKey}
 use Rattle.mmtel_trust.specs.Digest.{HeardMessage}
 use Rattle.mmtel_types.specs.declared.addrs.Addr.{Addr}
@@ -43,7 +44,7 @@ made_from within early d remote = if within then d else met (begun early remote.
 
 -- the dialog of this 2xx, if it had its BYE before; in a dialog that stood there is but one
 abbrev pub is_ended : (within : Bool) → (tag : List ℕ) → Dialogue → Bool
-is_ended within tag d = within || bytes_eq d.remote_tag tag
+is_ended within tag d = is_of_dialog within d.remote_tag tag
 
 abbrev pub fork_at : List Dialogue → Option ℕ → Option Dialogue
 fork_at forks None = None

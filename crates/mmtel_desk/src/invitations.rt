@@ -1,10 +1,10 @@
 //! INVITEs that the server sent.
-ghost use Rattle.std.specs.Prelude.{◌≡◌};
-ghost use Rattle.mmtel_desk.specs.Invitations.{early_said, is_cancellable, once_cancelled, sent, with_early};
+ghost use Rattle.std.specs.Prelude.{◌≡◌, ◌<◌, ℕ, Some, length, position};
+ghost use Rattle.mmtel_desk.specs.Invitations.{early_said, is_cancellable, is_key, is_loose_key, once_cancelled, sent, with_early, without};
 
-use mmtel_decisions::is_cancel_due;
 use mmtel_leg::{Dialogue, Remote};
 use mmtel_scan::{List, Text};
+use mmtel_sip_rules::is_cancel_due;
 use mmtel_transaction::TKey;
 
 /// An INVITE that the server sent.
@@ -55,6 +55,34 @@ impl Invitation {
             forks: List::new(),
             early: None,
         }
+    }
+
+    /// Whether it went by this client transaction, as far as a response told it.
+    pub fn has_key(&self, key: TKey) -> bool
+        ensures exact { result ≡ is_key key self.now.key }
+    {
+        match self.key {
+            None => false,
+            Some(other) => other.0 == key.0,
+        }
+    }
+}
+
+/// The place of the INVITE of this client transaction among those that were left.
+pub fn loose_of(loose: &[Loose], key: TKey) -> Option<usize>
+    ensures place { result ≡ position (is_loose_key key) loose.now }
+{
+    loose.iter().position(|one| one.invitation.has_key(key))
+}
+
+/// Lets the item at a place go, if there is one.
+pub fn drop_at<T: Drop>(items: &mut List<T>, at: Option<usize>)
+    requires { (n : ℕ) → at ≡ Some n → n < length items.old }
+    ensures rest { items.new ≡ without at items.old }
+{
+    match at {
+        None => {}
+        Some(at) => drop(items.remove(at)),
     }
 }
 

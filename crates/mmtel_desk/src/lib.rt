@@ -15,10 +15,11 @@ mod sending;
 
 pub use desks::{Desk, file};
 pub use index::Index;
-pub use invitations::{Invitation, Loose, once_cancelled, with_early};
+pub use invitations::{Invitation, Loose, drop_at, loose_of, once_cancelled, with_early};
 pub use invites::{invite_answered, invite_silent};
 pub use laws::{
     answers_have_heads, masked_requests_have_one_head, repeats_have_heads, requests_have_heads,
 };
 pub use loose::loose_at;
 pub use marks::{Mark, told};
+pub use offering::AttemptInvite;

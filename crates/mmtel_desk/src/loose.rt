@@ -1,9 +1,8 @@
 //! INVITEs that were left before they had a final answer.
-ghost use Rattle.std.specs.Prelude.{◌≡◌, ◌<◌, IfOk, OnErr, OnOk, Some, None, codes, if◌then◌else◌, position, true, false};
+ghost use Rattle.std.specs.Prelude.{◌≡◌, ◌<◌, IfOk, OnErr, OnOk, Some, None, codes, if◌then◌else◌, position, true};
 ghost use Rattle.std.specs.Option.{option_copied, option_or};
 ghost use Rattle.mmtel_answers.specs.Attempts.{called};
 ghost use Rattle.mmtel_answers.specs.Said.{status_of};
-ghost use Rattle.mmtel_decisions.specs.Late.{late_dues};
 ghost use Rattle.mmtel_desk.specs.Loose.{acked_and_ended, begun, fork_at, is_ended, is_of, late_cancelled, made_from, on_response, on_success, told_late};
 ghost use Rattle.mmtel_desk.specs.Sending.{acked, bye};
 ghost use Rattle.mmtel_leg.specs.Dialogues.{after_request};
@@ -13,9 +12,9 @@ ghost use Rattle.mmtel_types.specs.declared.sides.Side.TheVariants.{Callee};
 use crate::desks::{Desk, file};
 use crate::invitations::{Loose, early_said, is_cancellable};
 use mmtel_answers::{Hearing, called, status_of};
-use mmtel_decisions::{Dues, late_dues};
 use mmtel_leg::{Dialogue, Remote};
 use mmtel_scan::{NoMemory, texts_copied};
+use mmtel_sip_rules::is_of_dialog;
 use mmtel_transaction::TKey;
 use mmtel_types::{Addr, Side};
 use std::alloc::Global;
@@ -40,7 +39,7 @@ pub fn loose_at(loose: &[Loose], branch: &[u8]) -> Option<usize>
 fn is_ended(within: bool, tag: &[u8], dialogue: &Dialogue) -> bool
     ensures { result ≡ is_ended within tag.now dialogue.now }
 {
-    mmtel_decisions::is_ended(within, dialogue.remote_tag.bytes(), tag)
+    is_of_dialog(within, dialogue.remote_tag.bytes(), tag)
 }
 
 /// The place of the dialog of a 2xx with this tag.
@@ -154,75 +153,41 @@ fn staying(stays: bool, loose: Loose) -> Option<Loose>
 }
 
 impl Desk {
-    /// The ACK of a 2xx, where that is due.
-    fn acknowledge_if(
-        &mut self,
-        alloc: Global,
-        sip: Addr,
-        due: bool,
-        dialogue: &Dialogue,
-    ) -> Result<(), NoMemory>
-        ensures done { OnOk result (self.new ≡ (if due then acked sip dialogue.now self.old else self.old)) }
-        ensures rows { OnErr result (self.new.rows ≡ self.old.rows) }
-    {
-        if due {
-            return self.acknowledge_in(alloc, sip, dialogue);
-        }
-        Ok(())
-    }
-
-    /// The BYE of a dialog, where that is due.
-    fn end_if(
-        &mut self,
-        alloc: Global,
-        sip: Addr,
-        due: bool,
-        dialogue: &mut Dialogue,
-    ) -> Result<(), NoMemory>
-        ensures done { OnOk result (self.new ≡ (if due then bye sip dialogue.old self.old else self.old)) }
-        ensures counted { OnOk result (dialogue.new ≡ (if due then after_request dialogue.old (codes "BYE") else dialogue.old)) }
-        ensures rows { OnErr result (self.new.rows ≡ self.old.rows) }
-    {
-        if due {
-            return self.bye_in(alloc, sip, dialogue);
-        }
-        Ok(())
-    }
-
-    /// What is due in the dialog of a 2xx of a loose INVITE.
-    fn settle(
-        &mut self,
-        alloc: Global,
-        sip: Addr,
-        dues: Dues,
-        dialogue: &mut Dialogue,
-    ) -> Result<(), NoMemory>
-        requires { dues ≡ late_dues false }
-        ensures done { OnOk result (self.new ≡ bye sip dialogue.old (acked sip dialogue.old self.old)) }
-        ensures counted { OnOk result (dialogue.new ≡ after_request dialogue.old (codes "BYE")) }
-        ensures rows { OnErr result (self.new.rows ≡ self.old.rows) }
-    {
-        self.acknowledge_if(alloc, sip, dues.ack, dialogue)?;
-        self.end_if(alloc, sip, dues.bye, dialogue)
-    }
-
-    /// The ACK of a 2xx of a loose INVITE and the BYE of its dialog, which is kept.
+    /// The ACK of a 2xx of a loose INVITE and the BYE of its dialog.
     fn acknowledge_and_end(
         &mut self,
         alloc: Global,
         sip: Addr,
-        dues: Dues,
+        dialogue: &mut Dialogue,
+    ) -> Result<(), NoMemory>
+        ensures done { OnOk result (self.new ≡ bye sip dialogue.old (acked sip dialogue.old self.old)) }
+        ensures counted { OnOk result (dialogue.new ≡ after_request dialogue.old (codes "BYE")) }
+        ensures rows { OnErr result (self.new.rows ≡ self.old.rows) }
+    {
+        self.acknowledge_in(alloc, sip, dialogue)?;
+        self.bye_in(alloc, sip, dialogue)
+    }
+
+    /// The same of the dialog that a 2xx of a loose INVITE made, which is kept.
+    fn end_fork(
+        &mut self,
+        alloc: Global,
+        sip: Addr,
         loose: &mut Loose,
         dialogue: Dialogue,
     ) -> Result<(), NoMemory>
-        requires { dues ≡ late_dues false }
         ensures desk { OnOk result (self.new ≡ (acked_and_ended sip loose.old dialogue self.old).desk) }
         ensures left { OnOk result (Some loose.new ≡ (acked_and_ended sip loose.old dialogue self.old).left) }
         ensures rows { OnErr result (self.new.rows ≡ self.old.rows) }
     {
         let mut dialogue = dialogue;
-        self.settle(alloc, sip, dues, &mut dialogue)?;
-        file(alloc, &mut loose.invitation.forks, dialogue)
+        match self.acknowledge_and_end(alloc, sip, &mut dialogue) {
+            Ok(()) => file(alloc, &mut loose.invitation.forks, dialogue),
+            Err(error) => {
+                drop(dialogue);
+                Err(error)
+            }
+        }
     }
 
     /// What a 2xx of a loose INVITE brings, where the callee says this of itself.
@@ -239,12 +204,12 @@ impl Desk {
     {
         let forks = loose.invitation.forks.items();
         match ended_before(loose.within, remote.tag.bytes(), forks) {
-            Some(dialogue) => self.acknowledge_if(alloc, sip, late_dues(true).ack, dialogue),
+            Some(dialogue) => self.acknowledge_in(alloc, sip, dialogue),
             None => {
                 let early = loose.invitation.early.as_ref();
                 let sent = &loose.invitation.dialogue;
                 let dialogue = made_from(alloc, loose.within, early, sent, remote)?;
-                self.acknowledge_and_end(alloc, sip, late_dues(false), loose, dialogue)
+                self.end_fork(alloc, sip, loose, dialogue)
             }
         }
     }

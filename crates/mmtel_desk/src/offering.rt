@@ -14,6 +14,19 @@ use mmtel_transaction::Emit;
 use mmtel_types::Addr;
 use std::alloc::Global;
 
+/// The INVITE of an attempt, as it is made of the one that opened the call.
+#[derive(Clone, Copy)]
+pub struct AttemptInvite<'a> {
+    /// The INVITE that opened the call.
+    pub opening: &'a Hearing,
+    /// Whether who calls is hidden from the target.
+    pub restricted: bool,
+    /// The lines of the opening INVITE that it has.
+    pub passed: &'a [Line],
+    /// Whether it tells that the call waits.
+    pub waiting: bool,
+}
+
 impl Desk {
     /// The dialog of an attempt: Call-ID and tag are drawn.
     fn attempt_dialog(
@@ -33,8 +46,7 @@ impl Desk {
         calling(alloc, aim, opening, restricted, call_id, tag)
     }
 
-    /// Offers a call to a target: the INVITE that opened it goes there, with these lines of it, and tells where the call waits. Call-ID, tag and branch are drawn, in this
-    /// order. Gives the INVITE as it was sent.
+    /// Offers a call to a target by this INVITE. Call-ID, tag and branch are drawn, in this order. Gives the INVITE as it was sent.
     ///
     /// # Errors
     ///
@@ -44,16 +56,21 @@ impl Desk {
         alloc: Global,
         sip: Addr,
         aim: Aim,
-        opening: &Hearing,
-        restricted: bool,
-        passed: &[Line],
-        waiting: bool,
+        attempt: AttemptInvite<'_>,
     ) -> Result<Invitation, NoMemory>
-        ensures done { OnOk result (self.new ≡ offered sip aim opening.now.heard restricted passed.now waiting self.old) }
-        ensures invitation { IfOk result (λ i. i ≡ sent (attempt_dialog aim opening.now.heard restricted self.old) 1 (token (drew (drew self.old)))) }
+        ensures done { OnOk result (self.new
+            ≡ offered sip aim attempt.entry.opening.now.heard attempt.entry.restricted attempt.entry.passed.now attempt.entry.waiting self.old) }
+        ensures invitation { IfOk result (λ i. i
+            ≡ sent (attempt_dialog aim attempt.entry.opening.now.heard attempt.entry.restricted self.old) 1 (token (drew (drew self.old)))) }
         ensures out { OnErr result (self.new.out ≡ self.old.out) }
         ensures rows { OnErr result (self.new.rows ≡ self.old.rows) }
     {
+        let AttemptInvite {
+            opening,
+            restricted,
+            passed,
+            waiting,
+        } = attempt;
         let dialogue = self.attempt_dialog(alloc, aim, opening, restricted)?;
         let branch = self.draw(alloc)?;
         let msg = invite(alloc, &dialogue, sip, &branch, passed, waiting, opening)?;

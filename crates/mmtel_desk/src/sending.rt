@@ -2,15 +2,13 @@
 ghost use Rattle.std.specs.Prelude.{◌≡◌, IfOk, OnErr, OnOk, codes};
 ghost use Rattle.mmtel_leg.specs.Dialogues.{after_request};
 ghost use Rattle.mmtel_leg.specs.Legs.{with_dialogue};
-ghost use Rattle.mmtel_leg.specs.Requests.{ack_of};
-ghost use Rattle.mmtel_answers.specs.Requests.{bare};
 ghost use Rattle.mmtel_desk.specs.Desks.{token};
 ghost use Rattle.mmtel_desk.specs.Sending.{ack_text, acked, acked_for, answered, answered_at, asked, asked_for, asked_with, bye, relayed, relayed_ack_text, replied};
 
 use crate::desks::Desk;
 use mmtel_answers::{
-    Hearing, bare, own_answer, own_answer_at, own_request, relayed_ack, relayed_answer,
-    relayed_request,
+    Hearing, OwnResponse, bare, own_ack, own_answer, own_answer_at, own_request, relayed_ack,
+    relayed_answer, relayed_request,
 };
 use mmtel_leg::{Dialogue, LegOf, Standing};
 use mmtel_message::{Line, Msg};
@@ -19,19 +17,12 @@ use mmtel_transaction::{Emit, TKey};
 use mmtel_types::Addr;
 use std::alloc::Global;
 
-/// The ACK of a dialog's 2xx that relays none.
-fn own_ack(alloc: Global, sip: Addr, dialogue: &Dialogue, branch: &Text) -> Result<Msg, NoMemory>
-    ensures { IfOk result (λ m. m ≡ ack_of dialogue.now (bare sip branch.now)) }
-{
-    dialogue.ack(alloc, &bare(sip, branch))
-}
-
-/// Its text.
+/// The text of the ACK of a dialog's 2xx that relays none.
 #[tactic(auto, unfolding(crate::specs::Sending::ack_text))]
 fn ack_text(alloc: Global, sip: Addr, dialogue: &Dialogue, branch: &Text) -> Result<Text, NoMemory>
     ensures { IfOk result (λ t. t ≡ ack_text sip dialogue.now branch.now) }
 {
-    let message = own_ack(alloc, sip, dialogue, branch)?;
+    let message = own_ack(alloc, dialogue, sip, branch)?;
     message.text(alloc)
 }
 
@@ -52,8 +43,7 @@ fn relayed_ack_text<P>(
 }
 
 impl Desk {
-    /// Answers a request with a response of the server's own, with this value of Contact where one is due: lines that are passed on (History-Info of a 181), lines that are
-    /// named for the status, and a body (RFC 3261 §8.2.6).
+    /// Answers a request with a response of the server's own, with this value of Contact where one is due (RFC 3261 §8.2.6).
     ///
     /// # Errors
     ///
@@ -65,15 +55,13 @@ impl Desk {
         key: TKey,
         request: &Hearing,
         tag: &[u8],
-        code: u16,
-        passed: &[Line],
-        named: &[Line],
-        body: &[u8],
+        own: OwnResponse<'_>,
     ) -> Result<(), NoMemory>
-        ensures done { OnOk result (self.new ≡ answered_at contact.now key request.now tag.now code passed.now named.now body.now self.old) }
+        ensures done { OnOk result (self.new
+            ≡ answered_at contact.now key request.now tag.now own.entry.code own.entry.passed.now own.entry.named.now own.entry.body.now self.old) }
         ensures refused { OnErr result (self.new ≡ self.old) }
     {
-        let msg = own_answer_at(alloc, contact, request, tag, code, passed, named, body)?;
+        let msg = own_answer_at(alloc, contact, request, tag, own)?;
         self.emit(alloc, Emit::Reply { key, msg })
     }
 
@@ -89,15 +77,13 @@ impl Desk {
         key: TKey,
         request: &Hearing,
         tag: &[u8],
-        code: u16,
-        passed: &[Line],
-        named: &[Line],
-        body: &[u8],
+        own: OwnResponse<'_>,
     ) -> Result<(), NoMemory>
-        ensures done { OnOk result (self.new ≡ answered sip key request.now tag.now code passed.now named.now body.now self.old) }
+        ensures done { OnOk result (self.new
+            ≡ answered sip key request.now tag.now own.entry.code own.entry.passed.now own.entry.named.now own.entry.body.now self.old) }
         ensures refused { OnErr result (self.new ≡ self.old) }
     {
-        let msg = own_answer(alloc, sip, request, tag, code, passed, named, body)?;
+        let msg = own_answer(alloc, sip, request, tag, own)?;
         self.emit(alloc, Emit::Reply { key, msg })
     }
 
@@ -118,7 +104,13 @@ impl Desk {
         ensures done { OnOk result (self.new ≡ replied sip key request.now tag.now code self.old) }
         ensures refused { OnErr result (self.new ≡ self.old) }
     {
-        self.answer(alloc, sip, key, request, tag, code, &[], &[], b"")
+        let own = OwnResponse {
+            code,
+            passed: &[],
+            named: &[],
+            body: b"",
+        };
+        self.answer(alloc, sip, key, request, tag, own)
     }
 
     /// Answers a request with a response that was heard, with these lines of it (RFC 3261 §16.7).
@@ -266,7 +258,31 @@ impl Desk {
         )
     }
 
-    /// The same of a leg.
+    /// The same. Gives the text of the ACK, which is sent again for each repeat of the 2xx.
+    ///
+    /// # Errors
+    ///
+    /// As of `acknowledge_in`.
+    pub fn acknowledge_keeping(
+        &mut self,
+        alloc: Global,
+        sip: Addr,
+        dialogue: &Dialogue,
+    ) -> Result<Text, NoMemory>
+        ensures text { IfOk result (λ t. t ≡ ack_text sip dialogue.now (token self.old)) }
+        ensures done { OnOk result (self.new ≡ acked sip dialogue.now self.old) }
+        ensures out { OnErr result (self.new.out ≡ self.old.out) }
+        ensures rows { OnErr result (self.new.rows ≡ self.old.rows) }
+    {
+        let branch = self.draw(alloc)?;
+        let text = ack_text(alloc, sip, dialogue, &branch)?;
+        let kept = text.copied(alloc)?;
+        let peer = dialogue.peer;
+        self.emit(alloc, Emit::Plain { peer, text })?;
+        Ok(kept)
+    }
+
+    /// Acknowledges the 2xx of a leg by an ACK that relays none.
     ///
     /// # Errors
     ///

@@ -1,5 +1,6 @@
 -- What public clauses cite, which a user of the crate has to believe.
 pub mod Laws
 pub mod Restriction
+pub mod TrustDomain
 
 -- What private functions alone cite: nothing.

@@ -1,11 +1,14 @@
-//! Whose identity is restricted, and who is shown whose: the presentation and restriction of identities (TS 24.607, TS 24.608).
+//! Whose identity is restricted, and who is shown whose: the presentation and restriction of identities (TS 24.607, TS 24.608), and the trust domain over plain values (RFC
+//! 3325).
 #![tactic(auto)]
 
 mod laws;
 mod restriction;
+mod trust_domain;
 
 pub use laws::{
     nothing_asked_is_not_restricted, permanent_mode_restricts, privacy_words_restrict,
     restriction_has_three_grounds,
 };
 pub use restriction::{callee_restricted, caller_restricted, present_to};
+pub use trust_domain::{if_trusted, is_in_trust_domain, shows_identity, unless_restricted};

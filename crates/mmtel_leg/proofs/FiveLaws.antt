@@ -80,7 +80,8 @@ via_again sip branch is low token =
     let host : IsOneOrMore Host (ip_text sip.ip) = ip_in Host digit_host dot_host sip is in
     ap via_at (via_whole sip branch) ∙ written_reads (codes "UDP") (ip_text sip.ip) sip.port (branch_of branch ∷ []) udp_token host (ip_length sip.ip is.bytes) low is.port are
 
-via_read : (d : Dialogue) (number : ℕ) (method : List ℕ) (given : Given) → IsSource given.sip → 0 < given.sip.port → IsToken given.branch → via_in (numbered d number method given).lines ≡ Some (via_of given.sip given.branch)
+-- the Via of a request that is built
+pub via_read : (d : Dialogue) (number : ℕ) (method : List ℕ) (given : Given) → IsSource given.sip → 0 < given.sip.port → IsToken given.branch → via_in (numbered d number method given).lines ≡ Some (via_of given.sip given.branch)
 unfolding line
 via_read d number method given is low token =
     let again = via_again given.sip given.branch is low token in

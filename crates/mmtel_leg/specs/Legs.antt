@@ -1,6 +1,7 @@
 -- What contracts see of a leg, of either side and in any state: its dialog, and its meter where it has one.
-use Rattle.std.specs.Prelude.{Option}
+use Rattle.std.specs.Prelude.{Option, codes}
 use Rattle.mmtel_charging.specs.Meters.{Noted}
+use Rattle.mmtel_leg.specs.Dialogues.{after_request}
 use Rattle.mmtel_leg.specs.declared.dialogues.Dialogue.{Dialogue}
 
 pub record Leg : Type 0 where
@@ -9,3 +10,7 @@ pub record Leg : Type 0 where
 
 abbrev pub with_dialogue : Leg → Dialogue → Leg
 with_dialogue leg d = record leg { dialogue = d }
+
+-- the leg, once the server sent an INVITE in its dialog
+abbrev pub having_invited : Leg → Leg
+having_invited leg = with_dialogue leg (after_request leg.dialogue (codes "INVITE"))

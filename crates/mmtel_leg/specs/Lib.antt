@@ -4,6 +4,7 @@ pub mod Remotes
 pub mod Dialogues
 pub mod Requests
 pub mod Legs
+pub mod Names
 pub mod Releases
 -- Of the laws alone:
 pub mod Deeds

@@ -72,10 +72,10 @@ fn number_at(bytes: &[u8]) -> Option<u32>
     }
 }
 
-/// The number in CSeq, where that can be read.
+/// The number in CSeq (RFC 3261 §20.16), where that can be read.
 #[tactic(auto, unfolding(crate::specs::Dialogues::number_in))]
 pub fn number_in(lines: &[Line]) -> Option<u32>
-    ensures { result ≡ number_in lines.now }
+    ensures number { result ≡ number_in lines.now }
 {
     match first_of(lines, b"CSeq") {
         None => None,

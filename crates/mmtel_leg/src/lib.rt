@@ -6,11 +6,12 @@ mod dialogues;
 mod fields;
 mod laws;
 mod legs;
+mod names;
 mod remotes;
 mod requests;
 
 pub use dialogues::{Dialogue, DialogueFault, InFlight};
-pub use fields::request_uri;
+pub use fields::{number_in, request_uri};
 pub use laws::{
     acks_have_the_number_of_their_invite, five_fields_read_back, meters_come_back,
     numbers_read_back, numbers_rise_by_one, refusals_change_nothing, requests_are_in_order,
@@ -19,5 +20,6 @@ pub use laws::{
 pub use legs::{
     Asked, CalleeLeg, CallerLeg, Early, Ended, LegOf, OfCallee, OfCaller, Released, Standing,
 };
+pub use names::DialogName;
 pub use remotes::Remote;
 pub use requests::{Parts, numbered};

@@ -3,7 +3,6 @@
 
 mod laws;
 mod parties;
-mod reading;
 mod routing;
 mod served;
 

@@ -1,20 +1,18 @@
 //! The parties of a call that a request opens (RFC 5502 §7.2, TS 24.229 §5.7.1.3A).
 ghost use Rattle.std.specs.Prelude.{◌≡◌, IfOk, None};
 ghost use Rattle.std.specs.Option.{option_copied};
-ghost use Rattle.mmtel_targets.specs.Served.{is_of_no_account, is_registered};
 ghost use Rattle.mmtel_trust.specs.Asserted.{asserted};
 ghost use Rattle.mmtel_trust.specs.Digest.{account_from, case_of, heard, served_in};
 ghost use Rattle.mmtel_trust.specs.Mask.{is_session};
 ghost use Rattle.mmtel_parties.specs.Named.{named_origin, named_user};
 ghost use Rattle.mmtel_parties.specs.Parties.{account_by, account_in, origin_served, parties_of, registration_by, served_accounts, sides_of, state_of, target_from, target_served};
 
-use crate::reading::{name_addr_in, uri_of};
 use crate::served::ServedSides;
-use mmtel_decisions::if_trusted;
+use mmtel_identity::if_trusted;
 use mmtel_lex::{NameAddr, NoMemory, Param, Uri, param_value};
 use mmtel_message::{Msg, Start};
-use mmtel_targets::{RegistrationState, Served, is_registered};
-use mmtel_trust::{Accounts, Identities, asserted};
+use mmtel_targets::{RegistrationState, Served};
+use mmtel_trust::{Accounts, Identities, asserted, name_addr_in, uri_of};
 use mmtel_types::Account;
 use std::alloc::Global;
 
@@ -257,19 +255,5 @@ impl Parties {
             target: self.target_served(),
             both: self.served.serves_both(),
         }
-    }
-
-    /// Whether the user whom a trusted peer names as served is of no account, so that the call is refused.
-    pub fn is_of_no_account(&self) -> bool
-        ensures exact { result ≡ is_of_no_account (served_accounts self.now) }
-    {
-        self.served_accounts().is_of_no_account()
-    }
-
-    /// Whether the first target is registered: what a trusted peer says of it decides, else what the table of registrations knows of its account.
-    pub fn is_registered(&self, known: bool) -> bool
-        ensures exact { result ≡ is_registered self.now.registration known }
-    {
-        is_registered(self.registration, known)
     }
 }

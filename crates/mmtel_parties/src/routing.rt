@@ -4,10 +4,9 @@ ghost use Rattle.mmtel_trust.specs.Asserted.{uri_in};
 ghost use Rattle.mmtel_trust.specs.Peers.{has_number};
 ghost use Rattle.mmtel_parties.specs.Routing.{begins_with_own, is_own, kept_routes, led_to, names_server, next_hop};
 
-use crate::reading::uri_in;
 use mmtel_lex::{List, NoMemory, Text, Uri};
 use mmtel_message::ip_text;
-use mmtel_trust::PeerTable;
+use mmtel_trust::{PeerTable, uri_in};
 use mmtel_types::{Addr, Peer};
 use std::alloc::Global;
 

@@ -1,7 +1,6 @@
 -- What becomes of a REFER, by the way that leads to whoever is asked for.
-use Rattle.std.proofs.Common.{◌≡◌, ◌∙◌, ℕ, Bool, true, false, List, Option, Some, None, ap, refl}
+use Rattle.std.proofs.Common.{◌≡◌, ℕ, List, Option, Some, ap}
 use Rattle.std.specs.Prelude.{Result, Ok, Err}
-use Rattle.mmtel_decisions.specs.Seating.{way_to}
 use Rattle.mmtel_desk.specs.Desks.{drew}
 use Rattle.mmtel_desk.specs.declared.desks.Desk.{Desk}
 use Rattle.mmtel_lex.specs.Grammar.{uri_text}
@@ -9,29 +8,16 @@ use Rattle.mmtel_lex.specs.declared.values.Uri.{Uri}
 use Rattle.mmtel_trust.specs.Accounts.{account_of}
 use Rattle.mmtel_trust.specs.Peers.{route_of}
 use Rattle.mmtel_types.specs.declared.numbers.Peer.{Peer}
-use Rattle.mmtel_seats.specs.Inviting.{Bidding, begun_in, bid_at, bid_for, invitation_dialog, refused_by}
+use Rattle.mmtel_seats.specs.Inviting.{begun_in, bid_by, bid_for, invitation_dialog, refused_by, way_to}
 use Rattle.mmtel_seats.specs.Seats.{has_no_seat}
 use Rattle.mmtel_seats.specs.Site.{Site}
 use Rattle.mmtel_seats.specs.Targets.{target_of}
 use Rattle.mmtel_seats.specs.declared.numbers.Next.{Next}
 use Rattle.mmtel_seats.specs.declared.seats.Seat.{Seat}
 
--- somebody is invited by the peer that leads there, or the REFER is refused
-abbrev by_way : Site → (now : ℕ) → Next → (by : ℕ) → Uri → Result Peer ℕ → Desk → Bidding
-by_way site now next by u (Err code) desk = refused_by code desk
-by_way site now next by u (Ok peer) desk = begun_in site now next by (account_of site.accounts u) (invitation_dialog site next.room peer (uri_text (target_of u)) desk) (drew (drew desk))
-
-led : (full : Bool) (site : Site) (now : ℕ) (next : Next) (by : ℕ) (seats : List Seat) (u : Uri) (peer : Peer) (desk : Desk) → has_no_seat seats ≡ full → bid_at site now next by seats u (Some peer) desk ≡ by_way site now next by u (way_to (Some peer) full) desk
-led true site now next by seats u peer desk is = rw is refl
-led false site now next by seats u peer desk is = rw is refl
-
-routed : (o : Option Peer) (site : Site) (now : ℕ) (next : Next) (by : ℕ) (seats : List Seat) (u : Uri) (desk : Desk) → bid_at site now next by seats u o desk ≡ by_way site now next by u (way_to o (has_no_seat seats)) desk
-routed None site now next by seats u desk = refl
-routed (Some peer) site now next by seats u desk = led (has_no_seat seats) site now next by seats u peer desk refl
-
-taken : (site : Site) (now : ℕ) (next : Next) (by : ℕ) (seats : List Seat) (o : Option Uri) (u : Uri) (way : Result Peer ℕ) (desk : Desk) → o ≡ Some u → way_to (route_of u site.peers.routes) (has_no_seat seats) ≡ way → bid_for site now next by seats o desk ≡ by_way site now next by u way desk
+taken : (site : Site) (now : ℕ) (next : Next) (by : ℕ) (seats : List Seat) (o : Option Uri) (u : Uri) (way : Result Peer ℕ) (desk : Desk) → o ≡ Some u → way_to (route_of u site.peers.routes) (has_no_seat seats) ≡ way → bid_for site now next by seats o desk ≡ bid_by site now next by u way desk
 unfolding bid_for
-taken site now next by seats o u way desk is leads = rw is (routed (route_of u site.peers.routes) site now next by seats u desk ∙ ap (λ (w : Result Peer ℕ). by_way site now next by u w desk) leads)
+taken site now next by seats o u way desk is leads = rw is (ap (λ (w : Result Peer ℕ). bid_by site now next by u w desk) leads)
 
 pub bid_refused : (site : Site) (now : ℕ) (next : Next) (by : ℕ) (seats : List Seat) (o : Option Uri) (u : Uri) (code : ℕ) (desk : Desk) → o ≡ Some u → way_to (route_of u site.peers.routes) (has_no_seat seats) ≡ Err code → bid_for site now next by seats o desk ≡ refused_by code desk
 bid_refused site now next by seats o u code desk is leads = taken site now next by seats o u (Err code) desk is leads

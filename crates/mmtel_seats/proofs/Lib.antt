@@ -1,3 +1,2 @@
 mod Bids
 mod Dropped
-mod Failures

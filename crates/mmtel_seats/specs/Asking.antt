@@ -1,8 +1,8 @@
 -- What a seat asks in its dialog: whether a request is heard (RFC 3261 §12.2.2, §14.2), and what is kept of it.
 use Rattle.std.specs.Prelude.{ℕ, Bool, true, false, Option, Some, None, codes, Result}
-use Rattle.mmtel_scan.specs.Chain.{◌>>=◌}
+pub use Rattle.mmtel_answers.specs.Said.{number_of}
 use Rattle.mmtel_answers.specs.Said.{Said}
-use Rattle.mmtel_leg.specs.Dialogues.{last_after, number_at, unless_busy, unless_old}
+use Rattle.mmtel_leg.specs.Dialogues.{last_after, unless_busy, unless_old}
 use Rattle.mmtel_leg.specs.Legs.{Leg, with_dialogue}
 use Rattle.mmtel_leg.specs.declared.dialogues.DialogueFault.{DialogueFault}
 use Rattle.mmtel_leg.specs.declared.dialogues.InFlight.{InFlight}
@@ -21,10 +21,6 @@ busy_by (Some awaited) waiting = in_flight.Own
 
 abbrev pub busy : Seat → InFlight
 busy seat = busy_by seat.awaited (is_waiting seat.invite)
-
--- the number of its CSeq
-abbrev pub number_of : Said → Option ℕ
-number_of m = m.heard.cseq >>= number_at
 
 abbrev pub says : Leg → Said → InFlight → Result (Unit {0}) DialogueFault
 says leg m busy = unless_old (number_of m) leg.dialogue.last (unless_busy (is_method (codes "INVITE") m.heard.start) busy)

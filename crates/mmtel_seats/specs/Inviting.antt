@@ -1,5 +1,5 @@
 -- Somebody is invited into a room by the REFER of a seat (RFC 4579 §5.5): the dialog that the INVITE begins, the seat, and what becomes of the REFER where nobody is invited.
-use Rattle.std.specs.Prelude.{ℕ, ◌+◌, if◌then◌else◌, Option, Some, None, List, [], codes}
+use Rattle.std.specs.Prelude.{ℕ, ◌+◌, if◌then◌else◌, Bool, Option, Some, None, Result, Ok, Err, List, [], codes}
 use Rattle.mmtel_answers.specs.Attempts.{bracketed, called, calling}
 use Rattle.mmtel_desk.specs.Desks.{drew, emitted, token}
 use Rattle.mmtel_desk.specs.Invitations.{sent}
@@ -69,12 +69,19 @@ begun_in site now next by account d desk = record {
 abbrev pub refused_by : (code : ℕ) → Desk → Bidding
 refused_by code desk = record { bid = Refused code; desk = desk }
 
--- two tokens are drawn for the dialog; nobody is invited where no peer leads to the URI, and else where no seat is free
+-- nobody is invited where no peer leads there, and else where no seat is free
+abbrev pub way_to : Option Peer → (full : Bool) → Result Peer ℕ
+way_to None full = Err 404
+way_to (Some peer) full = if full then Err 503 else Ok peer
+
+-- two tokens are drawn for the dialog
+abbrev pub bid_by : Site → (now : ℕ) → Next → (by : ℕ) → Uri → Result Peer ℕ → Desk → Bidding
+bid_by site now next by u (Err code) desk = refused_by code desk
+bid_by site now next by u (Ok peer) desk =
+    begun_in site now next by (account_of site.accounts u) (invitation_dialog site next.room peer (uri_text (target_of u)) desk) (drew (drew desk))
+
 abbrev pub bid_at : Site → (now : ℕ) → Next → (by : ℕ) → List Seat → Uri → Option Peer → Desk → Bidding
-bid_at site now next by seats u None desk = refused_by 404 desk
-bid_at site now next by seats u (Some peer) desk =
-    if has_no_seat seats then refused_by 503 desk
-    else begun_in site now next by (account_of site.accounts u) (invitation_dialog site next.room peer (uri_text (target_of u)) desk) (drew (drew desk))
+bid_at site now next by seats u peer desk = bid_by site now next by u (way_to peer (has_no_seat seats)) desk
 
 unfoldable pub bid_for : Site → (now : ℕ) → Next → (by : ℕ) → List Seat → Option Uri → Desk → Bidding
 bid_for site now next by seats None desk = refused_by 404 desk

@@ -4,7 +4,6 @@ use Rattle.std.specs.Prelude.{ℕ, ◌==◌, nat_le, Bool, true, false, if◌the
 use Rattle.std.specs.Option.{option_map}
 use Rattle.mmtel_charging.specs.Meters.{Noted, row_of}
 use Rattle.mmtel_charging.specs.declared.rows.Kind.TheVariants.{Participant}
-pub use Rattle.mmtel_decisions.specs.Seating.{is_creator}
 use Rattle.mmtel_desk.specs.Desks.{filed, fresh}
 use Rattle.mmtel_desk.specs.Sending.{asked_with, bye}
 use Rattle.mmtel_desk.specs.declared.desks.Desk.{Desk}
@@ -77,6 +76,10 @@ has_no_seat seats = nat_le most_seats (length seats)
 
 abbrev pub is_seat : (number : ℕ) → Seat → Bool
 is_seat number seat = seat.number == number
+
+-- the creator of a room has its first seat
+abbrev pub is_creator : (number : ℕ) → Bool
+is_creator number = number == 1
 
 -- where the seat of this number stands
 abbrev pub place_of : (number : ℕ) → List Seat → Option ℕ

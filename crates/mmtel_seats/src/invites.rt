@@ -5,10 +5,10 @@ ghost use Rattle.mmtel_seats.specs.Invites.{agreed_by, cancelled_in, failure_ack
 use crate::meters::{meter_of, metered};
 use crate::seats::{Invite, Party, Seat};
 use mmtel_answers::Hearing;
-use mmtel_decisions::failure_dues;
 use mmtel_desk::{Desk, Invitation};
 use mmtel_leg::Remote;
 use mmtel_scan::{NoMemory, Text};
+use mmtel_sip_rules::is_cancel_due;
 use mmtel_transaction::TKey;
 use mmtel_types::{Account, Addr, Moment, RoomNo};
 use std::alloc::Global;
@@ -107,7 +107,6 @@ impl Seat {
     }
 
     /// Acknowledges a final from 300 of the server's INVITE to it.
-    #[tactic(auto, using(crate::proofs::Failures::none_acked))]
     pub fn acknowledge_failure(
         &self,
         alloc: Global,
@@ -118,9 +117,6 @@ impl Seat {
     ) -> Result<(), NoMemory>
         ensures acked { OnOk result (desk.new ≡ failure_acked sip key m.now self.now.invite desk.old) }
     {
-        if !failure_dues(self.is_waiting(), self.is_seated()).ack {
-            return Ok(());
-        }
         match &self.invite {
             None => Ok(()),
             Some(invite) => invite.acknowledge_failure(alloc, sip, key, m, desk),
@@ -166,7 +162,7 @@ impl Seat {
         match &mut self.invite {
             None => {}
             Some(Invite::Waiting(_, invitation)) => {
-                if invitation.provisional && !invitation.cancelled {
+                if is_cancel_due(invitation.provisional, invitation.cancelled) {
                     invitation.cancelled = true;
                 }
             }

@@ -6,7 +6,7 @@ ghost use Rattle.mmtel_desk.specs.Desks.{drew, emitted, token};
 ghost use Rattle.mmtel_leg.specs.Requests.{request_of};
 ghost use Rattle.mmtel_lex.specs.Grammar.{uri_text};
 ghost use Rattle.mmtel_sdp.specs.Mixing.{offer_text};
-ghost use Rattle.mmtel_seats.specs.Inviting.{bid_for, invitation_dialog, invite_sent, longest_ringing, seat_of};
+ghost use Rattle.mmtel_seats.specs.Inviting.{bid_for, invitation_dialog, invite_sent, longest_ringing, seat_of, way_to};
 ghost use Rattle.mmtel_seats.specs.Targets.{target_of};
 ghost use Rattle.mmtel_seats.specs.Texts.{described};
 ghost use Rattle.mmtel_transaction.specs.declared.words.Emit.TheVariants.{ArmSeat};
@@ -14,11 +14,10 @@ ghost use Rattle.mmtel_transaction.specs.declared.words.RoomWord.TheVariants.{Ca
 
 use crate::numbers::{Next, has_no_seat};
 use crate::seats::{Invite, Party, Seat};
-use crate::settings::Setting;
+use crate::settings::Step;
 use crate::targets::target_of;
 use crate::texts::{described, room_from};
 use mmtel_answers::{Aim, bracketed, bringing, called, dialogue_to};
-use mmtel_decisions::way_to;
 use mmtel_desk::{Desk, Invitation};
 use mmtel_leg::{CalleeLeg, Dialogue, numbered};
 use mmtel_lex::{Uri, print_uri};
@@ -42,7 +41,8 @@ pub enum Bid {
 
 /// To whom an invitation to this URI goes, by this peer.
 fn aim_at(alloc: Global, peer: Peer, uri: Uri) -> Result<Aim, NoMemory>
-    ensures { IfOk result (λ aim. aim ≡ record { peer = peer; uri = uri_text (target_of uri); to = bracketed (uri_text (target_of uri)); routes = [] }) }
+    ensures { IfOk result (λ aim. aim
+        ≡ record { peer = peer; uri = uri_text (target_of uri); to = bracketed (uri_text (target_of uri)); routes = [] }) }
 {
     let target = target_of(alloc, uri)?;
     let uri = print_uri(alloc, &target)?;
@@ -57,44 +57,44 @@ fn aim_at(alloc: Global, peer: Peer, uri: Uri) -> Result<Aim, NoMemory>
 
 /// The dialog of an invitation to this URI, whose Call-ID and tag are drawn.
 fn begin(
-    alloc: Global,
-    setting: &Setting<'_>,
+    step: &Step<'_>,
     room: RoomNo,
     peer: Peer,
     uri: Uri,
     desk: &mut Desk,
 ) -> Result<Dialogue, NoMemory>
-    ensures dialogue { IfOk result (λ d. d ≡ invitation_dialog setting.now room peer (uri_text (target_of uri)) desk.old) }
+    ensures dialogue { IfOk result (λ d. d
+        ≡ invitation_dialog step.now.setting room peer (uri_text (target_of uri)) desk.old) }
     ensures desk { OnOk result (desk.new ≡ drew (drew desk.old)) }
 {
-    let aim = aim_at(alloc, peer, uri)?;
-    let call_id = desk.draw(alloc)?;
-    let tag = desk.draw(alloc)?;
-    let from = room_from(alloc, setting.sip, room, tag.bytes())?;
+    let aim = aim_at(step.alloc, peer, uri)?;
+    let call_id = desk.draw(step.alloc)?;
+    let tag = desk.draw(step.alloc)?;
+    let from = room_from(step.alloc, step.setting.sip, room, tag.bytes())?;
     Ok(dialogue_to(aim, call_id, tag, from))
 }
 
 /// The INVITE that begins this dialog, with this branch behind the cookie.
 fn invite_of(
-    alloc: Global,
-    setting: &Setting<'_>,
+    step: &Step<'_>,
     room: RoomNo,
     dialogue: &Dialogue,
     branch: &Text,
 ) -> Result<Msg, NoMemory>
     ensures { IfOk result (λ m. m
-        ≡ request_of dialogue.now (codes "INVITE") (bringing setting.now.sip branch.now (described setting.now.sip room) (offer_text setting.now.mixer))) }
+        ≡ request_of dialogue.now (codes "INVITE") (bringing step.now.setting.sip branch.now (described step.now.setting.sip room) (offer_text step.now.setting.mixer))) }
 {
-    let named = described(alloc, setting.sip, room)?;
-    let body = mixer_offer(alloc, setting.mixer)?;
+    let named = described(step.alloc, step.setting.sip, room)?;
+    let body = mixer_offer(step.alloc, step.setting.mixer)?;
     let first = dialogue.own.saturating_add(1);
-    let parts = bringing(setting.sip, branch, &named, body.bytes());
-    numbered(alloc, dialogue, first, b"INVITE", &parts)
+    let parts = bringing(step.setting.sip, branch, &named, body.bytes());
+    numbered(step.alloc, dialogue, first, b"INVITE", &parts)
 }
 
 /// Arms the deadline of its ringing.
 fn arm(alloc: Global, now: Moment, next: Next, desk: &mut Desk) -> Result<(), NoMemory>
-    ensures { OnOk result (desk.new ≡ emitted (ArmSeat next.room next.seat (Cap next.number) (now + longest_ringing)) desk.old) }
+    ensures { OnOk result (desk.new
+        ≡ emitted (ArmSeat next.room next.seat (Cap next.number) (now + longest_ringing)) desk.old) }
 {
     let Next { room, seat, number } = next;
     let at = now.ms() + LONGEST_RINGING;
@@ -111,22 +111,16 @@ fn arm(alloc: Global, now: Moment, next: Next, desk: &mut Desk) -> Result<(), No
 }
 
 /// Sends the INVITE that begins this dialog, and arms the deadline of its ringing. Gives its branch behind the cookie.
-fn send(
-    alloc: Global,
-    setting: &Setting<'_>,
-    now: Moment,
-    next: Next,
-    dialogue: &Dialogue,
-    desk: &mut Desk,
-) -> Result<Text, NoMemory>
+fn send(step: &Step<'_>, next: Next, dialogue: &Dialogue, desk: &mut Desk) -> Result<Text, NoMemory>
     ensures branch { IfOk result (λ t. t ≡ token desk.old) }
-    ensures desk { OnOk result (desk.new ≡ invite_sent setting.now now next.room next.seat next.number dialogue.now desk.old) }
+    ensures desk { OnOk result (desk.new
+        ≡ invite_sent step.now.setting step.now.at next.room next.seat next.number dialogue.now desk.old) }
 {
-    let branch = desk.draw(alloc)?;
-    let msg = invite_of(alloc, setting, next.room, dialogue, &branch)?;
+    let branch = desk.draw(step.alloc)?;
+    let msg = invite_of(step, next.room, dialogue, &branch)?;
     let peer = dialogue.peer;
-    desk.emit(alloc, Emit::Ask { peer, msg })?;
-    arm(alloc, now, next, desk)?;
+    desk.emit(step.alloc, Emit::Ask { peer, msg })?;
+    arm(step.alloc, step.at, next, desk)?;
     Ok(branch)
 }
 
@@ -163,9 +157,7 @@ fn seat_of(
 
 /// Sends the INVITE of this dialog, and gives the seat of whoever it goes to.
 fn invite_in(
-    alloc: Global,
-    setting: &Setting<'_>,
-    now: Moment,
+    step: &Step<'_>,
     next: Next,
     by: u64,
     account: Option<Account>,
@@ -173,10 +165,21 @@ fn invite_in(
     desk: &mut Desk,
 ) -> Result<Seat, NoMemory>
     ensures seat { IfOk result (λ seat. seat ≡ seat_of next by account dialogue (token desk.old)) }
-    ensures desk { OnOk result (desk.new ≡ invite_sent setting.now now next.room next.seat next.number dialogue desk.old) }
+    ensures desk { OnOk result (desk.new
+        ≡ invite_sent step.now.setting step.now.at next.room next.seat next.number dialogue desk.old) }
 {
-    let branch = send(alloc, setting, now, next, &dialogue, desk)?;
-    seat_of(alloc, next, by, account, dialogue, branch)
+    let branch = send(step, next, &dialogue, desk)?;
+    seat_of(step.alloc, next, by, account, dialogue, branch)
+}
+
+/// By which peer somebody is invited, where one leads there and a seat is free; else the status that refuses the REFER: 404 where no peer does, and then 503.
+fn way_to(peer: Option<Peer>, full: bool) -> Result<Peer, u16>
+    ensures { result ≡ way_to peer full }
+{
+    match peer {
+        None => Err(404),
+        Some(peer) => if full { Err(503) } else { Ok(peer) },
+    }
 }
 
 /// Invites whoever this URI is of, by the REFER of the seat of number `by`: the INVITE goes out in a dialog of the room, and the deadline of its ringing is armed. Nobody
@@ -187,26 +190,24 @@ fn invite_in(
 /// Want of memory alone; nothing is said of what goes out then.
 #[tactic(auto, using(crate::proofs::Bids::bid_refused, crate::proofs::Bids::bid_begun), unfolding(crate::specs::Inviting::bid_for))]
 pub fn bring(
-    alloc: Global,
-    setting: &Setting<'_>,
-    now: Moment,
+    step: &Step<'_>,
     next: Next,
     by: u64,
     seats: &[Seat],
     uri: Option<Uri>,
     desk: &mut Desk,
 ) -> Result<Bid, NoMemory>
-    ensures bid { IfOk result (λ b. b ≡ (bid_for setting.now now next by seats.now uri desk.old).bid) }
-    ensures desk { OnOk result (desk.new ≡ (bid_for setting.now now next by seats.now uri desk.old).desk) }
+    ensures bid { IfOk result (λ b. b ≡ (bid_for step.now.setting step.now.at next by seats.now uri desk.old).bid) }
+    ensures desk { OnOk result (desk.new ≡ (bid_for step.now.setting step.now.at next by seats.now uri desk.old).desk) }
 {
     match uri {
         None => Ok(Bid::Refused(404)),
-        Some(uri) => match way_to(setting.peers.route(&uri), has_no_seat(seats)) {
+        Some(uri) => match way_to(step.setting.peers.route(&uri), has_no_seat(seats)) {
             Err(code) => Ok(Bid::Refused(code)),
             Ok(peer) => {
-                let account = setting.accounts.find(&uri);
-                let dialogue = begin(alloc, setting, next.room, peer, uri, desk)?;
-                let seat = invite_in(alloc, setting, now, next, by, account, dialogue, desk)?;
+                let account = step.setting.accounts.find(&uri);
+                let dialogue = begin(step, next.room, peer, uri, desk)?;
+                let seat = invite_in(step, next, by, account, dialogue, desk)?;
                 Ok(Bid::Begun(seat))
             }
         },

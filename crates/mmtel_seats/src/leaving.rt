@@ -7,7 +7,7 @@ ghost use Rattle.mmtel_seats.specs.Seats.{dismissed_with, ended, ended_dialogs, 
 
 use crate::effects::Effects;
 use crate::seats::{Invite, Party, Seat};
-use crate::settings::Setting;
+use crate::settings::Step;
 use mmtel_charging::Meter;
 use mmtel_desk::{Desk, Invitation, Loose, file};
 use mmtel_leg::{Dialogue, Ended};
@@ -44,7 +44,8 @@ fn end_within(
     dialogue: &Dialogue,
     invitation: &mut Invitation,
 ) -> Result<(), NoMemory>
-    ensures { OnOk result (invitation.new ≡ record invitation.old { dialogue = dialogue.now; forks = ended_dialogs had_bye dialogue.now }) }
+    ensures { OnOk result (invitation.new
+        ≡ record invitation.old { dialogue = dialogue.now; forks = ended_dialogs had_bye dialogue.now }) }
 {
     invitation.forks = ended_dialogs(alloc, had_bye, dialogue)?;
     invitation.dialogue = dialogue.copied(alloc)?;
@@ -58,7 +59,8 @@ fn loosened_within(
     dialogue: &Dialogue,
     invitation: Invitation,
 ) -> Result<Loose, NoMemory>
-    ensures { IfOk result (λ l. l ≡ record { invitation = record invitation { dialogue = dialogue.now; forks = ended_dialogs had_bye dialogue.now }; within = true }) }
+    ensures { IfOk result (λ l. l
+        ≡ record { invitation = record invitation { dialogue = dialogue.now; forks = ended_dialogs had_bye dialogue.now }; within = true }) }
 {
     let mut invitation = invitation;
     match end_within(alloc, had_bye, dialogue, &mut invitation) {
@@ -129,15 +131,16 @@ fn file_row(
 
 impl Party {
     /// Sends BYE to whoever is seated.
-    fn bye(&mut self, alloc: Global, setting: &Setting<'_>, desk: &mut Desk) -> Result<(), NoMemory>
+    fn bye(&mut self, step: &Step<'_>, desk: &mut Desk) -> Result<(), NoMemory>
         requires { is_seated_by self.old ≡ true }
-        ensures party { OnOk result (self.new ≡ with_leg (with_dialogue (leg_of self.old) (after_request (leg_of self.old).dialogue (codes "BYE"))) self.old) }
-        ensures desk { OnOk result (desk.new ≡ bye setting.now.sip (leg_of self.old).dialogue desk.old) }
+        ensures party { OnOk result (self.new
+            ≡ with_leg (with_dialogue (leg_of self.old) (after_request (leg_of self.old).dialogue (codes "BYE"))) self.old) }
+        ensures desk { OnOk result (desk.new ≡ bye step.now.setting.sip (leg_of self.old).dialogue desk.old) }
     {
         match self {
             Party::Invited(_) => unreachable!(),
-            Party::Came(leg) => desk.ask(alloc, setting.sip, b"BYE", leg),
-            Party::Brought(leg) => desk.ask(alloc, setting.sip, b"BYE", leg),
+            Party::Came(leg) => desk.ask(step.alloc, step.setting.sip, b"BYE", leg),
+            Party::Brought(leg) => desk.ask(step.alloc, step.setting.sip, b"BYE", leg),
         }
     }
 }
@@ -169,23 +172,17 @@ impl Seat {
     }
 
     /// Leaves the seat, with BYE where somebody is seated. All is spent, also where memory runs out.
-    pub fn dismiss(
-        self,
-        alloc: Global,
-        setting: &Setting<'_>,
-        now: Moment,
-        effects: &mut Effects,
-    ) -> Result<(), NoMemory>
-        ensures dismissed { OnOk result (effects.new ≡ dismissed_with setting.now now self effects.old) }
+    pub fn dismiss(self, step: &Step<'_>, effects: &mut Effects) -> Result<(), NoMemory>
+        ensures dismissed { OnOk result (effects.new ≡ dismissed_with step.now.setting step.now.at self effects.old) }
     {
         let mut seat = self;
         if !seat.is_seated() {
-            return seat.leave(alloc, now, false, effects);
+            return seat.leave(step.alloc, step.at, false, effects);
         }
-        match seat.party.bye(alloc, setting, &mut effects.desk) {
-            Ok(()) => seat.leave(alloc, now, true, effects),
+        match seat.party.bye(step, &mut effects.desk) {
+            Ok(()) => seat.leave(step.alloc, step.at, true, effects),
             Err(error) => {
-                seat.give_up(now);
+                seat.give_up(step.at);
                 Err(error)
             }
         }

@@ -3,8 +3,11 @@ ghost use Rattle.std.specs.Prelude.{◌≡◌};
 ghost use Rattle.mmtel_seats.specs.Seats.{has_no_seat, next_of, place_of};
 
 use crate::seats::Seat;
-use mmtel_decisions::{is_full, is_numbered, number_after};
 use mmtel_types::RoomNo;
+use mmtel_types::limits::SEATS;
+
+/// The number of the creator's seat, which is the first one: the room closes with it.
+pub const CREATOR: u64 = 1;
 
 /// The numbers that the next seat of a room has.
 #[derive(Clone, Copy)]
@@ -22,8 +25,8 @@ impl Next {
     pub fn after(room: RoomNo, taken: u64, counted: u64) -> Next
         ensures numbers { result ≡ next_of room taken counted }
     {
-        let seat = number_after(taken);
-        let number = number_after(counted);
+        let seat = taken.saturating_add(1);
+        let number = counted.saturating_add(1);
         Next { room, seat, number }
     }
 }
@@ -32,14 +35,12 @@ impl Next {
 pub fn has_no_seat(seats: &[Seat]) -> bool
     ensures full { result ≡ has_no_seat seats.now }
 {
-    is_full(seats.len())
+    seats.len() >= SEATS
 }
 
 /// The place of the seat of this number.
 pub fn place_of(seats: &[Seat], number: u64) -> Option<usize>
     ensures place { result ≡ place_of number seats.now }
 {
-    seats
-        .iter()
-        .position(|seat| is_numbered(seat.number, number))
+    seats.iter().position(|seat| seat.number == number)
 }

@@ -2,7 +2,8 @@
 
 use mmtel_sdp::Mixer;
 use mmtel_trust::{Accounts, PeerTable};
-use mmtel_types::Addr;
+use mmtel_types::{Addr, Moment};
+use std::alloc::Global;
 use std::marker::Model;
 
 /// The server's configuration, as rooms need it.
@@ -24,4 +25,15 @@ impl<'a> Model for Setting<'a> {
     ghost Value = { Site };
 
     ghost view = { λ s. record { sip = s.sip; mixer = s.mixer; peers = s.peers.now; accounts = s.accounts.now } };
+}
+
+/// What each step of a room is given beside what it hears. It is read and never changed.
+#[derive(Drop)]
+pub struct Step<'a> {
+    /// Where memory comes from.
+    pub alloc: Global,
+    /// The server's configuration.
+    pub setting: Setting<'a>,
+    /// The moment.
+    pub at: Moment,
 }

@@ -3,18 +3,16 @@ ghost use Rattle.std.specs.Prelude.{◌≡◌, OnOk};
 ghost use Rattle.mmtel_seats.specs.Seats.{notified, notified_by, told_leg, told_party};
 
 use crate::seats::Party;
-use crate::settings::Setting;
+use crate::settings::Step;
 use crate::texts::{fragment, notify_lines};
 use mmtel_desk::Desk;
 use mmtel_leg::{LegOf, Standing};
 use mmtel_scan::NoMemory;
 use mmtel_types::RoomNo;
-use std::alloc::Global;
 
 /// Tells the side of a leg what became of its REFER.
 fn tell<P>(
-    alloc: Global,
-    setting: &Setting<'_>,
+    step: &Step<'_>,
     room: RoomNo,
     goes_on: bool,
     line: &[u8],
@@ -22,11 +20,18 @@ fn tell<P>(
     desk: &mut Desk,
 ) -> Result<(), NoMemory>
     ensures leg { OnOk result (leg.new ≡ told_leg leg.old) }
-    ensures desk { OnOk result (desk.new ≡ notified setting.now room goes_on line.now leg.old desk.old) }
+    ensures desk { OnOk result (desk.new ≡ notified step.now.setting room goes_on line.now leg.old desk.old) }
 {
-    let lines = notify_lines(alloc, setting.sip, room, goes_on)?;
-    let body = fragment(alloc, line)?;
-    desk.ask_with(alloc, setting.sip, b"NOTIFY", leg, &lines, body.bytes())?;
+    let lines = notify_lines(step.alloc, step.setting.sip, room, goes_on)?;
+    let body = fragment(step.alloc, line)?;
+    desk.ask_with(
+        step.alloc,
+        step.setting.sip,
+        b"NOTIFY",
+        leg,
+        &lines,
+        body.bytes(),
+    )?;
     Ok(())
 }
 
@@ -38,20 +43,19 @@ impl Party {
     /// Want of memory alone; nothing is said of the seat and of what goes out then.
     pub fn tell(
         &mut self,
-        alloc: Global,
-        setting: &Setting<'_>,
+        step: &Step<'_>,
         room: RoomNo,
         goes_on: bool,
         line: &[u8],
         desk: &mut Desk,
     ) -> Result<(), NoMemory>
         ensures party { OnOk result (self.new ≡ told_party self.old) }
-        ensures desk { OnOk result (desk.new ≡ notified_by setting.now room goes_on line.now self.old desk.old) }
+        ensures desk { OnOk result (desk.new ≡ notified_by step.now.setting room goes_on line.now self.old desk.old) }
     {
         match self {
             Party::Invited(_) => Ok(()),
-            Party::Came(leg) => tell(alloc, setting, room, goes_on, line, leg, desk),
-            Party::Brought(leg) => tell(alloc, setting, room, goes_on, line, leg, desk),
+            Party::Came(leg) => tell(step, room, goes_on, line, leg, desk),
+            Party::Brought(leg) => tell(step, room, goes_on, line, leg, desk),
         }
     }
 }

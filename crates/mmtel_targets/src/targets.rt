@@ -1,7 +1,7 @@
 //! Targets of a call, and the home domain (RFC 3261 §19.1.6, RFC 3966 §5.1.4).
 ghost use Rattle.std.specs.Prelude.{◌≡◌, ◌∷◌, [], Some, IfOk, codes};
 ghost use Rattle.mmtel_lex.specs.Identity.{is_mark, reduced};
-ghost use Rattle.mmtel_targets.specs.Targets.{diverted_target, first_target, is_at_home, is_global, is_global_number, is_unknown, phone_at, tel_target};
+ghost use Rattle.mmtel_targets.specs.Targets.{diverted_target, first_target, is_at_home, is_global, is_global_number, is_unknown, new_target, phone_at, tel_target};
 
 use mmtel_lex::{List, NoMemory, Param, Params, Text, Uri, UriFault, read_uri};
 use mmtel_types::Account;
@@ -106,20 +106,35 @@ fn phone_at(alloc: Global, number: &[u8], domain: &[u8]) -> Result<Uri, NoMemory
     })
 }
 
-fn tel_target(alloc: Global, home: &[u8], number: Text, params: Params) -> Result<Target, NoMemory>
-    ensures { IfOk result (λ target. target ≡ record { uri = tel_target home.now number params; of_number = is_global number }) }
+fn tel_target(alloc: Global, home: &[u8], number: Text, params: Params) -> Result<Uri, NoMemory>
+    ensures { IfOk result (λ uri. uri ≡ tel_target home.now number params) }
 {
     if is_global(number.bytes()) {
-        let uri = phone_at(alloc, number.bytes(), home)?;
-        return Ok(Target {
-            uri,
-            of_number: true,
-        });
+        return phone_at(alloc, number.bytes(), home);
     }
-    Ok(Target {
-        uri: Uri::Tel { number, params },
-        of_number: false,
-    })
+    Ok(Uri::Tel { number, params })
+}
+
+/// The URI of a target.
+fn new_target(alloc: Global, home: &[u8], uri: Uri) -> Result<Uri, NoMemory>
+    ensures { IfOk result (λ target. target ≡ new_target home.now uri) }
+{
+    match uri {
+        Uri::Sip {
+            user,
+            host,
+            port,
+            params,
+            headers,
+        } => Ok(Uri::Sip {
+            user,
+            host,
+            port,
+            params,
+            headers,
+        }),
+        Uri::Tel { number, params } => tel_target(alloc, home, number, params),
+    }
 }
 
 /// The target of a diversion to this URI: the URI itself, but `sip:+N@HOME;user=phone` for `tel:+N`, whose visual separators and parameters go (RFC 3261 §19.1.6).
@@ -130,25 +145,9 @@ fn tel_target(alloc: Global, home: &[u8], number: Text, params: Params) -> Resul
 pub fn diverted_target(alloc: Global, home: &[u8], uri: Uri) -> Result<Target, NoMemory>
     ensures exact { IfOk result (λ target. target ≡ diverted_target home.now uri) }
 {
-    match uri {
-        Uri::Sip {
-            user,
-            host,
-            port,
-            params,
-            headers,
-        } => Ok(Target {
-            uri: Uri::Sip {
-                user,
-                host,
-                port,
-                params,
-                headers,
-            },
-            of_number: false,
-        }),
-        Uri::Tel { number, params } => tel_target(alloc, home, number, params),
-    }
+    let of_number = is_global_number(&uri);
+    let uri = new_target(alloc, home, uri)?;
+    Ok(Target { uri, of_number })
 }
 
 /// Whether the URI is a sip URI whose host is the home domain, compared without case. It takes no memory.

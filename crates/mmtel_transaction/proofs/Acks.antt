@@ -14,7 +14,7 @@ use Rattle.mmtel_transaction.specs.declared.entries.Entry.{Entry}
 use Rattle.mmtel_transaction.specs.declared.entries.Plan.TheVariants as plan
 use Rattle.mmtel_transaction.specs.declared.parts.Part.{Part}
 use Rattle.mmtel_transaction.specs.declared.parts.Part.TheVariants as part
-use Rattle.mmtel_transaction.specs.Heads.{head_of, is_2xx, is_ack, is_invite, is_provisional, is_refusal, is_same_call}
+use Rattle.mmtel_transaction.specs.Heads.{head_of, is_success, is_ack, is_invite, is_provisional, is_refusal, is_same_call}
 use Rattle.mmtel_transaction.specs.Deadlines.{deadline, resend_at}
 use Rattle.mmtel_transaction.specs.Changes.{acked, acked_2xx, answered, finished, hit, is_ack_of, kept, rang, replied}
 use Rattle.mmtel_transaction.specs.Calls.{Done, DidBegin, DidHear, DidAsk, DidReply, DidAck, DidFire, change, heard_opens, is_live, live, offers, opened, opens, step_of}
@@ -72,7 +72,7 @@ sound_if false e x s t = t refl
 refusal_done : (status : ℕ) → is_refusal status ≡ true → (status == 0) ≡ false
 refusal_done status q = ne_eqb status 0 (λ e. absurd (omega (arith, e, leb-true 300 status q)))
 
-success_done : (status : ℕ) → is_2xx status ≡ true → (status == 0) ≡ false
+success_done : (status : ℕ) → is_success status ≡ true → (status == 0) ≡ false
 success_done status q = ne_eqb status 0 (λ e. absurd (omega (arith, e, leb-true 200 status (and_parts (nat_le 200 status) (nat_lt status 300) q).0)))
 
 pub final_done : (status : ℕ) → is_provisional status ≡ false → (status == 0) ≡ false
@@ -121,10 +121,10 @@ module _ (e : Entry) (s : IsSound e) where
 
   of_2xx : (m : Head) → is_ack_of m e ≡ true → (e.done == 0) ≡ false
   of_2xx m q =
-      let a = and_parts (e.is_server && is_invite e.asked && is_2xx e.done && not e.is_acked && is_same_call e.asked m) (bytes_eq e.to_tag m.to_tag) q in
-      let b = and_parts (e.is_server && is_invite e.asked && is_2xx e.done && not e.is_acked) (is_same_call e.asked m) a.0 in
-      let c = and_parts (e.is_server && is_invite e.asked && is_2xx e.done) (not e.is_acked) b.0 in
-      let d = and_parts (e.is_server && is_invite e.asked) (is_2xx e.done) c.0 in
+      let a = and_parts (e.is_server && is_invite e.asked && is_success e.done && not e.is_acked && is_same_call e.asked m) (bytes_eq e.to_tag m.to_tag) q in
+      let b = and_parts (e.is_server && is_invite e.asked && is_success e.done && not e.is_acked) (is_same_call e.asked m) a.0 in
+      let c = and_parts (e.is_server && is_invite e.asked && is_success e.done) (not e.is_acked) b.0 in
+      let d = and_parts (e.is_server && is_invite e.asked) (is_success e.done) c.0 in
       success_done e.done d.1
 
   sound_acked_2xx : (step : ℕ) (m : Head) → IsSound (acked_2xx step m e)

@@ -19,7 +19,7 @@ use Rattle.mmtel_transaction.specs.declared.parts.Part.{Part}
 use Rattle.mmtel_transaction.specs.declared.parts.Part.TheVariants as part
 use Rattle.mmtel_transaction.specs.declared.words.Due.{Due}
 use Rattle.mmtel_transaction.specs.declared.words.Due.TheVariants as due
-use Rattle.mmtel_transaction.specs.Heads.{head_of, is_2xx, is_ack, is_invite, is_provisional, is_refusal, is_same_call}
+use Rattle.mmtel_transaction.specs.Heads.{head_of, is_success, is_ack, is_invite, is_provisional, is_refusal, is_same_call}
 use Rattle.mmtel_transaction.specs.Deadlines.{counted, deadline, ends, last_at, last_by, resend_at, resend_by}
 use Rattle.mmtel_transaction.specs.Changes.{acked, answered, asked_first, finished, fired, hit, replied}
 use Rattle.mmtel_transaction.specs.Calls.{Done, DidBegin, DidHear, DidAsk, DidReply, DidAck, DidFire, change, is_live, live, offers, opened, step_of}
@@ -463,7 +463,7 @@ module _ (h : List Done) (key : ℕ) (e : Entry) (m : Message Start) (t : ℕ) (
   server_quiet g q n now (part.Same j) r a s k f = refl
   server_quiet g q n now (part.Answer j) r a s k f = hit_not j _ (shot final s k) (ne_eqb key j (no_answer g (head_of n) j (shot final s k) r f refl))
   server_quiet g q n now (part.Acked j) r a s k f = hit_not j _ (shot final s k) (other_way j key a)
-  server_quiet g q n now part.AckOf2xx r a s k f = ap (λ b. cond b (record (shot final s k) { is_acked = true; plan = End; step = step_of g }) (shot final s k)) (ack_if (is_invite e.asked) (is_2xx (head_of m).status) (is_same_call e.asked (head_of n)) (bytes_eq (head_of m).to_tag (head_of n).to_tag) w.invite a)
+  server_quiet g q n now part.AckOf2xx r a s k f = ap (λ b. cond b (record (shot final s k) { is_acked = true; plan = End; step = step_of g }) (shot final s k)) (ack_if (is_invite e.asked) (is_success (head_of m).status) (is_same_call e.asked (head_of n)) (bytes_eq (head_of m).to_tag (head_of n).to_tag) w.invite a)
   server_quiet g q n now part.Stray r a s k f = refl
 
   -- what a first final would make of it

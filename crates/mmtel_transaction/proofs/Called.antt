@@ -13,7 +13,7 @@ use Rattle.mmtel_transaction.specs.declared.heads.Head.{Head}
 use Rattle.mmtel_transaction.specs.declared.entries.Entry.{Entry}
 use Rattle.mmtel_transaction.specs.declared.entries.Plan.TheVariants.{End}
 use Rattle.mmtel_transaction.specs.declared.names.Name.{Name}
-use Rattle.mmtel_transaction.specs.Heads.{invite, is_2xx, is_invite, is_same_call}
+use Rattle.mmtel_transaction.specs.Heads.{invite, is_success, is_invite, is_same_call}
 use Rattle.mmtel_transaction.specs.Changes.{acked_2xx, hit, is_ack_of}
 use Rattle.mmtel_transaction.specs.Answers.{is_other}
 use Rattle.mmtel_transaction.specs.Indexes.{ack_mark, call_name, call_named, has_name, IsPlaceOf, name_cmp, named, twin_mark}
@@ -96,10 +96,10 @@ module _ (m : Head) where
 
   ack_parts : (x : Entry) → is_ack_of m x ≡ true → (x.is_server ≡ true) × (is_invite x.asked ≡ true) × (is_same_call x.asked m ≡ true) × (x.is_acked ≡ false)
   ack_parts x t =
-      let a = and_parts (x.is_server && is_invite x.asked && is_2xx x.done && not x.is_acked && is_same_call x.asked m) (bytes_eq x.to_tag m.to_tag) t in
-      let b = and_parts (x.is_server && is_invite x.asked && is_2xx x.done && not x.is_acked) (is_same_call x.asked m) a.0 in
-      let c = and_parts (x.is_server && is_invite x.asked && is_2xx x.done) (not x.is_acked) b.0 in
-      let d = and_parts (x.is_server && is_invite x.asked) (is_2xx x.done) c.0 in
+      let a = and_parts (x.is_server && is_invite x.asked && is_success x.done && not x.is_acked && is_same_call x.asked m) (bytes_eq x.to_tag m.to_tag) t in
+      let b = and_parts (x.is_server && is_invite x.asked && is_success x.done && not x.is_acked) (is_same_call x.asked m) a.0 in
+      let c = and_parts (x.is_server && is_invite x.asked && is_success x.done) (not x.is_acked) b.0 in
+      let d = and_parts (x.is_server && is_invite x.asked) (is_success x.done) c.0 in
       let e = and_parts x.is_server (is_invite x.asked) d.0 in
       (e.0, e.1, b.1, not_not x.is_acked c.1)
     where

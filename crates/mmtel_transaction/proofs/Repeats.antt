@@ -19,7 +19,7 @@ use Rattle.mmtel_transaction.specs.declared.parts.Part.{Part}
 use Rattle.mmtel_transaction.specs.declared.parts.Part.TheVariants as part
 use Rattle.mmtel_transaction.specs.declared.words.Heard.TheVariants as heard
 use Rattle.mmtel_transaction.specs.declared.words.Due.TheVariants as due
-use Rattle.mmtel_transaction.specs.Heads.{head_of, invite, is_2xx, is_ack, is_invite, is_provisional, is_refusal}
+use Rattle.mmtel_transaction.specs.Heads.{head_of, invite, is_success, is_ack, is_invite, is_provisional, is_refusal}
 use Rattle.mmtel_transaction.specs.Deadlines.{ends, last_by, resend_at}
 use Rattle.mmtel_transaction.specs.Changes.{acked, answered, heard_first, is_ack_of, kept, replied}
 use Rattle.mmtel_transaction.specs.Calls.{Done, DidBegin, DidHear, DidAsk, DidReply, DidAck, DidFire, change, is_live, live, offers, opened, step_of}
@@ -218,7 +218,7 @@ module _ (h : List Done) (r : IsRun h) (k : ℕ) (p q : Peer) (m n : Message Sta
   stranger d =
       let at : by_key k (live h) ≡ Some e = subst (λ j. by_key j (live h) ≡ Some e) t.key (at_key h e g) in
       let other : (q.0 == e.peer.0) ≡ false = ne_eqb q.0 e.peer.0 (λ f. d (f ∙ ap (λ (y : Peer). y.0) t.peer)) in
-      let none : gives_again q e ≡ None = none_if (q.0 == e.peer.0) (not e.is_acked) (not (is_invite e.asked && is_2xx e.done)) (gives_same e) other in
+      let none : gives_again q e ≡ None = none_if (q.0 == e.peer.0) (not e.is_acked) (not (is_invite e.asked && is_success e.done)) (gives_same e) other in
       ap (says (length (opened h)) (live h) q n) taken_again ∙ ap (λ x. Some (heard.Repeat x)) (ap (then_gives (gives_again q)) at ∙ none)
 
 pub repeats : (h g : List Done) (p q : Peer) (m n : Message Start) (t : ℕ) → IsRun (g ++ DidHear p m t part.Fresh ∷ h) → IsRepeatOf (head_of m) (head_of n) → EndWasGiven (length (opened h)) g (DidHear p m t part.Fresh ∷ h) ⊎ OpensNothing (length (opened h)) (g ++ DidHear p m t part.Fresh ∷ h) q n

@@ -9,7 +9,7 @@ use Rattle.mmtel_types.specs.declared.numbers.Peer.{Peer}
 use Rattle.mmtel_message.specs.Message.{Message}
 use Rattle.mmtel_message.specs.Texts.{message_text}
 use Rattle.mmtel_message.specs.declared.messages.Start.{Start}
-use Rattle.mmtel_transaction.specs.Heads.{head_of, is_2xx, is_ack, is_cancel, is_invite, is_provisional}
+use Rattle.mmtel_transaction.specs.Heads.{head_of, is_success, is_ack, is_cancel, is_invite, is_provisional}
 use Rattle.mmtel_transaction.specs.declared.heads.Head.{Head}
 use Rattle.mmtel_transaction.specs.declared.entries.Entry.{Entry}
 use Rattle.mmtel_transaction.specs.declared.parts.Part.{Part}
@@ -216,7 +216,7 @@ module _ (v : Peer → Bool) where
 
   again_blank : (p : Peer) (o : Option Entry) → option_map (blank_given v) (then_gives (gives_again p) (option_map (blank v) o)) ≡ option_map (blank_given v) (then_gives (gives_again p) o)
   again_blank p None = refl
-  again_blank p (Some e) = either ((p.0 == e.peer.0) && not e.is_acked && not (is_invite e.asked && is_2xx e.done))
+  again_blank p (Some e) = either ((p.0 == e.peer.0) && not e.is_acked && not (is_invite e.asked && is_success e.done))
     where
       either : (b : Bool) → option_map (blank_given v) (cond b (gives_same (blank v e)) None) ≡ option_map (blank_given v) (cond b (gives_same e) None)
       either true = given_blank e.peer e.last

@@ -4,10 +4,11 @@ use Rattle.std.specs.Prelude.{ℕ, Bool, false, not, ◌&&◌, ◌||◌, nat_lt,
 use Rattle.std.specs.List.{find, list_any}
 use Rattle.std.specs.Option.{unwrap_or}
 use Rattle.std.specs.Str.{bytes_eq}
+use Rattle.mmtel_sip_rules.specs.Requests.{is_given_again}
 use Rattle.mmtel_types.specs.declared.numbers.Peer.{Peer}
 use Rattle.mmtel_message.specs.Message.{Message}
 use Rattle.mmtel_message.specs.declared.messages.Start.{Start}
-use Rattle.mmtel_transaction.specs.Heads.{head_of, invite, is_invite, is_ack, is_cancel, is_2xx, is_refusal, is_same_call}
+use Rattle.mmtel_transaction.specs.Heads.{head_of, invite, is_invite, is_ack, is_cancel, is_success, is_refusal, is_same_call}
 use Rattle.mmtel_transaction.specs.Deadlines.{resend_at, deadline, ends}
 use Rattle.mmtel_transaction.specs.Calls.{Done, DidHear, DidFire, opened, live}
 use Rattle.mmtel_transaction.specs.declared.heads.Head.{Head}
@@ -84,7 +85,7 @@ gives_same e = option_map (λ t. (e.peer, t)) e.last
 
 -- what a repeat gives: the last response, if it comes from the opener; nothing after the ACK, nor after the 2xx of an INVITE
 abbrev pub gives_again : Peer → Entry → Option (Peer × List ℕ)
-gives_again p e = if (p.0 == e.peer.0) && not e.is_acked && not (is_invite e.asked && is_2xx e.done) then gives_same e else None
+gives_again p e = if is_given_again e.peer p e.is_acked (is_invite e.asked && is_success e.done) then gives_same e else None
 
 abbrev pub is_of : ℕ → Entry → Bool
 is_of key e = e.key == key

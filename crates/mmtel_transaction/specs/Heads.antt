@@ -1,23 +1,21 @@
--- What the transactions read of a message: what names its transaction (RFC 3261 §17.1.3, §17.2.3), its dialogue's names and number (§12, §13.2.2.4), and its status (§21).
-use Rattle.std.specs.Prelude.{ℕ, Bool, true, false, ◌&&◌, ◌==◌, nat_lt, nat_le, List, [], codes, Option, Some, None}
+-- What the transactions read of a message: what names its transaction (RFC 3261 §17.1.3, §17.2.3), its dialogue's names and number (§12, §13.2.2.4), and its status (§7.2, §21).
+use Rattle.std.specs.Prelude.{ℕ, Bool, ◌&&◌, ◌==◌, List, [], codes, Option, Some, None}
 use Rattle.std.specs.Option.{unwrap_or}
 use Rattle.std.specs.Str.{bytes_eq}
 use Rattle.mmtel_message.specs.Message.{Message}
 use Rattle.mmtel_lex.specs.Params.{param_value}
+pub use Rattle.mmtel_message.specs.Faults.{is_request}
 use Rattle.mmtel_message.specs.Fields.{five_at}
 use Rattle.mmtel_message.specs.declared.messages.Start.{Start}
 use Rattle.mmtel_message.specs.declared.messages.Start.TheVariants.{Request, Status}
 use Rattle.mmtel_message.specs.declared.fields.Five.{Five}
 use Rattle.mmtel_lex.specs.declared.values.Param.{Param}
+pub use Rattle.mmtel_sip_rules.specs.Statuses.{is_provisional, is_refusal, is_success}
 use Rattle.mmtel_transaction.specs.declared.heads.Head.{Head}
 
 -- the value of a parameter; an absent tag or branch is empty (§12.1.1)
 abbrev pub param_text : List ℕ → List Param → List ℕ
 param_text name params = unwrap_or (param_value name params) []
-
-abbrev pub is_request : Start → Bool
-is_request (Request method uri) = true
-is_request (Status code phrase) = false
 
 -- the status; 0 of a request
 abbrev pub code_of : Start → ℕ
@@ -70,16 +68,6 @@ is_ack m = bytes_eq m.method (codes "ACK")
 
 abbrev pub is_cancel : Head → Bool
 is_cancel m = bytes_eq m.method (codes "CANCEL")
-
--- the classes of statuses (§7.2)
-abbrev pub is_provisional : ℕ → Bool
-is_provisional status = nat_lt status 200
-
-abbrev pub is_2xx : ℕ → Bool
-is_2xx status = nat_le 200 status && nat_lt status 300
-
-abbrev pub is_refusal : ℕ → Bool
-is_refusal status = nat_le 300 status
 
 -- one Call-ID, one From tag and one number of CSeq
 abbrev pub is_same_call : Head → Head → Bool

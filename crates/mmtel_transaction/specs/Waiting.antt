@@ -9,7 +9,7 @@ use Rattle.mmtel_message.specs.Texts.{message_text}
 use Rattle.mmtel_message.specs.declared.messages.Start.{Start}
 use Rattle.mmtel_timers.specs.Schedules.{moments_of}
 use Rattle.mmtel_timers.specs.declared.schedules.Schedule.TheVariants as schedule
-use Rattle.mmtel_transaction.specs.Heads.{head_of, is_2xx, is_invite, is_provisional, is_refusal, is_same_call}
+use Rattle.mmtel_transaction.specs.Heads.{head_of, is_success, is_invite, is_provisional, is_refusal, is_same_call}
 use Rattle.mmtel_transaction.specs.Deadlines.{deadline, resend_at}
 use Rattle.mmtel_transaction.specs.Changes.{is_ack_of}
 use Rattle.mmtel_transaction.specs.Calls.{Done, DidBegin, DidHear, DidAsk, DidReply, DidAck, DidFire, live, opened}
@@ -122,7 +122,7 @@ acknowledges key asked final m (part.Repeat k) = false
 acknowledges key asked final m (part.Same k) = false
 acknowledges key asked final m (part.Answer k) = false
 acknowledges key asked final m (part.Acked k) = k == key
-acknowledges key asked final m part.AckOf2xx = is_2xx final.status && is_same_call asked (head_of m) && bytes_eq final.to_tag (head_of m).to_tag
+acknowledges key asked final m part.AckOf2xx = is_success final.status && is_same_call asked (head_of m) && bytes_eq final.to_tag (head_of m).to_tag
 acknowledges key asked final m part.Stray = false
 
 abbrev pub is_ack_to : ℕ → Head → Head → Done → Bool

@@ -1,10 +1,9 @@
 //! What the transactions read of a message.
 ghost use Rattle.std.specs.Prelude.{◌≡◌, IfOk, None, Some};
-ghost use Rattle.std.specs.Str.{bytes_eq};
-ghost use Rattle.mmtel_transaction.specs.Heads.{code_of, head_of, head_with, is_ack, is_cancel, is_invite, is_request, is_same_call, method_of, param_text};
+ghost use Rattle.mmtel_transaction.specs.Heads.{code_of, head_of, head_with, is_ack, is_cancel, is_invite, is_same_call, method_of, param_text};
 
 use mmtel_lex::{LexFault, Param};
-use mmtel_message::{Five, Msg, Start, param_value, read_five};
+use mmtel_message::{Five, Msg, Start, is_request, param_value, read_five};
 use mmtel_scan::{NoMemory, Text};
 use std::alloc::Global;
 
@@ -49,16 +48,6 @@ fn param_text(alloc: Global, params: &[Param], name: &[u8]) -> Result<Text, NoMe
     match param_value(params, name) {
         Some(value) => Text::of(alloc, value),
         None => Ok(Text::new()),
-    }
-}
-
-/// Whether a start line is that of a request.
-fn is_request(start: &Start) -> bool
-    ensures { result ≡ is_request start.now }
-{
-    match start {
-        Start::Request { .. } => true,
-        Start::Status { .. } => false,
     }
 }
 
@@ -190,27 +179,6 @@ impl Head {
         ensures { result ≡ is_cancel self.now }
     {
         self.method.bytes() == b"CANCEL".as_slice()
-    }
-
-    /// Whether the branches are one.
-    pub fn is_branch(&self, other: &Head) -> bool
-        ensures { result ≡ bytes_eq self.now.branch other.now.branch }
-    {
-        self.branch.bytes() == other.branch.bytes()
-    }
-
-    /// Whether the sent-bys are one.
-    pub fn is_sent_by(&self, other: &Head) -> bool
-        ensures { result ≡ bytes_eq self.now.sent_by other.now.sent_by }
-    {
-        self.sent_by.bytes() == other.sent_by.bytes()
-    }
-
-    /// Whether the methods are one.
-    pub fn is_method(&self, other: &Head) -> bool
-        ensures { result ≡ bytes_eq self.now.method other.now.method }
-    {
-        self.method.bytes() == other.method.bytes()
     }
 
     /// Whether Call-ID, From tag and number of CSeq are one.

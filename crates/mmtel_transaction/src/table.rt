@@ -13,8 +13,8 @@ use crate::heads::Head;
 use crate::parts::Part;
 use crate::tables::{Found, Tables};
 use crate::words::{Due, TKey};
-use mmtel_decisions::is_given_again;
 use mmtel_scan::{NoMemory, Text};
+use mmtel_sip_rules::{is_given_again, is_refusal, is_success};
 use mmtel_timers::Steps;
 use mmtel_types::Peer;
 use std::alloc::Global;
@@ -272,7 +272,7 @@ fn take_response<L: Ledger>(entries: &Entries, m: &Head, steps: &mut Steps<L>) -
     match find_client(entries, m, steps) {
         None => Part::Stray,
         Some(e) => {
-            if e.asked.is_invite() && e.is_refused && m.status >= 300 {
+            if e.asked.is_invite() && e.is_refused && is_refusal(m.status) {
                 Part::Same(e.key)
             } else {
                 Part::Answer(e.key)
@@ -313,7 +313,7 @@ fn last_sent(alloc: Global, e: &Entry) -> Result<Option<(Peer, Text)>, NoMemory>
 fn give_again(alloc: Global, e: &Entry, p: Peer) -> Result<Option<(Peer, Text)>, NoMemory>
     ensures { IfOk result (λ g. g ≡ gives_again p e.now) }
 {
-    let succeeded = e.asked.is_invite() && 200 <= e.done && e.done < 300;
+    let succeeded = e.asked.is_invite() && is_success(e.done);
     if is_given_again(e.peer, p, e.is_acked, succeeded) {
         last_sent(alloc, e)
     } else {

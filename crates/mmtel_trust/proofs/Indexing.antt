@@ -8,8 +8,8 @@ use Rattle.mmtel_types.specs.declared.addrs.Addr.{Addr}
 use Rattle.mmtel_lex.specs.declared.values.Uri.{Uri}
 use Rattle.mmtel_trust.specs.Accounts.{is_of}
 use Rattle.mmtel_trust.specs.Hashes.{addr_hash, name_hash, uri_hash}
-use Rattle.mmtel_trust.specs.Indexes.{AreIndexed, IsKept, is_of_account, is_trusted_one}
-use Rattle.mmtel_trust.specs.Peers.{Peers, has_addr, has_number, is_at, is_number, is_route, with_peer, with_route}
+use Rattle.mmtel_trust.specs.Indexes.{AreIndexed, IsKept, is_of_account}
+use Rattle.mmtel_trust.specs.Peers.{Peers, has_addr, has_number, is_at, is_number, is_route, is_trusted_one, with_peer, with_route}
 use Rattle.mmtel_trust.specs.Places.{Covers, IsIndex, IsMore}
 use Rattle.mmtel_trust.specs.declared.accounts.AccountIdentity.{AccountIdentity}
 use Rattle.mmtel_trust.specs.declared.parties.KnownPeer.{KnownPeer}

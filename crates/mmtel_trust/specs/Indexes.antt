@@ -4,7 +4,7 @@ use Rattle.std.specs.List.{list_all}
 use Rattle.mmtel_types.specs.declared.numbers.Account.{Account}
 use Rattle.mmtel_types.specs.declared.numbers.Peer.{Peer}
 use Rattle.mmtel_trust.specs.Hashes.{addr_hash, name_hash, uri_hash}
-use Rattle.mmtel_trust.specs.Peers.{Peers, IsSound, is_number, leads}
+use Rattle.mmtel_trust.specs.Peers.{Peers, IsSound, leads}
 use Rattle.mmtel_trust.specs.Places.{IsIndex}
 use Rattle.mmtel_trust.specs.declared.accounts.AccountIdentity.{AccountIdentity}
 use Rattle.mmtel_trust.specs.declared.parties.KnownPeer.{KnownPeer}
@@ -18,10 +18,6 @@ pub record AreIndexed (es : List AccountIdentity) (by_uri by_account : List (ℕ
 -- the identity is one of the account
 abbrev pub is_of_account : Account → AccountIdentity → Bool
 is_of_account a e = e.account.0 == a.0
-
--- the peer is this one, and is trusted
-abbrev pub is_trusted_one : Peer → KnownPeer → Bool
-is_trusted_one p k = is_number p k && k.trusted
 
 -- the route is of just this many bytes of the number
 abbrev pub leads_by : List ℕ → ℕ → Route → Bool

@@ -1,7 +1,8 @@
 -- The lines of a message that are passed on where it is relayed: the header table of the server (RFC 3325 §5 and §7, RFC 3323 §5.1, RFC 7044 §7), and the From of a message
 -- that the server makes of it (RFC 3323 §4.1.1.3).
-use Rattle.std.specs.Prelude.{Option, Some, None, ℕ, Bool, true, false, not, List, [], ◌∷◌, ◌++◌, codes, if◌then◌else◌, ◌||◌, ◌&&◌, ◌==◌, filter, map}
+use Rattle.std.specs.Prelude.{Option, Some, None, ℕ, Bool, true, false, not, List, [], ◌∷◌, ◌++◌, codes, if◌then◌else◌, ◌&&◌, ◌==◌, filter, map}
 use Rattle.std.specs.Str.{bytes_eq}
+use Rattle.mmtel_identity.specs.TrustDomain.{shows_identity, unless_restricted}
 use Rattle.mmtel_lex.specs.Grammar.{name_addr_text}
 use Rattle.mmtel_lex.specs.Reading.{name_addr_of}
 use Rattle.mmtel_lex.specs.declared.values.NameAddr.{NameAddr}
@@ -18,7 +19,7 @@ use Rattle.mmtel_trust.specs.declared.kinds.HeaderKind.TheVariants.{From, To, Co
 
 -- the identities that a trusted peer asserts, to whom they may be shown
 abbrev pub asserted_lines : Facing → Bool → List Line → List Line
-asserted_lines f to_trusted ls = if f.from_trusted && f.present && (to_trusted || not f.restricted) then named (codes "P-Asserted-Identity") ls else []
+asserted_lines f to_trusted ls = if shows_identity f.from_trusted f.present to_trusted f.restricted then named (codes "P-Asserted-Identity") ls else []
 
 -- Privacy, for trusted peers
 abbrev pub privacy_lines : Facing → Bool → List Line → List Line
@@ -77,10 +78,14 @@ shown_lines f to_trusted h start ls = passed f to_trusted (history_row f to_trus
 abbrev pub nobody : NameAddr
 nobody = record { display = codes "\"Anonymous\""; uri = anonymous; params = [] }
 
+-- the display and the URI of a name-addr, without the parameters behind them
+abbrev pub display_and_uri : NameAddr → List ℕ
+display_and_uri n = name_addr_text (record n { params = [] })
+
 -- the display and the URI of a name-addr, or of nobody
 abbrev pub named_text : Option NameAddr → List ℕ
 named_text None = name_addr_text nobody
-named_text (Some n) = name_addr_text (record n { params = [] })
+named_text (Some n) = display_and_uri n
 
 abbrev pub read_by : Option (List ℕ) → Option NameAddr
 read_by None = None
@@ -88,4 +93,4 @@ read_by (Some v) = name_addr_of v
 
 -- From of an attempt: of nobody where the call is restricted, else the display and the URI as received; and the tag
 abbrev pub attempt_from : Bool → List ℕ → List Line → List ℕ
-attempt_from restricted tag ls = named_text (if restricted then None else read_by (first_value (codes "From") ls)) ++ (codes ";tag=" ++ tag)
+attempt_from restricted tag ls = named_text (unless_restricted restricted (read_by (first_value (codes "From") ls))) ++ (codes ";tag=" ++ tag)

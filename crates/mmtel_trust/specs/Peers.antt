@@ -6,6 +6,7 @@ use Rattle.std.specs.Prelude.{◌≡◌, ℕ, nat_lt, Bool, true, false, not, �
 use Rattle.std.specs.Option.{option_map}
 use Rattle.std.specs.List.{list_all, list_any}
 use Rattle.std.specs.Str.{str_eq_ignore_ascii_case}
+use Rattle.mmtel_identity.specs.TrustDomain.{is_in_trust_domain}
 use Rattle.mmtel_types.specs.declared.numbers.Peer.{Peer}
 use Rattle.mmtel_scan.specs.Classes.{in_class}
 use Rattle.mmtel_scan.specs.declared.classes.Class.TheVariants.{Digit}
@@ -46,9 +47,13 @@ peer_at a ks = option_map (λ k. k.peer) (find (is_at a) ks)
 abbrev pub addr_of : Peer → List KnownPeer → Option Addr
 addr_of p ks = option_map (λ k. k.addr) (find (is_number p) ks)
 
+-- the peer is this one, and is of the trust domain
+abbrev pub is_trusted_one : Peer → KnownPeer → Bool
+is_trusted_one p k = is_in_trust_domain k.peer k.trusted p
+
 -- the peer is there and is trusted
 abbrev pub is_trusted : Peer → List KnownPeer → Bool
-is_trusted p ks = list_any (λ k. is_number p k && k.trusted) ks
+is_trusted p ks = list_any (is_trusted_one p) ks
 
 abbrev pub with_peer : Peer → Addr → Bool → Peers → Peers
 with_peer p a trusted t = record t { known = t.known ++ record { peer = p; addr = a; trusted = trusted } ∷ [] }

@@ -1,9 +1,9 @@
 //! Who a message says that its sender is (RFC 3325).
 ghost use Rattle.std.specs.Prelude.{◌≡◌, IfOk};
-ghost use Rattle.mmtel_lex.specs.Reading.{uri_of};
-ghost use Rattle.mmtel_trust.specs.Asserted.{or_no_uri, uri_in, is_of_scheme, first_uri, asserted};
+ghost use Rattle.mmtel_trust.specs.Asserted.{is_of_scheme, first_uri, asserted};
 
-use mmtel_lex::{LexFault, NoMemory, Text, Uri, UriFault, read_name_addr, read_uri};
+use crate::reading::uri_in;
+use mmtel_lex::{NoMemory, Text, Uri};
 use mmtel_message::Msg;
 use std::alloc::Global;
 
@@ -37,28 +37,6 @@ fn is_of_scheme(scheme: Scheme, uri: &Uri) -> bool
             Scheme::Sip => false,
             Scheme::Tel => true,
         },
-    }
-}
-
-fn uri_of(alloc: Global, bytes: &[u8]) -> Result<Option<Uri>, NoMemory>
-    ensures { IfOk result (λ u. u ≡ or_no_uri (uri_of bytes.now)) }
-{
-    match read_uri(alloc, bytes) {
-        Ok(uri) => Ok(Some(uri)),
-        Err(UriFault::Malformed) => Ok(None),
-        Err(UriFault::Scheme) => Ok(None),
-        Err(UriFault::NoMemory) => Err(NoMemory),
-    }
-}
-
-/// The URI of a name-addr; None where it cannot be read, or is of a scheme that the server does not know.
-fn uri_in(alloc: Global, value: &[u8]) -> Result<Option<Uri>, NoMemory>
-    ensures { IfOk result (λ u. u ≡ uri_in value.now) }
-{
-    match read_name_addr(alloc, value) {
-        Ok(name) => uri_of(alloc, name.uri.bytes()),
-        Err(LexFault::Malformed) => Ok(None),
-        Err(LexFault::NoMemory) => Err(NoMemory),
     }
 }
 

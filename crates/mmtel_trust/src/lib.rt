@@ -12,6 +12,7 @@ mod parties;
 mod peers;
 mod places;
 mod privacy;
+mod reading;
 mod showing;
 mod table_laws;
 mod texts;
@@ -28,5 +29,6 @@ pub use laws::{
 pub use parties::{KnownPeer, Route};
 pub use peers::PeerTable;
 pub use privacy::wants;
+pub use reading::{display_and_uri, name_addr_in, uri_in, uri_of};
 pub use showing::{Facing, attempt_from, history_lines, shown};
 pub use table_laws::{masked_histories_show_alike, own_lines_are_not_passed};

@@ -4,9 +4,9 @@ ghost use Rattle.std.specs.Option.{option_copied};
 ghost use Rattle.mmtel_lex.specs.Identity.{reduced};
 ghost use Rattle.mmtel_trust.specs.Faults.{Meets};
 ghost use Rattle.mmtel_trust.specs.Hashes.{addr_hash as hash_of_addr, name_hash as hash_of_name};
-ghost use Rattle.mmtel_trust.specs.Indexes.{are_within, is_trusted_one, leads_by};
-ghost use Rattle.mmtel_trust.specs.Peers.{Peers, peer_fault, route_fault, has_number, has_addr, has_name, peer_at, addr_of, is_at, is_number, is_trusted, is_route, with_peer, with_route};
-ghost use Rattle.mmtel_trust.specs.Peers.{begins_with, is_prefix, leads, longest, named_route, own_route, route_of};
+ghost use Rattle.mmtel_trust.specs.Indexes.{are_within, leads_by};
+ghost use Rattle.mmtel_trust.specs.Peers.{Peers, peer_fault, route_fault, has_number, has_addr, has_name, peer_at, addr_of, is_at, is_number, is_trusted, is_trusted_one, is_route, with_peer};
+ghost use Rattle.mmtel_trust.specs.Peers.{begins_with, is_prefix, leads, longest, named_route, own_route, route_of, with_route};
 ghost use Rattle.mmtel_trust.specs.Places.{IsIndex};
 ghost use Rattle.mmtel_trust.specs.declared.parties.Route.{Route};
 
@@ -15,6 +15,7 @@ use crate::hashes::{addr_hash, is_mark_byte, name_hash, stirred};
 use crate::parties::{KnownPeer, Route};
 use crate::places::{Key, Places, first, is_there};
 use crate::texts::is;
+use mmtel_identity::is_in_trust_domain;
 use mmtel_lex::{List, Text, Uri};
 use mmtel_scan::{Class, is_all};
 use mmtel_types::{Addr, Peer};
@@ -68,7 +69,7 @@ impl Key<KnownPeer> for Trusted {
     ghost hash = { λ t. t.0.0 };
 
     fn is_key_of(&self, item: &KnownPeer) -> bool {
-        mmtel_decisions::is_trusted(item.peer, item.trusted, self.0)
+        is_in_trust_domain(item.peer, item.trusted, self.0)
     }
 
     fn hash(&self) -> u64 {

@@ -1,6 +1,7 @@
 //! What is passed on of a message that is relayed, and the From of a message that is made of it.
-ghost use Rattle.std.specs.Prelude.{◌≡◌, ◌++◌, ◌&&◌, ◌||◌, not, None, IfOk, OnOk, if◌then◌else◌, codes, List, [], false, map};
+ghost use Rattle.std.specs.Prelude.{◌≡◌, ◌++◌, IfOk, OnOk, codes, List, [], false, map};
 ghost use Rattle.std.specs.Option.{option_copied};
+ghost use Rattle.mmtel_identity.specs.TrustDomain.{shows_identity, unless_restricted};
 ghost use Rattle.mmtel_message.specs.Message.{first_value, named};
 ghost use Rattle.mmtel_history.specs.HistoryInfo.{masked_list};
 ghost use Rattle.mmtel_history.specs.declared.entries.Entry.{Entry};
@@ -9,9 +10,10 @@ ghost use Rattle.mmtel_trust.specs.Passed.{shown_lines, nobody, named_text, atte
 
 use crate::kinds::{HeaderKind, kind_of};
 use crate::privacy::restricted_text;
-use mmtel_decisions::{shows_identity, unless_restricted};
+use crate::reading::{display_and_uri, name_addr_in};
 use mmtel_history::{ANONYMOUS, Entry, History, write_entry};
-use mmtel_lex::{LexFault, List, NameAddr, NoMemory, Text, print_name_addr, read_name_addr};
+use mmtel_identity::{shows_identity, unless_restricted};
+use mmtel_lex::{List, NameAddr, NoMemory, Text, print_name_addr};
 use mmtel_message::{Line, Msg, Start, add_bytes, add_line, add_named, first_of};
 use std::alloc::Global;
 
@@ -30,7 +32,7 @@ pub struct Facing {
 
 /// Whether the asserted identities are passed.
 fn is_asserted(f: Facing, to_trusted: bool) -> bool
-    ensures { result ≡ (f.from_trusted && f.present && (to_trusted || not f.restricted)) }
+    ensures { result ≡ shows_identity f.from_trusted f.present to_trusted f.restricted }
 {
     shows_identity(f.from_trusted, f.present, to_trusted, f.restricted)
 }
@@ -253,39 +255,14 @@ fn named_text(alloc: Global, name: Option<NameAddr>) -> Result<Text, NoMemory>
 {
     match name {
         None => print_name_addr(alloc, &nobody(alloc)?),
-        Some(name) => {
-            let NameAddr {
-                display,
-                uri,
-                params: _,
-            } = name;
-            let alone = NameAddr {
-                display,
-                uri,
-                params: List::new(),
-            };
-            print_name_addr(alloc, &alone)
-        }
-    }
-}
-
-fn read_by(alloc: Global, value: Option<&[u8]>) -> Result<Option<NameAddr>, NoMemory>
-    ensures { IfOk result (λ n. n ≡ read_by (option_copied value.entry)) }
-{
-    match value {
-        None => Ok(None),
-        Some(value) => match read_name_addr(alloc, value) {
-            Ok(name) => Ok(Some(name)),
-            Err(LexFault::Malformed) => Ok(None),
-            Err(LexFault::NoMemory) => Err(NoMemory),
-        },
+        Some(name) => display_and_uri(alloc, name),
     }
 }
 
 fn from_name(alloc: Global, restricted: bool, lines: &[Line]) -> Result<Option<NameAddr>, NoMemory>
-    ensures { IfOk result (λ n. n ≡ (if restricted then None else read_by (first_value (codes "From") lines.now))) }
+    ensures { IfOk result (λ n. n ≡ unless_restricted restricted (read_by (first_value (codes "From") lines.now))) }
 {
-    read_by(
+    name_addr_in(
         alloc,
         unless_restricted(restricted, first_of(lines, b"From")),
     )

@@ -1,5 +1,5 @@
 use Rattle.std.proofs.Common.{List, sym, subst}
-use Rattle.mmtel_trust.specs.Indexes.{is_trusted_one}
+use Rattle.mmtel_trust.specs.Peers.{is_trusted_one}
 use Rattle.mmtel_trust.specs.Places.{Covers}
 use Rattle.mmtel_trust.specs.declared.parties.KnownPeer.{KnownPeer}
 use Rattle.mmtel_trust.proofs.Indexing.{covers_trusted}

@@ -1,0 +1,6 @@
+-- What public clauses cite.
+pub mod Invites
+pub mod Requests
+pub mod Statuses
+
+-- What private functions alone cite: nothing.
